@@ -1,0 +1,22 @@
+// MySQL's packet codec and wire primitives, under the paths of `mysql_common`.
+#![tactic(auto)]
+
+/// Buffers and errors.
+pub mod io {
+    pub use wire_buf::error::{InvalidLengthEncodedInteger, InvalidReason, WireError};
+}
+
+pub mod constants {
+    pub use wire_const::{DEFAULT_MAX_ALLOWED_PACKET, MAX_PAYLOAD_LEN};
+}
+
+pub mod proto {
+    /// Packets and chunks.
+    pub mod codec {
+        pub use wire_codec::codec::{
+            ChunkDecoder, ChunkInfo, PacketCodec, PacketDst, deliver, error, packet_to_chunks,
+        };
+    }
+}
+
+pub use wire_codec::laws;

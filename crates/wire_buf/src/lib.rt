@@ -1,0 +1,4 @@
+//! What every layer above stands on: the errors, and numbers as bytes.
+#![tactic(auto)]
+
+pub mod error;

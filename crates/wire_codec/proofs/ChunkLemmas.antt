@@ -1,0 +1,229 @@
+-- Chunks of a payload: how they are cut, joined and told apart.
+use Rattle.std.proofs.Common.{◌≡◌, ℕ, ◌+◌, ◌-◌, ◌*◌, ◌/◌, ◌%◌, ◌<◌, ◌≤◌, List, [], ◌++◌, length, take, drop, zero, suc, refl, sym, ap, ap₂, ◌∙◌, subst, arith, append_assoc, append-nil, length-append, length-drop, length-take, drop-drop, take_all, take_at, drop_at, drop_of_length-le, add-suc, add-one, add-zero, zero-mul, mul-le-mul_right, le_trans, inl, inr, take-append-drop, min}
+use Rattle.std.proofs.lemmas.Bool.{cases_lt}
+use Rattle.std.proofs.Math.Seq.{take-add}
+use Rattle.std.proofs.lemmas.List.{take-append-le, drop-append-le, length-take-le, take_min, drop_min}
+use Rattle.std.proofs.Math.Nat.{min_comm}
+use Rattle.wire_buf.specs.Numbers.{le_number, le_bytes}
+use Rattle.wire_codec.specs.Framing.{max_payload, chunk, chunks, framing}
+
+-- the number that stands for it: opened here alone, since a take of so many would be unrolled
+pub max_payload_is : max_payload ≡ 16777215
+unfolding max_payload
+max_payload_is = refl
+
+pub max_payload_pos : 0 < max_payload
+max_payload_pos = omega (arith, max_payload_is)
+
+-- whole chunks in n bytes, and what is over
+pub blocks_below : (n : ℕ) → n / max_payload * max_payload ≤ n
+unfolding max_payload
+blocks_below n = omega arith
+
+pub blocks_above : (n : ℕ) → n < n / max_payload * max_payload + max_payload
+unfolding max_payload
+blocks_above n = omega arith
+
+pub blocks_are : (k n : ℕ) → k * max_payload ≤ n → n < k * max_payload + max_payload → n / max_payload ≡ k
+unfolding max_payload
+blocks_are k n h g = omega arith
+
+pub blocks_whole : (n : ℕ) → n % max_payload ≡ 0 → n ≡ n / max_payload * max_payload
+unfolding max_payload
+blocks_whole n h = omega arith
+
+pub whole_blocks : (k n : ℕ) → n ≡ k * max_payload → (n % max_payload ≡ 0) × (n / max_payload ≡ k)
+unfolding max_payload
+whole_blocks k n h = (omega arith, omega arith)
+
+-- three bytes spell each number below 2 ^ 24
+pub le_number-le_bytes : (n : ℕ) → n < 16777216 → le_number (le_bytes 3 n) ≡ n
+le_number-le_bytes n h = omega arith
+
+-- a chunk is told apart from what follows it
+pub chunk_cancel : (i j : ℕ) (c d x y : List ℕ) → length c ≤ max_payload → length d ≤ max_payload
+    → chunk i c ++ x ≡ chunk j d ++ y → (i % 256 ≡ j % 256) × (c ≡ d) × (x ≡ y)
+unfolding chunk
+chunk_cancel i j c d x y hc hd e =
+    let same : le_bytes 3 (length c) ≡ le_bytes 3 (length d) = cc in
+    let long : length c ≡ length d = sym (le_number-le_bytes (length c) (omega (arith, max_payload_is))) ∙ ap le_number same ∙ le_number-le_bytes (length d) (omega (arith, max_payload_is)) in
+    let ids : i % 256 ≡ j % 256 = cc in
+    let tails : c ++ x ≡ d ++ y = cc in
+    let fronts : c ≡ d = sym (take_at c x (length c) refl) ∙ ap (λ z. take (length c) z) tails ∙ take_at d y (length c) (sym long) in
+    let rests : x ≡ y = sym (drop_at c x (length c) refl) ∙ ap (λ z. drop (length c) z) tails ∙ drop_at d y (length c) (sym long) in
+    (ids, fronts, rests)
+
+-- the first chunks, and then the others
+pub chunks-add : (a b s : ℕ) (p : List ℕ) → chunks (a + b) s p ≡ chunks a s p ++ chunks b (s + a) (drop (a * max_payload) p)
+chunks-add a zero s p = rw add-zero (sym (append-nil (chunks a s p)))
+chunks-add a (suc b) s p =
+    let at : drop ((a + b) * max_payload) p ≡ drop (b * max_payload) (drop (a * max_payload) p) = rw drop-drop (ap (λ (n : ℕ). drop n p) (omega arith)) in
+    let ids : s + (a + b) ≡ s + a + b = omega arith in
+    rw (add-suc, chunks-add a b s p, at, ids) (append_assoc (chunks a s p) (chunks b (s + a) (drop (a * max_payload) p)) (chunk (s + a + b) (take max_payload (drop (b * max_payload) (drop (a * max_payload) p)))))
+
+-- what comes after the bytes of the first chunks doesn't matter to them
+pub chunks-append_le : (n s : ℕ) (p r : List ℕ) → n * max_payload ≤ length p → chunks n s (p ++ r) ≡ chunks n s p
+chunks-append_le zero s p r h = refl
+chunks-append_le (suc n) s p r h =
+    let before : n * max_payload ≤ length p = omega arith in
+    let room : max_payload ≤ length (drop (n * max_payload) p) = rw length-drop (omega arith) in
+    let e : take max_payload (drop (n * max_payload) (p ++ r)) ≡ take max_payload (drop (n * max_payload) p) =
+    ap (λ z. take max_payload z) (drop-append-le (n * max_payload) p r before) ∙ take-append-le max_payload (drop (n * max_payload) p) r room in
+    rw (chunks-append_le n s p r before, e) refl
+
+-- one more chunk behind full ones
+pub chunks-push : (k s : ℕ) (q c : List ℕ) → length q ≡ k * max_payload → length c ≤ max_payload
+    → chunks (suc k) s (q ++ c) ≡ chunks k s q ++ chunk (s + k) c
+chunks-push k s q c hq hc =
+    let below : k * max_payload ≤ length q = omega arith in
+    let e : take max_payload (drop (k * max_payload) (q ++ c)) ≡ c = ap (λ z. take max_payload z) (drop_at q c (k * max_payload) hq) ∙ take_all max_payload c hc in
+    rw (chunks-append_le k s q c below, e) refl
+
+-- ids count modulo 256
+pub chunks-mod : (n s : ℕ) (p : List ℕ) → chunks n (s % 256) p ≡ chunks n s p
+unfolding chunk
+chunks-mod zero s p = refl
+chunks-mod (suc n) s p =
+    let ids : (s % 256 + n) % 256 ≡ (s + n) % 256 = omega arith in
+    rw (chunks-mod n s p, ids) refl
+
+-- full chunks are told apart from what follows them
+pub chunks_cancel : (a s : ℕ) (q p x y : List ℕ) → a * max_payload ≤ length q → a * max_payload ≤ length p
+    → chunks a s q ++ x ≡ chunks a s p ++ y → (take (a * max_payload) q ≡ take (a * max_payload) p) × (x ≡ y)
+chunks_cancel zero s q p x y hq hp e = (rw zero-mul refl, e)
+chunks_cancel (suc a) s q p x y hq hp e =
+    let c : List ℕ = take max_payload (drop (a * max_payload) q) in
+    let d : List ℕ = take max_payload (drop (a * max_payload) p) in
+    let small_c : length c ≤ max_payload = rw length-take (omega arith) in
+    let small_d : length d ≤ max_payload = rw length-take (omega arith) in
+    let e' : chunks a s q ++ (chunk (s + a) c ++ x) ≡ chunks a s p ++ (chunk (s + a) d ++ y) =
+    sym (append_assoc (chunks a s q) (chunk (s + a) c) x) ∙ e ∙ append_assoc (chunks a s p) (chunk (s + a) d) y in
+    let before = chunks_cancel a s q p (chunk (s + a) c ++ x) (chunk (s + a) d ++ y) (omega arith) (omega arith) e' in
+    let last = chunk_cancel (s + a) (s + a) c d x y small_c small_d before.1 in
+    let count : suc a * max_payload ≡ a * max_payload + max_payload = omega arith in
+    (rw (count, take-add (a * max_payload) max_payload q, take-add (a * max_payload) max_payload p) (ap₂ (λ (u v : List ℕ). u ++ v) before.0 last.1), last.2)
+
+-- a block past full ones
+pub length-chunks_tail : (n : ℕ) (p : List ℕ) → length (take max_payload (drop (n * max_payload) p)) ≤ max_payload
+length-chunks_tail n p = rw length-take (omega arith)
+
+-- a whole payload's framing is no front of a longer one's full chunks
+pub framing_ends_at : (s b more : ℕ) (p q x y : List ℕ) → b * max_payload ≤ length p → length p < b * max_payload + max_payload → suc b * max_payload ≤ length q
+    → chunks (suc b) s p ++ x ≡ chunks (suc b + more) s q ++ y → ⊥
+framing_ends_at s b more p q x y low high long e =
+    let c : List ℕ = take max_payload (drop (b * max_payload) p) in
+    let d : List ℕ = take max_payload (drop (b * max_payload) q) in
+    let tail : List ℕ = chunks more (s + suc b) (drop (suc b * max_payload) q) ++ y in
+    let e' : chunks b s p ++ (chunk (s + b) c ++ x) ≡ chunks b s q ++ (chunk (s + b) d ++ tail) =
+    sym (append_assoc (chunks b s p) (chunk (s + b) c) x) ∙ e ∙ ap (λ (z : List ℕ). z ++ y) (chunks-add (suc b) more s q)
+    ∙ append_assoc (chunks b s q ++ chunk (s + b) d) (chunks more (s + suc b) (drop (suc b * max_payload) q)) y ∙ append_assoc (chunks b s q) (chunk (s + b) d) tail in
+    let last : chunk (s + b) c ++ x ≡ chunk (s + b) d ++ tail = (chunks_cancel b s p q (chunk (s + b) c ++ x) (chunk (s + b) d ++ tail) low (omega arith) e').1 in
+    let same : c ≡ d = (chunk_cancel (s + b) (s + b) c d x tail (length-chunks_tail b p) (length-chunks_tail b q) last).1 in
+    let len_c : length c < max_payload = rw (length-take, length-drop) (omega arith) in
+    let len_d : length d ≡ max_payload = rw (length-take, length-drop) (omega arith) in
+    absurd (omega (arith, ap (λ (z : List ℕ). length z) same))
+
+pub framing_ends : (s n : ℕ) (p q x y : List ℕ) → length p / max_payload < n → n * max_payload ≤ length q
+    → framing s p ++ x ≡ chunks n s q ++ y → ⊥
+framing_ends s n p q x y short long e =
+    let b : ℕ = length p / max_payload in
+    let more : ℕ = n - suc b in
+    let count : n ≡ suc b + more = omega arith in
+    let longer : suc b * max_payload ≤ n * max_payload = mul-le-mul_right max_payload short in
+    framing_ends_at s b more p q x y (blocks_below (length p)) (blocks_above (length p)) (le_trans longer long)
+    (e ∙ ap (λ (k : ℕ). chunks k s q ++ y) count)
+
+-- the framing of a payload, as its full chunks and its last one
+last_block : List ℕ → List ℕ
+last_block p = drop (length p / max_payload * max_payload) p
+
+-- one payload alone has this framing
+framing_cancel_same : (s : ℕ) (p q x y : List ℕ) → length p / max_payload ≡ length q / max_payload
+    → framing s p ++ x ≡ framing s q ++ y → (p ≡ q) × (x ≡ y)
+framing_cancel_same s p q x y same e =
+    let b : ℕ = length p / max_payload in
+    let c : List ℕ = take max_payload (drop (b * max_payload) p) in
+    let d : List ℕ = take max_payload (drop (b * max_payload) q) in
+    let e' : chunks b s p ++ (chunk (s + b) c ++ x) ≡ chunks b s q ++ (chunk (s + b) d ++ y) =
+    sym (append_assoc (chunks b s p) (chunk (s + b) c) x) ∙ e ∙ ap (λ (k : ℕ). chunks (suc k) s q ++ y) (sym same)
+    ∙ append_assoc (chunks b s q) (chunk (s + b) d) y in
+    let low : b * max_payload ≤ length q = subst (λ (k : ℕ). k * max_payload ≤ length q) (sym same) (blocks_below (length q)) in
+    let high : length q < b * max_payload + max_payload = subst (λ (k : ℕ). length q < k * max_payload + max_payload) (sym same) (blocks_above (length q)) in
+    let below : b * max_payload ≤ length p = blocks_below (length p) in
+    let above : length p < b * max_payload + max_payload = blocks_above (length p) in
+    let parts = chunks_cancel b s p q (chunk (s + b) c ++ x) (chunk (s + b) d ++ y) below low e' in
+    let last = chunk_cancel (s + b) (s + b) c d x y (length-chunks_tail b p) (length-chunks_tail b q) parts.1 in
+    let whole_c : c ≡ drop (b * max_payload) p = take_all max_payload (drop (b * max_payload) p) (rw length-drop (omega arith)) in
+    let whole_d : d ≡ drop (b * max_payload) q = take_all max_payload (drop (b * max_payload) q) (rw length-drop (omega arith)) in
+    let joined : p ≡ q = sym (take-append-drop (b * max_payload) p) ∙ ap₂ (λ (u v : List ℕ). u ++ v) parts.0 (sym whole_c ∙ last.1 ∙ whole_d) ∙ take-append-drop (b * max_payload) q in
+    (joined, last.2)
+
+-- a framing is told apart from what follows it
+pub framing_cancel : (s : ℕ) (p q x y : List ℕ) → framing s p ++ x ≡ framing s q ++ y → (p ≡ q) × (x ≡ y)
+framing_cancel s p q x y e =
+    elim (cases_lt (length p / max_payload) (length q / max_payload)) [
+      | inl short ↦ absurd (framing_ends s (length q / max_payload) p q x (chunk (s + length q / max_payload) (take max_payload (drop (length q / max_payload * max_payload) q)) ++ y) short (blocks_below (length q)) (e ∙ append_assoc (chunks (length q / max_payload) s q) (chunk (s + length q / max_payload) (take max_payload (drop (length q / max_payload * max_payload) q))) y))
+      | inr long ↦ elim (cases_lt (length q / max_payload) (length p / max_payload)) [
+        | inl short ↦ absurd (framing_ends s (length p / max_payload) q p y (chunk (s + length p / max_payload) (take max_payload (drop (length p / max_payload * max_payload) p)) ++ x) short (blocks_below (length p)) (sym e ∙ append_assoc (chunks (length p / max_payload) s p) (chunk (s + length p / max_payload) (take max_payload (drop (length p / max_payload * max_payload) p))) x))
+        | inr other ↦ framing_cancel_same s p q x y (omega arith) e
+      ]
+    ]
+
+-- the last byte of a header counts modulo 256
+pub chunk-mod : (n : ℕ) (c : List ℕ) → chunk (n % 256) c ≡ chunk n c
+unfolding chunk
+chunk-mod n c = let e : n % 256 % 256 ≡ n % 256 = omega arith in rw e refl
+
+-- one more chunk written from what is left of a payload
+pub chunks_more : (written old left_bytes payload : List ℕ) (count first id len : ℕ)
+    → left_bytes ≡ drop (count * max_payload) payload → id ≡ (first + count) % 256 → len ≡ min (length left_bytes) max_payload
+    → written ≡ old ++ chunks count first payload
+    → written ++ chunk id (take len left_bytes) ≡ old ++ chunks (count + 1) first payload
+chunks_more written old left_bytes payload count first id len is_left is_id is_len before =
+    let part : take len left_bytes ≡ take max_payload (drop (count * max_payload) payload) =
+    ap (λ (n : ℕ). take n left_bytes) (is_len ∙ min_comm (length left_bytes) max_payload) ∙ take_min max_payload left_bytes ∙ ap (λ (z : List ℕ). take max_payload z) is_left in
+    let piece : chunk id (take len left_bytes) ≡ chunk (first + count) (take max_payload (drop (count * max_payload) payload)) =
+    ap₂ (λ (n : ℕ) (z : List ℕ). chunk n z) is_id part ∙ chunk-mod (first + count) (take max_payload (drop (count * max_payload) payload)) in
+    ap₂ (λ (u v : List ℕ). u ++ v) before piece
+    ∙ append_assoc old (chunks count first payload) (chunk (first + count) (take max_payload (drop (count * max_payload) payload)))
+    ∙ ap (λ (n : ℕ). old ++ chunks n first payload) (sym (add-one count))
+
+-- what is left behind it
+pub left_more : (left_bytes payload : List ℕ) (count len : ℕ)
+    → left_bytes ≡ drop (count * max_payload) payload → len ≡ min (length left_bytes) max_payload
+    → drop len left_bytes ≡ drop ((count + 1) * max_payload) payload
+left_more left_bytes payload count len is_left is_len =
+    ap (λ (n : ℕ). drop n left_bytes) (is_len ∙ min_comm (length left_bytes) max_payload) ∙ drop_min max_payload left_bytes
+    ∙ ap (λ (z : List ℕ). drop max_payload z) is_left ∙ drop-drop max_payload (count * max_payload) payload
+    ∙ ap (λ (n : ℕ). drop n payload) (omega arith)
+
+-- nothing is left behind the last chunk
+pub left_nothing : (left_bytes payload : List ℕ) (count : ℕ)
+    → left_bytes ≡ drop (count * max_payload) payload → count ≡ length payload / max_payload + 1 → left_bytes ≡ []
+left_nothing left_bytes payload count is_left all =
+    is_left ∙ drop_of_length-le payload {i = count * max_payload}
+    (let above : length payload < length payload / max_payload * max_payload + max_payload = blocks_above (length payload) in
+    let e : count * max_payload ≡ length payload / max_payload * max_payload + max_payload = ap (λ (n : ℕ). n * max_payload) all ∙ omega arith in omega arith)
+
+-- how long chunks are
+length-chunk_alone : (i : ℕ) (c : List ℕ) → length (chunk i c) ≡ 4 + length c
+unfolding chunk
+length-chunk_alone i c = omega arith
+
+length-chunks : (n s : ℕ) (p : List ℕ) → n * max_payload ≤ length p → length (chunks n s p) ≡ n * max_payload + 4 * n
+length-chunks zero s p h = omega (arith, zero-mul max_payload)
+length-chunks (suc n) s p h =
+    let room : max_payload ≤ length (drop (n * max_payload) p) = rw length-drop (omega arith) in
+    let last : length (take max_payload (drop (n * max_payload) p)) ≡ max_payload = length-take-le max_payload (drop (n * max_payload) p) room in
+    length-append (chunks n s p) (chunk (s + n) (take max_payload (drop (n * max_payload) p)))
+    ∙ (let a = length-chunks n s p (omega arith) in let b = length-chunk_alone (s + n) (take max_payload (drop (n * max_payload) p)) in omega arith)
+
+-- n bytes framed are n + 4 * (n / MAX + 1) bytes
+pub length-framing : (s : ℕ) (p : List ℕ) → length (framing s p) ≡ length p + 4 * (length p / max_payload + 1)
+length-framing s p =
+    let b : ℕ = length p / max_payload in
+    let low : b * max_payload ≤ length p = blocks_below (length p) in
+    let high : length p < b * max_payload + max_payload = blocks_above (length p) in
+    let last : length (take max_payload (drop (b * max_payload) p)) ≡ length p - b * max_payload = rw (length-take, length-drop) (omega arith) in
+    length-append (chunks b s p) (chunk (s + b) (take max_payload (drop (b * max_payload) p)))
+    ∙ (let a = length-chunks b s p low in let e = length-chunk_alone (s + b) (take max_payload (drop (b * max_payload) p)) in omega arith)

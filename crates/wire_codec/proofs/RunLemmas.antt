@@ -1,0 +1,192 @@
+-- Runs of decodes, joined.
+use Rattle.std.proofs.Common.{◌≡◌, ℕ, ◌+◌, ◌<◌, ◌≤◌, List, [], ◌∷◌, ◌++◌, length, take, drop, refl, sym, ap, ap₂, ◌∙◌, subst, arith, append_assoc, append-nil, length-append, length-drop, inl, inr, slice_index, Option, Some, None, Result, Ok, Err, false, zero-le, All}
+use Rattle.std.proofs.lemmas.List.Elements.{All-nil}
+use Rattle.std.proofs.lemmas.List.{take-append-le, drop-append-le, get_or_append_left, take_more, flat_map_more, take-append-drop}
+use Rattle.std.proofs.Common.{Bor, get_or}
+use Rattle.wire_buf.specs.Numbers.{le_number}
+use Rattle.wire_codec.specs.declared.codec.error.PacketCodecError.{PacketCodecError}
+use Rattle.wire_codec.specs.declared.codec.error.PacketCodecError.TheVariants.{PacketTooLarge, OutOfMemory, PacketsOutOfSync, Io}
+use Rattle.wire_codec.specs.Framing.{max_payload, framing, front, next_id, stream, id_after}
+use Rattle.wire_codec.specs.Delivery.{chunk_len, id_at, IsWholeChunks, Continues, Splits, Ending, Waiting, TooLarge, OutOfSync, Delivers}
+use Rattle.wire_codec.specs.Codec.{Stands, open_id, DecodesFrom}
+use Rattle.wire_codec.specs.Runs.{RunsTo, RunsOver, joined}
+use Rattle.wire_codec.proofs.DeliveryLemmas.{stream-append, id_after-append, within_append, within_rest, splits_join, delivers_join}
+use Rattle.wire_codec.proofs.CodecLemmas.{open_at_id}
+
+-- nothing unfinished
+pub front-nil : (s : ℕ) → front s [] ≡ []
+unfolding max_payload
+front-nil s = refl
+
+pub nothing_whole : IsWholeChunks []
+unfolding max_payload
+nothing_whole = refl
+
+pub id_after_small : (s : ℕ) (ps : List (List ℕ)) → s < 256 → id_after s ps < 256
+id_after_small s [] h = h
+id_after_small s (p ∷ ps) h = id_after_small (next_id s p) ps (omega arith)
+
+-- a run goes on to another
+pub splits_trans : (d S : List ℕ) (s L : ℕ) (ps : List (List ℕ)) (q W : List ℕ) (qs : List (List ℕ)) (r V : List ℕ)
+    → Splits d S s L ps q W → Splits q (front (id_after s ps) q ++ W) (id_after s ps) L qs r V → Splits d S s L (ps ++ qs) r V
+splits_trans d S s L ps q W qs r V a b = record {
+  is =
+      let A : List ℕ = stream s ps in
+      let B : List ℕ = stream (id_after s ps) qs in
+      let G : List ℕ = front (id_after (id_after s ps) qs) r in
+      a.is ∙ ap (λ (z : List ℕ). A ++ z) b.is ∙ sym (append_assoc A B (G ++ V))
+      ∙ ap₂ (λ (u v : List ℕ). u ++ v) (sym (stream-append s ps qs)) (ap (λ (i : ℕ). front i r ++ V) (sym (id_after-append s ps qs)));
+  held_whole = a.held_whole;
+  unfinished_whole = b.unfinished_whole;
+  within = within_append d L ps qs q r a.within b.within;
+}
+
+-- a run that hands out no more
+pub splits_still : (d S : List ℕ) (s L : ℕ) (ps : List (List ℕ)) (q W r V : List ℕ)
+    → Splits d S s L ps q W → Splits q (front (id_after s ps) q ++ W) (id_after s ps) L [] r V → Splits d S s L ps r V
+splits_still d S s L ps q W r V a b =
+    subst (λ (z : List (List ℕ)). Splits d S s L z r V) (append-nil ps) (splits_trans d S s L ps q W [] r V a b)
+
+pub delivers_still : (d S : List ℕ) (s L : ℕ) (ps : List (List ℕ)) (q W : List ℕ) (e : Ending) (r V : List ℕ)
+    → Splits d S s L ps q W → Delivers q (front (id_after s ps) q ++ W) (id_after s ps) L [] e r V → Delivers d S s L ps e r V
+delivers_still d S s L ps q W e r V a b = record { splits = splits_still d S s L ps q W r V a b.splits; ends = b.ends }
+
+-- a run that hands out one more
+pub splits_push : (d S : List ℕ) (s L : ℕ) (ps : List (List ℕ)) (q W p V : List ℕ)
+    → Splits d S s L ps q W → front (id_after s ps) q ++ W ≡ framing (id_after s ps) p ++ V → Continues q L p → Splits d S s L (ps ++ p ∷ []) [] V
+splits_push d S s L ps q W p V a e c =
+    let t : ℕ = id_after s ps in
+    let more : Splits q (front t q ++ W) t L (p ∷ []) [] V = record {
+      is = e ∙ ap₂ (λ (u v : List ℕ). u ++ v) (sym (append-nil (framing t p))) (ap (λ (z : List ℕ). z ++ V) (sym (front-nil (next_id t p))));
+      held_whole = a.unfinished_whole;
+      unfinished_whole = nothing_whole;
+      within = (c, All-nil (λ (o : List ℕ). length o ≤ L), omega arith);
+    } in
+    splits_trans d S s L ps q W (p ∷ []) [] V a more
+
+-- a run stops as its last decode does
+pub runs_stop : (error : PacketCodecError) (d S : List ℕ) (s L : ℕ) (ps : List (List ℕ)) (q W : List ℕ) (id : ℕ) (header : Option (ℕ × ℕ)) (src dst : List ℕ)
+    → s < 256 → Splits d S s L ps q W → DecodesFrom (id_after s ps) (front (id_after s ps) q ++ W) q L (Err error) id header src dst
+    → RunsTo s S d L (Err error) ps id header src dst
+runs_stop PacketTooLarge d S s L ps q W id header src dst h a t = (delivers_still d S s L ps q W TooLarge dst src a t.0, t.1, t.2)
+runs_stop PacketsOutOfSync d S s L ps q W id header src dst h a t = (t.0, t.1, delivers_still d S s L ps q W OutOfSync t.0 t.1 a t.2, t.3, t.4, t.5, t.6)
+runs_stop OutOfMemory d S s L ps q W id header src dst h a t =
+    (splits_still d S s L ps q W dst src a t.0, ap (λ (n : ℕ). open_id n dst) t.1 ∙ open_at_id (id_after s ps) dst (id_after_small s ps h), t.2)
+runs_stop (Io e) d S s L ps q W id header src dst h a t = t
+
+pub runs_wait : (d S : List ℕ) (s L : ℕ) (ps : List (List ℕ)) (q W : List ℕ) (id : ℕ) (header : Option (ℕ × ℕ)) (src dst : List ℕ)
+    → Splits d S s L ps q W → DecodesFrom (id_after s ps) (front (id_after s ps) q ++ W) q L (Ok false) id header src dst
+    → RunsTo s S d L (Ok tt) ps id header src dst
+runs_wait d S s L ps q W id header src dst a t = (delivers_still d S s L ps q W Waiting dst src a t.0, t.1, t.2, t.3)
+
+-- the next packet of a run
+pub next_open : (s : ℕ) (ps : List (List ℕ)) (id : ℕ) (p : List ℕ) → id ≡ next_id (id_after s ps) p → id < 256 → open_id id [] ≡ id_after s (ps ++ p ∷ [])
+unfolding max_payload
+next_open s ps id p e h = (omega arith) ∙ e ∙ sym (id_after-append s ps (p ∷ []))
+
+-- more bytes behind change nothing of what is there
+chunk_len_append : (W x : List ℕ) → 4 ≤ length W → chunk_len (W ++ x) ≡ chunk_len W
+chunk_len_append W x h = ap le_number (take-append-le 3 W x (omega arith))
+
+id_append : (W x : List ℕ) → 4 ≤ length W → slice_index (W ++ x) 3 ≡ slice_index W 3
+id_append W x h = get_or_append_left W x 0 3 (omega arith)
+
+pub stands_append : (limit : ℕ) (header : Option (ℕ × ℕ)) (src x held : List ℕ) → Stands limit header src held → Stands limit header (src ++ x) held
+stands_append limit None src x held s = s
+stands_append limit (Some h) src x held s =
+    let t = s.1 in
+    (s.0, (rw length-append (omega (arith, t.0)), id_append src x t.0 ∙ t.1, chunk_len_append src x t.0 ∙ t.2, t.3, t.4))
+
+-- a run, and then one over what came since
+pub runs_join : (answer : Result (Unit {0}) PacketCodecError) (d S : List ℕ) (s L : ℕ) (ps : List (List ℕ)) (q W x : List ℕ) (qs : List (List ℕ)) (id : ℕ) (header : Option (ℕ × ℕ)) (src dst : List ℕ)
+    → Splits d S s L ps q W → RunsTo (id_after s ps) (front (id_after s ps) q ++ (W ++ x)) q L answer qs id header src dst
+    → RunsTo s (S ++ x) d L answer (ps ++ qs) id header src dst
+runs_join (Ok u) d S s L ps q W x qs id header src dst a b =
+    (delivers_join d S s L ps q W x qs Waiting dst src a b.0, b.1 ∙ ap (λ (n : ℕ). id_at n dst) (sym (id_after-append s ps qs)), b.2, b.3)
+runs_join (Err PacketTooLarge) d S s L ps q W x qs id header src dst a b =
+    (delivers_join d S s L ps q W x qs TooLarge dst src a b.0, b.1 ∙ ap (λ (n : ℕ). id_at n dst) (sym (id_after-append s ps qs)), b.2)
+runs_join (Err PacketsOutOfSync) d S s L ps q W x qs id header src dst a b =
+    (b.0, b.1, delivers_join d S s L ps q W x qs OutOfSync b.0 b.1 a b.2, b.3, b.4, b.5 ∙ ap (λ (n : ℕ). id_at n b.0) (sym (id_after-append s ps qs)), b.6)
+runs_join (Err OutOfMemory) d S s L ps q W x qs id header src dst a b =
+    (splits_join d S s L ps q W x qs dst src a b.0, b.1 ∙ sym (id_after-append s ps qs), b.2)
+runs_join (Err (Io e)) d S s L ps q W x qs id header src dst a b = b
+
+-- the whole input, of which a part is left
+splits_extend : (d S : List ℕ) (s L : ℕ) (ps : List (List ℕ)) (q W x : List ℕ) → Splits d S s L ps q W → Splits d (S ++ x) s L ps q (W ++ x)
+splits_extend d S s L ps q W x a = record {
+  is =
+      let A : List ℕ = stream s ps in
+      let F : List ℕ = front (id_after s ps) q in
+      ap (λ (z : List ℕ). z ++ x) a.is ∙ append_assoc A (F ++ W) x ∙ ap (λ (z : List ℕ). A ++ z) (append_assoc F W x);
+  held_whole = a.held_whole;
+  unfinished_whole = a.unfinished_whole;
+  within = a.within;
+}
+
+pub runs_over : (error : PacketCodecError) (d S : List ℕ) (s L : ℕ) (ps : List (List ℕ)) (id : ℕ) (header : Option (ℕ × ℕ)) (src x dst : List ℕ)
+    → RunsTo s S d L (Err error) ps id header src dst → RunsOver s (S ++ x) d L (Err error) ps src x dst
+runs_over PacketTooLarge d S s L ps id header src x dst r =
+    let e = r.0.ends in
+    let l = chunk_len_append src x e.0 in
+    record {
+      splits = splits_extend d S s L ps dst src x r.0.splits;
+      ends = (rw length-append (omega (arith, e.0)), omega (arith, l, e.1), omega (arith, l, e.2));
+    }
+runs_over PacketsOutOfSync d S s L ps id header src x dst r =
+    let q : List ℕ = r.0 in
+    let W : List ℕ = r.1 in
+    let e = r.2.ends in
+    let long : 4 ≤ length W = omega (arith, e.0) in
+    let l : chunk_len (W ++ x) ≡ chunk_len W = chunk_len_append W x long in
+    let room : 4 + chunk_len W ≤ length W = e.0 in
+    let room' : chunk_len W ≤ length (drop 4 W) = rw length-drop (omega arith) in
+    let i : slice_index (W ++ x) 3 ≡ slice_index W 3 = id_append W x long in (
+      q,
+      W ++ x,
+      record {
+        splits = splits_extend d S s L ps q W x r.2.splits;
+        ends = (
+          rw (l, length-append) (omega (arith, room)),
+          elim e.1 [ inl none ↦ inl (l ∙ none) | inr fits ↦ inr (omega (arith, l, fits)) ],
+          λ same. e.2 (sym i ∙ same),
+        );
+      },
+      r.3 ∙ ap (λ (z : List ℕ). q ++ z) (sym (ap (λ (n : ℕ). take n (drop 4 (W ++ x))) l ∙ ap (λ (z : List ℕ). take (chunk_len W) z) (drop-append-le 4 W x long) ∙ take-append-le (chunk_len W) (drop 4 W) x room')),
+      ap (λ (z : List ℕ). z ++ x) r.4 ∙ sym (ap (λ (n : ℕ). drop (4 + n) (W ++ x)) l ∙ drop-append-le (4 + chunk_len W) W x room),
+    )
+runs_over OutOfMemory d S s L ps id header src x dst r = splits_extend d S s L ps dst src x r.0
+runs_over (Io e) d S s L ps id header src x dst r = r
+
+-- the open id of a codec that waits
+pub open_waiting : (s : ℕ) (ps : List (List ℕ)) (id : ℕ) (dst : List ℕ) → s < 256 → id ≡ id_at (id_after s ps) dst → open_id id dst ≡ id_after s ps
+open_waiting s ps id dst h e = ap (λ (n : ℕ). open_id n dst) e ∙ open_at_id (id_after s ps) dst (id_after_small s ps h)
+
+-- one piece more of a input
+pub stream_more : (input : List ℕ) (pieces : List (Bor (List ℕ))) (i : ℕ) (d : Bor (List ℕ)) → i < length pieces
+    → (input ++ joined (take i pieces)) ++ (get_or pieces i d).now ≡ input ++ joined (take (i + 1) pieces)
+stream_more input pieces i d h =
+    flat_map_more (λ (piece : Bor (List ℕ)). piece.now) input (take i pieces) (get_or pieces i d)
+    ∙ ap (λ (z : List (Bor (List ℕ))). input ++ joined z) (sym (take_more pieces i d h))
+
+joined-append : (xs ys : List (Bor (List ℕ))) → joined (xs ++ ys) ≡ joined xs ++ joined ys
+joined-append [] ys = refl
+joined-append (x ∷ xs) ys = ap (λ (z : List ℕ). x.now ++ z) (joined-append xs ys) ∙ sym (append_assoc x.now (joined xs) (joined ys))
+
+-- the pieces that are left
+pub stream_rest : (input : List ℕ) (pieces : List (Bor (List ℕ))) (i : ℕ) → (input ++ joined (take i pieces)) ++ joined (drop i pieces) ≡ input ++ joined pieces
+stream_rest input pieces i =
+    append_assoc input (joined (take i pieces)) (joined (drop i pieces))
+    ∙ ap (λ (z : List ℕ). input ++ z) (sym (joined-append (take i pieces) (drop i pieces)) ∙ ap (λ (z : List (Bor (List ℕ))). joined z) (take-append-drop i pieces))
+
+-- framed payloads come first
+pub encoded_first_is : (s L : ℕ) (ps qs : List (List ℕ)) (x : List ℕ) (e : Ending) (q W : List ℕ)
+    → All (λ (o : List ℕ). length o ≤ L) ps → Delivers [] x (id_after s ps) L qs e q W → Delivers [] (stream s ps ++ x) s L (ps ++ qs) e q W
+encoded_first_is s L ps qs x e q W small d =
+    let here : Splits [] (stream s ps) s L ps [] [] = record {
+      is = sym (append-nil (stream s ps)) ∙ ap (λ (z : List ℕ). stream s ps ++ (z ++ [])) (sym (front-nil (id_after s ps)));
+      held_whole = nothing_whole;
+      unfinished_whole = nothing_whole;
+      within = within_rest L ps [] small zero-le;
+    } in
+    delivers_join [] (stream s ps) s L ps [] [] x qs e q W here
+    (subst (λ (z : List ℕ). Delivers [] (z ++ x) (id_after s ps) L qs e q W) (sym (front-nil (id_after s ps))) d)

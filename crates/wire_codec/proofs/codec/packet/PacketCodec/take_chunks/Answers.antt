@@ -1,0 +1,85 @@
+use Rattle.std.proofs.Common.{ℕ, ◌++◌, sym, subst, refl, ap, ◌∙◌, arith, true, false, zero, suc, Ok, Err}
+use Rattle.wire_codec.specs.declared.codec.packet.Progress.{Progress}
+use Rattle.wire_codec.specs.declared.codec.packet.Progress.TheVariants.{Whole, Starved, More}
+use Rattle.wire_codec.specs.Chain.{ChunkChain}
+use Rattle.wire_codec.specs.Framing.{front}
+use Rattle.wire_codec.specs.Codec.{open_id, header_of, expected_id, Stands, LinksChain}
+use Rattle.wire_codec.proofs.CodecLemmas.{takes_later, splits_here, open_at_id, open_small, stands_without}
+use Rattle.wire_codec.proofs.codec.packet.PacketCodec.take_chunks.Goals as goal
+
+pub returns-in-Err-clause-decodes : goal.returns-in-Err-clause-decodes
+returns-in-Err-clause-decodes g c stands =
+    let held = g.T.PacketDst.held in
+    let first = open_id (expected_id c.args.self.now) (held c.args.dst.now) in
+    let limit = c.args.self.now.max_allowed_packet in
+    let inv = c.chunks.invariant.runs stands in
+    let here : Stands c.chunks.self.max_allowed_packet (header_of c.chunks.self) c.chunks.src.items (held c.chunks.dst) =
+    subst (λ (z : ℕ). Stands z (header_of c.chunks.self) c.chunks.src.items (held c.chunks.dst)) (sym c.chunks.invariant.same) inv.1 in
+    takes_later (Err c.in-Err.error) (open_id (expected_id c.chunks.self) (held c.chunks.dst)) first c.chunks.self.max_allowed_packet limit
+    (held c.args.dst.now) (front first (held c.args.dst.now) ++ c.args.src.now.items) (held c.chunks.dst) c.chunks.src.items
+    (expected_id c.take_chunk.new.self) (header_of c.take_chunk.new.self) c.take_chunk.new.src.items (held c.take_chunk.new.dst)
+    inv.2 c.chunks.invariant.same inv.0 (c.in-Err.ensures.takes here)
+
+pub chunks-init : goal.chunks-init
+chunks-init g c =
+    let held = g.T.PacketDst.held c.args.dst.now in
+    record {
+      chain = λ n a i h r f t. (n, t);
+      shorter = omega arith;
+      same = refl;
+      runs = λ stands. (splits_here (open_id (expected_id c.args.self.now) held) c.args.self.now.max_allowed_packet held c.args.src.now.items stands.0, stands, refl);
+    }
+
+pub chunks-preserved : goal.chunks-preserved
+chunks-preserved g c =
+    let held = g.T.PacketDst.held in
+    let first = open_id (expected_id c.args.self.now) (held c.args.dst.now) in
+    let limit = c.args.self.now.max_allowed_packet in
+    let links = subst (λ (z : ℕ). LinksChain z (expected_id c.chunks.self) (header_of c.chunks.self) c.chunks.src.items (held c.chunks.dst) (Ok More)
+    (expected_id c.take_chunk.new.self) (header_of c.take_chunk.new.self) c.take_chunk.new.src.items (held c.take_chunk.new.dst)) c.chunks.invariant.same (rw c.in-Ok-More.field-0-is at c.in-Ok-More.ensures.links) in
+    let takes = rw c.in-Ok-More.field-0-is at c.in-Ok-More.ensures.takes in
+    record {
+      chain = λ n a i h r f t. c.chunks.invariant.chain (suc n) a i h r f (
+        header_of c.take_chunk.new.self,
+        c.take_chunk.new.src.items,
+        held c.take_chunk.new.dst,
+        links.0,
+        links.1,
+        subst (λ (z : ℕ). ChunkChain n limit z (header_of c.take_chunk.new.self) c.take_chunk.new.src.items (held c.take_chunk.new.dst) a i h r f) links.2 t,
+      );
+      shorter = (let m = c.take_chunk.ensures.more (c.in-Ok-More.is ∙ ap (λ (z : Progress). Ok z) c.in-Ok-More.field-0-is) in omega arith);
+      same = c.take_chunk.ensures.limit ∙ c.chunks.invariant.same;
+      runs = λ stands.
+          let inv = c.chunks.invariant.runs stands in
+          let here : Stands c.chunks.self.max_allowed_packet (header_of c.chunks.self) c.chunks.src.items (held c.chunks.dst) =
+          subst (λ (z : ℕ). Stands z (header_of c.chunks.self) c.chunks.src.items (held c.chunks.dst)) (sym c.chunks.invariant.same) inv.1 in
+          let on = takes_later (Ok More) (open_id (expected_id c.chunks.self) (held c.chunks.dst)) first c.chunks.self.max_allowed_packet limit
+          (held c.args.dst.now) (front first (held c.args.dst.now) ++ c.args.src.now.items) (held c.chunks.dst) c.chunks.src.items
+          (expected_id c.take_chunk.new.self) (header_of c.take_chunk.new.self) c.take_chunk.new.src.items (held c.take_chunk.new.dst)
+          inv.2 c.chunks.invariant.same inv.0 (takes here) in (
+            on.0,
+            stands_without limit c.take_chunk.new.src.items (held c.take_chunk.new.dst) (header_of c.take_chunk.new.self) on.0.unfinished_whole on.2,
+            ap (λ (n : ℕ). open_id n (held c.take_chunk.new.dst)) on.1 ∙ open_at_id first (held c.take_chunk.new.dst) (open_small (expected_id c.args.self.now) (held c.args.dst.now)),
+          );
+    }
+
+pub returns-in-Ok-Whole-clause-chain : goal.returns-in-Ok-Whole-clause-chain
+returns-in-Ok-Whole-clause-chain g c =
+    let held = g.T.PacketDst.held in
+    let links = subst (λ (z : ℕ). LinksChain z (expected_id c.chunks.self) (header_of c.chunks.self) c.chunks.src.items (held c.chunks.dst) (Ok Whole)
+    (expected_id c.take_chunk.new.self) (header_of c.take_chunk.new.self) c.take_chunk.new.src.items (held c.take_chunk.new.dst)) c.chunks.invariant.same (rw c.in-Ok-Whole.field-0-is at c.in-Ok-Whole.ensures.links) in
+    c.chunks.invariant.chain zero (Ok true) (expected_id c.take_chunk.new.self) (header_of c.take_chunk.new.self) c.take_chunk.new.src.items (held c.take_chunk.new.dst) links
+
+pub returns-in-Ok-Starved-clause-chain : goal.returns-in-Ok-Starved-clause-chain
+returns-in-Ok-Starved-clause-chain g c =
+    let held = g.T.PacketDst.held in
+    let links = subst (λ (z : ℕ). LinksChain z (expected_id c.chunks.self) (header_of c.chunks.self) c.chunks.src.items (held c.chunks.dst) (Ok Starved)
+    (expected_id c.take_chunk.new.self) (header_of c.take_chunk.new.self) c.take_chunk.new.src.items (held c.take_chunk.new.dst)) c.chunks.invariant.same (rw c.in-Ok-Starved.field-0-is at c.in-Ok-Starved.ensures.links) in
+    c.chunks.invariant.chain zero (Ok false) (expected_id c.take_chunk.new.self) (header_of c.take_chunk.new.self) c.take_chunk.new.src.items (held c.take_chunk.new.dst) links
+
+pub returns-in-Err-clause-chain : goal.returns-in-Err-clause-chain
+returns-in-Err-clause-chain g c =
+    let held = g.T.PacketDst.held in
+    let links = subst (λ (z : ℕ). LinksChain z (expected_id c.chunks.self) (header_of c.chunks.self) c.chunks.src.items (held c.chunks.dst) (Err c.in-Err.error)
+    (expected_id c.take_chunk.new.self) (header_of c.take_chunk.new.self) c.take_chunk.new.src.items (held c.take_chunk.new.dst)) c.chunks.invariant.same c.in-Err.ensures.links in
+    c.chunks.invariant.chain zero (Err c.in-Err.error) (expected_id c.take_chunk.new.self) (header_of c.take_chunk.new.self) c.take_chunk.new.src.items (held c.take_chunk.new.dst) links

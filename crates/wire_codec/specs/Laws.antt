@@ -1,0 +1,40 @@
+-- Laws over the definitions alone, which the functions of `laws` carry.
+use Rattle.std.specs.Prelude.{◌≡◌, ℕ, List, [], ◌++◌, length, ◌/◌, ◌+◌, ◌*◌, ◌≤◌, All}
+use Rattle.wire_codec.specs.Framing.{framing, front, id_after, max_payload, stream}
+use Rattle.wire_codec.specs.Delivery.{Ending, Splits, Delivers}
+
+-- one framing cannot be read as two payloads, whatever follows it
+abbrev pub UniqueFraming : Type 0
+UniqueFraming =
+    (first_id : ℕ) (payload other rest more : List ℕ)
+    → framing first_id payload ++ rest ≡ framing first_id other ++ more → (payload ≡ other) × (rest ≡ more)
+
+-- a input delivers one thing
+abbrev pub OneDelivery : Type 0
+OneDelivery =
+    (held input : List ℕ) (open_id limit : ℕ) (payloads others : List (List ℕ)) (ending other : Ending) (unfinished another rest more : List ℕ)
+    → Delivers held input open_id limit payloads ending unfinished rest
+    → Delivers held input open_id limit others other another more
+    → (payloads ≡ others) × (ending ≡ other) × (unfinished ≡ another) × (rest ≡ more)
+
+-- a run, and then a run over what it left and what came since, are one run over all
+abbrev pub JoinedRuns : Type 0
+JoinedRuns =
+    (held input : List ℕ) (open_id limit : ℕ) (payloads : List (List ℕ)) (unfinished rest more : List ℕ)
+    (others : List (List ℕ)) (ending : Ending) (another left : List ℕ)
+    → Splits held input open_id limit payloads unfinished rest
+    → Delivers unfinished (front (id_after open_id payloads) unfinished ++ (rest ++ more)) (id_after open_id payloads) limit others ending another left
+    → Delivers held (input ++ more) open_id limit (payloads ++ others) ending another left
+
+-- how long a framing is
+abbrev pub FramedLength : Type 0
+FramedLength =
+    (first_id : ℕ) (payload : List ℕ) → length (framing first_id payload) ≡ length payload + 4 * (length payload / max_payload + 1)
+
+-- what begins with framed payloads hands them out first, whatever follows
+abbrev pub EncodedFirst : Type 0
+EncodedFirst =
+    (first_id limit : ℕ) (payloads others : List (List ℕ)) (more : List ℕ) (ending : Ending) (unfinished rest : List ℕ)
+    → All (λ payload. length payload ≤ limit) payloads
+    → Delivers [] more (id_after first_id payloads) limit others ending unfinished rest
+    → Delivers [] (stream first_id payloads ++ more) first_id limit (payloads ++ others) ending unfinished rest

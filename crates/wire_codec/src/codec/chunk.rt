@@ -1,0 +1,154 @@
+// One chunk at a time.
+ghost use Rattle.std.specs.Prelude.{◌≡◌, ℕ, ◌+◌, ◌*◌, ◌/◌, ◌%◌, ◌<◌, ◌≤◌, List, [], ◌∷◌, ◌++◌, length, take, drop, OnOk, OnErr, IfOk, IfErr, IsTrue, ◌↔◌, ◌^◌};
+ghost use Rattle.wire_codec.specs.Framing.{max_payload};
+ghost use Rattle.wire_codec.specs.Delivery.{IsSpelled};
+ghost use Rattle.wire_codec.specs.OneChunk.{remembered, ChunkStep, FinishesChunk, info_of};
+ghost use Rattle.std.specs.Int.NonZero.{non_zero_usize_get};
+
+use crate::codec::error::PacketCodecError;
+
+use crate::codec::header::Header;
+use bytes::BytesMut;
+use std::alloc::Allocator;
+use std::num::NonZeroUsize;
+use wire_buf::error::WireError;
+use wire_const::MAX_PAYLOAD_LEN;
+
+/// What a decoder writes payload bytes into.
+pub trait PacketDst {
+    /// All that was put.
+    ghost held: { Self → List ℕ };
+
+    fn as_ref(&self) -> &[u8]
+        ensures { result.now ≡ held self.now };
+
+    fn reserve(&mut self, n: usize) -> Result<(), WireError>
+        ensures held { held self.new ≡ held self.old }
+        ensures memory { IfErr result (λ error. error ≡ WireError.OutOfMemory) };
+
+    fn put_slice(&mut self, bytes: &[u8]) -> Result<(), WireError>
+        ensures ok { OnOk result (held self.new ≡ held self.old ++ bytes.now) }
+        ensures err { OnErr result (held self.new ≡ held self.old) }
+        ensures memory { IfErr result (λ error. error ≡ WireError.OutOfMemory) };
+}
+
+impl<A: Allocator> PacketDst for Vec<u8, A> {
+    ghost held = { λ v. v.items };
+
+    fn as_ref(&self) -> &[u8] {
+        self.as_slice()
+    }
+
+    fn reserve(&mut self, n: usize) -> Result<(), WireError> {
+        Vec::reserve(self, n).map_err(|_| WireError::OutOfMemory)
+    }
+
+    fn put_slice(&mut self, bytes: &[u8]) -> Result<(), WireError> {
+        self.extend_from_slice(bytes)
+            .map_err(|_| WireError::OutOfMemory)
+    }
+}
+
+impl<A: Allocator + Copy> PacketDst for BytesMut<A> {
+    ghost held = { λ b. b.items };
+
+    fn as_ref(&self) -> &[u8] {
+        self.as_slice()
+    }
+
+    fn reserve(&mut self, n: usize) -> Result<(), WireError> {
+        BytesMut::reserve(self, n).map_err(|_| WireError::OutOfMemory)
+    }
+
+    fn put_slice(&mut self, bytes: &[u8]) -> Result<(), WireError> {
+        self.extend_from_slice(bytes)
+            .map_err(|_| WireError::OutOfMemory)
+    }
+}
+
+/// Which chunk was decoded, and whether its packet goes on.
+#[derive(Debug, Clone, Copy, PartialEq, Eq)]
+pub enum ChunkInfo {
+    Middle(u8),
+    Last(u8),
+}
+
+/// The place in a chunk.
+#[derive(Debug, Clone, Copy, PartialEq, Eq)]
+pub enum ChunkDecoder {
+    Idle,
+    Chunk { seq_id: u8, needed: NonZeroUsize },
+}
+
+// Whether the packet of a chunk goes on, now that this much of it is held.
+#[tactic(auto, using(crate::proofs::ChunkLemmas::max_payload_is))]
+fn chunk_info(seq_id: u8, held: &[u8]) -> ChunkInfo
+    ensures { result ≡ info_of seq_id held.now }
+{
+    if held.len() % MAX_PAYLOAD_LEN == 0 {
+        ChunkInfo::Middle(seq_id)
+    } else {
+        ChunkInfo::Last(seq_id)
+    }
+}
+
+impl ChunkDecoder {
+    // Goes on with the chunk whose header is remembered.
+    fn finish<T: PacketDst>(
+        &mut self,
+        seq_id: u8,
+        needed: NonZeroUsize,
+        src: &mut BytesMut<impl Allocator + Copy>,
+        dst: &mut T,
+    ) -> Result<Option<ChunkInfo>, PacketCodecError>
+        requires { remembered self.old ≡ Some (seq_id, non_zero_usize_get needed) }
+        ensures { FinishesChunk seq_id (non_zero_usize_get needed) src.old.items (T.held dst.old)
+            result (remembered self.new) src.new.items (T.held dst.new) }
+    {
+        let len = src.len();
+        if len < 4 || len - 4 < needed.get() {
+            return Ok(None);
+        }
+        let end = 4 + needed.get();
+        if dst.put_slice(&src.as_slice()[4..end]).is_err() {
+            return Err(PacketCodecError::OutOfMemory);
+        }
+        src.advance(end);
+        *self = ChunkDecoder::Idle;
+        Ok(Some(chunk_info(seq_id, dst.as_ref())))
+    }
+
+    /// Takes the chunk at the front of `src`, if it is whole, and puts its payload behind `dst`.
+    pub fn decode<T: PacketDst>(
+        &mut self,
+        src: &mut BytesMut<impl Allocator + Copy>,
+        dst: &mut T,
+        limit: usize,
+    ) -> Result<Option<ChunkInfo>, PacketCodecError>
+        ensures chunk { ChunkStep (remembered self.old) src.old.items (T.held dst.old) limit
+            result (remembered self.new) src.new.items (T.held dst.new) }
+        // What stands in front is a header.
+        ensures spelled { IsSpelled src.old.items }
+    {
+        let Some(header) = Header::read(src.as_slice()) else {
+            return Ok(None);
+        };
+        match *self {
+            ChunkDecoder::Idle => {
+                let Some(needed) = NonZeroUsize::new(header.len) else {
+                    src.advance(4);
+                    return Ok(Some(ChunkInfo::Last(header.seq_id)));
+                };
+                if limit < header.len || limit - header.len < dst.as_ref().len() {
+                    return Err(PacketCodecError::PacketTooLarge);
+                }
+                *self = ChunkDecoder::Chunk {
+                    seq_id: header.seq_id,
+                    needed,
+                };
+                self.finish(header.seq_id, needed, src, dst)
+            }
+            ChunkDecoder::Chunk { seq_id, needed } => self.finish(seq_id, needed, src, dst),
+        }
+    }
+}

@@ -1,0 +1,258 @@
+// Whole packets.
+ghost use Rattle.std.specs.Prelude.{◌≡◌, ℕ, ◌+◌, ◌/◌, ◌%◌, ◌<◌, ◌≤◌, ◌↔◌, ◌⊎◌, OnOk, OnErr, IfErr, Err, List, [], length, None, true, IsTrue, slice_index, ◌++◌};
+ghost use Rattle.wire_codec.specs.Framing.{front};
+ghost use Rattle.wire_codec.specs.Delivery.{IsWholeChunks, chunk_len};
+
+use crate::codec::chunk::{ChunkDecoder, ChunkInfo, PacketDst};
+use crate::codec::error::PacketCodecError;
+use crate::codec::framing::packet_to_chunks;
+use crate::codec::header::Header;
+use crate::codec::room::{bytes_to_take, fits, whole_chunk};
+use bytes::{Buf, BytesMut};
+use std::alloc::Allocator;
+use wire_const::MAX_PAYLOAD_LEN;
+
+/// Packets from chunks, and chunks from packets, under one sequence id.
+#[derive(Debug, Drop)]
+pub struct PacketCodec {
+    /// The most bytes of a packet.
+    pub max_allowed_packet: usize,
+    seq_id: u8,
+    decoder: ChunkDecoder,
+}
+
+impl PacketCodec {
+    ghost use Rattle.wire_codec.specs.Codec.{expected_id, header_of, Stands};
+
+    /// Whether `decode` may go on here: `dst` holds full chunks, and a remembered header stands at the front of `src`.
+    pub fn stands_at(&self, src: &BytesMut<impl Allocator + Copy>, dst: &[u8]) -> bool
+        ensures { IsTrue result ↔ Stands self.now.max_allowed_packet (header_of self.now) src.now.items dst.now }
+    {
+        if !is_whole(dst) {
+            return false;
+        }
+        match self.decoder {
+            ChunkDecoder::Idle => true,
+            ChunkDecoder::Chunk { seq_id, needed } => {
+                let front = src.as_slice();
+                has_header(front, seq_id, needed.get())
+                    && fits(dst.len(), needed.get(), self.max_allowed_packet)
+            }
+        }
+    }
+}
+
+// What one chunk brought.
+enum Progress {
+    // The packet is whole.
+    Whole,
+    // A full chunk, and bytes behind it.
+    More,
+    // More bytes are needed.
+    Starved,
+}
+
+impl PacketCodec {
+    ghost use Rattle.wire_codec.specs.Codec.{expected_id, header_of, Stands, DecodesPacket, open_id, TakesChunk, LinksChain};
+    ghost use Rattle.wire_codec.specs.Chain.{ChunkChain};
+    ghost use Rattle.wire_codec.specs.OneChunk.{ChunkStep};
+
+    // Takes one chunk.
+    fn take_chunk<T: PacketDst>(
+        &mut self,
+        src: &mut BytesMut<impl Allocator + Copy>,
+        dst: &mut T,
+    ) -> Result<Progress, PacketCodecError>
+        ensures takes { Stands self.old.max_allowed_packet (header_of self.old) src.old.items (T.held dst.old)
+            → TakesChunk (open_id (expected_id self.old) (T.held dst.old))
+            (front (open_id (expected_id self.old) (T.held dst.old)) (T.held dst.old) ++ src.old.items)
+            (T.held dst.old) self.old.max_allowed_packet result
+            (expected_id self.new) (header_of self.new) src.new.items (T.held dst.new) }
+        ensures limit { self.new.max_allowed_packet ≡ self.old.max_allowed_packet }
+        ensures links { LinksChain self.old.max_allowed_packet (expected_id self.old) (header_of self.old) src.old.items (T.held dst.old)
+            result (expected_id self.new) (header_of self.new) src.new.items (T.held dst.new) }
+        ensures more { result ≡ Ok Progress.More → length src.new.items < length src.old.items }
+        ensures whole { result ≡ Ok Progress.Whole → length src.new.items < length src.old.items }
+    {
+        let expected = self.seq_id;
+        match self.decoder.decode(src, dst, self.max_allowed_packet) {
+            Err(error) => Err(error),
+            Ok(None) => Ok(Progress::Starved),
+            Ok(Some(ChunkInfo::Last(id))) => {
+                if id != expected {
+                    return Err(PacketCodecError::PacketsOutOfSync);
+                }
+                self.seq_id = id.wrapping_add(1);
+                Ok(Progress::Whole)
+            }
+            Ok(Some(ChunkInfo::Middle(id))) => {
+                if id != expected {
+                    return Err(PacketCodecError::PacketsOutOfSync);
+                }
+                self.seq_id = id.wrapping_add(1);
+                if src.is_empty() {
+                    Ok(Progress::Starved)
+                } else {
+                    Ok(Progress::More)
+                }
+            }
+        }
+    }
+
+    // Takes room in `dst` for all bytes that one call takes. Where there is none, the chunk in front is remembered.
+    fn make_room<T: PacketDst>(
+        &mut self,
+        src: &BytesMut<impl Allocator + Copy>,
+        dst: &mut T,
+    ) -> Result<(), PacketCodecError>
+        ensures ok { OnOk result (self.new ≡ self.old) }
+        ensures memory { IfErr result (λ error. error ≡ PacketCodecError.OutOfMemory) }
+        ensures refused { OnErr result (ChunkStep (header_of self.old) src.now.items (T.held dst.old) self.old.max_allowed_packet
+            (Err PacketCodecError.OutOfMemory) (header_of self.new) src.now.items (T.held dst.new)) }
+        ensures decodes { OnErr result (Stands self.old.max_allowed_packet (header_of self.old) src.now.items (T.held dst.old)
+            → DecodesPacket (T.held dst.old) src.now.items (expected_id self.old) self.old.max_allowed_packet (Err PacketCodecError.OutOfMemory)
+            (expected_id self.new) (header_of self.new) src.now.items (T.held dst.new)) }
+        ensures id { expected_id self.new ≡ expected_id self.old }
+        ensures limit { self.new.max_allowed_packet ≡ self.old.max_allowed_packet }
+        ensures held { T.held dst.new ≡ T.held dst.old }
+    {
+        let front = src.as_slice();
+        let held = dst.as_ref().len();
+        let limit = self.max_allowed_packet;
+        match whole_chunk(self.decoder, front, held, limit) {
+            None => Ok(()),
+            Some((seq_id, needed)) => {
+                let room = bytes_to_take(seq_id, needed, front, held, limit, self.seq_id);
+                match dst.reserve(room) {
+                    Ok(()) => Ok(()),
+                    Err(_) => {
+                        self.decoder = ChunkDecoder::Chunk { seq_id, needed };
+                        Err(PacketCodecError::OutOfMemory)
+                    }
+                }
+            }
+        }
+    }
+
+    // The chunks of one call, one after another.
+    fn take_chunks<T: PacketDst>(
+        &mut self,
+        src: &mut BytesMut<impl Allocator + Copy>,
+        dst: &mut T,
+    ) -> Result<bool, PacketCodecError>
+        ensures decodes { Stands self.old.max_allowed_packet (header_of self.old) src.old.items (T.held dst.old)
+            → DecodesPacket (T.held dst.old) src.old.items (expected_id self.old) self.old.max_allowed_packet result
+            (expected_id self.new) (header_of self.new) src.new.items (T.held dst.new) }
+        ensures limit { self.new.max_allowed_packet ≡ self.old.max_allowed_packet }
+        // In every state it is a chain of chunks.
+        ensures chain { (count : ℕ) × ChunkChain count self.old.max_allowed_packet (expected_id self.old) (header_of self.old) src.old.items (T.held dst.old)
+            result (expected_id self.new) (header_of self.new) src.new.items (T.held dst.new) }
+        ensures shorter { result ≡ Ok true → length src.new.items < length src.old.items }
+    {
+        'chunks: loop {
+            match self.take_chunk(src, dst) {
+                Ok(Progress::Whole) => return Ok(true),
+                Ok(Progress::Starved) => return Ok(false),
+                Ok(Progress::More) => {}
+                Err(error) => return Err(error),
+            }
+        }
+    }
+
+    /// Takes chunks from the front of `src` until a packet is whole, and puts their payload behind `dst`, which grows once.
+    pub fn decode<T: PacketDst>(
+        &mut self,
+        src: &mut BytesMut<impl Allocator + Copy>,
+        dst: &mut T,
+    ) -> Result<bool, PacketCodecError>
+        ensures decodes { Stands self.old.max_allowed_packet (header_of self.old) src.old.items (T.held dst.old)
+            → DecodesPacket (T.held dst.old) src.old.items (expected_id self.old) self.old.max_allowed_packet result
+            (expected_id self.new) (header_of self.new) src.new.items (T.held dst.new) }
+        ensures limit { self.new.max_allowed_packet ≡ self.old.max_allowed_packet }
+        // In every state it is a chain of chunks.
+        ensures chain { (count : ℕ) × ChunkChain count self.old.max_allowed_packet (expected_id self.old) (header_of self.old) src.old.items (T.held dst.old)
+            result (expected_id self.new) (header_of self.new) src.new.items (T.held dst.new) }
+        ensures shorter { result ≡ Ok true → length src.new.items < length src.old.items }
+    {
+        match self.make_room(src, dst) {
+            Ok(()) => self.take_chunks(src, dst),
+            Err(error) => Err(error),
+        }
+    }
+}
+
+// Whether these are full chunks alone.
+#[tactic(auto, using(crate::proofs::ChunkLemmas::max_payload_is))]
+fn is_whole(held: &[u8]) -> bool
+    ensures { IsTrue result ↔ IsWholeChunks held.now }
+{
+    held.len() % MAX_PAYLOAD_LEN == 0
+}
+
+// Whether this header stands in front.
+fn has_header(front: &[u8], id: u8, len: usize) -> bool
+    ensures { IsTrue result ↔ ((4 ≤ length front.now) × (slice_index front.now 3 ≡ id) × (chunk_len front.now ≡ len)) }
+{
+    match Header::read(front) {
+        Some(header) => header.seq_id == id && header.len == len,
+        None => false,
+    }
+}
+
+impl Default for PacketCodec {
+    ghost use Rattle.wire_codec.specs.Codec.{expected_id, header_of};
+
+    ghost is_default = { λ codec. (expected_id codec ≡ 0) × (header_of codec ≡ None) × (codec.max_allowed_packet ≡ 4194304) };
+
+    fn default() -> Self {
+        PacketCodec {
+            max_allowed_packet: 4194304,
+            seq_id: 0,
+            decoder: ChunkDecoder::Idle,
+        }
+    }
+}
+
+impl PacketCodec {
+    ghost use Rattle.wire_codec.specs.Codec.{expected_id, header_of};
+    ghost use Rattle.wire_codec.specs.Framing.{framing, next_id};
+
+    /// Appends a packet's chunks, if the packet is within the limit, and empties it.
+    pub fn encode<T: Buf>(
+        &mut self,
+        packet: &mut T,
+        dst: &mut BytesMut<impl Allocator + Copy>,
+    ) -> Result<(), PacketCodecError>
+        ensures appended { OnOk result (dst.new.items ≡ dst.old.items ++ framing (expected_id self.old) (T.unread packet.old)) }
+        ensures emptied { OnOk result (T.unread packet.new ≡ []) }
+        ensures next { OnOk result (expected_id self.new ≡ next_id (expected_id self.old) (T.unread packet.old)) }
+
+        ensures too_large { (result ≡ Err PacketCodecError.PacketTooLarge) ↔ (self.old.max_allowed_packet < length (T.unread packet.old)) }
+        ensures memory { IfErr result (λ error. (error ≡ PacketCodecError.PacketTooLarge) ⊎ (error ≡ PacketCodecError.OutOfMemory)) }
+        ensures err { OnErr result ((expected_id self.new ≡ expected_id self.old) × (packet.new ≡ packet.old) × (dst.new.items ≡ dst.old.items)) }
+
+        ensures header { header_of self.new ≡ header_of self.old }
+        ensures limit { self.new.max_allowed_packet ≡ self.old.max_allowed_packet }
+        ensures kept { T.kept packet.new ≡ T.kept packet.old }
+    {
+        if packet.remaining() > self.max_allowed_packet {
+            return Err(PacketCodecError::PacketTooLarge);
+        }
+        match packet_to_chunks(self.seq_id, packet, dst) {
+            Ok(id) => {
+                self.seq_id = id;
+                Ok(())
+            }
+            Err(_) => Err(PacketCodecError::OutOfMemory),
+        }
+    }
+
+    /// Sets the sequence id to 0.
+    pub fn reset_seq_id(&mut self)
+        ensures id { expected_id self.new ≡ 0 }
+        ensures header { header_of self.new ≡ header_of self.old }
+        ensures limit { self.new.max_allowed_packet ≡ self.old.max_allowed_packet }
+    {
+        self.seq_id = 0;
+    }
+}
