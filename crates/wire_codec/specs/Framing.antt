@@ -1,4 +1,5 @@
--- How payloads stand on the wire.
+-- How payloads stand on the wire: MySQL's page "MySQL Packets".
+-- https://dev.mysql.com/doc/dev/mysql-server/latest/page_protocol_basic_packets.html
 use Rattle.std.specs.Prelude.{ℕ, ◌+◌, ◌*◌, ◌/◌, ◌%◌, List, [], ◌∷◌, ◌++◌, length, take, drop, zero, suc}
 use Rattle.wire_buf.specs.Numbers.{le_bytes}
 
@@ -14,7 +15,8 @@ header len id = le_bytes 3 len ++ (id % 256 ∷ [])
 unfoldable pub chunk : ℕ → List ℕ → List ℕ
 chunk id bytes = header (length bytes) id ++ bytes
 
--- the first count chunks of a payload, numbered from first_id on
+-- the first count chunks of a payload, numbered from first_id on: chunk i carries the bytes from i * max_payload on,
+-- at most max_payload of them
 abbrev pub chunks : ℕ → ℕ → List ℕ → List ℕ
 chunks zero first_id payload = []
 chunks (suc count) first_id payload =
@@ -24,15 +26,15 @@ chunks (suc count) first_id payload =
 abbrev pub framing : ℕ → List ℕ → List ℕ
 framing first_id payload = chunks (suc (length payload / max_payload)) first_id payload
 
--- the full chunks of an unfinished payload
-abbrev pub front : ℕ → List ℕ → List ℕ
-front first_id held = chunks (length held / max_payload) first_id held
-
 -- the sequence id after a payload's last chunk
 abbrev pub next_id : ℕ → List ℕ → ℕ
 next_id first_id payload = (first_id + length payload / max_payload + 1) % 256
 
--- payloads framed one after another
+-- the full chunks of an unfinished payload, which has no shorter chunk yet
+abbrev pub front : ℕ → List ℕ → List ℕ
+front first_id held = chunks (length held / max_payload) first_id held
+
+-- payloads framed one after another, each from the id after the one before it
 abbrev pub stream : ℕ → List (List ℕ) → List ℕ
 stream first_id [] = []
 stream first_id (payload ∷ payloads) = framing first_id payload ++ stream (next_id first_id payload) payloads

@@ -1,0 +1,2 @@
+pub mod InputLemmas
+pub mod WordLemmas
