@@ -14,6 +14,8 @@ mod input;
 mod lines;
 mod output;
 mod status;
+#[cfg(test)]
+mod tests;
 mod words;
 
 // The words after the program's name. Words that are no text are invalid data.
