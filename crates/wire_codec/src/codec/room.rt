@@ -4,7 +4,6 @@ ghost use Rattle.std.specs.Int.NonZero.{non_zero_usize_get};
 ghost use Rattle.wire_codec.specs.OneChunk.{remembered, IsTakeable};
 
 use crate::codec::chunk::ChunkDecoder;
-
 use crate::codec::header::Header;
 use std::num::NonZeroUsize;
 use wire_const::MAX_PAYLOAD_LEN;
