@@ -6,7 +6,7 @@ use Rattle.std.specs.Prelude.{◌≡◌, ℕ, ◌+◌, ◌/◌, ◌%◌, ◌⊎�
 use Rattle.mysql_wire.specs.ChunkInfo.{ChunkInfo}
 use Rattle.mysql_wire.specs.ChunkInfo.TheVariants.{Middle, Last}
 use Rattle.mysql_wire.specs.Framing.{framing, max_payload}
-use Rattle.mysql_wire.specs.OneChunk.{ChunkStep}
+use Rattle.mysql_wire.specs.OneChunk.{ChunkState, ChunkStep}
 
 -- a digit from 0 to 15, in lower case
 abbrev pub hex_digit : ℕ → ℕ
@@ -28,8 +28,8 @@ abbrev pub payload_line : List ℕ → List ℕ
 payload_line payload = decimal (length payload) ++ codes " " ++ hex_or_dash payload ++ codes "\n"
 
 -- how many bytes are left
-abbrev pub rest_line : List ℕ → List ℕ
-rest_line rest = codes "rest " ++ decimal (length rest) ++ codes "\n"
+abbrev pub rest_line : ℕ → List ℕ
+rest_line count = codes "rest " ++ decimal count ++ codes "\n"
 
 -- what `frame` writes of a payload: its framing
 abbrev pub Framed : ℕ → List ℕ → List ℕ → Type 0
@@ -46,15 +46,13 @@ abbrev pub chunk_status : Option ChunkInfo → List ℕ → ℕ
 chunk_status (Some info) rest = 0
 chunk_status None rest = if length rest == 0 then 0 else 3
 
--- what `chunk` writes of the bytes it reads, and its status: one chunk decoded from a new decoder, with nothing held before it
+-- what `chunk` writes of the bytes it reads, and its status: one chunk decoded by a new decoder, with nothing held before it
 pub record Shown (input : List ℕ) (status : ℕ) (text : List ℕ) : Type 0 where
   pub info : Option ChunkInfo
-  pub header : Option (ℕ × ℕ)
-  pub rest : List ℕ
-  pub payload : List ℕ
-  pub decoded : ChunkStep None input [] max_payload (Ok info) header rest payload
-  pub is : text ≡ chunk_line info payload ++ rest_line rest
-  pub ends : status ≡ chunk_status info rest
+  pub after : ChunkState
+  pub decoded : ChunkStep max_payload (record { header = None; unread = input; held = [] }) (Ok info) after
+  pub is : text ≡ chunk_line info after.held ++ rest_line (length after.unread)
+  pub ends : status ≡ chunk_status info after.unread
 
 -- `frame` ended with this status, where readers and writers tell their bytes: at 0 all input was read, and its framing was
 -- written

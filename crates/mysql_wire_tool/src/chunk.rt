@@ -1,6 +1,6 @@
 //! `chunk`: the chunk at the front of the input.
 
-ghost use Rattle.std.specs.Prelude.{◌≡◌, ◌⊎◌, ◌++◌, IfOk};
+ghost use Rattle.std.specs.Prelude.{◌≡◌, ◌⊎◌, ◌++◌, length, IfOk};
 ghost use Rattle.mysql_wire_tool.specs.Texts.{ChunkEnds, Shown, chunk_line, chunk_status, rest_line};
 
 use crate::input::read_whole;
@@ -33,11 +33,11 @@ fn chunk_text<A: Allocator>(
     payload: &[u8],
     rest: &[u8],
 ) -> io::Result<Vec<u8, A>>
-    ensures { IfOk result (λ text. text.items ≡ chunk_line info payload.now ++ rest_line rest.now) }
+    ensures { IfOk result (λ text. text.items ≡ chunk_line info payload.now ++ rest_line (length rest.now)) }
 {
     let mut text = Vec::new(alloc);
     push_chunk(&mut text, info, payload)?;
-    push_rest(&mut text, rest)?;
+    push_rest(&mut text, rest.len() as u128)?;
     Ok(text)
 }
 

@@ -1,6 +1,6 @@
 //! Reading.
 
-ghost use Rattle.std.specs.Prelude.{IfOk, OnOk};
+ghost use Rattle.std.specs.Prelude.{◌≡◌, ◌<◌, ◌≤◌, IfOk, OnOk, take, vec_len};
 ghost use Rattle.std.specs.Io.KnownBytes.{Consumes, IsAtEnd};
 
 use crate::status::Stop;
@@ -31,4 +31,21 @@ pub fn read_whole<A: Allocator + Copy, R: Read>(
         }
     }
     Err(Stop::Io)
+}
+
+/// One read to the front of `piece`: how many bytes came, none at the end of the input.
+pub fn read_piece<A: Allocator, R: Read>(
+    input: &mut R,
+    piece: &mut Vec<u8, A>,
+) -> Result<usize, Stop>
+    requires { 0 < vec_len piece.old }
+    ensures len { vec_len piece.new ≡ vec_len piece.old }
+    ensures count { IfOk result (λ n. n ≤ vec_len piece.new) }
+    ensures bytes { IfOk result (λ n. Consumes (R.remaining input.old) (R.remaining input.new) (take n piece.new.items)) }
+    ensures end { IfOk result (λ n. n ≡ 0 → IsAtEnd (R.remaining input.new)) }
+{
+    match input.read(piece.as_mut_slice()) {
+        Ok(count) => Ok(count),
+        Err(_) => Err(Stop::Io),
+    }
 }

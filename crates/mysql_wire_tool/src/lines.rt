@@ -45,8 +45,8 @@ pub fn push_chunk<A: Allocator>(
 }
 
 /// Appends how many bytes are left.
-pub fn push_rest<A: Allocator>(text: &mut Vec<u8, A>, rest: &[u8]) -> io::Result<()>
-    ensures { OnOk result (text.new.items ≡ text.old.items ++ rest_line rest.now) }
+pub fn push_rest<A: Allocator>(text: &mut Vec<u8, A>, count: u128) -> io::Result<()>
+    ensures { OnOk result (text.new.items ≡ text.old.items ++ rest_line count) }
 {
-    writeln!(text, "rest {}", rest.len())
+    writeln!(text, "rest {count}")
 }

@@ -16,6 +16,7 @@ mod output;
 mod status;
 #[cfg(test)]
 mod tests;
+mod unframe;
 mod words;
 
 // The words after the program's name. Words that are no text are invalid data.

@@ -28,7 +28,7 @@ pub fn fault_text(status: u8) -> &'static str
     ensures silent { (result.now ≡ []) ↔ ((status ≢ 1) × (status ≢ 2) × (status ≢ 6)) }
 {
     match status {
-        1 => "usage: mysql_wire_tool frame ID | chunk",
+        1 => "usage: mysql_wire_tool frame ID | chunk | unframe STEP LIMIT",
         2 => "input or output failed",
         6 => "out of memory",
         _ => "",

@@ -3,6 +3,7 @@
 use crate::chunk::run_chunk;
 use crate::frame::run_frame;
 use crate::status::fault_text;
+use crate::unframe::run_unframe;
 use crate::words::run_words;
 use refusing::Refusing;
 use std::alloc::Allocator;
@@ -113,8 +114,88 @@ fn chunk_shows_what_stands_in_front(rt: HostRuntime) -> Result<(), Fail> {
 }
 
 #[test]
+fn unframe_shows_each_packet(rt: HostRuntime) -> Result<(), Fail> {
+    for (step, limit, input, want, want_status) in [
+        (
+            "1",
+            "10",
+            b"\x01\0\0\0a\0\0\0\x01\x02\0".as_slice(),
+            "1 61\n0 -\nrest 2\n",
+            3u8,
+        ),
+        (
+            "1",
+            "10",
+            b"\x01\0\0\0a\x01\0\0\x05b",
+            "1 61\nout of sync\n",
+            5,
+        ),
+        ("9", "0", b"\x01\0\0\0", "too large\n", 4),
+        (
+            "2",
+            "1",
+            b"\x01\0\0\0a\x02\0\0\x01bc",
+            "1 61\ntoo large\n",
+            4,
+        ),
+        ("65536", "4294967295", b"", "rest 0\n", 0),
+        ("3", "1", b"\x01\0\0\0a", "1 61\nrest 0\n", 0),
+    ] {
+        let (status, output) = run(rt.alloc(), &["unframe", step, limit], input)?;
+        assert_eq!(rt; status, want_status, "{want}");
+        assert_eq!(rt; output.as_slice(), want.as_bytes(), "{want}");
+    }
+    Ok(())
+}
+
+#[test]
+fn unframe_writes_the_same_however_it_reads(rt: HostRuntime) -> Result<(), Fail> {
+    for step in 1..16usize {
+        for (limit, input, want, want_status) in [
+            (
+                1usize,
+                b"\x01\0\0\0a\x01\0\0\x01b\0\0\0\x02".as_slice(),
+                "1 61\n1 62\n0 -\nrest 0\n",
+                0u8,
+            ),
+            (2, b"\x01\0\0\0a\x03\0\0\x09b", "1 61\ntoo large\n", 4),
+            (3, b"\x01\0\0\0a\x03\0\0\x09b", "1 61\nrest 5\n", 3),
+            (3, b"\x01\0\0\0a\x03\0\0\x09bcd", "1 61\nout of sync\n", 5),
+        ] {
+            let mut input = input;
+            let mut output = Vec::new(rt.alloc());
+            let status = run_unframe(rt.alloc(), step, limit, &mut input, &mut output);
+            assert_eq!(rt; status, want_status, "step {step}");
+            assert_eq!(rt; output.as_slice(), want.as_bytes(), "step {step}");
+        }
+    }
+    Ok(())
+}
+
+#[test]
+fn unframe_reads_no_further_than_a_fault(rt: HostRuntime) -> Result<(), Fail> {
+    // The fault is known with the last of these bytes; one read more would fail.
+    for (limit, bytes, want) in [
+        (10usize, b"\x01\0\0\0a\x01\0\0\x05b".as_slice(), 5u8),
+        (1, b"\x01\0\0\0a\x02\0\0\x01", 4),
+    ] {
+        for until_fault in 0..bytes.len() + 1 {
+            let mut input = OneByOne { bytes, until_fault };
+            let mut output = Vec::new(rt.alloc());
+            let status = run_unframe(rt.alloc(), 1, limit, &mut input, &mut output);
+            assert_eq!(rt;
+                status,
+                if until_fault < bytes.len() { 2 } else { want },
+                "read {until_fault}"
+            );
+        }
+    }
+    Ok(())
+}
+
+#[test]
 fn other_words_read_and_write_nothing(rt: HostRuntime) -> Result<(), Fail> {
-    let wrong: [&[&str]; 11] = [
+    let wrong: [&[&str]; 17] = [
         &[],
         &["frame"],
         &["frame", "256"],
@@ -126,6 +207,12 @@ fn other_words_read_and_write_nothing(rt: HostRuntime) -> Result<(), Fail> {
         &["frame", "1", "2"],
         &["chunk", "1"],
         &["Chunk"],
+        &["unframe", "0", "1"],
+        &["unframe", "65537", "1"],
+        &["unframe", "1", "4294967296"],
+        &["unframe", "1", "-1"],
+        &["unframe", "1"],
+        &["unframe", "1", "1", "1"],
     ];
     for words in wrong {
         let (status, output) = run(rt.alloc(), words, b"123")?;
@@ -171,6 +258,7 @@ fn each_write_and_the_flush_fail_in_turn(rt: HostRuntime) -> Result<(), Fail> {
         let bytes = b"\x03\0\0\0123".as_slice();
         let frame_want = if room < 11 { 2u8 } else { 0 };
         let chunk_want = if room < 23 { 2u8 } else { 0 };
+        let unframe_want = if room < 16 { 2u8 } else { 0 };
         let mut input = bytes;
         let mut output = Narrow {
             room,
@@ -191,6 +279,16 @@ fn each_write_and_the_flush_fail_in_turn(rt: HostRuntime) -> Result<(), Fail> {
             chunk_want,
             "room {room}"
         );
+        let mut input = bytes;
+        let mut output = Narrow {
+            room,
+            flushes: true,
+        };
+        assert_eq!(rt;
+            run_unframe(rt.alloc(), 2, 3, &mut input, &mut output),
+            unframe_want,
+            "room {room}"
+        );
     }
     let mut input = b"123".as_slice();
     let mut output = Narrow {
@@ -204,21 +302,21 @@ fn each_write_and_the_flush_fail_in_turn(rt: HostRuntime) -> Result<(), Fail> {
 }
 
 // A command under each refusal in turn: status 6 until a run meets none. The output is kept elsewhere.
-fn refused_in_turn<A: Allocator + Copy>(alloc: A, frames: bool) -> u64 {
+fn refused_in_turn<A: Allocator + Copy>(alloc: A, command: &str) -> u64 {
     for nth in 0..100u64 {
         let heap = Refusing::new(alloc, nth);
         let mut input = b"\x03\0\0\0123".as_slice();
         let mut output = Vec::new(alloc);
-        let status = if frames {
-            run_frame(&heap, 0, &mut input, &mut output)
-        } else {
-            run_chunk(&heap, &mut input, &mut output)
+        let status = match command {
+            "frame" => run_frame(&heap, 0, &mut input, &mut output),
+            "chunk" => run_chunk(&heap, &mut input, &mut output),
+            _ => run_unframe(&heap, 2, 3, &mut input, &mut output),
         };
         let was_refused = heap.left() > 1 << 32;
         if status == 0 && !was_refused && !output.is_empty() {
             return nth;
         }
-        if status != 6 || !was_refused || !output.is_empty() {
+        if status != 6 || !was_refused {
             return 0;
         }
     }
@@ -228,9 +326,11 @@ fn refused_in_turn<A: Allocator + Copy>(alloc: A, frames: bool) -> u64 {
 #[test]
 fn each_request_for_memory_is_refused_in_turn(rt: HostRuntime) -> Result<(), Fail> {
     // The input, as it grows, and the framing.
-    assert!(rt; refused_in_turn(rt.alloc(), true) > 1);
+    assert!(rt; refused_in_turn(rt.alloc(), "frame") > 1);
     // The input, the payload, and the text as it grows.
-    assert!(rt; refused_in_turn(rt.alloc(), false) > 2);
+    assert!(rt; refused_in_turn(rt.alloc(), "chunk") > 2);
+    // The pieces, what is unread, each packet, the list of packets, and each text.
+    assert!(rt; refused_in_turn(rt.alloc(), "unframe") > 5);
     Ok(())
 }
 
@@ -238,7 +338,7 @@ fn each_request_for_memory_is_refused_in_turn(rt: HostRuntime) -> Result<(), Fai
 fn a_fault_has_its_text(rt: HostRuntime) {
     for status in 0..=255u8 {
         let want = match status {
-            1 => "usage: mysql_wire_tool frame ID | chunk",
+            1 => "usage: mysql_wire_tool frame ID | chunk | unframe STEP LIMIT",
             2 => "input or output failed",
             6 => "out of memory",
             _ => "",

@@ -8,6 +8,7 @@ ghost use Rattle.mysql_wire_tool.specs.Numbers.{IsNumber};
 
 use crate::chunk::run_chunk;
 use crate::frame::run_frame;
+use crate::unframe::run_unframe;
 use std::alloc::Allocator;
 use std::io::{Read, Write};
 
@@ -18,6 +19,8 @@ pub enum Request {
     Frame(u8),
     /// `chunk`
     Chunk,
+    /// `unframe STEP LIMIT`: at most so many bytes a read, and so many a packet.
+    Unframe { step: usize, limit: usize },
 }
 
 // The number that one to ten digits write, where it is at most `most`.
@@ -46,6 +49,17 @@ impl Request {
                 Some(Request::Frame(number(id.as_str(), 255)? as u8))
             }
             [name] if name.as_str() == "chunk" => Some(Request::Chunk),
+            [name, step, limit] if name.as_str() == "unframe" => {
+                let step = number(step.as_str(), 65536)?;
+                let limit = number(limit.as_str(), 4294967295)?;
+                if step == 0 {
+                    return None;
+                }
+                Some(Request::Unframe {
+                    step: step as usize,
+                    limit: limit as usize,
+                })
+            }
             _ => None,
         }
     }
@@ -71,5 +85,6 @@ pub fn run_words<A: Allocator + Copy, R: Read, W: Write>(
         None => 1,
         Some(Request::Frame(id)) => run_frame(alloc, id, input, output),
         Some(Request::Chunk) => run_chunk(alloc, input, output),
+        Some(Request::Unframe { step, limit }) => run_unframe(alloc, step, limit, input, output),
     }
 }

@@ -1,4 +1,4 @@
-use Rattle.mysql_wire.specs.OneChunk.{remembered}
+use Rattle.mysql_wire.specs.OneChunk.{chunk_state}
 use Rattle.mysql_wire.specs.Framing.{max_payload}
 use Rattle.mysql_wire_tool.proofs.chunk.shown.Goals as goal
 
@@ -6,9 +6,7 @@ pub returns-in-Ok-chunk_text-clause-shown : goal.returns-in-Ok-chunk_text-clause
 unfolding max_payload
 returns-in-Ok-chunk_text-clause-shown g c = record {
   info = c.in-Ok.info;
-  header = remembered c.decode.new.self;
-  rest = c.decode.new.src.items;
-  payload = c.decode.new.dst.items;
+  after = chunk_state c.decode.new.self c.decode.new.src.items c.decode.new.dst.items;
   decoded = rw c.new-payload.ensures.items at c.in-Ok.ensures.chunk;
   is = rw (c.as_slice-2.ensures.value, c.as_slice-3.ensures) at c.in-Ok-chunk_text.ensures;
   ends = rw c.as_slice.ensures at c.chunk_status-status.ensures.status;
