@@ -1,5 +1,5 @@
 -- Runs of decodes, joined.
-use Rattle.std.proofs.Common.{◌≡◌, ℕ, ◌+◌, ◌<◌, ◌≤◌, List, [], ◌∷◌, ◌++◌, length, take, drop, refl, sym, ap, ap₂, ◌∙◌, subst, arith, append_assoc, append-nil, length-append, length-drop, inl, inr, slice_index, Option, Some, None, Result, Ok, Err, false, zero-le, All}
+use Rattle.std.proofs.Common.{◌≡◌, ℕ, ◌+◌, ◌<◌, ◌≤◌, List, [], ◌∷◌, ◌++◌, length, take, drop, refl, sym, ap, ap₂, ◌∙◌, subst, arith, append_assoc, append-nil, length-append, length-drop, inl, inr, ◌⊎◌, slice_index, Option, Some, None, Result, Ok, Err, false, zero-le, All}
 use Rattle.std.proofs.lemmas.List.Elements.{All-nil}
 use Rattle.std.proofs.lemmas.List.{take-append-le, drop-append-le, get_or_append_left, take_more, flat_map_more, take-append-drop}
 use Rattle.std.proofs.Common.{Bor, get_or}
@@ -8,10 +8,10 @@ use Rattle.wire_codec.specs.declared.codec.error.PacketCodecError.{PacketCodecEr
 use Rattle.wire_codec.specs.declared.codec.error.PacketCodecError.TheVariants.{PacketTooLarge, OutOfMemory, PacketsOutOfSync, Io}
 use Rattle.wire_codec.specs.Framing.{max_payload, framing, front, next_id, stream, id_after}
 use Rattle.wire_codec.specs.Delivery.{chunk_len, id_at, IsWholeChunks, Continues, Splits, Ending, Waiting, TooLarge, OutOfSync, Delivers}
-use Rattle.wire_codec.specs.Codec.{StandsAt, open_id, DecodesFrom}
-use Rattle.wire_codec.specs.Runs.{RunsFrom, LeavesFrom, joined}
+use Rattle.wire_codec.specs.Codec.{StandsAt, CodecState, open_id, first_id, input_of, DecodesFrom}
+use Rattle.wire_codec.specs.Runs.{RunsFrom, RunsTo, LeavesFrom, joined}
 use Rattle.wire_codec.proofs.DeliveryLemmas.{stream-append, id_after-append, within_append, within_rest, splits_join, delivers_join}
-use Rattle.wire_codec.proofs.CodecLemmas.{open_at_id}
+use Rattle.wire_codec.proofs.CodecLemmas.{open_at_id, open_small}
 
 -- nothing unfinished
 pub front-nil : (s : ℕ) → front s [] ≡ []
@@ -190,3 +190,31 @@ encoded_first_is s L ps qs x e q W small d =
     } in
     delivers_join [] (stream s ps) s L ps [] [] x qs e q W here
     (subst (λ (z : List ℕ). Delivers [] (z ++ x) (id_after s ps) L qs e q W) (sym (front-nil (id_after s ps))) d)
+
+-- a run that stopped here, and could go on
+stopped_splits : (stopped : Result (Unit {0}) PacketCodecError) (d S : List ℕ) (s L : ℕ) (ps : List (List ℕ)) (id : ℕ) (header : Option (ℕ × ℕ)) (src dst : List ℕ)
+    → s < 256 → (stopped ≡ Ok tt) ⊎ (stopped ≡ Err OutOfMemory) → RunsFrom s S d L stopped ps id header src dst
+    → Splits d S s L ps dst src × (open_id id dst ≡ id_after s ps)
+stopped_splits (Ok u) d S s L ps id header src dst small h r = (r.0.splits, open_waiting s ps id dst small r.1)
+stopped_splits (Err OutOfMemory) d S s L ps id header src dst small h r = (r.0, r.1)
+stopped_splits (Err PacketTooLarge) d S s L ps id header src dst small h r = elim h [ inl e ↦ absurd cc | inr e ↦ absurd cc ]
+stopped_splits (Err PacketsOutOfSync) d S s L ps id header src dst small h r = elim h [ inl e ↦ absurd cc | inr e ↦ absurd cc ]
+stopped_splits (Err (Io e)) d S s L ps id header src dst small h r = absurd r
+
+pub run_goes_on_is : (before between after : CodecState) (more next : List ℕ) (stopped answer : Result (Unit {0}) PacketCodecError) (gained others : List (List ℕ))
+    → (stopped ≡ Ok tt) ⊎ (stopped ≡ Err OutOfMemory)
+    → RunsTo before more stopped gained between → between.limit ≡ before.limit → RunsTo between next answer others after
+    → RunsTo before (more ++ next) answer (gained ++ others) after
+run_goes_on_is before between after more next stopped answer gained others could run same on =
+    let s : ℕ = first_id before in
+    let S : List ℕ = input_of before ++ more in
+    let t : ℕ = id_after s gained in
+    let here = stopped_splits stopped before.held S s before.limit gained between.id between.header between.unread between.held (open_small before.id before.held) could run in
+    let opened : RunsFrom t (front t between.held ++ between.unread ++ next) between.held between.limit answer others after.id after.header after.unread after.held =
+    subst (λ (z : ℕ). RunsFrom z (front z between.held ++ between.unread ++ next) between.held between.limit answer others after.id after.header after.unread after.held) here.1 on in
+    let limited : RunsFrom t (front t between.held ++ between.unread ++ next) between.held before.limit answer others after.id after.header after.unread after.held =
+    subst (λ (z : ℕ). RunsFrom t (front t between.held ++ between.unread ++ next) between.held z answer others after.id after.header after.unread after.held) same opened in
+    let grouped : RunsFrom t (front t between.held ++ (between.unread ++ next)) between.held before.limit answer others after.id after.header after.unread after.held =
+    subst (λ (z : List ℕ). RunsFrom t z between.held before.limit answer others after.id after.header after.unread after.held) (append_assoc (front t between.held) between.unread next) limited in
+    subst (λ (z : List ℕ). RunsFrom s z before.held before.limit answer (gained ++ others) after.id after.header after.unread after.held) (append_assoc (input_of before) more next)
+    (runs_join answer before.held S s before.limit gained between.held between.unread next others after.id after.header after.unread after.held here.0 grouped)

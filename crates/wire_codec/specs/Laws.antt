@@ -1,8 +1,12 @@
 -- Laws over the definitions alone, which the functions of `laws` carry.
-use Rattle.std.specs.Prelude.{◌≡◌, ℕ, List, [], ◌++◌, length, ◌/◌, ◌%◌, ◌+◌, ◌*◌, ◌≤◌, All}
+use Rattle.std.specs.Prelude.{◌≡◌, ℕ, List, [], ◌++◌, length, ◌/◌, ◌%◌, ◌+◌, ◌*◌, ◌≤◌, ◌⊎◌, All, Result, Ok, Err}
 use Rattle.wire_codec.specs.Framing.{framing, front, id_after, max_payload, stream}
 use Rattle.wire_codec.specs.Delivery.{Ending, Splits, Delivers}
 use Rattle.wire_codec.specs.Counted.{Call, Follows, chunk_count}
+use Rattle.wire_codec.specs.Codec.{CodecState}
+use Rattle.wire_codec.specs.Runs.{RunsTo}
+use Rattle.wire_codec.specs.declared.codec.error.PacketCodecError.{PacketCodecError}
+use Rattle.wire_codec.specs.declared.codec.error.PacketCodecError.TheVariants.{OutOfMemory}
 
 -- one framing cannot be read as two payloads, whatever follows it
 abbrev pub UniqueFraming : Type 0
@@ -26,6 +30,15 @@ JoinedRuns =
     → Splits held input open_id limit payloads unfinished rest
     → Delivers unfinished (front (id_after open_id payloads) unfinished ++ (rest ++ more)) (id_after open_id payloads) limit others ending another left
     → Delivers held (input ++ more) open_id limit (payloads ++ others) ending another left
+
+-- the same of what `deliver` says: a run that waits, or was refused memory, and the run that goes on from it are one run
+abbrev pub RunGoesOn : Type 0
+RunGoesOn =
+    (before between after : CodecState) (more next : List ℕ) (stopped answer : Result (Unit {0}) PacketCodecError) (gained others : List (List ℕ))
+    → (stopped ≡ Ok tt) ⊎ (stopped ≡ Err OutOfMemory)
+    → RunsTo before more stopped gained between → between.limit ≡ before.limit
+    → RunsTo between next answer others after
+    → RunsTo before (more ++ next) answer (gained ++ others) after
 
 -- how long a framing is
 abbrev pub FramedLength : Type 0

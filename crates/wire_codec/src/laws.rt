@@ -1,7 +1,7 @@
 //! Laws over the definitions that the contracts cite. Each function takes and answers nothing: its contract is the law, and
 //! a caller has it by calling.
 
-ghost use Rattle.wire_codec.specs.Laws.{ChunksCounted, EncodedFirst, FramedLength, JoinedRuns, OneDelivery, UniqueFraming};
+ghost use Rattle.wire_codec.specs.Laws.{ChunksCounted, EncodedFirst, FramedLength, JoinedRuns, OneDelivery, RunGoesOn, UniqueFraming};
 
 /// A stream delivers one list of payloads, one unfinished payload, one rest and one ending.
 pub fn one_delivery()
@@ -11,6 +11,11 @@ pub fn one_delivery()
 /// A run, and then a run over what it left and what came since, are together one run over all.
 pub fn joined_runs()
     ensures { JoinedRuns }
+{}
+
+/// The same of what `deliver` says: a run that waits, or was refused memory, and the run that goes on from it are one run.
+pub fn run_goes_on()
+    ensures { RunGoesOn }
 {}
 
 /// A framing with anything behind it is the framing of one payload alone.

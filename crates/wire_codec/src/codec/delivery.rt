@@ -1,5 +1,6 @@
-// Packets from a input that comes in pieces.
-ghost use Rattle.std.specs.Prelude.{◌≡◌, ℕ, ◌+◌, ◌<◌, ◌≤◌, List, [], ◌∷◌, ◌++◌, length, take, drop, OnOk, vec_len, vec_capacity};
+//! Packets from a stream that comes in pieces.
+
+ghost use Rattle.std.specs.Prelude.{◌≡◌, ◌≢◌, ℕ, ◌+◌, ◌<◌, ◌≤◌, List, [], ◌∷◌, ◌++◌, length, take, drop, Err, OnOk, vec_len, vec_capacity};
 ghost use Rattle.wire_codec.specs.Codec.{codec_state, first_id, input_of, Stands};
 ghost use Rattle.wire_codec.specs.Runs.{payloads, joined, RunsFrom, RunsTo, RunsOver, Waits};
 
@@ -72,6 +73,7 @@ pub fn deliver<A: Allocator + Copy>(
     ensures least { (j : ℕ) → j < result.0 → Waits (codec_state codec.old src.old.items dst.old.items) (joined (take j pieces.now)) }
     ensures all { OnOk result.1 (result.0 ≡ length pieces.now) }
 
+    ensures stands { result.1 ≢ Err PacketCodecError.PacketsOutOfSync → Stands (codec_state codec.new src.new.items dst.new.items) }
     ensures limit { codec.new.max_allowed_packet ≡ codec.old.max_allowed_packet }
 {
     match drain(codec, src, dst, out) {

@@ -1,6 +1,6 @@
 //! Whole packets.
 
-ghost use Rattle.std.specs.Prelude.{◌≡◌, ℕ, ◌+◌, ◌/◌, ◌%◌, ◌<◌, ◌≤◌, ◌↔◌, ◌⊎◌, OnOk, OnErr, IfErr, Err, List, [], length, None, true, IsTrue, slice_index, ◌++◌};
+ghost use Rattle.std.specs.Prelude.{◌≡◌, ◌≢◌, ℕ, ◌+◌, ◌/◌, ◌%◌, ◌<◌, ◌≤◌, ◌↔◌, ◌⊎◌, OnOk, OnErr, IfErr, Err, List, [], length, None, true, IsTrue, slice_index, ◌++◌};
 ghost use Rattle.wire_codec.specs.Delivery.{IsWholeChunks, chunk_len};
 
 use crate::codec::chunk::{ChunkDecoder, ChunkInfo, PacketDst};
@@ -81,6 +81,10 @@ impl PacketCodec {
         ensures chain { let before = codec_state self.old src.old.items (T.held dst.old) in
             let after = codec_state self.new src.new.items (T.held dst.new) in
             (accepted : ℕ) × ChunkChain accepted before result after }
+        // After everything but a whole packet and a lost sync the codec stands again.
+        ensures stands { let before = codec_state self.old src.old.items (T.held dst.old) in
+            let after = codec_state self.new src.new.items (T.held dst.new) in
+            Stands before → (result ≢ Ok true) → (result ≢ Err PacketCodecError.PacketsOutOfSync) → Stands after }
         // Memory is asked for only where a chunk is there to be taken.
         ensures memory { result ≡ Err PacketCodecError.OutOfMemory → HasChunk (codec_state self.old src.old.items (T.held dst.old)) }
 
