@@ -1,6 +1,5 @@
 //! `frame ID`: the framing of the whole input.
 
-ghost use Rattle.std.specs.Io.KnownBytes.{Appends, IsAtEnd};
 ghost use Rattle.mysql_wire_tool.specs.Texts.{FrameEnds};
 
 use crate::input::read_whole;

@@ -1,7 +1,7 @@
 //! `unframe STEP LIMIT`: the packets of the input, as they come.
 
-ghost use Rattle.std.specs.Prelude.{◌≡◌, ◌<◌, ◌≤◌, ◌⊎◌, ◌+◌, ◌*◌, ◌/◌, ◌++◌, ℕ, List, [], ◌∷◌, length, OnOk, IfOk, vec_len};
-ghost use Rattle.mysql_wire.specs.Codec.{codec_state, Stands};
+ghost use Rattle.std.specs.Prelude.{◌≡◌, ◌<◌, ◌⊎◌, ◌+◌, ◌*◌, ◌/◌, ◌++◌, ℕ, List, length, OnOk, IfOk};
+ghost use Rattle.mysql_wire.specs.Codec.{Stands};
 ghost use Rattle.mysql_wire.specs.Framing.{max_payload};
 ghost use Rattle.mysql_wire.specs.Runs.{payloads};
 

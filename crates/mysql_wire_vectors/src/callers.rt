@@ -1,6 +1,6 @@
 //! Callers of the codec, as CALLING.md shows them.
 
-ghost use Rattle.std.specs.Prelude.{◌≡◌, ◌<◌, ◌≤◌, ℕ, List, [], ◌++◌, length, None, Ok, true, OnOk, IfOk, IfSome, take, vec_len};
+ghost use Rattle.std.specs.Prelude.{◌≡◌, ◌<◌, ◌≤◌, ℕ, List, [], ◌++◌, None, Ok, true, OnOk, IfOk, IfSome, take, vec_len};
 ghost use Rattle.std.specs.Io.KnownBytes.{Consumes, IsAtEnd};
 ghost use Rattle.mysql_wire.specs.Framing.{framing, next_id};
 ghost use Rattle.mysql_wire.specs.Delivery.{Delivers, Waiting};

@@ -1,8 +1,7 @@
 //! One chunk at a time.
 
-ghost use Rattle.std.specs.Prelude.{◌≡◌, ℕ, ◌+◌, ◌*◌, ◌/◌, ◌%◌, ◌<◌, ◌≤◌, List, [], ◌∷◌, ◌++◌, length, take, drop, OnOk, OnErr, IfOk, IfErr, IsTrue, ◌↔◌, ◌^◌};
+ghost use Rattle.std.specs.Prelude.{◌≡◌, ℕ, ◌+◌, ◌%◌, ◌<◌, List, ◌++◌, OnOk, OnErr, IfErr};
 ghost use Rattle.std.specs.Int.NonZero.{non_zero_usize_get};
-ghost use Rattle.wire_codec.specs.Framing.{max_payload};
 ghost use Rattle.wire_codec.specs.Delivery.{IsSpelled};
 ghost use Rattle.wire_codec.specs.OneChunk.{remembered, chunk_state, ChunkStep, FinishesChunk, info_of};
 

@@ -1,5 +1,6 @@
-// Packets to chunks and back.
-ghost use Rattle.std.specs.Prelude.{◌≡◌, ℕ, ◌+◌, ◌*◌, ◌/◌, ◌%◌, ◌<◌, ◌≤◌, List, [], ◌∷◌, ◌++◌, length, take, drop, OnOk, OnErr, IfOk, IfErr, IsTrue, ◌↔◌, ◌^◌, SomeIff};
+//! Packets to chunks.
+
+ghost use Rattle.std.specs.Prelude.{◌≡◌, ◌+◌, ◌*◌, ◌/◌, ◌<◌, ◌≤◌, [], ◌++◌, length, take, drop, OnOk, OnErr, IfOk, IfErr, ◌^◌, SomeIff};
 ghost use Rattle.wire_codec.specs.Framing.{max_payload, chunk, framing, next_id};
 
 use crate::codec::header::Header;
@@ -49,7 +50,12 @@ fn framed_len(len: usize) -> Option<usize>
     len.checked_add(len / MAX_PAYLOAD_LEN * 4 + 4)
 }
 
-/// Appends a payload as chunks numbered from `seq_id` on, and empties it. The answer is the id after them.
+/// Appends a payload to `dst` as chunks numbered from `seq_id` on, and empties it. The answer is the id after the last chunk:
+/// after 255 comes 0. A payload of n bytes takes n + 4 * (n / 16777215 + 1) bytes, for which `dst` grows once.
+///
+/// The only error is `OutOfMemory`, which changes nothing.
+///
+/// <https://dev.mysql.com/doc/dev/mysql-server/latest/page_protocol_basic_packets.html>
 pub fn packet_to_chunks<T: Buf>(
     seq_id: u8,
     packet: &mut T,

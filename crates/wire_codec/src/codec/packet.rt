@@ -1,6 +1,6 @@
 //! Whole packets.
 
-ghost use Rattle.std.specs.Prelude.{◌≡◌, ◌≢◌, ℕ, ◌+◌, ◌/◌, ◌%◌, ◌<◌, ◌≤◌, ◌↔◌, ◌⊎◌, OnOk, OnErr, IfErr, Err, List, [], length, None, true, IsTrue, slice_index, ◌++◌};
+ghost use Rattle.std.specs.Prelude.{◌≡◌, ◌≢◌, ℕ, ◌+◌, ◌%◌, ◌<◌, ◌≤◌, ◌↔◌, ◌⊎◌, OnOk, OnErr, IfErr, Err, [], length, None, true, IsTrue, slice_index, ◌++◌};
 ghost use Rattle.wire_codec.specs.Delivery.{IsWholeChunks, chunk_len};
 
 use crate::codec::chunk::{ChunkDecoder, ChunkInfo, PacketDst};

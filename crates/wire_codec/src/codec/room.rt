@@ -1,5 +1,6 @@
-// How much one call of `decode` takes.
-ghost use Rattle.std.specs.Prelude.{◌≡◌, ℕ, ◌+◌, ◌*◌, ◌/◌, ◌%◌, ◌<◌, ◌≤◌, List, length, IfSome, IsTrue, ◌↔◌, ◌^◌};
+//! How much one call of `decode` takes.
+
+ghost use Rattle.std.specs.Prelude.{◌+◌, ◌%◌, ◌<◌, ◌≤◌, length, IfSome, IsTrue, ◌↔◌};
 ghost use Rattle.std.specs.Int.NonZero.{non_zero_usize_get};
 ghost use Rattle.wire_codec.specs.OneChunk.{remembered, IsTakeable};
 
