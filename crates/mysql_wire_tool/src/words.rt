@@ -67,8 +67,8 @@ impl Request {
 
 ghost use Rattle.mysql_wire_tool.specs.Words.{Asks, RequestEnds};
 
-/// Runs the command that the words after the program's name ask for. The answer is the exit status: that of the command,
-/// or 1 where the words ask for none, and then nothing was read or written.
+/// Runs the command that the words after the program's name ask for. The answer is the exit status:
+/// that of the command, or 1 where the words ask for none, and then nothing was read or written.
 pub fn run_words<A: Allocator + Copy, R: Read, W: Write>(
     alloc: A,
     words: &[String<A>],

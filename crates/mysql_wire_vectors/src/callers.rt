@@ -42,8 +42,9 @@ pub fn exchange<A: Allocator + Copy>(
     }
 }
 
-/// A server takes the next command. Each command is numbered from 0, so the id is reset before each, and one call of
-/// `decode` takes one command; what stands behind it in `input` is the next one's.
+/// A server takes the next command. Each command is numbered from 0, so the id is reset before
+/// each, and one call of `decode` takes one command; what stands behind it in `input` is the next
+/// one's.
 pub fn next_command<A: Allocator + Copy>(
     codec: &mut PacketCodec,
     input: &mut BytesMut<A>,
