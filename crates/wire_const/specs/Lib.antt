@@ -1,0 +1,2 @@
+pub mod EnumNumbers
+pub mod FlagSets
