@@ -1,6 +1,7 @@
 -- The flag sets: the name and the bits of each flag, and how a raw number becomes a set.
-use Rattle.std.specs.Prelude.{ℕ, ◌≡◌, List, [], ◌∷◌, codes, Result, Ok, Err}
+use Rattle.std.specs.Prelude.{ℕ, ◌≡◌, List, [], ◌∷◌, codes, Result, Ok, Err, refl}
 use Rattle.std.specs.Int.RustNames.{bit_and}
+use Rattle.bitflags.specs.Sets.{known_bits, known_from}
 use Rattle.wire_const.specs.declared.flag_sets.status.StatusFlags.{StatusFlags}
 use Rattle.wire_const.specs.declared.flag_sets.capability.CapabilityFlags.{CapabilityFlags}
 use Rattle.wire_const.specs.declared.flag_sets.mariadb.MariadbCapabilities.{MariadbCapabilities}
@@ -45,6 +46,10 @@ status_flags =
 -- the bits that have a name
 abbrev pub status_flags_known : ℕ
 status_flags_known = 0xfffb
+
+pub status_flags_union : known_bits status_flags ≡ status_flags_known
+unfolding known_from
+status_flags_union = refl
 
 -- the bits of a set
 abbrev pub status_flags_bits : StatusFlags → ℕ
@@ -91,6 +96,10 @@ capability_flags =
 abbrev pub capability_flags_known : ℕ
 capability_flags_known = 0xffff_ffff
 
+pub capability_flags_union : known_bits capability_flags ≡ capability_flags_known
+unfolding known_from
+capability_flags_union = refl
+
 -- the bits of a set
 abbrev pub capability_flags_bits : CapabilityFlags → ℕ
 capability_flags_bits flags = flags.0
@@ -110,6 +119,10 @@ mariadb_capabilities =
 abbrev pub mariadb_capabilities_known : ℕ
 mariadb_capabilities_known = 0x0000_003f
 
+pub mariadb_capabilities_union : known_bits mariadb_capabilities ≡ mariadb_capabilities_known
+unfolding known_from
+mariadb_capabilities_union = refl
+
 -- the bits of a set
 abbrev pub mariadb_capabilities_bits : MariadbCapabilities → ℕ
 mariadb_capabilities_bits flags = flags.0
@@ -127,6 +140,10 @@ cursor_type =
 abbrev pub cursor_type_known : ℕ
 cursor_type_known = 0x07
 
+pub cursor_type_union : known_bits cursor_type ≡ cursor_type_known
+unfolding known_from
+cursor_type_union = refl
+
 -- the bits of a set
 abbrev pub cursor_type_bits : CursorType → ℕ
 cursor_type_bits flags = flags.0
@@ -140,6 +157,10 @@ stmt_execute_params_flags =
 -- the bits that have a name
 abbrev pub stmt_execute_params_flags_known : ℕ
 stmt_execute_params_flags_known = 0x01
+
+pub stmt_execute_params_flags_union : known_bits stmt_execute_params_flags ≡ stmt_execute_params_flags_known
+unfolding known_from
+stmt_execute_params_flags_union = refl
 
 -- the bits of a set
 abbrev pub stmt_execute_params_flags_bits : StmtExecuteParamsFlags → ℕ
@@ -155,6 +176,10 @@ stmt_execute_param_flags =
 abbrev pub stmt_execute_param_flags_known : ℕ
 stmt_execute_param_flags_known = 0x80
 
+pub stmt_execute_param_flags_union : known_bits stmt_execute_param_flags ≡ stmt_execute_param_flags_known
+unfolding known_from
+stmt_execute_param_flags_union = refl
+
 -- the bits of a set
 abbrev pub stmt_execute_param_flags_bits : StmtExecuteParamFlags → ℕ
 stmt_execute_param_flags_bits flags = flags.0
@@ -169,6 +194,10 @@ stmt_bulk_execute_flags =
 -- the bits that have a name
 abbrev pub stmt_bulk_execute_flags_known : ℕ
 stmt_bulk_execute_flags_known = 0x00c0
+
+pub stmt_bulk_execute_flags_union : known_bits stmt_bulk_execute_flags ≡ stmt_bulk_execute_flags_known
+unfolding known_from
+stmt_bulk_execute_flags_union = refl
 
 -- the bits of a set
 abbrev pub stmt_bulk_execute_flags_bits : StmtBulkExecuteFlags → ℕ
@@ -199,6 +228,10 @@ column_flags =
 abbrev pub column_flags_known : ℕ
 column_flags_known = 0xffff
 
+pub column_flags_union : known_bits column_flags ≡ column_flags_known
+unfolding known_from
+column_flags_union = refl
+
 -- the bits of a set
 abbrev pub column_flags_bits : ColumnFlags → ℕ
 column_flags_bits flags = flags.0
@@ -215,6 +248,10 @@ flags2 =
 -- the bits that have a name
 abbrev pub flags2_known : ℕ
 flags2_known = 0x0c08_4000
+
+pub flags2_union : known_bits flags2 ≡ flags2_known
+unfolding known_from
+flags2_union = refl
 
 -- the bits of a set
 abbrev pub flags2_bits : Flags2 → ℕ
@@ -262,6 +299,10 @@ sql_mode =
 -- the bits that have a name
 abbrev pub sql_mode_known : ℕ
 sql_mode_known = 0x3_ffff_ffff
+
+pub sql_mode_union : known_bits sql_mode ≡ sql_mode_known
+unfolding known_from
+sql_mode_union = refl
 
 -- the bits of a set
 abbrev pub sql_mode_bits : SqlMode → ℕ

@@ -1,2 +1,3 @@
 pub mod EnumNumbers
 pub mod FlagSets
+pub mod RoundTrips

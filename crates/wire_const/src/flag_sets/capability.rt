@@ -178,7 +178,7 @@ impl TryFrom<u32> for CapabilityFlags {
 
     ghost try_from_gives = { ConvertsBits capability_flags_known capability_flags_bits (λ unknown. unknown.0) };
 
-    #[tactic(auto, unfolding(bitflags::specs::Sets::known_from))]
+    #[tactic(auto, using(crate::specs::FlagSets::capability_flags_union))]
     fn try_from(bits: u32) -> Result<Self, UnknownCapabilityFlags> {
         match Self::from_bits(bits) {
             Some(flags) => Ok(flags),

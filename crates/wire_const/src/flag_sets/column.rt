@@ -113,7 +113,7 @@ impl TryFrom<u16> for ColumnFlags {
 
     ghost try_from_gives = { ConvertsBits column_flags_known column_flags_bits (λ unknown. unknown.0) };
 
-    #[tactic(auto, unfolding(bitflags::specs::Sets::known_from))]
+    #[tactic(auto, using(crate::specs::FlagSets::column_flags_union))]
     fn try_from(bits: u16) -> Result<Self, UnknownColumnFlags> {
         match Self::from_bits(bits) {
             Some(flags) => Ok(flags),

@@ -65,7 +65,7 @@ impl TryFrom<u8> for CursorType {
 
     ghost try_from_gives = { ConvertsBits cursor_type_known cursor_type_bits (λ unknown. unknown.0) };
 
-    #[tactic(auto, unfolding(bitflags::specs::Sets::known_from))]
+    #[tactic(auto, using(crate::specs::FlagSets::cursor_type_union))]
     fn try_from(bits: u8) -> Result<Self, UnknownCursorType> {
         match Self::from_bits(bits) {
             Some(flags) => Ok(flags),
@@ -127,7 +127,7 @@ impl TryFrom<u8> for StmtExecuteParamsFlags {
 
     ghost try_from_gives = { ConvertsBits stmt_execute_params_flags_known stmt_execute_params_flags_bits (λ unknown. unknown.0) };
 
-    #[tactic(auto, unfolding(bitflags::specs::Sets::known_from))]
+    #[tactic(auto, using(crate::specs::FlagSets::stmt_execute_params_flags_union))]
     fn try_from(bits: u8) -> Result<Self, UnknownStmtExecuteParamsFlags> {
         match Self::from_bits(bits) {
             Some(flags) => Ok(flags),
@@ -189,7 +189,7 @@ impl TryFrom<u8> for StmtExecuteParamFlags {
 
     ghost try_from_gives = { ConvertsBits stmt_execute_param_flags_known stmt_execute_param_flags_bits (λ unknown. unknown.0) };
 
-    #[tactic(auto, unfolding(bitflags::specs::Sets::known_from))]
+    #[tactic(auto, using(crate::specs::FlagSets::stmt_execute_param_flags_union))]
     fn try_from(bits: u8) -> Result<Self, UnknownStmtExecuteParamFlags> {
         match Self::from_bits(bits) {
             Some(flags) => Ok(flags),
@@ -254,7 +254,7 @@ impl TryFrom<u16> for StmtBulkExecuteFlags {
 
     ghost try_from_gives = { ConvertsBits stmt_bulk_execute_flags_known stmt_bulk_execute_flags_bits (λ unknown. unknown.0) };
 
-    #[tactic(auto, unfolding(bitflags::specs::Sets::known_from))]
+    #[tactic(auto, using(crate::specs::FlagSets::stmt_bulk_execute_flags_union))]
     fn try_from(bits: u16) -> Result<Self, UnknownStmtBulkExecuteParamsFlags> {
         match Self::from_bits(bits) {
             Some(flags) => Ok(flags),

@@ -74,7 +74,7 @@ impl TryFrom<u32> for MariadbCapabilities {
 
     ghost try_from_gives = { ConvertsBits mariadb_capabilities_known mariadb_capabilities_bits (λ unknown. unknown.0) };
 
-    #[tactic(auto, unfolding(bitflags::specs::Sets::known_from))]
+    #[tactic(auto, using(crate::specs::FlagSets::mariadb_capabilities_union))]
     fn try_from(bits: u32) -> Result<Self, UnknownMariadbCapabilityFlags> {
         match Self::from_bits(bits) {
             Some(flags) => Ok(flags),

@@ -65,7 +65,7 @@ impl TryFrom<u32> for Flags2 {
 
     ghost try_from_gives = { ConvertsBits flags2_known flags2_bits (λ unknown. unknown.0) };
 
-    #[tactic(auto, unfolding(bitflags::specs::Sets::known_from))]
+    #[tactic(auto, using(crate::specs::FlagSets::flags2_union))]
     fn try_from(bits: u32) -> Result<Self, UnknownFlags2> {
         match Self::from_bits(bits) {
             Some(flags) => Ok(flags),
@@ -262,7 +262,7 @@ impl TryFrom<u64> for SqlMode {
 
     ghost try_from_gives = { ConvertsBits sql_mode_known sql_mode_bits (λ unknown. unknown.0) };
 
-    #[tactic(auto, unfolding(bitflags::specs::Sets::known_from))]
+    #[tactic(auto, using(crate::specs::FlagSets::sql_mode_union))]
     fn try_from(bits: u64) -> Result<Self, UnknownSqlMode> {
         match Self::from_bits(bits) {
             Some(flags) => Ok(flags),

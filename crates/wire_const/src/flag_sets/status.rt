@@ -110,7 +110,7 @@ impl TryFrom<u16> for StatusFlags {
 
     ghost try_from_gives = { ConvertsBits status_flags_known status_flags_bits (λ unknown. unknown.0) };
 
-    #[tactic(auto, unfolding(bitflags::specs::Sets::known_from))]
+    #[tactic(auto, using(crate::specs::FlagSets::status_flags_union))]
     fn try_from(bits: u16) -> Result<Self, UnknownStatusFlags> {
         match Self::from_bits(bits) {
             Some(flags) => Ok(flags),
