@@ -5,10 +5,11 @@
 ghost use Rattle.std.specs.Prelude.{◌≡◌, ◌≢◌, ◌-◌, ◌↔◌, Ok, IsTrue, IsSome, IfSome, MatchResult, if◌then◌else◌};
 ghost use Rattle.std.specs.Int.RustNames.{bit_and, bit_or, bit_xor};
 ghost use Rattle.mysql_wire.specs.FlagSets.{status_flags_bits, status_flags_known, IsKnown};
-ghost use Rattle.mysql_wire.specs.EnumNumbers.{command_number, column_type_number, ConvertsNumber};
+ghost use Rattle.mysql_wire.specs.EnumNumbers.{command_number, geometry_type_number, item_result_number, column_type_number, ConvertsNumber};
 
 use mysql_wire::constants::{
-    ColumnType, Command, Flags, StatusFlags, UnknownColumnType, UnknownStatusFlags,
+    ColumnType, Command, Flags, GeometryType, ItemResult, StatusFlags, UnknownColumnType,
+    UnknownStatusFlags,
 };
 
 pub fn bits(a: StatusFlags) -> u16
@@ -161,6 +162,18 @@ pub fn command_byte(command: Command) -> u8
     ensures { result ≡ command_number command }
 {
     command as u8
+}
+
+pub fn geometry_type_byte(geometry_type: GeometryType) -> u8
+    ensures { result ≡ geometry_type_number geometry_type }
+{
+    geometry_type as u8
+}
+
+pub fn item_result_byte(item_result: ItemResult) -> i8
+    ensures { result ≡ item_result_number item_result }
+{
+    item_result as i8
 }
 
 /// A conversion by its bound alone, as generic code makes it.

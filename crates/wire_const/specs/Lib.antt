@@ -1,3 +1,3 @@
 pub mod EnumNumbers
 pub mod FlagSets
-pub mod RoundTrips
+pub use Rattle.bitflags.specs.Sets

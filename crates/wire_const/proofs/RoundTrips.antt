@@ -1,6 +1,5 @@
 -- The way there and back: the number of a value becomes that value, and no other.
-use Rattle.std.specs.Prelude.{ℕ, ◌≡◌, Result, Ok, Err, refl}
-use Rattle.std.proofs.Common.{ap, arith, rules}
+use Rattle.std.proofs.Common.{ℕ, ◌≡◌, Result, Ok, Err, refl, ap, arith}
 use Rattle.wire_const.specs.FlagSets.{ConvertsBits, IsKnown, status_flags_bits, capability_flags_bits, mariadb_capabilities_bits, cursor_type_bits, stmt_execute_params_flags_bits, stmt_execute_param_flags_bits, stmt_bulk_execute_flags_bits, column_flags_bits, flags2_bits, sql_mode_bits}
 use Rattle.wire_const.specs.EnumNumbers.{ConvertsNumber, mariadb_bulk_indicator_number, session_state_type_number, geometry_type_number, column_type_number, item_result_number}
 use Rattle.wire_const.specs.declared.flag_sets.status.StatusFlags.{StatusFlags}
