@@ -23,7 +23,7 @@ abbrev pub IsOneOf : {V : Type 0} → List V → V → Type 0
 IsOneOf [] value = ⊥
 IsOneOf (first ∷ rest) value = (value ≡ first) ⊎ IsOneOf rest value
 
--- <https://dev.mysql.com/doc/dev/mysql-server/latest/my__command_8h.html>
+-- the commands: <https://dev.mysql.com/doc/dev/mysql-server/latest/my__command_8h.html>
 abbrev pub command_number : Command → ℕ
 command_number command.COM_SLEEP = 0
 command_number command.COM_QUIT = 1
@@ -60,14 +60,14 @@ command_number command.COM_RESET_CONNECTION = 31
 command_number command.COM_END = 32
 command_number command.COM_STMT_BULK_EXECUTE = 250
 
--- <https://mariadb.com/kb/en/com_stmt_bulk_execute/>
+-- what stands for a parameter: <https://mariadb.com/kb/en/com_stmt_bulk_execute/>
 abbrev pub mariadb_bulk_indicator_number : MariadbBulkIndicator → ℕ
 mariadb_bulk_indicator_number indicator.BULK_INDICATOR_NONE = 0
 mariadb_bulk_indicator_number indicator.BULK_INDICATOR_NULL = 1
 mariadb_bulk_indicator_number indicator.BULK_INDICATOR_DEFAULT = 2
 mariadb_bulk_indicator_number indicator.BULK_INDICATOR_IGNORE = 3
 
--- <https://dev.mysql.com/doc/dev/mysql-server/latest/page_protocol_basic_ok_packet.html>
+-- what changes in a session: <https://dev.mysql.com/doc/dev/mysql-server/latest/page_protocol_basic_ok_packet.html>
 abbrev pub session_state_type_number : SessionStateType → ℕ
 session_state_type_number state.SESSION_TRACK_SYSTEM_VARIABLES = 0
 session_state_type_number state.SESSION_TRACK_SCHEMA = 1
@@ -76,7 +76,7 @@ session_state_type_number state.SESSION_TRACK_GTIDS = 3
 session_state_type_number state.SESSION_TRACK_TRANSACTION_CHARACTERISTICS = 4
 session_state_type_number state.SESSION_TRACK_TRANSACTION_STATE = 5
 
--- <https://dev.mysql.com/doc/refman/8.0/en/gis-data-formats.html>
+-- the kinds of geometries: <https://dev.mysql.com/doc/refman/8.0/en/gis-data-formats.html>
 abbrev pub geometry_type_number : GeometryType → ℕ
 geometry_type_number geometry.GEOM_GEOMETRY = 0
 geometry_type_number geometry.GEOM_POINT = 1
@@ -87,7 +87,7 @@ geometry_type_number geometry.GEOM_MULTILINESTRING = 5
 geometry_type_number geometry.GEOM_MULTIPOLYGON = 6
 geometry_type_number geometry.GEOM_GEOMETRYCOLLECTION = 7
 
--- <https://dev.mysql.com/doc/dev/mysql-server/latest/field__types_8h.html>
+-- the types of columns: <https://dev.mysql.com/doc/dev/mysql-server/latest/field__types_8h.html>
 abbrev pub column_type_number : ColumnType → ℕ
 column_type_number kind.MYSQL_TYPE_DECIMAL = 0
 column_type_number kind.MYSQL_TYPE_TINY = 1
@@ -124,7 +124,7 @@ column_type_number kind.MYSQL_TYPE_VAR_STRING = 253
 column_type_number kind.MYSQL_TYPE_STRING = 254
 column_type_number kind.MYSQL_TYPE_GEOMETRY = 255
 
--- <https://dev.mysql.com/doc/dev/mysql-server/latest/udf__registration__types_8h.html>
+-- the results of loadable functions: <https://dev.mysql.com/doc/dev/mysql-server/latest/udf__registration__types_8h.html>
 abbrev pub item_result_number : ItemResult → ℤ
 item_result_number item.INVALID_RESULT = neg_ℤ (pos 1)
 item_result_number item.STRING_RESULT = pos 0
@@ -133,14 +133,19 @@ item_result_number item.INT_RESULT = pos 2
 item_result_number item.ROW_RESULT = pos 3
 item_result_number item.DECIMAL_RESULT = pos 4
 
+-- what `is_numeric_type` is true of
 abbrev pub numeric_types : List ColumnType
 numeric_types =
-    kind.MYSQL_TYPE_TINY ∷ kind.MYSQL_TYPE_SHORT ∷ kind.MYSQL_TYPE_INT24 ∷ kind.MYSQL_TYPE_LONG ∷ kind.MYSQL_TYPE_LONGLONG ∷ kind.MYSQL_TYPE_DECIMAL ∷ kind.MYSQL_TYPE_NEWDECIMAL ∷ kind.MYSQL_TYPE_FLOAT ∷ kind.MYSQL_TYPE_DOUBLE ∷ kind.MYSQL_TYPE_YEAR ∷ []
+    kind.MYSQL_TYPE_TINY ∷ kind.MYSQL_TYPE_SHORT ∷ kind.MYSQL_TYPE_INT24 ∷ kind.MYSQL_TYPE_LONG ∷
+    kind.MYSQL_TYPE_LONGLONG ∷ kind.MYSQL_TYPE_DECIMAL ∷ kind.MYSQL_TYPE_NEWDECIMAL ∷
+    kind.MYSQL_TYPE_FLOAT ∷ kind.MYSQL_TYPE_DOUBLE ∷ kind.MYSQL_TYPE_YEAR ∷ []
 
+-- what `is_character_type` is true of
 abbrev pub character_types : List ColumnType
 character_types =
     kind.MYSQL_TYPE_STRING ∷ kind.MYSQL_TYPE_VAR_STRING ∷ kind.MYSQL_TYPE_VARCHAR ∷ kind.MYSQL_TYPE_BLOB ∷ []
 
+-- what `is_enum_or_set_type` is true of
 abbrev pub enum_or_set_types : List ColumnType
 enum_or_set_types =
     kind.MYSQL_TYPE_ENUM ∷ kind.MYSQL_TYPE_SET ∷ []

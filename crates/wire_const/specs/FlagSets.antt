@@ -23,7 +23,7 @@ abbrev pub ConvertsBits : {F E : Type 0} → ℕ → (F → ℕ) → (E → ℕ)
 ConvertsBits known bits_of raw_of raw (Ok flags) = IsKnown known raw × (bits_of flags ≡ raw)
 ConvertsBits known bits_of raw_of raw (Err unknown) = (¬ IsKnown known raw) × (raw_of unknown ≡ raw)
 
--- <https://dev.mysql.com/doc/dev/mysql-server/latest/mysql__com_8h.html>
+-- the flags of the status: <https://dev.mysql.com/doc/dev/mysql-server/latest/mysql__com_8h.html>
 abbrev pub status_flags : List (List ℕ × ℕ)
 status_flags =
     (codes "SERVER_STATUS_IN_TRANS", 0x0001) ∷
@@ -47,6 +47,7 @@ status_flags =
 abbrev pub status_flags_known : ℕ
 status_flags_known = 0xfffb
 
+-- they are those of the table
 pub status_flags_union : known_bits status_flags ≡ status_flags_known
 unfolding known_from
 status_flags_union = refl
@@ -55,7 +56,7 @@ status_flags_union = refl
 abbrev pub status_flags_bits : StatusFlags → ℕ
 status_flags_bits flags = flags.0
 
--- <https://dev.mysql.com/doc/dev/mysql-server/latest/group__group__cs__capabilities__flags.html>
+-- the capabilities: <https://dev.mysql.com/doc/dev/mysql-server/latest/group__group__cs__capabilities__flags.html>
 abbrev pub capability_flags : List (List ℕ × ℕ)
 capability_flags =
     (codes "CLIENT_LONG_PASSWORD", 0x0000_0001) ∷
@@ -96,6 +97,7 @@ capability_flags =
 abbrev pub capability_flags_known : ℕ
 capability_flags_known = 0xffff_ffff
 
+-- they are those of the table
 pub capability_flags_union : known_bits capability_flags ≡ capability_flags_known
 unfolding known_from
 capability_flags_union = refl
@@ -104,7 +106,7 @@ capability_flags_union = refl
 abbrev pub capability_flags_bits : CapabilityFlags → ℕ
 capability_flags_bits flags = flags.0
 
--- <https://mariadb.com/kb/en/connection/>
+-- the capabilities of MariaDB: <https://mariadb.com/kb/en/connection/>
 abbrev pub mariadb_capabilities : List (List ℕ × ℕ)
 mariadb_capabilities =
     (codes "MARIADB_CLIENT_PROGRESS", 0x0000_0001) ∷
@@ -119,6 +121,7 @@ mariadb_capabilities =
 abbrev pub mariadb_capabilities_known : ℕ
 mariadb_capabilities_known = 0x0000_003f
 
+-- they are those of the table
 pub mariadb_capabilities_union : known_bits mariadb_capabilities ≡ mariadb_capabilities_known
 unfolding known_from
 mariadb_capabilities_union = refl
@@ -127,7 +130,7 @@ mariadb_capabilities_union = refl
 abbrev pub mariadb_capabilities_bits : MariadbCapabilities → ℕ
 mariadb_capabilities_bits flags = flags.0
 
--- <https://dev.mysql.com/doc/dev/mysql-server/latest/page_protocol_com_stmt_execute.html>
+-- the cursors: <https://dev.mysql.com/doc/dev/mysql-server/latest/page_protocol_com_stmt_execute.html>
 abbrev pub cursor_type : List (List ℕ × ℕ)
 cursor_type =
     (codes "CURSOR_TYPE_NO_CURSOR", 0x00) ∷
@@ -140,6 +143,7 @@ cursor_type =
 abbrev pub cursor_type_known : ℕ
 cursor_type_known = 0x07
 
+-- they are those of the table
 pub cursor_type_union : known_bits cursor_type ≡ cursor_type_known
 unfolding known_from
 cursor_type_union = refl
@@ -148,7 +152,7 @@ cursor_type_union = refl
 abbrev pub cursor_type_bits : CursorType → ℕ
 cursor_type_bits flags = flags.0
 
--- <https://dev.mysql.com/doc/dev/mysql-server/latest/page_protocol_com_stmt_execute.html>
+-- the flags of all parameters: <https://dev.mysql.com/doc/dev/mysql-server/latest/page_protocol_com_stmt_execute.html>
 abbrev pub stmt_execute_params_flags : List (List ℕ × ℕ)
 stmt_execute_params_flags =
     (codes "NEW_PARAMS_BOUND", 0x01) ∷
@@ -158,6 +162,7 @@ stmt_execute_params_flags =
 abbrev pub stmt_execute_params_flags_known : ℕ
 stmt_execute_params_flags_known = 0x01
 
+-- they are those of the table
 pub stmt_execute_params_flags_union : known_bits stmt_execute_params_flags ≡ stmt_execute_params_flags_known
 unfolding known_from
 stmt_execute_params_flags_union = refl
@@ -166,7 +171,7 @@ stmt_execute_params_flags_union = refl
 abbrev pub stmt_execute_params_flags_bits : StmtExecuteParamsFlags → ℕ
 stmt_execute_params_flags_bits flags = flags.0
 
--- <https://dev.mysql.com/doc/dev/mysql-server/latest/page_protocol_com_stmt_execute.html>
+-- the flags of one parameter: <https://dev.mysql.com/doc/dev/mysql-server/latest/page_protocol_com_stmt_execute.html>
 abbrev pub stmt_execute_param_flags : List (List ℕ × ℕ)
 stmt_execute_param_flags =
     (codes "UNSIGNED", 0x80) ∷
@@ -176,6 +181,7 @@ stmt_execute_param_flags =
 abbrev pub stmt_execute_param_flags_known : ℕ
 stmt_execute_param_flags_known = 0x80
 
+-- they are those of the table
 pub stmt_execute_param_flags_union : known_bits stmt_execute_param_flags ≡ stmt_execute_param_flags_known
 unfolding known_from
 stmt_execute_param_flags_union = refl
@@ -184,7 +190,7 @@ stmt_execute_param_flags_union = refl
 abbrev pub stmt_execute_param_flags_bits : StmtExecuteParamFlags → ℕ
 stmt_execute_param_flags_bits flags = flags.0
 
--- <https://mariadb.com/kb/en/com_stmt_bulk_execute/>
+-- the flags of a bulk execution: <https://mariadb.com/kb/en/com_stmt_bulk_execute/>
 abbrev pub stmt_bulk_execute_flags : List (List ℕ × ℕ)
 stmt_bulk_execute_flags =
     (codes "SEND_UNIT_RESULTS", 0x0040) ∷
@@ -195,6 +201,7 @@ stmt_bulk_execute_flags =
 abbrev pub stmt_bulk_execute_flags_known : ℕ
 stmt_bulk_execute_flags_known = 0x00c0
 
+-- they are those of the table
 pub stmt_bulk_execute_flags_union : known_bits stmt_bulk_execute_flags ≡ stmt_bulk_execute_flags_known
 unfolding known_from
 stmt_bulk_execute_flags_union = refl
@@ -203,7 +210,7 @@ stmt_bulk_execute_flags_union = refl
 abbrev pub stmt_bulk_execute_flags_bits : StmtBulkExecuteFlags → ℕ
 stmt_bulk_execute_flags_bits flags = flags.0
 
--- <https://dev.mysql.com/doc/dev/mysql-server/latest/group__group__cs__column__definition__flags.html>
+-- the flags of a column: <https://dev.mysql.com/doc/dev/mysql-server/latest/group__group__cs__column__definition__flags.html>
 abbrev pub column_flags : List (List ℕ × ℕ)
 column_flags =
     (codes "NOT_NULL_FLAG", 0x0001) ∷
@@ -228,6 +235,7 @@ column_flags =
 abbrev pub column_flags_known : ℕ
 column_flags_known = 0xffff
 
+-- they are those of the table
 pub column_flags_union : known_bits column_flags ≡ column_flags_known
 unfolding known_from
 column_flags_union = refl
@@ -236,7 +244,7 @@ column_flags_union = refl
 abbrev pub column_flags_bits : ColumnFlags → ℕ
 column_flags_bits flags = flags.0
 
--- <https://mariadb.com/kb/en/query_event/>
+-- the options of a session: <https://mariadb.com/kb/en/query_event/>
 abbrev pub flags2 : List (List ℕ × ℕ)
 flags2 =
     (codes "OPTION_AUTO_IS_NULL", 0x0000_4000) ∷
@@ -249,6 +257,7 @@ flags2 =
 abbrev pub flags2_known : ℕ
 flags2_known = 0x0c08_4000
 
+-- they are those of the table
 pub flags2_union : known_bits flags2 ≡ flags2_known
 unfolding known_from
 flags2_union = refl
@@ -257,7 +266,7 @@ flags2_union = refl
 abbrev pub flags2_bits : Flags2 → ℕ
 flags2_bits flags = flags.0
 
--- <https://mariadb.com/kb/en/query_event/>
+-- the SQL modes: <https://mariadb.com/kb/en/query_event/>
 abbrev pub sql_mode : List (List ℕ × ℕ)
 sql_mode =
     (codes "MODE_REAL_AS_FLOAT", 0x1) ∷
@@ -300,6 +309,7 @@ sql_mode =
 abbrev pub sql_mode_known : ℕ
 sql_mode_known = 0x3_ffff_ffff
 
+-- they are those of the table
 pub sql_mode_union : known_bits sql_mode ≡ sql_mode_known
 unfolding known_from
 sql_mode_union = refl

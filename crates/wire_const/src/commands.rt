@@ -22,7 +22,7 @@ pub enum Command {
     COM_DROP_DB = 6,
     /// Flushes caches and logs. Deprecated.
     COM_REFRESH = 7,
-    /// It was `COM_SHUTDOWN` once, and is unused.
+    /// Formerly `COM_SHUTDOWN`. Unused.
     COM_DEPRECATED_1 = 8,
     /// Asks for a line of the server's statistics.
     COM_STATISTICS = 9,
@@ -44,7 +44,7 @@ pub enum Command {
     COM_CHANGE_USER = 17,
     /// Asks for the binary log from a position.
     COM_BINLOG_DUMP = 18,
-    /// Asked for a table's content, of a replica once. Unused.
+    /// Formerly asked for a whole table, in replication. Unused.
     COM_TABLE_DUMP = 19,
     /// Internal to the server.
     COM_CONNECT_OUT = 20,

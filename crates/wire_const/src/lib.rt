@@ -1,7 +1,8 @@
 //! The numbers that packets are written in: lengths, collations, sets of flags and enums.
 //!
 //! A raw number is converted by `try_from`, which refuses what it doesn't know and hands the number
-//! back in its error. `from` gives the number of a value.
+//! back in its error. `from` gives the number of a value. The calls on a set of flags are those of
+//! [`Flags`].
 #![tactic(auto)]
 
 mod bulk_indicator;

@@ -5,7 +5,8 @@ ghost use Rattle.wire_const.specs.EnumNumbers.{session_state_type_number, Conver
 
 use thiserror::Error;
 
-/// What of the session has changed, as an OK packet lists it under `SERVER_SESSION_STATE_CHANGED`.
+/// What has changed in the session: the byte before each change that an OK packet lists where
+/// `SERVER_SESSION_STATE_CHANGED` is set.
 ///
 /// <https://dev.mysql.com/doc/dev/mysql-server/latest/page_protocol_basic_ok_packet.html>
 #[derive(Clone, Copy, Debug, PartialEq, Eq)]
@@ -16,7 +17,7 @@ pub enum SessionStateType {
     SESSION_TRACK_SYSTEM_VARIABLES = 0,
     /// The current database.
     SESSION_TRACK_SCHEMA = 1,
-    /// That something has changed, or that nothing has.
+    /// Whether anything has changed.
     SESSION_TRACK_STATE_CHANGE = 2,
     /// The identifiers of transactions.
     SESSION_TRACK_GTIDS = 3,

@@ -14,10 +14,10 @@ use thiserror::Error;
 pub struct CapabilityFlags(u32);
 
 impl CapabilityFlags {
-    /// A better form of the first password hash. It is taken to be set since MySQL 4.1.
+    /// An improved form of the oldest password hash. Taken to be set since MySQL 4.1.1.
     pub const CLIENT_LONG_PASSWORD: Self = Self(0x0000_0001);
 
-    /// A changing statement answers how many rows it found, and not how many it changed.
+    /// A statement that changes rows answers how many it found, and not how many it changed.
     pub const CLIENT_FOUND_ROWS: Self = Self(0x0000_0002);
 
     /// The flags of a column are two bytes wide.
@@ -32,7 +32,7 @@ impl CapabilityFlags {
     /// Packets may be compressed by zlib once the client is accepted.
     pub const CLIENT_COMPRESS: Self = Self(0x0000_0020);
 
-    /// The client is an ODBC driver. It changes nothing since MySQL 3.22.
+    /// The client is an ODBC driver. Without effect since MySQL 3.22.
     pub const CLIENT_ODBC: Self = Self(0x0000_0040);
 
     /// The client may send its own files, for `LOAD DATA LOCAL`.
@@ -56,10 +56,10 @@ impl CapabilityFlags {
     /// OK and EOF packets hold status flags.
     pub const CLIENT_TRANSACTIONS: Self = Self(0x0000_2000);
 
-    /// It was `CLIENT_PROTOCOL_41` once, and is unused.
+    /// An old flag of the protocol of MySQL 4.1. Unused.
     pub const CLIENT_RESERVED: Self = Self(0x0000_4000);
 
-    /// The password hash of MySQL 4.1. It is taken to be set by all newer servers.
+    /// Authentication by the password hash of MySQL 4.1. Taken to be set by newer servers.
     pub const CLIENT_SECURE_CONNECTION: Self = Self(0x0000_8000);
 
     /// One `COM_QUERY` may hold several statements.
@@ -83,7 +83,7 @@ impl CapabilityFlags {
     /// The client can go on under a password that has expired.
     pub const CLIENT_CAN_HANDLE_EXPIRED_PASSWORDS: Self = Self(0x0040_0000);
 
-    /// OK packets may list what of the session has changed.
+    /// OK packets may list what has changed in the session.
     pub const CLIENT_SESSION_TRACK: Self = Self(0x0080_0000);
 
     /// An OK packet ends the rows of a result, where an EOF packet did.
@@ -98,7 +98,7 @@ impl CapabilityFlags {
     /// `COM_QUERY` and `COM_STMT_EXECUTE` may hold attributes of the query.
     pub const CLIENT_QUERY_ATTRIBUTES: Self = Self(0x0800_0000);
 
-    /// The client may have to show who it is in several ways.
+    /// The server may ask for several proofs of who the client is, one after another.
     pub const MULTI_FACTOR_AUTHENTICATION: Self = Self(0x1000_0000);
 
     /// Error packets may report progress. MariaDB has a capability of its own for it now.

@@ -17,7 +17,7 @@ impl MariadbCapabilities {
     /// The server may report the progress of a long statement.
     pub const MARIADB_CLIENT_PROGRESS: Self = Self(0x0000_0001);
 
-    /// It was `COM_MULTI` once, and is unused.
+    /// Formerly `COM_MULTI`. Unused.
     pub const MARIADB_CLIENT_RESERVED_1: Self = Self(0x0000_0002);
 
     /// `COM_STMT_BULK_EXECUTE` is understood.

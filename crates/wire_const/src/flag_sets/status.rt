@@ -53,7 +53,7 @@ impl StatusFlags {
     /// The open transaction only reads; it stands beside `SERVER_STATUS_IN_TRANS`.
     pub const SERVER_STATUS_IN_TRANS_READONLY: Self = Self(0x2000);
 
-    /// The packet lists what of the session has changed.
+    /// The packet lists what has changed in the session.
     pub const SERVER_SESSION_STATE_CHANGED: Self = Self(0x4000);
 
     /// MariaDB: double quotes enclose names, as in the SQL mode `ANSI_QUOTES`.
