@@ -4,6 +4,7 @@
 /// Buffers and errors.
 pub mod io {
     pub use wire_buf::error::{InvalidLengthEncodedInteger, InvalidReason, WireError};
+    pub use wire_buf::io::ParseBuf;
 }
 
 pub mod constants {
@@ -11,6 +12,8 @@ pub mod constants {
 }
 
 pub mod proto {
+    pub use wire_buf::proto::{Binary, Fixed, MyDeserialize, MySerialize, ReadSize, Text, Varying};
+
     /// Packets and chunks.
     pub mod codec {
         pub use wire_codec::codec::{
