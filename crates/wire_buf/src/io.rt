@@ -2,7 +2,11 @@
 
 ghost use Rattle.std.specs.Prelude.{◌≡◌, ◌<◌, ◌≤◌, ◌↔◌, [], length, take, drop, IsTrue, MatchOption};
 
+mod big_endian;
+mod little_endian;
 mod parse;
+mod read;
+mod text;
 
 /// Bytes that are read from the front. What is handed out borrows from the payload, and nothing is
 /// copied.
