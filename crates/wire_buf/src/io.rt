@@ -3,6 +3,7 @@
 ghost use Rattle.std.specs.Prelude.{◌≡◌, ◌<◌, ◌≤◌, ◌↔◌, [], length, take, drop, IsTrue, MatchOption};
 
 mod big_endian;
+mod lenenc;
 mod little_endian;
 mod parse;
 mod read;
