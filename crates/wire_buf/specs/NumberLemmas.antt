@@ -73,3 +73,15 @@ le_bytes-le_number (byte ∷ bytes) are =
     let low : (byte + 256 * le_number bytes) % 256 ≡ byte = omega arith in
     let high : (byte + 256 * le_number bytes) / 256 ≡ le_number bytes = omega arith in
     rw (low, high, more) refl
+
+-- what is written are bytes
+pub IsBytes-nil : IsBytes []
+IsBytes-nil i = omega arith
+
+pub IsBytes-cons : (byte : ℕ) (bytes : List ℕ) → byte < 256 → IsBytes bytes → IsBytes (byte ∷ bytes)
+IsBytes-cons byte bytes low are zero = low
+IsBytes-cons byte bytes low are (suc i) = are i
+
+pub IsBytes-le_bytes : (count n : ℕ) → IsBytes (le_bytes count n)
+IsBytes-le_bytes zero n = IsBytes-nil
+IsBytes-le_bytes (suc count) n = IsBytes-cons (n % 256) (le_bytes count (n / 256)) (omega arith) (IsBytes-le_bytes count (n / 256))
