@@ -9,6 +9,7 @@ ghost use Rattle.wire_buf.specs.Spelling.{IsShortest};
 ghost use Rattle.wire_buf.specs.Lenenc.{IsLenenc, IsLenencOrMark, lenenc_bytes};
 ghost use Rattle.wire_ext.specs.Texts.{PutsText, u8_max, u32_max};
 
+use super::spelling::{four_bytes, nine_bytes, three_bytes};
 use bytes::BufMut;
 use std::cmp::min;
 use wire_buf::error::WireError;
@@ -19,17 +20,14 @@ fn put_spelling<B: BufMut>(buf: &mut B, n: u64) -> Result<(), WireError>
     ensures err { IfErr result (λ error. (error ≡ OutOfMemory) × (B.written buf.new ≡ B.written buf.old)) }
     ensures spare { UsesSpare result (B.spare buf.old) (B.spare buf.new) (length (lenenc_bytes n)) }
 {
-    let low = n.to_le_bytes();
     if n < 251 {
-        buf.put_u8(low[0])?;
+        buf.put_u8(n as u8)?;
     } else if n < 65_536 {
-        buf.put_slice(&[0xfc, low[0], low[1]])?;
+        buf.put_slice(&three_bytes(n))?;
     } else if n < 16_777_216 {
-        buf.put_slice(&[0xfd, low[0], low[1], low[2]])?;
+        buf.put_slice(&four_bytes(n))?;
     } else {
-        buf.put_slice(&[
-            0xfe, low[0], low[1], low[2], low[3], low[4], low[5], low[6], low[7],
-        ])?;
+        buf.put_slice(&nine_bytes(n))?;
     }
     Ok(())
 }
