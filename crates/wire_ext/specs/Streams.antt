@@ -26,6 +26,10 @@ IsIo (InvalidData _) = ⊥
 IsIo (Other _) = ⊥
 IsIo OutOfMemory = ⊥
 
+-- or memory was refused
+abbrev pub IsIoOrMemory : WireError → Type 0
+IsIoOrMemory error = IsIo error ⊎ (error ≡ OutOfMemory)
+
 -- Why an integer was not read: its first byte is fb or ff, and it alone was read; or the reader's fault.
 abbrev pub RefusesLenenc : WireError → Option (List ℕ) → Option (List ℕ) → Type 0
 RefusesLenenc (Other _) old new = Consumes old new (0xfb ∷ []) ⊎ Consumes old new (0xff ∷ [])
