@@ -85,3 +85,9 @@ IsBytes-cons byte bytes low are (suc i) = are i
 pub IsBytes-le_bytes : (count n : ℕ) → IsBytes (le_bytes count n)
 IsBytes-le_bytes zero n = IsBytes-nil
 IsBytes-le_bytes (suc count) n = IsBytes-cons (n % 256) (le_bytes count (n / 256)) (omega arith) (IsBytes-le_bytes count (n / 256))
+
+-- the low bytes of more
+pub take-le_bytes : (count more n : ℕ) → count ≤ more → take count (le_bytes more n) ≡ le_bytes count n
+take-le_bytes zero more n h = refl
+take-le_bytes (suc count) zero n h = absurd (omega arith)
+take-le_bytes (suc count) (suc more) n h = ap (λ l. n % 256 ∷ l) (take-le_bytes count more (n / 256) (omega arith))

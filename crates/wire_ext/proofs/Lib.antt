@@ -1,1 +1,3 @@
+mod MarkLemmas
 mod StreamLemmas
+mod VarlenLemmas

@@ -3,3 +3,4 @@
 #![tactic(auto)]
 
 pub mod io;
+pub mod misc;

@@ -1,0 +1,7 @@
+//! Lengths of what is written, integers of the serialization library, and server versions.
+
+mod length;
+mod varlen;
+
+pub use length::{lenenc_int_len, lenenc_str_len};
+pub use varlen::{read_varlen_uint, varlen_uint_size, write_varlen_uint};
