@@ -1,7 +1,7 @@
 -- The spelling of a length-encoded integer that is written, and that none is shorter.
-use Rattle.std.proofs.Common.{◌≡◌, ◌≤◌, ◌<◌, ℕ, suc, ◌+◌, ◌^◌, List, [], ◌∷◌, length, inl, inr, refl, sym, ap, ◌∙◌, arith, nat_lt, slice_index, if◌then◌else◌, ◌⊎◌}
+use Rattle.std.proofs.Common.{◌≡◌, ◌≤◌, ◌<◌, ℕ, suc, ◌+◌, ◌^◌, List, [], length, inl, inr, refl, sym, ap, ◌∙◌, arith, nat_lt, slice_index, if◌then◌else◌}
 use Rattle.std.proofs.lemmas.Bool.{cases_lt, lt-ltb, le-ltb}
-use Rattle.wire_buf.specs.Numbers.{le_number, le_bytes, IsBytes}
+use Rattle.wire_buf.specs.Numbers.{le_bytes, IsBytes}
 use Rattle.wire_buf.specs.NumberLemmas.{length-le_bytes, le_number-le_bytes_fits, le_number-lt, IsBytes-nil, IsBytes-cons, IsBytes-le_bytes}
 use Rattle.wire_buf.specs.Spelling.{IsBehind, IsShortest}
 use Rattle.wire_buf.specs.SpellingLemmas.{IsSpelling-from}

@@ -1,5 +1,5 @@
 -- What follows of spellings, whatever the format.
-use Rattle.std.proofs.Common.{◌≡◌, ◌≤◌, ◌<◌, ℕ, List, ◌++◌, length, take, drop, Option, Some, None, MatchOption, option_map, Bor, inr, refl, sym, ap, subst, ◌∙◌, arith}
+use Rattle.std.proofs.Common.{◌≡◌, ◌≤◌, ◌<◌, ℕ, List, ◌++◌, length, take, drop, Option, Some, None, MatchOption, option_map, Bor, refl, sym, ap, subst, ◌∙◌, arith, inl, inr}
 use Rattle.std.proofs.lemmas.List.{take_at, drop_at, length-append, length-take-le, take-append-drop}
 use Rattle.wire_buf.specs.Numbers.{le_number}
 use Rattle.wire_buf.specs.Reading.{Eats, EatsIfThere}
@@ -30,6 +30,26 @@ ReadsNumber-same spells free lost old (Some n) None x y read (nothing, right) = 
 ReadsNumber-same spells free lost old (Some n) (Some m) x y left right =
     let same = EatsSpelling-same spells free old n m x y left right in
     (ap Some same.0, same.1)
+
+-- also of a text
+pub ReadsText-same : (spells : ℕ → List ℕ → Type 0) → IsPrefixFree spells → (lost : ℕ) (old : List ℕ) (a b : Option (List ℕ)) (x y : List ℕ)
+    → ReadsText spells lost old a x → ReadsText spells lost old b y → (a ≡ b) × (x ≡ y)
+ReadsText-same spells free lost old None None x y (inl (_, left)) (inl (_, right)) = (refl, left ∙ sym right)
+ReadsText-same spells free lost old None None x y (inl (nothing, _)) (inr (len, read, _)) = absurd (nothing len y read)
+ReadsText-same spells free lost old None None x y (inr (len, read, _)) (inl (nothing, _)) = absurd (nothing len x read)
+ReadsText-same spells free lost old None None x y (inr (n, left, _)) (inr (m, right, _)) = (refl, (EatsSpelling-same spells free old n m x y left right).1)
+ReadsText-same spells free lost old None (Some b) x y (inl (nothing, _)) read = absurd (nothing (length b) (b ++ y) read)
+ReadsText-same spells free lost old None (Some b) x y (inr (n, left, short)) read =
+    let same = EatsSpelling-same spells free old n (length b) x (b ++ y) left read in
+    absurd (omega (arith, short, same.0, ap length same.1, length-append b y))
+ReadsText-same spells free lost old (Some a) None x y read (inl (nothing, _)) = absurd (nothing (length a) (a ++ x) read)
+ReadsText-same spells free lost old (Some a) None x y read (inr (m, right, short)) =
+    let same = EatsSpelling-same spells free old (length a) m (a ++ x) y read right in
+    absurd (omega (arith, short, same.0, ap length same.1, length-append a x))
+ReadsText-same spells free lost old (Some a) (Some b) x y left right =
+    let same = EatsSpelling-same spells free old (length a) (length b) (a ++ x) (b ++ y) left right in
+    let parts = same_parts a b x y same.1 same.0 in
+    (ap Some parts.0, parts.1)
 
 -- each spelling is read back, whatever follows
 pub IsSpelling-from : (spells : ℕ → List ℕ → Type 0) → IsPrefixFree spells → (n : ℕ) (bytes : List ℕ) → spells n bytes → IsSpelling spells n bytes
