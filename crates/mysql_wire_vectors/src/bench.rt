@@ -11,7 +11,7 @@ use std::test::Fail;
 pub const FILL: u8 = 0x42;
 
 /// One thing that a test does, or one that it looks at.
-#[derive(Debug, Clone, Copy)]
+#[derive(Clone, Copy)]
 pub enum Step<'a> {
     /// The codec is another one, as `default` makes it.
     Fresh,
@@ -78,14 +78,18 @@ impl<A: Allocator + Copy, T: Target<A>> Bench<T, A> {
         Told::of_encode(self.codec.encode(&mut packet, &mut self.src))
     }
 
-    fn encode_many(&mut self, len: usize) -> Result<Told, AllocError> {
+    pub fn encode_many(&mut self, len: usize) -> Result<Told, AllocError> {
         let payload = Vec::from_elem(self.alloc, FILL, len)?;
         Ok(self.encode(payload.as_slice()))
     }
 
-    fn comes_many(&mut self, len: usize) -> Result<(), AllocError> {
+    pub fn comes_many(&mut self, len: usize) -> Result<(), AllocError> {
         let bytes = Vec::from_elem(self.alloc, FILL, len)?;
         self.src.extend_from_slice(bytes.as_slice())
+    }
+
+    pub fn stands(&self) -> bool {
+        self.codec.stands_at(&self.src, self.dst.as_ref())
     }
 
     fn stands_at(&self, src: &[u8], dst: &[u8]) -> Result<bool, AllocError> {
@@ -93,7 +97,7 @@ impl<A: Allocator + Copy, T: Target<A>> Bench<T, A> {
         Ok(self.codec.stands_at(&src, dst))
     }
 
-    fn holds_many(&self, len: usize) -> Result<bool, AllocError> {
+    pub fn holds_many(&self, len: usize) -> Result<bool, AllocError> {
         let bytes = Vec::from_elem(self.alloc, FILL, len)?;
         Ok(self.dst.as_ref() == bytes.as_slice())
     }
@@ -131,9 +135,7 @@ impl<A: Allocator + Copy, T: Target<A>> Bench<T, A> {
             Step::LeftMany(len) => Ok(self.src.len() == len),
             Step::Held(bytes) => Ok(self.dst.as_ref() == bytes),
             Step::HeldMany(len) => self.holds_many(len),
-            Step::Stands(stands) => {
-                Ok(self.codec.stands_at(&self.src, self.dst.as_ref()) == stands)
-            }
+            Step::Stands(stands) => Ok(self.stands() == stands),
             Step::StandsAt(src, dst, stands) => Ok(self.stands_at(src, dst)? == stands),
             Step::Grew(growths, room) => Ok(self.grew(growths, room)),
             other => {
@@ -149,7 +151,7 @@ pub fn play<T: Target<Global>>(alloc: Global, steps: &[Step]) -> Result<(), Fail
     let mut bench = Bench::<T, Global>::new(alloc);
     for (i, step) in steps.iter().enumerate() {
         if !bench.goes(*step)? {
-            return Err(Fail::new(format_args!("step {i}, {step:?}, went otherwise")));
+            return Err(Fail::new(format_args!("step {i} went otherwise")));
         }
     }
     Ok(())

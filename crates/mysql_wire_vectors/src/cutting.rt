@@ -6,16 +6,16 @@ use crate::made_up::{Dice, Stream, pieces_of};
 use crate::plain::{Reading, between, chunk_count, low_byte, put_framing, reading_of};
 use crate::told::{Told, ensure};
 use mysql_wire::constants::MAX_PAYLOAD_LEN;
-use std::alloc::{AllocError, Global};
+use std::alloc::{AllocError, Allocator, Global};
 use std::test::Fail;
 
 // A stream, and the reading of all of it.
 #[derive(Drop)]
-struct Case<'a> {
-    first_id: u8,
-    limit: usize,
-    stream: &'a [u8],
-    reading: Reading,
+pub struct Case<'a> {
+    pub first_id: u8,
+    pub limit: usize,
+    pub stream: &'a [u8],
+    pub reading: Reading,
 }
 
 // The least number of pieces that brings what shows the fault; all of them where there is none.
@@ -30,8 +30,17 @@ fn least_count(shown_at: usize, there: usize, pieces: &[&[u8]]) -> usize {
     pieces.len()
 }
 
+// Whether two lists, each with an allocator of its own, have the same packets.
+fn are_packets<A: Allocator>(packets: &[Vec<u8, A>], wanted: &[Vec<u8>]) -> bool {
+    let mut same = packets.len() == wanted.len();
+    for (packet, wanted) in packets.iter().zip(wanted) {
+        same = same && packet.as_slice() == wanted.as_slice();
+    }
+    same
+}
+
 // What `src` holds, and the pieces behind it that were not appended.
-fn left_of(
+pub fn left_of(
     alloc: Global,
     src: &[u8],
     pieces: &[&[u8]],
@@ -45,7 +54,7 @@ fn left_of(
 }
 
 impl<'a> Case<'a> {
-    fn new(
+    pub fn new(
         alloc: Global,
         first_id: u8,
         limit: usize,
@@ -60,10 +69,10 @@ impl<'a> Case<'a> {
     }
 
     // Whether a line ended as the reading says, with these bytes of the stream left.
-    fn ends(&self, line: &Line, told: Told, left: &[u8]) -> bool {
+    pub fn ends<A: Allocator + Copy>(&self, line: &Line<A>, told: Told, left: &[u8]) -> bool {
         told == self.reading.told
-            && line.out == self.reading.packets
-            && line.dst == self.reading.held
+            && are_packets(line.out.as_slice(), self.reading.packets.as_slice())
+            && line.dst.as_slice() == self.reading.held.as_slice()
             && left == between(self.stream, self.reading.left, self.stream.len())
             && line.codec.max_allowed_packet == self.limit
             && (told == Told::OutOfSync || line.stands())
