@@ -1,4 +1,4 @@
--- One chunk of a input, as a codec takes it.
+-- One chunk of a stream, as a codec takes it.
 use Rattle.std.proofs.Common.{◌≡◌, ℕ, ◌+◌, ◌*◌, ◌/◌, ◌%◌, ◌<◌, ◌≤◌, ◌≢◌, ◌⊎◌, List, [], ◌∷◌, ◌++◌, length, take, drop, suc, refl, sym, ap, ◌∙◌, subst, arith, append_assoc, append-nil, length-append, length-drop, length-take, drop-drop, take_all, take_at, inl, inr, take-append-drop, slice_index, Option, Some, None, IsSome, Result, Ok, Err, Bool, true, false, eq-eqb, ne_eqb, rules, if◌then◌else◌}
 use Rattle.std.proofs.lemmas.List.{length-take-le}
 use Rattle.std.proofs.lemmas.Bool.{cases_lt}
@@ -8,8 +8,8 @@ use Rattle.wire_codec.specs.declared.codec.error.PacketCodecError.{PacketCodecEr
 use Rattle.wire_codec.specs.declared.codec.error.PacketCodecError.TheVariants.{PacketTooLarge, OutOfMemory, PacketsOutOfSync, Io}
 use Rattle.wire_codec.specs.Framing.{max_payload, header, chunk, chunks, front}
 use Rattle.wire_codec.specs.Delivery.{chunk_len, IsSpelled, id_at, IsWholeChunks, Continues, Splits, Ending, Waiting, TooLarge, OutOfSync, Delivers}
-use Rattle.wire_codec.specs.OneChunk.{info_of, Answer, FinishesChunk, ChunkStep}
-use Rattle.wire_codec.specs.Codec.{Stands, open_id, DecodesFrom, TakesChunk}
+use Rattle.wire_codec.specs.OneChunk.{info_of, Answer, FinishesChunk, DecodesChunk}
+use Rattle.wire_codec.specs.Codec.{StandsAt, open_id, DecodesFrom, TakesChunk}
 use Rattle.wire_codec.specs.declared.codec.packet.Progress.{Progress}
 use Rattle.wire_codec.specs.declared.codec.packet.Progress.TheVariants.{Whole, Starved, More}
 use Rattle.wire_codec.proofs.ChunkLemmas.{max_payload_is, blocks_whole, chunk-mod, chunks-push}
@@ -97,7 +97,7 @@ outcome_finished limit src held answer header rest dst long some small f =
     ]
 
 pub outcome_of : (h : Option (ℕ × ℕ)) (limit : ℕ) (src held : List ℕ) (answer : Answer) (header : Option (ℕ × ℕ)) (rest dst : List ℕ)
-    → Stands limit h src held → ChunkStep h src held limit answer header rest dst → Outcome limit src held answer header rest dst
+    → StandsAt limit h src held → DecodesChunk h src held limit answer header rest dst → Outcome limit src held answer header rest dst
 outcome_of None limit src held answer header rest dst stands d =
     elim (cases_lt (length src) 4) [
       | inl less ↦ let w = d.short less in short less w.0 w.1 w.2 w.3
@@ -145,7 +145,7 @@ info_kind i l held dst whole len some small =
     ]
 
 pub chunk_taken : (h : Option (ℕ × ℕ)) (limit : ℕ) (src held : List ℕ) (info : ChunkInfo) (header : Option (ℕ × ℕ)) (rest dst : List ℕ)
-    → IsSpelled src → Stands limit h src held → Outcome limit src held (Ok (Some info)) header rest dst → Taken limit src held info header rest dst
+    → IsSpelled src → StandsAt limit h src held → Outcome limit src held (Ok (Some info)) header rest dst → Taken limit src held info header rest dst
 chunk_taken h limit src held info header rest dst b stands (short less a x r d) = absurd cc
 chunk_taken h limit src held info header rest dst b stands (empty long none a x r d) = record {
   whole = omega arith;
@@ -269,12 +269,12 @@ unmoved first limit id src held answer header rest dst r d known =
 
 -- a header that is remembered where it stands
 stands_with : (limit : ℕ) (src held : List ℕ) (header : Option (ℕ × ℕ)) → IsWholeChunks held → 4 ≤ length src → 0 < chunk_len src → length held + chunk_len src ≤ limit
-    → header ≡ Some (slice_index src 3, chunk_len src) → Stands limit header src held × IsSome header
+    → header ≡ Some (slice_index src 3, chunk_len src) → StandsAt limit header src held × IsSome header
 stands_with limit src held header whole long some small x =
-    subst (λ (z : Option (ℕ × ℕ)). Stands limit z src held × IsSome z) (sym x) ((whole, (long, refl, refl, some, small)), search rules)
+    subst (λ (z : Option (ℕ × ℕ)). StandsAt limit z src held × IsSome z) (sym x) ((whole, (long, refl, refl, some, small)), search rules)
 
-pub stands_without : (limit : ℕ) (src held : List ℕ) (header : Option (ℕ × ℕ)) → IsWholeChunks held → header ≡ None → Stands limit header src held
-stands_without limit src held header whole x = subst (λ (z : Option (ℕ × ℕ)). Stands limit z src held) (sym x) (whole, tt)
+pub stands_without : (limit : ℕ) (src held : List ℕ) (header : Option (ℕ × ℕ)) → IsWholeChunks held → header ≡ None → StandsAt limit header src held
+stands_without limit src held header whole x = subst (λ (z : Option (ℕ × ℕ)). StandsAt limit z src held) (sym x) (whole, tt)
 
 none_none : (header : Option (ℕ × ℕ)) → header ≡ None → IsSome header → ⊥
 none_none None e s = cc

@@ -190,7 +190,7 @@ not_whole e s L a d q p W y len_q cq cp same ends =
           (same ∙ ap (λ (k : ℕ). chunks k s p ++ y) count) ends
     ]
 
--- what a input delivers, as one list of its parts
+-- what a stream delivers, as one list of its parts
 pub one_reading : (e f : Ending) (s L : ℕ) (d : List ℕ) (ps qs : List (List ℕ)) (q r W V : List ℕ)
     → IsWholeChunks q → IsWholeChunks r → AreWithin d L ps q → AreWithin d L qs r
     → stream s ps ++ (front (id_after s ps) q ++ W) ≡ stream s qs ++ (front (id_after s qs) r ++ V)
@@ -215,7 +215,7 @@ one_reading e f s L d (p ∷ ps) (o ∷ qs) q r W V wq wr aq ar same eq er =
     let more = one_reading e f (next_id s p) L [] ps qs q r W V wq wr (within_rest L ps q aq.1 aq.2) (within_rest L qs r ar.1 ar.2) rest eq er' in
     (ap₂ (λ (u : List ℕ) (v : List (List ℕ)). u ∷ v) parts.0 more.0, more.1, more.2)
 
--- a input delivers one thing
+-- a stream delivers one thing
 pub one_delivery_is : (d S : List ℕ) (s L : ℕ) (ps qs : List (List ℕ)) (e f : Ending) (q r W V : List ℕ)
     → Delivers d S s L ps e q W → Delivers d S s L qs f r V → (ps ≡ qs) × (e ≡ f) × (q ≡ r) × (W ≡ V)
 one_delivery_is d S s L ps qs e f q r W V a b =

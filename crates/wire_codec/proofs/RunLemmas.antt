@@ -1,5 +1,5 @@
 -- Runs of decodes, joined.
-use Rattle.std.proofs.Common.{◌≡◌, ℕ, ◌+◌, ◌<◌, ◌≤◌, List, [], ◌∷◌, ◌++◌, length, take, drop, refl, sym, ap, ap₂, ◌∙◌, subst, arith, append_assoc, append-nil, length-append, length-drop, inl, inr, slice_index, Option, Some, None, Result, Ok, Err, false, zero-le, All}
+use Rattle.std.proofs.Common.{◌≡◌, ℕ, ◌+◌, ◌<◌, ◌≤◌, List, [], ◌∷◌, ◌++◌, length, take, drop, refl, sym, ap, ap₂, ◌∙◌, subst, arith, append_assoc, append-nil, length-append, length-drop, inl, inr, ◌⊎◌, slice_index, Option, Some, None, Result, Ok, Err, false, zero-le, All}
 use Rattle.std.proofs.lemmas.List.Elements.{All-nil}
 use Rattle.std.proofs.lemmas.List.{take-append-le, drop-append-le, get_or_append_left, take_more, flat_map_more, take-append-drop}
 use Rattle.std.proofs.Common.{Bor, get_or}
@@ -8,10 +8,10 @@ use Rattle.wire_codec.specs.declared.codec.error.PacketCodecError.{PacketCodecEr
 use Rattle.wire_codec.specs.declared.codec.error.PacketCodecError.TheVariants.{PacketTooLarge, OutOfMemory, PacketsOutOfSync, Io}
 use Rattle.wire_codec.specs.Framing.{max_payload, framing, front, next_id, stream, id_after}
 use Rattle.wire_codec.specs.Delivery.{chunk_len, id_at, IsWholeChunks, Continues, Splits, Ending, Waiting, TooLarge, OutOfSync, Delivers}
-use Rattle.wire_codec.specs.Codec.{Stands, open_id, DecodesFrom}
-use Rattle.wire_codec.specs.Runs.{RunsTo, RunsOver, joined}
+use Rattle.wire_codec.specs.Codec.{StandsAt, CodecState, open_id, first_id, input_of, DecodesFrom}
+use Rattle.wire_codec.specs.Runs.{RunsFrom, RunsTo, LeavesFrom, joined}
 use Rattle.wire_codec.proofs.DeliveryLemmas.{stream-append, id_after-append, within_append, within_rest, splits_join, delivers_join}
-use Rattle.wire_codec.proofs.CodecLemmas.{open_at_id}
+use Rattle.wire_codec.proofs.CodecLemmas.{open_at_id, open_small}
 
 -- nothing unfinished
 pub front-nil : (s : ℕ) → front s [] ≡ []
@@ -67,7 +67,7 @@ splits_push d S s L ps q W p V a e c =
 -- a run stops as its last decode does
 pub runs_stop : (error : PacketCodecError) (d S : List ℕ) (s L : ℕ) (ps : List (List ℕ)) (q W : List ℕ) (id : ℕ) (header : Option (ℕ × ℕ)) (src dst : List ℕ)
     → s < 256 → Splits d S s L ps q W → DecodesFrom (id_after s ps) (front (id_after s ps) q ++ W) q L (Err error) id header src dst
-    → RunsTo s S d L (Err error) ps id header src dst
+    → RunsFrom s S d L (Err error) ps id header src dst
 runs_stop PacketTooLarge d S s L ps q W id header src dst h a t = (delivers_still d S s L ps q W TooLarge dst src a t.0, t.1, t.2)
 runs_stop PacketsOutOfSync d S s L ps q W id header src dst h a t = (t.0, t.1, delivers_still d S s L ps q W OutOfSync t.0 t.1 a t.2, t.3, t.4, t.5, t.6)
 runs_stop OutOfMemory d S s L ps q W id header src dst h a t =
@@ -76,7 +76,7 @@ runs_stop (Io e) d S s L ps q W id header src dst h a t = t
 
 pub runs_wait : (d S : List ℕ) (s L : ℕ) (ps : List (List ℕ)) (q W : List ℕ) (id : ℕ) (header : Option (ℕ × ℕ)) (src dst : List ℕ)
     → Splits d S s L ps q W → DecodesFrom (id_after s ps) (front (id_after s ps) q ++ W) q L (Ok false) id header src dst
-    → RunsTo s S d L (Ok tt) ps id header src dst
+    → RunsFrom s S d L (Ok tt) ps id header src dst
 runs_wait d S s L ps q W id header src dst a t = (delivers_still d S s L ps q W Waiting dst src a t.0, t.1, t.2, t.3)
 
 -- the next packet of a run
@@ -91,7 +91,7 @@ chunk_len_append W x h = ap le_number (take-append-le 3 W x (omega arith))
 id_append : (W x : List ℕ) → 4 ≤ length W → slice_index (W ++ x) 3 ≡ slice_index W 3
 id_append W x h = get_or_append_left W x 0 3 (omega arith)
 
-pub stands_append : (limit : ℕ) (header : Option (ℕ × ℕ)) (src x held : List ℕ) → Stands limit header src held → Stands limit header (src ++ x) held
+pub stands_append : (limit : ℕ) (header : Option (ℕ × ℕ)) (src x held : List ℕ) → StandsAt limit header src held → StandsAt limit header (src ++ x) held
 stands_append limit None src x held s = s
 stands_append limit (Some h) src x held s =
     let t = s.1 in
@@ -99,8 +99,8 @@ stands_append limit (Some h) src x held s =
 
 -- a run, and then one over what came since
 pub runs_join : (answer : Result (Unit {0}) PacketCodecError) (d S : List ℕ) (s L : ℕ) (ps : List (List ℕ)) (q W x : List ℕ) (qs : List (List ℕ)) (id : ℕ) (header : Option (ℕ × ℕ)) (src dst : List ℕ)
-    → Splits d S s L ps q W → RunsTo (id_after s ps) (front (id_after s ps) q ++ (W ++ x)) q L answer qs id header src dst
-    → RunsTo s (S ++ x) d L answer (ps ++ qs) id header src dst
+    → Splits d S s L ps q W → RunsFrom (id_after s ps) (front (id_after s ps) q ++ (W ++ x)) q L answer qs id header src dst
+    → RunsFrom s (S ++ x) d L answer (ps ++ qs) id header src dst
 runs_join (Ok u) d S s L ps q W x qs id header src dst a b =
     (delivers_join d S s L ps q W x qs Waiting dst src a b.0, b.1 ∙ ap (λ (n : ℕ). id_at n dst) (sym (id_after-append s ps qs)), b.2, b.3)
 runs_join (Err PacketTooLarge) d S s L ps q W x qs id header src dst a b =
@@ -124,7 +124,7 @@ splits_extend d S s L ps q W x a = record {
 }
 
 pub runs_over : (error : PacketCodecError) (d S : List ℕ) (s L : ℕ) (ps : List (List ℕ)) (id : ℕ) (header : Option (ℕ × ℕ)) (src x dst : List ℕ)
-    → RunsTo s S d L (Err error) ps id header src dst → RunsOver s (S ++ x) d L (Err error) ps src x dst
+    → RunsFrom s S d L (Err error) ps id header src dst → LeavesFrom s (S ++ x) d L (Err error) ps src x dst
 runs_over PacketTooLarge d S s L ps id header src x dst r =
     let e = r.0.ends in
     let l = chunk_len_append src x e.0 in
@@ -161,7 +161,7 @@ runs_over (Io e) d S s L ps id header src x dst r = r
 pub open_waiting : (s : ℕ) (ps : List (List ℕ)) (id : ℕ) (dst : List ℕ) → s < 256 → id ≡ id_at (id_after s ps) dst → open_id id dst ≡ id_after s ps
 open_waiting s ps id dst h e = ap (λ (n : ℕ). open_id n dst) e ∙ open_at_id (id_after s ps) dst (id_after_small s ps h)
 
--- one piece more of a input
+-- one piece more of a stream
 pub stream_more : (input : List ℕ) (pieces : List (Bor (List ℕ))) (i : ℕ) (d : Bor (List ℕ)) → i < length pieces
     → (input ++ joined (take i pieces)) ++ (get_or pieces i d).now ≡ input ++ joined (take (i + 1) pieces)
 stream_more input pieces i d h =
@@ -190,3 +190,31 @@ encoded_first_is s L ps qs x e q W small d =
     } in
     delivers_join [] (stream s ps) s L ps [] [] x qs e q W here
     (subst (λ (z : List ℕ). Delivers [] (z ++ x) (id_after s ps) L qs e q W) (sym (front-nil (id_after s ps))) d)
+
+-- a run that stopped here, and could go on
+stopped_splits : (stopped : Result (Unit {0}) PacketCodecError) (d S : List ℕ) (s L : ℕ) (ps : List (List ℕ)) (id : ℕ) (header : Option (ℕ × ℕ)) (src dst : List ℕ)
+    → s < 256 → (stopped ≡ Ok tt) ⊎ (stopped ≡ Err OutOfMemory) → RunsFrom s S d L stopped ps id header src dst
+    → Splits d S s L ps dst src × (open_id id dst ≡ id_after s ps)
+stopped_splits (Ok u) d S s L ps id header src dst small h r = (r.0.splits, open_waiting s ps id dst small r.1)
+stopped_splits (Err OutOfMemory) d S s L ps id header src dst small h r = (r.0, r.1)
+stopped_splits (Err PacketTooLarge) d S s L ps id header src dst small h r = elim h [ inl e ↦ absurd cc | inr e ↦ absurd cc ]
+stopped_splits (Err PacketsOutOfSync) d S s L ps id header src dst small h r = elim h [ inl e ↦ absurd cc | inr e ↦ absurd cc ]
+stopped_splits (Err (Io e)) d S s L ps id header src dst small h r = absurd r
+
+pub run_goes_on_is : (before between after : CodecState) (more next : List ℕ) (stopped answer : Result (Unit {0}) PacketCodecError) (gained others : List (List ℕ))
+    → (stopped ≡ Ok tt) ⊎ (stopped ≡ Err OutOfMemory)
+    → RunsTo before more stopped gained between → between.limit ≡ before.limit → RunsTo between next answer others after
+    → RunsTo before (more ++ next) answer (gained ++ others) after
+run_goes_on_is before between after more next stopped answer gained others could run same on =
+    let s : ℕ = first_id before in
+    let S : List ℕ = input_of before ++ more in
+    let t : ℕ = id_after s gained in
+    let here = stopped_splits stopped before.held S s before.limit gained between.id between.header between.unread between.held (open_small before.id before.held) could run in
+    let opened : RunsFrom t (front t between.held ++ between.unread ++ next) between.held between.limit answer others after.id after.header after.unread after.held =
+    subst (λ (z : ℕ). RunsFrom z (front z between.held ++ between.unread ++ next) between.held between.limit answer others after.id after.header after.unread after.held) here.1 on in
+    let limited : RunsFrom t (front t between.held ++ between.unread ++ next) between.held before.limit answer others after.id after.header after.unread after.held =
+    subst (λ (z : ℕ). RunsFrom t (front t between.held ++ between.unread ++ next) between.held z answer others after.id after.header after.unread after.held) same opened in
+    let grouped : RunsFrom t (front t between.held ++ (between.unread ++ next)) between.held before.limit answer others after.id after.header after.unread after.held =
+    subst (λ (z : List ℕ). RunsFrom t z between.held before.limit answer others after.id after.header after.unread after.held) (append_assoc (front t between.held) between.unread next) limited in
+    subst (λ (z : List ℕ). RunsFrom s z before.held before.limit answer (gained ++ others) after.id after.header after.unread after.held) (append_assoc (input_of before) more next)
+    (runs_join answer before.held S s before.limit gained between.held between.unread next others after.id after.header after.unread after.held here.0 grouped)

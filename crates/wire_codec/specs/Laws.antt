@@ -1,7 +1,12 @@
 -- Laws over the definitions alone, which the functions of `laws` carry.
-use Rattle.std.specs.Prelude.{◌≡◌, ℕ, List, [], ◌++◌, length, ◌/◌, ◌+◌, ◌*◌, ◌≤◌, All}
+use Rattle.std.specs.Prelude.{◌≡◌, ℕ, List, [], ◌++◌, length, ◌/◌, ◌%◌, ◌+◌, ◌*◌, ◌≤◌, ◌⊎◌, All, Result, Ok, Err}
 use Rattle.wire_codec.specs.Framing.{framing, front, id_after, max_payload, stream}
 use Rattle.wire_codec.specs.Delivery.{Ending, Splits, Delivers}
+use Rattle.wire_codec.specs.Counted.{Call, Follows, chunk_count}
+use Rattle.wire_codec.specs.Codec.{CodecState}
+use Rattle.wire_codec.specs.Runs.{RunsTo}
+use Rattle.wire_codec.specs.declared.codec.error.PacketCodecError.{PacketCodecError}
+use Rattle.wire_codec.specs.declared.codec.error.PacketCodecError.TheVariants.{OutOfMemory}
 
 -- one framing cannot be read as two payloads, whatever follows it
 abbrev pub UniqueFraming : Type 0
@@ -9,7 +14,7 @@ UniqueFraming =
     (first_id : ℕ) (payload other rest more : List ℕ)
     → framing first_id payload ++ rest ≡ framing first_id other ++ more → (payload ≡ other) × (rest ≡ more)
 
--- a input delivers one thing
+-- a stream delivers one thing
 abbrev pub OneDelivery : Type 0
 OneDelivery =
     (held input : List ℕ) (open_id limit : ℕ) (payloads others : List (List ℕ)) (ending other : Ending) (unfinished another rest more : List ℕ)
@@ -26,6 +31,15 @@ JoinedRuns =
     → Delivers unfinished (front (id_after open_id payloads) unfinished ++ (rest ++ more)) (id_after open_id payloads) limit others ending another left
     → Delivers held (input ++ more) open_id limit (payloads ++ others) ending another left
 
+-- the same of what `deliver` says: a run that waits, or was refused memory, and the run that goes on from it are one run
+abbrev pub RunGoesOn : Type 0
+RunGoesOn =
+    (before between after : CodecState) (more next : List ℕ) (stopped answer : Result (Unit {0}) PacketCodecError) (gained others : List (List ℕ))
+    → (stopped ≡ Ok tt) ⊎ (stopped ≡ Err OutOfMemory)
+    → RunsTo before more stopped gained between → between.limit ≡ before.limit
+    → RunsTo between next answer others after
+    → RunsTo before (more ++ next) answer (gained ++ others) after
+
 -- how long a framing is
 abbrev pub FramedLength : Type 0
 FramedLength =
@@ -38,3 +52,7 @@ EncodedFirst =
     → All (λ payload. length payload ≤ limit) payloads
     → Delivers [] more (id_after first_id payloads) limit others ending unfinished rest
     → Delivers [] (stream first_id payloads ++ more) first_id limit (payloads ++ others) ending unfinished rest
+
+-- the id that a codec expects is the number of chunks encoded and accepted since the last reset, modulo 256
+abbrev pub ChunksCounted : Type 0
+ChunksCounted = (calls : List Call) (id : ℕ) → Follows 0 calls id → id ≡ chunk_count 0 calls % 256

@@ -1,17 +1,40 @@
-// Laws over the definitions alone. Each function takes and answers nothing: its contract is the law.
-ghost use Rattle.wire_codec.specs.Laws.{OneDelivery, JoinedRuns, UniqueFraming};
+//! Laws over the definitions that the contracts cite. Each function takes and answers nothing: its contract is the law, and
+//! a caller has it by calling.
 
-/// What a input delivers is one list of payloads, one ending and one rest.
+ghost use Rattle.wire_codec.specs.Laws.{ChunksCounted, EncodedFirst, FramedLength, JoinedRuns, OneDelivery, RunGoesOn, UniqueFraming};
+
+/// A stream delivers one list of payloads, one unfinished payload, one rest and one ending.
 pub fn one_delivery()
     ensures { OneDelivery }
 {}
 
-/// A run and the run that goes on from it are together one run.
+/// A run, and then a run over what it left and what came since, are together one run over all.
 pub fn joined_runs()
     ensures { JoinedRuns }
 {}
 
-/// One framing is the framing of one payload alone.
+/// The same of what `deliver` says: a run that waits, or was refused memory, and the run that goes on from it are one run.
+pub fn run_goes_on()
+    ensures { RunGoesOn }
+{}
+
+/// A framing with anything behind it is the framing of one payload alone.
 pub fn unique_framing()
     ensures { UniqueFraming }
+{}
+
+/// What begins with framed payloads within the limit delivers them first, whatever follows.
+pub fn encoded_first()
+    ensures { EncodedFirst }
+{}
+
+/// Over any list of `encode`, `decode` and `reset_seq_id` on a new codec, the id expected is the number of chunks encoded
+/// and accepted since the last reset, modulo 256.
+pub fn chunks_counted()
+    ensures { ChunksCounted }
+{}
+
+/// A payload of n bytes is framed in n + 4 * (n / 16777215 + 1) bytes.
+pub fn framed_length()
+    ensures { FramedLength }
 {}

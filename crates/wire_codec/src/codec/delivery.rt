@@ -1,8 +1,8 @@
-// Packets from a input that comes in pieces.
-ghost use Rattle.std.specs.Prelude.{◌≡◌, ℕ, ◌+◌, ◌<◌, ◌≤◌, List, [], ◌∷◌, ◌++◌, length, take, drop, OnOk, vec_len, vec_capacity};
-ghost use Rattle.wire_codec.specs.Framing.{front};
-ghost use Rattle.wire_codec.specs.Codec.{expected_id, header_of, Stands, open_id};
-ghost use Rattle.wire_codec.specs.Runs.{payloads, joined, RunsTo, RunsOver, Waits};
+//! Packets from a stream that comes in pieces.
+
+ghost use Rattle.std.specs.Prelude.{◌≡◌, ◌≢◌, ℕ, ◌+◌, ◌<◌, ◌≤◌, List, [], ◌∷◌, ◌++◌, length, take, drop, Err, OnOk, vec_len, vec_capacity};
+ghost use Rattle.wire_codec.specs.Codec.{codec_state, first_id, input_of, Stands};
+ghost use Rattle.wire_codec.specs.Runs.{payloads, joined, RunsFrom, RunsTo, RunsOver, Waits};
 
 use crate::codec::error::PacketCodecError;
 use crate::codec::packet::PacketCodec;
@@ -28,12 +28,11 @@ fn drain<A: Allocator + Copy>(
     dst: &mut Vec<u8, A>,
     out: &mut Vec<Vec<u8, A>, A>,
 ) -> Result<(), PacketCodecError>
-    requires { Stands codec.old.max_allowed_packet (header_of codec.old) src.old.items dst.old.items }
-    ensures runs { (gained : List (List ℕ)) × (payloads out.new.items ≡ payloads out.old.items ++ gained)
-        × RunsTo (open_id (expected_id codec.old) dst.old.items)
-        (front (open_id (expected_id codec.old) dst.old.items) dst.old.items ++ src.old.items)
-        dst.old.items codec.old.max_allowed_packet result gained
-        (expected_id codec.new) (header_of codec.new) src.new.items dst.new.items }
+    requires { Stands (codec_state codec.old src.old.items dst.old.items) }
+    ensures runs { let before = codec_state codec.old src.old.items dst.old.items in
+        let after = codec_state codec.new src.new.items dst.new.items in
+        (gained : List (List ℕ)) × (payloads out.new.items ≡ payloads out.old.items ++ gained)
+        × RunsFrom (first_id before) (input_of before) before.held before.limit result gained after.id after.header after.unread after.held }
     ensures limit { codec.new.max_allowed_packet ≡ codec.old.max_allowed_packet }
 {
     'packets: loop {
@@ -48,8 +47,13 @@ fn drain<A: Allocator + Copy>(
     }
 }
 
-/// Decodes what `src` holds, then appends one piece after another and decodes after each, until a fault. The count is that
-/// of the pieces appended.
+/// Decodes what `src` holds, then appends one piece after another to `src` and decodes after each, until a fault. Each
+/// packet is moved from `dst` to the end of `out`. The answer is how many pieces were appended, and how the run ended: `Ok`
+/// where all were, and more bytes are needed.
+///
+/// It asks that the codec stands at the buffers, as a new one does at an empty `dst`; `stands_at` is the test. After
+/// everything but `PacketsOutOfSync` it stands again, so that the next call goes on; after `OutOfMemory`, with the pieces
+/// that were not appended.
 pub fn deliver<A: Allocator + Copy>(
     codec: &mut PacketCodec,
     src: &mut BytesMut<A>,
@@ -57,21 +61,19 @@ pub fn deliver<A: Allocator + Copy>(
     pieces: &[&[u8]],
     out: &mut Vec<Vec<u8, A>, A>,
 ) -> (usize, Result<(), PacketCodecError>)
-    requires { Stands codec.old.max_allowed_packet (header_of codec.old) src.old.items dst.old.items }
+    requires { Stands (codec_state codec.old src.old.items dst.old.items) }
+    ensures runs { let before = codec_state codec.old src.old.items dst.old.items in
+        let after = codec_state codec.new src.new.items dst.new.items in
+        (gained : List (List ℕ)) × (payloads out.new.items ≡ payloads out.old.items ++ gained)
+        × RunsTo before (joined (take result.0 pieces.now)) result.1 gained after
+        × RunsOver before (joined pieces.now) result.1 gained after (joined (drop result.0 pieces.now)) }
+
+    // So many pieces were appended, and with fewer of them the run only waits.
     ensures count { result.0 ≤ length pieces.now }
-    // Before the last piece that was appended the input only waits.
-    ensures waits { (j : ℕ) → j < result.0 → Waits (open_id (expected_id codec.old) dst.old.items)
-        (front (open_id (expected_id codec.old) dst.old.items) dst.old.items ++ src.old.items ++ joined (take j pieces.now))
-        dst.old.items codec.old.max_allowed_packet }
-    ensures runs { (gained : List (List ℕ)) × (payloads out.new.items ≡ payloads out.old.items ++ gained)
-        × RunsTo (open_id (expected_id codec.old) dst.old.items)
-        (front (open_id (expected_id codec.old) dst.old.items) dst.old.items ++ src.old.items ++ joined (take result.0 pieces.now))
-        dst.old.items codec.old.max_allowed_packet result.1 gained
-        (expected_id codec.new) (header_of codec.new) src.new.items dst.new.items
-        × RunsOver (open_id (expected_id codec.old) dst.old.items)
-        (front (open_id (expected_id codec.old) dst.old.items) dst.old.items ++ src.old.items ++ joined pieces.now)
-        dst.old.items codec.old.max_allowed_packet result.1 gained src.new.items (joined (drop result.0 pieces.now)) dst.new.items }
+    ensures least { (j : ℕ) → j < result.0 → Waits (codec_state codec.old src.old.items dst.old.items) (joined (take j pieces.now)) }
     ensures all { OnOk result.1 (result.0 ≡ length pieces.now) }
+
+    ensures stands { result.1 ≢ Err PacketCodecError.PacketsOutOfSync → Stands (codec_state codec.new src.new.items dst.new.items) }
     ensures limit { codec.new.max_allowed_packet ≡ codec.old.max_allowed_packet }
 {
     match drain(codec, src, dst, out) {

@@ -1,6 +1,6 @@
-// Whole packets.
-ghost use Rattle.std.specs.Prelude.{◌≡◌, ℕ, ◌+◌, ◌/◌, ◌%◌, ◌<◌, ◌≤◌, ◌↔◌, ◌⊎◌, OnOk, OnErr, IfErr, Err, List, [], length, None, true, IsTrue, slice_index, ◌++◌};
-ghost use Rattle.wire_codec.specs.Framing.{front};
+//! Whole packets.
+
+ghost use Rattle.std.specs.Prelude.{◌≡◌, ◌≢◌, ℕ, ◌+◌, ◌/◌, ◌%◌, ◌<◌, ◌≤◌, ◌↔◌, ◌⊎◌, OnOk, OnErr, IfErr, Err, List, [], length, None, true, IsTrue, slice_index, ◌++◌};
 ghost use Rattle.wire_codec.specs.Delivery.{IsWholeChunks, chunk_len};
 
 use crate::codec::chunk::{ChunkDecoder, ChunkInfo, PacketDst};
@@ -10,23 +10,45 @@ use crate::codec::header::Header;
 use crate::codec::room::{bytes_to_take, fits, whole_chunk};
 use bytes::{Buf, BytesMut};
 use std::alloc::Allocator;
-use wire_const::MAX_PAYLOAD_LEN;
+use wire_const::{DEFAULT_MAX_ALLOWED_PACKET, MAX_PAYLOAD_LEN};
 
-/// Packets from chunks, and chunks from packets, under one sequence id.
+/// Packets from chunks, and chunks from packets, under one sequence id, as a connection has it.
+///
+/// A command and its answers share the id: it is reset to 0 at the start of each command, and rises by one with each chunk
+/// that is encoded or decoded. `decode` goes on where the last call stopped, so the bytes may come in any pieces.
+///
+/// <https://dev.mysql.com/doc/dev/mysql-server/latest/page_protocol_basic_packets.html>
 #[derive(Debug, Drop)]
 pub struct PacketCodec {
-    /// The most bytes of a packet.
+    /// The most payload bytes of a packet. Any number may be set at any time; at 0 empty packets still pass.
     pub max_allowed_packet: usize,
     seq_id: u8,
     decoder: ChunkDecoder,
 }
 
-impl PacketCodec {
-    ghost use Rattle.wire_codec.specs.Codec.{expected_id, header_of, Stands};
+impl Default for PacketCodec {
+    ghost use Rattle.wire_codec.specs.Codec.{expected_id, header_of};
 
-    /// Whether `decode` may go on here: `dst` holds full chunks, and a remembered header stands at the front of `src`.
+    ghost is_default = { λ codec. (expected_id codec ≡ 0) × (header_of codec ≡ None) × (codec.max_allowed_packet ≡ 4194304) };
+
+    /// A codec at the start of a command, with the limit of 4 MiB.
+    fn default() -> Self {
+        PacketCodec {
+            max_allowed_packet: DEFAULT_MAX_ALLOWED_PACKET,
+            seq_id: 0,
+            decoder: ChunkDecoder::Idle,
+        }
+    }
+}
+
+impl PacketCodec {
+    ghost use Rattle.wire_codec.specs.Codec.{expected_id, header_of, codec_state, Stands, DecodesPacket, ChunkChain, HasChunk};
+    ghost use Rattle.wire_codec.specs.Framing.{framing, next_id};
+
+    /// Whether `decode` goes on here with the packet that it was at: `dst` holds full chunks alone, and a remembered header
+    /// is the one at the front of `src`, and still within the limit. A new codec stands at every `src` and an empty `dst`.
     pub fn stands_at(&self, src: &BytesMut<impl Allocator + Copy>, dst: &[u8]) -> bool
-        ensures { IsTrue result ↔ Stands self.now.max_allowed_packet (header_of self.now) src.now.items dst.now }
+        ensures { IsTrue result ↔ Stands (codec_state self.now src.now.items dst.now) }
     {
         if !is_whole(dst) {
             return false;
@@ -34,11 +56,94 @@ impl PacketCodec {
         match self.decoder {
             ChunkDecoder::Idle => true,
             ChunkDecoder::Chunk { seq_id, needed } => {
-                let front = src.as_slice();
-                has_header(front, seq_id, needed.get())
+                has_header(src.as_slice(), seq_id, needed.get())
                     && fits(dst.len(), needed.get(), self.max_allowed_packet)
             }
         }
+    }
+
+    /// Takes chunks from the front of `src` until a packet is whole, and puts their payload bytes behind what `dst` holds,
+    /// which grows once a call. The answer is whether `dst` now holds a whole packet. After false the call is made again
+    /// with the same `dst` and more bytes in `src`; after true, with an empty `dst`.
+    ///
+    /// `PacketTooLarge`: the chunk in front would take the packet past the limit. Its header is left in `src`.
+    /// `PacketsOutOfSync`: the chunk in front bore another id. It was taken, and its bytes stand in `dst`.
+    /// `OutOfMemory`: `dst` could not grow. Nothing is lost, and the call may be made again.
+    pub fn decode<T: PacketDst>(
+        &mut self,
+        src: &mut BytesMut<impl Allocator + Copy>,
+        dst: &mut T,
+    ) -> Result<bool, PacketCodecError>
+        ensures decodes { let before = codec_state self.old src.old.items (T.held dst.old) in
+            let after = codec_state self.new src.new.items (T.held dst.new) in
+            Stands before → DecodesPacket before result after }
+        // In every state it is a chain of single chunks.
+        ensures chain { let before = codec_state self.old src.old.items (T.held dst.old) in
+            let after = codec_state self.new src.new.items (T.held dst.new) in
+            (accepted : ℕ) × ChunkChain accepted before result after }
+        // After everything but a whole packet and a lost sync the codec stands again.
+        ensures stands { let before = codec_state self.old src.old.items (T.held dst.old) in
+            let after = codec_state self.new src.new.items (T.held dst.new) in
+            Stands before → (result ≢ Ok true) → (result ≢ Err PacketCodecError.PacketsOutOfSync) → Stands after }
+        // Memory is asked for only where a chunk is there to be taken.
+        ensures memory { result ≡ Err PacketCodecError.OutOfMemory → HasChunk (codec_state self.old src.old.items (T.held dst.old)) }
+
+        ensures shorter { result ≡ Ok true → length src.new.items < length src.old.items }
+        ensures limit { self.new.max_allowed_packet ≡ self.old.max_allowed_packet }
+    {
+        match self.make_room(src, dst) {
+            Ok(()) => self.take_chunks(src, dst),
+            Err(error) => Err(error),
+        }
+    }
+
+    /// Appends the packet's chunks to `dst` and empties the packet, where it has at most `max_allowed_packet` bytes. The ids
+    /// go on from the codec's.
+    ///
+    /// `PacketTooLarge`: the packet has more. `OutOfMemory`: `dst` could not grow. Neither changes anything.
+    pub fn encode<T: Buf>(
+        &mut self,
+        packet: &mut T,
+        dst: &mut BytesMut<impl Allocator + Copy>,
+    ) -> Result<(), PacketCodecError>
+        ensures appended { OnOk result (dst.new.items ≡ dst.old.items ++ framing (expected_id self.old) (T.unread packet.old)) }
+        ensures emptied { OnOk result (T.unread packet.new ≡ []) }
+        ensures next { OnOk result (expected_id self.new ≡ next_id (expected_id self.old) (T.unread packet.old)) }
+
+        ensures too_large { (result ≡ Err PacketCodecError.PacketTooLarge) ↔ (self.old.max_allowed_packet < length (T.unread packet.old)) }
+        ensures errors { IfErr result (λ error. (error ≡ PacketCodecError.PacketTooLarge) ⊎ (error ≡ PacketCodecError.OutOfMemory)) }
+        ensures err { OnErr result ((expected_id self.new ≡ expected_id self.old) × (packet.new ≡ packet.old) × (dst.new.items ≡ dst.old.items)) }
+
+        ensures header { header_of self.new ≡ header_of self.old }
+        ensures limit { self.new.max_allowed_packet ≡ self.old.max_allowed_packet }
+        ensures kept { T.kept packet.new ≡ T.kept packet.old }
+    {
+        if packet.remaining() > self.max_allowed_packet {
+            return Err(PacketCodecError::PacketTooLarge);
+        }
+        match packet_to_chunks(self.seq_id, packet, dst) {
+            Ok(id) => {
+                self.seq_id = id;
+                Ok(())
+            }
+            Err(_) => Err(PacketCodecError::OutOfMemory),
+        }
+    }
+
+    /// Sets the sequence id to 0, as at the start of a command.
+    pub fn reset_seq_id(&mut self)
+        ensures id { expected_id self.new ≡ 0 }
+        ensures header { header_of self.new ≡ header_of self.old }
+        ensures limit { self.new.max_allowed_packet ≡ self.old.max_allowed_packet }
+    {
+        self.seq_id = 0;
+    }
+
+    /// Changes nothing. It stands for the call by which a compressed connection carries its id over.
+    pub fn sync_seq_id(&mut self)
+        ensures { self.new ≡ self.old }
+    {
+        // Without compression there is one id.
     }
 }
 
@@ -53,9 +158,8 @@ enum Progress {
 }
 
 impl PacketCodec {
-    ghost use Rattle.wire_codec.specs.Codec.{expected_id, header_of, Stands, DecodesPacket, open_id, TakesChunk, LinksChain};
-    ghost use Rattle.wire_codec.specs.Chain.{ChunkChain};
-    ghost use Rattle.wire_codec.specs.OneChunk.{ChunkStep};
+    ghost use Rattle.wire_codec.specs.Codec.{expected_id, header_of, codec_state, first_id, input_of, Stands, DecodesPacket, ChunkChain, HasChunk, TakesChunk, LinksChain};
+    ghost use Rattle.wire_codec.specs.OneChunk.{DecodesChunk};
 
     // Takes one chunk.
     fn take_chunk<T: PacketDst>(
@@ -63,16 +167,14 @@ impl PacketCodec {
         src: &mut BytesMut<impl Allocator + Copy>,
         dst: &mut T,
     ) -> Result<Progress, PacketCodecError>
-        ensures takes { Stands self.old.max_allowed_packet (header_of self.old) src.old.items (T.held dst.old)
-            → TakesChunk (open_id (expected_id self.old) (T.held dst.old))
-            (front (open_id (expected_id self.old) (T.held dst.old)) (T.held dst.old) ++ src.old.items)
-            (T.held dst.old) self.old.max_allowed_packet result
+        ensures takes { let before = codec_state self.old src.old.items (T.held dst.old) in
+            Stands before → TakesChunk (first_id before) (input_of before) (T.held dst.old) self.old.max_allowed_packet result
             (expected_id self.new) (header_of self.new) src.new.items (T.held dst.new) }
-        ensures limit { self.new.max_allowed_packet ≡ self.old.max_allowed_packet }
         ensures links { LinksChain self.old.max_allowed_packet (expected_id self.old) (header_of self.old) src.old.items (T.held dst.old)
             result (expected_id self.new) (header_of self.new) src.new.items (T.held dst.new) }
         ensures more { result ≡ Ok Progress.More → length src.new.items < length src.old.items }
         ensures whole { result ≡ Ok Progress.Whole → length src.new.items < length src.old.items }
+        ensures limit { self.new.max_allowed_packet ≡ self.old.max_allowed_packet }
     {
         let expected = self.seq_id;
         match self.decoder.decode(src, dst, self.max_allowed_packet) {
@@ -89,7 +191,7 @@ impl PacketCodec {
                 if id != expected {
                     return Err(PacketCodecError::PacketsOutOfSync);
                 }
-                self.seq_id = id.wrapping_add(1);
+                self.seq_id = id.wrapping_add(1); // after 255 comes 0
                 if src.is_empty() {
                     Ok(Progress::Starved)
                 } else {
@@ -107,11 +209,12 @@ impl PacketCodec {
     ) -> Result<(), PacketCodecError>
         ensures ok { OnOk result (self.new ≡ self.old) }
         ensures memory { IfErr result (λ error. error ≡ PacketCodecError.OutOfMemory) }
-        ensures refused { OnErr result (ChunkStep (header_of self.old) src.now.items (T.held dst.old) self.old.max_allowed_packet
+        ensures refused { OnErr result (DecodesChunk (header_of self.old) src.now.items (T.held dst.old) self.old.max_allowed_packet
             (Err PacketCodecError.OutOfMemory) (header_of self.new) src.now.items (T.held dst.new)) }
-        ensures decodes { OnErr result (Stands self.old.max_allowed_packet (header_of self.old) src.now.items (T.held dst.old)
-            → DecodesPacket (T.held dst.old) src.now.items (expected_id self.old) self.old.max_allowed_packet (Err PacketCodecError.OutOfMemory)
-            (expected_id self.new) (header_of self.new) src.now.items (T.held dst.new)) }
+        ensures decodes { let before = codec_state self.old src.now.items (T.held dst.old) in
+            let after = codec_state self.new src.now.items (T.held dst.new) in
+            OnErr result (Stands before → DecodesPacket before (Err PacketCodecError.OutOfMemory) after) }
+        ensures there { OnErr result (HasChunk (codec_state self.old src.now.items (T.held dst.old))) }
         ensures id { expected_id self.new ≡ expected_id self.old }
         ensures limit { self.new.max_allowed_packet ≡ self.old.max_allowed_packet }
         ensures held { T.held dst.new ≡ T.held dst.old }
@@ -140,14 +243,14 @@ impl PacketCodec {
         src: &mut BytesMut<impl Allocator + Copy>,
         dst: &mut T,
     ) -> Result<bool, PacketCodecError>
-        ensures decodes { Stands self.old.max_allowed_packet (header_of self.old) src.old.items (T.held dst.old)
-            → DecodesPacket (T.held dst.old) src.old.items (expected_id self.old) self.old.max_allowed_packet result
-            (expected_id self.new) (header_of self.new) src.new.items (T.held dst.new) }
-        ensures limit { self.new.max_allowed_packet ≡ self.old.max_allowed_packet }
-        // In every state it is a chain of chunks.
-        ensures chain { (count : ℕ) × ChunkChain count self.old.max_allowed_packet (expected_id self.old) (header_of self.old) src.old.items (T.held dst.old)
-            result (expected_id self.new) (header_of self.new) src.new.items (T.held dst.new) }
+        ensures decodes { let before = codec_state self.old src.old.items (T.held dst.old) in
+            let after = codec_state self.new src.new.items (T.held dst.new) in
+            Stands before → DecodesPacket before result after }
+        ensures chain { let before = codec_state self.old src.old.items (T.held dst.old) in
+            let after = codec_state self.new src.new.items (T.held dst.new) in
+            (accepted : ℕ) × ChunkChain accepted before result after }
         ensures shorter { result ≡ Ok true → length src.new.items < length src.old.items }
+        ensures limit { self.new.max_allowed_packet ≡ self.old.max_allowed_packet }
     {
         'chunks: loop {
             match self.take_chunk(src, dst) {
@@ -156,27 +259,6 @@ impl PacketCodec {
                 Ok(Progress::More) => {}
                 Err(error) => return Err(error),
             }
-        }
-    }
-
-    /// Takes chunks from the front of `src` until a packet is whole, and puts their payload behind `dst`, which grows once.
-    pub fn decode<T: PacketDst>(
-        &mut self,
-        src: &mut BytesMut<impl Allocator + Copy>,
-        dst: &mut T,
-    ) -> Result<bool, PacketCodecError>
-        ensures decodes { Stands self.old.max_allowed_packet (header_of self.old) src.old.items (T.held dst.old)
-            → DecodesPacket (T.held dst.old) src.old.items (expected_id self.old) self.old.max_allowed_packet result
-            (expected_id self.new) (header_of self.new) src.new.items (T.held dst.new) }
-        ensures limit { self.new.max_allowed_packet ≡ self.old.max_allowed_packet }
-        // In every state it is a chain of chunks.
-        ensures chain { (count : ℕ) × ChunkChain count self.old.max_allowed_packet (expected_id self.old) (header_of self.old) src.old.items (T.held dst.old)
-            result (expected_id self.new) (header_of self.new) src.new.items (T.held dst.new) }
-        ensures shorter { result ≡ Ok true → length src.new.items < length src.old.items }
-    {
-        match self.make_room(src, dst) {
-            Ok(()) => self.take_chunks(src, dst),
-            Err(error) => Err(error),
         }
     }
 }
@@ -196,63 +278,5 @@ fn has_header(front: &[u8], id: u8, len: usize) -> bool
     match Header::read(front) {
         Some(header) => header.seq_id == id && header.len == len,
         None => false,
-    }
-}
-
-impl Default for PacketCodec {
-    ghost use Rattle.wire_codec.specs.Codec.{expected_id, header_of};
-
-    ghost is_default = { λ codec. (expected_id codec ≡ 0) × (header_of codec ≡ None) × (codec.max_allowed_packet ≡ 4194304) };
-
-    fn default() -> Self {
-        PacketCodec {
-            max_allowed_packet: 4194304,
-            seq_id: 0,
-            decoder: ChunkDecoder::Idle,
-        }
-    }
-}
-
-impl PacketCodec {
-    ghost use Rattle.wire_codec.specs.Codec.{expected_id, header_of};
-    ghost use Rattle.wire_codec.specs.Framing.{framing, next_id};
-
-    /// Appends a packet's chunks, if the packet is within the limit, and empties it.
-    pub fn encode<T: Buf>(
-        &mut self,
-        packet: &mut T,
-        dst: &mut BytesMut<impl Allocator + Copy>,
-    ) -> Result<(), PacketCodecError>
-        ensures appended { OnOk result (dst.new.items ≡ dst.old.items ++ framing (expected_id self.old) (T.unread packet.old)) }
-        ensures emptied { OnOk result (T.unread packet.new ≡ []) }
-        ensures next { OnOk result (expected_id self.new ≡ next_id (expected_id self.old) (T.unread packet.old)) }
-
-        ensures too_large { (result ≡ Err PacketCodecError.PacketTooLarge) ↔ (self.old.max_allowed_packet < length (T.unread packet.old)) }
-        ensures memory { IfErr result (λ error. (error ≡ PacketCodecError.PacketTooLarge) ⊎ (error ≡ PacketCodecError.OutOfMemory)) }
-        ensures err { OnErr result ((expected_id self.new ≡ expected_id self.old) × (packet.new ≡ packet.old) × (dst.new.items ≡ dst.old.items)) }
-
-        ensures header { header_of self.new ≡ header_of self.old }
-        ensures limit { self.new.max_allowed_packet ≡ self.old.max_allowed_packet }
-        ensures kept { T.kept packet.new ≡ T.kept packet.old }
-    {
-        if packet.remaining() > self.max_allowed_packet {
-            return Err(PacketCodecError::PacketTooLarge);
-        }
-        match packet_to_chunks(self.seq_id, packet, dst) {
-            Ok(id) => {
-                self.seq_id = id;
-                Ok(())
-            }
-            Err(_) => Err(PacketCodecError::OutOfMemory),
-        }
-    }
-
-    /// Sets the sequence id to 0.
-    pub fn reset_seq_id(&mut self)
-        ensures id { expected_id self.new ≡ 0 }
-        ensures header { header_of self.new ≡ header_of self.old }
-        ensures limit { self.new.max_allowed_packet ≡ self.old.max_allowed_packet }
-    {
-        self.seq_id = 0;
     }
 }

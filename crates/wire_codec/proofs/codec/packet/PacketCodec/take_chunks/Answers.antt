@@ -1,9 +1,9 @@
-use Rattle.std.proofs.Common.{ℕ, ◌++◌, sym, subst, refl, ap, ◌∙◌, arith, true, false, zero, suc, Ok, Err}
+use Rattle.std.proofs.Common.{ℕ, ◌++◌, sym, subst, refl, inl, inr, ap, ◌∙◌, arith, true, false, zero, suc, Ok, Err}
 use Rattle.wire_codec.specs.declared.codec.packet.Progress.{Progress}
 use Rattle.wire_codec.specs.declared.codec.packet.Progress.TheVariants.{Whole, Starved, More}
-use Rattle.wire_codec.specs.Chain.{ChunkChain}
+use Rattle.wire_codec.specs.Chain.{ChainFrom}
 use Rattle.wire_codec.specs.Framing.{front}
-use Rattle.wire_codec.specs.Codec.{open_id, header_of, expected_id, Stands, LinksChain}
+use Rattle.wire_codec.specs.Codec.{open_id, header_of, expected_id, StandsAt, LinksChain}
 use Rattle.wire_codec.proofs.CodecLemmas.{takes_later, splits_here, open_at_id, open_small, stands_without}
 use Rattle.wire_codec.proofs.codec.packet.PacketCodec.take_chunks.Goals as goal
 
@@ -13,8 +13,8 @@ returns-in-Err-clause-decodes g c stands =
     let first = open_id (expected_id c.args.self.now) (held c.args.dst.now) in
     let limit = c.args.self.now.max_allowed_packet in
     let inv = c.chunks.invariant.runs stands in
-    let here : Stands c.chunks.self.max_allowed_packet (header_of c.chunks.self) c.chunks.src.items (held c.chunks.dst) =
-    subst (λ (z : ℕ). Stands z (header_of c.chunks.self) c.chunks.src.items (held c.chunks.dst)) (sym c.chunks.invariant.same) inv.1 in
+    let here : StandsAt c.chunks.self.max_allowed_packet (header_of c.chunks.self) c.chunks.src.items (held c.chunks.dst) =
+    subst (λ (z : ℕ). StandsAt z (header_of c.chunks.self) c.chunks.src.items (held c.chunks.dst)) (sym c.chunks.invariant.same) inv.1 in
     takes_later (Err c.in-Err.error) (open_id (expected_id c.chunks.self) (held c.chunks.dst)) first c.chunks.self.max_allowed_packet limit
     (held c.args.dst.now) (front first (held c.args.dst.now) ++ c.args.src.now.items) (held c.chunks.dst) c.chunks.src.items
     (expected_id c.take_chunk.new.self) (header_of c.take_chunk.new.self) c.take_chunk.new.src.items (held c.take_chunk.new.dst)
@@ -39,20 +39,20 @@ chunks-preserved g c =
     (expected_id c.take_chunk.new.self) (header_of c.take_chunk.new.self) c.take_chunk.new.src.items (held c.take_chunk.new.dst)) c.chunks.invariant.same (rw c.in-Ok-More.field-0-is at c.in-Ok-More.ensures.links) in
     let takes = rw c.in-Ok-More.field-0-is at c.in-Ok-More.ensures.takes in
     record {
-      chain = λ n a i h r f t. c.chunks.invariant.chain (suc n) a i h r f (
+      chain = λ n a i h r f t. c.chunks.invariant.chain (suc n) a i h r f (inr (
         header_of c.take_chunk.new.self,
         c.take_chunk.new.src.items,
         held c.take_chunk.new.dst,
         links.0,
         links.1,
-        subst (λ (z : ℕ). ChunkChain n limit z (header_of c.take_chunk.new.self) c.take_chunk.new.src.items (held c.take_chunk.new.dst) a i h r f) links.2 t,
-      );
+        subst (λ (z : ℕ). ChainFrom n limit z (header_of c.take_chunk.new.self) c.take_chunk.new.src.items (held c.take_chunk.new.dst) a i h r f) links.2 t,
+      ));
       shorter = (let m = c.take_chunk.ensures.more (c.in-Ok-More.is ∙ ap (λ (z : Progress). Ok z) c.in-Ok-More.field-0-is) in omega arith);
       same = c.take_chunk.ensures.limit ∙ c.chunks.invariant.same;
       runs = λ stands.
           let inv = c.chunks.invariant.runs stands in
-          let here : Stands c.chunks.self.max_allowed_packet (header_of c.chunks.self) c.chunks.src.items (held c.chunks.dst) =
-          subst (λ (z : ℕ). Stands z (header_of c.chunks.self) c.chunks.src.items (held c.chunks.dst)) (sym c.chunks.invariant.same) inv.1 in
+          let here : StandsAt c.chunks.self.max_allowed_packet (header_of c.chunks.self) c.chunks.src.items (held c.chunks.dst) =
+          subst (λ (z : ℕ). StandsAt z (header_of c.chunks.self) c.chunks.src.items (held c.chunks.dst)) (sym c.chunks.invariant.same) inv.1 in
           let on = takes_later (Ok More) (open_id (expected_id c.chunks.self) (held c.chunks.dst)) first c.chunks.self.max_allowed_packet limit
           (held c.args.dst.now) (front first (held c.args.dst.now) ++ c.args.src.now.items) (held c.chunks.dst) c.chunks.src.items
           (expected_id c.take_chunk.new.self) (header_of c.take_chunk.new.self) c.take_chunk.new.src.items (held c.take_chunk.new.dst)
@@ -68,14 +68,17 @@ returns-in-Ok-Whole-clause-chain g c =
     let held = g.T.PacketDst.held in
     let links = subst (λ (z : ℕ). LinksChain z (expected_id c.chunks.self) (header_of c.chunks.self) c.chunks.src.items (held c.chunks.dst) (Ok Whole)
     (expected_id c.take_chunk.new.self) (header_of c.take_chunk.new.self) c.take_chunk.new.src.items (held c.take_chunk.new.dst)) c.chunks.invariant.same (rw c.in-Ok-Whole.field-0-is at c.in-Ok-Whole.ensures.links) in
-    c.chunks.invariant.chain zero (Ok true) (expected_id c.take_chunk.new.self) (header_of c.take_chunk.new.self) c.take_chunk.new.src.items (held c.take_chunk.new.dst) links
+    c.chunks.invariant.chain (suc zero) (Ok true) (expected_id c.take_chunk.new.self) (header_of c.take_chunk.new.self) c.take_chunk.new.src.items (held c.take_chunk.new.dst) (inl (refl, links))
 
 pub returns-in-Ok-Starved-clause-chain : goal.returns-in-Ok-Starved-clause-chain
 returns-in-Ok-Starved-clause-chain g c =
     let held = g.T.PacketDst.held in
     let links = subst (λ (z : ℕ). LinksChain z (expected_id c.chunks.self) (header_of c.chunks.self) c.chunks.src.items (held c.chunks.dst) (Ok Starved)
     (expected_id c.take_chunk.new.self) (header_of c.take_chunk.new.self) c.take_chunk.new.src.items (held c.take_chunk.new.dst)) c.chunks.invariant.same (rw c.in-Ok-Starved.field-0-is at c.in-Ok-Starved.ensures.links) in
-    c.chunks.invariant.chain zero (Ok false) (expected_id c.take_chunk.new.self) (header_of c.take_chunk.new.self) c.take_chunk.new.src.items (held c.take_chunk.new.dst) links
+    elim links [
+      | inl accepted ↦ c.chunks.invariant.chain (suc zero) (Ok false) (expected_id c.take_chunk.new.self) (header_of c.take_chunk.new.self) c.take_chunk.new.src.items (held c.take_chunk.new.dst) (inl (refl, accepted))
+      | inr refused ↦ c.chunks.invariant.chain zero (Ok false) (expected_id c.take_chunk.new.self) (header_of c.take_chunk.new.self) c.take_chunk.new.src.items (held c.take_chunk.new.dst) refused
+    ]
 
 pub returns-in-Err-clause-chain : goal.returns-in-Err-clause-chain
 returns-in-Err-clause-chain g c =

@@ -1,0 +1,27 @@
+//! The library's functions, as they are exported: a slice is a pointer and a length, and every number has 64 bits.
+
+unsafe extern "C" {
+    fn mw_frame(ptr: *const u8, len: usize, count: u64, form: u64, reps: u64) -> u64;
+    fn mw_append(ptr: *const u8, len: usize, piece: u64, reps: u64) -> u64;
+    fn mw_decode(ptr: *const u8, len: usize, piece: u64, limit: u64, reps: u64) -> u64;
+    fn mw_decode_fresh(ptr: *const u8, len: usize, piece: u64, limit: u64, reps: u64) -> u64;
+}
+
+/// A payload framed `count` times a repetition: form 0 by `packet_to_chunks`, form 1 by `PacketCodec::encode`.
+pub fn frame(bytes: &[u8], count: u64, form: u64, reps: u64) -> u64 {
+    unsafe { mw_frame(bytes.as_ptr(), bytes.len(), count, form, reps) }
+}
+
+/// A stream appended in pieces and advanced over.
+pub fn append(bytes: &[u8], piece: u64, reps: u64) -> u64 {
+    unsafe { mw_append(bytes.as_ptr(), bytes.len(), piece, reps) }
+}
+
+/// A stream of whole packets decoded in pieces, into one buffer or a new one for each packet.
+pub fn decode(bytes: &[u8], piece: u64, limit: u64, fresh: bool, reps: u64) -> u64 {
+    if fresh {
+        unsafe { mw_decode_fresh(bytes.as_ptr(), bytes.len(), piece, limit, reps) }
+    } else {
+        unsafe { mw_decode(bytes.as_ptr(), bytes.len(), piece, limit, reps) }
+    }
+}

@@ -1,0 +1,174 @@
+//! Framing and decoding.
+
+use crate::inputs::{MAX_PAYLOAD_LEN, Numbers, framing};
+use crate::library;
+use crate::timing::Row;
+
+fn ends(bytes: &[u8]) -> u64 {
+    match (bytes.first(), bytes.last()) {
+        (Some(first), Some(last)) => 65536 * *first as u64 + *last as u64,
+        _ => 0,
+    }
+}
+
+fn summary(bytes: &[u8]) -> u64 {
+    bytes.len() as u64 + ends(bytes)
+}
+
+fn size_name(size: usize) -> String {
+    match size {
+        s if s >= 1 << 20 && s % (1 << 20) == 0 => format!("{} MiB", s >> 20),
+        s if s >= 1 << 10 && s % (1 << 10) == 0 => format!("{} KiB", s >> 10),
+        s => format!("{s} B"),
+    }
+}
+
+// How many packets of a size make about a quarter of a megabyte, at least one.
+fn count_for(size: usize) -> usize {
+    (1 << 18) / size.max(16) + 1
+}
+
+fn frame_row(rows: &mut Vec<Row>, size: usize, form: u64) {
+    let payload = Numbers::new(size as u64 + 1).bytes(size);
+    let count = count_for(size);
+    let mut framed = Vec::new();
+    let mut id = 0;
+    for _ in 0..count {
+        id = framing(id, &payload, &mut framed);
+    }
+    let want = summary(&framed) + if form == 0 { id as u64 } else { 0 };
+    let (copied, mut out) = (payload.clone(), Vec::with_capacity(framed.len()));
+    rows.push(Row {
+        name: format!("{} {}", if form == 0 { "packet_to_chunks" } else { "encode" }, size_name(size)),
+        items: count as u64,
+        bytes: (size * count) as u64,
+        call: Box::new(move |reps| library::frame(&payload, count as u64, form, reps)),
+        want,
+        copy: Box::new(move |reps| {
+            for _ in 0..reps {
+                out.clear();
+                for _ in 0..count {
+                    out.extend_from_slice(std::hint::black_box(&copied));
+                }
+            }
+            out.len() as u64
+        }),
+    });
+}
+
+// The same bytes copied in the same steps, with the lengths of the chunks known beforehand: each piece behind what is there,
+// each chunk's payload to another buffer once it is whole, and what is left moved to the front where that is less than what
+// was taken.
+fn copy_steps(stream: &[u8], step: usize, lens: &[(usize, bool)], fresh: bool, src: &mut Vec<u8>, dst: &mut Vec<u8>) -> u64 {
+    let mut sum = 0u64;
+    let mut taken = 0;
+    let mut next = lens.iter();
+    let mut chunk = next.next();
+    src.clear();
+    for part in stream.chunks(step) {
+        if taken >= src.len() - taken {
+            src.copy_within(taken.., 0);
+            src.truncate(src.len() - taken);
+            taken = 0;
+        }
+        src.extend_from_slice(std::hint::black_box(part));
+        while let Some((len, last)) = chunk.filter(|(len, _)| src.len() - taken >= 4 + len) {
+            dst.extend_from_slice(&src[taken + 4..taken + 4 + len]);
+            taken += 4 + len;
+            if *last {
+                sum += dst.len() as u64;
+                if fresh {
+                    *dst = Vec::new();
+                } else {
+                    dst.clear();
+                }
+            }
+            chunk = next.next();
+        }
+    }
+    sum
+}
+
+// Packets of a size, decoded from pieces.
+fn decode_row(rows: &mut Vec<Row>, size: usize, piece: usize, fresh: bool) {
+    let mut numbers = Numbers::new(size as u64 * 3 + piece as u64);
+    let count = count_for(size);
+    let mut stream = Vec::new();
+    let mut lens = Vec::new();
+    let mut want = 0u64;
+    let mut id = 0;
+    for _ in 0..count {
+        let payload = numbers.bytes(size);
+        id = framing(id, &payload, &mut stream);
+        want = want.wrapping_add(summary(&payload));
+        lens.extend((0..size / MAX_PAYLOAD_LEN).map(|_| (MAX_PAYLOAD_LEN, false)));
+        lens.push((size % MAX_PAYLOAD_LEN, true));
+    }
+    let limit = size.max(1) as u64;
+    let step = if piece == 0 { stream.len() } else { piece };
+    let copied = stream.clone();
+    let (mut src, mut dst) = (Vec::new(), Vec::new());
+    rows.push(Row {
+        name: format!(
+            "decode {} by {}{}",
+            size_name(size),
+            if piece == 0 { "all".to_string() } else { size_name(piece) },
+            if fresh { ", fresh" } else { "" }
+        ),
+        items: count as u64,
+        bytes: (size * count) as u64,
+        call: Box::new(move |reps| library::decode(&stream, piece as u64, limit, fresh, reps)),
+        want,
+        copy: Box::new(move |reps| {
+            let mut sum = 0u64;
+            for _ in 0..reps {
+                sum = sum.wrapping_add(copy_steps(&copied, step, &lens, fresh, &mut src, &mut dst));
+            }
+            sum
+        }),
+    });
+}
+
+fn append_row(rows: &mut Vec<Row>, piece: usize) {
+    let stream = Numbers::new(piece as u64).bytes(1 << 18);
+    let want = stream.chunks(piece).map(ends).fold(0u64, u64::wrapping_add);
+    let copied = stream.clone();
+    let mut src = Vec::with_capacity(piece);
+    rows.push(Row {
+        name: format!("append and advance by {}", size_name(piece)),
+        items: stream.chunks(piece).count() as u64,
+        bytes: stream.len() as u64,
+        call: Box::new(move |reps| library::append(&stream, piece as u64, reps)),
+        want,
+        copy: Box::new(move |reps| {
+            let mut sum = 0u64;
+            for _ in 0..reps {
+                for part in copied.chunks(piece) {
+                    src.clear();
+                    src.extend_from_slice(std::hint::black_box(part));
+                    sum += src.len() as u64;
+                }
+            }
+            sum
+        }),
+    });
+}
+
+pub fn rows(rows: &mut Vec<Row>) {
+    for size in [16, 256, 4 << 10, 64 << 10, 1 << 20, 20 << 20] {
+        frame_row(rows, size, 0);
+    }
+    for size in [16, 4 << 10, 1 << 20] {
+        frame_row(rows, size, 1);
+    }
+    for piece in [16, 1460, 64 << 10] {
+        append_row(rows, piece);
+    }
+    for size in [16, 256, 4 << 10, 64 << 10, 1 << 20, 20 << 20] {
+        decode_row(rows, size, 0, false);
+        decode_row(rows, size, 1460, false);
+    }
+    for size in [16, 4 << 10, 1 << 20] {
+        decode_row(rows, size, 0, true);
+    }
+}

@@ -1,0 +1,3 @@
+pub mod InputLemmas
+pub mod UnframeLemmas
+pub mod WordLemmas

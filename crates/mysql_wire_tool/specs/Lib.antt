@@ -1,0 +1,4 @@
+pub mod Numbers
+pub mod Texts
+pub mod Unframe
+pub mod Words

@@ -1,0 +1,37 @@
+//! `frame ID`: the framing of the whole input.
+
+ghost use Rattle.std.specs.Io.KnownBytes.{Appends, IsAtEnd};
+ghost use Rattle.mysql_wire_tool.specs.Texts.{FrameEnds};
+
+use crate::input::read_whole;
+use crate::output::write_text;
+use crate::status::Stop;
+use bytes::BytesMut;
+use mysql_wire::proto::codec::packet_to_chunks;
+use std::alloc::Allocator;
+use std::io::{Read, Write};
+
+/// Reads the whole input as one payload, and writes its chunks numbered from `id` on. The answer is the exit status: 0
+/// where all was written, 2 where a read or a write failed, 6 where memory was refused.
+pub fn run_frame<R: Read, W: Write>(
+    alloc: impl Allocator + Copy,
+    id: u8,
+    input: &mut R,
+    output: &mut W,
+) -> u8
+    ensures { FrameEnds id result (R.remaining input.old) (R.remaining input.new) (W.contents output.old) (W.contents output.new) }
+{
+    let mut payload = match read_whole(alloc, input) {
+        Ok(whole) => whole,
+        Err(stop) => return stop.status(),
+    };
+    let mut framed = BytesMut::new(alloc);
+    match packet_to_chunks(id, &mut payload, &mut framed) {
+        Ok(_) => {}
+        Err(_) => return Stop::Memory.status(),
+    }
+    match write_text(output, framed.as_slice()) {
+        Ok(()) => 0,
+        Err(stop) => stop.status(),
+    }
+}
