@@ -19,6 +19,8 @@ pub enum Step<'a> {
     Limit(usize),
     /// The sequence id becomes 0.
     Reset,
+    /// `sync_seq_id` is called, which changes nothing.
+    Sync,
     /// These bytes come in behind `src`.
     Comes(&'a [u8]),
     /// So many bytes `42` come in behind `src`.
@@ -113,6 +115,7 @@ impl<A: Allocator + Copy, T: Target<A>> Bench<T, A> {
             Step::Fresh => self.codec = PacketCodec::default(),
             Step::Limit(limit) => self.codec.max_allowed_packet = limit,
             Step::Reset => self.codec.reset_seq_id(),
+            Step::Sync => self.codec.sync_seq_id(),
             Step::Comes(bytes) => self.src.extend_from_slice(bytes)?,
             Step::ComesMany(len) => self.comes_many(len)?,
             Step::Src(bytes) => self.src = BytesMut::copy_from_slice(self.alloc, bytes)?,

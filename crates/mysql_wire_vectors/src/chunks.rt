@@ -325,11 +325,16 @@ fn a_packet_goes_on_where_whole_chunks_are_held(rt: HostRuntime) -> Result<(), F
 
 // Whether an empty chunk is the last one of a packet of full chunks.
 fn empty_chunk_ends(alloc: Global) -> Result<bool, AllocError> {
-    let mut decoder = ChunkDecoder::Idle;
+    let mut decoder = ChunkDecoder::default();
     let mut src = BytesMut::copy_from_slice(alloc, b"\0\0\0\x01")?;
     let mut dst = Vec::from_elem(alloc, FILL, MAX_PAYLOAD_LEN)?;
     let told = Told::of_chunk(decoder.decode(&mut src, &mut dst, 0));
-    Ok(told == Told::Last(1) && src.is_empty() && dst.len() == MAX_PAYLOAD_LEN)
+    Ok(
+        told == Told::Last(1)
+            && decoder == ChunkDecoder::Idle
+            && src.is_empty()
+            && dst.len() == MAX_PAYLOAD_LEN,
+    )
 }
 
 #[test]

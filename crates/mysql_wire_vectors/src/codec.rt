@@ -175,6 +175,7 @@ fn encoding_and_decoding_share_one_id(rt: HostRuntime) -> Result<(), Fail> {
         // A refused packet raises nothing.
         Step::Limit(1),
         Step::Encode(b"ab", Told::TooLarge),
+        Step::Sync,
         Step::Encode(b"a", Told::Done),
         Step::Left(b"\x01\0\0\x02\x61"),
     ];
@@ -193,6 +194,7 @@ fn a_codec_stands_where_its_header_is(rt: HostRuntime) -> Result<(), Fail> {
         // Behind a header.
         Step::Src(b"\x02\0\0\0"),
         Step::Decode(Told::Waits),
+        Step::Sync,
         Step::Stands(true),
         Step::StandsAt(b"\x02\0\0\0\x61\x62\x63", b"", true),
         Step::StandsAt(b"\x02\0\0", b"", false),

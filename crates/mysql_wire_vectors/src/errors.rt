@@ -87,6 +87,10 @@ fn codec_errors_show_their_texts(rt: HostRuntime) -> Result<(), Fail> {
             PacketCodecError::Io(io::Error::other("gone")),
             "IO error: `gone'",
         ),
+        (
+            PacketCodecError::PacketTooLarge,
+            "Packet is larger than max_allowed_packet",
+        ),
         (PacketCodecError::PacketsOutOfSync, "Packets out of sync"),
         (PacketCodecError::OutOfMemory, "Out of memory"),
     ];
