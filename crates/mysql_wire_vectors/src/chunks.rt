@@ -11,9 +11,9 @@ use std::num::NonZeroUsize;
 use std::test::Fail;
 
 // The header that a decoder remembers: its id, and the bytes that it needs. None is `Idle`.
-type State = Option<(u8, usize)>;
+pub type State = Option<(u8, usize)>;
 
-fn decoder(state: State) -> ChunkDecoder {
+pub fn decoder_of(state: State) -> ChunkDecoder {
     match state {
         Some((seq_id, needed)) => match NonZeroUsize::new(needed) {
             Some(needed) => ChunkDecoder::Chunk { seq_id, needed },
@@ -37,14 +37,14 @@ struct Row<'a> {
 }
 
 fn goes<T: Target<Global>>(alloc: Global, row: Row) -> Result<bool, AllocError> {
-    let mut decoder = decoder(row.state);
+    let mut decoder = decoder_of(row.state);
     let mut src = BytesMut::copy_from_slice(alloc, row.src)?;
     let mut dst = T::empty(alloc);
     let put = dst.put_slice(row.held).is_ok();
     let told = Told::of_chunk(decoder.decode(&mut src, &mut dst, row.limit));
     Ok(
         put && told == row.told
-            && decoder == self::decoder(row.new_state)
+            && decoder == decoder_of(row.new_state)
             && src.as_slice() == row.left
             && dst.as_ref() == row.new_held,
     )
@@ -264,7 +264,7 @@ fn finishes(
     held: usize,
     told: Told,
 ) -> Result<bool, AllocError> {
-    let state = decoder(Some((9, needed)));
+    let state = decoder_of(Some((9, needed)));
     let mut decoder = state;
     let mut src = BytesMut::copy_from_slice(alloc, b"\x01\x02\x03\x04")?;
     let bytes = Vec::from_elem(alloc, FILL, there)?;

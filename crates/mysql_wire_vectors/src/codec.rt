@@ -1,7 +1,8 @@
 //! Packets, one call of the codec at a time.
 
-use crate::bench::{Bench, FILL, Step, play};
-use crate::targets::{Counting, Target};
+use crate::bench::{Bench, Step, play};
+use crate::plain::framed_len;
+use crate::targets::Counting;
 use crate::told::{Told, ensure};
 use bytes::BytesMut;
 use mysql_wire::constants::MAX_PAYLOAD_LEN;
@@ -409,4 +410,59 @@ fn large_packets(rt: HostRuntime) -> Result<(), Fail> {
         Step::Left(b"\0\0\0\x07"),
     ];
     play_all(rt.alloc(), &steps)
+}
+
+// A packet of so many bytes at a limit of its length, at one more, and at one less: then the chunk
+// with its last byte is refused, and so many bytes are held.
+fn play_at_limits(alloc: Global, len: usize, held: usize) -> Result<(), Fail> {
+    let below = len.saturating_sub(1);
+    let eaten = held.saturating_add((held / MAX_PAYLOAD_LEN).saturating_mul(4));
+    let steps = [
+        Step::Limit(len),
+        Step::EncodeMany(len, Told::Done),
+        Step::LeftMany(framed_len(len)),
+        Step::Reset,
+        Step::Decode(Told::Whole),
+        Step::HeldMany(len),
+        Step::Left(b""),
+        Step::Dst(b""),
+        Step::Reset,
+        Step::Limit(len.saturating_add(1)),
+        Step::EncodeMany(len, Told::Done),
+        Step::Reset,
+        Step::Decode(Told::Whole),
+        Step::HeldMany(len),
+        Step::Dst(b""),
+        Step::Reset,
+        Step::EncodeMany(len, Told::Done),
+        Step::Reset,
+        Step::Limit(below),
+        Step::Decode(Told::TooLarge),
+        Step::HeldMany(held),
+        Step::LeftMany(framed_len(len).saturating_sub(eaten)),
+        Step::Stands(true),
+        Step::EncodeMany(len, Told::TooLarge),
+        Step::LeftMany(framed_len(len).saturating_sub(eaten)),
+    ];
+    play::<Vec<u8>>(alloc, &steps)
+}
+
+#[test]
+fn packets_pass_at_a_limit_of_their_length(rt: HostRuntime) -> Result<(), Fail> {
+    let rows = [
+        (1, 0),
+        (2, 0),
+        (MAX_PAYLOAD_LEN - 1, 0),
+        (MAX_PAYLOAD_LEN, 0),
+        (MAX_PAYLOAD_LEN + 1, MAX_PAYLOAD_LEN),
+        (MAX_PAYLOAD_LEN + 2, MAX_PAYLOAD_LEN),
+        (2 * MAX_PAYLOAD_LEN - 1, MAX_PAYLOAD_LEN),
+        (2 * MAX_PAYLOAD_LEN, MAX_PAYLOAD_LEN),
+        (2 * MAX_PAYLOAD_LEN + 1, 2 * MAX_PAYLOAD_LEN),
+        (2 * MAX_PAYLOAD_LEN + 2, 2 * MAX_PAYLOAD_LEN),
+    ];
+    for (len, held) in rows {
+        play_at_limits(rt.alloc(), len, held)?;
+    }
+    Ok(())
 }

@@ -19,7 +19,7 @@ pub struct Case<'a> {
 }
 
 // The least number of pieces that brings what shows the fault; all of them where there is none.
-fn least_count(shown_at: usize, there: usize, pieces: &[&[u8]]) -> usize {
+pub fn least_count(shown_at: usize, there: usize, pieces: &[&[u8]]) -> usize {
     let mut there = there;
     for (i, piece) in pieces.iter().enumerate() {
         if there >= shown_at {
@@ -154,7 +154,7 @@ fn all_cuttings_agree(alloc: Global, case: &Case) -> Result<bool, AllocError> {
 }
 
 // Whether a stream is read as these packets, with this fault, these bytes held, and so many left.
-fn is_read(reading: &Reading, packets: &[&[u8]], told: Told, held: &[u8], left: usize) -> bool {
+pub fn is_read(reading: &Reading, packets: &[&[u8]], told: Told, held: &[u8], left: usize) -> bool {
     let mut same = reading.packets.len() == packets.len();
     for (packet, wanted) in reading.packets.iter().zip(packets) {
         same = same && packet.as_slice() == *wanted;

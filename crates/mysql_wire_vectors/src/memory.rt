@@ -2,7 +2,8 @@
 //! how it goes on; and the calls that ask for none.
 
 use crate::bench::Bench;
-use crate::cutting::{Case, left_of};
+use crate::chunks::decoder_of;
+use crate::cutting::{Case, is_read, least_count, left_of};
 use crate::line::Line;
 use crate::made_up::{Dice, Stream, pieces_of};
 use crate::targets::{Counting, Target};
@@ -10,7 +11,7 @@ use crate::told::{Facts, Told, ensure};
 use bytes::{Buf, BytesMut};
 use mysql_wire::constants::MAX_PAYLOAD_LEN;
 use mysql_wire::io::WireError;
-use mysql_wire::proto::codec::packet_to_chunks;
+use mysql_wire::proto::codec::{ChunkDecoder, packet_to_chunks};
 use refusing::{NEVER, Refusing};
 use std::alloc::{AllocError, Global};
 use std::test::Fail;
@@ -225,6 +226,37 @@ fn a_put_refused_after_the_growth_leaves_the_chunks_before(rt: HostRuntime) -> R
     put_refused(rt.alloc(), 2, 2 * MAX_PAYLOAD_LEN, 5)
 }
 
+// Whether a decoder that takes a chunk whose put is refused remembers its header, and goes on.
+fn chunk_put_refused(alloc: Global) -> Result<(), Fail> {
+    let mut facts = Facts::new();
+    let mut decoder = ChunkDecoder::Idle;
+    let mut src = BytesMut::copy_from_slice(alloc, b"\x02\0\0\x07ab")?;
+    let mut dst = Counting::<Global>::empty(alloc);
+    dst.puts_left = 0;
+    let told = Told::of_chunk(decoder.decode(&mut src, &mut dst, 2));
+    facts.see(told == Told::OutOfMemory, "the put is refused");
+    facts.see(
+        src.as_slice() == b"\x02\0\0\x07ab".as_slice(),
+        "nothing is taken",
+    );
+    facts.see(dst.bytes.is_empty(), "nothing is put");
+    let remembered = decoder_of(Some((7, 2)));
+    facts.see(decoder == remembered, "the header is remembered");
+    // It is not judged again.
+    let told = Told::of_chunk(decoder.decode(&mut src, &mut dst, 0));
+    facts.see(told == Told::Last(7), "the next call");
+    facts.see(
+        dst.bytes.as_slice() == b"ab".as_slice(),
+        "the bytes are there",
+    );
+    facts.end()
+}
+
+#[test]
+fn a_chunk_whose_put_is_refused_is_remembered(rt: HostRuntime) -> Result<(), Fail> {
+    chunk_put_refused(rt.alloc())
+}
+
 // A growth is refused where a full chunk is held already.
 fn second_growth_refused(heap: &Heap) -> Result<(), Fail> {
     let mut facts = Facts::new();
@@ -308,7 +340,16 @@ fn deliver_refused(
         });
     }
     let left = left_of(alloc, line.src.as_slice(), pieces, count)?;
+    let least = least_count(case.reading.shown_at, 0, pieces);
+    ensure(
+        count == least,
+        "no more pieces were appended than are needed",
+    )?;
     ensure(case.ends(&line, told, left.as_slice()), "nothing is lost")?;
+    ensure(
+        line.next_id(&heap) == Some(case.reading.next_id),
+        "no id is raised twice",
+    )?;
     Ok(refused)
 }
 
@@ -319,6 +360,10 @@ const TWO: &[u8] = b"\x03\0\0\x00123\x01\0\0\x01\xff\0";
 fn deliver_refused_goes_on(rt: HostRuntime) -> Result<(), Fail> {
     let pieces: [&[u8]; 5] = [b"\x03", b"\0\0", b"\x001", b"", b"23\x01\0\0\x01\xff\0"];
     let case = Case::new(rt.alloc(), 0, 4194304, TWO)?;
+    ensure(
+        is_read(&case.reading, &[b"123", b"\xff"], Told::Waits, b"", 12),
+        "the reading",
+    )?;
     for nth in 0..MOST {
         if deliver_refused(rt.alloc(), &case, &pieces, nth, Refusals::One)? == 0 {
             return ensure(nth > 3, "several requests were refused");
