@@ -162,54 +162,84 @@ pub fn is_read(reading: &Reading, packets: &[&[u8]], told: Told, held: &[u8], le
     same && reading.told == told && reading.held.as_slice() == held && reading.left == left
 }
 
+// A stream from id 0 on, and what every cutting of it must show.
+#[derive(Clone, Copy)]
+struct Row<'a> {
+    stream: &'a [u8],
+    limit: usize,
+    packets: &'a [&'a [u8]],
+    told: Told,
+    held: &'a [u8],
+    left: usize,
+    shown_at: usize,
+}
+
+fn cuttings_show(alloc: Global, row: Row) -> Result<bool, AllocError> {
+    let case = Case::new(alloc, 0, row.limit, row.stream)?;
+    let read = is_read(&case.reading, row.packets, row.told, row.held, row.left);
+    Ok(read && case.reading.shown_at == row.shown_at && all_cuttings_agree(alloc, &case)?)
+}
+
 #[test]
 fn all_8192_cuttings_of_a_good_stream_agree(rt: HostRuntime) -> Result<(), Fail> {
-    let stream = b"\x01\0\0\0\x61\x01\0\0\x01\x62\0\0\0\x02".as_slice();
-    let case = Case::new(rt.alloc(), 0, 1, stream)?;
-    let packets: [&[u8]; 3] = [b"a", b"b", b""];
+    let row = Row {
+        stream: b"\x01\0\0\0\x61\x01\0\0\x01\x62\0\0\0\x02",
+        limit: 1,
+        packets: &[b"a", b"b", b""],
+        told: Told::Waits,
+        held: b"",
+        left: 14,
+        shown_at: usize::MAX,
+    };
+    ensure(cutting_count(row.stream) == 8192, "the number of cuttings")?;
     ensure(
-        is_read(&case.reading, &packets, Told::Waits, b"", 14),
-        "three packets",
-    )?;
-    ensure(cutting_count(stream) == 8192, "the number of cuttings")?;
-    ensure(all_cuttings_agree(rt.alloc(), &case)?, "each cutting")
+        cuttings_show(rt.alloc(), row)?,
+        "three packets in each cutting",
+    )
 }
 
 #[test]
 fn all_cuttings_stop_at_the_same_fault(rt: HostRuntime) -> Result<(), Fail> {
-    // The header of a packet past the limit is whole with the ninth byte.
-    let stray = b"\x01\0\0\0\x61\x03\0\0\x09\x62".as_slice();
-    let case = Case::new(rt.alloc(), 0, 2, stray)?;
+    // A packet, and one of another id, whose header is whole with the ninth byte.
+    let too_large = Row {
+        stream: b"\x01\0\0\0\x61\x03\0\0\x09\x62\x63\x64",
+        limit: 2,
+        packets: &[b"a"],
+        told: Told::TooLarge,
+        held: b"",
+        left: 5,
+        shown_at: 9,
+    };
+    ensure(cuttings_show(rt.alloc(), too_large)?, "past the limit")?;
+    let out_of_sync = Row {
+        limit: 3,
+        told: Told::OutOfSync,
+        held: b"bcd",
+        left: 12,
+        shown_at: 12,
+        ..too_large
+    };
+    ensure(cuttings_show(rt.alloc(), out_of_sync)?, "of another id")?;
+    let waiting = Row {
+        stream: b"\x01\0\0\0\x61\x03\0\0\x09\x62",
+        told: Told::Waits,
+        held: b"",
+        left: 5,
+        shown_at: usize::MAX,
+        ..out_of_sync
+    };
     ensure(
-        is_read(&case.reading, &[b"a"], Told::TooLarge, b"", 5),
-        "too large",
+        cutting_count(waiting.stream) == 512,
+        "the number of cuttings",
     )?;
-    ensure(case.reading.shown_at == 9, "the ninth byte shows it")?;
+    ensure(cuttings_show(rt.alloc(), waiting)?, "not whole")?;
+    let too_large_too = Row {
+        stream: waiting.stream,
+        ..too_large
+    };
     ensure(
-        all_cuttings_agree(rt.alloc(), &case)?,
-        "each cutting of the header",
-    )?;
-    // Within the limit it waits.
-    let case = Case::new(rt.alloc(), 0, 3, stray)?;
-    ensure(
-        is_read(&case.reading, &[b"a"], Told::Waits, b"", 5),
-        "it waits",
-    )?;
-    ensure(
-        all_cuttings_agree(rt.alloc(), &case)?,
-        "each cutting that waits",
-    )?;
-    // And its chunk is of another id.
-    let whole = b"\x01\0\0\0\x61\x03\0\0\x09\x62\x63\x64".as_slice();
-    let case = Case::new(rt.alloc(), 0, 3, whole)?;
-    ensure(
-        is_read(&case.reading, &[b"a"], Told::OutOfSync, b"bcd", 12),
-        "out of sync",
-    )?;
-    ensure(case.reading.shown_at == 12, "the last byte shows it")?;
-    ensure(
-        all_cuttings_agree(rt.alloc(), &case)?,
-        "each cutting of the chunk",
+        cuttings_show(rt.alloc(), too_large_too)?,
+        "not whole, and past the limit",
     )
 }
 
@@ -498,24 +528,14 @@ fn larger_limit_goes_on(alloc: Global, seed: u64) -> Result<bool, AllocError> {
     let mut stream = Stream::well_formed(alloc, &mut dice, 0)?;
     stream.damage(&mut dice);
     let bytes = stream.bytes.as_slice();
-    let case = Case::new(alloc, 0, usize::MAX, bytes)?;
     let pieces = pieces_of(alloc, &mut dice, bytes)?;
+    let case = Case::new(alloc, 0, usize::MAX, bytes)?;
     let mut line = Line::<Global>::new(alloc, stream.limit(&mut dice));
-    let Some((count, told)) = line.deliver(pieces.as_slice()) else {
+    let Some((count, told)) = line.deliver_raised(pieces.as_slice()) else {
         return Ok(false);
     };
-    line.codec.max_allowed_packet = usize::MAX;
-    let mut end = (count, told);
-    if told == Told::TooLarge {
-        let left = pieces.as_slice();
-        let (_, left) = left.split_at(count.min(left.len()));
-        end = match line.deliver(left) {
-            Some((more, told)) => (count.wrapping_add(more), told),
-            None => return Ok(false),
-        };
-    }
-    let left = left_of(alloc, line.src.as_slice(), pieces.as_slice(), end.0)?;
-    Ok(case.ends(&line, end.1, left.as_slice()))
+    let left = left_of(alloc, line.src.as_slice(), pieces.as_slice(), count)?;
+    Ok(case.ends(&line, told, left.as_slice()))
 }
 
 #[test]

@@ -67,13 +67,24 @@ impl<A: Allocator + Copy> Line<A> {
     /// The same in two runs, the first over so many pieces.
     pub fn deliver_in_two(&mut self, pieces: &[&[u8]], first: usize) -> Option<(usize, Told)> {
         let (front, back) = pieces.split_at(first.min(pieces.len()));
-        match self.deliver(front) {
-            Some((count, Told::Waits)) => match self.deliver(back) {
-                Some((more, told)) => Some((count.wrapping_add(more), told)),
-                None => None,
-            },
-            other => other,
+        let (count, told) = self.deliver(front)?;
+        if told != Told::Waits {
+            return Some((count, told));
         }
+        let (more, told) = self.deliver(back)?;
+        Some((count.wrapping_add(more), told))
+    }
+
+    /// As `deliver`; where it stops at the limit, it goes on without one.
+    pub fn deliver_raised(&mut self, pieces: &[&[u8]]) -> Option<(usize, Told)> {
+        let (count, told) = self.deliver(pieces)?;
+        self.codec.max_allowed_packet = usize::MAX;
+        if told != Told::TooLarge {
+            return Some((count, told));
+        }
+        let (_, left) = pieces.split_at(count.min(pieces.len()));
+        let (more, told) = self.deliver(left)?;
+        Some((count.wrapping_add(more), told))
     }
 
     /// Whether these packets came out, and these bytes stand in `src` and in `dst`.

@@ -339,6 +339,7 @@ fn deliver_refused(
             NEVER
         });
     }
+    heap.refuse(NEVER);
     let left = left_of(alloc, line.src.as_slice(), pieces, count)?;
     let least = least_count(case.reading.shown_at, 0, pieces);
     ensure(
