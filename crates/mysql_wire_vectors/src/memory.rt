@@ -6,12 +6,12 @@ use crate::chunks::decoder_of;
 use crate::cutting::{Case, is_read, least_count, left_of};
 use crate::line::Line;
 use crate::made_up::{Dice, Stream, pieces_of};
-use crate::targets::{Counting, Target};
+use crate::targets::{Counting, Target, Zeros};
 use crate::told::{Facts, Told, ensure};
 use bytes::{Buf, BytesMut};
 use mysql_wire::constants::MAX_PAYLOAD_LEN;
 use mysql_wire::io::WireError;
-use mysql_wire::proto::codec::{ChunkDecoder, packet_to_chunks};
+use mysql_wire::proto::codec::{ChunkDecoder, PacketCodec, packet_to_chunks};
 use refusing::{NEVER, Refusing};
 use std::alloc::{AllocError, Global};
 use std::test::Fail;
@@ -129,6 +129,30 @@ fn encode_refused_changes_nothing(rt: HostRuntime) -> Result<(), Fail> {
         }
     }
     endless()
+}
+
+// Whether a payload whose framing no machine can hold is refused, and nothing is changed.
+fn huge_refused(alloc: Global, len: usize) -> Result<bool, AllocError> {
+    let mut dst = BytesMut::copy_from_slice(alloc, b"ab")?;
+    let mut packet = Zeros { left: len };
+    let mut codec = PacketCodec::default();
+    codec.max_allowed_packet = usize::MAX;
+    let framed = packet_to_chunks(0, &mut packet, &mut dst);
+    let encoded = Told::of_encode(codec.encode(&mut packet, &mut dst));
+    let unchanged = packet.left == len && dst.as_slice() == b"ab".as_slice();
+    Ok(matches!(framed, Err(WireError::OutOfMemory)) && encoded == Told::OutOfMemory && unchanged)
+}
+
+#[test]
+fn a_payload_that_no_machine_can_frame_is_refused(rt: HostRuntime) -> Result<(), Fail> {
+    // The bytes and the headers are more than a machine counts, or just as many, or fewer.
+    let most = usize::MAX - 4398045724676;
+    for len in [usize::MAX, most + 1, most, usize::MAX / 2, usize::MAX / 4] {
+        if !huge_refused(rt.alloc(), len)? {
+            return Err(Fail::new(format_args!("{len} bytes")));
+        }
+    }
+    Ok(())
 }
 
 // A packet of ten bytes, and a byte behind it.

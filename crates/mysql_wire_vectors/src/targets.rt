@@ -1,5 +1,7 @@
 //! What the tests decode into, and what they encode from.
 
+ghost use Rattle.std.specs.Prelude.{replicate};
+
 use bytes::{Buf, BytesMut};
 use mysql_wire::io::WireError;
 use mysql_wire::proto::codec::PacketDst;
@@ -110,5 +112,27 @@ impl Buf for Trickle<'_> {
     fn advance(&mut self, cnt: usize) {
         let left = self.left;
         self.left = &left[cnt..];
+    }
+}
+
+/// So many zero bytes, which take no memory: a buffer of the tests' own that may be of any length.
+#[derive(Drop)]
+pub struct Zeros {
+    pub left: usize,
+}
+
+impl Buf for Zeros {
+    ghost unread = { λ zeros. replicate zeros.left 0 };
+
+    fn remaining(&self) -> usize {
+        self.left
+    }
+
+    fn chunk(&self) -> &[u8] {
+        if self.left == 0 { b"" } else { b"\0" }
+    }
+
+    fn advance(&mut self, cnt: usize) {
+        self.left -= cnt;
     }
 }
