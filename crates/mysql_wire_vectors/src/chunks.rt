@@ -10,9 +10,10 @@ use std::alloc::{AllocError, Global};
 use std::num::NonZeroUsize;
 use std::test::Fail;
 
-// The header that a decoder remembers: its id, and the bytes that it needs. None is `Idle`.
+/// The header that a decoder remembers: its id, and the bytes that it needs. None is `Idle`.
 pub type State = Option<(u8, usize)>;
 
+/// The decoder that remembers it.
 pub fn decoder_of(state: State) -> ChunkDecoder {
     match state {
         Some((seq_id, needed)) => match NonZeroUsize::new(needed) {
@@ -23,7 +24,8 @@ pub fn decoder_of(state: State) -> ChunkDecoder {
     }
 }
 
-// A state, what is to be read, what is held and a limit; and the same after the call, with its answer.
+// A state, what is to be read, what is held and a limit; and the same after the call, with its
+// answer.
 #[derive(Clone, Copy)]
 struct Row<'a> {
     state: State,

@@ -9,7 +9,7 @@ use mysql_wire::constants::MAX_PAYLOAD_LEN;
 use std::alloc::{AllocError, Global};
 use std::test::Fail;
 
-/// Goes through the steps with each kind of target.
+// Goes through the steps with each kind of target.
 fn play_all(alloc: Global, steps: &[Step]) -> Result<(), Fail> {
     play::<Vec<u8>>(alloc, steps)?;
     play::<BytesMut>(alloc, steps)?;

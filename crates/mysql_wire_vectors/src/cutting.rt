@@ -1,106 +1,15 @@
-//! One stream cut in many ways, and many streams: each run is compared with the plain reading of the whole stream.
+//! One stream cut in many ways, and many streams: each run is compared with the plain reading of
+//! the whole stream.
 
 use crate::bench::FILL;
+use crate::case::{Case, is_read, left_of};
 use crate::line::Line;
 use crate::made_up::{Dice, Stream, pieces_of};
-use crate::plain::{Reading, between, chunk_count, low_byte, put_framing, reading_of};
+use crate::plain::{between, chunk_count, low_byte, put_framing, reading_of};
 use crate::told::{Told, ensure};
 use mysql_wire::constants::MAX_PAYLOAD_LEN;
-use std::alloc::{AllocError, Allocator, Global};
+use std::alloc::{AllocError, Global};
 use std::test::Fail;
-
-// A stream, and the reading of all of it.
-#[derive(Drop)]
-pub struct Case<'a> {
-    pub first_id: u8,
-    pub limit: usize,
-    pub stream: &'a [u8],
-    pub reading: Reading,
-}
-
-// The least number of pieces that brings what shows the fault; all of them where there is none.
-pub fn least_count(shown_at: usize, there: usize, pieces: &[&[u8]]) -> usize {
-    let mut there = there;
-    for (i, piece) in pieces.iter().enumerate() {
-        if there >= shown_at {
-            return i;
-        }
-        there = there.saturating_add(piece.len());
-    }
-    pieces.len()
-}
-
-// Whether two lists, each with an allocator of its own, have the same packets.
-fn are_packets<A: Allocator>(packets: &[Vec<u8, A>], wanted: &[Vec<u8>]) -> bool {
-    let mut same = packets.len() == wanted.len();
-    for (packet, wanted) in packets.iter().zip(wanted) {
-        same = same && packet.as_slice() == wanted.as_slice();
-    }
-    same
-}
-
-// What `src` holds, and the pieces behind it that were not appended.
-pub fn left_of(
-    alloc: Global,
-    src: &[u8],
-    pieces: &[&[u8]],
-    count: usize,
-) -> Result<Vec<u8>, AllocError> {
-    let mut left = Vec::from_slice(alloc, src)?;
-    for piece in pieces.iter().skip(count) {
-        left.extend_from_slice(piece)?;
-    }
-    Ok(left)
-}
-
-impl<'a> Case<'a> {
-    pub fn new(
-        alloc: Global,
-        first_id: u8,
-        limit: usize,
-        stream: &'a [u8],
-    ) -> Result<Self, AllocError> {
-        Ok(Case {
-            first_id,
-            limit,
-            stream,
-            reading: reading_of(alloc, first_id, limit, stream)?,
-        })
-    }
-
-    // Whether a line ended as the reading says, with these bytes of the stream left.
-    pub fn ends<A: Allocator + Copy>(&self, line: &Line<A>, told: Told, left: &[u8]) -> bool {
-        told == self.reading.told
-            && are_packets(line.out.as_slice(), self.reading.packets.as_slice())
-            && line.dst.as_slice() == self.reading.held.as_slice()
-            && left == between(self.stream, self.reading.left, self.stream.len())
-            && line.codec.max_allowed_packet == self.limit
-            && (told == Told::OutOfSync || line.stands())
-    }
-
-    // Whether the stream in pieces, the first bytes in `src` and the first pieces in a run of their own, is delivered as
-    // its reading says.
-    fn agrees(
-        &self,
-        alloc: Global,
-        src: &[u8],
-        pieces: &[&[u8]],
-        first: usize,
-    ) -> Result<bool, AllocError> {
-        let mut line = Line::<Global>::new(alloc, self.limit);
-        line.raise_to(alloc, self.first_id);
-        line.src.extend_from_slice(src)?;
-        let Some((count, told)) = line.deliver_in_two(pieces, first) else {
-            return Ok(false);
-        };
-        let left = left_of(alloc, line.src.as_slice(), pieces, count)?;
-        Ok(
-            self.ends(&line, told, left.as_slice())
-                && count == least_count(self.reading.shown_at, src.len(), pieces)
-                && line.next_id(alloc) == Some(self.reading.next_id),
-        )
-    }
-}
 
 // The stream, cut behind its byte number i + 1 where bit i of the number is set.
 fn cut_by_bits<'a>(
@@ -151,15 +60,6 @@ fn all_cuttings_agree(alloc: Global, case: &Case) -> Result<bool, AllocError> {
         agree = agree && case.agrees(alloc, b"", pieces.as_slice(), 0)?;
     }
     Ok(agree)
-}
-
-// Whether a stream is read as these packets, with this fault, these bytes held, and so many left.
-pub fn is_read(reading: &Reading, packets: &[&[u8]], told: Told, held: &[u8], left: usize) -> bool {
-    let mut same = reading.packets.len() == packets.len();
-    for (packet, wanted) in reading.packets.iter().zip(packets) {
-        same = same && packet.as_slice() == *wanted;
-    }
-    same && reading.told == told && reading.held.as_slice() == held && reading.left == left
 }
 
 // A stream from id 0 on, and what every cutting of it must show.
@@ -243,7 +143,8 @@ fn all_cuttings_stop_at_the_same_fault(rt: HostRuntime) -> Result<(), Fail> {
     )
 }
 
-// Whether a stream in three pieces agrees: in one run, with the first piece in `src`, and in two runs.
+// Whether a stream in three pieces agrees: in one run, with the first piece in `src`, and in two
+// runs.
 fn three_pieces_agree(alloc: Global, case: &Case, a: usize, b: usize) -> Result<bool, AllocError> {
     let stream = case.stream;
     let first = between(stream, 0, a);
@@ -295,7 +196,8 @@ fn streams_cut_at_any_two_places_agree(rt: HostRuntime) -> Result<(), Fail> {
     Ok(())
 }
 
-// A stream with full chunks: the lengths of its packets, a byte that is another one, and what comes of it.
+// A stream with full chunks: the lengths of its packets, a byte that is another one, and what comes
+// of it.
 #[derive(Clone, Copy)]
 struct Long<'a> {
     first_id: u8,
@@ -323,7 +225,8 @@ fn long_stream(alloc: Global, row: Long) -> Result<Vec<u8>, AllocError> {
     Ok(stream)
 }
 
-// Whether a long stream is read as its row says, and agrees with its reading when it is cut near the headers.
+// Whether a long stream is read as its row says, and agrees with its reading when it is cut near
+// the headers.
 fn long_agrees(alloc: Global, row: Long) -> Result<bool, AllocError> {
     let stream = long_stream(alloc, row)?;
     let bytes = stream.as_slice();

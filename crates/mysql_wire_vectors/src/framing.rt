@@ -55,7 +55,8 @@ fn pattern(alloc: Global, len: usize) -> Result<Vec<u8>, AllocError> {
     Ok(bytes)
 }
 
-// Whether a payload of so many bytes is framed by as many chunks as it needs, with each byte in its place.
+// Whether a payload of so many bytes is framed by as many chunks as it needs, with each byte in its
+// place.
 fn frames_len(alloc: Global, first_id: u8, len: usize) -> Result<bool, AllocError> {
     let payload = pattern(alloc, len)?;
     let mut framed = Vec::new(alloc);
@@ -174,7 +175,8 @@ fn each_kind_of_buffer_is_framed_the_same(rt: HostRuntime) -> Result<(), Fail> {
     )
 }
 
-// Whether a long payload in two pieces, and one that comes in small ones, is framed as it is in one.
+// Whether a long payload in two pieces, and one that comes in small ones, is framed as it is in
+// one.
 fn long_pieces_frame(alloc: Global, len: usize, at: usize) -> Result<bool, AllocError> {
     let payload = pattern(alloc, len)?;
     let bytes = payload.as_slice();

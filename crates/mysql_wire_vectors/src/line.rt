@@ -49,7 +49,8 @@ impl<A: Allocator + Copy> Line<A> {
         self.codec.stands_at(&self.src, self.dst.as_slice())
     }
 
-    /// How many pieces were appended, and what was answered. Where the codec doesn't stand, nothing is called.
+    /// How many pieces were appended, and what was answered. Where the codec doesn't stand, nothing
+    /// is called.
     pub fn deliver(&mut self, pieces: &[&[u8]]) -> Option<(usize, Told)> {
         if !self.codec.stands_at(&self.src, self.dst.as_slice()) {
             return None;

@@ -2,8 +2,8 @@
 //! how it goes on; and the calls that ask for none.
 
 use crate::bench::Bench;
+use crate::case::{Case, is_read, least_count, left_of};
 use crate::chunks::decoder_of;
-use crate::cutting::{Case, is_read, least_count, left_of};
 use crate::line::Line;
 use crate::made_up::{Dice, Stream, pieces_of};
 use crate::targets::{Counting, Target, Zeros};

@@ -1,7 +1,8 @@
-//! Framing and delivery once more, slowly, from what a stream is and not from how it comes: the codec is compared with it.
+//! Framing and delivery once more, slowly, from what a stream is and not from how it comes: the
+//! codec is compared with it.
 //!
-//! A reading is given the whole stream at once. It knows of no pieces and of no call that goes on where another one
-//! stopped.
+//! A reading is given the whole stream at once. It knows of no pieces and of no call that goes on
+//! where another one stopped.
 
 use crate::told::Told;
 use mysql_wire::constants::MAX_PAYLOAD_LEN;
@@ -20,7 +21,8 @@ pub fn low_byte(n: usize) -> u8 {
     (n % 256) as u8
 }
 
-/// Appends one chunk: its length in three bytes, the least significant first, its id, and its bytes.
+// Appends one chunk: its length in three bytes, the least significant first, its id, and its
+// bytes.
 fn put_chunk(stream: &mut Vec<u8>, id: usize, bytes: &[u8]) -> Result<(), AllocError> {
     let len = bytes.len();
     let header = [
@@ -43,7 +45,8 @@ pub fn framed_len(len: usize) -> usize {
     len.saturating_add(chunk_count(len).saturating_mul(4))
 }
 
-/// Appends a payload's framing: chunk number i has the bytes from `i * MAX_PAYLOAD_LEN` on, as many as a chunk holds.
+/// Appends a payload's framing: chunk number i has the bytes from `i * MAX_PAYLOAD_LEN` on, as many
+/// as a chunk holds.
 pub fn put_framing(stream: &mut Vec<u8>, first_id: u8, payload: &[u8]) -> Result<(), AllocError> {
     for i in 0..chunk_count(payload.len()) {
         let start = i.saturating_mul(MAX_PAYLOAD_LEN);
@@ -54,8 +57,8 @@ pub fn put_framing(stream: &mut Vec<u8>, first_id: u8, payload: &[u8]) -> Result
     Ok(())
 }
 
-/// A chunk that stands whole in a stream: where its bytes begin and end, and its id.
-#[derive(Debug, Clone, Copy, PartialEq, Eq)]
+// A chunk that stands whole in a stream: where its bytes begin and end, and its id.
+#[derive(Clone, Copy)]
 struct Place {
     start: usize,
     end: usize,
@@ -155,8 +158,8 @@ pub struct Reading {
     pub next_id: u8,
 }
 
-// What stops a stream, where it goes on with `rest` and so many bytes of a packet are held; and how many bytes of `rest`
-// show it.
+// What stops a stream, where it goes on with `rest` and so many bytes of a packet are held; and how
+// many bytes of `rest` show it.
 fn stop(rest: &[u8], held: usize, limit: usize) -> (Told, usize) {
     let Some((len, _)) = header_at(rest, 0) else {
         return (Told::Waits, usize::MAX);

@@ -5,7 +5,7 @@ use mysql_wire::proto::codec::error::PacketCodecError;
 use std::test::Fail;
 
 /// What a call of a codec or of a chunk decoder answered.
-#[derive(Debug, Clone, Copy, PartialEq, Eq)]
+#[derive(Clone, Copy, PartialEq, Eq)]
 pub enum Told {
     /// A packet was encoded.
     Done,
