@@ -32,7 +32,7 @@ fn beyond_one(call: &mut dyn FnMut(u64), n: u64) -> f64 {
 }
 
 fn repetitions(call: &mut dyn FnMut(u64)) -> u64 {
-    let mut n = 1;
+    let mut n = 4;
     while n < 1 << 40 && nanos(|| call(1 + n)) < LEAST_NANOS {
         n *= 2;
     }

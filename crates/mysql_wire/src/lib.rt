@@ -6,9 +6,8 @@ pub mod io {
     pub use wire_buf::error::{InvalidLengthEncodedInteger, InvalidReason, WireError};
 }
 
-pub mod constants {
-    pub use wire_const::{DEFAULT_MAX_ALLOWED_PACKET, MAX_PAYLOAD_LEN};
-}
+/// The numbers that packets are written in.
+pub use wire_const as constants;
 
 pub mod proto {
     /// Packets and chunks.

@@ -34,7 +34,8 @@ fn encode(
     Ok(summary(dst.as_slice()))
 }
 
-/// `bytes` framed `count` times a repetition into one buffer: form 0 by `packet_to_chunks`, form 1 by `encode`.
+/// `bytes` framed `count` times a repetition into one buffer: form 0 by `packet_to_chunks`, form 1
+/// by `encode`.
 #[unsafe(no_mangle)]
 pub extern "C" fn mw_frame(alloc: Global, bytes: &[u8], count: u64, form: u64, reps: u64) -> u64 {
     let mut dst = BytesMut::new(alloc);
@@ -55,7 +56,8 @@ pub extern "C" fn mw_frame(alloc: Global, bytes: &[u8], count: u64, form: u64, r
     sum
 }
 
-/// `bytes` appended to a buffer in pieces of `piece` bytes, each advanced over: a decode loop without the decode.
+/// `bytes` appended to a buffer in pieces of `piece` bytes, each advanced over: a decode loop
+/// without the decode.
 #[unsafe(no_mangle)]
 pub extern "C" fn mw_append(alloc: Global, bytes: &[u8], piece: u64, reps: u64) -> u64 {
     let mut src = BytesMut::new(alloc);

@@ -46,7 +46,8 @@ abbrev pub chunk_status : Option ChunkInfo → List ℕ → ℕ
 chunk_status (Some info) rest = 0
 chunk_status None rest = if length rest == 0 then 0 else 3
 
--- what `chunk` writes of the bytes it reads, and its status: one chunk decoded by a new decoder, with nothing held before it
+-- what `chunk` writes of the bytes it reads, and its status: one chunk decoded by a new decoder,
+-- with nothing held before it
 pub record Shown (input : List ℕ) (status : ℕ) (text : List ℕ) : Type 0 where
   pub info : Option ChunkInfo
   pub after : ChunkState
@@ -54,8 +55,8 @@ pub record Shown (input : List ℕ) (status : ℕ) (text : List ℕ) : Type 0 wh
   pub is : text ≡ chunk_line info after.held ++ rest_line (length after.unread)
   pub ends : status ≡ chunk_status info after.unread
 
--- `frame` ended with this status, where readers and writers tell their bytes: at 0 all input was read, and its framing was
--- written
+-- `frame` ended with this status, where readers and writers tell their bytes: at 0 all input was
+-- read, and its framing was written
 pub record FrameEnds (first_id status : ℕ) (unread left written now : Option (List ℕ)) : Type 0 where
   pub cases : (status ≡ 0) ⊎ (status ≡ 2) ⊎ (status ≡ 6)
   pub text : status ≡ 0 → IfSome unread (λ input. (text : List ℕ) × Framed first_id input text × Appends written now text)

@@ -27,7 +27,8 @@ ending_status Waiting left = if left == 0 then 0 else 3
 ending_status TooLarge left = 4
 ending_status OutOfSync left = 5
 
--- what `unframe` writes of the bytes it reads under a limit, and its status: what these bytes deliver, from id 0
+-- what `unframe` writes of the bytes it reads under a limit, and its status: what these bytes
+-- deliver, from id 0
 pub record Unframed (limit : ℕ) (input : List ℕ) (status : ℕ) (text : List ℕ) : Type 0 where
   pub payloads : List (List ℕ)
   pub ending : Ending
@@ -37,8 +38,8 @@ pub record Unframed (limit : ℕ) (input : List ℕ) (status : ℕ) (text : List
   pub is : text ≡ packet_lines payloads ++ ending_line ending (length (front (id_after 0 payloads) unfinished ++ rest))
   pub ends : status ≡ ending_status ending (length (front (id_after 0 payloads) unfinished ++ rest))
 
--- `unframe` ended with this status, where readers and writers tell their bytes: at 0, 3, 4 and 5 the text of what was read
--- was written, and at 0 and 3 all input was read
+-- `unframe` ended with this status, where readers and writers tell their bytes: at 0, 3, 4 and 5
+-- the text of what was read was written, and at 0 and 3 all input was read
 pub record UnframeEnds (limit status : ℕ) (unread left written now : Option (List ℕ)) : Type 0 where
   pub cases : (status ≡ 0) ⊎ (status ≡ 2) ⊎ (status ≡ 3) ⊎ (status ≡ 4) ⊎ (status ≡ 5) ⊎ (status ≡ 6)
   pub text : (status ≡ 0) ⊎ (status ≡ 3) ⊎ (status ≡ 4) ⊎ (status ≡ 5)

@@ -58,9 +58,10 @@ fn shown<A: Allocator + Copy>(alloc: A, input: &mut BytesMut<A>) -> Result<(Vec<
     }
 }
 
-/// Reads the whole input, decodes one chunk from its front, and writes what that was and how many bytes are left. The
-/// answer is the exit status: 0 where a chunk was shown or the input is empty, 3 where bytes are there and no whole chunk,
-/// 2 where a read or a write failed, 6 where memory was refused.
+/// Reads the whole input, decodes one chunk from its front, and writes what that was and how many
+/// bytes are left. The answer is the exit status: 0 where a chunk was shown or the input is empty,
+/// 3 where bytes are there and no whole chunk, 2 where a read or a write failed, 6 where memory was
+/// refused.
 pub fn run_chunk<R: Read, W: Write>(
     alloc: impl Allocator + Copy,
     input: &mut R,

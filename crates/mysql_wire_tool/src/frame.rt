@@ -1,6 +1,5 @@
 //! `frame ID`: the framing of the whole input.
 
-ghost use Rattle.std.specs.Io.KnownBytes.{Appends, IsAtEnd};
 ghost use Rattle.mysql_wire_tool.specs.Texts.{FrameEnds};
 
 use crate::input::read_whole;
@@ -11,8 +10,9 @@ use mysql_wire::proto::codec::packet_to_chunks;
 use std::alloc::Allocator;
 use std::io::{Read, Write};
 
-/// Reads the whole input as one payload, and writes its chunks numbered from `id` on. The answer is the exit status: 0
-/// where all was written, 2 where a read or a write failed, 6 where memory was refused.
+/// Reads the whole input as one payload, and writes its chunks numbered from `id` on. The answer is
+/// the exit status: 0 where all was written, 2 where a read or a write failed, 6 where memory was
+/// refused.
 pub fn run_frame<R: Read, W: Write>(
     alloc: impl Allocator + Copy,
     id: u8,

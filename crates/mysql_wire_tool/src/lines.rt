@@ -1,7 +1,6 @@
 //! The lines of text that the program writes.
 
-ghost use Rattle.std.specs.Prelude.{◌≡◌, ◌++◌, length, OnOk};
-ghost use Rattle.std.specs.Fmt.{decimal};
+ghost use Rattle.std.specs.Prelude.{◌≡◌, ◌++◌, OnOk};
 ghost use Rattle.mysql_wire_tool.specs.Texts.{chunk_line, payload_line, rest_line};
 
 use crate::hex::push_hex_or_dash;

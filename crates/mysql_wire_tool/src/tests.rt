@@ -1,4 +1,5 @@
-//! The program's commands on real bytes, and with each read, each write and each request for memory failing in turn.
+//! The program's commands on real bytes, and with each read, each write and each request for memory
+//! failing in turn.
 
 use crate::chunk::run_chunk;
 use crate::frame::run_frame;
@@ -301,7 +302,8 @@ fn each_write_and_the_flush_fail_in_turn(rt: HostRuntime) -> Result<(), Fail> {
     Ok(())
 }
 
-// A command under each refusal in turn: status 6 until a run meets none. The output is kept elsewhere.
+// A command under each refusal in turn: status 6 until a run meets none. The output is kept
+// elsewhere.
 fn refused_in_turn<A: Allocator + Copy>(alloc: A, command: &str) -> u64 {
     for nth in 0..100u64 {
         let heap = Refusing::new(alloc, nth);

@@ -1,7 +1,7 @@
 //! `unframe STEP LIMIT`: the packets of the input, as they come.
 
-ghost use Rattle.std.specs.Prelude.{◌≡◌, ◌<◌, ◌≤◌, ◌⊎◌, ◌+◌, ◌*◌, ◌/◌, ◌++◌, ℕ, List, [], ◌∷◌, length, OnOk, IfOk, vec_len};
-ghost use Rattle.mysql_wire.specs.Codec.{codec_state, Stands};
+ghost use Rattle.std.specs.Prelude.{◌≡◌, ◌<◌, ◌⊎◌, ◌+◌, ◌*◌, ◌/◌, ◌++◌, ℕ, List, length, OnOk, IfOk};
+ghost use Rattle.mysql_wire.specs.Codec.{Stands};
 ghost use Rattle.mysql_wire.specs.Framing.{max_payload};
 ghost use Rattle.mysql_wire.specs.Runs.{payloads};
 
@@ -119,7 +119,8 @@ fn piece_text<A: Allocator + Copy>(
     Ok(text)
 }
 
-// How many bytes came behind the last whole packet: the full chunks of an unfinished one, and the bytes unread.
+// How many bytes came behind the last whole packet: the full chunks of an unfinished one, and the
+// bytes unread.
 #[tactic(auto, using(crate::proofs::UnframeLemmas::max_payload_is))]
 fn bytes_left(held: usize, unread: usize) -> u128
     ensures { result ≡ held + 4 * (held / max_payload) + unread }
@@ -177,10 +178,10 @@ fn write_rest<A: Allocator + Copy, W: Write>(alloc: A, run: &Run<A>, output: &mu
     }
 }
 
-/// Reads at most `step` bytes at a time, and writes a line for each packet as soon as it has come, under a limit of `limit`
-/// payload bytes a packet. The answer is the exit status: 0 where the input ended between two packets, 3 where it ended
-/// inside one, 4 at a packet past the limit, 5 at a chunk of another id, 2 where a read or a write failed, 6 where memory was
-/// refused.
+/// Reads at most `step` bytes at a time, and writes a line for each packet as soon as it has come,
+/// under a limit of `limit` payload bytes a packet. The answer is the exit status: 0 where the
+/// input ended between two packets, 3 where it ended inside one, 4 at a packet past the limit, 5 at
+/// a chunk of another id, 2 where a read or a write failed, 6 where memory was refused.
 pub fn run_unframe<A: Allocator + Copy, R: Read, W: Write>(
     alloc: A,
     step: usize,

@@ -1,6 +1,6 @@
 //! What the words on the command line ask for.
 
-ghost use Rattle.std.specs.Prelude.{◌≡◌, ◌≤◌, ◌↔◌, ℕ, List, length, map, string_bytes, IfSome, Some};
+ghost use Rattle.std.specs.Prelude.{◌≡◌, ◌↔◌, map, string_bytes, IfSome, Some};
 ghost use Rattle.std.specs.Io.KnownBytes.{Keeps};
 ghost use Rattle.std.specs.Option.{SomeIff};
 ghost use Rattle.std.specs.Str.Parse.{digits_value};
@@ -67,8 +67,8 @@ impl Request {
 
 ghost use Rattle.mysql_wire_tool.specs.Words.{Asks, RequestEnds};
 
-/// Runs the command that the words after the program's name ask for. The answer is the exit status: that of the command,
-/// or 1 where the words ask for none, and then nothing was read or written.
+/// Runs the command that the words after the program's name ask for. The answer is the exit status:
+/// that of the command, or 1 where the words ask for none, and then nothing was read or written.
 pub fn run_words<A: Allocator + Copy, R: Read, W: Write>(
     alloc: A,
     words: &[String<A>],

@@ -1,6 +1,6 @@
 //! Callers of the codec, as CALLING.md shows them.
 
-ghost use Rattle.std.specs.Prelude.{◌≡◌, ◌<◌, ◌≤◌, ℕ, List, [], ◌++◌, length, None, Ok, true, OnOk, IfOk, IfSome, take, vec_len};
+ghost use Rattle.std.specs.Prelude.{◌≡◌, ◌<◌, ◌≤◌, ℕ, List, [], ◌++◌, None, Ok, true, OnOk, IfOk, IfSome, take, vec_len};
 ghost use Rattle.std.specs.Io.KnownBytes.{Consumes, IsAtEnd};
 ghost use Rattle.mysql_wire.specs.Framing.{framing, next_id};
 ghost use Rattle.mysql_wire.specs.Delivery.{Delivers, Waiting};
@@ -42,8 +42,9 @@ pub fn exchange<A: Allocator + Copy>(
     }
 }
 
-/// A server takes the next command. Each command is numbered from 0, so the id is reset before each, and one call of
-/// `decode` takes one command; what stands behind it in `input` is the next one's.
+/// A server takes the next command. Each command is numbered from 0, so the id is reset before
+/// each, and one call of `decode` takes one command; what stands behind it in `input` is the next
+/// one's.
 pub fn next_command<A: Allocator + Copy>(
     codec: &mut PacketCodec,
     input: &mut BytesMut<A>,

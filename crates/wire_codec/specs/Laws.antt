@@ -31,7 +31,8 @@ JoinedRuns =
     → Delivers unfinished (front (id_after open_id payloads) unfinished ++ (rest ++ more)) (id_after open_id payloads) limit others ending another left
     → Delivers held (input ++ more) open_id limit (payloads ++ others) ending another left
 
--- the same of what `deliver` says: a run that waits, or was refused memory, and the run that goes on from it are one run
+-- the same of what `deliver` says: a run that waits, or was refused memory, and the run that goes
+-- on from it are one run
 abbrev pub RunGoesOn : Type 0
 RunGoesOn =
     (before between after : CodecState) (more next : List ℕ) (stopped answer : Result (Unit {0}) PacketCodecError) (gained others : List (List ℕ))
@@ -53,6 +54,7 @@ EncodedFirst =
     → Delivers [] more (id_after first_id payloads) limit others ending unfinished rest
     → Delivers [] (stream first_id payloads ++ more) first_id limit (payloads ++ others) ending unfinished rest
 
--- the id that a codec expects is the number of chunks encoded and accepted since the last reset, modulo 256
+-- the id that a codec expects is the number of chunks encoded and accepted since the last reset,
+-- modulo 256
 abbrev pub ChunksCounted : Type 0
 ChunksCounted = (calls : List Call) (id : ℕ) → Follows 0 calls id → id ≡ chunk_count 0 calls % 256

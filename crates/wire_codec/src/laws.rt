@@ -1,5 +1,5 @@
-//! Laws over the definitions that the contracts cite. Each function takes and answers nothing: its contract is the law, and
-//! a caller has it by calling.
+//! Laws over the definitions that the contracts cite. Each function takes and answers nothing: its
+//! contract is the law, and a caller has it by calling.
 
 ghost use Rattle.wire_codec.specs.Laws.{ChunksCounted, EncodedFirst, FramedLength, JoinedRuns, OneDelivery, RunGoesOn, UniqueFraming};
 
@@ -13,7 +13,8 @@ pub fn joined_runs()
     ensures { JoinedRuns }
 {}
 
-/// The same of what `deliver` says: a run that waits, or was refused memory, and the run that goes on from it are one run.
+/// The same of what `deliver` says: a run that waits, or was refused memory, and the run that goes
+/// on from it are one run.
 pub fn run_goes_on()
     ensures { RunGoesOn }
 {}
@@ -28,8 +29,8 @@ pub fn encoded_first()
     ensures { EncodedFirst }
 {}
 
-/// Over any list of `encode`, `decode` and `reset_seq_id` on a new codec, the id expected is the number of chunks encoded
-/// and accepted since the last reset, modulo 256.
+/// Over any list of `encode`, `decode` and `reset_seq_id` on a new codec, the id expected is the
+/// number of chunks encoded and accepted since the last reset, modulo 256.
 pub fn chunks_counted()
     ensures { ChunksCounted }
 {}

@@ -32,7 +32,8 @@ fn drain<A: Allocator + Copy>(
     ensures runs { let before = codec_state codec.old src.old.items dst.old.items in
         let after = codec_state codec.new src.new.items dst.new.items in
         (gained : List (List ℕ)) × (payloads out.new.items ≡ payloads out.old.items ++ gained)
-        × RunsFrom (first_id before) (input_of before) before.held before.limit result gained after.id after.header after.unread after.held }
+        × RunsFrom (first_id before) (input_of before) before.held before.limit result gained
+        after.id after.header after.unread after.held }
     ensures limit { codec.new.max_allowed_packet ≡ codec.old.max_allowed_packet }
 {
     'packets: loop {
@@ -47,13 +48,13 @@ fn drain<A: Allocator + Copy>(
     }
 }
 
-/// Decodes what `src` holds, then appends one piece after another to `src` and decodes after each, until a fault. Each
-/// packet is moved from `dst` to the end of `out`. The answer is how many pieces were appended, and how the run ended: `Ok`
-/// where all were, and more bytes are needed.
+/// Decodes what `src` holds, then appends one piece after another to `src` and decodes after each,
+/// until a fault. Each packet is moved from `dst` to the end of `out`. The answer is how many
+/// pieces were appended, and how the run ended: `Ok` where all were, and more bytes are needed.
 ///
-/// It asks that the codec stands at the buffers, as a new one does at an empty `dst`; `stands_at` is the test. After
-/// everything but `PacketsOutOfSync` it stands again, so that the next call goes on; after `OutOfMemory`, with the pieces
-/// that were not appended.
+/// It asks that the codec stands at the buffers, as a new one does at an empty `dst`; `stands_at`
+/// is the test. After everything but `PacketsOutOfSync` it stands again, so that the next call goes
+/// on; after `OutOfMemory`, with the pieces that were not appended.
 pub fn deliver<A: Allocator + Copy>(
     codec: &mut PacketCodec,
     src: &mut BytesMut<A>,
@@ -70,10 +71,12 @@ pub fn deliver<A: Allocator + Copy>(
 
     // So many pieces were appended, and with fewer of them the run only waits.
     ensures count { result.0 ≤ length pieces.now }
-    ensures least { (j : ℕ) → j < result.0 → Waits (codec_state codec.old src.old.items dst.old.items) (joined (take j pieces.now)) }
+    ensures least { let before = codec_state codec.old src.old.items dst.old.items in
+        (j : ℕ) → j < result.0 → Waits before (joined (take j pieces.now)) }
     ensures all { OnOk result.1 (result.0 ≡ length pieces.now) }
 
-    ensures stands { result.1 ≢ Err PacketCodecError.PacketsOutOfSync → Stands (codec_state codec.new src.new.items dst.new.items) }
+    ensures stands { result.1 ≢ Err PacketCodecError.PacketsOutOfSync
+        → Stands (codec_state codec.new src.new.items dst.new.items) }
     ensures limit { codec.new.max_allowed_packet ≡ codec.old.max_allowed_packet }
 {
     match drain(codec, src, dst, out) {

@@ -1,6 +1,6 @@
 //! Whole packets.
 
-ghost use Rattle.std.specs.Prelude.{◌≡◌, ◌≢◌, ℕ, ◌+◌, ◌/◌, ◌%◌, ◌<◌, ◌≤◌, ◌↔◌, ◌⊎◌, OnOk, OnErr, IfErr, Err, List, [], length, None, true, IsTrue, slice_index, ◌++◌};
+ghost use Rattle.std.specs.Prelude.{◌≡◌, ◌≢◌, ℕ, ◌+◌, ◌%◌, ◌<◌, ◌≤◌, ◌↔◌, ◌⊎◌, OnOk, OnErr, IfErr, Err, [], length, None, true, IsTrue, slice_index, ◌++◌};
 ghost use Rattle.wire_codec.specs.Delivery.{IsWholeChunks, chunk_len};
 
 use crate::codec::chunk::{ChunkDecoder, ChunkInfo, PacketDst};
@@ -14,13 +14,15 @@ use wire_const::{DEFAULT_MAX_ALLOWED_PACKET, MAX_PAYLOAD_LEN};
 
 /// Packets from chunks, and chunks from packets, under one sequence id, as a connection has it.
 ///
-/// A command and its answers share the id: it is reset to 0 at the start of each command, and rises by one with each chunk
-/// that is encoded or decoded. `decode` goes on where the last call stopped, so the bytes may come in any pieces.
+/// A command and its answers share the id: it is reset to 0 at the start of each command, and rises
+/// by one with each chunk that is encoded or decoded. `decode` goes on where the last call stopped,
+/// so the bytes may come in any pieces.
 ///
 /// <https://dev.mysql.com/doc/dev/mysql-server/latest/page_protocol_basic_packets.html>
 #[derive(Debug, Drop)]
 pub struct PacketCodec {
-    /// The most payload bytes of a packet. Any number may be set at any time; at 0 empty packets still pass.
+    /// The most payload bytes of a packet. Any number may be set at any time; at 0 empty packets
+    /// still pass.
     pub max_allowed_packet: usize,
     seq_id: u8,
     decoder: ChunkDecoder,
@@ -29,7 +31,8 @@ pub struct PacketCodec {
 impl Default for PacketCodec {
     ghost use Rattle.wire_codec.specs.Codec.{expected_id, header_of};
 
-    ghost is_default = { λ codec. (expected_id codec ≡ 0) × (header_of codec ≡ None) × (codec.max_allowed_packet ≡ 4194304) };
+    ghost is_default = { λ codec. (expected_id codec ≡ 0) × (header_of codec ≡ None)
+        × (codec.max_allowed_packet ≡ 4194304) };
 
     /// A codec at the start of a command, with the limit of 4 MiB.
     fn default() -> Self {
@@ -45,8 +48,9 @@ impl PacketCodec {
     ghost use Rattle.wire_codec.specs.Codec.{expected_id, header_of, codec_state, Stands, DecodesPacket, ChunkChain, HasChunk};
     ghost use Rattle.wire_codec.specs.Framing.{framing, next_id};
 
-    /// Whether `decode` goes on here with the packet that it was at: `dst` holds full chunks alone, and a remembered header
-    /// is the one at the front of `src`, and still within the limit. A new codec stands at every `src` and an empty `dst`.
+    /// Whether `decode` goes on here with the packet that it was at: `dst` holds full chunks alone,
+    /// and a remembered header is the one at the front of `src`, and still within the limit. A new
+    /// codec stands at every `src` and an empty `dst`.
     pub fn stands_at(&self, src: &BytesMut<impl Allocator + Copy>, dst: &[u8]) -> bool
         ensures { IsTrue result ↔ Stands (codec_state self.now src.now.items dst.now) }
     {
@@ -62,13 +66,15 @@ impl PacketCodec {
         }
     }
 
-    /// Takes chunks from the front of `src` until a packet is whole, and puts their payload bytes behind what `dst` holds,
-    /// which grows once a call. The answer is whether `dst` now holds a whole packet. After false the call is made again
-    /// with the same `dst` and more bytes in `src`; after true, with an empty `dst`.
+    /// Takes chunks from the front of `src` until a packet is whole, and puts their payload bytes
+    /// behind what `dst` holds, which grows once a call. The answer is whether `dst` now holds a
+    /// whole packet. After false the call is made again with the same `dst` and more bytes in
+    /// `src`; after true, with an empty `dst`.
     ///
-    /// `PacketTooLarge`: the chunk in front would take the packet past the limit. Its header is left in `src`.
-    /// `PacketsOutOfSync`: the chunk in front bore another id. It was taken, and its bytes stand in `dst`.
-    /// `OutOfMemory`: `dst` could not grow. Nothing is lost, and the call may be made again.
+    /// `PacketTooLarge`: the chunk in front would take the packet past the limit. Its header is
+    /// left in `src`. `PacketsOutOfSync`: the chunk in front bore another id. It was taken, and its
+    /// bytes stand in `dst`. `OutOfMemory`: `dst` could not grow. Nothing is lost, and the call may
+    /// be made again.
     pub fn decode<T: PacketDst>(
         &mut self,
         src: &mut BytesMut<impl Allocator + Copy>,
@@ -84,9 +90,11 @@ impl PacketCodec {
         // After everything but a whole packet and a lost sync the codec stands again.
         ensures stands { let before = codec_state self.old src.old.items (T.held dst.old) in
             let after = codec_state self.new src.new.items (T.held dst.new) in
-            Stands before → (result ≢ Ok true) → (result ≢ Err PacketCodecError.PacketsOutOfSync) → Stands after }
+            Stands before → (result ≢ Ok true)
+            → (result ≢ Err PacketCodecError.PacketsOutOfSync) → Stands after }
         // Memory is asked for only where a chunk is there to be taken.
-        ensures memory { result ≡ Err PacketCodecError.OutOfMemory → HasChunk (codec_state self.old src.old.items (T.held dst.old)) }
+        ensures memory { let before = codec_state self.old src.old.items (T.held dst.old) in
+            result ≡ Err PacketCodecError.OutOfMemory → HasChunk before }
 
         ensures shorter { result ≡ Ok true → length src.new.items < length src.old.items }
         ensures limit { self.new.max_allowed_packet ≡ self.old.max_allowed_packet }
@@ -97,22 +105,28 @@ impl PacketCodec {
         }
     }
 
-    /// Appends the packet's chunks to `dst` and empties the packet, where it has at most `max_allowed_packet` bytes. The ids
-    /// go on from the codec's.
+    /// Appends the packet's chunks to `dst` and empties the packet, where it has at most
+    /// `max_allowed_packet` bytes. The ids go on from the codec's.
     ///
-    /// `PacketTooLarge`: the packet has more. `OutOfMemory`: `dst` could not grow. Neither changes anything.
+    /// `PacketTooLarge`: the packet has more. `OutOfMemory`: `dst` could not grow. Neither changes
+    /// anything.
     pub fn encode<T: Buf>(
         &mut self,
         packet: &mut T,
         dst: &mut BytesMut<impl Allocator + Copy>,
     ) -> Result<(), PacketCodecError>
-        ensures appended { OnOk result (dst.new.items ≡ dst.old.items ++ framing (expected_id self.old) (T.unread packet.old)) }
+        ensures appended { OnOk result
+            (dst.new.items ≡ dst.old.items ++ framing (expected_id self.old) (T.unread packet.old)) }
         ensures emptied { OnOk result (T.unread packet.new ≡ []) }
-        ensures next { OnOk result (expected_id self.new ≡ next_id (expected_id self.old) (T.unread packet.old)) }
+        ensures next { OnOk result
+            (expected_id self.new ≡ next_id (expected_id self.old) (T.unread packet.old)) }
 
-        ensures too_large { (result ≡ Err PacketCodecError.PacketTooLarge) ↔ (self.old.max_allowed_packet < length (T.unread packet.old)) }
-        ensures errors { IfErr result (λ error. (error ≡ PacketCodecError.PacketTooLarge) ⊎ (error ≡ PacketCodecError.OutOfMemory)) }
-        ensures err { OnErr result ((expected_id self.new ≡ expected_id self.old) × (packet.new ≡ packet.old) × (dst.new.items ≡ dst.old.items)) }
+        ensures too_large { (result ≡ Err PacketCodecError.PacketTooLarge)
+            ↔ (self.old.max_allowed_packet < length (T.unread packet.old)) }
+        ensures errors { IfErr result
+            (λ error. (error ≡ PacketCodecError.PacketTooLarge) ⊎ (error ≡ PacketCodecError.OutOfMemory)) }
+        ensures err { OnErr result ((expected_id self.new ≡ expected_id self.old)
+            × (packet.new ≡ packet.old) × (dst.new.items ≡ dst.old.items)) }
 
         ensures header { header_of self.new ≡ header_of self.old }
         ensures limit { self.new.max_allowed_packet ≡ self.old.max_allowed_packet }
@@ -139,7 +153,8 @@ impl PacketCodec {
         self.seq_id = 0;
     }
 
-    /// Changes nothing. It stands for the call by which a compressed connection carries its id over.
+    /// Changes nothing. It stands for the call by which a compressed connection carries its id
+    /// over.
     pub fn sync_seq_id(&mut self)
         ensures { self.new ≡ self.old }
     {
@@ -168,10 +183,12 @@ impl PacketCodec {
         dst: &mut T,
     ) -> Result<Progress, PacketCodecError>
         ensures takes { let before = codec_state self.old src.old.items (T.held dst.old) in
-            Stands before → TakesChunk (first_id before) (input_of before) (T.held dst.old) self.old.max_allowed_packet result
+            Stands before → TakesChunk (first_id before) (input_of before)
+            (T.held dst.old) self.old.max_allowed_packet result
             (expected_id self.new) (header_of self.new) src.new.items (T.held dst.new) }
-        ensures links { LinksChain self.old.max_allowed_packet (expected_id self.old) (header_of self.old) src.old.items (T.held dst.old)
-            result (expected_id self.new) (header_of self.new) src.new.items (T.held dst.new) }
+        ensures links { LinksChain self.old.max_allowed_packet
+            (expected_id self.old) (header_of self.old) src.old.items (T.held dst.old) result
+            (expected_id self.new) (header_of self.new) src.new.items (T.held dst.new) }
         ensures more { result ≡ Ok Progress.More → length src.new.items < length src.old.items }
         ensures whole { result ≡ Ok Progress.Whole → length src.new.items < length src.old.items }
         ensures limit { self.new.max_allowed_packet ≡ self.old.max_allowed_packet }
@@ -201,7 +218,8 @@ impl PacketCodec {
         }
     }
 
-    // Takes room in `dst` for all bytes that one call takes. Where there is none, the chunk in front is remembered.
+    // Takes room in `dst` for all bytes that one call takes. Where there is none, the chunk in
+    // front is remembered.
     fn make_room<T: PacketDst>(
         &mut self,
         src: &BytesMut<impl Allocator + Copy>,
@@ -209,7 +227,8 @@ impl PacketCodec {
     ) -> Result<(), PacketCodecError>
         ensures ok { OnOk result (self.new ≡ self.old) }
         ensures memory { IfErr result (λ error. error ≡ PacketCodecError.OutOfMemory) }
-        ensures refused { OnErr result (DecodesChunk (header_of self.old) src.now.items (T.held dst.old) self.old.max_allowed_packet
+        ensures refused { OnErr result (DecodesChunk
+            (header_of self.old) src.now.items (T.held dst.old) self.old.max_allowed_packet
             (Err PacketCodecError.OutOfMemory) (header_of self.new) src.now.items (T.held dst.new)) }
         ensures decodes { let before = codec_state self.old src.now.items (T.held dst.old) in
             let after = codec_state self.new src.now.items (T.held dst.new) in
@@ -273,7 +292,8 @@ fn is_whole(held: &[u8]) -> bool
 
 // Whether this header stands in front.
 fn has_header(front: &[u8], id: u8, len: usize) -> bool
-    ensures { IsTrue result ↔ ((4 ≤ length front.now) × (slice_index front.now 3 ≡ id) × (chunk_len front.now ≡ len)) }
+    ensures { IsTrue result
+        ↔ ((4 ≤ length front.now) × (slice_index front.now 3 ≡ id) × (chunk_len front.now ≡ len)) }
 {
     match Header::read(front) {
         Some(header) => header.seq_id == id && header.len == len,

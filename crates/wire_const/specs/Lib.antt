@@ -1,0 +1,3 @@
+pub mod EnumNumbers
+pub mod FlagSets
+pub use Rattle.bitflags.specs.Sets
