@@ -1,0 +1,102 @@
+//! A codec with its buffers, to which a stream is given in pieces.
+
+use crate::told::Told;
+use bytes::BytesMut;
+use mysql_wire::proto::codec::{PacketCodec, deliver};
+use std::alloc::{Allocator, Global};
+
+/// A codec with its buffers, and what it delivered.
+#[derive(Drop)]
+pub struct Line<A: Allocator = Global> {
+    pub codec: PacketCodec,
+    pub src: BytesMut<A>,
+    pub dst: Vec<u8, A>,
+    pub out: Vec<Vec<u8, A>, A>,
+}
+
+impl<A: Allocator + Copy> Line<A> {
+    pub fn new(alloc: A, limit: usize) -> Self {
+        let mut codec = PacketCodec::default();
+        codec.max_allowed_packet = limit;
+        Line {
+            codec,
+            src: BytesMut::new(alloc),
+            dst: Vec::new(alloc),
+            out: Vec::new(alloc),
+        }
+    }
+
+    /// The codec's next id becomes this one.
+    pub fn raise_to(&mut self, alloc: A, id: u8) {
+        let mut other = BytesMut::new(alloc);
+        for _ in 0..id {
+            let mut packet = b"".as_slice();
+            let _ = self.codec.encode(&mut packet, &mut other);
+        }
+    }
+
+    /// The id that the codec gives the next chunk. It is raised by this.
+    pub fn next_id(&mut self, alloc: A) -> Option<u8> {
+        let mut other = BytesMut::new(alloc);
+        let mut packet = b"".as_slice();
+        match self.codec.encode(&mut packet, &mut other) {
+            Ok(()) => other.as_slice().last().copied(),
+            Err(_) => None,
+        }
+    }
+
+    pub fn stands(&self) -> bool {
+        self.codec.stands_at(&self.src, self.dst.as_slice())
+    }
+
+    /// How many pieces were appended, and what was answered. Where the codec doesn't stand, nothing
+    /// is called.
+    pub fn deliver(&mut self, pieces: &[&[u8]]) -> Option<(usize, Told)> {
+        if !self.codec.stands_at(&self.src, self.dst.as_slice()) {
+            return None;
+        }
+        let (count, answer) = deliver(
+            &mut self.codec,
+            &mut self.src,
+            &mut self.dst,
+            pieces,
+            &mut self.out,
+        );
+        Some((count, Told::of_deliver(answer)))
+    }
+
+    /// The same in two runs, the first over so many pieces.
+    pub fn deliver_in_two(&mut self, pieces: &[&[u8]], first: usize) -> Option<(usize, Told)> {
+        let (front, back) = pieces.split_at(first.min(pieces.len()));
+        let (count, told) = self.deliver(front)?;
+        if told != Told::Waits {
+            return Some((count, told));
+        }
+        let (more, told) = self.deliver(back)?;
+        Some((count.wrapping_add(more), told))
+    }
+
+    /// As `deliver`; where it stops at the limit, it goes on without one.
+    pub fn deliver_raised(&mut self, pieces: &[&[u8]]) -> Option<(usize, Told)> {
+        let (count, told) = self.deliver(pieces)?;
+        self.codec.max_allowed_packet = usize::MAX;
+        if told != Told::TooLarge {
+            return Some((count, told));
+        }
+        let (_, left) = pieces.split_at(count.min(pieces.len()));
+        let (more, told) = self.deliver(left)?;
+        Some((count.wrapping_add(more), told))
+    }
+
+    /// Whether these packets came out, and these bytes stand in `src` and in `dst`.
+    pub fn shows(&self, packets: &[&[u8]], src: &[u8], dst: &[u8]) -> bool {
+        self.out.len() == packets.len()
+            && self
+                .out
+                .iter()
+                .zip(packets)
+                .all(|(out, packet)| out.as_slice() == *packet)
+            && self.src.as_slice() == src
+            && self.dst.as_slice() == dst
+    }
+}
