@@ -105,8 +105,10 @@ impl<A: Allocator + Copy, T: Target<A>> Bench<T, A> {
     }
 
     fn grew(&self, growths: u64, room: usize) -> bool {
-        let counted = self.dst.growths();
-        counted == 0 || (counted == growths && self.dst.room() == room)
+        match self.dst.growth() {
+            Some(counted) => counted == (growths, room),
+            None => true,
+        }
     }
 
     // Changes one of the three.

@@ -1,6 +1,6 @@
 //! A stream beside its plain reading, and whether a run ends as the reading says.
 
-use crate::line::Line;
+use crate::line::{Line, are_packets};
 use crate::plain::{Reading, between, reading_of};
 use crate::told::Told;
 use std::alloc::{AllocError, Allocator, Global};
@@ -27,7 +27,7 @@ pub fn least_count(shown_at: usize, there: usize, pieces: &[&[u8]]) -> usize {
 }
 
 // Whether two lists, each with an allocator of its own, have the same packets.
-fn are_packets<A: Allocator>(packets: &[Vec<u8, A>], wanted: &[Vec<u8>]) -> bool {
+fn are_same<A: Allocator>(packets: &[Vec<u8, A>], wanted: &[Vec<u8>]) -> bool {
     let mut same = packets.len() == wanted.len();
     for (packet, wanted) in packets.iter().zip(wanted) {
         same = same && packet.as_slice() == wanted.as_slice();
@@ -67,7 +67,7 @@ impl<'a> Case<'a> {
     /// Whether a line ended as the reading says, with these bytes of the stream left.
     pub fn ends<A: Allocator + Copy>(&self, line: &Line<A>, told: Told, left: &[u8]) -> bool {
         told == self.reading.told
-            && are_packets(line.out.as_slice(), self.reading.packets.as_slice())
+            && are_same(line.out.as_slice(), self.reading.packets.as_slice())
             && line.dst.as_slice() == self.reading.held.as_slice()
             && left == between(self.stream, self.reading.left, self.stream.len())
             && line.codec.max_allowed_packet == self.limit
@@ -100,9 +100,8 @@ impl<'a> Case<'a> {
 
 /// Whether a stream is read as these packets, with this fault, these bytes held, and so many left.
 pub fn is_read(reading: &Reading, packets: &[&[u8]], told: Told, held: &[u8], left: usize) -> bool {
-    let mut same = reading.packets.len() == packets.len();
-    for (packet, wanted) in reading.packets.iter().zip(packets) {
-        same = same && packet.as_slice() == *wanted;
-    }
-    same && reading.told == told && reading.held.as_slice() == held && reading.left == left
+    are_packets(reading.packets.as_slice(), packets)
+        && reading.told == told
+        && reading.held.as_slice() == held
+        && reading.left == left
 }

@@ -1,5 +1,6 @@
 //! Packets from a stream that comes in pieces, row by row.
 
+use crate::case::Case;
 use crate::line::Line;
 use crate::plain::low_byte;
 use crate::told::{Told, ensure};
@@ -151,21 +152,15 @@ fn what_src_holds_is_delivered_first(rt: HostRuntime) -> Result<(), Fail> {
     ensure(src_is_delivered(rt.alloc())?, "an empty packet, and a byte")
 }
 
-// Many empty packets in one piece, with ids that pass 255.
+// Whether many empty packets in one piece come out, though their ids pass 255.
 fn ids_go_round(alloc: Global) -> Result<bool, AllocError> {
     let mut stream = Vec::new(alloc);
     for i in 0..257usize {
         stream.extend_from_slice(&[0, 0, 0, low_byte(i)])?;
     }
-    let mut line = Line::<Global>::new(alloc, 0);
-    let told = line.deliver(&[stream.as_slice()]);
-    let all_empty = line.out.iter().all(|packet| packet.is_empty());
-    Ok(
-        told == Some((1, Told::Waits))
-            && line.out.len() == 257
-            && all_empty
-            && line.next_id(alloc) == Some(1),
-    )
+    let case = Case::new(alloc, 0, 0, stream.as_slice())?;
+    let all = case.reading.packets.len() == 257 && case.reading.next_id == 1;
+    Ok(all && case.agrees(alloc, b"", &[stream.as_slice()], 0)?)
 }
 
 #[test]

@@ -90,13 +90,17 @@ impl<A: Allocator + Copy> Line<A> {
 
     /// Whether these packets came out, and these bytes stand in `src` and in `dst`.
     pub fn shows(&self, packets: &[&[u8]], src: &[u8], dst: &[u8]) -> bool {
-        self.out.len() == packets.len()
-            && self
-                .out
-                .iter()
-                .zip(packets)
-                .all(|(out, packet)| out.as_slice() == *packet)
+        are_packets(self.out.as_slice(), packets)
             && self.src.as_slice() == src
             && self.dst.as_slice() == dst
     }
+}
+
+/// Whether these are the packets that are wanted.
+pub fn are_packets<A: Allocator>(packets: &[Vec<u8, A>], wanted: &[&[u8]]) -> bool {
+    let mut same = packets.len() == wanted.len();
+    for (packet, wanted) in packets.iter().zip(wanted) {
+        same = same && packet.as_slice() == *wanted;
+    }
+    same
 }

@@ -13,14 +13,9 @@ pub trait Target<A: Allocator>: PacketDst + Drop {
     /// Nothing is held.
     fn empty(alloc: A) -> Self;
 
-    /// How often it was asked for room, where it counts that.
-    fn growths(&self) -> u64 {
-        0
-    }
-
-    /// The room that it was last asked for, where it counts that.
-    fn room(&self) -> usize {
-        0
+    /// How often it was asked for room, and for how much at last. None where it doesn't count.
+    fn growth(&self) -> Option<(u64, usize)> {
+        None
     }
 }
 
@@ -81,12 +76,8 @@ impl<A: Allocator> Target<A> for Counting<A> {
         }
     }
 
-    fn growths(&self) -> u64 {
-        self.asked
-    }
-
-    fn room(&self) -> usize {
-        self.room
+    fn growth(&self) -> Option<(u64, usize)> {
+        Some((self.asked, self.room))
     }
 }
 
