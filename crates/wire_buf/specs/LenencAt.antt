@@ -49,7 +49,7 @@ behind_at-is first count rest behind form = elim (cases_lt (length rest) count) 
       rw (le-ltb (length rest) count there) (
         omega (arith, there),
         subst (λ n. EatsSpelling IsLenencOrMark (first ∷ rest) (le_number (take count rest)) (drop n (first ∷ rest))) place
-        (reads_behind first count (first ∷ rest) rest (Some (le_number (take count rest))) (drop count rest) refl behind form (there, refl, refl)),
+            (reads_behind first count (first ∷ rest) rest (Some (le_number (take count rest))) (drop count rest) refl behind form (there, refl, refl)),
       )
 ]
 

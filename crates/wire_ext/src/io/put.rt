@@ -1,6 +1,6 @@
 //! Numbers and texts put into a buffer.
 
-ghost use Rattle.std.specs.Prelude.{◌≡◌, ◌<◌, ◌≤◌, ◌^◌, ◌++◌, length, take, OnOk, IfErr};
+ghost use Rattle.std.specs.Prelude.{◌≡◌, ◌+◌, ◌<◌, ◌≤◌, ◌^◌, ◌++◌, length, take, OnOk, IfErr};
 ghost use Rattle.std.specs.Int.{cast_unsigned, w32, w64};
 ghost use Rattle.bytes.specs.Filled.{UsesSpare};
 ghost use Rattle.wire_buf.specs.declared.error.WireError.TheVariants.{OutOfMemory};
@@ -84,7 +84,8 @@ pub trait BufMutExt: BufMut {
     final fn put_lenenc_str(&mut self, text: &[u8]) -> Result<(), WireError>
     where
         Self: Sized,
-        ensures { PutsText result (Self.written self.old) (Self.written self.new) (Self.spare self.old) (lenenc_bytes (length text.now)) text.now }
+        ensures text { PutsText result (Self.written self.old) (Self.written self.new) (Self.spare self.old) (lenenc_bytes (length text.now)) text.now }
+        ensures spare { OnOk result (Self.spare self.old ≤ Self.spare self.new + length (lenenc_bytes (length text.now) ++ text.now)) }
     {
         self.put_lenenc_int(text.len() as u64)?;
         self.put_slice(text)?;
@@ -155,8 +156,9 @@ pub trait BufMutExt: BufMut {
     final fn put_u8_str(&mut self, text: &[u8]) -> Result<(), WireError>
     where
         Self: Sized,
-        ensures { let cut = take u8_max text.now in
+        ensures text { let cut = take u8_max text.now in
             PutsText result (Self.written self.old) (Self.written self.new) (Self.spare self.old) (le_bytes 1 (length cut)) cut }
+        ensures spare { OnOk result (Self.spare self.old ≤ Self.spare self.new + (1 + length (take u8_max text.now))) }
     {
         let cut = first_bytes(text, longest_u8_str());
         self.put_u8(cut.len() as u8)?;
@@ -169,8 +171,9 @@ pub trait BufMutExt: BufMut {
     final fn put_u32_str(&mut self, text: &[u8]) -> Result<(), WireError>
     where
         Self: Sized,
-        ensures { let cut = take u32_max text.now in
+        ensures text { let cut = take u32_max text.now in
             PutsText result (Self.written self.old) (Self.written self.new) (Self.spare self.old) (le_bytes 4 (length cut)) cut }
+        ensures spare { OnOk result (Self.spare self.old ≤ Self.spare self.new + (4 + length (take u32_max text.now))) }
     {
         let cut = first_bytes(text, longest_u32_str());
         self.put_u32_le(cut.len() as u32)?;
