@@ -1,0 +1,78 @@
+//! Callers of the fields of a payload, as CALLING.md shows them.
+
+ghost use Rattle.mysql_wire.specs.Lenenc.{lenenc_bytes, IsLenencOrMark};
+ghost use Rattle.mysql_wire.specs.Numbers.{le_number, le_bytes};
+ghost use Rattle.mysql_wire.specs.Spelling.{EatsSpelling};
+ghost use Rattle.std.specs.Io.KnownBytes.{Appends};
+ghost use Rattle.std.specs.Prelude.{◌≡◌, ◌++◌, length, OnOk, ℕ, List, drop, IfSome, ◌≤◌, ◌↔◌, take, IsSome};
+
+use bytes::BufMut;
+use mysql_wire::io::{BufMutExt, ParseBuf, WireError, WriteMysqlExt};
+
+/// What the server says at the end of rows.
+#[derive(Clone, Copy, Debug, PartialEq, Eq)]
+pub struct EofPacket {
+    pub warnings: u16,
+    pub status_flags: u16,
+}
+
+/// Reads an `EOF_Packet`: `fe`, the number of warnings and the status flags, two bytes each.
+pub fn read_eof(payload: &[u8]) -> Option<EofPacket>
+    ensures there { IsSome result ↔ ((5 ≤ length payload.now) × (le_number (take 1 payload.now) ≡ 0xfe)) }
+    ensures warnings { IfSome result (λ packet. packet.warnings ≡ le_number (take 2 (drop 1 payload.now))) }
+    ensures flags { IfSome result (λ packet. packet.status_flags ≡ le_number (take 2 (drop 3 payload.now))) }
+{
+    let mut buf = ParseBuf(payload);
+    if buf.len() < 5 || buf.eat_u8() != 0xfe {
+        return None;
+    }
+    let warnings = buf.eat_u16_le();
+    let status_flags = buf.eat_u16_le();
+    Some(EofPacket {
+        warnings,
+        status_flags,
+    })
+}
+
+/// Reads an `ERR_Packet`'s code and text, which borrows from the payload.
+pub fn read_error(payload: &[u8]) -> Option<(u16, &[u8])>
+    ensures code { IfSome result (λ error. error.0 ≡ le_number (take 2 (drop 1 payload.now))) }
+    ensures text { IfSome result (λ error. error.1.now ≡ drop 3 payload.now) }
+{
+    let mut buf = ParseBuf(payload);
+    if buf.checked_eat_u8()? != 0xff {
+        return None;
+    }
+    let code = buf.checked_eat_u16_le()?;
+    Some((code, buf.eat_all()))
+}
+
+/// Reads the counts of an `OK_Packet`: the rows that were changed, and the last id that was inserted.
+pub fn read_ok(payload: &[u8]) -> Option<(u64, u64)>
+    ensures { IfSome result (λ counts. (mid : List ℕ) × (rest : List ℕ)
+        × EatsSpelling IsLenencOrMark (drop 1 payload.now) counts.0 mid
+        × EatsSpelling IsLenencOrMark mid counts.1 rest) }
+{
+    let mut buf = ParseBuf(payload);
+    if buf.checked_eat_u8()? != 0 {
+        return None;
+    }
+    let changed = buf.checked_eat_lenenc_int()?;
+    let last_id = buf.checked_eat_lenenc_int()?;
+    Some((changed, last_id))
+}
+
+/// Puts flags of three bytes and the name of a schema.
+pub fn put_schema<B: BufMut>(buf: &mut B, flags: u32, schema: &[u8]) -> Result<(), WireError>
+    ensures { OnOk result (B.written buf.new ≡ B.written buf.old ++ (le_bytes 3 flags ++ (lenenc_bytes (length schema.now) ++ schema.now))) }
+{
+    buf.put_u24_le(flags)?;
+    buf.put_lenenc_str(schema)
+}
+
+/// Writes a name behind its length, and counts what was written.
+pub fn write_name<W: WriteMysqlExt>(out: &mut W, name: &[u8]) -> Result<u64, WireError>
+    ensures { OnOk result (Appends (W.contents out.old) (W.contents out.new) (lenenc_bytes (length name.now) ++ name.now)) }
+{
+    out.write_lenenc_str(name)
+}
