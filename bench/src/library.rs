@@ -5,6 +5,11 @@ unsafe extern "C" {
     fn mw_append(ptr: *const u8, len: usize, piece: u64, reps: u64) -> u64;
     fn mw_decode(ptr: *const u8, len: usize, piece: u64, limit: u64, reps: u64) -> u64;
     fn mw_decode_fresh(ptr: *const u8, len: usize, piece: u64, limit: u64, reps: u64) -> u64;
+    fn mw_row(ptr: *const u8, len: usize, cols: u64, form: u64, reps: u64) -> u64;
+    fn mw_row_copy(ptr: *const u8, len: usize, form: u64, reps: u64) -> u64;
+    fn mw_null(ptr: *const u8, len: usize, form: u64, reps: u64) -> u64;
+    fn mw_put_lenenc(ptr: *const u8, len: usize, form: u64, reps: u64) -> u64;
+    fn mw_eat_lenenc(ptr: *const u8, len: usize, reps: u64) -> u64;
 }
 
 /// A payload framed `count` times a repetition: form 0 by `packet_to_chunks`, form 1 by `PacketCodec::encode`.
@@ -24,4 +29,29 @@ pub fn decode(bytes: &[u8], piece: u64, limit: u64, fresh: bool, reps: u64) -> u
     } else {
         unsafe { mw_decode(bytes.as_ptr(), bytes.len(), piece, limit, reps) }
     }
+}
+
+/// Rows of length-encoded texts read, form 0 by `checked_eat_lenenc_str`.
+pub fn row(bytes: &[u8], cols: u64, form: u64, reps: u64) -> u64 {
+    unsafe { mw_row(bytes.as_ptr(), bytes.len(), cols, form, reps) }
+}
+
+/// The same read and written again, form 0 into a `Vec`, form 1 into a `BytesMut`.
+pub fn row_copy(bytes: &[u8], form: u64, reps: u64) -> u64 {
+    unsafe { mw_row_copy(bytes.as_ptr(), bytes.len(), form, reps) }
+}
+
+/// Texts that a zero ends, form 0 by `eat_null_str`.
+pub fn null(bytes: &[u8], form: u64, reps: u64) -> u64 {
+    unsafe { mw_null(bytes.as_ptr(), bytes.len(), form, reps) }
+}
+
+/// Numbers of 8 bytes put as length-encoded integers, form 0 into a `Vec`, form 1 into a `BytesMut`.
+pub fn put_lenenc(bytes: &[u8], form: u64, reps: u64) -> u64 {
+    unsafe { mw_put_lenenc(bytes.as_ptr(), bytes.len(), form, reps) }
+}
+
+/// Length-encoded integers read.
+pub fn eat_lenenc(bytes: &[u8], reps: u64) -> u64 {
+    unsafe { mw_eat_lenenc(bytes.as_ptr(), bytes.len(), reps) }
 }

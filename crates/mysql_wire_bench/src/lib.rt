@@ -4,4 +4,5 @@
 #![tactic(auto)]
 
 mod check;
+mod fields;
 mod packets;

@@ -1,4 +1,7 @@
-//! What every layer above stands on: the errors, and numbers as bytes.
+//! What every layer above stands on: a buffer that is read from its front, the traits of reading and
+//! writing, and the errors.
 #![tactic(auto)]
 
 pub mod error;
+pub mod io;
+pub mod proto;

@@ -1,0 +1,71 @@
+//! Numbers and texts over a writer.
+
+ghost use Rattle.std.specs.Prelude.{◌≡◌, ◌++◌, ◌-◌, ◌^◌, length, min, OnOk, IfOk, IfErr};
+ghost use Rattle.std.specs.Io.KnownBytes.{Appends};
+ghost use Rattle.wire_buf.specs.Spelling.{IsShortest};
+ghost use Rattle.wire_buf.specs.Lenenc.{IsLenenc, IsLenencOrMark, lenenc_bytes};
+ghost use Rattle.wire_ext.specs.Streams.{IsIo};
+
+use super::spelling::{four_bytes, nine_bytes, three_bytes};
+use byteorder::WriteBytesExt;
+use wire_buf::error::WireError;
+
+// Writes the spelling of a length-encoded integer, in one write, and counts its bytes.
+fn write_spelling<W: WriteBytesExt>(writer: &mut W, n: u64) -> Result<u64, WireError>
+    ensures written { OnOk result (Appends (W.contents writer.old) (W.contents writer.new) (lenenc_bytes n)) }
+    ensures count { IfOk result (λ count. count ≡ length (lenenc_bytes n)) }
+    ensures err { IfErr result IsIo }
+{
+    if n < 251 {
+        writer.write_all(&[n as u8]).map_err(WireError::Io)?;
+        Ok(1)
+    } else if n < 65_536 {
+        writer.write_all(&three_bytes(n)).map_err(WireError::Io)?;
+        Ok(3)
+    } else if n < 16_777_216 {
+        writer.write_all(&four_bytes(n)).map_err(WireError::Io)?;
+        Ok(4)
+    } else {
+        writer.write_all(&nine_bytes(n)).map_err(WireError::Io)?;
+        Ok(9)
+    }
+}
+
+/// Writes MySQL's numbers and texts, and answers how many bytes were written. `Io` is the writer's
+/// fault; how much went out by then is not said.
+pub trait WriteMysqlExt: WriteBytesExt {
+    /// Writes an `int<lenenc>`: 1, 3, 4 or 9 bytes, as few as hold the number.
+    ///
+    /// <https://dev.mysql.com/doc/dev/mysql-server/latest/page_protocol_basic_dt_integers.html>
+    final fn write_lenenc_int(&mut self, n: u64) -> Result<u64, WireError>
+    where
+        Self: Sized,
+        ensures written { OnOk result (Appends (Self.contents self.old) (Self.contents self.new) (lenenc_bytes n)) }
+        ensures count { IfOk result (λ count. count ≡ length (lenenc_bytes n)) }
+        ensures err { IfErr result IsIo }
+
+        ensures shortest { IsShortest IsLenenc n (lenenc_bytes n) }
+        ensures shortest_in_a_buffer { IsShortest IsLenencOrMark n (lenenc_bytes n) }
+    {
+        write_spelling(self, n)
+    }
+
+    /// Writes a `string<lenenc>`: the text behind its length as an `int<lenenc>`. A count past
+    /// `u64::MAX` stays there.
+    ///
+    /// <https://dev.mysql.com/doc/dev/mysql-server/latest/page_protocol_basic_dt_strings.html>
+    final fn write_lenenc_str(&mut self, text: &[u8]) -> Result<u64, WireError>
+    where
+        Self: Sized,
+        ensures written { OnOk result (Appends (Self.contents self.old) (Self.contents self.new) (lenenc_bytes (length text.now) ++ text.now)) }
+        ensures count { IfOk result (λ count. count ≡ min (length (lenenc_bytes (length text.now) ++ text.now)) (2 ^ 64 - 1)) }
+        ensures err { IfErr result IsIo }
+    {
+        let len = text.len() as u64;
+        let count = self.write_lenenc_int(len)?;
+        self.write_all(text).map_err(WireError::Io)?;
+        Ok(count.saturating_add(len))
+    }
+}
+
+impl<T: WriteBytesExt> WriteMysqlExt for T {}
