@@ -428,7 +428,7 @@ fn made_up_streams_agree_whatever_is_refused(rt: HostRuntime) -> Result<(), Fail
 }
 
 // Whether a call of `decode` whose chunk in front is empty, not whole or past the limit asks for no
-// memory; nor do `stands_at` and `reset_seq_id`.
+// memory; nor do `stands_at`, `sync_seq_id` and `reset_seq_id`.
 fn asks_for_none<'h, T: Target<&'h Heap>>(
     heap: &'h Heap,
     src: &[u8],
@@ -444,6 +444,7 @@ fn asks_for_none<'h, T: Target<&'h Heap>>(
     // Where its header is remembered, a second call asks for none either.
     let again = told != Told::Waits || bench.decode() == told;
     let stands = bench.stands();
+    bench.codec.sync_seq_id();
     bench.codec.reset_seq_id();
     Ok(goes && again && stands && heap.left() == 0)
 }
