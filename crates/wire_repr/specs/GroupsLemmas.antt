@@ -1,6 +1,6 @@
 -- Numbers in groups of seven bits are read back, and from the fewest bytes.
-use Rattle.std.proofs.Common.{◌≡◌, ◌≤◌, ◌<◌, ℕ, zero, suc, ◌+◌, ◌/◌, ◌%◌, ◌^◌, List, [], ◌∷◌, ◌++◌, length, Result, Ok, Err, inl, inr, refl, sym, ap, subst, ◌∙◌, arith}
-use Rattle.std.proofs.Math.Nat.{pow-succ'}
+use Rattle.std.proofs.Common.{◌≡◌, ◌≤◌, ◌<◌, ℕ, zero, suc, ◌+◌, ◌*◌, ◌/◌, ◌%◌, ◌^◌, List, [], ◌∷◌, ◌++◌, length, Result, Ok, Err, inl, inr, refl, sym, ap, subst, ◌∙◌, arith}
+use Rattle.std.proofs.Math.Nat.{pow-succ', pow-le-pow_right, mul-le-mul_right}
 use Rattle.std.proofs.lemmas.Bool.{cases_lt, lt-ltb, le-ltb}
 use Rattle.std.proofs.lemmas.List.{length-append, append_assoc}
 use Rattle.wire_buf.specs.declared.error.WireError.{WireError}
@@ -131,3 +131,62 @@ groups_bytes-back val rest value = Leaves-back ReadsGroups (groups_bytes val) va
 pub ReadsGroups-left : (old : List ℕ) (answer : Result ℕ WireError) (new : List ℕ) → ReadsGroups old answer new → Reads (Leaves ReadsGroups) old answer new
 ReadsGroups-left old (Ok n) new told = Reads-left ReadsGroups old (Ok n) new told.0 told.2 told
 ReadsGroups-left old (Err error) new told = Reads-left ReadsGroups old (Err error) new told.0 told.1 told
+
+-- ---- by a reader
+
+-- one byte more
+pub groups_number-append : (front : List ℕ) (last : ℕ) → groups_number (front ++ last ∷ []) ≡ groups_number front + last % 128 * 128 ^ length front
+groups_number-append [] last = omega arith
+groups_number-append (byte ∷ front) last =
+    let more = groups_number-append front last in
+    rw (more, pow-succ' 128 (length front)) (omega arith)
+
+pub GoOn-append : (front : List ℕ) (last : ℕ) → GoOn front → 128 ≤ last → GoOn (front ++ last ∷ [])
+GoOn-append [] last on high = (high, tt)
+GoOn-append (byte ∷ front) last on high = (on.0, GoOn-append front last on.1 high)
+
+-- so many bytes were read, and none is the last
+abbrev pub SoFar : List ℕ → ℕ → ℕ → List ℕ → Type 0
+SoFar old place number new = (front : List ℕ) × (old ≡ front ++ new) × GoOn front × (length front ≡ place) × (number ≡ groups_number front)
+
+-- what the next group adds is below the next weight
+pub bounded : (place weight number byte : ℕ) → place < 5 → weight ≡ 128 ^ place → number < weight → (weight ≤ 128 ^ 4) × (number + byte % 128 * weight < 128 * weight)
+bounded place weight number byte few is low =
+    let most : 128 ^ place ≤ 128 ^ 4 = pow-le-pow_right {n = 128} (omega arith) {i = place} {j = 4} (omega (arith, few)) in
+    let part : byte % 128 * weight ≤ 127 * weight = mul-le-mul_right {m = byte % 128} {n = 127} weight (omega arith) in
+    (omega (arith, is, most), omega (arith, low, part))
+
+next_value : (front : List ℕ) (place number weight byte : ℕ) → length front ≡ place → number ≡ groups_number front → weight ≡ 128 ^ place → number + byte % 128 * weight ≡ groups_number (front ++ byte ∷ [])
+next_value front place number weight byte len value is =
+    ap (λ n. n + byte % 128 * weight) value ∙ ap (λ w. groups_number front + byte % 128 * w) (is ∙ ap (λ k. 128 ^ k) (sym len)) ∙ sym (groups_number-append front byte)
+
+next_whole : (old front mid new : List ℕ) (byte : ℕ) → old ≡ front ++ mid → mid ≡ byte ∷ new → old ≡ (front ++ byte ∷ []) ++ new
+next_whole old front mid new byte whole head = whole ∙ ap (λ l. front ++ l) head ∙ sym (append_assoc front (byte ∷ []) new)
+
+-- another byte, and it goes on
+pub SoFar-more : (old : List ℕ) (place number weight byte : ℕ) (mid new : List ℕ) → SoFar old place number mid → weight ≡ 128 ^ place → mid ≡ byte ∷ new → 128 ≤ byte
+    → SoFar old (place + 1) (number + byte % 128 * weight) new
+SoFar-more old place number weight byte mid new (front, whole, on, len, value) is head high = (
+  front ++ byte ∷ [],
+  next_whole old front mid new byte whole head,
+  GoOn-append front byte on high,
+  length-append front (byte ∷ []) ∙ ap (λ n. n + 1) len,
+  next_value front place number weight byte len value is,
+)
+
+-- or it is the last
+pub SoFar-last : (old : List ℕ) (place number weight byte : ℕ) (mid new : List ℕ) → SoFar old place number mid → weight ≡ 128 ^ place → mid ≡ byte ∷ new → byte < 128 → place < 5
+    → (eaten : List ℕ) × (old ≡ eaten ++ new) × IsWhole eaten × (length eaten ≤ 5) × (number + byte % 128 * weight ≡ groups_number eaten)
+SoFar-last old place number weight byte mid new (front, whole, on, len, value) is head low few = (
+  front ++ byte ∷ [],
+  next_whole old front mid new byte whole head,
+  (front, byte, refl, on, low),
+  omega (arith, length-append front (byte ∷ []), len, few),
+  next_value front place number weight byte len value is,
+)
+
+pub next_weight : (place weight : ℕ) → weight ≡ 128 ^ place → weight * 128 ≡ 128 ^ (place + 1)
+next_weight place weight is =
+    let next : place + 1 ≡ suc place = omega arith in
+    let power : 128 ^ (place + 1) ≡ 128 ^ suc place = ap (λ k. 128 ^ k) next in
+    omega (arith, is, power, pow-succ' 128 place)

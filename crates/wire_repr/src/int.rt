@@ -10,6 +10,7 @@ mod cut;
 mod fixed;
 mod halves;
 mod lenenc;
+mod varlen;
 
 use crate::wire::Wire;
 pub use cut::{LeI24, LeI56, LeU24, LeU48, LeU56};
@@ -20,6 +21,7 @@ use std::alloc::Allocator;
 use std::fmt::Debug;
 use std::hash::Hash;
 use std::marker::PhantomData;
+pub use varlen::VarLen;
 use wire_buf::error::WireError;
 use wire_buf::io::ParseBuf;
 use wire_buf::proto::{MyDeserialize, MySerialize, ReadSize};

@@ -1,6 +1,8 @@
 //! Length-encoded integers.
 
-ghost use Rattle.std.specs.Prelude.{◌<◌, ◌^◌, None};
+ghost use Rattle.std.specs.Prelude.{◌≡◌, ◌<◌, ◌^◌, ◌++◌, None, OnOk, IfErr};
+ghost use Rattle.wire_buf.specs.declared.error.WireError.TheVariants.{OutOfMemory};
+ghost use Rattle.wire_buf.specs.Spelling.{IsShortest};
 ghost use Rattle.wire_buf.specs.Lenenc.{IsLenencOrMark, lenenc_bytes};
 ghost use Rattle.wire_repr.specs.Lenenc.{lenenc_bytes-back};
 ghost use Rattle.wire_repr.specs.Spelled.{Leaves, NumberOrEof};
@@ -44,7 +46,11 @@ impl IntRepr for LenEnc {
 
     ghost kept = { λ val. val };
 
-    fn serialize<A: Allocator>(val: u64, buf: &mut Vec<u8, A>) -> Result<(), WireError> {
+    fn serialize<A: Allocator>(val: u64, buf: &mut Vec<u8, A>) -> Result<(), WireError>
+        ensures ok { OnOk result (buf.new.items ≡ buf.old.items ++ lenenc_bytes val) }
+        ensures err { IfErr result (λ error. (error ≡ OutOfMemory) × (buf.new.items ≡ buf.old.items)) }
+        ensures shortest { IsShortest IsLenencOrMark val (lenenc_bytes val) }
+    {
         buf.put_lenenc_int(val)
     }
 
