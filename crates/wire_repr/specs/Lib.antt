@@ -5,3 +5,8 @@ pub mod Spelled
 pub mod Lenenc
 pub mod Groups
 pub mod GroupsLemmas
+pub mod Texts
+pub mod BareTexts
+pub mod NullTexts
+pub mod NullTextLemmas
+pub mod PrefixedTexts

@@ -3,4 +3,5 @@
 #![tactic(auto)]
 
 pub mod int;
+pub mod text;
 pub mod wire;
