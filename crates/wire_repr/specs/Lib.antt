@@ -10,3 +10,4 @@ pub mod BareTexts
 pub mod NullTexts
 pub mod NullTextLemmas
 pub mod PrefixedTexts
+pub mod Constants

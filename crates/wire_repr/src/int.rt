@@ -128,5 +128,5 @@ impl<'de, A: Allocator + Copy, T: IntRepr> Wire<'de, A> for RawInt<T> {
 
     ghost comes_back = { λ ctx int rest answer eaten value good read. Through-back (λ back. back.0) (T.IntRepr.reads (T.IntRepr.bytes int.0 ++ rest)) (T.IntRepr.kept int.0) (length (T.IntRepr.bytes int.0)) (T.IntRepr.comes_back int.0 rest value) answer eaten read };
 
-    ghost of_size = { λ int size stated. T.IntRepr.of_size int.0 size stated };
+    ghost of_size = { λ int size _ stated. T.IntRepr.of_size int.0 size stated };
 }

@@ -2,6 +2,7 @@
 //! what is written is read back.
 #![tactic(auto)]
 
+pub mod constant;
 pub mod int;
 pub mod text;
 pub mod wire;

@@ -79,7 +79,7 @@ fn known_text(_text: &[u8])
 /// A text that is written as `T` says. What is read borrows from the payload.
 #[derive(Drop)]
 #[derive_where(Clone; A)]
-#[derive_where(PartialEq, Eq, PartialOrd, Ord, Hash)]
+#[derive_where(Debug, PartialEq, Eq, PartialOrd, Ord, Hash)]
 pub struct RawBytes<'a, T: BytesRepr, A: Allocator = Global>(
     pub CowSlice<'a, u8, A>,
     PhantomData<T>,
@@ -119,6 +119,11 @@ impl<'a, T: BytesRepr, A: Allocator> RawBytes<'a, T, A> {
         self.0.as_slice() == other
     }
 
+    /// What `as_bytes` gives as a string, each part of it that is no UTF-8 replaced by U+FFFD.
+    pub fn as_str<B: Allocator>(&self, alloc: B) -> Result<String<B>, WireError> {
+        Ok(String::from_utf8_lossy(alloc, self.as_bytes())?)
+    }
+
     /// The same text, owned. A copy is made of a borrowed one alone.
     pub fn into_owned(self, alloc: A) -> Result<RawBytes<'static, T, A>, WireError>
         ensures ok { IfOk result (λ owned. IsOwned owned.0 × (cow_slice_items owned.0 ≡ cow_slice_items self.entry.0)) }
@@ -131,6 +136,31 @@ impl<'a, T: BytesRepr, A: Allocator> RawBytes<'a, T, A> {
             }
             CowSlice::Owned(owned) => Ok(RawBytes(CowSlice::Owned(owned), PhantomData)),
         }
+    }
+}
+
+impl<'a, T: BytesRepr, A: Allocator> From<&'a [u8]> for RawBytes<'a, T, A> {
+    ghost from_gives = { λ text raw. IsBorrowedText raw.0 text.now };
+
+    fn from(text: &'a [u8]) -> Self {
+        RawBytes::new(CowSlice::Borrowed(text))
+    }
+}
+
+impl<'a, T: BytesRepr, A: Allocator> From<Vec<u8, A>> for RawBytes<'a, T, A> {
+    ghost from_gives = { λ text raw. IsOwned raw.0 × (cow_slice_items raw.0 ≡ text.items) };
+
+    fn from(text: Vec<u8, A>) -> Self {
+        RawBytes::new(CowSlice::Owned(text))
+    }
+}
+
+/// The empty text.
+impl<'a, T: BytesRepr, A: Allocator> Default for RawBytes<'a, T, A> {
+    fn default() -> Self
+        ensures { cow_slice_items result.0 ≡ [] }
+    {
+        RawBytes::new(CowSlice::Borrowed(&[]))
     }
 }
 
@@ -181,5 +211,5 @@ impl<'de, A: Allocator + Copy, T: BytesRepr> Wire<'de, A> for RawBytes<'de, T, A
 
     ghost comes_back = { λ ctx text rest answer eaten value good read. Borrows-back (λ back. back.0) (T.BytesRepr.reads ctx (T.BytesRepr.bytes (cow_slice_items text.0) ++ rest)) (T.BytesRepr.kept (cow_slice_items text.0)) (length (T.BytesRepr.bytes (cow_slice_items text.0))) (T.BytesRepr.comes_back ctx (cow_slice_items text.0) rest value good) answer eaten read };
 
-    ghost of_size = { λ text size stated. T.BytesRepr.of_size (cow_slice_items text.0) size stated };
+    ghost of_size = { λ text size _ stated. T.BytesRepr.of_size (cow_slice_items text.0) size stated };
 }

@@ -32,5 +32,5 @@ pub trait Wire<'de, A: Allocator + Copy>: MySerialize + MyDeserialize<'de, A> {
         is_value value → good ctx value rest → Self.reads ctx (Self.bytes value ++ rest) answer eaten
         → ComesBack (kept value) takes_memory (length (Self.bytes value)) answer eaten };
 
-    ghost of_size: { (value : Self) (size : ℕ) → Self.Size.SIZE ≡ Some size → length (Self.bytes value) ≡ size };
+    ghost of_size: { (value : Self) (size : ℕ) → is_value value → Self.Size.SIZE ≡ Some size → length (Self.bytes value) ≡ size };
 }
