@@ -1,6 +1,6 @@
 //! Bytes that are always the same, or that say nothing.
 
-ghost use Rattle.std.specs.Prelude.{◌≡◌, ◌∷◌, [], ◌++◌, length, replicate, Some, refl};
+ghost use Rattle.std.specs.Prelude.{ℕ, List, ◌<◌, ◌^◌, ◌≡◌, ◌∷◌, [], ◌++◌, length, replicate, Some, refl};
 ghost use Rattle.wire_buf.specs.Numbers.{le_bytes};
 ghost use Rattle.wire_buf.specs.NumberLemmas.{length-le_bytes};
 ghost use Rattle.wire_repr.specs.Constants.{ReadsConst, ReadsAny, ReadsConst-back, ReadsAny-back, array-back, length-zeros};
@@ -126,6 +126,68 @@ impl<'de, A: Allocator + Copy, T, const N: u32> Wire<'de, A> for ConstU32<T, N> 
     ghost comes_back = { λ ctx value rest answer eaten is good read. ReadsConst-back 4 (le_bytes 4 N) rest (length-le_bytes 4 N) answer eaten read };
 
     ghost of_size = { λ value size is stated. size-is 4 size (length (le_bytes 4 N)) stated (length-le_bytes 4 N) };
+}
+
+/// Which bytes a `ConstBytes` has, and the error that its own crate shows where there are others.
+pub trait ConstBytesValue<const LEN: usize> {
+    const VALUE: [u8; LEN];
+
+    type Error;
+
+    ghost VALUE: { List ℕ };
+
+    ghost length_is: { length VALUE ≡ LEN };
+
+    ghost fits: { LEN < 2 ^ 63 };
+}
+
+/// The bytes of `T`. Others are refused as `ConstMismatch`, and have been eaten.
+#[derive_where(Clone, Copy, Debug, PartialEq, Eq, Hash, Default)]
+pub struct ConstBytes<T, const LEN: usize>(PhantomData<T>);
+
+impl<T: ConstBytesValue<LEN>, const LEN: usize> MySerialize for ConstBytes<T, LEN> {
+    ghost bytes = { λ _. T.ConstBytesValue.VALUE };
+
+    fn serialize<A: Allocator>(&self, buf: &mut Vec<u8, A>) -> Result<(), WireError> {
+        buf.extend_from_slice(&T::VALUE)?;
+        Ok(())
+    }
+}
+
+impl<'de, A: Allocator + Copy, T: ConstBytesValue<LEN>, const LEN: usize> MyDeserialize<'de, A>
+    for ConstBytes<T, LEN> {
+    const SIZE: Option<usize> = Some(LEN);
+
+    type Size = Fixed<LEN>;
+
+    type Ctx = ();
+
+    ghost reads = { λ _. ReadsConst LEN T.ConstBytesValue.VALUE };
+
+    fn deserialize(_: A, _: (), buf: &mut ParseBuf<'de>) -> Result<Self, WireError> {
+        if buf.eat(LEN) == T::VALUE.as_slice() {
+            Ok(ConstBytes(PhantomData))
+        } else {
+            Err(WireError::InvalidData(InvalidReason::ConstMismatch))
+        }
+    }
+}
+
+impl<'de, A: Allocator + Copy, T: ConstBytesValue<LEN>, const LEN: usize> Wire<'de, A>
+    for ConstBytes<T, LEN> {
+    ghost is_value = { λ _. Unit {0} };
+
+    ghost good = { λ _ _ _. Unit {0} };
+
+    ghost kept = { λ _ _. Unit {0} };
+
+    ghost takes_memory = { ⊥ };
+
+    fn known(&self) {}
+
+    ghost comes_back = { λ ctx value rest answer eaten is good read. ReadsConst-back LEN T.ConstBytesValue.VALUE rest T.ConstBytesValue.length_is answer eaten read };
+
+    ghost of_size = { λ value size is stated. size-is LEN size (length T.ConstBytesValue.VALUE) stated T.ConstBytesValue.length_is };
 }
 
 /// `LEN` zeros. What is read in their place may be anything.
