@@ -8,12 +8,38 @@ pub mod io {
     pub use wire_ext::io::{BufMutExt, ReadMysqlExt, WriteMysqlExt};
 }
 
-/// Lengths, integers of the serialization library, and versions.
+/// Lengths, integers of the serialization library, versions, and fields of packets.
 pub mod misc {
     pub use wire_ext::misc::{
         lenenc_int_len, lenenc_str_len, read_varlen_uint, split_version, varlen_uint_size,
         write_varlen_uint,
     };
+
+    /// Numbers, texts and constants as fields of packets.
+    pub mod raw {
+        pub use wire_repr::constant::Skip;
+        pub use wire_repr::int::RawInt;
+        pub use wire_repr::text::RawBytes;
+
+        /// Numbers, by their representations.
+        pub mod int {
+            pub use wire_repr::constant::{ConstU8, ConstU32};
+            pub use wire_repr::int::{
+                IntRepr, IntSize, LeI16, LeI24, LeI32, LeI56, LeI64, LeU16, LeU24, LeU32,
+                LeU32LowerHalf, LeU32UpperHalf, LeU48, LeU56, LeU64, LenEnc, RawInt, VarLen,
+            };
+        }
+
+        /// Texts, by their representations.
+        pub mod bytes {
+            pub use wire_repr::constant::{ConstBytes, ConstBytesValue};
+            pub use wire_repr::int::LenEnc;
+            pub use wire_repr::text::{
+                BareBytes, BareU8Bytes, BareU16Bytes, BytesRepr, BytesSize, EofBytes,
+                FixedLengthText, NullBytes, RawBytes, U8Bytes, U32Bytes,
+            };
+        }
+    }
 }
 
 /// The numbers that packets are written in.
@@ -21,6 +47,7 @@ pub use wire_const as constants;
 
 pub mod proto {
     pub use wire_buf::proto::{Binary, Fixed, MyDeserialize, MySerialize, ReadSize, Text, Varying};
+    pub use wire_repr::wire::Wire;
 
     /// Packets and chunks.
     pub mod codec {

@@ -1,0 +1,8 @@
+use Rattle.std.proofs.Common.{◌<◌, ◌^◌, arith}
+use Rattle.wire_repr.proofs.constant.ConstBytesMySerialize.serialize.Goals as goal
+
+pub VALUE-requires : goal.VALUE-requires
+VALUE-requires g c = omega (arith, g.T.ConstBytesValue.fits)
+
+pub shared_whole_as_slice-extend_from_slice : goal.shared_whole_as_slice-extend_from_slice
+shared_whole_as_slice-extend_from_slice g c = omega (arith, g.T.ConstBytesValue.fits)

@@ -1,0 +1,8 @@
+//! Numbers and texts as they stand in packets: how each is written, how it is read, and the law that
+//! what is written is read back.
+#![tactic(auto)]
+
+pub mod constant;
+pub mod int;
+pub mod text;
+pub mod wire;

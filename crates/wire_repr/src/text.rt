@@ -1,0 +1,215 @@
+//! Texts.
+
+ghost use Rattle.std.specs.Prelude.{◌≡◌, ℕ, ◌↔◌, List, [], ◌++◌, length, take, min, Option, Some, Result, Ok, OnOk, IfOk, IfErr, IsTrue};
+ghost use Rattle.std.specs.Cow.{cow_slice_items};
+ghost use Rattle.wire_buf.specs.declared.error.WireError.{WireError};
+ghost use Rattle.wire_buf.specs.declared.error.WireError.TheVariants.{OutOfMemory};
+ghost use Rattle.wire_buf.specs.Reading.{HasBytes, Reads, Answers};
+ghost use Rattle.wire_repr.specs.Texts.{IsText, IsOwned, IsNotOwned, IsBorrowedText, Borrows, Borrows-back};
+
+mod null;
+mod prefixed;
+mod rest;
+
+use crate::wire::Wire;
+pub use null::NullBytes;
+pub use prefixed::{U8Bytes, U32Bytes};
+pub use rest::{BareBytes, BareU8Bytes, BareU16Bytes, EofBytes, FixedLengthText};
+use std::alloc::{Allocator, Global};
+use std::borrow::CowSlice;
+use std::cmp::min;
+use std::marker::PhantomData;
+use wire_buf::error::WireError;
+use wire_buf::io::ParseBuf;
+use wire_buf::proto::{MyDeserialize, MySerialize, ReadSize};
+
+/// How a text is written. One that a user writes has what those of this crate have, `RawBytes` and
+/// its law.
+pub trait BytesRepr {
+    /// How many bytes of a text are written at most.
+    const MAX_LEN: usize;
+
+    /// How many bytes it has, where that is always the same.
+    const SIZE: Option<usize>;
+
+    /// What a reader has to know beforehand.
+    type Ctx: Drop;
+
+    ghost MAX_LEN: { ℕ };
+
+    ghost SIZE: { Option ℕ };
+
+    /// What is written of a text.
+    ghost bytes: { List ℕ → List ℕ };
+
+    /// What may be answered to an input under a context, and how many bytes of it are eaten then.
+    ghost reads: { Self.Ctx → List ℕ → Result (List ℕ) WireError → ℕ → Type 0 };
+
+    /// The text comes back where it is read under this context and before these bytes.
+    ghost good: { Self.Ctx → List ℕ → List ℕ → Type 0 };
+
+    /// The text that is read back.
+    ghost kept: { List ℕ → List ℕ };
+
+    /// Appends the text's bytes. Where memory for them is refused, the buffer is as it was.
+    fn serialize<A: Allocator>(text: &[u8], buf: &mut Vec<u8, A>) -> Result<(), WireError>
+        ensures ok { OnOk result (buf.new.items ≡ buf.old.items ++ bytes text.now) }
+        ensures err { IfErr result (λ error. (error ≡ OutOfMemory) × (buf.new.items ≡ buf.old.items)) };
+
+    /// Reads a text from the front of a buffer, which has the bytes that the size asks for. It is
+    /// borrowed, and no memory is taken.
+    fn deserialize<'de, A: Allocator>(
+        ctx: Self::Ctx,
+        buf: &mut ParseBuf<'de>,
+    ) -> Result<CowSlice<'de, u8, A>, WireError>
+        requires { HasBytes SIZE buf.old.0.now }
+        ensures { Reads (λ input. Borrows (λ text. text) (reads ctx input)) buf.old.0.now result buf.new.0.now };
+
+    ghost comes_back: { (ctx : Self.Ctx) (text rest : List ℕ) → IsText text → good ctx text rest → (answer : Result (List ℕ) WireError) (eaten : ℕ)
+        → reads ctx (bytes text ++ rest) answer eaten → Answers (Ok (kept text), length (bytes text)) answer eaten };
+
+    ghost of_size: { (text : List ℕ) (size : ℕ) → SIZE ≡ Some size → length (bytes text) ≡ size };
+}
+
+// A text in hand is one.
+fn known_text(_text: &[u8])
+    ensures { IsText _text.now }
+{}
+
+/// A text that is written as `T` says. What is read borrows from the payload.
+#[derive(Drop)]
+#[derive_where(Clone; A)]
+#[derive_where(Debug, PartialEq, Eq, PartialOrd, Ord, Hash)]
+pub struct RawBytes<'a, T: BytesRepr, A: Allocator = Global>(
+    pub CowSlice<'a, u8, A>,
+    PhantomData<T>,
+);
+
+impl<'a, T: BytesRepr, A: Allocator> RawBytes<'a, T, A> {
+    pub fn new(text: CowSlice<'a, u8, A>) -> Self
+        ensures { result.0 ≡ text.entry }
+    {
+        RawBytes(text, PhantomData)
+    }
+
+    /// The length of what is written, where the text is longer than `MAX_LEN`: that.
+    pub fn len(&self) -> usize
+        ensures { result ≡ min (length (cow_slice_items self.now.0)) T.MAX_LEN }
+    {
+        min(self.0.len(), T::MAX_LEN)
+    }
+
+    pub fn is_empty(&self) -> bool
+        ensures { IsTrue result ↔ (min (length (cow_slice_items self.now.0)) T.MAX_LEN ≡ 0) }
+    {
+        self.len() == 0
+    }
+
+    /// The text, up to `MAX_LEN` bytes.
+    pub fn as_bytes(&self) -> &[u8]
+        ensures { result.now ≡ take T.MAX_LEN (cow_slice_items self.now.0) }
+    {
+        &self.0.as_slice()[..self.len()]
+    }
+
+    /// Whether the whole text, longer than `MAX_LEN` too, is this one.
+    pub fn eq_bytes(&self, other: &[u8]) -> bool
+        ensures { IsTrue result ↔ (cow_slice_items self.now.0 ≡ other.now) }
+    {
+        self.0.as_slice() == other
+    }
+
+    /// What `as_bytes` gives as a string, each part of it that is no UTF-8 replaced by U+FFFD.
+    pub fn as_str<B: Allocator>(&self, alloc: B) -> Result<String<B>, WireError> {
+        Ok(String::from_utf8_lossy(alloc, self.as_bytes())?)
+    }
+
+    /// The same text, owned. A copy is made of a borrowed one alone.
+    pub fn into_owned(self, alloc: A) -> Result<RawBytes<'static, T, A>, WireError>
+        ensures ok { IfOk result (λ owned. IsOwned owned.0 × (cow_slice_items owned.0 ≡ cow_slice_items self.entry.0)) }
+        ensures err { IfErr result (λ error. (error ≡ OutOfMemory) × IsNotOwned self.entry.0) }
+    {
+        match self.0 {
+            CowSlice::Borrowed(text) => {
+                let owned = Vec::from_slice(alloc, text)?;
+                Ok(RawBytes(CowSlice::Owned(owned), PhantomData))
+            }
+            CowSlice::Owned(owned) => Ok(RawBytes(CowSlice::Owned(owned), PhantomData)),
+        }
+    }
+}
+
+impl<'a, T: BytesRepr, A: Allocator> From<&'a [u8]> for RawBytes<'a, T, A> {
+    ghost from_gives = { λ text raw. IsBorrowedText raw.0 text.now };
+
+    fn from(text: &'a [u8]) -> Self {
+        RawBytes::new(CowSlice::Borrowed(text))
+    }
+}
+
+impl<'a, T: BytesRepr, A: Allocator> From<Vec<u8, A>> for RawBytes<'a, T, A> {
+    ghost from_gives = { λ text raw. IsOwned raw.0 × (cow_slice_items raw.0 ≡ text.items) };
+
+    fn from(text: Vec<u8, A>) -> Self {
+        RawBytes::new(CowSlice::Owned(text))
+    }
+}
+
+/// The empty text.
+impl<'a, T: BytesRepr, A: Allocator> Default for RawBytes<'a, T, A> {
+    fn default() -> Self
+        ensures { cow_slice_items result.0 ≡ [] }
+    {
+        RawBytes::new(CowSlice::Borrowed(&[]))
+    }
+}
+
+impl<'a, T: BytesRepr, A: Allocator> MySerialize for RawBytes<'a, T, A> {
+    ghost bytes = { λ text. T.BytesRepr.bytes (cow_slice_items text.0) };
+
+    fn serialize<B: Allocator>(&self, buf: &mut Vec<u8, B>) -> Result<(), WireError> {
+        T::serialize(self.0.as_slice(), buf)
+    }
+}
+
+/// The size of a text's representation.
+#[derive(Debug)]
+pub struct BytesSize<T>(PhantomData<T>);
+
+impl<T: BytesRepr> ReadSize for BytesSize<T> {
+    const SIZE: Option<usize> = T::SIZE;
+
+    ghost SIZE = { T.BytesRepr.SIZE };
+}
+
+impl<'de, A: Allocator + Copy, T: BytesRepr> MyDeserialize<'de, A> for RawBytes<'de, T, A> {
+    const SIZE: Option<usize> = T::SIZE;
+
+    type Size = BytesSize<T>;
+
+    type Ctx = T::Ctx;
+
+    ghost reads = { λ ctx input. Borrows (λ text. text.0) (T.BytesRepr.reads ctx input) };
+
+    fn deserialize(_: A, ctx: T::Ctx, buf: &mut ParseBuf<'de>) -> Result<Self, WireError> {
+        Ok(RawBytes::new(T::deserialize(ctx, buf)?))
+    }
+}
+
+impl<'de, A: Allocator + Copy, T: BytesRepr> Wire<'de, A> for RawBytes<'de, T, A> {
+    ghost is_value = { λ text. IsText (cow_slice_items text.0) };
+
+    ghost good = { λ ctx text rest. T.BytesRepr.good ctx (cow_slice_items text.0) rest };
+
+    ghost kept = { λ text back. IsBorrowedText back.0 (T.BytesRepr.kept (cow_slice_items text.0)) };
+
+    ghost takes_memory = { ⊥ };
+
+    fn known(&self) {
+        known_text(self.0.as_slice());
+    }
+
+    ghost comes_back = { λ ctx text rest answer eaten value good read. Borrows-back (λ back. back.0) (T.BytesRepr.reads ctx (T.BytesRepr.bytes (cow_slice_items text.0) ++ rest)) (T.BytesRepr.kept (cow_slice_items text.0)) (length (T.BytesRepr.bytes (cow_slice_items text.0))) (T.BytesRepr.comes_back ctx (cow_slice_items text.0) rest value good) answer eaten read };
+
+    ghost of_size = { λ text size _ stated. T.BytesRepr.of_size (cow_slice_items text.0) size stated };
+}

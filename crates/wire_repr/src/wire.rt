@@ -1,0 +1,36 @@
+//! The law of a value that is written and read.
+
+ghost use Rattle.std.specs.Prelude.{◌≡◌, ℕ, List, ◌++◌, length, Some, Result};
+ghost use Rattle.wire_buf.specs.declared.error.WireError.{WireError};
+ghost use Rattle.wire_repr.specs.Law.{ComesBack};
+
+use std::alloc::Allocator;
+use wire_buf::proto::{MyDeserialize, MySerialize};
+
+/// A type whose values are read back from what they are written as, whatever stands behind them.
+///
+/// A type of one's own that is made of such fields gets the law from theirs.
+pub trait Wire<'de, A: Allocator + Copy>: MySerialize + MyDeserialize<'de, A> {
+    /// Its numbers are values of their types. Each value in hand is one, which `known` says.
+    ghost is_value: { Self → Type 0 };
+
+    /// The value comes back where it is read under this context and before these bytes. `parse` of a
+    /// type with a size reads it before none.
+    ghost good: { Self.Ctx → Self → List ℕ → Type 0 };
+
+    /// The second value may come back of the first.
+    ghost kept: { Self → Self → Type 0 };
+
+    /// Holds where reading takes memory, so that it may be refused.
+    ghost takes_memory: { Type 0 };
+
+    /// Does nothing, and tells a proof that the value is one.
+    fn known(&self)
+        ensures { is_value self.now };
+
+    ghost comes_back: { (ctx : Self.Ctx) (value : Self) (rest : List ℕ) (answer : Result Self WireError) (eaten : ℕ) →
+        is_value value → good ctx value rest → Self.reads ctx (Self.bytes value ++ rest) answer eaten
+        → ComesBack (kept value) takes_memory (length (Self.bytes value)) answer eaten };
+
+    ghost of_size: { (value : Self) (size : ℕ) → is_value value → Self.Size.SIZE ≡ Some size → length (Self.bytes value) ≡ size };
+}
