@@ -14,7 +14,9 @@ use bytes::BufMut;
 use std::cmp::min;
 use wire_buf::error::WireError;
 
-// Puts the spelling of a length-encoded integer, in one put.
+// Puts the spelling of a length-encoded integer, in one put. As a call it would hand its `Result`,
+// which has room for an `io::Error`, back through memory: that takes longer than the put.
+#[inline(always)]
 fn put_spelling<B: BufMut>(buf: &mut B, n: u64) -> Result<(), WireError>
     ensures ok { OnOk result (B.written buf.new ≡ B.written buf.old ++ lenenc_bytes n) }
     ensures err { IfErr result (λ error. (error ≡ OutOfMemory) × (B.written buf.new ≡ B.written buf.old)) }
