@@ -67,6 +67,8 @@ pub trait BufMutExt: BufMut {
     /// Puts an `int<lenenc>`: 1, 3, 4 or 9 bytes, as few as hold the number.
     ///
     /// <https://dev.mysql.com/doc/dev/mysql-server/latest/page_protocol_basic_dt_integers.html>
+    // No call, for the reason at `put_spelling`.
+    #[inline(always)]
     final fn put_lenenc_int(&mut self, n: u64) -> Result<(), WireError>
     where
         Self: Sized,
