@@ -1,146 +1,147 @@
 //! Texts and numbers in rows.
 
-use crate::inputs::Numbers;
+use crate::check::{summary, total};
+use crate::inputs::{Numbers, size_name};
 use crate::library;
 use crate::timing::Row;
+use std::hint::black_box;
+use std::iter::repeat_with;
 
-fn ends(bytes: &[u8]) -> u64 {
-    match (bytes.first(), bytes.last()) {
-        (Some(first), Some(last)) => 65536 * *first as u64 + *last as u64,
-        _ => 0,
-    }
-}
+/// How many columns a row has, and how many texts are read in all.
+const COLUMNS: u64 = 20;
+const TEXTS: usize = 10_000;
 
-fn summary(bytes: &[u8]) -> u64 {
-    bytes.len() as u64 + ends(bytes)
+/// The forms of each workload, by their numbers.
+const LENENC_READERS: [&str; 2] = ["checked_eat_lenenc_str", "parse::<RawBytes<LenEnc>>"];
+const NULL_READERS: [&str; 2] = ["eat_null_str", "parse::<RawBytes<NullBytes>>"];
+const TARGETS: [&str; 2] = ["Vec", "BytesMut"];
+
+fn made_up_texts(len: usize) -> Vec<Vec<u8>> {
+    let mut numbers = Numbers::new(len as u64 + 7);
+    (0..TEXTS).map(|_| numbers.bytes(len)).collect()
 }
 
 // The length-encoded spelling of a number, written plainly.
-fn lenenc(n: u64, out: &mut Vec<u8>) {
+fn lenenc(n: u64) -> Vec<u8> {
     let bytes = n.to_le_bytes();
     match n {
-        0..251 => out.push(bytes[0]),
-        251..0x1_0000 => {
-            out.push(0xfc);
-            out.extend_from_slice(&bytes[..2]);
-        }
-        0x1_0000..0x100_0000 => {
-            out.push(0xfd);
-            out.extend_from_slice(&bytes[..3]);
-        }
-        _ => {
-            out.push(0xfe);
-            out.extend_from_slice(&bytes);
-        }
+        0..251 => vec![bytes[0]],
+        251..0x1_0000 => [&[0xfc], &bytes[..2]].concat(),
+        0x1_0000..0x100_0000 => [&[0xfd], &bytes[..3]].concat(),
+        _ => [&[0xfe], &bytes[..]].concat(),
     }
 }
 
 // Copies each part behind the one before it.
-fn copy_parts(parts: Vec<Vec<u8>>) -> Box<dyn FnMut(u64) -> u64> {
+fn copy_parts(parts: &[Vec<u8>]) -> Box<dyn FnMut(u64) -> u64> {
+    let lens: Vec<usize> = parts.iter().map(Vec::len).collect();
+    let bytes = parts.concat();
     let mut out: Vec<u8> = Vec::new();
     Box::new(move |reps| {
         for _ in 0..reps {
             out.clear();
-            for part in &parts {
-                out.extend_from_slice(std::hint::black_box(part));
+            let mut rest = bytes.as_slice();
+            for len in &lens {
+                let (part, after) = rest.split_at(*len);
+                out.extend_from_slice(black_box(part));
+                rest = after;
             }
         }
         out.len() as u64
     })
 }
 
-// Texts of a length, in rows of 20.
-fn row_rows(rows: &mut Vec<Row>, len: usize) {
-    const TEXTS: usize = 20 * 500;
-    let mut numbers = Numbers::new(len as u64 + 7);
-    let texts: Vec<Vec<u8>> = (0..TEXTS).map(|_| numbers.bytes(len)).collect();
-    let mut bytes = Vec::new();
+// A workload on these bytes, beside a copy of these parts.
+fn parts_row(
+    name: String,
+    parts: &[Vec<u8>],
+    input: &[u8],
+    want: u64,
+    call: impl Fn(&[u8], u64) -> u64 + 'static,
+) -> Row {
+    let input = input.to_vec();
+    Row {
+        name,
+        items: parts.len() as u64,
+        bytes: parts.iter().map(Vec::len).sum::<usize>() as u64,
+        call: Box::new(move |reps| call(&input, reps)),
+        want,
+        copy: copy_parts(parts),
+    }
+}
+
+// Texts of a length, each behind it.
+fn lenenc_rows(rows: &mut Vec<Row>, len: usize) {
+    let texts = made_up_texts(len);
+    let mut spelled = Vec::new();
     for text in &texts {
-        lenenc(text.len() as u64, &mut bytes);
-        bytes.extend_from_slice(text);
+        spelled.extend(lenenc(text.len() as u64));
+        spelled.extend_from_slice(text);
     }
-    let read = texts.iter().map(|text| summary(text)).fold(0, u64::wrapping_add);
-    let written = summary(&bytes);
-    let total = (len * TEXTS) as u64;
-    let input = bytes.clone();
-    rows.push(Row {
-        name: format!("checked_eat_lenenc_str {len} B"),
-        items: TEXTS as u64,
-        bytes: total,
-        call: Box::new(move |reps| library::row(&input, 20, 0, reps)),
-        want: read,
-        copy: copy_parts(texts.clone()),
-    });
-    for form in 0..2 {
-        let input = bytes.clone();
-        rows.push(Row {
-            name: format!("read and put_lenenc_str {len} B, {}", ["Vec", "BytesMut"][form]),
-            items: TEXTS as u64,
-            bytes: total,
-            call: Box::new(move |reps| library::row_copy(&input, form as u64, reps)),
-            want: written,
-            copy: copy_parts(texts.clone()),
-        });
+    let read = total(&texts);
+    let size = size_name(len);
+    for (form, reader) in LENENC_READERS.iter().enumerate() {
+        let name = format!("{reader} {size}");
+        let call = move |bytes: &[u8], reps| library::row(bytes, COLUMNS, form as u64, reps);
+        rows.push(parts_row(name, &texts, &spelled, read, call));
     }
-    let zeroed: Vec<Vec<u8>> = texts.iter().map(|text| text.iter().map(|b| b | 1).collect()).collect();
-    let mut bytes = Vec::new();
-    for text in &zeroed {
-        bytes.extend_from_slice(text);
-        bytes.push(0);
+    let written = summary(&spelled);
+    for (form, target) in TARGETS.iter().enumerate() {
+        let name = format!("read and put_lenenc_str {size}, {target}");
+        let call = move |bytes: &[u8], reps| library::row_copy(bytes, form as u64, reps);
+        rows.push(parts_row(name, &texts, &spelled, written, call));
     }
-    rows.push(Row {
-        name: format!("eat_null_str {len} B"),
-        items: TEXTS as u64,
-        bytes: total,
-        call: Box::new(move |reps| library::null(&bytes, 0, reps)),
-        want: zeroed.iter().map(|text| summary(text)).fold(0, u64::wrapping_add),
-        copy: copy_parts(zeroed),
-    });
+}
+
+// Texts of a length, each before a zero, and with none in it.
+fn null_rows(rows: &mut Vec<Row>, len: usize) {
+    let mut texts = made_up_texts(len);
+    texts.iter_mut().flatten().for_each(|byte| *byte |= 1);
+    let mut spelled = Vec::new();
+    for text in &texts {
+        spelled.extend_from_slice(text);
+        spelled.push(0);
+    }
+    let want = total(&texts);
+    let size = size_name(len);
+    for (form, reader) in NULL_READERS.iter().enumerate() {
+        let name = format!("{reader} {size}");
+        let call = move |bytes: &[u8], reps| library::null(bytes, form as u64, reps);
+        rows.push(parts_row(name, &texts, &spelled, want, call));
+    }
 }
 
 // Numbers of mixed magnitudes.
-fn number_rows(rows: &mut Vec<Row>) {
-    const COUNT: usize = 10_000;
+fn made_up_values() -> Vec<u64> {
     let mut numbers = Numbers::new(99);
-    let values: Vec<u64> = (0..COUNT)
-        .map(|_| {
-            let bits = [7, 7, 7, 14, 20, 40][(numbers.next() % 6) as usize];
-            numbers.next() >> (64 - bits)
-        })
-        .collect();
+    let one = || {
+        let bits = [7, 7, 7, 14, 20, 40][(numbers.next() % 6) as usize];
+        numbers.next() >> (64 - bits)
+    };
+    repeat_with(one).take(10_000).collect()
+}
+
+fn number_rows(rows: &mut Vec<Row>) {
+    let values = made_up_values();
+    let spellings: Vec<Vec<u8>> = values.iter().map(|n| lenenc(*n)).collect();
+    let spelled = spellings.concat();
     let fixed: Vec<u8> = values.iter().flat_map(|n| n.to_le_bytes()).collect();
-    let mut spelled = Vec::new();
-    let mut parts = Vec::new();
-    for n in &values {
-        let at = spelled.len();
-        lenenc(*n, &mut spelled);
-        parts.push(spelled[at..].to_vec());
+    let written = summary(&spelled);
+    for (form, target) in TARGETS.iter().enumerate() {
+        let name = format!("put_lenenc_int, {target}");
+        let call = move |bytes: &[u8], reps| library::put_lenenc(bytes, form as u64, reps);
+        rows.push(parts_row(name, &spellings, &fixed, written, call));
     }
-    for form in 0..2 {
-        let input = fixed.clone();
-        rows.push(Row {
-            name: format!("put_lenenc_int, {}", ["Vec", "BytesMut"][form]),
-            items: COUNT as u64,
-            bytes: spelled.len() as u64,
-            call: Box::new(move |reps| library::put_lenenc(&input, form as u64, reps)),
-            want: summary(&spelled),
-            copy: copy_parts(parts.clone()),
-        });
-    }
-    let bytes = spelled.len() as u64;
-    rows.push(Row {
-        name: "checked_eat_lenenc_int".to_string(),
-        items: COUNT as u64,
-        bytes,
-        call: Box::new(move |reps| library::eat_lenenc(&spelled, reps)),
-        want: values.iter().copied().fold(0, u64::wrapping_add),
-        copy: copy_parts(parts),
-    });
+    let name = "checked_eat_lenenc_int".to_string();
+    let sum = values.iter().copied().fold(0, u64::wrapping_add);
+    let call = library::eat_lenenc;
+    rows.push(parts_row(name, &spellings, &spelled, sum, call));
 }
 
 pub fn rows(rows: &mut Vec<Row>) {
     for len in [8, 100, 2000] {
-        row_rows(rows, len);
+        lenenc_rows(rows, len);
+        null_rows(rows, len);
     }
     number_rows(rows);
 }

@@ -1,4 +1,5 @@
-//! The library's functions, as they are exported: a slice is a pointer and a length, and every number has 64 bits.
+//! The library's functions, as they are exported: a slice is a pointer and a length, and every
+//! number has 64 bits.
 
 unsafe extern "C" {
     fn mw_frame(ptr: *const u8, len: usize, count: u64, form: u64, reps: u64) -> u64;
@@ -12,7 +13,8 @@ unsafe extern "C" {
     fn mw_eat_lenenc(ptr: *const u8, len: usize, reps: u64) -> u64;
 }
 
-/// A payload framed `count` times a repetition: form 0 by `packet_to_chunks`, form 1 by `PacketCodec::encode`.
+/// A payload framed `count` times a repetition: form 0 by `packet_to_chunks`, form 1 by
+/// `PacketCodec::encode`.
 pub fn frame(bytes: &[u8], count: u64, form: u64, reps: u64) -> u64 {
     unsafe { mw_frame(bytes.as_ptr(), bytes.len(), count, form, reps) }
 }
@@ -31,7 +33,8 @@ pub fn decode(bytes: &[u8], piece: u64, limit: u64, fresh: bool, reps: u64) -> u
     }
 }
 
-/// Rows of length-encoded texts read, form 0 by `checked_eat_lenenc_str`.
+/// Rows of length-encoded texts read: form 0 by `checked_eat_lenenc_str`, form 1 by `parse` as
+/// `RawBytes<LenEnc>`.
 pub fn row(bytes: &[u8], cols: u64, form: u64, reps: u64) -> u64 {
     unsafe { mw_row(bytes.as_ptr(), bytes.len(), cols, form, reps) }
 }
@@ -41,12 +44,13 @@ pub fn row_copy(bytes: &[u8], form: u64, reps: u64) -> u64 {
     unsafe { mw_row_copy(bytes.as_ptr(), bytes.len(), form, reps) }
 }
 
-/// Texts that a zero ends, form 0 by `eat_null_str`.
+/// Texts that a zero ends: form 0 by `eat_null_str`, form 1 by `parse` as `RawBytes<NullBytes>`.
 pub fn null(bytes: &[u8], form: u64, reps: u64) -> u64 {
     unsafe { mw_null(bytes.as_ptr(), bytes.len(), form, reps) }
 }
 
-/// Numbers of 8 bytes put as length-encoded integers, form 0 into a `Vec`, form 1 into a `BytesMut`.
+/// Numbers of 8 bytes put as length-encoded integers, form 0 into a `Vec`, form 1 into a
+/// `BytesMut`.
 pub fn put_lenenc(bytes: &[u8], form: u64, reps: u64) -> u64 {
     unsafe { mw_put_lenenc(bytes.as_ptr(), bytes.len(), form, reps) }
 }

@@ -1,27 +1,13 @@
 //! Framing and decoding.
 
-use crate::inputs::{MAX_PAYLOAD_LEN, Numbers, framing};
+use crate::check::{ends, summary};
+use crate::inputs::{MAX_PAYLOAD_LEN, Numbers, chunk_lens, framing, size_name};
 use crate::library;
 use crate::timing::Row;
+use std::hint::black_box;
 
-fn ends(bytes: &[u8]) -> u64 {
-    match (bytes.first(), bytes.last()) {
-        (Some(first), Some(last)) => 65536 * *first as u64 + *last as u64,
-        _ => 0,
-    }
-}
-
-fn summary(bytes: &[u8]) -> u64 {
-    bytes.len() as u64 + ends(bytes)
-}
-
-fn size_name(size: usize) -> String {
-    match size {
-        s if s >= 1 << 20 && s % (1 << 20) == 0 => format!("{} MiB", s >> 20),
-        s if s >= 1 << 10 && s % (1 << 10) == 0 => format!("{} KiB", s >> 10),
-        s => format!("{s} B"),
-    }
-}
+/// The forms of framing, by their numbers.
+const WRITERS: [&str; 2] = ["packet_to_chunks", "encode"];
 
 // How many packets of a size make about a quarter of a megabyte, at least one.
 fn count_for(size: usize) -> usize {
@@ -39,7 +25,7 @@ fn frame_row(rows: &mut Vec<Row>, size: usize, form: u64) {
     let want = summary(&framed) + if form == 0 { id as u64 } else { 0 };
     let (copied, mut out) = (payload.clone(), Vec::with_capacity(framed.len()));
     rows.push(Row {
-        name: format!("{} {}", if form == 0 { "packet_to_chunks" } else { "encode" }, size_name(size)),
+        name: format!("{} {}", WRITERS[form as usize], size_name(size)),
         items: count as u64,
         bytes: (size * count) as u64,
         call: Box::new(move |reps| library::frame(&payload, count as u64, form, reps)),
@@ -48,7 +34,7 @@ fn frame_row(rows: &mut Vec<Row>, size: usize, form: u64) {
             for _ in 0..reps {
                 out.clear();
                 for _ in 0..count {
-                    out.extend_from_slice(std::hint::black_box(&copied));
+                    out.extend_from_slice(black_box(&copied));
                 }
             }
             out.len() as u64
@@ -56,10 +42,17 @@ fn frame_row(rows: &mut Vec<Row>, size: usize, form: u64) {
     });
 }
 
-// The same bytes copied in the same steps, with the lengths of the chunks known beforehand: each piece behind what is there,
-// each chunk's payload to another buffer once it is whole, and what is left moved to the front where that is less than what
-// was taken.
-fn copy_steps(stream: &[u8], step: usize, lens: &[(usize, bool)], fresh: bool, src: &mut Vec<u8>, dst: &mut Vec<u8>) -> u64 {
+// The same bytes copied in the same steps, with the lengths of the chunks known beforehand: each
+// piece behind what is there, each chunk's payload to another buffer once it is whole, and what is
+// left moved to the front where that is less than what was taken.
+fn copy_steps(
+    stream: &[u8],
+    step: usize,
+    lens: &[(usize, bool)],
+    fresh: bool,
+    src: &mut Vec<u8>,
+    dst: &mut Vec<u8>,
+) -> u64 {
     let mut sum = 0u64;
     let mut taken = 0;
     let mut next = lens.iter();
@@ -71,7 +64,7 @@ fn copy_steps(stream: &[u8], step: usize, lens: &[(usize, bool)], fresh: bool, s
             src.truncate(src.len() - taken);
             taken = 0;
         }
-        src.extend_from_slice(std::hint::black_box(part));
+        src.extend_from_slice(black_box(part));
         while let Some((len, last)) = chunk.filter(|(len, _)| src.len() - taken >= 4 + len) {
             dst.extend_from_slice(&src[taken + 4..taken + 4 + len]);
             taken += 4 + len;
@@ -89,6 +82,15 @@ fn copy_steps(stream: &[u8], step: usize, lens: &[(usize, bool)], fresh: bool, s
     sum
 }
 
+fn decode_name(size: usize, piece: usize, fresh: bool) -> String {
+    let step = match piece {
+        0 => "all".to_string(),
+        piece => size_name(piece),
+    };
+    let kind = if fresh { ", fresh" } else { "" };
+    format!("decode {} by {step}{kind}", size_name(size))
+}
+
 // Packets of a size, decoded from pieces.
 fn decode_row(rows: &mut Vec<Row>, size: usize, piece: usize, fresh: bool) {
     let mut numbers = Numbers::new(size as u64 * 3 + piece as u64);
@@ -101,20 +103,15 @@ fn decode_row(rows: &mut Vec<Row>, size: usize, piece: usize, fresh: bool) {
         let payload = numbers.bytes(size);
         id = framing(id, &payload, &mut stream);
         want = want.wrapping_add(summary(&payload));
-        lens.extend((0..size / MAX_PAYLOAD_LEN).map(|_| (MAX_PAYLOAD_LEN, false)));
-        lens.push((size % MAX_PAYLOAD_LEN, true));
+        lens.extend(chunk_lens(size).map(|len| (len, len < MAX_PAYLOAD_LEN)));
     }
     let limit = size.max(1) as u64;
+    let name = decode_name(size, piece, fresh);
     let step = if piece == 0 { stream.len() } else { piece };
     let copied = stream.clone();
     let (mut src, mut dst) = (Vec::new(), Vec::new());
     rows.push(Row {
-        name: format!(
-            "decode {} by {}{}",
-            size_name(size),
-            if piece == 0 { "all".to_string() } else { size_name(piece) },
-            if fresh { ", fresh" } else { "" }
-        ),
+        name,
         items: count as u64,
         bytes: (size * count) as u64,
         call: Box::new(move |reps| library::decode(&stream, piece as u64, limit, fresh, reps)),
@@ -145,7 +142,7 @@ fn append_row(rows: &mut Vec<Row>, piece: usize) {
             for _ in 0..reps {
                 for part in copied.chunks(piece) {
                     src.clear();
-                    src.extend_from_slice(std::hint::black_box(part));
+                    src.extend_from_slice(black_box(part));
                     sum += src.len() as u64;
                 }
             }

@@ -3,6 +3,7 @@
 use crate::check::{REFUSED, summary};
 use bytes::BytesMut;
 use mysql_wire::io::{BufMutExt, ParseBuf, WireError};
+use mysql_wire::misc::raw::bytes::{LenEnc, NullBytes, RawBytes};
 use std::alloc::Global;
 
 // The texts of all columns, one after another.
@@ -19,16 +20,32 @@ fn row_texts(bytes: &[u8]) -> Option<u64> {
     Some(sum)
 }
 
-/// Rows of length-encoded texts, read column by column.
+// The same, each column parsed as a field.
+fn row_fields(alloc: Global, bytes: &[u8]) -> Option<u64> {
+    let mut buf = ParseBuf(bytes);
+    let mut sum = 0u64;
+    for _ in 0..bytes.len() {
+        if buf.is_empty() {
+            break;
+        }
+        let text = buf.parse::<RawBytes<LenEnc>>(alloc, ()).ok()?;
+        sum = sum.wrapping_add(summary(text.as_bytes()));
+    }
+    Some(sum)
+}
+
+/// Rows of length-encoded texts, read column by column: form 0 by `checked_eat_lenenc_str`, form 1
+/// by `parse`.
 #[unsafe(no_mangle)]
 pub extern "C" fn mw_row(alloc: Global, bytes: &[u8], _cols: u64, form: u64, reps: u64) -> u64 {
-    let _ = alloc;
-    if form != 0 {
-        return REFUSED;
-    }
     let mut sum = 0u64;
     for _ in 0..reps {
-        match row_texts(bytes) {
+        let texts = if form == 0 {
+            row_texts(bytes)
+        } else {
+            row_fields(alloc, bytes)
+        };
+        match texts {
             Some(value) => sum = sum.wrapping_add(value),
             None => return REFUSED,
         }
@@ -95,16 +112,34 @@ fn null_texts(bytes: &[u8]) -> u64 {
     sum
 }
 
-/// Texts that a zero ends, read one after another.
+// The same, each text parsed as a field.
+fn null_fields(alloc: Global, bytes: &[u8]) -> Option<u64> {
+    let mut buf = ParseBuf(bytes);
+    let mut sum = 0u64;
+    for _ in 0..bytes.len() {
+        if buf.is_empty() {
+            break;
+        }
+        let text = buf.parse::<RawBytes<NullBytes>>(alloc, ()).ok()?;
+        sum = sum.wrapping_add(summary(text.as_bytes()));
+    }
+    Some(sum)
+}
+
+/// Texts that a zero ends, read one after another: form 0 by `eat_null_str`, form 1 by `parse`.
 #[unsafe(no_mangle)]
 pub extern "C" fn mw_null(alloc: Global, bytes: &[u8], form: u64, reps: u64) -> u64 {
-    let _ = alloc;
-    if form != 0 {
-        return REFUSED;
-    }
     let mut sum = 0u64;
     for _ in 0..reps {
-        sum = sum.wrapping_add(null_texts(bytes));
+        let texts = if form == 0 {
+            Some(null_texts(bytes))
+        } else {
+            null_fields(alloc, bytes)
+        };
+        match texts {
+            Some(value) => sum = sum.wrapping_add(value),
+            None => return REFUSED,
+        }
     }
     sum
 }
