@@ -297,10 +297,11 @@ fn a_packet_of_two_full_chunks_grows_once(rt: HostRuntime) -> Result<(), Fail> {
         Step::ComesMany(MAX_PAYLOAD_LEN),
         Step::Comes(b"\xff\xff\xff\x01"),
         Step::ComesMany(MAX_PAYLOAD_LEN),
-        Step::Comes(b"\0\0\0\x02"),
+        // Chunks of another packet are not in the growth.
+        Step::Comes(b"\0\0\0\x02\x01\0\0\x03\x61"),
         Step::Decode(Told::Whole),
         Step::HeldMany(2 * MAX_PAYLOAD_LEN),
-        Step::Left(b""),
+        Step::Left(b"\x01\0\0\x03\x61"),
         Step::Grew(1, 2 * MAX_PAYLOAD_LEN),
     ];
     play_all(rt.alloc(), &steps)
@@ -354,11 +355,10 @@ fn a_chunk_that_is_not_taken_asks_for_no_room(rt: HostRuntime) -> Result<(), Fai
         Step::Limit(1),
         Step::Src(b"\x02\0\0\0\x61\x62"),
         Step::Decode(Told::TooLarge),
-        Step::Grew(0, 0),
-        // Chunks of another packet are not in the growth.
+        // A chunk that isn't full takes its own room as it is put.
         Step::Src(b"\x01\0\0\0\x61\x01\0\0\x01\x62"),
         Step::Decode(Told::Whole),
-        Step::Grew(1, 1),
+        Step::Grew(0, 0),
     ];
     play_all(rt.alloc(), &steps)
 }

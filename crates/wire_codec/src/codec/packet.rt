@@ -2,6 +2,7 @@
 
 ghost use Rattle.std.specs.Prelude.{◌≡◌, ◌≢◌, ℕ, ◌+◌, ◌%◌, ◌<◌, ◌≤◌, ◌↔◌, ◌⊎◌, OnOk, OnErr, IfErr, Err, [], length, None, true, IsTrue, slice_index, ◌++◌};
 ghost use Rattle.wire_codec.specs.Delivery.{IsWholeChunks, chunk_len};
+ghost use Rattle.wire_codec.specs.Framing.{max_payload};
 
 use crate::codec::chunk::{ChunkDecoder, ChunkInfo, PacketDst};
 use crate::codec::error::PacketCodecError;
@@ -99,10 +100,13 @@ impl PacketCodec {
         ensures shorter { result ≡ Ok true → length src.new.items < length src.old.items }
         ensures limit { self.new.max_allowed_packet ≡ self.old.max_allowed_packet }
     {
-        match self.make_room(src, dst) {
-            Ok(()) => self.take_chunks(src, dst),
-            Err(error) => Err(error),
+        if begins_full_chunk(src.as_slice()) {
+            match self.make_room(src, dst) {
+                Ok(()) => {}
+                Err(error) => return Err(error),
+            }
         }
+        self.take_chunks(src, dst)
     }
 
     /// Appends the packet's chunks to `dst` and empties the packet, where it has at most
@@ -218,8 +222,8 @@ impl PacketCodec {
         }
     }
 
-    // Takes room in `dst` for all bytes that one call takes. Where there is none, the chunk in
-    // front is remembered.
+    // Takes room in `dst` for all bytes that one call takes, where that may be more than one chunk.
+    // Where there is none, the chunk in front is remembered.
     fn make_room<T: PacketDst>(
         &mut self,
         src: &BytesMut<impl Allocator + Copy>,
@@ -288,6 +292,18 @@ fn is_whole(held: &[u8]) -> bool
     ensures { IsTrue result ↔ IsWholeChunks held.now }
 {
     held.len() % MAX_PAYLOAD_LEN == 0
+}
+
+// Whether a full chunk begins in front, so that one call may take those behind it too. A shorter one
+// is the packet's last, and takes its own room as it is put.
+#[tactic(auto, using(crate::proofs::ChunkLemmas::max_payload_is))]
+fn begins_full_chunk(front: &[u8]) -> bool
+    ensures { IsTrue result ↔ ((4 ≤ length front.now) × (chunk_len front.now ≡ max_payload)) }
+{
+    match Header::read(front) {
+        Some(header) => header.len == MAX_PAYLOAD_LEN,
+        None => false,
+    }
 }
 
 // Whether this header stands in front.
