@@ -19,6 +19,7 @@ pub mod misc {
     pub mod raw {
         pub use wire_repr::constant::Skip;
         pub use wire_repr::int::RawInt;
+        pub use wire_repr::laws;
         pub use wire_repr::text::RawBytes;
 
         /// Numbers, by their representations.

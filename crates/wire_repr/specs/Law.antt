@@ -1,16 +1,21 @@
 -- What it says that a written value is read back.
-use Rattle.std.specs.Prelude.{ℕ, ◌≡◌, List, [], ◌++◌, length, take, Option, Some, None, Result, Ok, Err}
-use Rattle.std.proofs.Common.{sym, ap, ◌∙◌}
-use Rattle.std.proofs.lemmas.List.{take_at}
+use Rattle.std.specs.Prelude.{ℕ, ◌≡◌, List, [], ◌++◌, length, take, drop, Option, Some, None, Result, Ok, Err}
+use Rattle.std.proofs.Common.{inl, inr, refl, sym, ap, subst, ◌∙◌, arith}
+use Rattle.std.proofs.lemmas.List.{take_at, drop_at, append-nil, length-append}
 use Rattle.wire_buf.specs.declared.error.WireError.{WireError}
 use Rattle.wire_buf.specs.declared.error.WireError.TheVariants.{OutOfMemory}
-use Rattle.wire_buf.specs.Reading.{Answers}
+use Rattle.wire_buf.specs.Reading.{Reads, Parses, Answers}
 
 -- The answer is a value that is kept, and all bytes of the written one are eaten. Where reading takes
 -- memory, the answer may also be that it was refused.
 abbrev pub ComesBack : {X : Type 0} → (X → Type 0) → Type 0 → ℕ → Result X WireError → ℕ → Type 0
 ComesBack kept takes_memory len (Ok value) eaten = kept value × (eaten ≡ len)
 ComesBack kept takes_memory len (Err error) eaten = (error ≡ OutOfMemory) × takes_memory
+
+-- The same of a buffer that held the written value and the rest: the rest is left.
+abbrev pub LeavesRest : {X : Type 0} → (X → Type 0) → Type 0 → List ℕ → Result X WireError → List ℕ → Type 0
+LeavesRest kept takes_memory rest (Ok value) new = kept value × (new ≡ rest)
+LeavesRest kept takes_memory rest (Err error) new = (error ≡ OutOfMemory) × takes_memory
 
 -- What a reader sees of the bytes behind a value, where `parse` calls it: nothing, if its type has a
 -- size.
@@ -51,3 +56,35 @@ ReadsFixed-back count value bytes rest x len is answer eaten (answered, ate) =
 -- the size that is stated is the length
 pub size-is : (count size len : ℕ) → Some count ≡ Some size → len ≡ count → len ≡ size
 size-is count size len stated is = (cc)
+
+-- what is eaten is as long as this
+ComesBack-at : {X : Type 0} (kept : X → Type 0) (takes_memory : Type 0) (len looked_at eaten : ℕ) (answer : Result X WireError)
+    → eaten ≡ len → ComesBack kept takes_memory len answer looked_at → ComesBack kept takes_memory len answer eaten
+ComesBack-at kept takes_memory len looked_at eaten (Ok value) is back = (back.0, is)
+ComesBack-at kept takes_memory len looked_at eaten (Err error) is back = back
+
+-- by `parse`
+pub Parses-back : {X : Type 0} (stated : Option ℕ) (reads : List ℕ → Result X WireError → ℕ → Type 0) (kept : X → Type 0) (takes_memory : Type 0) (bytes rest : List ℕ)
+    → ((size : ℕ) → stated ≡ Some size → length bytes ≡ size)
+    → ((answer : Result X WireError) (eaten : ℕ) → reads (bytes ++ seen stated rest) answer eaten → ComesBack kept takes_memory (length bytes) answer eaten)
+    → (answer : Result X WireError) (eaten : ℕ) → Parses stated reads (bytes ++ rest) answer eaten → ComesBack kept takes_memory (length bytes) answer eaten
+Parses-back None reads kept takes_memory bytes rest of_size law answer eaten read = law answer eaten read
+Parses-back (Some size) reads kept takes_memory bytes rest of_size law answer eaten (inl short) =
+    let len : length bytes ≡ size = of_size size refl in
+    absurd (omega (arith, short.0, length-append bytes rest))
+Parses-back (Some size) reads kept takes_memory bytes rest of_size law answer eaten (inr (enough, all, looked_at, read)) =
+    let len : length bytes ≡ size = of_size size refl in
+    let alone : take size (bytes ++ rest) ≡ bytes ++ [] = take_at bytes rest size len ∙ sym (append-nil bytes) in
+    let back = law answer looked_at (subst (λ input. reads input answer looked_at) alone read) in
+    ComesBack-at kept takes_memory (length bytes) looked_at eaten answer (all ∙ sym len) back
+
+-- and the rest is left
+pub parse-back : {X : Type 0} (stated : Option ℕ) (reads : List ℕ → Result X WireError → ℕ → Type 0) (kept : X → Type 0) (takes_memory : Type 0) (bytes rest old new : List ℕ)
+    → ((size : ℕ) → stated ≡ Some size → length bytes ≡ size)
+    → ((answer : Result X WireError) (eaten : ℕ) → reads (bytes ++ seen stated rest) answer eaten → ComesBack kept takes_memory (length bytes) answer eaten)
+    → old ≡ bytes ++ rest → (answer : Result X WireError) → Reads (Parses stated reads) old answer new → LeavesRest kept takes_memory rest answer new
+parse-back stated reads kept takes_memory bytes rest old new of_size law is (Ok value) (eaten, there, left, read) =
+    let back = Parses-back stated reads kept takes_memory bytes rest of_size law (Ok value) eaten (subst (λ input. Parses stated reads input (Ok value) eaten) is read) in
+    (back.0, left ∙ ap (drop eaten) is ∙ drop_at bytes rest eaten (sym back.1))
+parse-back stated reads kept takes_memory bytes rest old new of_size law is (Err error) (eaten, there, left, read) =
+    Parses-back stated reads kept takes_memory bytes rest of_size law (Err error) eaten (subst (λ input. Parses stated reads input (Err error) eaten) is read)

@@ -4,5 +4,6 @@
 
 pub mod constant;
 pub mod int;
+pub mod laws;
 pub mod text;
 pub mod wire;

@@ -1,4 +1,4 @@
-use Rattle.std.proofs.Common.{◌<◌, ◌^◌, arith}
+use Rattle.std.proofs.Common.{arith}
 use Rattle.wire_repr.proofs.constant.ConstBytesMySerialize.serialize.Goals as goal
 
 pub VALUE-requires : goal.VALUE-requires

@@ -1,0 +1,39 @@
+//! What was written is read back, as functions: of any type with the law, of a number by any
+//! representation, and in the modules, spelled out, of each type of this crate.
+
+ghost use Rattle.std.specs.Prelude.{◌≡◌, List, ℕ, ◌++◌};
+ghost use Rattle.wire_repr.specs.Law.{LeavesRest, seen};
+
+pub mod constants;
+pub mod numbers;
+pub mod texts;
+
+use crate::int::{IntRepr, RawInt};
+use crate::wire::Wire;
+use std::alloc::{Allocator, Global};
+use wire_buf::error::WireError;
+use wire_buf::io::ParseBuf;
+
+/// Reads a value, as `parse` does. Where what a value was written as stands at the front, and the
+/// value is good under the context and before what follows, it comes back, and what follows is left.
+pub fn parse_back<'de, T: Wire<'de, A>, A: Allocator + Copy>(
+    alloc: A,
+    ctx: T::Ctx,
+    buf: &mut ParseBuf<'de>,
+) -> Result<T, WireError>
+    ensures { (value : T) (rest : List ℕ) → T.is_value value → T.good ctx value (seen T.Size.SIZE rest) → buf.old.0.now ≡ T.bytes value ++ rest
+        → LeavesRest (T.kept value) T.takes_memory rest result buf.new.0.now }
+{
+    buf.parse_in(alloc, ctx)
+}
+
+/// A number comes back by each representation, a user's own too, whatever follows.
+pub fn number_back<T: IntRepr>(
+    alloc: Global,
+    buf: &mut ParseBuf<'_>,
+) -> Result<RawInt<T>, WireError>
+    ensures { (val : T.Primitive) (rest : List ℕ) → T.is_value val → buf.old.0.now ≡ T.bytes val ++ rest
+        → LeavesRest (λ back. back.0 ≡ T.kept val) ⊥ rest result buf.new.0.now }
+{
+    parse_back(alloc, (), buf)
+}

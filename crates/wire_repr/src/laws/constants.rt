@@ -1,0 +1,56 @@
+//! Constants, bytes that say nothing, and arrays come back whatever follows.
+
+ghost use Rattle.std.specs.Prelude.{◌≡◌, List, ℕ, [], ◌∷◌, ◌++◌, length, replicate};
+ghost use Rattle.wire_buf.specs.Numbers.{le_bytes};
+ghost use Rattle.wire_repr.specs.Law.{LeavesRest};
+
+use super::parse_back;
+use crate::constant::{ConstBytes, ConstBytesValue, ConstU8, ConstU32, Skip};
+use std::alloc::Global;
+use wire_buf::error::WireError;
+use wire_buf::io::ParseBuf;
+
+pub fn const_u8<T, const N: u8>(
+    alloc: Global,
+    buf: &mut ParseBuf<'_>,
+) -> Result<ConstU8<T, N>, WireError>
+    ensures { (rest : List ℕ) → buf.old.0.now ≡ N ∷ rest → LeavesRest (λ _. Unit {0}) ⊥ rest result buf.new.0.now }
+{
+    parse_back(alloc, (), buf)
+}
+
+pub fn const_u32<T, const N: u32>(
+    alloc: Global,
+    buf: &mut ParseBuf<'_>,
+) -> Result<ConstU32<T, N>, WireError>
+    ensures { (rest : List ℕ) → buf.old.0.now ≡ le_bytes 4 N ++ rest → LeavesRest (λ _. Unit {0}) ⊥ rest result buf.new.0.now }
+{
+    parse_back(alloc, (), buf)
+}
+
+pub fn const_bytes<T: ConstBytesValue<LEN>, const LEN: usize>(
+    alloc: Global,
+    buf: &mut ParseBuf<'_>,
+) -> Result<ConstBytes<T, LEN>, WireError>
+    ensures { (rest : List ℕ) → buf.old.0.now ≡ T.VALUE ++ rest → LeavesRest (λ _. Unit {0}) ⊥ rest result buf.new.0.now }
+{
+    parse_back(alloc, (), buf)
+}
+
+pub fn skipped<const LEN: usize>(
+    alloc: Global,
+    buf: &mut ParseBuf<'_>,
+) -> Result<Skip<LEN>, WireError>
+    ensures { (rest : List ℕ) → buf.old.0.now ≡ replicate LEN 0 ++ rest → LeavesRest (λ _. Unit {0}) ⊥ rest result buf.new.0.now }
+{
+    parse_back(alloc, (), buf)
+}
+
+pub fn array<const LEN: usize>(
+    alloc: Global,
+    buf: &mut ParseBuf<'_>,
+) -> Result<[u8; LEN], WireError>
+    ensures { (bytes rest : List ℕ) → length bytes ≡ LEN → buf.old.0.now ≡ bytes ++ rest → LeavesRest (λ back. back ≡ bytes) ⊥ rest result buf.new.0.now }
+{
+    parse_back(alloc, (), buf)
+}

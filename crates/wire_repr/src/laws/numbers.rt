@@ -1,0 +1,143 @@
+//! What comes back of a number, by its representation.
+
+ghost use Rattle.std.specs.Prelude.{◌≡◌, List, ℕ, ℤ, [], ◌∷◌, ◌++◌, ◌<◌, ◌^◌, ◌%◌, ◌/◌, ◌-◌};
+ghost use Rattle.std.specs.Int.{cast_unsigned, w8, w16, w32, w64};
+ghost use Rattle.std.specs.Int.RustNames.{FitsSigned};
+ghost use Rattle.wire_buf.specs.Lenenc.{lenenc_bytes};
+ghost use Rattle.wire_buf.specs.Numbers.{le_bytes, signed_number};
+ghost use Rattle.wire_repr.specs.Groups.{groups_bytes};
+ghost use Rattle.wire_repr.specs.Law.{LeavesRest};
+
+use super::number_back;
+use crate::int::{
+    LeI16, LeI24, LeI32, LeI56, LeI64, LeU16, LeU24, LeU32, LeU32LowerHalf, LeU32UpperHalf, LeU48,
+    LeU56, LeU64, LenEnc, RawInt, VarLen,
+};
+use std::alloc::Global;
+use wire_buf::error::WireError;
+use wire_buf::io::ParseBuf;
+
+pub fn u8_number(alloc: Global, buf: &mut ParseBuf<'_>) -> Result<RawInt<u8>, WireError>
+    ensures { (val : ℕ) (rest : List ℕ) → val < 2 ^ 8 → buf.old.0.now ≡ val ∷ [] ++ rest
+        → LeavesRest (λ back. back.0 ≡ val) ⊥ rest result buf.new.0.now }
+{
+    number_back(alloc, buf)
+}
+
+pub fn le_u16_number(alloc: Global, buf: &mut ParseBuf<'_>) -> Result<RawInt<LeU16>, WireError>
+    ensures { (val : ℕ) (rest : List ℕ) → val < 2 ^ 16 → buf.old.0.now ≡ le_bytes 2 val ++ rest
+        → LeavesRest (λ back. back.0 ≡ val) ⊥ rest result buf.new.0.now }
+{
+    number_back(alloc, buf)
+}
+
+pub fn le_u24_number(alloc: Global, buf: &mut ParseBuf<'_>) -> Result<RawInt<LeU24>, WireError>
+    ensures { (val : ℕ) (rest : List ℕ) → val < 2 ^ 32 → buf.old.0.now ≡ le_bytes 3 val ++ rest
+        → LeavesRest (λ back. back.0 ≡ val % 2 ^ 24) ⊥ rest result buf.new.0.now }
+{
+    number_back(alloc, buf)
+}
+
+pub fn le_u32_number(alloc: Global, buf: &mut ParseBuf<'_>) -> Result<RawInt<LeU32>, WireError>
+    ensures { (val : ℕ) (rest : List ℕ) → val < 2 ^ 32 → buf.old.0.now ≡ le_bytes 4 val ++ rest
+        → LeavesRest (λ back. back.0 ≡ val) ⊥ rest result buf.new.0.now }
+{
+    number_back(alloc, buf)
+}
+
+pub fn le_u48_number(alloc: Global, buf: &mut ParseBuf<'_>) -> Result<RawInt<LeU48>, WireError>
+    ensures { (val : ℕ) (rest : List ℕ) → val < 2 ^ 64 → buf.old.0.now ≡ le_bytes 6 val ++ rest
+        → LeavesRest (λ back. back.0 ≡ val % 2 ^ 48) ⊥ rest result buf.new.0.now }
+{
+    number_back(alloc, buf)
+}
+
+pub fn le_u56_number(alloc: Global, buf: &mut ParseBuf<'_>) -> Result<RawInt<LeU56>, WireError>
+    ensures { (val : ℕ) (rest : List ℕ) → val < 2 ^ 64 → buf.old.0.now ≡ le_bytes 7 val ++ rest
+        → LeavesRest (λ back. back.0 ≡ val % 2 ^ 56) ⊥ rest result buf.new.0.now }
+{
+    number_back(alloc, buf)
+}
+
+pub fn le_u64_number(alloc: Global, buf: &mut ParseBuf<'_>) -> Result<RawInt<LeU64>, WireError>
+    ensures { (val : ℕ) (rest : List ℕ) → val < 2 ^ 64 → buf.old.0.now ≡ le_bytes 8 val ++ rest
+        → LeavesRest (λ back. back.0 ≡ val) ⊥ rest result buf.new.0.now }
+{
+    number_back(alloc, buf)
+}
+
+pub fn i8_number(alloc: Global, buf: &mut ParseBuf<'_>) -> Result<RawInt<i8>, WireError>
+    ensures { (val : ℤ) (rest : List ℕ) → FitsSigned w8 val → buf.old.0.now ≡ le_bytes 1 (cast_unsigned w8 val) ++ rest
+        → LeavesRest (λ back. back.0 ≡ val) ⊥ rest result buf.new.0.now }
+{
+    number_back(alloc, buf)
+}
+
+pub fn le_i16_number(alloc: Global, buf: &mut ParseBuf<'_>) -> Result<RawInt<LeI16>, WireError>
+    ensures { (val : ℤ) (rest : List ℕ) → FitsSigned w16 val → buf.old.0.now ≡ le_bytes 2 (cast_unsigned w16 val) ++ rest
+        → LeavesRest (λ back. back.0 ≡ val) ⊥ rest result buf.new.0.now }
+{
+    number_back(alloc, buf)
+}
+
+pub fn le_i24_number(alloc: Global, buf: &mut ParseBuf<'_>) -> Result<RawInt<LeI24>, WireError>
+    ensures { (val : ℤ) (rest : List ℕ) → FitsSigned w32 val → buf.old.0.now ≡ le_bytes 3 (cast_unsigned w32 val) ++ rest
+        → LeavesRest (λ back. back.0 ≡ signed_number 3 (cast_unsigned w32 val % 2 ^ 24)) ⊥ rest result buf.new.0.now }
+{
+    number_back(alloc, buf)
+}
+
+pub fn le_i32_number(alloc: Global, buf: &mut ParseBuf<'_>) -> Result<RawInt<LeI32>, WireError>
+    ensures { (val : ℤ) (rest : List ℕ) → FitsSigned w32 val → buf.old.0.now ≡ le_bytes 4 (cast_unsigned w32 val) ++ rest
+        → LeavesRest (λ back. back.0 ≡ val) ⊥ rest result buf.new.0.now }
+{
+    number_back(alloc, buf)
+}
+
+pub fn le_i56_number(alloc: Global, buf: &mut ParseBuf<'_>) -> Result<RawInt<LeI56>, WireError>
+    ensures { (val : ℤ) (rest : List ℕ) → FitsSigned w64 val → buf.old.0.now ≡ le_bytes 7 (cast_unsigned w64 val) ++ rest
+        → LeavesRest (λ back. back.0 ≡ signed_number 7 (cast_unsigned w64 val % 2 ^ 56)) ⊥ rest result buf.new.0.now }
+{
+    number_back(alloc, buf)
+}
+
+pub fn le_i64_number(alloc: Global, buf: &mut ParseBuf<'_>) -> Result<RawInt<LeI64>, WireError>
+    ensures { (val : ℤ) (rest : List ℕ) → FitsSigned w64 val → buf.old.0.now ≡ le_bytes 8 (cast_unsigned w64 val) ++ rest
+        → LeavesRest (λ back. back.0 ≡ val) ⊥ rest result buf.new.0.now }
+{
+    number_back(alloc, buf)
+}
+
+pub fn lower_half(
+    alloc: Global,
+    buf: &mut ParseBuf<'_>,
+) -> Result<RawInt<LeU32LowerHalf>, WireError>
+    ensures { (val : ℕ) (rest : List ℕ) → val < 2 ^ 32 → buf.old.0.now ≡ le_bytes 2 val ++ rest
+        → LeavesRest (λ back. back.0 ≡ val % 65536) ⊥ rest result buf.new.0.now }
+{
+    number_back(alloc, buf)
+}
+
+pub fn upper_half(
+    alloc: Global,
+    buf: &mut ParseBuf<'_>,
+) -> Result<RawInt<LeU32UpperHalf>, WireError>
+    ensures { (val : ℕ) (rest : List ℕ) → val < 2 ^ 32 → buf.old.0.now ≡ le_bytes 2 (val / 65536) ++ rest
+        → LeavesRest (λ back. back.0 ≡ val - val % 65536) ⊥ rest result buf.new.0.now }
+{
+    number_back(alloc, buf)
+}
+
+pub fn lenenc_number(alloc: Global, buf: &mut ParseBuf<'_>) -> Result<RawInt<LenEnc>, WireError>
+    ensures { (val : ℕ) (rest : List ℕ) → val < 2 ^ 64 → buf.old.0.now ≡ lenenc_bytes val ++ rest
+        → LeavesRest (λ back. back.0 ≡ val) ⊥ rest result buf.new.0.now }
+{
+    number_back(alloc, buf)
+}
+
+pub fn var_len_number(alloc: Global, buf: &mut ParseBuf<'_>) -> Result<RawInt<VarLen>, WireError>
+    ensures { (val : ℕ) (rest : List ℕ) → val < 2 ^ 32 → buf.old.0.now ≡ groups_bytes val ++ rest
+        → LeavesRest (λ back. back.0 ≡ val) ⊥ rest result buf.new.0.now }
+{
+    number_back(alloc, buf)
+}

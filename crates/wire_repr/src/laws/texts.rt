@@ -1,0 +1,108 @@
+//! When a text comes back, by its representation.
+
+ghost use Rattle.std.specs.Prelude.{◌≡◌, List, ℕ, [], ◌++◌, ◌∷◌, length, take, min};
+ghost use Rattle.std.specs.List.{before_first};
+ghost use Rattle.wire_buf.specs.Lenenc.{lenenc_bytes};
+ghost use Rattle.wire_buf.specs.NullText.{is_zero};
+ghost use Rattle.wire_buf.specs.Numbers.{le_bytes};
+ghost use Rattle.wire_ext.specs.Texts.{u8_max, u32_max};
+ghost use Rattle.wire_repr.specs.BareTexts.{padded};
+ghost use Rattle.wire_repr.specs.Groups.{groups_bytes};
+ghost use Rattle.wire_repr.specs.Law.{LeavesRest};
+ghost use Rattle.wire_repr.specs.Texts.{IsText, IsBorrowedText};
+
+use super::parse_back;
+use crate::int::{LenEnc, VarLen};
+use crate::text::{BareBytes, EofBytes, FixedLengthText, NullBytes, RawBytes, U8Bytes, U32Bytes};
+use std::alloc::Global;
+use wire_buf::error::WireError;
+use wire_buf::io::ParseBuf;
+
+/// Any, whole.
+pub fn lenenc_text<'a>(
+    alloc: Global,
+    buf: &mut ParseBuf<'a>,
+) -> Result<RawBytes<'a, LenEnc>, WireError>
+    ensures { (text rest : List ℕ) → IsText text → buf.old.0.now ≡ (lenenc_bytes (length text) ++ text) ++ rest
+        → LeavesRest (λ back. IsBorrowedText back.0 (text)) ⊥ rest result buf.new.0.now }
+{
+    parse_back::<'a, RawBytes<'a, LenEnc>, Global>(alloc, (), buf)
+}
+
+/// Any, and of one of more than 255 bytes these.
+pub fn u8_text<'a>(
+    alloc: Global,
+    buf: &mut ParseBuf<'a>,
+) -> Result<RawBytes<'a, U8Bytes>, WireError>
+    ensures { (text rest : List ℕ) → IsText text → buf.old.0.now ≡ (le_bytes 1 (length (take u8_max text)) ++ take u8_max text) ++ rest
+        → LeavesRest (λ back. IsBorrowedText back.0 (take u8_max text)) ⊥ rest result buf.new.0.now }
+{
+    parse_back::<'a, RawBytes<'a, U8Bytes>, Global>(alloc, (), buf)
+}
+
+/// Any, and of one of more than 4294967295 bytes these.
+pub fn u32_text<'a>(
+    alloc: Global,
+    buf: &mut ParseBuf<'a>,
+) -> Result<RawBytes<'a, U32Bytes>, WireError>
+    ensures { (text rest : List ℕ) → IsText text → buf.old.0.now ≡ (le_bytes 4 (length (take u32_max text)) ++ take u32_max text) ++ rest
+        → LeavesRest (λ back. IsBorrowedText back.0 (take u32_max text)) ⊥ rest result buf.new.0.now }
+{
+    parse_back::<'a, RawBytes<'a, U32Bytes>, Global>(alloc, (), buf)
+}
+
+/// Any, and of one of more than 4294967295 bytes these.
+pub fn var_len_text<'a>(
+    alloc: Global,
+    buf: &mut ParseBuf<'a>,
+) -> Result<RawBytes<'a, VarLen>, WireError>
+    ensures { (text rest : List ℕ) → IsText text → buf.old.0.now ≡ (groups_bytes (length (take u32_max text)) ++ take u32_max text) ++ rest
+        → LeavesRest (λ back. IsBorrowedText back.0 (take u32_max text)) ⊥ rest result buf.new.0.now }
+{
+    parse_back::<'a, RawBytes<'a, VarLen>, Global>(alloc, (), buf)
+}
+
+/// Any, up to its first zero.
+pub fn null_text<'a>(
+    alloc: Global,
+    buf: &mut ParseBuf<'a>,
+) -> Result<RawBytes<'a, NullBytes>, WireError>
+    ensures { (text rest : List ℕ) → IsText text → buf.old.0.now ≡ (before_first is_zero text ++ 0 ∷ []) ++ rest
+        → LeavesRest (λ back. IsBorrowedText back.0 (before_first is_zero text)) ⊥ rest result buf.new.0.now }
+{
+    parse_back::<'a, RawBytes<'a, NullBytes>, Global>(alloc, (), buf)
+}
+
+/// Any, where nothing follows.
+pub fn eof_text<'a>(
+    alloc: Global,
+    buf: &mut ParseBuf<'a>,
+) -> Result<RawBytes<'a, EofBytes>, WireError>
+    ensures { (text rest : List ℕ) → IsText text → rest ≡ [] → buf.old.0.now ≡ text ++ rest
+        → LeavesRest (λ back. IsBorrowedText back.0 (text)) ⊥ rest result buf.new.0.now }
+{
+    parse_back::<'a, RawBytes<'a, EofBytes>, Global>(alloc, (), buf)
+}
+
+/// Any, where the context is what is written of it; of one of more than `N` bytes these.
+pub fn bare_text<'a, const N: usize>(
+    alloc: Global,
+    count: usize,
+    buf: &mut ParseBuf<'a>,
+) -> Result<RawBytes<'a, BareBytes<N>>, WireError>
+    ensures { (text rest : List ℕ) → IsText text → count ≡ min (length text) N → buf.old.0.now ≡ take N text ++ rest
+        → LeavesRest (λ back. IsBorrowedText back.0 (take N text)) ⊥ rest result buf.new.0.now }
+{
+    parse_back::<'a, RawBytes<'a, BareBytes<N>>, Global>(alloc, count, buf)
+}
+
+/// Any, with the zeros that fill it up; of one of more than `N` bytes these.
+pub fn fixed_length_text<'a, const N: usize>(
+    alloc: Global,
+    buf: &mut ParseBuf<'a>,
+) -> Result<RawBytes<'a, FixedLengthText<N>>, WireError>
+    ensures { (text rest : List ℕ) → IsText text → buf.old.0.now ≡ padded N text ++ rest
+        → LeavesRest (λ back. IsBorrowedText back.0 (padded N text)) ⊥ rest result buf.new.0.now }
+{
+    parse_back::<'a, RawBytes<'a, FixedLengthText<N>>, Global>(alloc, (), buf)
+}
