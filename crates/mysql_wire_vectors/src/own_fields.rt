@@ -1,16 +1,18 @@
 //! Representations of one's own, as CALLING.md shows them: a number and a text that the crate lacks,
 //! each with the law that what is written is read back. `RawInt` and `RawBytes` make fields of them.
 
-ghost use Rattle.std.specs.Prelude.{◌≡◌, ◌≤◌, ◌<◌, ◌^◌, length, take, Some, None};
-ghost use Rattle.mysql_wire.specs.Law.{ReadsFixed, size-is};
+ghost use Rattle.std.specs.Prelude.{◌≡◌, ◌≤◌, ◌<◌, ◌^◌, ℕ, List, ◌++◌, length, take, Some, None};
+ghost use Rattle.mysql_wire.specs.Law.{ReadsFixed, LeavesRest, size-is};
 ghost use Rattle.mysql_wire.specs.Numbers.{be_number};
+ghost use Rattle.mysql_wire.specs.RawTexts.{IsText, IsBorrowedText};
 ghost use Rattle.mysql_wire.specs.Reading.{Answers};
 ghost use Rattle.mysql_wire_vectors.specs.OwnFields.{be_u16_bytes, u16_text_bytes, u16_text_at, length-be_u16_bytes, be_u16_bytes-back, u16_text_bytes-back};
 
 use mysql_wire::io::{ParseBuf, WireError};
-use mysql_wire::misc::raw::bytes::BytesRepr;
-use mysql_wire::misc::raw::int::IntRepr;
-use std::alloc::Allocator;
+use mysql_wire::misc::raw::bytes::{BytesRepr, RawBytes};
+use mysql_wire::misc::raw::int::{IntRepr, RawInt};
+use mysql_wire::misc::raw::laws::{number_back, parse_back};
+use std::alloc::{Allocator, Global};
 use std::borrow::CowSlice;
 use std::cmp::min;
 
@@ -108,4 +110,24 @@ impl BytesRepr for U16Bytes {
     ghost comes_back = { λ _ text rest _ _. u16_text_bytes-back text rest };
 
     ghost of_size = { λ text size stated. Prim.cc };
+}
+
+/// Reads a port. Whatever stands behind what was written of one, it comes back.
+pub fn read_port(alloc: Global, buf: &mut ParseBuf<'_>) -> Result<RawInt<BeU16>, WireError>
+    ensures { (port : ℕ) (rest : List ℕ) → port < 2 ^ 16 → buf.old.0.now ≡ be_u16_bytes port ++ rest
+        → LeavesRest (λ back. back.0 ≡ port) ⊥ rest result buf.new.0.now }
+{
+    number_back(alloc, buf)
+}
+
+/// Reads a name, which borrows from the payload. Whatever stands behind what was written of one, it
+/// comes back, or its first 65535 bytes.
+pub fn read_name<'a>(
+    alloc: Global,
+    buf: &mut ParseBuf<'a>,
+) -> Result<RawBytes<'a, U16Bytes>, WireError>
+    ensures { (name rest : List ℕ) → IsText name → buf.old.0.now ≡ u16_text_bytes name ++ rest
+        → LeavesRest (λ back. IsBorrowedText back.0 (take 65535 name)) ⊥ rest result buf.new.0.now }
+{
+    parse_back::<'a, RawBytes<'a, U16Bytes>, Global>(alloc, (), buf)
 }

@@ -10,6 +10,7 @@ use std::alloc::Global;
 use wire_buf::error::WireError;
 use wire_buf::io::ParseBuf;
 
+/// The byte `N`.
 pub fn const_u8<T, const N: u8>(
     alloc: Global,
     buf: &mut ParseBuf<'_>,
@@ -19,6 +20,7 @@ pub fn const_u8<T, const N: u8>(
     parse_back(alloc, (), buf)
 }
 
+/// The four bytes of `N`.
 pub fn const_u32<T, const N: u32>(
     alloc: Global,
     buf: &mut ParseBuf<'_>,
@@ -28,6 +30,7 @@ pub fn const_u32<T, const N: u32>(
     parse_back(alloc, (), buf)
 }
 
+/// The bytes of `T`.
 pub fn const_bytes<T: ConstBytesValue<LEN>, const LEN: usize>(
     alloc: Global,
     buf: &mut ParseBuf<'_>,
@@ -37,6 +40,7 @@ pub fn const_bytes<T: ConstBytesValue<LEN>, const LEN: usize>(
     parse_back(alloc, (), buf)
 }
 
+/// `LEN` zeros.
 pub fn skipped<const LEN: usize>(
     alloc: Global,
     buf: &mut ParseBuf<'_>,
@@ -46,6 +50,7 @@ pub fn skipped<const LEN: usize>(
     parse_back(alloc, (), buf)
 }
 
+/// Any `LEN` bytes.
 pub fn array<const LEN: usize>(
     alloc: Global,
     buf: &mut ParseBuf<'_>,

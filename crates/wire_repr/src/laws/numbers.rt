@@ -17,6 +17,7 @@ use std::alloc::Global;
 use wire_buf::error::WireError;
 use wire_buf::io::ParseBuf;
 
+/// Any number.
 pub fn u8_number(alloc: Global, buf: &mut ParseBuf<'_>) -> Result<RawInt<u8>, WireError>
     ensures { (val : ℕ) (rest : List ℕ) → val < 2 ^ 8 → buf.old.0.now ≡ val ∷ [] ++ rest
         → LeavesRest (λ back. back.0 ≡ val) ⊥ rest result buf.new.0.now }
@@ -24,6 +25,7 @@ pub fn u8_number(alloc: Global, buf: &mut ParseBuf<'_>) -> Result<RawInt<u8>, Wi
     number_back(alloc, buf)
 }
 
+/// Any number.
 pub fn le_u16_number(alloc: Global, buf: &mut ParseBuf<'_>) -> Result<RawInt<LeU16>, WireError>
     ensures { (val : ℕ) (rest : List ℕ) → val < 2 ^ 16 → buf.old.0.now ≡ le_bytes 2 val ++ rest
         → LeavesRest (λ back. back.0 ≡ val) ⊥ rest result buf.new.0.now }
@@ -31,6 +33,7 @@ pub fn le_u16_number(alloc: Global, buf: &mut ParseBuf<'_>) -> Result<RawInt<LeU
     number_back(alloc, buf)
 }
 
+/// Any number, modulo 2^24.
 pub fn le_u24_number(alloc: Global, buf: &mut ParseBuf<'_>) -> Result<RawInt<LeU24>, WireError>
     ensures { (val : ℕ) (rest : List ℕ) → val < 2 ^ 32 → buf.old.0.now ≡ le_bytes 3 val ++ rest
         → LeavesRest (λ back. back.0 ≡ val % 2 ^ 24) ⊥ rest result buf.new.0.now }
@@ -38,6 +41,7 @@ pub fn le_u24_number(alloc: Global, buf: &mut ParseBuf<'_>) -> Result<RawInt<LeU
     number_back(alloc, buf)
 }
 
+/// Any number.
 pub fn le_u32_number(alloc: Global, buf: &mut ParseBuf<'_>) -> Result<RawInt<LeU32>, WireError>
     ensures { (val : ℕ) (rest : List ℕ) → val < 2 ^ 32 → buf.old.0.now ≡ le_bytes 4 val ++ rest
         → LeavesRest (λ back. back.0 ≡ val) ⊥ rest result buf.new.0.now }
@@ -45,6 +49,7 @@ pub fn le_u32_number(alloc: Global, buf: &mut ParseBuf<'_>) -> Result<RawInt<LeU
     number_back(alloc, buf)
 }
 
+/// Any number, modulo 2^48.
 pub fn le_u48_number(alloc: Global, buf: &mut ParseBuf<'_>) -> Result<RawInt<LeU48>, WireError>
     ensures { (val : ℕ) (rest : List ℕ) → val < 2 ^ 64 → buf.old.0.now ≡ le_bytes 6 val ++ rest
         → LeavesRest (λ back. back.0 ≡ val % 2 ^ 48) ⊥ rest result buf.new.0.now }
@@ -52,6 +57,7 @@ pub fn le_u48_number(alloc: Global, buf: &mut ParseBuf<'_>) -> Result<RawInt<LeU
     number_back(alloc, buf)
 }
 
+/// Any number, modulo 2^56.
 pub fn le_u56_number(alloc: Global, buf: &mut ParseBuf<'_>) -> Result<RawInt<LeU56>, WireError>
     ensures { (val : ℕ) (rest : List ℕ) → val < 2 ^ 64 → buf.old.0.now ≡ le_bytes 7 val ++ rest
         → LeavesRest (λ back. back.0 ≡ val % 2 ^ 56) ⊥ rest result buf.new.0.now }
@@ -59,6 +65,7 @@ pub fn le_u56_number(alloc: Global, buf: &mut ParseBuf<'_>) -> Result<RawInt<LeU
     number_back(alloc, buf)
 }
 
+/// Any number.
 pub fn le_u64_number(alloc: Global, buf: &mut ParseBuf<'_>) -> Result<RawInt<LeU64>, WireError>
     ensures { (val : ℕ) (rest : List ℕ) → val < 2 ^ 64 → buf.old.0.now ≡ le_bytes 8 val ++ rest
         → LeavesRest (λ back. back.0 ≡ val) ⊥ rest result buf.new.0.now }
@@ -66,6 +73,7 @@ pub fn le_u64_number(alloc: Global, buf: &mut ParseBuf<'_>) -> Result<RawInt<LeU
     number_back(alloc, buf)
 }
 
+/// Any number.
 pub fn i8_number(alloc: Global, buf: &mut ParseBuf<'_>) -> Result<RawInt<i8>, WireError>
     ensures { (val : ℤ) (rest : List ℕ) → FitsSigned w8 val → buf.old.0.now ≡ le_bytes 1 (cast_unsigned w8 val) ++ rest
         → LeavesRest (λ back. back.0 ≡ val) ⊥ rest result buf.new.0.now }
@@ -73,6 +81,7 @@ pub fn i8_number(alloc: Global, buf: &mut ParseBuf<'_>) -> Result<RawInt<i8>, Wi
     number_back(alloc, buf)
 }
 
+/// Any number.
 pub fn le_i16_number(alloc: Global, buf: &mut ParseBuf<'_>) -> Result<RawInt<LeI16>, WireError>
     ensures { (val : ℤ) (rest : List ℕ) → FitsSigned w16 val → buf.old.0.now ≡ le_bytes 2 (cast_unsigned w16 val) ++ rest
         → LeavesRest (λ back. back.0 ≡ val) ⊥ rest result buf.new.0.now }
@@ -80,6 +89,7 @@ pub fn le_i16_number(alloc: Global, buf: &mut ParseBuf<'_>) -> Result<RawInt<LeI
     number_back(alloc, buf)
 }
 
+/// Any number: its low three bytes, with their sign.
 pub fn le_i24_number(alloc: Global, buf: &mut ParseBuf<'_>) -> Result<RawInt<LeI24>, WireError>
     ensures { (val : ℤ) (rest : List ℕ) → FitsSigned w32 val → buf.old.0.now ≡ le_bytes 3 (cast_unsigned w32 val) ++ rest
         → LeavesRest (λ back. back.0 ≡ signed_number 3 (cast_unsigned w32 val % 2 ^ 24)) ⊥ rest result buf.new.0.now }
@@ -87,6 +97,7 @@ pub fn le_i24_number(alloc: Global, buf: &mut ParseBuf<'_>) -> Result<RawInt<LeI
     number_back(alloc, buf)
 }
 
+/// Any number.
 pub fn le_i32_number(alloc: Global, buf: &mut ParseBuf<'_>) -> Result<RawInt<LeI32>, WireError>
     ensures { (val : ℤ) (rest : List ℕ) → FitsSigned w32 val → buf.old.0.now ≡ le_bytes 4 (cast_unsigned w32 val) ++ rest
         → LeavesRest (λ back. back.0 ≡ val) ⊥ rest result buf.new.0.now }
@@ -94,6 +105,7 @@ pub fn le_i32_number(alloc: Global, buf: &mut ParseBuf<'_>) -> Result<RawInt<LeI
     number_back(alloc, buf)
 }
 
+/// Any number: its low seven bytes, with their sign.
 pub fn le_i56_number(alloc: Global, buf: &mut ParseBuf<'_>) -> Result<RawInt<LeI56>, WireError>
     ensures { (val : ℤ) (rest : List ℕ) → FitsSigned w64 val → buf.old.0.now ≡ le_bytes 7 (cast_unsigned w64 val) ++ rest
         → LeavesRest (λ back. back.0 ≡ signed_number 7 (cast_unsigned w64 val % 2 ^ 56)) ⊥ rest result buf.new.0.now }
@@ -101,6 +113,7 @@ pub fn le_i56_number(alloc: Global, buf: &mut ParseBuf<'_>) -> Result<RawInt<LeI
     number_back(alloc, buf)
 }
 
+/// Any number.
 pub fn le_i64_number(alloc: Global, buf: &mut ParseBuf<'_>) -> Result<RawInt<LeI64>, WireError>
     ensures { (val : ℤ) (rest : List ℕ) → FitsSigned w64 val → buf.old.0.now ≡ le_bytes 8 (cast_unsigned w64 val) ++ rest
         → LeavesRest (λ back. back.0 ≡ val) ⊥ rest result buf.new.0.now }
@@ -108,6 +121,7 @@ pub fn le_i64_number(alloc: Global, buf: &mut ParseBuf<'_>) -> Result<RawInt<LeI
     number_back(alloc, buf)
 }
 
+/// The low 16 bits of any number.
 pub fn lower_half(
     alloc: Global,
     buf: &mut ParseBuf<'_>,
@@ -118,6 +132,7 @@ pub fn lower_half(
     number_back(alloc, buf)
 }
 
+/// The high 16 bits of any number, in their place.
 pub fn upper_half(
     alloc: Global,
     buf: &mut ParseBuf<'_>,
@@ -128,6 +143,7 @@ pub fn upper_half(
     number_back(alloc, buf)
 }
 
+/// Any number.
 pub fn lenenc_number(alloc: Global, buf: &mut ParseBuf<'_>) -> Result<RawInt<LenEnc>, WireError>
     ensures { (val : ℕ) (rest : List ℕ) → val < 2 ^ 64 → buf.old.0.now ≡ lenenc_bytes val ++ rest
         → LeavesRest (λ back. back.0 ≡ val) ⊥ rest result buf.new.0.now }
@@ -135,6 +151,7 @@ pub fn lenenc_number(alloc: Global, buf: &mut ParseBuf<'_>) -> Result<RawInt<Len
     number_back(alloc, buf)
 }
 
+/// Any number.
 pub fn var_len_number(alloc: Global, buf: &mut ParseBuf<'_>) -> Result<RawInt<VarLen>, WireError>
     ensures { (val : ℕ) (rest : List ℕ) → val < 2 ^ 32 → buf.old.0.now ≡ groups_bytes val ++ rest
         → LeavesRest (λ back. back.0 ≡ val) ⊥ rest result buf.new.0.now }

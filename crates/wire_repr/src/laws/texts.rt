@@ -24,7 +24,7 @@ pub fn lenenc_text<'a>(
     buf: &mut ParseBuf<'a>,
 ) -> Result<RawBytes<'a, LenEnc>, WireError>
     ensures { (text rest : List ℕ) → IsText text → buf.old.0.now ≡ (lenenc_bytes (length text) ++ text) ++ rest
-        → LeavesRest (λ back. IsBorrowedText back.0 (text)) ⊥ rest result buf.new.0.now }
+        → LeavesRest (λ back. IsBorrowedText back.0 text) ⊥ rest result buf.new.0.now }
 {
     parse_back::<'a, RawBytes<'a, LenEnc>, Global>(alloc, (), buf)
 }
@@ -79,7 +79,7 @@ pub fn eof_text<'a>(
     buf: &mut ParseBuf<'a>,
 ) -> Result<RawBytes<'a, EofBytes>, WireError>
     ensures { (text rest : List ℕ) → IsText text → rest ≡ [] → buf.old.0.now ≡ text ++ rest
-        → LeavesRest (λ back. IsBorrowedText back.0 (text)) ⊥ rest result buf.new.0.now }
+        → LeavesRest (λ back. IsBorrowedText back.0 text) ⊥ rest result buf.new.0.now }
 {
     parse_back::<'a, RawBytes<'a, EofBytes>, Global>(alloc, (), buf)
 }
