@@ -2,12 +2,17 @@
 
 ghost use Rattle.mysql_wire.specs.Lenenc.{lenenc_bytes, IsLenencOrMark};
 ghost use Rattle.mysql_wire.specs.Numbers.{le_number, le_bytes};
-ghost use Rattle.mysql_wire.specs.Spelling.{EatsSpelling};
+ghost use Rattle.mysql_wire.specs.RawTexts.{IsBorrowedText};
+ghost use Rattle.mysql_wire.specs.Spelling.{EatsSpelling, EatsText};
 ghost use Rattle.std.specs.Io.KnownBytes.{Appends};
-ghost use Rattle.std.specs.Prelude.{◌≡◌, ◌++◌, length, OnOk, ℕ, List, drop, IfSome, ◌≤◌, ◌↔◌, take, IsSome};
+ghost use Rattle.std.specs.Prelude.{◌≡◌, ◌++◌, length, OnOk, IfOk, ℕ, List, drop, IfSome, ◌≤◌, ◌↔◌, take, IsSome};
 
 use bytes::BufMut;
 use mysql_wire::io::{BufMutExt, ParseBuf, WireError, WriteMysqlExt};
+use mysql_wire::misc::raw::bytes::{LenEnc, RawBytes};
+use mysql_wire::misc::raw::int::{LeU16, RawInt};
+use mysql_wire::proto::MySerialize;
+use std::alloc::Global;
 
 /// What the server says at the end of rows.
 #[derive(Clone, Copy, Debug, PartialEq, Eq)]
@@ -75,4 +80,27 @@ pub fn write_name<W: WriteMysqlExt>(out: &mut W, name: &[u8]) -> Result<u64, Wir
     ensures { OnOk result (Appends (W.contents out.old) (W.contents out.new) (lenenc_bytes (length name.now) ++ name.now)) }
 {
     out.write_lenenc_str(name)
+}
+
+/// Appends an id of two bytes and a name behind its length.
+pub fn put_named(buf: &mut Vec<u8>, id: u16, name: &[u8]) -> Result<(), WireError>
+    ensures { OnOk result (buf.new.items ≡ buf.old.items ++ (le_bytes 2 id ++ (lenenc_bytes (length name.now) ++ name.now))) }
+{
+    RawInt::<LeU16>::new(id).serialize(buf)?;
+    RawBytes::<LenEnc>::from(name).serialize(buf)
+}
+
+/// Reads both. The name borrows from the payload.
+pub fn read_named<'a>(
+    alloc: Global,
+    payload: &'a [u8],
+) -> Result<(RawInt<LeU16>, RawBytes<'a, LenEnc>), WireError>
+    ensures id { IfOk result (λ named. named.0.0 ≡ le_number (take 2 payload.entry.now)) }
+    ensures name { IfOk result (λ named. (text : List ℕ) × (rest : List ℕ)
+        × IsBorrowedText named.1.0 text × EatsText IsLenencOrMark (drop 2 payload.entry.now) text rest) }
+{
+    let mut buf = ParseBuf(payload);
+    let id: RawInt<LeU16> = buf.parse(alloc, ())?;
+    let name: RawBytes<'a, LenEnc> = buf.parse(alloc, ())?;
+    Ok((id, name))
 }
