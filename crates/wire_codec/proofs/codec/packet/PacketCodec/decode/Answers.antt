@@ -6,5 +6,6 @@ pub returns-clause-memory : goal.returns-clause-memory
 returns-clause-memory g c refused =
     let there = chain_had_chunk _ _ _ _ _ _ _ _ _ _ (rw refused at c.take_chunks.ensures.chain.1) in
     elim c.if-begins_full_chunk.branch [
-      then-begins_full_chunk+in-Ok w ↦ rw (w.self-is, w.dst-is, w.in-Ok.ensures.ok, w.make_room.ensures.held) at there
-    | else-begins_full_chunk w ↦ rw (w.self-is, w.dst-is) at there ]
+      | then-begins_full_chunk+in-Ok w ↦ rw (w.self-is, w.dst-is, w.in-Ok.ensures.ok, w.make_room.ensures.held) at there
+      | else-begins_full_chunk w ↦ rw (w.self-is, w.dst-is) at there
+    ]
