@@ -2,10 +2,10 @@
 //! each with the law that what is written is read back. `RawInt` and `RawBytes` make fields of them.
 
 ghost use Rattle.std.specs.Prelude.{◌≡◌, ◌≤◌, ◌<◌, ◌^◌, ℕ, List, ◌++◌, length, take, Some, None};
-ghost use Rattle.mysql_wire.specs.Law.{ReadsFixed, LeavesRest, size-is};
+ghost use Rattle.mysql_wire.specs.Law.{ReadsFixed, ParsesFixed, LeavesRest, size-is};
 ghost use Rattle.mysql_wire.specs.Numbers.{be_number};
-ghost use Rattle.mysql_wire.specs.RawTexts.{IsText, IsBorrowedText};
-ghost use Rattle.mysql_wire.specs.Reading.{Answers};
+ghost use Rattle.mysql_wire.specs.RawTexts.{IsText, IsBorrowedText, Borrows};
+ghost use Rattle.mysql_wire.specs.Reading.{Reads, Answers};
 ghost use Rattle.mysql_wire_vectors.specs.OwnFields.{be_u16_bytes, u16_text_bytes, u16_text_at, length-be_u16_bytes, be_u16_bytes-back, u16_text_bytes-back};
 
 use mysql_wire::io::{ParseBuf, WireError};
@@ -114,7 +114,8 @@ impl BytesRepr for U16Bytes {
 
 /// Reads a port. Whatever stands behind what was written of one, it comes back.
 pub fn read_port(alloc: Global, buf: &mut ParseBuf<'_>) -> Result<RawInt<BeU16>, WireError>
-    ensures { (port : ℕ) (rest : List ℕ) → port < 2 ^ 16 → buf.old.0.now ≡ be_u16_bytes port ++ rest
+    ensures reads { ParsesFixed (λ int. int.0) 2 be_number buf.old.0.now result buf.new.0.now }
+    ensures back { (port : ℕ) (rest : List ℕ) → port < 2 ^ 16 → buf.old.0.now ≡ be_u16_bytes port ++ rest
         → LeavesRest (λ back. back.0 ≡ port) ⊥ rest result buf.new.0.now }
 {
     number_back(alloc, buf)
@@ -126,7 +127,8 @@ pub fn read_name<'a>(
     alloc: Global,
     buf: &mut ParseBuf<'a>,
 ) -> Result<RawBytes<'a, U16Bytes>, WireError>
-    ensures { (name rest : List ℕ) → IsText name → buf.old.0.now ≡ u16_text_bytes name ++ rest
+    ensures reads { Reads (λ input. Borrows (λ text. text.0) (Answers (u16_text_at input))) buf.old.0.now result buf.new.0.now }
+    ensures back { (name rest : List ℕ) → IsText name → buf.old.0.now ≡ u16_text_bytes name ++ rest
         → LeavesRest (λ back. IsBorrowedText back.0 (take 65535 name)) ⊥ rest result buf.new.0.now }
 {
     parse_back::<'a, RawBytes<'a, U16Bytes>, Global>(alloc, (), buf)

@@ -32,6 +32,10 @@ Through part says (Err error) eaten = says (Err error) eaten
 abbrev pub ReadsFixed : {X : Type 0} → ℕ → (List ℕ → X) → List ℕ → Result X WireError → ℕ → Type 0
 ReadsFixed count value input = Answers (Ok (value (take count input)), count)
 
+-- by `parse`: of a value that wraps such another as its part
+abbrev pub ParsesFixed : {X Y : Type 0} → (Y → X) → ℕ → (List ℕ → X) → List ℕ → Result Y WireError → List ℕ → Type 0
+ParsesFixed part count value = Reads (Parses (Some count) (λ input. Through part (ReadsFixed count value input)))
+
 -- ---- lemmas
 
 -- what wraps a number comes back, where the number does

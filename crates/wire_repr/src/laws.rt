@@ -2,7 +2,8 @@
 //! representation, and in the modules, spelled out, of each type of this crate.
 
 ghost use Rattle.std.specs.Prelude.{◌≡◌, List, ℕ, ◌++◌};
-ghost use Rattle.wire_repr.specs.Law.{LeavesRest, seen};
+ghost use Rattle.wire_buf.specs.Reading.{Reads, Parses};
+ghost use Rattle.wire_repr.specs.Law.{LeavesRest, Through, seen};
 
 pub mod constants;
 pub mod numbers;
@@ -21,7 +22,8 @@ pub fn parse_back<'de, T: Wire<'de, A>, A: Allocator + Copy>(
     ctx: T::Ctx,
     buf: &mut ParseBuf<'de>,
 ) -> Result<T, WireError>
-    ensures { (value : T) (rest : List ℕ) → T.is_value value → T.good ctx value (seen T.Size.SIZE rest) → buf.old.0.now ≡ T.bytes value ++ rest
+    ensures reads { Reads (Parses T.Size.SIZE (T.reads ctx)) buf.old.0.now result buf.new.0.now }
+    ensures back { (value : T) (rest : List ℕ) → T.is_value value → T.good ctx value (seen T.Size.SIZE rest) → buf.old.0.now ≡ T.bytes value ++ rest
         → LeavesRest (T.kept value) T.takes_memory rest result buf.new.0.now }
 {
     buf.parse_in(alloc, ctx)
@@ -32,7 +34,8 @@ pub fn number_back<T: IntRepr>(
     alloc: Global,
     buf: &mut ParseBuf<'_>,
 ) -> Result<RawInt<T>, WireError>
-    ensures { (val : T.Primitive) (rest : List ℕ) → T.is_value val → buf.old.0.now ≡ T.bytes val ++ rest
+    ensures reads { Reads (Parses T.SIZE (λ input. Through (λ int. int.0) (T.reads input))) buf.old.0.now result buf.new.0.now }
+    ensures back { (val : T.Primitive) (rest : List ℕ) → T.is_value val → buf.old.0.now ≡ T.bytes val ++ rest
         → LeavesRest (λ back. back.0 ≡ T.kept val) ⊥ rest result buf.new.0.now }
 {
     parse_back(alloc, (), buf)

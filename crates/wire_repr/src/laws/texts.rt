@@ -1,15 +1,19 @@
 //! When a text comes back, by its representation.
 
-ghost use Rattle.std.specs.Prelude.{◌≡◌, List, ℕ, [], ◌++◌, ◌∷◌, length, take, min};
+ghost use Rattle.std.specs.Prelude.{◌≡◌, List, ℕ, [], ◌++◌, ◌∷◌, length, take, min, Some, Ok};
 ghost use Rattle.std.specs.List.{before_first};
-ghost use Rattle.wire_buf.specs.Lenenc.{lenenc_bytes};
+ghost use Rattle.wire_buf.specs.Lenenc.{IsLenencOrMark, lenenc_bytes};
 ghost use Rattle.wire_buf.specs.NullText.{is_zero};
 ghost use Rattle.wire_buf.specs.Numbers.{le_bytes};
+ghost use Rattle.wire_buf.specs.Reading.{Reads, Parses, Answers, front_at};
+ghost use Rattle.wire_buf.specs.Spelling.{IsFixed};
 ghost use Rattle.wire_ext.specs.Texts.{u8_max, u32_max};
 ghost use Rattle.wire_repr.specs.BareTexts.{padded};
-ghost use Rattle.wire_repr.specs.Groups.{groups_bytes};
-ghost use Rattle.wire_repr.specs.Law.{LeavesRest};
-ghost use Rattle.wire_repr.specs.Texts.{IsText, IsBorrowedText};
+ghost use Rattle.wire_repr.specs.Groups.{ReadsGroups, groups_bytes};
+ghost use Rattle.wire_repr.specs.Law.{LeavesRest, ReadsFixed};
+ghost use Rattle.wire_repr.specs.NullTexts.{ReadsNull};
+ghost use Rattle.wire_repr.specs.Spelled.{Leaves, NumberOrEof, TextBehind};
+ghost use Rattle.wire_repr.specs.Texts.{IsText, IsBorrowedText, Borrows};
 
 use super::parse_back;
 use crate::int::{LenEnc, VarLen};
@@ -23,7 +27,8 @@ pub fn lenenc_text<'a>(
     alloc: Global,
     buf: &mut ParseBuf<'a>,
 ) -> Result<RawBytes<'a, LenEnc>, WireError>
-    ensures { (text rest : List ℕ) → IsText text → buf.old.0.now ≡ (lenenc_bytes (length text) ++ text) ++ rest
+    ensures reads { Reads (λ input. Borrows (λ text. text.0) (Leaves (TextBehind (NumberOrEof IsLenencOrMark 1)) input)) buf.old.0.now result buf.new.0.now }
+    ensures back { (text rest : List ℕ) → IsText text → buf.old.0.now ≡ (lenenc_bytes (length text) ++ text) ++ rest
         → LeavesRest (λ back. IsBorrowedText back.0 text) ⊥ rest result buf.new.0.now }
 {
     parse_back::<'a, RawBytes<'a, LenEnc>, Global>(alloc, (), buf)
@@ -34,7 +39,8 @@ pub fn u8_text<'a>(
     alloc: Global,
     buf: &mut ParseBuf<'a>,
 ) -> Result<RawBytes<'a, U8Bytes>, WireError>
-    ensures { (text rest : List ℕ) → IsText text → buf.old.0.now ≡ (le_bytes 1 (length (take u8_max text)) ++ take u8_max text) ++ rest
+    ensures reads { Reads (λ input. Borrows (λ text. text.0) (Leaves (TextBehind (NumberOrEof (IsFixed 1) 0)) input)) buf.old.0.now result buf.new.0.now }
+    ensures back { (text rest : List ℕ) → IsText text → buf.old.0.now ≡ (le_bytes 1 (length (take u8_max text)) ++ take u8_max text) ++ rest
         → LeavesRest (λ back. IsBorrowedText back.0 (take u8_max text)) ⊥ rest result buf.new.0.now }
 {
     parse_back::<'a, RawBytes<'a, U8Bytes>, Global>(alloc, (), buf)
@@ -45,7 +51,8 @@ pub fn u32_text<'a>(
     alloc: Global,
     buf: &mut ParseBuf<'a>,
 ) -> Result<RawBytes<'a, U32Bytes>, WireError>
-    ensures { (text rest : List ℕ) → IsText text → buf.old.0.now ≡ (le_bytes 4 (length (take u32_max text)) ++ take u32_max text) ++ rest
+    ensures reads { Reads (λ input. Borrows (λ text. text.0) (Leaves (TextBehind (NumberOrEof (IsFixed 4) 0)) input)) buf.old.0.now result buf.new.0.now }
+    ensures back { (text rest : List ℕ) → IsText text → buf.old.0.now ≡ (le_bytes 4 (length (take u32_max text)) ++ take u32_max text) ++ rest
         → LeavesRest (λ back. IsBorrowedText back.0 (take u32_max text)) ⊥ rest result buf.new.0.now }
 {
     parse_back::<'a, RawBytes<'a, U32Bytes>, Global>(alloc, (), buf)
@@ -56,7 +63,8 @@ pub fn var_len_text<'a>(
     alloc: Global,
     buf: &mut ParseBuf<'a>,
 ) -> Result<RawBytes<'a, VarLen>, WireError>
-    ensures { (text rest : List ℕ) → IsText text → buf.old.0.now ≡ (groups_bytes (length (take u32_max text)) ++ take u32_max text) ++ rest
+    ensures reads { Reads (λ input. Borrows (λ text. text.0) (Leaves (TextBehind ReadsGroups) input)) buf.old.0.now result buf.new.0.now }
+    ensures back { (text rest : List ℕ) → IsText text → buf.old.0.now ≡ (groups_bytes (length (take u32_max text)) ++ take u32_max text) ++ rest
         → LeavesRest (λ back. IsBorrowedText back.0 (take u32_max text)) ⊥ rest result buf.new.0.now }
 {
     parse_back::<'a, RawBytes<'a, VarLen>, Global>(alloc, (), buf)
@@ -67,7 +75,8 @@ pub fn null_text<'a>(
     alloc: Global,
     buf: &mut ParseBuf<'a>,
 ) -> Result<RawBytes<'a, NullBytes>, WireError>
-    ensures { (text rest : List ℕ) → IsText text → buf.old.0.now ≡ (before_first is_zero text ++ 0 ∷ []) ++ rest
+    ensures reads { Reads (λ input. Borrows (λ text. text.0) (Leaves ReadsNull input)) buf.old.0.now result buf.new.0.now }
+    ensures back { (text rest : List ℕ) → IsText text → buf.old.0.now ≡ (before_first is_zero text ++ 0 ∷ []) ++ rest
         → LeavesRest (λ back. IsBorrowedText back.0 (before_first is_zero text)) ⊥ rest result buf.new.0.now }
 {
     parse_back::<'a, RawBytes<'a, NullBytes>, Global>(alloc, (), buf)
@@ -78,7 +87,8 @@ pub fn eof_text<'a>(
     alloc: Global,
     buf: &mut ParseBuf<'a>,
 ) -> Result<RawBytes<'a, EofBytes>, WireError>
-    ensures { (text rest : List ℕ) → IsText text → rest ≡ [] → buf.old.0.now ≡ text ++ rest
+    ensures reads { Reads (λ input. Borrows (λ text. text.0) (Answers (Ok input, length input))) buf.old.0.now result buf.new.0.now }
+    ensures back { (text rest : List ℕ) → IsText text → rest ≡ [] → buf.old.0.now ≡ text ++ rest
         → LeavesRest (λ back. IsBorrowedText back.0 text) ⊥ rest result buf.new.0.now }
 {
     parse_back::<'a, RawBytes<'a, EofBytes>, Global>(alloc, (), buf)
@@ -90,7 +100,8 @@ pub fn bare_text<'a, const N: usize>(
     count: usize,
     buf: &mut ParseBuf<'a>,
 ) -> Result<RawBytes<'a, BareBytes<N>>, WireError>
-    ensures { (text rest : List ℕ) → IsText text → count ≡ min (length text) N → buf.old.0.now ≡ take N text ++ rest
+    ensures reads { Reads (λ input. Borrows (λ text. text.0) (Answers (front_at count input))) buf.old.0.now result buf.new.0.now }
+    ensures back { (text rest : List ℕ) → IsText text → count ≡ min (length text) N → buf.old.0.now ≡ take N text ++ rest
         → LeavesRest (λ back. IsBorrowedText back.0 (take N text)) ⊥ rest result buf.new.0.now }
 {
     parse_back::<'a, RawBytes<'a, BareBytes<N>>, Global>(alloc, count, buf)
@@ -101,7 +112,8 @@ pub fn fixed_length_text<'a, const N: usize>(
     alloc: Global,
     buf: &mut ParseBuf<'a>,
 ) -> Result<RawBytes<'a, FixedLengthText<N>>, WireError>
-    ensures { (text rest : List ℕ) → IsText text → buf.old.0.now ≡ padded N text ++ rest
+    ensures reads { Reads (Parses (Some N) (λ input. Borrows (λ text. text.0) (ReadsFixed N (λ bytes. bytes) input))) buf.old.0.now result buf.new.0.now }
+    ensures back { (text rest : List ℕ) → IsText text → buf.old.0.now ≡ padded N text ++ rest
         → LeavesRest (λ back. IsBorrowedText back.0 (padded N text)) ⊥ rest result buf.new.0.now }
 {
     parse_back::<'a, RawBytes<'a, FixedLengthText<N>>, Global>(alloc, (), buf)

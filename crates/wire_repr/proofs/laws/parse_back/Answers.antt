@@ -1,8 +1,8 @@
 use Rattle.wire_repr.specs.Law.{seen, parse-back}
 use Rattle.wire_repr.proofs.laws.parse_back.Goals as goal
 
-pub returns : goal.returns
-returns g c =
+pub returns-clause-back : goal.returns-clause-back
+returns-clause-back g c =
     let claim : g.claim c.lifetimes = assumption tt in
     let met = g.met.T.Wire c.lifetimes claim in
     λ value rest is good at. parse-back g.T.Size.ReadSize.SIZE (g.T.MyDeserialize.reads c.args.ctx) (g.T.Wire.kept value) g.T.Wire.takes_memory (g.T.MySerialize.bytes value) rest c.args.buf.now.0.now c.parse_in.new.self.0.now

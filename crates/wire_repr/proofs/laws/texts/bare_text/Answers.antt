@@ -4,8 +4,8 @@ use Rattle.wire_repr.specs.declared.text.rest.BareBytes.{BareBytes}
 use Rattle.wire_repr.specs.declared.text.RawBytes.{RawBytes}
 use Rattle.wire_repr.proofs.laws.texts.bare_text.Goals as goal
 
-pub returns : goal.returns
-returns g c =
+pub returns-clause-back : goal.returns-clause-back
+returns-clause-back g c =
     λ text rest is count at. (
     let value : RawBytes (BareBytes g.row.N) Global ℕ = record { 0 = slice.Borrowed (record { ref_ptr = (0, 0); now = text }); 1 = record {} } in
-    c.parse_back.ensures value rest is count at)
+    c.parse_back.ensures.back value rest is count at)

@@ -4,8 +4,8 @@ use Rattle.wire_repr.specs.declared.text.rest.EofBytes.{EofBytes}
 use Rattle.wire_repr.specs.declared.text.RawBytes.{RawBytes}
 use Rattle.wire_repr.proofs.laws.texts.eof_text.Goals as goal
 
-pub returns : goal.returns
-returns c =
+pub returns-clause-back : goal.returns-clause-back
+returns-clause-back c =
     λ text rest is none at. (
     let value : RawBytes EofBytes Global (Unit {0}) = record { 0 = slice.Borrowed (record { ref_ptr = (0, 0); now = text }); 1 = record {} } in
-    c.parse_back.ensures value rest is none at)
+    c.parse_back.ensures.back value rest is none at)

@@ -4,8 +4,8 @@ use Rattle.wire_repr.specs.declared.text.prefixed.U32Bytes.{U32Bytes}
 use Rattle.wire_repr.specs.declared.text.RawBytes.{RawBytes}
 use Rattle.wire_repr.proofs.laws.texts.u32_text.Goals as goal
 
-pub returns : goal.returns
-returns c =
+pub returns-clause-back : goal.returns-clause-back
+returns-clause-back c =
     λ text rest is at. (
     let value : RawBytes U32Bytes Global (Unit {0}) = record { 0 = slice.Borrowed (record { ref_ptr = (0, 0); now = text }); 1 = record {} } in
-    c.parse_back.ensures value rest is tt at)
+    c.parse_back.ensures.back value rest is tt at)
