@@ -2,6 +2,7 @@
 
 ghost use Rattle.std.specs.Prelude.{◌≡◌, take, Ok, IfErr};
 
+use crate::plain::between;
 use mysql_wire::io::{InvalidLengthEncodedInteger, InvalidReason, ParseBuf, WireError};
 use mysql_wire::proto::{Binary, Fixed, MyDeserialize, MySerialize, ReadSize, Text};
 use refusing::Refusing;
@@ -12,28 +13,51 @@ use std::io::{self, Read};
 use std::process::Abort;
 use std::test::Fail;
 
+// What both forms of a reader answer to an input, and how many bytes they leave of it.
+#[derive(Clone, Copy, PartialEq, Eq)]
+struct Answers<T> {
+    checked: Option<T>,
+    left: usize,
+    plain: Option<T>,
+    plain_left: usize,
+}
+
+// Whether both forms of a reader of so many bytes read this number from an input that has them, and
+// nothing from one that has fewer.
+fn is_read<T: Copy + PartialEq>(answers: Answers<T>, width: usize, len: usize, number: T) -> bool {
+    let left = len.saturating_sub(width);
+    if len < width {
+        answers.checked.is_none() && answers.left == len
+    } else {
+        answers.checked == Some(number)
+            && answers.left == left
+            && answers.plain == Some(number)
+            && answers.plain_left == left
+    }
+}
+
 // Both forms of a reader of so many bytes, on no byte, on fewer, on as many, and on one more.
 macro_rules! reads {
     ($rt:ident; $eat:ident, $checked:ident, $width:literal; $bytes:literal => $want:expr) => {{
         let bytes: &[u8] = $bytes;
-        assert_eq!($rt; bytes.len(), $width + 1);
+        let mut all = bytes.len() == $width + 1;
         for len in 0..$width + 2usize {
-            let mut buf = ParseBuf(&bytes[..len]);
+            let mut buf = ParseBuf(between(bytes, 0, len));
             let mut same = buf;
-            match buf.$checked() {
-                Some(number) => {
-                    assert!($rt; len >= $width);
-                    assert_eq!($rt; number, $want);
-                    assert_eq!($rt; buf.len(), len - $width);
-                    assert_eq!($rt; same.$eat(), $want);
-                    assert_eq!($rt; same.len(), len - $width);
-                }
-                None => {
-                    assert!($rt; len < $width);
-                    assert_eq!($rt; buf.len(), len);
-                }
-            }
+            let checked = buf.$checked();
+            let plain = match checked {
+                Some(_) => Some(same.$eat()),
+                None => None,
+            };
+            let answers = Answers {
+                checked,
+                left: buf.len(),
+                plain,
+                plain_left: same.len(),
+            };
+            all = all && is_read(answers, $width, len, $want);
         }
+        assert!($rt; all);
     }};
 }
 
