@@ -226,3 +226,30 @@ one_delivery_is d S s L ps qs e f q r W V a b =
     (subst (λ (z : List ℕ). Ends f (id_after s qs) L z W) (sym parts.1)
     (subst (λ (z : List ℕ). Ends f (id_after s qs) L r z) (sym parts.2) b.ends)) in
     (parts.0, one_ending e f (id_after s ps) L q W a.ends other, parts.1, parts.2)
+
+-- what a stream of payloads within the limit, with anything behind it, delivers: these payloads first
+pub encoded_first_is : (s L : ℕ) (ps qs : List (List ℕ)) (x : List ℕ) (e : Ending) (q W : List ℕ)
+    → All (λ (o : List ℕ). length o ≤ L) ps → Delivers [] (stream s ps ++ x) s L qs e q W
+    → (others : List (List ℕ)) × (qs ≡ ps ++ others) × Delivers [] x (id_after s ps) L others e q W
+encoded_first_is s L [] qs x e q W small d = (qs, refl, d)
+encoded_first_is s L (p ∷ ps) [] x e q W small d =
+    absurd (not_whole e s L (length q / max_payload) [] q p W (stream (next_id s p) ps ++ x) (blocks_whole (length q) d.splits.unfinished_whole)
+    d.splits.within (continues_nothing L p (All-head (λ (o : List ℕ). length o ≤ L) p ps small))
+    (sym d.splits.is ∙ append_assoc (framing s p) (stream (next_id s p) ps) x) d.ends)
+encoded_first_is s L (p ∷ ps) (o ∷ qs) x e q W small d =
+    let X : List ℕ = stream (next_id s p) ps ++ x in
+    let Y : List ℕ → List ℕ = λ (z : List ℕ). stream (next_id s z) qs ++ (front (id_after (next_id s z) qs) q ++ W) in
+    let parts = framing_cancel s p o X (Y o)
+    (sym (append_assoc (framing s p) (stream (next_id s p) ps) x) ∙ d.splits.is
+    ∙ append_assoc (framing s o) (stream (next_id s o) qs) (front (id_after (next_id s o) qs) q ++ W)) in
+    let here : Delivers [] X (next_id s p) L qs e q W = record {
+      splits = record {
+        is = parts.1 ∙ ap (λ (z : List ℕ). Y z) (sym parts.0);
+        held_whole = d.splits.held_whole;
+        unfinished_whole = d.splits.unfinished_whole;
+        within = within_rest L qs q d.splits.within.1 d.splits.within.2;
+      };
+      ends = subst (λ (z : List ℕ). Ends e (id_after (next_id s z) qs) L q W) (sym parts.0) d.ends;
+    } in
+    let more = encoded_first_is (next_id s p) L ps qs x e q W (All-tail (λ (o : List ℕ). length o ≤ L) p ps small) here in
+    (more.0, ap₂ (λ (u : List ℕ) (v : List (List ℕ)). u ∷ v) (sym parts.0) more.1, more.2)

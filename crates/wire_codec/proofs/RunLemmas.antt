@@ -1,5 +1,5 @@
 -- Runs of decodes, joined.
-use Rattle.std.proofs.Common.{◌≡◌, ℕ, ◌+◌, ◌<◌, ◌≤◌, List, [], ◌∷◌, ◌++◌, length, take, drop, refl, sym, ap, ap₂, ◌∙◌, subst, arith, append_assoc, append-nil, length-append, length-drop, inl, inr, ◌⊎◌, slice_index, Option, Some, None, Result, Ok, Err, false, zero-le, All}
+use Rattle.std.proofs.Common.{◌≡◌, ℕ, ◌+◌, ◌<◌, ◌≤◌, List, [], ◌∷◌, ◌++◌, length, take, drop, refl, sym, ap, ap₂, ◌∙◌, subst, arith, append_assoc, append-nil, length-append, length-drop, inl, inr, ◌⊎◌, slice_index, Option, Some, None, Result, Ok, Err, false}
 use Rattle.std.proofs.lemmas.List.Elements.{All-nil}
 use Rattle.std.proofs.lemmas.List.{take-append-le, drop-append-le, get_or_append_left, take_more, flat_map_more, take-append-drop}
 use Rattle.std.proofs.Common.{Bor, get_or}
@@ -10,7 +10,8 @@ use Rattle.wire_codec.specs.Framing.{max_payload, framing, front, next_id, strea
 use Rattle.wire_codec.specs.Delivery.{chunk_len, id_at, IsWholeChunks, Continues, Splits, Ending, Waiting, TooLarge, OutOfSync, Delivers}
 use Rattle.wire_codec.specs.Codec.{StandsAt, CodecState, open_id, first_id, input_of, DecodesFrom}
 use Rattle.wire_codec.specs.Runs.{RunsFrom, RunsTo, LeavesFrom, joined}
-use Rattle.wire_codec.proofs.DeliveryLemmas.{stream-append, id_after-append, within_append, within_rest, splits_join, delivers_join}
+use Rattle.wire_codec.specs.Laws.{empty_state}
+use Rattle.wire_codec.proofs.DeliveryLemmas.{stream-append, id_after-append, within_append, splits_join, delivers_join}
 use Rattle.wire_codec.proofs.CodecLemmas.{open_at_id, open_small}
 
 -- nothing unfinished
@@ -178,18 +179,23 @@ stream_rest input pieces i =
     append_assoc input (joined (take i pieces)) (joined (drop i pieces))
     ∙ ap (λ (z : List ℕ). input ++ z) (sym (joined-append (take i pieces) (drop i pieces)) ∙ ap (λ (z : List (Bor (List ℕ))). joined z) (take-append-drop i pieces))
 
--- framed payloads come first
-pub encoded_first_is : (s L : ℕ) (ps qs : List (List ℕ)) (x : List ℕ) (e : Ending) (q W : List ℕ)
-    → All (λ (o : List ℕ). length o ≤ L) ps → Delivers [] x (id_after s ps) L qs e q W → Delivers [] (stream s ps ++ x) s L (ps ++ qs) e q W
-encoded_first_is s L ps qs x e q W small d =
-    let here : Splits [] (stream s ps) s L ps [] [] = record {
-      is = sym (append-nil (stream s ps)) ∙ ap (λ (z : List ℕ). stream s ps ++ (z ++ [])) (sym (front-nil (id_after s ps)));
-      held_whole = nothing_whole;
-      unfinished_whole = nothing_whole;
-      within = within_rest L ps [] small zero-le;
-    } in
-    delivers_join [] (stream s ps) s L ps [] [] x qs e q W here
-    (subst (λ (z : List ℕ). Delivers [] (z ++ x) (id_after s ps) L qs e q W) (sym (front-nil (id_after s ps))) d)
+-- from empty buffers nothing is delivered yet
+pub nothing_read_is : (id limit : ℕ) → id < 256 → RunsTo (empty_state id limit) [] (Ok tt) [] (empty_state id limit)
+unfolding max_payload
+nothing_read_is id limit small = (
+  record {
+    splits = record {
+      is = refl;
+      held_whole = refl;
+      unfinished_whole = refl;
+      within = record { begins = refl; small = omega arith };
+    };
+    ends = inl (omega arith);
+  },
+  omega arith,
+  (refl, tt),
+  (λ some. cc, λ long. absurd (omega arith)),
+)
 
 -- a run that stopped here, and could go on
 stopped_splits : (stopped : Result (Unit {0}) PacketCodecError) (d S : List ℕ) (s L : ℕ) (ps : List (List ℕ)) (id : ℕ) (header : Option (ℕ × ℕ)) (src dst : List ℕ)

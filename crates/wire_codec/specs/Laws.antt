@@ -1,5 +1,5 @@
 -- Laws over the definitions alone, which the functions of `laws` carry.
-use Rattle.std.specs.Prelude.{◌≡◌, ℕ, List, [], ◌++◌, length, ◌/◌, ◌%◌, ◌+◌, ◌*◌, ◌≤◌, ◌⊎◌, All, Result, Ok, Err}
+use Rattle.std.specs.Prelude.{◌≡◌, ℕ, List, [], ◌++◌, length, ◌/◌, ◌%◌, ◌+◌, ◌*◌, ◌<◌, ◌≤◌, ◌⊎◌, All, None, Result, Ok, Err}
 use Rattle.wire_codec.specs.Framing.{framing, front, id_after, max_payload, stream}
 use Rattle.wire_codec.specs.Delivery.{Ending, Splits, Delivers}
 use Rattle.wire_codec.specs.Counted.{Call, Follows, chunk_count}
@@ -46,13 +46,39 @@ abbrev pub FramedLength : Type 0
 FramedLength =
     (first_id : ℕ) (payload : List ℕ) → length (framing first_id payload) ≡ length payload + 4 * (length payload / max_payload + 1)
 
--- what begins with framed payloads hands them out first, whatever follows
+-- what a stream delivers, with anything behind it, begins with its payloads; the others are
+-- delivered of what is behind it
 abbrev pub EncodedFirst : Type 0
 EncodedFirst =
-    (first_id limit : ℕ) (payloads others : List (List ℕ)) (more : List ℕ) (ending : Ending) (unfinished rest : List ℕ)
+    (first_id limit : ℕ) (payloads delivered : List (List ℕ)) (more : List ℕ)
+    (ending : Ending) (unfinished rest : List ℕ)
     → All (λ payload. length payload ≤ limit) payloads
-    → Delivers [] more (id_after first_id payloads) limit others ending unfinished rest
-    → Delivers [] (stream first_id payloads ++ more) first_id limit (payloads ++ others) ending unfinished rest
+    → Delivers [] (stream first_id payloads ++ more) first_id limit delivered ending unfinished rest
+    → (others : List (List ℕ)) × (delivered ≡ payloads ++ others)
+    × Delivers [] more (id_after first_id payloads) limit others ending unfinished rest
+
+-- two streams, one behind the other, are one
+abbrev pub StreamAppend : Type 0
+StreamAppend =
+    (first_id : ℕ) (payloads others : List (List ℕ))
+    → stream first_id (payloads ++ others)
+    ≡ stream first_id payloads ++ stream (id_after first_id payloads) others
+
+-- and the id after both is the one after the second
+abbrev pub IdAfterAppend : Type 0
+IdAfterAppend =
+    (first_id : ℕ) (payloads others : List (List ℕ))
+    → id_after first_id (payloads ++ others) ≡ id_after (id_after first_id payloads) others
+
+-- a codec with empty buffers, to which nothing has come
+abbrev pub empty_state : ℕ → ℕ → CodecState
+empty_state id limit =
+    record { limit = limit; id = id; header = None; unread = []; held = [] }
+
+-- nothing read yet is a run that waits
+abbrev pub NothingRead : Type 0
+NothingRead =
+    (id limit : ℕ) → id < 256 → RunsTo (empty_state id limit) [] (Ok tt) [] (empty_state id limit)
 
 -- the id that a codec expects is the number of chunks encoded and accepted since the last reset,
 -- modulo 256

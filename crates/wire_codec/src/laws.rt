@@ -1,7 +1,7 @@
 //! Laws over the definitions that the contracts cite. Each function takes and answers nothing: its
 //! contract is the law, and a caller has it by calling.
 
-ghost use Rattle.wire_codec.specs.Laws.{ChunksCounted, EncodedFirst, FramedLength, JoinedRuns, OneDelivery, RunGoesOn, UniqueFraming};
+ghost use Rattle.wire_codec.specs.Laws.{ChunksCounted, EncodedFirst, FramedLength, IdAfterAppend, JoinedRuns, NothingRead, OneDelivery, RunGoesOn, StreamAppend, UniqueFraming};
 
 /// A stream delivers one list of payloads, one unfinished payload, one rest and one ending.
 pub fn one_delivery()
@@ -24,9 +24,25 @@ pub fn unique_framing()
     ensures { UniqueFraming }
 {}
 
-/// What begins with framed payloads within the limit delivers them first, whatever follows.
+/// What is delivered of framed payloads within the limit, with anything behind them, begins with
+/// these payloads; the other payloads are delivered of what is behind them.
 pub fn encoded_first()
     ensures { EncodedFirst }
+{}
+
+/// Streams one behind the other are one stream, so that what one `encode` after another appends is.
+pub fn stream_append()
+    ensures { StreamAppend }
+{}
+
+/// The id after two lists of payloads is the one after the second, begun at the one after the first.
+pub fn id_after_append()
+    ensures { IdAfterAppend }
+{}
+
+/// A run over no bytes, from empty buffers, waits and changes nothing.
+pub fn nothing_read()
+    ensures { NothingRead }
 {}
 
 /// Over any list of `encode`, `decode` and `reset_seq_id` on a new codec, the id expected is the

@@ -37,9 +37,7 @@ fn drain<A: Allocator + Copy>(
     ensures limit { codec.new.max_allowed_packet ≡ codec.old.max_allowed_packet }
 {
     'packets: loop {
-        if out.reserve(1).is_err() {
-            return Err(PacketCodecError::OutOfMemory);
-        }
+        out.reserve(1)?;
         match codec.decode(src, dst) {
             Ok(true) => hand_out(dst, out),
             Ok(false) => return Ok(()),

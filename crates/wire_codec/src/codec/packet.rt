@@ -1,17 +1,16 @@
 //! Whole packets.
 
 ghost use Rattle.std.specs.Prelude.{◌≡◌, ◌≢◌, ℕ, ◌+◌, ◌%◌, ◌<◌, ◌≤◌, ◌↔◌, ◌⊎◌, OnOk, OnErr, IfErr, Err, [], length, None, true, IsTrue, slice_index, ◌++◌};
-ghost use Rattle.wire_codec.specs.Delivery.{IsWholeChunks, chunk_len};
-ghost use Rattle.wire_codec.specs.Framing.{max_payload};
+ghost use Rattle.wire_codec.specs.Delivery.{chunk_len};
 
 use crate::codec::chunk::{ChunkDecoder, ChunkInfo, PacketDst};
 use crate::codec::error::PacketCodecError;
 use crate::codec::framing::packet_to_chunks;
 use crate::codec::header::Header;
-use crate::codec::room::{bytes_to_take, fits, whole_chunk};
+use crate::codec::room::{bytes_to_take, fits, is_full_chunks, whole_chunk};
 use bytes::{Buf, BytesMut};
 use std::alloc::Allocator;
-use wire_const::{DEFAULT_MAX_ALLOWED_PACKET, MAX_PAYLOAD_LEN};
+use wire_const::DEFAULT_MAX_ALLOWED_PACKET;
 
 /// Packets from chunks, and chunks from packets, under one sequence id, as a connection has it.
 ///
@@ -55,7 +54,7 @@ impl PacketCodec {
     pub fn stands_at(&self, src: &BytesMut<impl Allocator + Copy>, dst: &[u8]) -> bool
         ensures { IsTrue result ↔ Stands (codec_state self.now src.now.items dst.now) }
     {
-        if !is_whole(dst) {
+        if !is_full_chunks(dst.len()) {
             return false;
         }
         match self.decoder {
@@ -100,12 +99,7 @@ impl PacketCodec {
         ensures shorter { result ≡ Ok true → length src.new.items < length src.old.items }
         ensures limit { self.new.max_allowed_packet ≡ self.old.max_allowed_packet }
     {
-        if begins_full_chunk(src.as_slice()) {
-            match self.make_room(src, dst) {
-                Ok(()) => {}
-                Err(error) => return Err(error),
-            }
-        }
+        self.make_room(src, dst)?;
         self.take_chunks(src, dst)
     }
 
@@ -222,8 +216,8 @@ impl PacketCodec {
         }
     }
 
-    // Takes room in `dst` for all bytes that one call takes, where that may be more than one chunk.
-    // Where there is none, the chunk in front is remembered.
+    // Takes room in `dst` for all bytes that one call takes. Where there is none, the chunk in front
+    // is remembered.
     fn make_room<T: PacketDst>(
         &mut self,
         src: &BytesMut<impl Allocator + Copy>,
@@ -283,26 +277,6 @@ impl PacketCodec {
                 Err(error) => return Err(error),
             }
         }
-    }
-}
-
-// Whether these are full chunks alone.
-#[tactic(auto, using(crate::proofs::ChunkLemmas::max_payload_is))]
-fn is_whole(held: &[u8]) -> bool
-    ensures { IsTrue result ↔ IsWholeChunks held.now }
-{
-    held.len() % MAX_PAYLOAD_LEN == 0
-}
-
-// Whether a full chunk begins in front, so that one call may take those behind it too. A shorter one
-// is the packet's last, and takes its own room as it is put.
-#[tactic(auto, using(crate::proofs::ChunkLemmas::max_payload_is))]
-fn begins_full_chunk(front: &[u8]) -> bool
-    ensures { IsTrue result ↔ ((4 ≤ length front.now) × (chunk_len front.now ≡ max_payload)) }
-{
-    match Header::read(front) {
-        Some(header) => header.len == MAX_PAYLOAD_LEN,
-        None => false,
     }
 }
 
