@@ -1,5 +1,5 @@
 -- One piece after another.
-use Rattle.std.proofs.Common.{◌≡◌, ℕ, ◌+◌, ◌*◌, ◌/◌, ◌%◌, ◌<◌, ◌≤◌, ◌⊎◌, List, [], ◌∷◌, ◌++◌, length, take, drop, refl, sym, ap, ◌∙◌, subst, arith, inl, inr, append_assoc, length-append, drop_of_length-le, Option, None, Ok, Err}
+use Rattle.std.proofs.Common.{◌≡◌, ℕ, ◌+◌, ◌*◌, ◌/◌, ◌%◌, ◌<◌, ◌≤◌, ◌⊎◌, List, [], ◌∷◌, ◌++◌, length, take, drop, refl, sym, ap, ◌∙◌, subst, arith, inl, inr, append_assoc, length-append, drop_of_length-le, Option, None, Ok, Err, Bool, true, false, if◌then◌else◌, ◌==◌}
 use Rattle.std.proofs.Math.Seq.{take-nil}
 use Rattle.std.proofs.lemmas.Grind.{flat_map-append}
 use Rattle.mysql_wire.specs.PacketCodecError.TheVariants.{PacketTooLarge, PacketsOutOfSync}
@@ -7,7 +7,7 @@ use Rattle.mysql_wire.specs.Framing.{max_payload, chunk, framing, front, next_id
 use Rattle.mysql_wire.specs.Delivery.{id_at, IsWholeChunks, Ending, Waiting, TooLarge, OutOfSync, Delivers}
 use Rattle.mysql_wire.specs.Codec.{CodecState, open_id, first_id, input_of, StandsAt}
 use Rattle.mysql_wire.specs.Runs.{RunsTo, RunsOver}
-use Rattle.mysql_wire.specs.Laws.{JoinedRuns, FramedLength}
+use Rattle.mysql_wire.specs.Laws.{JoinedRuns, FramedLength, NothingRead, empty_state}
 use Rattle.mysql_wire_tool.specs.Texts.{payload_line}
 use Rattle.mysql_wire_tool.specs.Unframe.{packet_lines, ending_line, ending_status, Unframing, Unframed, UnframeEnds}
 
@@ -16,25 +16,19 @@ unfolding max_payload
 max_payload_is = refl
 
 -- nothing read yet
-pub unframing_start : (limit : ℕ) (state : CodecState) → state.id ≡ 0 → state.header ≡ None → state.unread ≡ [] → state.held ≡ [] → state.limit ≡ limit
+pub unframing_start : NothingRead → (limit : ℕ) (state : CodecState) → state.id ≡ 0 → state.header ≡ None → state.unread ≡ [] → state.held ≡ [] → state.limit ≡ limit
     → Unframing limit state [] []
 unfolding max_payload
-unframing_start limit state id header unread held same = record {
-  payloads = [];
-  delivered = rw (unread, held) (record {
-    splits = record {
+unframing_start nothing limit state id header unread held same =
+    let here : RunsTo (empty_state 0 limit) [] (Ok tt) [] (empty_state 0 limit) = nothing 0 limit (omega arith) in
+    record {
+      payloads = [];
+      delivered = rw (unread, held) here.0;
+      goes_on = rw (id, held) refl;
+      stands = rw (header, held) here.2;
+      same_limit = same;
       is = refl;
-      held_whole = refl;
-      unfinished_whole = refl;
-      within = record { begins = refl; small = omega arith };
-    };
-    ends = inl (omega arith);
-  });
-  goes_on = rw (id, held) refl;
-  stands = rw (header, held) (refl, tt);
-  same_limit = same;
-  is = refl;
-}
+    }
 
 id_after-append : (s : ℕ) (ps qs : List (List ℕ)) → id_after s (ps ++ qs) ≡ id_after (id_after s ps) qs
 id_after-append s [] qs = refl
@@ -161,17 +155,12 @@ gave_up limit status unread left written now (inr six) = record {
   all_read = λ h. absurd (omega (arith, six, h));
 }
 
--- the statuses at the end of the input at which a text is promised
-pub rest_status : (status : ℕ) → (status ≡ 0) ⊎ (status ≡ 2) ⊎ (status ≡ 3) ⊎ (status ≡ 6) → (status ≡ 0) ⊎ (status ≡ 3) ⊎ (status ≡ 4) ⊎ (status ≡ 5)
-    → (status ≡ 0) ⊎ (status ≡ 3)
-rest_status status (inl zero) h = inl zero
-rest_status status (inr (inl two)) h = absurd (omega (arith, two, h))
-rest_status status (inr (inr (inl three))) h = inr three
-rest_status status (inr (inr (inr six))) h = absurd (omega (arith, six, h))
-
-pub rest_cases : (status : ℕ) → (status ≡ 0) ⊎ (status ≡ 2) ⊎ (status ≡ 3) ⊎ (status ≡ 6)
+-- the statuses at the end of the input
+ended_cases : (none_left : Bool) (status : ℕ) → status ≡ (if none_left then 0 else 3)
     → (status ≡ 0) ⊎ (status ≡ 2) ⊎ (status ≡ 3) ⊎ (status ≡ 4) ⊎ (status ≡ 5) ⊎ (status ≡ 6)
-rest_cases status (inl zero) = inl zero
-rest_cases status (inr (inl two)) = inr (inl two)
-rest_cases status (inr (inr (inl three))) = inr (inr (inl three))
-rest_cases status (inr (inr (inr six))) = inr (inr (inr (inr (inr six))))
+ended_cases true status is = inl is
+ended_cases false status is = inr (inr (inl is))
+
+pub rest_cases : (status left : ℕ) → status ≡ ending_status Waiting left
+    → (status ≡ 0) ⊎ (status ≡ 2) ⊎ (status ≡ 3) ⊎ (status ≡ 4) ⊎ (status ≡ 5) ⊎ (status ≡ 6)
+rest_cases status left is = ended_cases (left == 0) status is

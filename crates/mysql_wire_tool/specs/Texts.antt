@@ -1,29 +1,19 @@
 -- What the program writes, from the bytes that it reads.
 use Rattle.std.specs.Fmt.{decimal}
-use Rattle.std.specs.List.{flat_map}
 use Rattle.std.specs.Io.KnownBytes.{Appends, IsAtEnd}
-use Rattle.std.specs.Prelude.{◌≡◌, ℕ, ◌+◌, ◌/◌, ◌%◌, ◌⊎◌, List, [], ◌∷◌, ◌++◌, length, nat_lt, if◌then◌else◌, ◌==◌, codes, Option, Some, None, Ok, IfSome}
+use Rattle.std.specs.Prelude.{◌≡◌, ℕ, ◌⊎◌, List, [], ◌∷◌, ◌++◌, length, if◌then◌else◌, ◌==◌, codes, Option, Some, None, Ok, IfSome}
+use Rattle.hex.specs.Hex.{encode_lower}
 use Rattle.mysql_wire.specs.ChunkInfo.{ChunkInfo}
 use Rattle.mysql_wire.specs.ChunkInfo.TheVariants.{Middle, Last}
 use Rattle.mysql_wire.specs.Framing.{framing, max_payload}
 use Rattle.mysql_wire.specs.OneChunk.{ChunkState, ChunkStep}
 
--- a digit from 0 to 15, in lower case
-abbrev pub hex_digit : ℕ → ℕ
-hex_digit n = if nat_lt n 10 then 48 + n else 87 + n
-
-abbrev pub hex_pair : ℕ → List ℕ
-hex_pair byte = hex_digit (byte / 16) ∷ hex_digit (byte % 16) ∷ []
-
--- two digits a byte
-abbrev pub hex_text : List ℕ → List ℕ
-hex_text bytes = flat_map hex_pair bytes
-
--- a payload on a line: how many bytes it has, and their digits, or a dash for none
+-- two digits a byte, in lower case, or a dash for no bytes
 abbrev pub hex_or_dash : List ℕ → List ℕ
 hex_or_dash [] = codes "-"
-hex_or_dash (byte ∷ bytes) = hex_text (byte ∷ bytes)
+hex_or_dash (byte ∷ bytes) = encode_lower (byte ∷ bytes)
 
+-- a payload on a line: how many bytes it has, and their digits
 abbrev pub payload_line : List ℕ → List ℕ
 payload_line payload = decimal (length payload) ++ codes " " ++ hex_or_dash payload ++ codes "\n"
 

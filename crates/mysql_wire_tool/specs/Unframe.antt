@@ -1,9 +1,9 @@
 -- What `unframe` writes.
 use Rattle.std.specs.Io.KnownBytes.{Appends, Consumes, IsAtEnd}
 use Rattle.std.specs.List.{flat_map}
-use Rattle.std.specs.Prelude.{◌≡◌, ◌==◌, ◌⊎◌, ℕ, List, [], ◌++◌, length, if◌then◌else◌, codes, Option, None, Ok, Err}
+use Rattle.std.specs.Prelude.{◌≡◌, ◌==◌, ◌⊎◌, ◌+◌, ◌*◌, ◌/◌, ℕ, List, [], ◌++◌, length, if◌then◌else◌, codes, Option, None, Ok, Err}
 use Rattle.mysql_wire.specs.PacketCodecError.TheVariants.{PacketTooLarge, PacketsOutOfSync}
-use Rattle.mysql_wire.specs.Framing.{front, id_after}
+use Rattle.mysql_wire.specs.Framing.{front, id_after, max_payload}
 use Rattle.mysql_wire.specs.Delivery.{Ending, Waiting, TooLarge, OutOfSync, Delivers}
 use Rattle.mysql_wire.specs.Codec.{CodecState, codec_state, expected_id, first_id, header_of, Stands}
 use Rattle.mysql_wire.specs.Runs.{RunsTo, RunsOver}
@@ -70,6 +70,12 @@ verdict_line verdict.OutOfSync = codes "out of sync\n"
 -- a run's codec and buffers
 abbrev pub run_state : {A : Type 0} → Run A → CodecState
 run_state run = codec_state run.codec run.src.items run.dst.items
+
+-- how many bytes came behind the last whole packet: the full chunks of an unfinished one, with their
+-- headers, and the bytes unread
+abbrev pub bytes_left : CodecState → ℕ
+bytes_left state =
+    length state.held + 4 * (length state.held / max_payload) + length state.unread
 
 -- a run at the start of a stream
 pub record StartsRun (limit : ℕ) {A : Type 0} (run : Run A) : Type 0 where

@@ -1,17 +1,17 @@
 //! `chunk`: the chunk at the front of the input.
 
-ghost use Rattle.std.specs.Prelude.{◌≡◌, ◌⊎◌, ◌++◌, length, IfOk};
+ghost use Rattle.std.specs.Prelude.{◌≡◌, ◌⊎◌, ◌++◌, length, IfOk, string_bytes};
 ghost use Rattle.mysql_wire_tool.specs.Texts.{ChunkEnds, Shown, chunk_line, chunk_status, rest_line};
 
 use crate::input::read_whole;
 use crate::lines::{push_chunk, push_rest};
-use crate::output::write_text;
-use crate::status::Stop;
+use crate::output::write_whole;
+use crate::status::{Stop, exit_status};
 use bytes::BytesMut;
 use mysql_wire::constants::MAX_PAYLOAD_LEN;
+use mysql_wire::proto::codec::error::PacketCodecError;
 use mysql_wire::proto::codec::{ChunkDecoder, ChunkInfo};
-use std::alloc::Allocator;
-use std::io;
+use std::alloc::{AllocError, Allocator};
 use std::io::{Read, Write};
 
 // The status of `chunk`.
@@ -27,35 +27,35 @@ fn chunk_status(info: Option<ChunkInfo>, rest: &[u8]) -> u8
 }
 
 // The line of the chunk, and that of the rest.
-fn chunk_text<A: Allocator>(
+fn chunk_text<A: Allocator + Copy>(
     alloc: A,
     info: Option<ChunkInfo>,
     payload: &[u8],
     rest: &[u8],
-) -> io::Result<Vec<u8, A>>
-    ensures { IfOk result (λ text. text.items ≡ chunk_line info payload.now ++ rest_line (length rest.now)) }
+) -> Result<String<A>, AllocError>
+    ensures { IfOk result (λ text. string_bytes text
+        ≡ chunk_line info payload.now ++ rest_line (length rest.now)) }
 {
-    let mut text = Vec::new(alloc);
+    let mut text = String::new(alloc);
     push_chunk(&mut text, info, payload)?;
     push_rest(&mut text, rest.len() as u128)?;
     Ok(text)
 }
 
-// The text of `chunk`, and its status.
-fn shown<A: Allocator + Copy>(alloc: A, input: &mut BytesMut<A>) -> Result<(Vec<u8, A>, u8), Stop>
-    ensures shown { IfOk result (λ shown. Shown input.old.items shown.1 shown.0.items) }
+// The text of `chunk`, and its status. Under the limit of one chunk no chunk is too large.
+fn shown<A: Allocator + Copy>(alloc: A, input: &mut BytesMut<A>) -> Result<(String<A>, u8), Stop>
+    ensures shown { IfOk result (λ shown. Shown input.old.items shown.1 (string_bytes shown.0)) }
     ensures cases { IfOk result (λ shown. (shown.1 ≡ 0) ⊎ (shown.1 ≡ 3)) }
 {
     let mut payload = Vec::new(alloc);
     let info = match ChunkDecoder::Idle.decode(input, &mut payload, MAX_PAYLOAD_LEN) {
         Ok(info) => info,
-        Err(_) => return Err(Stop::Memory),
+        Err(PacketCodecError::OutOfMemory) => return Err(Stop::Memory),
+        Err(_) => unreachable!(),
     };
     let status = chunk_status(info, input.as_slice());
-    match chunk_text(alloc, info, payload.as_slice(), input.as_slice()) {
-        Ok(text) => Ok((text, status)),
-        Err(_) => Err(Stop::Memory),
-    }
+    let text = chunk_text(alloc, info, payload.as_slice(), input.as_slice())?;
+    Ok((text, status))
 }
 
 /// Reads the whole input, decodes one chunk from its front, and writes what that was and how many
@@ -67,18 +67,23 @@ pub fn run_chunk<R: Read, W: Write>(
     input: &mut R,
     output: &mut W,
 ) -> u8
-    ensures { ChunkEnds result (R.remaining input.old) (R.remaining input.new) (W.contents output.old) (W.contents output.new) }
+    ensures { ChunkEnds result (R.remaining input.old) (R.remaining input.new)
+        (W.contents output.old) (W.contents output.new) }
 {
-    let mut whole = match read_whole(alloc, input) {
-        Ok(whole) => whole,
-        Err(stop) => return stop.status(),
-    };
-    let (text, status) = match shown(alloc, &mut whole) {
-        Ok(shown) => shown,
-        Err(stop) => return stop.status(),
-    };
-    match write_text(output, text.as_slice()) {
-        Ok(()) => status,
-        Err(stop) => stop.status(),
-    }
+    exit_status(chunk(alloc, input, output))
+}
+
+// The same, with the exit status or why it gave up.
+fn chunk<R: Read, W: Write>(
+    alloc: impl Allocator + Copy,
+    input: &mut R,
+    output: &mut W,
+) -> Result<u8, Stop>
+    ensures { IfOk result (λ status. ChunkEnds status (R.remaining input.old) (R.remaining input.new)
+        (W.contents output.old) (W.contents output.new)) }
+{
+    let mut whole = read_whole(alloc, input)?;
+    let (text, status) = shown(alloc, &mut whole)?;
+    write_whole(output, text.as_bytes())?;
+    Ok(status)
 }

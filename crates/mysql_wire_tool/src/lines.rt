@@ -1,37 +1,43 @@
 //! The lines of text that the program writes.
 
-ghost use Rattle.std.specs.Prelude.{◌≡◌, ◌++◌, OnOk};
-ghost use Rattle.mysql_wire_tool.specs.Texts.{chunk_line, payload_line, rest_line};
+ghost use Rattle.std.specs.Prelude.{◌≡◌, ◌++◌, IfOk, OnOk, string_bytes};
+ghost use Rattle.mysql_wire_tool.specs.Texts.{chunk_line, hex_or_dash, payload_line, rest_line};
 
-use crate::hex::push_hex_or_dash;
 use mysql_wire::proto::codec::ChunkInfo;
-use std::alloc::Allocator;
-use std::io;
-use std::io::Write;
+use std::alloc::{AllocError, Allocator};
+
+// Two digits a byte, or a dash where there are no bytes.
+fn hex_or_dash<A: Allocator>(alloc: A, bytes: &[u8]) -> Result<String<A>, AllocError>
+    ensures { IfOk result (λ text. string_bytes text ≡ hex_or_dash bytes.now) }
+{
+    if bytes.is_empty() {
+        return String::from_str(alloc, "-");
+    }
+    hex::encode(alloc, bytes)
+}
 
 /// Appends how many bytes the payload has, and their digits.
-pub fn push_payload<A: Allocator>(text: &mut Vec<u8, A>, payload: &[u8]) -> io::Result<()>
-    ensures { OnOk result (text.new.items ≡ text.old.items ++ payload_line payload.now) }
+pub fn push_payload<A: Allocator + Copy>(
+    text: &mut String<A>,
+    payload: &[u8],
+) -> Result<(), AllocError>
+    ensures { OnOk result (string_bytes text.new ≡ string_bytes text.old ++ payload_line payload.now) }
 {
-    write!(text, "{} ", payload.len())?;
-    push_hex_or_dash(text, payload)?;
-    text.extend_from_slice(b"\n")?;
-    Ok(())
+    let digits = hex_or_dash(*text.allocator(), payload)?;
+    writeln!(text, "{} {digits}", payload.len())
 }
 
 /// Appends the line of a chunk, or of none.
-pub fn push_chunk<A: Allocator>(
-    text: &mut Vec<u8, A>,
+pub fn push_chunk<A: Allocator + Copy>(
+    text: &mut String<A>,
     info: Option<ChunkInfo>,
     payload: &[u8],
-) -> io::Result<()>
-    ensures { OnOk result (text.new.items ≡ text.old.items ++ chunk_line info payload.now) }
+) -> Result<(), AllocError>
+    ensures { OnOk result
+        (string_bytes text.new ≡ string_bytes text.old ++ chunk_line info payload.now) }
 {
     match info {
-        None => {
-            text.extend_from_slice(b"none\n")?;
-            Ok(())
-        }
+        None => text.push_str("none\n"),
         Some(ChunkInfo::Middle(id)) => {
             write!(text, "middle {id} ")?;
             push_payload(text, payload)
@@ -44,8 +50,8 @@ pub fn push_chunk<A: Allocator>(
 }
 
 /// Appends how many bytes are left.
-pub fn push_rest<A: Allocator>(text: &mut Vec<u8, A>, count: u128) -> io::Result<()>
-    ensures { OnOk result (text.new.items ≡ text.old.items ++ rest_line count) }
+pub fn push_rest<A: Allocator>(text: &mut String<A>, count: u128) -> Result<(), AllocError>
+    ensures { OnOk result (string_bytes text.new ≡ string_bytes text.old ++ rest_line count) }
 {
     writeln!(text, "rest {count}")
 }

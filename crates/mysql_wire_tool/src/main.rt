@@ -9,7 +9,6 @@ use words::run_words;
 
 mod chunk;
 mod frame;
-mod hex;
 mod input;
 mod lines;
 mod output;

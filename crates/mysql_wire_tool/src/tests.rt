@@ -3,7 +3,6 @@
 
 use crate::chunk::run_chunk;
 use crate::frame::run_frame;
-use crate::status::fault_text;
 use crate::unframe::run_unframe;
 use crate::words::run_words;
 use refusing::Refusing;
@@ -336,15 +335,56 @@ fn each_request_for_memory_is_refused_in_turn(rt: HostRuntime) -> Result<(), Fai
     Ok(())
 }
 
-#[test]
-fn a_fault_has_its_text(rt: HostRuntime) {
-    for status in 0..=255u8 {
-        let want = match status {
-            1 => "usage: mysql_wire_tool frame ID | chunk | unframe STEP LIMIT",
-            2 => "input or output failed",
-            6 => "out of memory",
-            _ => "",
-        };
-        assert_eq!(rt; fault_text(status), want, "status {status}");
+// Gives what a read asks for, and notes the least and the most that was asked for.
+#[derive(Drop)]
+struct Noting<'a> {
+    bytes: &'a [u8],
+    least: usize,
+    most: usize,
+}
+
+impl Read for Noting<'_> {
+    fn read(&mut self, buf: &mut [u8]) -> io::Result<usize> {
+        self.least = self.least.min(buf.len());
+        self.most = self.most.max(buf.len());
+        self.bytes.read(buf)
     }
+}
+
+#[test]
+fn unframe_asks_each_read_for_its_step(rt: HostRuntime) -> Result<(), Fail> {
+    for (word, step) in [("1", 1), ("2", 2), ("9", 9), ("65536", 65536)] {
+        let mut words = Vec::new(rt.alloc());
+        for word in ["unframe", word, "9"] {
+            words.push(word.to_string(rt.alloc())?)?;
+        }
+        let mut input = Noting {
+            bytes: b"\x03\0\0\0123\0\0\0\x01",
+            least: usize::MAX,
+            most: 0,
+        };
+        let mut output = Vec::new(rt.alloc());
+        let status = run_words(rt.alloc(), words.as_slice(), &mut input, &mut output);
+        assert_eq!(rt; status, 0);
+        assert_eq!(rt; (input.least, input.most), (step, step));
+    }
+    Ok(())
+}
+
+// The text of a chunk of so many bytes is as long as that chunk's, and its status is 0.
+#[test]
+fn a_chunk_may_be_as_long_as_a_chunk_can_be(rt: HostRuntime) -> Result<(), Fail> {
+    for (header, len, front) in [
+        (b"\x0b\0\0\x01", 11usize, "last 1 11 4242"),
+        (b"\xff\xff\xff\x01", 16777215, "middle 1 16777215 4242"),
+    ] {
+        let mut input = Vec::from_slice(rt.alloc(), header)?;
+        input.resize(4 + len, b'B')?;
+        let (status, output) = run(rt.alloc(), &["chunk"], input.as_slice())?;
+        assert_eq!(rt; status, 0);
+        assert!(rt; output.as_slice().starts_with(front.as_bytes()));
+        assert!(rt; output.as_slice().ends_with(b"42\nrest 0\n"));
+        assert_eq!(rt; output.len(), front.len() - 4 + 2 * len + 8);
+    }
+    Ok(())
 }

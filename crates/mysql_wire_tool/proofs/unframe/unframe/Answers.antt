@@ -1,33 +1,25 @@
 use Rattle.std.proofs.Common.{rules, ℕ, List, [], ◌++◌, take, sym, append-nil, subst}
 use Rattle.std.proofs.KnownBytes.{Appends-nil, Appends-trans, Consumes-nil, Consumes-trans}
 use Rattle.std.specs.Io.KnownBytes.{Consumes}
-use Rattle.mysql_wire_tool.specs.Unframe.{run_state, packet_lines}
-use Rattle.mysql_wire_tool.proofs.UnframeLemmas.{unframing_start, unframing_more, unframing_ended, unframing_too_large, unframing_out_of_sync, rest_cases, rest_status, gave_up}
-use Rattle.mysql_wire_tool.proofs.unframe.run_unframe.Goals as goal
+use Rattle.mysql_wire_tool.specs.Unframe.{run_state, packet_lines, bytes_left, ending_line, Unframed}
+use Rattle.mysql_wire.specs.Delivery.{Waiting}
+use Rattle.mysql_wire_tool.proofs.UnframeLemmas.{unframing_start, unframing_more, unframing_ended, unframing_too_large, unframing_out_of_sync, rest_cases}
+use Rattle.mysql_wire_tool.proofs.unframe.unframe.Goals as goal
 
 pub reads-init : goal.reads-init
 reads-init g c =
     let new = c.new-run.ensures in
     record {
       piece_len = search rules;
-      so_far = ([], [], unframing_start c.args.limit (run_state c.new-run.result) new.id new.header new.nothing_unread new.nothing_held new.limited, Consumes-nil _, Appends-nil _);
+      so_far = ([], [], unframing_start c.nothing_read.ensures c.args.limit (run_state c.new-run.result) new.id new.header new.nothing_unread new.nothing_held new.limited, Consumes-nil _, Appends-nil _);
     }
-
-pub returns-in-Err-read_piece : goal.returns-in-Err-read_piece
-returns-in-Err-read_piece g c = gave_up _ _ _ _ _ _ c.status-in-Err-read_piece.ensures
-
-pub returns-in-Err-take_piece : goal.returns-in-Err-take_piece
-returns-in-Err-take_piece g c = gave_up _ _ _ _ _ _ c.status-in-Err-take_piece.ensures
-
-pub returns : goal.returns
-returns g c = gave_up _ _ _ _ _ _ c.status-2.ensures
 
 pub reads-preserved : goal.reads-preserved
 reads-preserved g c =
     let old = c.reads.invariant.so_far in
-    let piece : List ℕ = take c.in-Ok-read_piece.count c.deref.result.now in
-    let read = rw (sym c.deref.ensures.value) at c.in-Ok-read_piece.ensures.bytes in
-    let takes = rw c.in-Waits.is at c.in-Ok-take_piece.ensures.takes in
+    let piece : List ℕ = take c.in_ok-count.count c.deref.result.now in
+    let read = rw (sym c.deref.ensures.value) at c.in_ok-count.ensures.bytes in
+    let takes = rw c.in-Waits.is at c.in_ok-take_piece.ensures.takes in
     let lines = rw (append-nil (packet_lines takes.0)) at takes.2 in
     record {
       piece_len = search rules;
@@ -43,9 +35,9 @@ reads-preserved g c =
 pub returns-in-TooLarge : goal.returns-in-TooLarge
 returns-in-TooLarge g c =
     let old = c.reads.invariant.so_far in
-    let piece : List ℕ = take c.in-Ok-read_piece.count c.deref.result.now in
-    let read = rw (sym c.deref.ensures.value) at c.in-Ok-read_piece.ensures.bytes in
-    let takes = rw c.in-TooLarge.is at c.in-Ok-take_piece.ensures.takes in
+    let piece : List ℕ = take c.in_ok-count.count c.deref.result.now in
+    let read = rw (sym c.deref.ensures.value) at c.in_ok-count.ensures.bytes in
+    let takes = rw c.in-TooLarge.is at c.in_ok-take_piece.ensures.takes in
     record {
       cases = search rules;
       text = λ _. (
@@ -61,9 +53,9 @@ returns-in-TooLarge g c =
 pub returns-in-OutOfSync : goal.returns-in-OutOfSync
 returns-in-OutOfSync g c =
     let old = c.reads.invariant.so_far in
-    let piece : List ℕ = take c.in-Ok-read_piece.count c.deref.result.now in
-    let read = rw (sym c.deref.ensures.value) at c.in-Ok-read_piece.ensures.bytes in
-    let takes = rw c.in-OutOfSync.is at c.in-Ok-take_piece.ensures.takes in
+    let piece : List ℕ = take c.in_ok-count.count c.deref.result.now in
+    let read = rw (sym c.deref.ensures.value) at c.in_ok-count.ensures.bytes in
+    let takes = rw c.in-OutOfSync.is at c.in_ok-take_piece.ensures.takes in
     record {
       cases = search rules;
       text = λ _. (
@@ -80,19 +72,19 @@ pub returns-then-count-eq0 : goal.returns-then-count-eq0
 returns-then-count-eq0 g c =
     let old = c.reads.invariant.so_far in
     let read = subst (λ (n : ℕ). Consumes (g.R.Read.remaining c.reads.input) (g.R.Read.remaining c.read_piece.new.input) (take n c.read_piece.new.piece.items))
-    c.if-count-eq0.true c.in-Ok-read_piece.ensures.bytes in
+    c.if-count-eq0.true c.in_ok-count.ensures.bytes in
     let all = subst (λ (z : List ℕ). Consumes (g.R.Read.remaining c.args.input.now) (g.R.Read.remaining c.read_piece.new.input) z)
     (append-nil old.0) (Consumes-trans _ _ _ old.0 [] old.3 read) in
+    let left : ℕ = bytes_left (run_state c.reads.run) in
     let ended = unframing_ended c.framed_length.ensures c.args.limit (run_state c.reads.run) old.0 old.1 old.2 in
     record {
-      cases = rest_cases c.write_rest.result c.write_rest.ensures.cases;
-      text = λ h.
-          let at_end = rest_status c.write_rest.result c.write_rest.ensures.cases h in (
-            old.0,
-            _,
-            all,
-            rw (sym (c.write_rest.ensures.status at_end)) at ended,
-            Appends-trans _ _ _ old.1 _ old.4 (c.write_rest.ensures.text at_end),
-          );
+      cases = rest_cases c.in_ok-status.status left c.in_ok-status.ensures.status;
+      text = λ _. (
+        old.0,
+        old.1 ++ ending_line Waiting left,
+        all,
+        subst (λ (n : ℕ). Unframed c.args.limit old.0 n (old.1 ++ ending_line Waiting left)) (sym c.in_ok-status.ensures.status) ended,
+        Appends-trans _ _ _ old.1 _ old.4 c.in_ok-status.ensures.text,
+      );
       all_read = search rules;
     }

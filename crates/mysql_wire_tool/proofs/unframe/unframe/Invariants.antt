@@ -1,7 +1,7 @@
 use Rattle.std.proofs.Common.{◌≡◌, ℕ, List, vec_len}
 use Rattle.std.specs.Io.KnownBytes.{Appends, Consumes}
 use Rattle.mysql_wire_tool.specs.Unframe.{Unframing, run_state}
-use Rattle.mysql_wire_tool.proofs.unframe.run_unframe.Given as goal
+use Rattle.mysql_wire_tool.proofs.unframe.unframe.Given as goal
 
 abbrev pub invariant-reads : goal.invariant-reads
 invariant-reads g l = record {
