@@ -266,6 +266,8 @@ impl PacketCodec {
         ensures chain { let before = codec_state self.old src.old.items (T.held dst.old) in
             let after = codec_state self.new src.new.items (T.held dst.new) in
             (accepted : ℕ) × ChunkChain accepted before result after }
+        ensures memory { let before = codec_state self.old src.old.items (T.held dst.old) in
+            result ≡ Err PacketCodecError.OutOfMemory → HasChunk before }
         ensures shorter { result ≡ Ok true → length src.new.items < length src.old.items }
         ensures limit { self.new.max_allowed_packet ≡ self.old.max_allowed_packet }
     {

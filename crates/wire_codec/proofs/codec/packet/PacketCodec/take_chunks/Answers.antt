@@ -5,6 +5,7 @@ use Rattle.wire_codec.specs.Chain.{ChainFrom}
 use Rattle.wire_codec.specs.Framing.{front}
 use Rattle.wire_codec.specs.Codec.{open_id, header_of, expected_id, StandsAt, LinksChain}
 use Rattle.wire_codec.proofs.CodecLemmas.{takes_later, splits_here, open_at_id, open_small, stands_without}
+use Rattle.wire_codec.proofs.ChainLemmas.{chain_had_chunk}
 use Rattle.wire_codec.proofs.codec.packet.PacketCodec.take_chunks.Goals as goal
 
 pub returns-in-Err-clause-decodes : goal.returns-in-Err-clause-decodes
@@ -86,3 +87,8 @@ returns-in-Err-clause-chain g c =
     let links = subst (λ (z : ℕ). LinksChain z (expected_id c.chunks.self) (header_of c.chunks.self) c.chunks.src.items (held c.chunks.dst) (Err c.in-Err.error)
     (expected_id c.take_chunk.new.self) (header_of c.take_chunk.new.self) c.take_chunk.new.src.items (held c.take_chunk.new.dst)) c.chunks.invariant.same c.in-Err.ensures.links in
     c.chunks.invariant.chain zero (Err c.in-Err.error) (expected_id c.take_chunk.new.self) (header_of c.take_chunk.new.self) c.take_chunk.new.src.items (held c.take_chunk.new.dst) links
+
+pub returns-in-Err-clause-memory : goal.returns-in-Err-clause-memory
+returns-in-Err-clause-memory g c refused =
+    let all = returns-in-Err-clause-chain g c in
+    chain_had_chunk _ _ _ _ _ _ _ _ _ _ (rw refused at all.1)
