@@ -1,0 +1,58 @@
+#!/usr/bin/env bash
+# Runs the gate, and prints a table of its crates: functions, tests, must-fail edits, and the
+# processor seconds of the proof, of the tests' proof and of the edits. They are read once a second
+# off the checks that run, so that each may miss a second. The gate's own output goes to the file
+# that is named (gate.log at the top, if none is).
+set -u
+cd "$(dirname "$0")/.." || exit 1
+log=${1:-gate.log}
+samples=$(mktemp)
+trap 'rm -f "$samples"' EXIT
+
+# A line for each check that runs: what it checks, its process, and its seconds so far.
+sample() {
+    ps -eo pid=,cputimes=,args= | grep '[/]rattle check --crate-name ' | while read -r pid seconds args; do
+        crate=${args#*--crate-name }
+        kind=proof
+        case $args in *' --test'*) kind=tests ;; esac
+        case $(readlink "/proc/$pid/cwd") in *rt-edit-*) kind=edits ;; esac
+        echo "${crate%% *} $kind $pid $seconds"
+    done
+}
+
+begun=$SECONDS
+.ci/run > "$log" 2>&1 &
+gate=$!
+while kill -0 "$gate" 2> /dev/null; do
+    sample >> "$samples"
+    sleep 1
+done
+wait "$gate"
+status=$?
+
+echo '| crate | functions | tests | edits | proof, s | tests, s | edits, s |'
+echo '|---|---|---|---|---|---|---|'
+awk -v log_file="$log" '
+    BEGIN {
+        while ((getline line < log_file) > 0) {
+            if (line ~ /^== /) { split(line, part, /[ :]+/); crate = part[2]; of_tests = line ~ /its tests/ }
+            if (line ~ /^logic=proved/ && match(line, /functions=[0-9]+/)) {
+                if (!of_tests) functions[crate] = substr(line, RSTART + 10, RLENGTH - 10)
+            }
+        }
+    }
+    { if ($4 > most[$1 " " $2 " " $3]) most[$1 " " $2 " " $3] = $4; crates[$1] = 1 }
+    END {
+        for (key in most) { split(key, part, " "); sum[part[1] " " part[2]] += most[key] }
+        for (crate in crates) {
+            "ls crates/" crate "/must-fail/*.edit 2> /dev/null | wc -l" | getline edits
+            "grep -rch \"#\\[test\\]\" crates/" crate "/src | paste -sd+ | bc" | getline tests
+            printf "| `%s` | %s | %s | %s | %d | %d | %d |\n", crate, functions[crate], tests, edits, \
+                sum[crate " proof"], sum[crate " tests"], sum[crate " edits"]
+        }
+    }' "$samples" | sort
+awk '{ if ($4 > most[$2 " " $3]) most[$2 " " $3] = $4 }
+    END { for (key in most) { split(key, part, " "); sum[part[1]] += most[key] }
+        printf "all: proof %d s, tests %d s, edits %d s of processor time\n", sum["proof"], sum["tests"], sum["edits"] }' "$samples"
+echo "$((SECONDS - begun)) s; $(tail -n 1 "$log")"
+exit $status
