@@ -8,7 +8,7 @@ use Rattle.wire_codec.specs.declared.codec.error.PacketCodecError.{PacketCodecEr
 use Rattle.wire_codec.specs.declared.codec.error.PacketCodecError.TheVariants.{PacketTooLarge, OutOfMemory, PacketsOutOfSync, Io}
 use Rattle.wire_codec.specs.Framing.{max_payload, framing, front, next_id, stream, id_after}
 use Rattle.wire_codec.specs.Delivery.{chunk_len, id_at, IsWholeChunks, Continues, Splits, Ending, Waiting, TooLarge, OutOfSync, Delivers}
-use Rattle.wire_codec.specs.Codec.{StandsAt, CodecState, open_id, first_id, input_of, DecodesFrom}
+use Rattle.wire_codec.specs.Codec.{Stands, StandsAt, CodecState, open_id, first_id, input_of, DecodesFrom}
 use Rattle.wire_codec.specs.Runs.{RunsFrom, RunsTo, LeavesFrom, joined}
 use Rattle.wire_codec.specs.Laws.{empty_state}
 use Rattle.wire_codec.proofs.DeliveryLemmas.{stream-append, id_after-append, within_append, splits_join, delivers_join}
@@ -178,6 +178,12 @@ pub stream_rest : (input : List ℕ) (pieces : List (Bor (List ℕ))) (i : ℕ) 
 stream_rest input pieces i =
     append_assoc input (joined (take i pieces)) (joined (drop i pieces))
     ∙ ap (λ (z : List ℕ). input ++ z) (sym (joined-append (take i pieces) (drop i pieces)) ∙ ap (λ (z : List (Bor (List ℕ))). joined z) (take-append-drop i pieces))
+
+-- between two packets
+pub between_packets_is : (state : CodecState) → state.id < 256 → state.header ≡ None → state.held ≡ []
+    → Stands state × (first_id state ≡ state.id) × (input_of state ≡ state.unread)
+unfolding max_payload
+between_packets_is state small header held = rw (header, held) ((refl, tt), omega arith, refl)
 
 -- from empty buffers nothing is delivered yet
 pub nothing_read_is : (id limit : ℕ) → id < 256 → RunsTo (empty_state id limit) [] (Ok tt) [] (empty_state id limit)

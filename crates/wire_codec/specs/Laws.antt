@@ -3,7 +3,7 @@ use Rattle.std.specs.Prelude.{◌≡◌, ℕ, List, [], ◌++◌, length, ◌/�
 use Rattle.wire_codec.specs.Framing.{framing, front, id_after, max_payload, stream}
 use Rattle.wire_codec.specs.Delivery.{Ending, Splits, Delivers}
 use Rattle.wire_codec.specs.Counted.{Call, Follows, chunk_count}
-use Rattle.wire_codec.specs.Codec.{CodecState}
+use Rattle.wire_codec.specs.Codec.{CodecState, Stands, first_id, input_of}
 use Rattle.wire_codec.specs.Runs.{RunsTo}
 use Rattle.wire_codec.specs.declared.codec.error.PacketCodecError.{PacketCodecError}
 use Rattle.wire_codec.specs.declared.codec.error.PacketCodecError.TheVariants.{OutOfMemory}
@@ -74,6 +74,13 @@ IdAfterAppend =
 abbrev pub empty_state : ℕ → ℕ → CodecState
 empty_state id limit =
     record { limit = limit; id = id; header = None; unread = []; held = [] }
+
+-- between two packets, where no header is remembered and nothing is held, a codec stands, the next
+-- packet begins with the id that it expects, and the input is what is to be read
+abbrev pub BetweenPackets : Type 0
+BetweenPackets =
+    (state : CodecState) → state.id < 256 → state.header ≡ None → state.held ≡ []
+    → Stands state × (first_id state ≡ state.id) × (input_of state ≡ state.unread)
 
 -- nothing read yet is a run that waits
 abbrev pub NothingRead : Type 0

@@ -1,7 +1,7 @@
 //! Laws over the definitions that the contracts cite. Each function takes and answers nothing: its
 //! contract is the law, and a caller has it by calling.
 
-ghost use Rattle.wire_codec.specs.Laws.{ChunksCounted, EncodedFirst, FramedLength, IdAfterAppend, JoinedRuns, NothingRead, OneDelivery, RunGoesOn, StreamAppend, UniqueFraming};
+ghost use Rattle.wire_codec.specs.Laws.{BetweenPackets, ChunksCounted, EncodedFirst, FramedLength, IdAfterAppend, JoinedRuns, NothingRead, OneDelivery, RunGoesOn, StreamAppend, UniqueFraming};
 
 /// A stream delivers one list of payloads, one unfinished payload, one rest and one ending.
 pub fn one_delivery()
@@ -38,6 +38,12 @@ pub fn stream_append()
 /// The id after two lists of payloads is the one after the second, begun at the one after the first.
 pub fn id_after_append()
     ensures { IdAfterAppend }
+{}
+
+/// Between two packets a codec stands, whatever is to be read: it remembers no header, and nothing is
+/// held.
+pub fn between_packets()
+    ensures { BetweenPackets }
 {}
 
 /// A run over no bytes, from empty buffers, waits and changes nothing.
