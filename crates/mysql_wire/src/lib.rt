@@ -18,8 +18,8 @@ pub mod misc {
     /// Numbers, texts and constants as fields of packets.
     pub mod raw {
         pub use wire_repr::constant::Skip;
+        pub use wire_repr::field_laws;
         pub use wire_repr::int::RawInt;
-        pub use wire_repr::laws;
         pub use wire_repr::text::RawBytes;
 
         /// Numbers, by their representations.
@@ -47,7 +47,9 @@ pub mod misc {
 pub use wire_const as constants;
 
 pub mod proto {
-    pub use wire_buf::proto::{Binary, Fixed, MyDeserialize, MySerialize, ReadSize, Text, Varying};
+    pub use wire_buf::proto::{
+        Binary, Fixed, HasSize, MyDeserialize, MySerialize, ReadSize, Text, Varying,
+    };
     pub use wire_repr::wire::Wire;
 
     /// Packets and chunks.

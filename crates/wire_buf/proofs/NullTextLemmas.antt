@@ -12,16 +12,20 @@ not_true false h = refl
 
 -- the place of the first zero, or the length
 position_or_len-found : (bytes : List ℕ) (found : Option ℕ) → IsFirstByte (is_byte 0) bytes found
-    → MatchOption found (position_or_len is_zero bytes ≡ length bytes) (λ end. position_or_len is_zero bytes ≡ end)
+    → MatchOption found (position_or_len is_zero bytes ≡ length bytes)
+    (λ end. position_or_len is_zero bytes ≡ end)
 position_or_len-found bytes None none =
-    prefix_len_is (λ x. not (is_zero x)) bytes (length bytes) 0 (omega arith) (λ k below. not_true _ (none k (omega arith) below)) (λ past. absurd (omega arith))
+    prefix_len_is (λ x. not (is_zero x)) bytes (length bytes) 0 (omega arith)
+    (λ k below. not_true _ (none k (omega arith) below)) (λ past. absurd (omega arith))
 position_or_len-found bytes (Some end) (first, zero) =
-    prefix_len_is (λ x. not (is_zero x)) bytes end 0 (omega (arith, first.high)) (λ k below. not_true _ (first.before k (omega arith) below)) (λ _. ap not zero)
+    prefix_len_is (λ x. not (is_zero x)) bytes end 0 (omega (arith, first.high))
+    (λ k below. not_true _ (first.before k (omega arith) below)) (λ _. ap not zero)
 
 -- what is eaten up to the zero, and what is left behind it
 pub parts-found : (bytes : List ℕ) (found : Option ℕ) → IsFirstByte (is_byte 0) bytes found
     → MatchOption found ((before_first is_zero bytes ≡ bytes) × (after_first is_zero bytes ≡ []))
-    (λ end. (before_first is_zero bytes ≡ take end bytes) × (after_first is_zero bytes ≡ drop 1 (drop end bytes)))
+    (λ end. (before_first is_zero bytes ≡ take end bytes)
+    × (after_first is_zero bytes ≡ drop 1 (drop end bytes)))
 parts-found bytes None none =
     let place = position_or_len-found bytes None none in (
       ap (λ n. take n bytes) place ∙ take_all (length bytes) bytes (omega arith),

@@ -5,7 +5,8 @@ use Rattle.wire_buf.specs.Spelling.{IsBehind}
 
 -- one byte below 251; or fc, fd or fe, and behind it 2, 3 or 8 bytes
 abbrev pub IsLenenc : ℕ → List ℕ → Type 0
-IsLenenc n bytes = ((bytes ≡ n ∷ []) × (n < 251)) ⊎ IsBehind 0xfc 2 n bytes ⊎ IsBehind 0xfd 3 n bytes ⊎ IsBehind 0xfe 8 n bytes
+IsLenenc n bytes = ((bytes ≡ n ∷ []) × (n < 251)) ⊎ IsBehind 0xfc 2 n bytes
+    ⊎ IsBehind 0xfd 3 n bytes ⊎ IsBehind 0xfe 8 n bytes
 
 -- what the readers of a buffer take: these, and fb or ff alone for 0
 abbrev pub IsLenencOrMark : ℕ → List ℕ → Type 0

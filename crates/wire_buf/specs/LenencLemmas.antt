@@ -11,7 +11,8 @@ use Rattle.wire_buf.specs.Lenenc.{IsLenenc, IsLenencOrMark}
 -- how many bytes stand behind a first byte
 abbrev pub count_behind : ℕ → ℕ
 count_behind first =
-    if nat_eq first 0xfc then 2 else (if nat_eq first 0xfd then 3 else (if nat_eq first 0xfe then 8 else 0))
+    if nat_eq first 0xfc then 2 else
+    (if nat_eq first 0xfd then 3 else (if nat_eq first 0xfe then 8 else 0))
 
 -- and what they spell together
 abbrev pub number_behind : ℕ → List ℕ → ℕ
@@ -23,7 +24,8 @@ number_behind first rest =
 
 -- a spelling by its first byte
 abbrev pub ByFirst : ℕ → List ℕ → Type 0
-ByFirst n bytes = (first : ℕ) × (rest : List ℕ) × (bytes ≡ first ∷ rest) × (length rest ≡ count_behind first) × (n ≡ number_behind first rest)
+ByFirst n bytes = (first : ℕ) × (rest : List ℕ) × (bytes ≡ first ∷ rest)
+    × (length rest ≡ count_behind first) × (n ≡ number_behind first rest)
 
 by_low : (n : ℕ) (bytes : List ℕ) → bytes ≡ n ∷ [] → n < 251 → ByFirst n bytes
 by_low n bytes is low =
@@ -43,9 +45,11 @@ by_first n bytes (inr (zero_is, inl is)) = (0xfb, [], is, refl, zero_is)
 by_first n bytes (inr (zero_is, inr is)) = (0xff, [], is, refl, zero_is)
 
 -- two of one list
-same_first : (f g : ℕ) (r s a b x y : List ℕ) → a ≡ f ∷ r → b ≡ g ∷ s → a ++ x ≡ b ++ y → (f ≡ g) × (r ++ x ≡ s ++ y)
+same_first : (f g : ℕ) (r s a b x y : List ℕ) → a ≡ f ∷ r → b ≡ g ∷ s → a ++ x ≡ b ++ y
+    → (f ≡ g) × (r ++ x ≡ s ++ y)
 same_first f g r s a b x y left right whole =
-    let e : f ∷ (r ++ x) ≡ g ∷ (s ++ y) = sym (ap (λ l. l ++ x) left) ∙ whole ∙ ap (λ l. l ++ y) right in
+    let e : f ∷ (r ++ x) ≡ g ∷ (s ++ y) =
+    sym (ap (λ l. l ++ x) left) ∙ whole ∙ ap (λ l. l ++ y) right in
     (cc e, cc e)
 
 pub IsLenencOrMark-free : IsPrefixFree IsLenencOrMark
@@ -53,11 +57,14 @@ IsLenencOrMark-free n m a b x y is_a is_b whole =
     let (f, r, left, r_len, r_value) = by_first n a is_a in
     let (g, s, right, s_len, s_value) = by_first m b is_b in
     let heads = same_first f g r s a b x y left right whole in
-    let tails = same_parts r s x y heads.1 (r_len ∙ ap count_behind heads.0 ∙ sym s_len) in
-    (r_value ∙ ap (λ h. number_behind h r) heads.0 ∙ ap (number_behind g) tails.0 ∙ sym s_value, tails.1)
+    let tails = same_parts r s x y heads.1 (r_len ∙ ap count_behind heads.0 ∙ sym s_len) in (
+      r_value ∙ ap (λ h. number_behind h r) heads.0 ∙ ap (number_behind g) tails.0 ∙ sym s_value,
+      tails.1,
+    )
 
 pub IsLenenc-free : IsPrefixFree IsLenenc
-IsLenenc-free n m a b x y is_a is_b whole = IsLenencOrMark-free n m a b x y (inl is_a) (inl is_b) whole
+IsLenenc-free n m a b x y is_a is_b whole =
+    IsLenencOrMark-free n m a b x y (inl is_a) (inl is_b) whole
 
 -- ---- by a reader
 
@@ -68,7 +75,8 @@ nothing_in-nil n rest (spelling, is, whole) =
     cc e
 
 -- too few bytes stand behind the first
-pub nothing_in_short : (first : ℕ) (mid : List ℕ) → length mid < count_behind first → SpellsNothing IsLenencOrMark (first ∷ mid)
+pub nothing_in_short : (first : ℕ) (mid : List ℕ) → length mid < count_behind first
+    → SpellsNothing IsLenencOrMark (first ∷ mid)
 nothing_in_short first mid short n rest (spelling, is, whole) =
     let (f, r, left, len, _) = by_first n spelling is in
     let e : first ∷ mid ≡ f ∷ (r ++ rest) = whole ∙ ap (λ l. l ++ rest) left in
@@ -78,38 +86,49 @@ nothing_in_short first mid short n rest (spelling, is, whole) =
     omega (arith, short, more, len, ap count_behind same)
 
 -- an integer behind its first byte
-pub reads_behind : (first count : ℕ) (old mid : List ℕ) (answer : Option ℕ) (new : List ℕ) → old ≡ first ∷ mid
-    → count_behind first ≡ count → ((n : ℕ) (bytes : List ℕ) → IsBehind first count n bytes → IsLenenc n bytes)
+pub reads_behind : (first count : ℕ) (old mid : List ℕ) (answer : Option ℕ) (new : List ℕ)
+    → old ≡ first ∷ mid
+    → count_behind first ≡ count
+    → ((n : ℕ) (bytes : List ℕ) → IsBehind first count n bytes → IsLenenc n bytes)
     → EatsIfThere count le_number mid answer new → ReadsNumber IsLenencOrMark 1 old answer new
 reads_behind first count old mid None new whole behind form (short, kept) = (
-  subst (SpellsNothing IsLenencOrMark) (sym whole) (nothing_in_short first mid (omega (arith, short, behind))),
+  subst (SpellsNothing IsLenencOrMark) (sym whole)
+      (nothing_in_short first mid (omega (arith, short, behind))),
   kept ∙ sym (ap (drop 1) whole),
 )
 reads_behind first count old mid (Some n) new whole behind form (there, value, left) = (
   first ∷ take count mid,
-  inl (form n (first ∷ take count mid) (take count mid, refl, length-take-le count mid there, value)),
-  whole ∙ ap (λ l. first ∷ l) (sym (ap (λ l. take count mid ++ l) left ∙ take-append-drop count mid)),
+  inl (form n (first ∷ take count mid)
+      (take count mid, refl, length-take-le count mid there, value)),
+  whole ∙ ap (λ l. first ∷ l)
+      (sym (ap (λ l. take count mid ++ l) left ∙ take-append-drop count mid)),
 )
 
 -- the first byte, and what is left
-pub first_byte : (old : List ℕ) (byte : ℕ) (mid : List ℕ) → EatsIfThere 1 le_number old (Some byte) mid → old ≡ byte ∷ mid
+pub first_byte : (old : List ℕ) (byte : ℕ) (mid : List ℕ)
+    → EatsIfThere 1 le_number old (Some byte) mid → old ≡ byte ∷ mid
 first_byte [] byte mid (there, value, left) = absurd (omega arith)
 first_byte (x ∷ xs) byte mid (there, value, left) =
     let same : byte ≡ x = omega (arith, value) in
     λ j. sym same j ∷ sym left j
 
 -- an integer of one byte
-pub reads_byte : (old : List ℕ) (byte : ℕ) (new : List ℕ) → old ≡ byte ∷ new → byte < 251 → EatsSpelling IsLenencOrMark old byte new
+pub reads_byte : (old : List ℕ) (byte : ℕ) (new : List ℕ) → old ≡ byte ∷ new → byte < 251
+    → EatsSpelling IsLenencOrMark old byte new
 reads_byte old byte new whole low = (byte ∷ [], inl (inl (refl, low)), whole)
 
 -- a byte that begins none
-pub reads_mark : (old : List ℕ) (byte : ℕ) (new : List ℕ) → old ≡ byte ∷ new → (byte ≡ 0xfb) ⊎ (byte ≡ 0xff) → EatsSpelling IsLenencOrMark old 0 new
-reads_mark old byte new whole (inl mark) = (byte ∷ [], inr (refl, inl (ap (λ b. b ∷ []) mark)), whole)
-reads_mark old byte new whole (inr mark) = (byte ∷ [], inr (refl, inr (ap (λ b. b ∷ []) mark)), whole)
+pub reads_mark : (old : List ℕ) (byte : ℕ) (new : List ℕ) → old ≡ byte ∷ new
+    → (byte ≡ 0xfb) ⊎ (byte ≡ 0xff) → EatsSpelling IsLenencOrMark old 0 new
+reads_mark old byte new whole (inl mark) =
+    (byte ∷ [], inr (refl, inl (ap (λ b. b ∷ []) mark)), whole)
+reads_mark old byte new whole (inr mark) =
+    (byte ∷ [], inr (refl, inr (ap (λ b. b ∷ []) mark)), whole)
 
 -- ---- by a reader that knows an integer to be there
 
-pub there_behind : (first : ℕ) (mid : List ℕ) → HoldsNumber IsLenencOrMark (first ∷ mid) → count_behind first ≤ length mid
+pub there_behind : (first : ℕ) (mid : List ℕ) → HoldsNumber IsLenencOrMark (first ∷ mid)
+    → count_behind first ≤ length mid
 there_behind first mid (n, rest, (spelling, is, whole)) =
     let (f, r, left, len, _) = by_first n spelling is in
     let e : first ∷ mid ≡ f ∷ (r ++ rest) = whole ∙ ap (λ l. l ++ rest) left in
@@ -117,13 +136,18 @@ there_behind first mid (n, rest, (spelling, is, whole)) =
     let parts : mid ≡ r ++ rest = cc e in
     omega (arith, ap length parts, length-append r rest, len, ap count_behind same)
 
-pub eaten_byte : (old : List ℕ) (byte : ℕ) (mid : List ℕ) → HoldsNumber IsLenencOrMark old → Eats 1 le_number old byte mid → old ≡ byte ∷ mid
+pub eaten_byte : (old : List ℕ) (byte : ℕ) (mid : List ℕ) → HoldsNumber IsLenencOrMark old
+    → Eats 1 le_number old byte mid → old ≡ byte ∷ mid
 eaten_byte [] byte mid (n, rest, read) eaten = absurd (nothing_in-nil n rest read)
-eaten_byte (x ∷ xs) byte mid holds (value, left) = first_byte (x ∷ xs) byte mid (omega arith, value, left)
+eaten_byte (x ∷ xs) byte mid holds (value, left) =
+    first_byte (x ∷ xs) byte mid (omega arith, value, left)
 
-pub eats_behind : (first count : ℕ) (old mid : List ℕ) (n : ℕ) (new : List ℕ) → HoldsNumber IsLenencOrMark old → old ≡ first ∷ mid
-    → count_behind first ≡ count → ((n : ℕ) (bytes : List ℕ) → IsBehind first count n bytes → IsLenenc n bytes)
+pub eats_behind : (first count : ℕ) (old mid : List ℕ) (n : ℕ) (new : List ℕ)
+    → HoldsNumber IsLenencOrMark old → old ≡ first ∷ mid
+    → count_behind first ≡ count
+    → ((n : ℕ) (bytes : List ℕ) → IsBehind first count n bytes → IsLenenc n bytes)
     → Eats count le_number mid n new → EatsSpelling IsLenencOrMark old n new
 eats_behind first count old mid n new holds whole behind form (value, left) =
     let there = there_behind first mid (subst (HoldsNumber IsLenencOrMark) whole holds) in
-    reads_behind first count old mid (Some n) new whole behind form (omega (arith, there, behind), value, left)
+    reads_behind first count old mid (Some n) new whole behind form
+    (omega (arith, there, behind), value, left)

@@ -17,7 +17,8 @@ byte_at-pow : (place n : ℕ) → byte_at place n ≡ n / 256 ^ place % 256
 byte_at-pow zero n = ap (λ (m : ℕ). m % 256) (sym (div-one n))
 byte_at-pow (suc place) n = refl
 
-bytes_low_first-from : (place count n : ℕ) → bytes_low_first place count n ≡ le_bytes count (n / 256 ^ place)
+bytes_low_first-from : (place count n : ℕ)
+    → bytes_low_first place count n ≡ le_bytes count (n / 256 ^ place)
 bytes_low_first-from place zero n = refl
 bytes_low_first-from place (suc count) n =
     let more = bytes_low_first-from (suc place) count n in
@@ -30,7 +31,8 @@ pub bytes_low_first-is : (count n : ℕ) → bytes_low_first 0 count n ≡ le_by
 bytes_low_first-is count n = bytes_low_first-from 0 count n ∙ ap (le_bytes count) (div-one n)
 
 -- the number that `byteorder` reads is this one
-pub little_from-is : (count : ℕ) (bytes : List ℕ) → count ≤ length bytes → little_from 0 count bytes ≡ le_number (take count bytes)
+pub little_from-is : (count : ℕ) (bytes : List ℕ) → count ≤ length bytes
+    → little_from 0 count bytes ≡ le_number (take count bytes)
 little_from-is zero bytes h = refl
 little_from-is (suc count) [] h = absurd (omega arith)
 little_from-is (suc count) (byte ∷ bytes) h =
@@ -45,8 +47,10 @@ le_number-le_bytes count n =
     let whole : le_number (take count (le_bytes count n)) ≡ le_number (le_bytes count n) =
     ap le_number (take_all count (le_bytes count n) (omega (arith, len))) in
     let read = little_from-is count (le_bytes count n) (omega (arith, len)) in
-    let spelled : bytes_low_first 0 count n ++ [] ≡ le_bytes count n = append-nil (bytes_low_first 0 count n) ∙ bytes_low_first-is count n in
-    sym whole ∙ sym read ∙ sym (ap (little_from 0 count) spelled) ∙ little_from-bytes count 0 n [] ∙ ap (λ m. m % 256 ^ count) (div-one n)
+    let spelled : bytes_low_first 0 count n ++ [] ≡ le_bytes count n =
+    append-nil (bytes_low_first 0 count n) ∙ bytes_low_first-is count n in
+    sym whole ∙ sym read ∙ sym (ap (little_from 0 count) spelled) ∙ little_from-bytes count 0 n []
+    ∙ ap (λ m. m % 256 ^ count) (div-one n)
 
 -- a number that fits reads back
 pub le_number-le_bytes_fits : (count n : ℕ) → n < 256 ^ count → le_number (le_bytes count n) ≡ n
@@ -65,7 +69,8 @@ le_number-lt (byte ∷ bytes) are =
     rw (pow-succ' 256 (length bytes)) (omega arith)
 
 -- bytes are those of their number
-pub le_bytes-le_number : (bytes : List ℕ) → IsBytes bytes → le_bytes (length bytes) (le_number bytes) ≡ bytes
+pub le_bytes-le_number : (bytes : List ℕ) → IsBytes bytes
+    → le_bytes (length bytes) (le_number bytes) ≡ bytes
 le_bytes-le_number [] are = refl
 le_bytes-le_number (byte ∷ bytes) are =
     let more = le_bytes-le_number bytes (λ i. are (suc i)) in
@@ -84,10 +89,14 @@ IsBytes-cons byte bytes low are (suc i) = are i
 
 pub IsBytes-le_bytes : (count n : ℕ) → IsBytes (le_bytes count n)
 IsBytes-le_bytes zero n = IsBytes-nil
-IsBytes-le_bytes (suc count) n = IsBytes-cons (n % 256) (le_bytes count (n / 256)) (omega arith) (IsBytes-le_bytes count (n / 256))
+IsBytes-le_bytes (suc count) n =
+    IsBytes-cons (n % 256) (le_bytes count (n / 256)) (omega arith)
+    (IsBytes-le_bytes count (n / 256))
 
 -- the low bytes of more
-pub take-le_bytes : (count more n : ℕ) → count ≤ more → take count (le_bytes more n) ≡ le_bytes count n
+pub take-le_bytes : (count more n : ℕ) → count ≤ more
+    → take count (le_bytes more n) ≡ le_bytes count n
 take-le_bytes zero more n h = refl
 take-le_bytes (suc count) zero n h = absurd (omega arith)
-take-le_bytes (suc count) (suc more) n h = ap (λ l. n % 256 ∷ l) (take-le_bytes count more (n / 256) (omega arith))
+take-le_bytes (suc count) (suc more) n h =
+    ap (λ l. n % 256 ∷ l) (take-le_bytes count more (n / 256) (omega arith))

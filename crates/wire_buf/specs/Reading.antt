@@ -10,7 +10,8 @@ Eats count value old answer new = (answer ≡ value (take count old)) × (new �
 -- the same where there are so many bytes; otherwise there is no answer, and nothing is eaten
 abbrev pub EatsIfThere : {X : Type 0} → ℕ → (List ℕ → X) → List ℕ → Option X → List ℕ → Type 0
 EatsIfThere count value old None new = (length old < count) × (new ≡ old)
-EatsIfThere count value old (Some answer) new = (count ≤ length old) × (answer ≡ value (take count old)) × (new ≡ drop count old)
+EatsIfThere count value old (Some answer) new = (count ≤ length old)
+    × (answer ≡ value (take count old)) × (new ≡ drop count old)
 
 -- there are as many bytes as the size says, where it says a number
 abbrev pub HasBytes : Option ℕ → List ℕ → Type 0
@@ -19,26 +20,33 @@ HasBytes (Some count) bytes = count ≤ length bytes
 
 -- A type's relation `reads` is of the bytes that its reader sees, its answer, and the count of the
 -- bytes that it eats. Here it holds of what stood before the call and what is left.
-abbrev pub Reads : {X : Type 0} → (List ℕ → Result X WireError → ℕ → Type 0) → List ℕ → Result X WireError → List ℕ → Type 0
-Reads reads old answer new = (eaten : ℕ) × (eaten ≤ length old) × (new ≡ drop eaten old) × reads old answer eaten
+abbrev pub Reads : {X : Type 0} → (List ℕ → Result X WireError → ℕ → Type 0) → List ℕ
+    → Result X WireError → List ℕ → Type 0
+Reads reads old answer new = (eaten : ℕ) × (eaten ≤ length old) × (new ≡ drop eaten old)
+    × reads old answer eaten
 
--- What `parse` makes of a type's relation. Under a size of count bytes, fewer are an end of input, and
--- none is eaten; otherwise the reader sees these bytes alone, and they are eaten whatever it answers.
-abbrev pub Parses : {X : Type 0} → Option ℕ → (List ℕ → Result X WireError → ℕ → Type 0) → List ℕ → Result X WireError → ℕ → Type 0
+-- What `parse` makes of a type's relation. Under a size of count bytes, fewer are an end of input,
+-- and none is eaten; otherwise the reader sees these bytes alone, and they are eaten whatever it
+-- answers.
+abbrev pub Parses : {X : Type 0} → Option ℕ → (List ℕ → Result X WireError → ℕ → Type 0) → List ℕ
+    → Result X WireError → ℕ → Type 0
 Parses None reads input answer eaten = reads input answer eaten
 Parses (Some count) reads input answer eaten =
     ((length input < count) × (answer ≡ Err UnexpectedEof) × (eaten ≡ 0))
-    ⊎ ((count ≤ length input) × (eaten ≡ count) × (looked_at : ℕ) × reads (take count input) answer looked_at)
+    ⊎ ((count ≤ length input) × (eaten ≡ count) × (looked_at : ℕ)
+    × reads (take count input) answer looked_at)
 
 -- the first count bytes, which are eaten; fewer are an end of input, and none is eaten
 abbrev pub front_at : ℕ → List ℕ → Result (List ℕ) WireError × ℕ
-front_at count input = if nat_lt (length input) count then (Err UnexpectedEof, 0) else (Ok (take count input), count)
+front_at count input =
+    if nat_lt (length input) count then (Err UnexpectedEof, 0) else (Ok (take count input), count)
 
 -- the answer and the count of eaten bytes are these
 abbrev pub Answers : {X : Type 0} → Result X WireError × ℕ → Result X WireError → ℕ → Type 0
 Answers outcome answer eaten = (answer ≡ outcome.0) × (eaten ≡ outcome.1)
 
--- the same where the value that is answered wraps what the outcome holds, as its part
-abbrev pub Wraps : {X Y : Type 0} → (Y → X) → Result X WireError × ℕ → Result Y WireError → ℕ → Type 0
-Wraps part outcome (Ok value) eaten = Answers outcome (Ok (part value)) eaten
-Wraps part outcome (Err error) eaten = Answers outcome (Err error) eaten
+-- What is said of an answer, where the value that is answered wraps another as its part.
+abbrev pub Through : {X Y : Type 0} → (Y → X) → (Result X WireError → ℕ → Type 0)
+    → Result Y WireError → ℕ → Type 0
+Through part says (Ok value) eaten = says (Ok (part value)) eaten
+Through part says (Err error) eaten = says (Err error) eaten

@@ -1,11 +1,12 @@
--- Numbers that bytes spell, and texts behind their length. A format is given by its relation `spells`
--- of a number and the bytes that stand for it.
+-- Numbers that bytes spell, and texts behind their length. A spelling is an encoding: bytes that
+-- stand for a number. A format is given by its relation `spells` of a number and its spellings.
 use Rattle.std.specs.Prelude.{ℕ, ◌≡◌, ◌<◌, ◌≤◌, List, ◌∷◌, ◌++◌, length, drop, Option, Some, None, ◌⊎◌}
 use Rattle.wire_buf.specs.Numbers.{le_number, IsBytes}
 
 -- this first byte, and behind it count bytes whose number is n
 abbrev pub IsBehind : ℕ → ℕ → ℕ → List ℕ → Type 0
-IsBehind first count n bytes = (rest : List ℕ) × (bytes ≡ first ∷ rest) × (length rest ≡ count) × (n ≡ le_number rest)
+IsBehind first count n bytes = (rest : List ℕ) × (bytes ≡ first ∷ rest) × (length rest ≡ count)
+    × (n ≡ le_number rest)
 
 -- count bytes whose number is n
 abbrev pub IsFixed : ℕ → ℕ → List ℕ → Type 0
@@ -37,8 +38,8 @@ EatsText spells old text new = EatsSpelling spells old (length text) (text ++ ne
 abbrev pub HoldsText : (ℕ → List ℕ → Type 0) → List ℕ → Type 0
 HoldsText spells bytes = (text : List ℕ) × (rest : List ℕ) × EatsText spells bytes text rest
 
--- A text is answered where its length is there, and so many bytes behind it. Where the length is cut
--- short, what `ReadsNumber` says is eaten, and where the text is, its length.
+-- A text is answered where its length is there, and so many bytes behind it. Where the length is
+-- cut short, what `ReadsNumber` says is eaten, and where the text is, its length.
 abbrev pub ReadsText : (ℕ → List ℕ → Type 0) → ℕ → List ℕ → Option (List ℕ) → List ℕ → Type 0
 ReadsText spells lost old (Some text) new = EatsText spells old text new
 ReadsText spells lost old None new =
@@ -48,9 +49,12 @@ ReadsText spells lost old None new =
 -- Whatever follows these bytes, the number is read from them, and no other from any front.
 abbrev pub IsSpelling : (ℕ → List ℕ → Type 0) → ℕ → List ℕ → Type 0
 IsSpelling spells n bytes =
-    spells n bytes × ((rest : List ℕ) (m : ℕ) (new : List ℕ) → EatsSpelling spells (bytes ++ rest) m new → (m ≡ n) × (new ≡ rest))
+    spells n bytes
+    × ((rest : List ℕ) (m : ℕ) (new : List ℕ) → EatsSpelling spells (bytes ++ rest) m new
+    → (m ≡ n) × (new ≡ rest))
 
 -- and no spelling of the number has fewer bytes
 abbrev pub IsShortest : (ℕ → List ℕ → Type 0) → ℕ → List ℕ → Type 0
 IsShortest spells n bytes =
-    IsBytes bytes × IsSpelling spells n bytes × ((other : List ℕ) → IsBytes other → spells n other → length bytes ≤ length other)
+    IsBytes bytes × IsSpelling spells n bytes
+    × ((other : List ℕ) → IsBytes other → spells n other → length bytes ≤ length other)

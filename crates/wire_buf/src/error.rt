@@ -23,10 +23,10 @@ pub enum InvalidReason {
     /// No zero byte ends the text.
     #[error("no null terminator for null-terminated string")]
     NoNullTerminator,
-    /// The seven-bit groups make a number above `u32::MAX`.
+    /// The groups of seven bits (a base-128 varint) make a number above `u32::MAX`.
     #[error("invalid variable-length value (> u32::MAX)")]
     VarLenTooLarge,
-    /// Five seven-bit groups, and the number still goes on.
+    /// Five groups of seven bits, and the number still goes on.
     #[error("invalid variable-length value (more than 5 bytes)")]
     VarLenTooLong,
 }

@@ -1,5 +1,5 @@
-//! What every layer above stands on: a buffer that is read from its front, the traits of reading and
-//! writing, and the errors.
+//! What every layer above stands on: a buffer that is read from its front, the traits of reading
+//! and writing, and the errors.
 #![tactic(auto)]
 
 pub mod error;

@@ -3,7 +3,7 @@
 ghost use Rattle.std.specs.Prelude.{◌≡◌, ℕ, List, ◌++◌, take, Option, Some, None, Result, Ok, Err, OnOk, IfErr};
 ghost use Rattle.wire_buf.specs.declared.error.WireError.{WireError};
 ghost use Rattle.wire_buf.specs.declared.error.WireError.TheVariants.{OutOfMemory};
-ghost use Rattle.wire_buf.specs.Reading.{HasBytes, Reads, Answers, Wraps, front_at};
+ghost use Rattle.wire_buf.specs.Reading.{HasBytes, Reads, Answers, Through, front_at};
 
 use crate::error::WireError;
 use crate::io::ParseBuf;
@@ -26,7 +26,8 @@ pub trait MySerialize {
     /// Appends the value's bytes. Where memory for them is refused, the buffer is as it was.
     fn serialize<A: Allocator>(&self, buf: &mut Vec<u8, A>) -> Result<(), WireError>
         ensures ok { OnOk result (buf.new.items ≡ buf.old.items ++ bytes self.now) }
-        ensures err { IfErr result (λ error. (error ≡ OutOfMemory) × (buf.new.items ≡ buf.old.items)) };
+        ensures err { IfErr result (λ error. (error ≡ OutOfMemory)
+            × (buf.new.items ≡ buf.old.items)) };
 }
 
 /// How many bytes a reader asks for, where that is always the same.
@@ -57,15 +58,18 @@ impl<const LEN: usize> ReadSize for Fixed<LEN> {
     ghost SIZE = { Some LEN };
 }
 
-/// A value that can be read, whose memory, if it owns any, comes from an `A`. What it borrows lives
-/// as long as the payload.
-pub trait MyDeserialize<'de, A: Allocator + Copy>: Sized + Drop {
-    /// How many bytes it asks for, where that is always the same.
-    const SIZE: Option<usize>;
-
-    /// The same once more, for contracts and for `parse`: `Fixed` or `Varying`.
+/// A type whose readers ask for a size.
+pub trait HasSize {
+    /// How many bytes they ask for, where that is always the same: `Fixed` or `Varying`.
     type Size: ReadSize;
 
+    /// The same as a number. It follows from `Size`, so an `impl` leaves it out.
+    const SIZE: Option<usize> = <Self::Size as ReadSize>::SIZE;
+}
+
+/// A value that can be read, whose memory, if it owns any, comes from an `A`. What it borrows lives
+/// as long as the payload.
+pub trait MyDeserialize<'de, A: Allocator + Copy>: HasSize + Sized + Drop {
     /// What a reader has to know beforehand, as the length of a text. `()` where that is nothing.
     type Ctx: Drop;
 
@@ -78,15 +82,16 @@ pub trait MyDeserialize<'de, A: Allocator + Copy>: Sized + Drop {
         ensures { Reads (reads ctx) buf.old.0.now result buf.new.0.now };
 }
 
+impl HasSize for ParseBuf<'_> {
+    type Size = Varying;
+}
+
 /// The next bytes, as many as the context says.
 impl<'de, A: Allocator + Copy> MyDeserialize<'de, A> for ParseBuf<'de> {
-    const SIZE: Option<usize> = None;
-
-    type Size = Varying;
-
     type Ctx = usize;
 
-    ghost reads = { λ count input. Wraps (λ front. front.0.now) (front_at count input) };
+    ghost reads = { λ count input. Through (λ front. front.0.now)
+        (Answers (front_at count input)) };
 
     fn deserialize(_: A, count: usize, buf: &mut ParseBuf<'de>) -> Result<Self, WireError> {
         buf.checked_eat_buf(count).ok_or(WireError::UnexpectedEof)
@@ -102,11 +107,14 @@ impl<const LEN: usize> MySerialize for [u8; LEN] {
     }
 }
 
-impl<'de, A: Allocator + Copy, const LEN: usize> MyDeserialize<'de, A> for [u8; LEN] {
-    const SIZE: Option<usize> = Some(LEN);
-
+impl<const LEN: usize> HasSize for [u8; LEN] {
     type Size = Fixed<LEN>;
 
+    // The trait's own constant asks that an array has room, which not each `LEN` has.
+    const SIZE: Option<usize> = <Self::Size as ReadSize>::SIZE;
+}
+
+impl<'de, A: Allocator + Copy, const LEN: usize> MyDeserialize<'de, A> for [u8; LEN] {
     type Ctx = ();
 
     ghost reads = { λ _ input. Answers (Ok (take LEN input), LEN) };

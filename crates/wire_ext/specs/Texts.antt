@@ -12,7 +12,9 @@ u32_max = 4294967295
 
 -- The spelling of a length is put and then the text. A refusal comes only where there is too little
 -- room for both, and leaves nothing or the spelling alone.
-abbrev pub PutsText : {X : Type 0} → Result X WireError → List ℕ → List ℕ → ℕ → List ℕ → List ℕ → Type 0
+abbrev pub PutsText : {X : Type 0} → Result X WireError → List ℕ → List ℕ → ℕ → List ℕ → List ℕ
+    → Type 0
 PutsText (Ok _) old new room spelling text = new ≡ old ++ (spelling ++ text)
 PutsText (Err error) old new room spelling text =
-    (error ≡ OutOfMemory) × (room < length (spelling ++ text)) × ((new ≡ old) ⊎ (new ≡ old ++ spelling))
+    (error ≡ OutOfMemory) × (room < length (spelling ++ text))
+    × ((new ≡ old) ⊎ (new ≡ old ++ spelling))

@@ -33,4 +33,5 @@ IsVersion text version =
 -- where the text is no version, three zeros stand for it
 abbrev pub ReadsVersion : List ℕ → ℕ × ℕ × ℕ → Type 0
 ReadsVersion text answer =
-    IsVersion text answer ⊎ ((answer ≡ (0, 0, 0)) × ((version : ℕ × ℕ × ℕ) → ¬ IsVersion text version))
+    IsVersion text answer
+    ⊎ ((answer ≡ (0, 0, 0)) × ((version : ℕ × ℕ × ℕ) → ¬ IsVersion text version))

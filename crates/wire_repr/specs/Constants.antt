@@ -11,7 +11,8 @@ use Rattle.wire_repr.specs.Law.{ComesBack}
 -- the first count bytes are these, and others are refused; they are eaten either way
 abbrev pub ReadsConst : {X : Type 0} → ℕ → List ℕ → List ℕ → Result X WireError → ℕ → Type 0
 ReadsConst count bytes input (Ok _) eaten = (take count input ≡ bytes) × (eaten ≡ count)
-ReadsConst count bytes input (Err error) eaten = (error ≡ InvalidData ConstMismatch) × (take count input ≢ bytes) × (eaten ≡ count)
+ReadsConst count bytes input (Err error) eaten = (error ≡ InvalidData ConstMismatch)
+    × (take count input ≢ bytes) × (eaten ≡ count)
 
 -- the first count bytes are eaten, whatever they are
 abbrev pub ReadsAny : {X : Type 0} → ℕ → List ℕ → Result X WireError → ℕ → Type 0
@@ -20,12 +21,16 @@ ReadsAny count input (Err error) eaten = ⊥
 
 -- ---- lemmas
 
-pub ReadsConst-back : {X : Type 0} (count : ℕ) (bytes rest : List ℕ) → length bytes ≡ count → (answer : Result X WireError) (eaten : ℕ)
-    → ReadsConst count bytes (bytes ++ rest) answer eaten → ComesBack (λ (back : X). Unit {0}) ⊥ (length bytes) answer eaten
+pub ReadsConst-back : {X : Type 0} (count : ℕ) (bytes rest : List ℕ) → length bytes ≡ count
+    → (answer : Result X WireError) (eaten : ℕ)
+    → ReadsConst count bytes (bytes ++ rest) answer eaten
+    → ComesBack (λ (back : X). Unit {0}) ⊥ (length bytes) answer eaten
 ReadsConst-back count bytes rest len (Ok _) eaten read = (tt, read.1 ∙ sym len)
-ReadsConst-back count bytes rest len (Err error) eaten read = absurd (read.1 (take_at bytes rest count len))
+ReadsConst-back count bytes rest len (Err error) eaten read =
+    absurd (read.1 (take_at bytes rest count len))
 
-pub ReadsAny-back : {X : Type 0} (count len : ℕ) (input : List ℕ) → len ≡ count → (answer : Result X WireError) (eaten : ℕ)
+pub ReadsAny-back : {X : Type 0} (count len : ℕ) (input : List ℕ) → len ≡ count
+    → (answer : Result X WireError) (eaten : ℕ)
     → ReadsAny count input answer eaten → ComesBack (λ (back : X). Unit {0}) ⊥ len answer eaten
 ReadsAny-back count len input is (Ok _) eaten read = (tt, read ∙ sym is)
 ReadsAny-back count len input is (Err error) eaten read = absurd read
@@ -34,11 +39,14 @@ pub length-zeros : (count : ℕ) → length {A = ℕ} (replicate count 0) ≡ co
 length-zeros count = length-replicate {A = ℕ} count 0
 
 -- an array
-pub array-back : (count : ℕ) (bytes rest : List ℕ) → length bytes ≡ count → (answer : Result (List ℕ) WireError) (eaten : ℕ)
-    → Answers (Ok (take count (bytes ++ rest)), count) answer eaten → ComesBack (λ back. back ≡ bytes) ⊥ (length bytes) answer eaten
+pub array-back : (count : ℕ) (bytes rest : List ℕ) → length bytes ≡ count
+    → (answer : Result (List ℕ) WireError) (eaten : ℕ)
+    → Answers (Ok (take count (bytes ++ rest)), count) answer eaten
+    → ComesBack (λ back. back ≡ bytes) ⊥ (length bytes) answer eaten
 array-back count bytes rest len (Ok back) eaten read =
     let same : back ≡ take count (bytes ++ rest) = cc read.0 in
     (same ∙ take_at bytes rest count len, read.1 ∙ sym len)
 array-back count bytes rest len (Err error) eaten read =
-    let answered : ◌≡◌ {A = Result (List ℕ) WireError} (Err error) (Ok (take count (bytes ++ rest))) = read.0 in
+    let answered : ◌≡◌ {A = Result (List ℕ) WireError} (Err error) (Ok (take count (bytes ++ rest)))
+    = read.0 in
     cc answered

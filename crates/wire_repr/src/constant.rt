@@ -12,10 +12,10 @@ use std::alloc::Allocator;
 use std::marker::PhantomData;
 use wire_buf::error::{InvalidReason, WireError};
 use wire_buf::io::ParseBuf;
-use wire_buf::proto::{Fixed, MyDeserialize, MySerialize};
+use wire_buf::proto::{Fixed, HasSize, MyDeserialize, MySerialize};
 
-/// The byte `N`. Another is refused as `ConstMismatch`, and has been eaten. `T` names what it stands
-/// for.
+/// The byte `N`. Another is refused as `ConstMismatch`, and has been eaten. `T` names what it
+/// stands for.
 #[derive_where(Clone, Copy, Debug, PartialEq, Eq, Hash, Default)]
 pub struct ConstU8<T, const N: u8>(PhantomData<T>);
 
@@ -40,11 +40,11 @@ impl<T, const N: u8> MySerialize for ConstU8<T, N> {
     }
 }
 
-impl<'de, A: Allocator + Copy, T, const N: u8> MyDeserialize<'de, A> for ConstU8<T, N> {
-    const SIZE: Option<usize> = Some(1);
-
+impl<T, const N: u8> HasSize for ConstU8<T, N> {
     type Size = Fixed<1>;
+}
 
+impl<'de, A: Allocator + Copy, T, const N: u8> MyDeserialize<'de, A> for ConstU8<T, N> {
     type Ctx = ();
 
     ghost reads = { λ _. ReadsConst 1 (N ∷ []) };
@@ -69,13 +69,14 @@ impl<'de, A: Allocator + Copy, T, const N: u8> Wire<'de, A> for ConstU8<T, N> {
 
     fn known(&self) {}
 
-    ghost comes_back = { λ ctx value rest answer eaten is good read. ReadsConst-back 1 (N ∷ []) rest refl answer eaten read };
+    ghost comes_back = { λ ctx value rest answer eaten is good read.
+        ReadsConst-back 1 (N ∷ []) rest refl answer eaten read };
 
     ghost of_size = { λ value size is stated. size-is 1 size 1 stated refl };
 }
 
-/// Four bytes of the number `N`, the least significant first. Others are refused as `ConstMismatch`,
-/// and have been eaten.
+/// Four bytes of the number `N`, the least significant first. Others are refused as
+/// `ConstMismatch`, and have been eaten.
 #[derive_where(Clone, Copy, Debug, PartialEq, Eq, Hash, Default)]
 pub struct ConstU32<T, const N: u32>(PhantomData<T>);
 
@@ -94,11 +95,11 @@ impl<T, const N: u32> MySerialize for ConstU32<T, N> {
     }
 }
 
-impl<'de, A: Allocator + Copy, T, const N: u32> MyDeserialize<'de, A> for ConstU32<T, N> {
-    const SIZE: Option<usize> = Some(4);
-
+impl<T, const N: u32> HasSize for ConstU32<T, N> {
     type Size = Fixed<4>;
+}
 
+impl<'de, A: Allocator + Copy, T, const N: u32> MyDeserialize<'de, A> for ConstU32<T, N> {
     type Ctx = ();
 
     ghost reads = { λ _. ReadsConst 4 (le_bytes 4 N) };
@@ -123,9 +124,11 @@ impl<'de, A: Allocator + Copy, T, const N: u32> Wire<'de, A> for ConstU32<T, N> 
 
     fn known(&self) {}
 
-    ghost comes_back = { λ ctx value rest answer eaten is good read. ReadsConst-back 4 (le_bytes 4 N) rest (length-le_bytes 4 N) answer eaten read };
+    ghost comes_back = { λ ctx value rest answer eaten is good read.
+        ReadsConst-back 4 (le_bytes 4 N) rest (length-le_bytes 4 N) answer eaten read };
 
-    ghost of_size = { λ value size is stated. size-is 4 size (length (le_bytes 4 N)) stated (length-le_bytes 4 N) };
+    ghost of_size = { λ value size is stated.
+        size-is 4 size (length (le_bytes 4 N)) stated (length-le_bytes 4 N) };
 }
 
 /// Which bytes a `ConstBytes` has, and the error that its own crate shows where there are others.
@@ -154,12 +157,12 @@ impl<T: ConstBytesValue<LEN>, const LEN: usize> MySerialize for ConstBytes<T, LE
     }
 }
 
+impl<T: ConstBytesValue<LEN>, const LEN: usize> HasSize for ConstBytes<T, LEN> {
+    type Size = Fixed<LEN>;
+}
+
 impl<'de, A: Allocator + Copy, T: ConstBytesValue<LEN>, const LEN: usize> MyDeserialize<'de, A>
     for ConstBytes<T, LEN> {
-    const SIZE: Option<usize> = Some(LEN);
-
-    type Size = Fixed<LEN>;
-
     type Ctx = ();
 
     ghost reads = { λ _. ReadsConst LEN T.ConstBytesValue.VALUE };
@@ -185,9 +188,12 @@ impl<'de, A: Allocator + Copy, T: ConstBytesValue<LEN>, const LEN: usize> Wire<'
 
     fn known(&self) {}
 
-    ghost comes_back = { λ ctx value rest answer eaten is good read. ReadsConst-back LEN T.ConstBytesValue.VALUE rest T.ConstBytesValue.length_is answer eaten read };
+    ghost comes_back = { λ ctx value rest answer eaten is good read.
+        ReadsConst-back LEN T.ConstBytesValue.VALUE rest T.ConstBytesValue.length_is answer eaten
+        read };
 
-    ghost of_size = { λ value size is stated. size-is LEN size (length T.ConstBytesValue.VALUE) stated T.ConstBytesValue.length_is };
+    ghost of_size = { λ value size is stated.
+        size-is LEN size (length T.ConstBytesValue.VALUE) stated T.ConstBytesValue.length_is };
 }
 
 /// `LEN` zeros. What is read in their place may be anything.
@@ -203,11 +209,11 @@ impl<const LEN: usize> MySerialize for Skip<LEN> {
     }
 }
 
-impl<'de, A: Allocator + Copy, const LEN: usize> MyDeserialize<'de, A> for Skip<LEN> {
-    const SIZE: Option<usize> = Some(LEN);
-
+impl<const LEN: usize> HasSize for Skip<LEN> {
     type Size = Fixed<LEN>;
+}
 
+impl<'de, A: Allocator + Copy, const LEN: usize> MyDeserialize<'de, A> for Skip<LEN> {
     type Ctx = ();
 
     ghost reads = { λ _. ReadsAny LEN };
@@ -229,9 +235,12 @@ impl<'de, A: Allocator + Copy, const LEN: usize> Wire<'de, A> for Skip<LEN> {
 
     fn known(&self) {}
 
-    ghost comes_back = { λ ctx value rest answer eaten is good read. ReadsAny-back LEN (length (replicate LEN 0)) (replicate LEN 0 ++ rest) (length-zeros LEN) answer eaten read };
+    ghost comes_back = { λ ctx value rest answer eaten is good read.
+        ReadsAny-back LEN (length (replicate LEN 0)) (replicate LEN 0 ++ rest) (length-zeros LEN)
+        answer eaten read };
 
-    ghost of_size = { λ value size is stated. size-is LEN size (length (replicate LEN 0)) stated (length-zeros LEN) };
+    ghost of_size = { λ value size is stated.
+        size-is LEN size (length (replicate LEN 0)) stated (length-zeros LEN) };
 }
 
 impl<'de, A: Allocator + Copy, const LEN: usize> Wire<'de, A> for [u8; LEN] {
@@ -245,7 +254,8 @@ impl<'de, A: Allocator + Copy, const LEN: usize> Wire<'de, A> for [u8; LEN] {
 
     fn known(&self) {}
 
-    ghost comes_back = { λ ctx bytes rest answer eaten is good read. array-back LEN bytes rest is answer eaten read };
+    ghost comes_back = { λ ctx bytes rest answer eaten is good read.
+        array-back LEN bytes rest is answer eaten read };
 
     ghost of_size = { λ bytes size is stated. size-is LEN size (length bytes) stated (is) };
 }

@@ -3,17 +3,16 @@
 ghost use Rattle.std.specs.Prelude.{◌≡◌, ℕ, List, ◌++◌, length, Option, Some, Result, Ok, OnOk, IfErr};
 ghost use Rattle.wire_buf.specs.declared.error.WireError.{WireError};
 ghost use Rattle.wire_buf.specs.declared.error.WireError.TheVariants.{OutOfMemory};
-ghost use Rattle.wire_buf.specs.Reading.{HasBytes, Reads, Answers};
-ghost use Rattle.wire_repr.specs.Law.{Through, Through-back};
+ghost use Rattle.wire_buf.specs.Reading.{HasBytes, Reads, Answers, Through};
+ghost use Rattle.wire_repr.specs.Law.{Through-back};
 
-mod cut;
 mod fixed;
 mod halves;
 mod lenenc;
+mod truncated;
 mod varlen;
 
 use crate::wire::Wire;
-pub use cut::{LeI24, LeI56, LeU24, LeU48, LeU56};
 pub use fixed::{LeI16, LeI32, LeI64, LeU16, LeU32, LeU64};
 pub use halves::{LeU32LowerHalf, LeU32UpperHalf};
 pub use lenenc::LenEnc;
@@ -21,10 +20,11 @@ use std::alloc::Allocator;
 use std::fmt::Debug;
 use std::hash::Hash;
 use std::marker::PhantomData;
+pub use truncated::{LeI24, LeI56, LeU24, LeU48, LeU56};
 pub use varlen::VarLen;
 use wire_buf::error::WireError;
 use wire_buf::io::ParseBuf;
-use wire_buf::proto::{MyDeserialize, MySerialize, ReadSize};
+use wire_buf::proto::{HasSize, MyDeserialize, MySerialize, ReadSize};
 
 /// How a number is written. One that a user writes has what those of this crate have, `RawInt` and
 /// its law.
@@ -52,7 +52,8 @@ pub trait IntRepr {
     /// Appends the number's bytes. Where memory for them is refused, the buffer is as it was.
     fn serialize<A: Allocator>(val: Self::Primitive, buf: &mut Vec<u8, A>) -> Result<(), WireError>
         ensures ok { OnOk result (buf.new.items ≡ buf.old.items ++ bytes val) }
-        ensures err { IfErr result (λ error. (error ≡ OutOfMemory) × (buf.new.items ≡ buf.old.items)) };
+        ensures err { IfErr result (λ error. (error ≡ OutOfMemory)
+            × (buf.new.items ≡ buf.old.items)) };
 
     /// Reads a number from the front of a buffer, which has the bytes that the size asks for.
     fn deserialize(buf: &mut ParseBuf<'_>) -> Result<Self::Primitive, WireError>
@@ -63,10 +64,13 @@ pub trait IntRepr {
     fn known(val: Self::Primitive)
         ensures { is_value val };
 
-    ghost comes_back: { (val : Self.Primitive) (rest : List ℕ) → is_value val → (answer : Result Self.Primitive WireError) (eaten : ℕ)
-        → reads (bytes val ++ rest) answer eaten → Answers (Ok (kept val), length (bytes val)) answer eaten };
+    ghost comes_back: { (val : Self.Primitive) (rest : List ℕ) → is_value val
+        → (answer : Result Self.Primitive WireError) (eaten : ℕ)
+        → reads (bytes val ++ rest) answer eaten
+        → Answers (Ok (kept val), length (bytes val)) answer eaten };
 
-    ghost of_size: { (val : Self.Primitive) (size : ℕ) → SIZE ≡ Some size → length (bytes val) ≡ size };
+    ghost of_size: { (val : Self.Primitive) (size : ℕ) → SIZE ≡ Some size
+        → length (bytes val) ≡ size };
 }
 
 /// A number that is written as `T` says.
@@ -99,11 +103,11 @@ impl<T: IntRepr> ReadSize for IntSize<T> {
     ghost SIZE = { T.IntRepr.SIZE };
 }
 
-impl<'de, A: Allocator + Copy, T: IntRepr> MyDeserialize<'de, A> for RawInt<T> {
-    const SIZE: Option<usize> = T::SIZE;
-
+impl<T: IntRepr> HasSize for RawInt<T> {
     type Size = IntSize<T>;
+}
 
+impl<'de, A: Allocator + Copy, T: IntRepr> MyDeserialize<'de, A> for RawInt<T> {
     type Ctx = ();
 
     ghost reads = { λ _ input. Through (λ int. int.0) (T.IntRepr.reads input) };
@@ -126,7 +130,10 @@ impl<'de, A: Allocator + Copy, T: IntRepr> Wire<'de, A> for RawInt<T> {
         T::known(self.0);
     }
 
-    ghost comes_back = { λ ctx int rest answer eaten value good read. Through-back (λ back. back.0) (T.IntRepr.reads (T.IntRepr.bytes int.0 ++ rest)) (T.IntRepr.kept int.0) (length (T.IntRepr.bytes int.0)) (T.IntRepr.comes_back int.0 rest value) answer eaten read };
+    ghost comes_back = { λ ctx int rest answer eaten value good read.
+        Through-back (λ back. back.0) (T.IntRepr.reads (T.IntRepr.bytes int.0 ++ rest))
+        (T.IntRepr.kept int.0) (length (T.IntRepr.bytes int.0))
+        (T.IntRepr.comes_back int.0 rest value) answer eaten read };
 
     ghost of_size = { λ int size _ stated. T.IntRepr.of_size int.0 size stated };
 }

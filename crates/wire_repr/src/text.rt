@@ -1,6 +1,6 @@
-//! Texts.
+//! Texts, which are byte strings.
 
-ghost use Rattle.std.specs.Prelude.{◌≡◌, ℕ, ◌↔◌, List, [], ◌++◌, length, take, min, Option, Some, Result, Ok, OnOk, IfOk, IfErr, IsTrue};
+ghost use Rattle.std.specs.Prelude.{◌≡◌, ℕ, ◌↔◌, List, [], ◌++◌, length, take, min, Option, Some, Result, Ok, Err, OnOk, IfOk, IfErr, IsTrue, IsFalse};
 ghost use Rattle.std.specs.Cow.{cow_slice_items};
 ghost use Rattle.wire_buf.specs.declared.error.WireError.{WireError};
 ghost use Rattle.wire_buf.specs.declared.error.WireError.TheVariants.{OutOfMemory};
@@ -9,19 +9,19 @@ ghost use Rattle.wire_repr.specs.Texts.{IsText, IsOwned, IsNotOwned, IsBorrowedT
 
 mod null;
 mod prefixed;
-mod rest;
+mod undelimited;
 
 use crate::wire::Wire;
 pub use null::NullBytes;
 pub use prefixed::{U8Bytes, U32Bytes};
-pub use rest::{BareBytes, BareU8Bytes, BareU16Bytes, EofBytes, FixedLengthText};
 use std::alloc::{Allocator, Global};
 use std::borrow::CowSlice;
 use std::cmp::min;
 use std::marker::PhantomData;
+pub use undelimited::{BareBytes, BareU8Bytes, BareU16Bytes, EofBytes, FixedLengthText};
 use wire_buf::error::WireError;
 use wire_buf::io::ParseBuf;
-use wire_buf::proto::{MyDeserialize, MySerialize, ReadSize};
+use wire_buf::proto::{HasSize, MyDeserialize, MySerialize, ReadSize};
 
 /// How a text is written. One that a user writes has what those of this crate have, `RawBytes` and
 /// its law.
@@ -54,7 +54,8 @@ pub trait BytesRepr {
     /// Appends the text's bytes. Where memory for them is refused, the buffer is as it was.
     fn serialize<A: Allocator>(text: &[u8], buf: &mut Vec<u8, A>) -> Result<(), WireError>
         ensures ok { OnOk result (buf.new.items ≡ buf.old.items ++ bytes text.now) }
-        ensures err { IfErr result (λ error. (error ≡ OutOfMemory) × (buf.new.items ≡ buf.old.items)) };
+        ensures err { IfErr result (λ error. (error ≡ OutOfMemory)
+            × (buf.new.items ≡ buf.old.items)) };
 
     /// Reads a text from the front of a buffer, which has the bytes that the size asks for. It is
     /// borrowed, and no memory is taken.
@@ -63,12 +64,29 @@ pub trait BytesRepr {
         buf: &mut ParseBuf<'de>,
     ) -> Result<CowSlice<'de, u8, A>, WireError>
         requires { HasBytes SIZE buf.old.0.now }
-        ensures { Reads (λ input. Borrows (λ text. text) (reads ctx input)) buf.old.0.now result buf.new.0.now };
+        ensures { Reads (λ input. Borrows (λ text. text) (reads ctx input)) buf.old.0.now result
+            buf.new.0.now };
 
-    ghost comes_back: { (ctx : Self.Ctx) (text rest : List ℕ) → IsText text → good ctx text rest → (answer : Result (List ℕ) WireError) (eaten : ℕ)
-        → reads ctx (bytes text ++ rest) answer eaten → Answers (Ok (kept text), length (bytes text)) answer eaten };
+    ghost comes_back: { (ctx : Self.Ctx) (text rest : List ℕ) → IsText text → good ctx text rest
+        → (answer : Result (List ℕ) WireError) (eaten : ℕ)
+        → reads ctx (bytes text ++ rest) answer eaten
+        → Answers (Ok (kept text), length (bytes text)) answer eaten };
 
     ghost of_size: { (text : List ℕ) (size : ℕ) → SIZE ≡ Some size → length (bytes text) ≡ size };
+}
+
+// Where a part of what was to be appended was refused, takes away what was: all behind this length.
+fn all_or_nothing<A: Allocator>(all: bool, at: usize, buf: &mut Vec<u8, A>) -> Result<(), WireError>
+    ensures all { IsTrue all → (result ≡ Ok tt) × (buf.new.items ≡ buf.old.items) }
+    ensures nothing { IsFalse all → (result ≡ Err OutOfMemory)
+        × (buf.new.items ≡ take at buf.old.items) }
+{
+    if all {
+        Ok(())
+    } else {
+        buf.truncate(at);
+        Err(WireError::OutOfMemory)
+    }
 }
 
 // A text in hand is one.
@@ -126,7 +144,8 @@ impl<'a, T: BytesRepr, A: Allocator> RawBytes<'a, T, A> {
 
     /// The same text, owned. A copy is made of a borrowed one alone.
     pub fn into_owned(self, alloc: A) -> Result<RawBytes<'static, T, A>, WireError>
-        ensures ok { IfOk result (λ owned. IsOwned owned.0 × (cow_slice_items owned.0 ≡ cow_slice_items self.entry.0)) }
+        ensures ok { IfOk result (λ owned. IsOwned owned.0
+            × (cow_slice_items owned.0 ≡ cow_slice_items self.entry.0)) }
         ensures err { IfErr result (λ error. (error ≡ OutOfMemory) × IsNotOwned self.entry.0) }
     {
         match self.0 {
@@ -182,11 +201,11 @@ impl<T: BytesRepr> ReadSize for BytesSize<T> {
     ghost SIZE = { T.BytesRepr.SIZE };
 }
 
-impl<'de, A: Allocator + Copy, T: BytesRepr> MyDeserialize<'de, A> for RawBytes<'de, T, A> {
-    const SIZE: Option<usize> = T::SIZE;
-
+impl<T: BytesRepr, A: Allocator> HasSize for RawBytes<'_, T, A> {
     type Size = BytesSize<T>;
+}
 
+impl<'de, A: Allocator + Copy, T: BytesRepr> MyDeserialize<'de, A> for RawBytes<'de, T, A> {
     type Ctx = T::Ctx;
 
     ghost reads = { λ ctx input. Borrows (λ text. text.0) (T.BytesRepr.reads ctx input) };
@@ -209,7 +228,13 @@ impl<'de, A: Allocator + Copy, T: BytesRepr> Wire<'de, A> for RawBytes<'de, T, A
         known_text(self.0.as_slice());
     }
 
-    ghost comes_back = { λ ctx text rest answer eaten value good read. Borrows-back (λ back. back.0) (T.BytesRepr.reads ctx (T.BytesRepr.bytes (cow_slice_items text.0) ++ rest)) (T.BytesRepr.kept (cow_slice_items text.0)) (length (T.BytesRepr.bytes (cow_slice_items text.0))) (T.BytesRepr.comes_back ctx (cow_slice_items text.0) rest value good) answer eaten read };
+    ghost comes_back = { λ ctx text rest answer eaten value good read.
+        Borrows-back (λ back. back.0)
+        (T.BytesRepr.reads ctx (T.BytesRepr.bytes (cow_slice_items text.0) ++ rest))
+        (T.BytesRepr.kept (cow_slice_items text.0))
+        (length (T.BytesRepr.bytes (cow_slice_items text.0)))
+        (T.BytesRepr.comes_back ctx (cow_slice_items text.0) rest value good) answer eaten read };
 
-    ghost of_size = { λ text size _ stated. T.BytesRepr.of_size (cow_slice_items text.0) size stated };
+    ghost of_size = { λ text size _ stated.
+        T.BytesRepr.of_size (cow_slice_items text.0) size stated };
 }

@@ -14,8 +14,8 @@ pub trait Wire<'de, A: Allocator + Copy>: MySerialize + MyDeserialize<'de, A> {
     /// Its numbers are values of their types. Each value in hand is one, which `known` says.
     ghost is_value: { Self → Type 0 };
 
-    /// The value comes back where it is read under this context and before these bytes. `parse` of a
-    /// type with a size reads it before none.
+    /// The value comes back where it is read under this context and before these bytes. `parse` of
+    /// a type with a size reads it before none.
     ghost good: { Self.Ctx → Self → List ℕ → Type 0 };
 
     /// The second value may come back of the first.
@@ -28,9 +28,12 @@ pub trait Wire<'de, A: Allocator + Copy>: MySerialize + MyDeserialize<'de, A> {
     fn known(&self)
         ensures { is_value self.now };
 
-    ghost comes_back: { (ctx : Self.Ctx) (value : Self) (rest : List ℕ) (answer : Result Self WireError) (eaten : ℕ) →
-        is_value value → good ctx value rest → Self.reads ctx (Self.bytes value ++ rest) answer eaten
+    ghost comes_back: { (ctx : Self.Ctx) (value : Self) (rest : List ℕ)
+        (answer : Result Self WireError) (eaten : ℕ) →
+        is_value value → good ctx value rest
+        → Self.reads ctx (Self.bytes value ++ rest) answer eaten
         → ComesBack (kept value) takes_memory (length (Self.bytes value)) answer eaten };
 
-    ghost of_size: { (value : Self) (size : ℕ) → is_value value → Self.Size.SIZE ≡ Some size → length (Self.bytes value) ≡ size };
+    ghost of_size: { (value : Self) (size : ℕ) → is_value value → Self.Size.SIZE ≡ Some size
+        → length (Self.bytes value) ≡ size };
 }

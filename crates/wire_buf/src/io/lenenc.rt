@@ -10,8 +10,8 @@ ghost use Rattle.wire_buf.specs.Lenenc.{IsLenencOrMark};
 use crate::io::ParseBuf;
 
 impl<'a> ParseBuf<'a> {
-    /// Eats an `int<lenenc>`, of 1, 3, 4 or 9 bytes. A first byte of `fb` or `ff`, which begins none,
-    /// is eaten as 0.
+    /// Eats an `int<lenenc>`, of 1, 3, 4 or 9 bytes. A first byte of `fb` or `ff`, which begins
+    /// none, is eaten as 0.
     pub fn eat_lenenc_int(&mut self) -> u64
         requires { HoldsNumber IsLenencOrMark self.old.0.now }
         ensures { EatsSpelling IsLenencOrMark self.old.0.now result self.new.0.now }
@@ -48,10 +48,11 @@ impl<'a> ParseBuf<'a> {
         self.eat(len as usize)
     }
 
-    /// As `eat_lenenc_str`, where the text is there. Where it is cut short, its length is eaten, and
-    /// where that is, as `checked_eat_lenenc_int` says.
+    /// As `eat_lenenc_str`, where the text is there. Where it is cut short, its length is eaten,
+    /// and where that is, as `checked_eat_lenenc_int` says.
     pub fn checked_eat_lenenc_str(&mut self) -> Option<&'a [u8]>
-        ensures { ReadsText IsLenencOrMark 1 self.old.0.now (option_map (λ text. text.now) result) self.new.0.now }
+        ensures { ReadsText IsLenencOrMark 1 self.old.0.now (option_map (λ text. text.now) result)
+            self.new.0.now }
     {
         let len = self.checked_eat_lenenc_int()?;
         self.checked_eat(len as usize)
@@ -68,7 +69,8 @@ impl<'a> ParseBuf<'a> {
 
     /// As `eat_u8_str`, where the text is there. Where it is cut short, its length is eaten.
     pub fn checked_eat_u8_str(&mut self) -> Option<&'a [u8]>
-        ensures { ReadsText (IsFixed 1) 0 self.old.0.now (option_map (λ text. text.now) result) self.new.0.now }
+        ensures { ReadsText (IsFixed 1) 0 self.old.0.now (option_map (λ text. text.now) result)
+            self.new.0.now }
     {
         let len = self.checked_eat_u8()?;
         self.checked_eat(len as usize)
@@ -86,7 +88,8 @@ impl<'a> ParseBuf<'a> {
     /// As `eat_u32_str`, where the text is there. Where it is cut short, its length is eaten, and
     /// where that is, nothing.
     pub fn checked_eat_u32_str(&mut self) -> Option<&'a [u8]>
-        ensures { ReadsText (IsFixed 4) 0 self.old.0.now (option_map (λ text. text.now) result) self.new.0.now }
+        ensures { ReadsText (IsFixed 4) 0 self.old.0.now (option_map (λ text. text.now) result)
+            self.new.0.now }
     {
         let len = self.checked_eat_u32_le()?;
         self.checked_eat(len as usize)

@@ -8,7 +8,8 @@ use crate::io::ParseBuf;
 use memchr::memchr;
 
 impl<'a> ParseBuf<'a> {
-    /// Eats a text and the zero that ends it, a `string<NUL>`. Without a zero the text is everything.
+    /// Eats a text (a byte string) and the zero that ends it, a `string<NUL>`. Without a zero the
+    /// text is everything.
     ///
     /// <https://dev.mysql.com/doc/dev/mysql-server/latest/page_protocol_basic_dt_strings.html>
     pub fn eat_null_str(&mut self) -> &'a [u8]

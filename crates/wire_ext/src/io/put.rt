@@ -10,16 +10,18 @@ ghost use Rattle.wire_buf.specs.Lenenc.{IsLenenc, IsLenencOrMark, lenenc_bytes};
 ghost use Rattle.wire_ext.specs.Texts.{PutsText, u8_max, u32_max};
 
 use super::spelling::{four_bytes, nine_bytes, three_bytes};
+use crate::text::{first_bytes, longest_u8_str, longest_u32_str};
 use bytes::BufMut;
-use std::cmp::min;
 use wire_buf::error::WireError;
 
-// Puts the spelling of a length-encoded integer, in one put. As a call it would hand its `Result`,
-// which has room for an `io::Error`, back through memory: that takes longer than the put.
+// Puts the spelling (the encoding) of a length-encoded integer, in one put. As a call it would hand
+// its `Result`, which has room for an `io::Error`, back through memory: that takes longer than the
+// put.
 #[inline(always)]
 fn put_spelling<B: BufMut>(buf: &mut B, n: u64) -> Result<(), WireError>
     ensures ok { OnOk result (B.written buf.new ≡ B.written buf.old ++ lenenc_bytes n) }
-    ensures err { IfErr result (λ error. (error ≡ OutOfMemory) × (B.written buf.new ≡ B.written buf.old)) }
+    ensures err { IfErr result (λ error. (error ≡ OutOfMemory)
+        × (B.written buf.new ≡ B.written buf.old)) }
     ensures spare { UsesSpare result (B.spare buf.old) (B.spare buf.new) (length (lenenc_bytes n)) }
 {
     if n < 251 {
@@ -34,35 +36,9 @@ fn put_spelling<B: BufMut>(buf: &mut B, n: u64) -> Result<(), WireError>
     Ok(())
 }
 
-// The longest text behind one byte of length.
-#[tactic(auto, unfolding(crate::specs::Texts::u8_max))]
-fn longest_u8_str() -> usize
-    ensures value { result ≡ u8_max }
-    ensures small { result < 256 }
-{
-    u8::MAX as usize
-}
-
-// The longest text behind four bytes of length.
-#[tactic(auto, unfolding(crate::specs::Texts::u32_max))]
-fn longest_u32_str() -> usize
-    ensures value { result ≡ u32_max }
-    ensures small { result < 2 ^ 32 }
-{
-    u32::MAX as usize
-}
-
-// The first bytes of a text, at most so many.
-fn first_bytes(text: &[u8], most: usize) -> &[u8]
-    ensures first { result.now ≡ take most text.now }
-    ensures few { length result.now ≤ most }
-{
-    &text[..min(text.len(), most)]
-}
-
-/// Puts MySQL's numbers and texts at the end of a buffer. A refusal is `OutOfMemory`, and comes only
-/// where the buffer has too little room and can't grow. A number is put whole or not at all. A text
-/// that is refused leaves nothing, or its length alone.
+/// Puts MySQL's numbers and texts (byte strings) at the end of a buffer. A refusal is
+/// `OutOfMemory`, and comes only where the buffer has too little room and can't grow. A number is
+/// put whole or not at all. A text that is refused leaves nothing, or its length alone.
 pub trait BufMutExt: BufMut {
     /// Puts an `int<lenenc>`: 1, 3, 4 or 9 bytes, as few as hold the number.
     ///
@@ -73,8 +49,10 @@ pub trait BufMutExt: BufMut {
     where
         Self: Sized,
         ensures ok { OnOk result (Self.written self.new ≡ Self.written self.old ++ lenenc_bytes n) }
-        ensures err { IfErr result (λ error. (error ≡ OutOfMemory) × (Self.written self.new ≡ Self.written self.old)) }
-        ensures spare { UsesSpare result (Self.spare self.old) (Self.spare self.new) (length (lenenc_bytes n)) }
+        ensures err { IfErr result (λ error. (error ≡ OutOfMemory)
+            × (Self.written self.new ≡ Self.written self.old)) }
+        ensures spare { UsesSpare result (Self.spare self.old) (Self.spare self.new)
+            (length (lenenc_bytes n)) }
 
         ensures shortest { IsShortest IsLenenc n (lenenc_bytes n) }
         ensures shortest_in_a_buffer { IsShortest IsLenencOrMark n (lenenc_bytes n) }
@@ -88,8 +66,10 @@ pub trait BufMutExt: BufMut {
     final fn put_lenenc_str(&mut self, text: &[u8]) -> Result<(), WireError>
     where
         Self: Sized,
-        ensures text { PutsText result (Self.written self.old) (Self.written self.new) (Self.spare self.old) (lenenc_bytes (length text.now)) text.now }
-        ensures spare { OnOk result (Self.spare self.old ≤ Self.spare self.new + length (lenenc_bytes (length text.now) ++ text.now)) }
+        ensures text { PutsText result (Self.written self.old) (Self.written self.new)
+            (Self.spare self.old) (lenenc_bytes (length text.now)) text.now }
+        ensures spare { OnOk result (Self.spare self.old
+            ≤ Self.spare self.new + length (lenenc_bytes (length text.now) ++ text.now)) }
     {
         self.put_lenenc_int(text.len() as u64)?;
         self.put_slice(text)?;
@@ -101,7 +81,8 @@ pub trait BufMutExt: BufMut {
     where
         Self: Sized,
         ensures ok { OnOk result (Self.written self.new ≡ Self.written self.old ++ le_bytes 3 n) }
-        ensures err { IfErr result (λ error. (error ≡ OutOfMemory) × (Self.written self.new ≡ Self.written self.old)) }
+        ensures err { IfErr result (λ error. (error ≡ OutOfMemory)
+            × (Self.written self.new ≡ Self.written self.old)) }
         ensures spare { UsesSpare result (Self.spare self.old) (Self.spare self.new) 3 }
     {
         self.put_uint_le(n as u64, 3)?;
@@ -112,8 +93,10 @@ pub trait BufMutExt: BufMut {
     final fn put_i24_le(&mut self, n: i32) -> Result<(), WireError>
     where
         Self: Sized,
-        ensures ok { OnOk result (Self.written self.new ≡ Self.written self.old ++ le_bytes 3 (cast_unsigned w32 n)) }
-        ensures err { IfErr result (λ error. (error ≡ OutOfMemory) × (Self.written self.new ≡ Self.written self.old)) }
+        ensures ok { OnOk result (Self.written self.new ≡ Self.written self.old
+            ++ le_bytes 3 (cast_unsigned w32 n)) }
+        ensures err { IfErr result (λ error. (error ≡ OutOfMemory)
+            × (Self.written self.new ≡ Self.written self.old)) }
         ensures spare { UsesSpare result (Self.spare self.old) (Self.spare self.new) 3 }
     {
         self.put_int_le(n as i64, 3)?;
@@ -125,7 +108,8 @@ pub trait BufMutExt: BufMut {
     where
         Self: Sized,
         ensures ok { OnOk result (Self.written self.new ≡ Self.written self.old ++ le_bytes 6 n) }
-        ensures err { IfErr result (λ error. (error ≡ OutOfMemory) × (Self.written self.new ≡ Self.written self.old)) }
+        ensures err { IfErr result (λ error. (error ≡ OutOfMemory)
+            × (Self.written self.new ≡ Self.written self.old)) }
         ensures spare { UsesSpare result (Self.spare self.old) (Self.spare self.new) 6 }
     {
         self.put_uint_le(n, 6)?;
@@ -137,7 +121,8 @@ pub trait BufMutExt: BufMut {
     where
         Self: Sized,
         ensures ok { OnOk result (Self.written self.new ≡ Self.written self.old ++ le_bytes 7 n) }
-        ensures err { IfErr result (λ error. (error ≡ OutOfMemory) × (Self.written self.new ≡ Self.written self.old)) }
+        ensures err { IfErr result (λ error. (error ≡ OutOfMemory)
+            × (Self.written self.new ≡ Self.written self.old)) }
         ensures spare { UsesSpare result (Self.spare self.old) (Self.spare self.new) 7 }
     {
         self.put_uint_le(n, 7)?;
@@ -148,21 +133,26 @@ pub trait BufMutExt: BufMut {
     final fn put_i56_le(&mut self, n: i64) -> Result<(), WireError>
     where
         Self: Sized,
-        ensures ok { OnOk result (Self.written self.new ≡ Self.written self.old ++ le_bytes 7 (cast_unsigned w64 n)) }
-        ensures err { IfErr result (λ error. (error ≡ OutOfMemory) × (Self.written self.new ≡ Self.written self.old)) }
+        ensures ok { OnOk result (Self.written self.new ≡ Self.written self.old
+            ++ le_bytes 7 (cast_unsigned w64 n)) }
+        ensures err { IfErr result (λ error. (error ≡ OutOfMemory)
+            × (Self.written self.new ≡ Self.written self.old)) }
         ensures spare { UsesSpare result (Self.spare self.old) (Self.spare self.new) 7 }
     {
         self.put_int_le(n, 7)?;
         Ok(())
     }
 
-    /// Puts a text behind one byte of length. Of a text longer than 255 bytes the first 255 are put.
+    /// Puts a text behind one byte of length. Of a text longer than 255 bytes the first 255 are
+    /// put.
     final fn put_u8_str(&mut self, text: &[u8]) -> Result<(), WireError>
     where
         Self: Sized,
         ensures text { let cut = take u8_max text.now in
-            PutsText result (Self.written self.old) (Self.written self.new) (Self.spare self.old) (le_bytes 1 (length cut)) cut }
-        ensures spare { OnOk result (Self.spare self.old ≤ Self.spare self.new + (1 + length (take u8_max text.now))) }
+            PutsText result (Self.written self.old) (Self.written self.new) (Self.spare self.old)
+            (le_bytes 1 (length cut)) cut }
+        ensures spare { OnOk result
+            (Self.spare self.old ≤ Self.spare self.new + (1 + length (take u8_max text.now))) }
     {
         let cut = first_bytes(text, longest_u8_str());
         self.put_u8(cut.len() as u8)?;
@@ -176,8 +166,10 @@ pub trait BufMutExt: BufMut {
     where
         Self: Sized,
         ensures text { let cut = take u32_max text.now in
-            PutsText result (Self.written self.old) (Self.written self.new) (Self.spare self.old) (le_bytes 4 (length cut)) cut }
-        ensures spare { OnOk result (Self.spare self.old ≤ Self.spare self.new + (4 + length (take u32_max text.now))) }
+            PutsText result (Self.written self.old) (Self.written self.new) (Self.spare self.old)
+            (le_bytes 4 (length cut)) cut }
+        ensures spare { OnOk result
+            (Self.spare self.old ≤ Self.spare self.new + (4 + length (take u32_max text.now))) }
     {
         let cut = first_bytes(text, longest_u32_str());
         self.put_u32_le(cut.len() as u32)?;

@@ -22,8 +22,11 @@ fn read_more<R: Read, A: Allocator>(
 ) -> Result<(), WireError>
     requires { vec_len text.old + count < 2 ^ 64 }
     ensures len { OnOk result (vec_len text.new ≡ vec_len text.old + count) }
-    ensures bytes { OnOk result (text.new.items ≡ text.old.items ++ drop (vec_len text.old) text.new.items) }
-    ensures read { OnOk result (Consumes (R.remaining reader.old) (R.remaining reader.new) (drop (vec_len text.old) text.new.items)) }
+    ensures bytes { OnOk result (text.new.items ≡ text.old.items
+        ++ drop (vec_len text.old) text.new.items) }
+    ensures read { OnOk result
+        (Consumes (R.remaining reader.old) (R.remaining reader.new)
+        (drop (vec_len text.old) text.new.items)) }
     ensures err { IfErr result IsIoOrMemory }
 {
     let start = text.len();
@@ -41,7 +44,8 @@ fn read_text<R: Read, A: Allocator>(
     len: u64,
 ) -> Result<Vec<u8, A>, WireError>
     ensures len { IfOk result (λ text. length text.items ≡ len) }
-    ensures read { IfOk result (λ text. Consumes (R.remaining reader.old) (R.remaining reader.new) text.items) }
+    ensures read { IfOk result (λ text.
+        Consumes (R.remaining reader.old) (R.remaining reader.new) text.items) }
     ensures err { IfErr result IsIoOrMemory }
 {
     let mut text = Vec::new(alloc);
@@ -63,8 +67,10 @@ pub trait ReadMysqlExt: ReadBytesExt {
     final fn read_lenenc_int(&mut self) -> Result<u64, WireError>
     where
         Self: Sized,
-        ensures ok { IfOk result (λ n. ConsumesSpelling IsLenenc (Self.remaining self.old) n (Self.remaining self.new)) }
-        ensures err { IfErr result (λ error. RefusesLenenc error (Self.remaining self.old) (Self.remaining self.new)) }
+        ensures ok { IfOk result (λ n.
+            ConsumesSpelling IsLenenc (Self.remaining self.old) n (Self.remaining self.new)) }
+        ensures err { IfErr result (λ error.
+            RefusesLenenc error (Self.remaining self.old) (Self.remaining self.new)) }
     {
         match self.read_u8().map_err(WireError::Io)? {
             byte @ 0..=0xfa => Ok(byte as u64),
@@ -84,16 +90,18 @@ pub trait ReadMysqlExt: ReadBytesExt {
         }
     }
 
-    /// Reads a `string<lenenc>`: an `int<lenenc>`, and as many bytes as it says. Room is asked for at
-    /// most 8192 bytes before they are read, whatever length is declared. Where it is refused, the
-    /// answer is `OutOfMemory`, and what was read of the text is gone.
+    /// Reads a `string<lenenc>`: an `int<lenenc>`, and as many bytes as it says. Room is asked for
+    /// at most 8192 bytes before they are read, whatever length is declared. Where it is refused,
+    /// the answer is `OutOfMemory`, and what was read of the text is gone.
     ///
     /// <https://dev.mysql.com/doc/dev/mysql-server/latest/page_protocol_basic_dt_strings.html>
     final fn read_lenenc_str<A: Allocator>(&mut self, alloc: A) -> Result<Vec<u8, A>, WireError>
     where
         Self: Sized,
-        ensures ok { IfOk result (λ text. ConsumesText IsLenenc (Self.remaining self.old) text.items (Self.remaining self.new)) }
-        ensures err { IfErr result (λ error. RefusesText error (Self.remaining self.old) (Self.remaining self.new)) }
+        ensures ok { IfOk result (λ text.
+            ConsumesText IsLenenc (Self.remaining self.old) text.items (Self.remaining self.new)) }
+        ensures err { IfErr result (λ error.
+            RefusesText error (Self.remaining self.old) (Self.remaining self.new)) }
     {
         let len = self.read_lenenc_int()?;
         read_text(self, alloc, len)

@@ -1,4 +1,4 @@
-// The spellings of length-encoded integers behind a first byte.
+// The spellings (encodings) of length-encoded integers behind a first byte.
 
 ghost use Rattle.std.specs.Prelude.{◌≡◌, ◌∷◌};
 ghost use Rattle.wire_buf.specs.Numbers.{le_bytes};

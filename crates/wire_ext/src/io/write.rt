@@ -12,7 +12,8 @@ use wire_buf::error::WireError;
 
 // Writes the spelling of a length-encoded integer, in one write, and counts its bytes.
 fn write_spelling<W: WriteBytesExt>(writer: &mut W, n: u64) -> Result<u64, WireError>
-    ensures written { OnOk result (Appends (W.contents writer.old) (W.contents writer.new) (lenenc_bytes n)) }
+    ensures written { OnOk result
+        (Appends (W.contents writer.old) (W.contents writer.new) (lenenc_bytes n)) }
     ensures count { IfOk result (λ count. count ≡ length (lenenc_bytes n)) }
     ensures err { IfErr result IsIo }
 {
@@ -40,7 +41,8 @@ pub trait WriteMysqlExt: WriteBytesExt {
     final fn write_lenenc_int(&mut self, n: u64) -> Result<u64, WireError>
     where
         Self: Sized,
-        ensures written { OnOk result (Appends (Self.contents self.old) (Self.contents self.new) (lenenc_bytes n)) }
+        ensures written { OnOk result
+            (Appends (Self.contents self.old) (Self.contents self.new) (lenenc_bytes n)) }
         ensures count { IfOk result (λ count. count ≡ length (lenenc_bytes n)) }
         ensures err { IfErr result IsIo }
 
@@ -57,8 +59,11 @@ pub trait WriteMysqlExt: WriteBytesExt {
     final fn write_lenenc_str(&mut self, text: &[u8]) -> Result<u64, WireError>
     where
         Self: Sized,
-        ensures written { OnOk result (Appends (Self.contents self.old) (Self.contents self.new) (lenenc_bytes (length text.now) ++ text.now)) }
-        ensures count { IfOk result (λ count. count ≡ min (length (lenenc_bytes (length text.now) ++ text.now)) (2 ^ 64 - 1)) }
+        ensures written { OnOk result
+            (Appends (Self.contents self.old) (Self.contents self.new)
+            (lenenc_bytes (length text.now) ++ text.now)) }
+        ensures count { IfOk result (λ count. count
+            ≡ min (length (lenenc_bytes (length text.now) ++ text.now)) (2 ^ 64 - 1)) }
         ensures err { IfErr result IsIo }
     {
         let len = text.len() as u64;

@@ -1,5 +1,5 @@
-//! Integers of MySQL's serialization library. The low bits of the first byte say how many bytes there
-//! are: as many ones as further bytes.
+//! Integers of MySQL's serialization library. The low bits of the first byte say how many bytes
+//! there are: as many ones as further bytes.
 //!
 //! <https://dev.mysql.com/doc/dev/mysql-server/latest/PageLibsMysqlSerialization.html>
 
@@ -23,7 +23,8 @@ fn size_of(value: u64) -> usize
 
 /// How many bytes an integer has as it is written: 1 to 9.
 pub fn varlen_uint_size(value: u64) -> usize
-    ensures { (spelling : List ℕ) × IsShortest IsVarlenUint value spelling × (result ≡ length spelling) }
+    ensures { (spelling : List ℕ) × IsShortest IsVarlenUint value spelling
+        × (result ≡ length spelling) }
 {
     size_of(value)
 }
@@ -54,7 +55,8 @@ fn value_of(spelling: &[u8]) -> u64
 /// Reads an integer of 1 to 9 bytes. Where it isn't there whole, the answer is `UnexpectedEof`, and
 /// nothing is eaten.
 pub fn read_varlen_uint(buf: &mut ParseBuf<'_>) -> Result<u64, WireError>
-    ensures ok { IfOk result (λ value. EatsSpelling IsVarlenUint buf.old.0.now value buf.new.0.now) }
+    ensures ok { IfOk result (λ value.
+        EatsSpelling IsVarlenUint buf.old.0.now value buf.new.0.now) }
     ensures err { IfErr result (λ error. (error ≡ UnexpectedEof)
         × SpellsNothing IsVarlenUint buf.old.0.now
         × (buf.new.0.now ≡ buf.old.0.now)) }
@@ -86,10 +88,11 @@ fn marked(value: u64, size: usize) -> u64
     value << size | ((1 << (size - 1)) - 1)
 }
 
-/// Appends an integer in the fewest bytes, 1 to 9. Where memory for them is refused, the buffer is as
-/// it was.
+/// Appends an integer in the fewest bytes, 1 to 9. Where memory for them is refused, the buffer is
+/// as it was.
 pub fn write_varlen_uint<A: Allocator>(buf: &mut Vec<u8, A>, value: u64) -> Result<(), WireError>
-    ensures ok { OnOk result ((spelling : List ℕ) × IsShortest IsVarlenUint value spelling × (buf.new.items ≡ buf.old.items ++ spelling)) }
+    ensures ok { OnOk result ((spelling : List ℕ) × IsShortest IsVarlenUint value spelling
+        × (buf.new.items ≡ buf.old.items ++ spelling)) }
     ensures err { IfErr result (λ error. (error ≡ OutOfMemory) × (buf.new.items ≡ buf.old.items)) }
 {
     let size = size_of(value);

@@ -27,7 +27,8 @@ fn cut(text: &[u8]) -> Option<(&[u8], &[u8])>
 
 // The number that these digits make, where they are digits and it is at most 255.
 fn part(digits: &[u8]) -> Option<u8>
-    ensures { SomeIff result (IsNumeral 10 digits.now × (digits_value 10 digits.now ≤ 255)) (digits_value 10 digits.now) }
+    ensures { SomeIff result (IsNumeral 10 digits.now × (digits_value 10 digits.now ≤ 255))
+        (digits_value 10 digits.now) }
 {
     if digits.is_empty() {
         return None;
@@ -44,7 +45,8 @@ fn part(digits: &[u8]) -> Option<u8>
 
 // The same behind a sign, if there is one.
 fn signed_part(piece: &[u8]) -> Option<u8>
-    ensures { MatchOption result ((n : ℕ) → ¬ IsSignedPart piece.now n) (λ n. IsSignedPart piece.now n) }
+    ensures { MatchOption result ((n : ℕ) → ¬ IsSignedPart piece.now n)
+        (λ n. IsSignedPart piece.now n) }
 {
     match piece {
         [b'+', digits @ ..] => part(digits),
@@ -88,8 +90,8 @@ fn version_of(text: &[u8]) -> Option<(u8, u8, u8)>
 }
 
 /// Splits a server's version, as `8.0.36-log`, into its three numbers, each at most 255. The first
-/// two may have a sign, and behind the third anything may follow. The answer is three zeros where the
-/// text is no such version.
+/// two may have a sign, and behind the third anything may follow. The answer is three zeros where
+/// the text is no such version.
 pub fn split_version(version_str: &[u8]) -> (u8, u8, u8)
     ensures { ReadsVersion version_str.now result }
 {

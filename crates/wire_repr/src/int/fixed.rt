@@ -76,9 +76,13 @@ impl IntRepr for i8 {
 
     fn known(_: i8) {}
 
-    ghost comes_back = { λ val rest value. signed_bytes-back 1 (cast_unsigned w8 val) val rest (signed_1 val value).0 (signed_1 val value).1 };
+    ghost comes_back = { λ val rest value.
+        signed_bytes-back 1 (cast_unsigned w8 val) val rest (signed_1 val value).0
+        (signed_1 val value).1 };
 
-    ghost of_size = { λ val size stated. size-is 1 size (length (le_bytes 1 (cast_unsigned w8 val))) stated (length-le_bytes 1 (cast_unsigned w8 val)) };
+    ghost of_size = { λ val size stated.
+        size-is 1 size (length (le_bytes 1 (cast_unsigned w8 val))) stated
+        (length-le_bytes 1 (cast_unsigned w8 val)) };
 }
 
 /// An `int<2>`.
@@ -113,7 +117,8 @@ impl IntRepr for LeU16 {
 
     ghost comes_back = { λ val rest value. le_bytes-back 2 val rest value };
 
-    ghost of_size = { λ val size stated. size-is 2 size (length (le_bytes 2 val)) stated (length-le_bytes 2 val) };
+    ghost of_size = { λ val size stated.
+        size-is 2 size (length (le_bytes 2 val)) stated (length-le_bytes 2 val) };
 }
 
 /// An `int<4>`.
@@ -148,7 +153,8 @@ impl IntRepr for LeU32 {
 
     ghost comes_back = { λ val rest value. le_bytes-back 4 val rest value };
 
-    ghost of_size = { λ val size stated. size-is 4 size (length (le_bytes 4 val)) stated (length-le_bytes 4 val) };
+    ghost of_size = { λ val size stated.
+        size-is 4 size (length (le_bytes 4 val)) stated (length-le_bytes 4 val) };
 }
 
 /// An `int<8>`.
@@ -183,7 +189,8 @@ impl IntRepr for LeU64 {
 
     ghost comes_back = { λ val rest value. le_bytes-back 8 val rest value };
 
-    ghost of_size = { λ val size stated. size-is 8 size (length (le_bytes 8 val)) stated (length-le_bytes 8 val) };
+    ghost of_size = { λ val size stated.
+        size-is 8 size (length (le_bytes 8 val)) stated (length-le_bytes 8 val) };
 }
 
 /// An `int<2>` with a sign.
@@ -216,9 +223,13 @@ impl IntRepr for LeI16 {
 
     fn known(_: i16) {}
 
-    ghost comes_back = { λ val rest value. signed_bytes-back 2 (cast_unsigned w16 val) val rest (signed_2 val value).0 (signed_2 val value).1 };
+    ghost comes_back = { λ val rest value.
+        signed_bytes-back 2 (cast_unsigned w16 val) val rest (signed_2 val value).0
+        (signed_2 val value).1 };
 
-    ghost of_size = { λ val size stated. size-is 2 size (length (le_bytes 2 (cast_unsigned w16 val))) stated (length-le_bytes 2 (cast_unsigned w16 val)) };
+    ghost of_size = { λ val size stated.
+        size-is 2 size (length (le_bytes 2 (cast_unsigned w16 val))) stated
+        (length-le_bytes 2 (cast_unsigned w16 val)) };
 }
 
 /// An `int<4>` with a sign.
@@ -251,9 +262,13 @@ impl IntRepr for LeI32 {
 
     fn known(_: i32) {}
 
-    ghost comes_back = { λ val rest value. signed_bytes-back 4 (cast_unsigned w32 val) val rest (signed_4 val value).0 (signed_4 val value).1 };
+    ghost comes_back = { λ val rest value.
+        signed_bytes-back 4 (cast_unsigned w32 val) val rest (signed_4 val value).0
+        (signed_4 val value).1 };
 
-    ghost of_size = { λ val size stated. size-is 4 size (length (le_bytes 4 (cast_unsigned w32 val))) stated (length-le_bytes 4 (cast_unsigned w32 val)) };
+    ghost of_size = { λ val size stated.
+        size-is 4 size (length (le_bytes 4 (cast_unsigned w32 val))) stated
+        (length-le_bytes 4 (cast_unsigned w32 val)) };
 }
 
 /// An `int<8>` with a sign.
@@ -286,7 +301,11 @@ impl IntRepr for LeI64 {
 
     fn known(_: i64) {}
 
-    ghost comes_back = { λ val rest value. signed_bytes-back 8 (cast_unsigned w64 val) val rest (signed_8 val value).0 (signed_8 val value).1 };
+    ghost comes_back = { λ val rest value.
+        signed_bytes-back 8 (cast_unsigned w64 val) val rest (signed_8 val value).0
+        (signed_8 val value).1 };
 
-    ghost of_size = { λ val size stated. size-is 8 size (length (le_bytes 8 (cast_unsigned w64 val))) stated (length-le_bytes 8 (cast_unsigned w64 val)) };
+    ghost of_size = { λ val size stated.
+        size-is 8 size (length (le_bytes 8 (cast_unsigned w64 val))) stated
+        (length-le_bytes 8 (cast_unsigned w64 val)) };
 }

@@ -46,7 +46,8 @@ impl IntRepr for LeU32LowerHalf {
 
     ghost comes_back = { λ val rest value. le_bytes-back_cut 2 val rest };
 
-    ghost of_size = { λ val size stated. size-is 2 size (length (le_bytes 2 val)) stated (length-le_bytes 2 val) };
+    ghost of_size = { λ val size stated.
+        size-is 2 size (length (le_bytes 2 val)) stated (length-le_bytes 2 val) };
 }
 
 /// The high 16 bits of a number, in two bytes.
@@ -82,5 +83,6 @@ impl IntRepr for LeU32UpperHalf {
 
     ghost comes_back = { λ val rest value. upper_half-back val rest value };
 
-    ghost of_size = { λ val size stated. size-is 2 size (length (le_bytes 2 (val / 65536))) stated (length-le_bytes 2 (val / 65536)) };
+    ghost of_size = { λ val size stated. size-is 2 size (length (le_bytes 2 (val / 65536)))
+        stated (length-le_bytes 2 (val / 65536)) };
 }

@@ -48,7 +48,8 @@ impl IntRepr for LenEnc {
 
     fn serialize<A: Allocator>(val: u64, buf: &mut Vec<u8, A>) -> Result<(), WireError>
         ensures ok { OnOk result (buf.new.items ≡ buf.old.items ++ lenenc_bytes val) }
-        ensures err { IfErr result (λ error. (error ≡ OutOfMemory) × (buf.new.items ≡ buf.old.items)) }
+        ensures err { IfErr result (λ error. (error ≡ OutOfMemory)
+            × (buf.new.items ≡ buf.old.items)) }
         ensures shortest { IsShortest IsLenencOrMark val (lenenc_bytes val) }
     {
         buf.put_lenenc_int(val)

@@ -1,4 +1,4 @@
-//! Numbers in groups of seven bits.
+//! Numbers in groups of seven bits: base-128 varints.
 
 ghost use Rattle.std.specs.Prelude.{◌≡◌, ◌<◌, ◌≤◌, ◌^◌, ◌++◌, ◌∷◌, ◌+◌, ◌%◌, ◌/◌, [], None, OnOk, IfErr};
 ghost use Rattle.wire_buf.specs.declared.error.WireError.TheVariants.{OutOfMemory};
@@ -12,12 +12,13 @@ use std::alloc::Allocator;
 use wire_buf::error::{InvalidReason, WireError};
 use wire_buf::io::ParseBuf;
 
-/// A number in one to five groups of seven bits, the least significant first, each but the last with
-/// the high bit; as few are written as hold the number. For texts this as their length.
+/// A number in one to five groups of seven bits (a base-128 varint), the least significant first,
+/// each but the last with the high bit; as few are written as hold the number. For texts this as
+/// their length.
 ///
-/// What is refused has been eaten: five bytes that all have the high bit (`VarLenTooLong`), a number
-/// above `u32::MAX` (`VarLenTooLarge`), or what is left where the input ends before the number
-/// (`UnexpectedEof`).
+/// What is refused has been eaten: five bytes that all have the high bit (`VarLenTooLong`), a
+/// number above `u32::MAX` (`VarLenTooLarge`), or what is left where the input ends before the
+/// number (`UnexpectedEof`).
 ///
 /// <https://dev.mysql.com/doc/dev/mysql-server/latest/json__binary_8h.html>
 #[derive(Clone, Copy, Debug, PartialEq, Eq, PartialOrd, Ord, Hash, Default)]
@@ -95,7 +96,8 @@ impl IntRepr for VarLen {
 
     fn serialize<A: Allocator>(val: u32, buf: &mut Vec<u8, A>) -> Result<(), WireError>
         ensures ok { OnOk result (buf.new.items ≡ buf.old.items ++ groups_bytes val) }
-        ensures err { IfErr result (λ error. (error ≡ OutOfMemory) × (buf.new.items ≡ buf.old.items)) }
+        ensures err { IfErr result (λ error. (error ≡ OutOfMemory)
+            × (buf.new.items ≡ buf.old.items)) }
         ensures shortest { IsShortest IsGroups val (groups_bytes val) }
     {
         put_groups(val, buf)

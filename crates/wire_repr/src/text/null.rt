@@ -7,7 +7,7 @@ ghost use Rattle.wire_repr.specs.NullTexts.{HasNoZero, ReadsNull};
 ghost use Rattle.wire_repr.specs.NullTextLemmas.{null-back};
 ghost use Rattle.wire_repr.specs.Spelled.{Leaves};
 
-use super::BytesRepr;
+use super::{BytesRepr, all_or_nothing};
 use memchr::memchr;
 use std::alloc::Allocator;
 use std::borrow::CowSlice;
@@ -69,11 +69,8 @@ impl BytesRepr for NullBytes {
     fn serialize<A: Allocator>(text: &[u8], buf: &mut Vec<u8, A>) -> Result<(), WireError> {
         let at = buf.len();
         buf.extend_from_slice(before_first_zero(text))?;
-        if buf.push(0).is_err() {
-            buf.truncate(at);
-            return Err(WireError::OutOfMemory);
-        }
-        Ok(())
+        let ended = buf.push(0).is_ok();
+        all_or_nothing(ended, at, buf)
     }
 
     fn deserialize<'de, A: Allocator>(

@@ -2,7 +2,7 @@
 //!
 //! <https://dev.mysql.com/doc/dev/mysql-server/latest/page_protocol_basic_dt_strings.html>
 
-ghost use Rattle.std.specs.Prelude.{◌≡◌, ◌≤◌, ◌++◌, length, take, None};
+ghost use Rattle.std.specs.Prelude.{◌++◌, length, take, None};
 ghost use Rattle.wire_buf.specs.Lenenc.{IsLenencOrMark, lenenc_bytes};
 ghost use Rattle.wire_buf.specs.Numbers.{le_bytes};
 ghost use Rattle.wire_buf.specs.Reading.{Reads};
@@ -12,15 +12,15 @@ ghost use Rattle.wire_repr.specs.Groups.{ReadsGroups, groups_bytes};
 ghost use Rattle.wire_repr.specs.PrefixedTexts.{lenenc_text-back, fixed_text-back_1, fixed_text-back_4, groups_text-back};
 ghost use Rattle.wire_repr.specs.Spelled.{Leaves, NumberOrEof, TextBehind};
 
-use super::BytesRepr;
-use super::rest::eat_text;
+use super::undelimited::eat_text;
+use super::{BytesRepr, all_or_nothing};
 use crate::int::{IntRepr, LenEnc, VarLen};
 use std::alloc::Allocator;
 use std::borrow::CowSlice;
-use std::cmp::min;
 use wire_buf::error::WireError;
 use wire_buf::io::ParseBuf;
 use wire_ext::io::BufMutExt;
+use wire_ext::text::{first_bytes, longest_u32_str};
 
 /// A `string<lenenc>`. A length that is cut short has eaten its first byte, a text its length.
 impl BytesRepr for LenEnc {
@@ -44,11 +44,8 @@ impl BytesRepr for LenEnc {
 
     fn serialize<A: Allocator>(text: &[u8], buf: &mut Vec<u8, A>) -> Result<(), WireError> {
         let at = buf.len();
-        let put = buf.put_lenenc_str(text);
-        if put.is_err() {
-            buf.truncate(at);
-        }
-        put
+        let put = buf.put_lenenc_str(text).is_ok();
+        all_or_nothing(put, at, buf)
     }
 
     fn deserialize<'de, A: Allocator>(
@@ -100,11 +97,8 @@ impl BytesRepr for U8Bytes {
 
     fn serialize<A: Allocator>(text: &[u8], buf: &mut Vec<u8, A>) -> Result<(), WireError> {
         let at = buf.len();
-        let put = buf.put_u8_str(text);
-        if put.is_err() {
-            buf.truncate(at);
-        }
-        put
+        let put = buf.put_u8_str(text).is_ok();
+        all_or_nothing(put, at, buf)
     }
 
     fn deserialize<'de, A: Allocator>(
@@ -156,11 +150,8 @@ impl BytesRepr for U32Bytes {
 
     fn serialize<A: Allocator>(text: &[u8], buf: &mut Vec<u8, A>) -> Result<(), WireError> {
         let at = buf.len();
-        let put = buf.put_u32_str(text);
-        if put.is_err() {
-            buf.truncate(at);
-        }
-        put
+        let put = buf.put_u32_str(text).is_ok();
+        all_or_nothing(put, at, buf)
     }
 
     fn deserialize<'de, A: Allocator>(
@@ -176,25 +167,8 @@ impl BytesRepr for U32Bytes {
     ghost of_size = { λ text size stated. Prim.cc };
 }
 
-// The longest text behind such a length.
-#[tactic(auto, unfolding(wire_ext::specs::Texts::u32_max))]
-fn longest_text() -> usize
-    ensures value { result ≡ u32_max }
-    ensures fits { result ≤ 4294967295 }
-{
-    u32::MAX as usize
-}
-
-// The first bytes of a text, at most so many.
-fn first_bytes(text: &[u8], most: usize) -> &[u8]
-    ensures first { result.now ≡ take most text.now }
-    ensures few { length result.now ≤ most }
-{
-    &text[..min(text.len(), most)]
-}
-
-/// A length in groups of seven bits and a text, of a longer one its first 4294967295 bytes. A length
-/// that is refused has eaten what was looked at, a text that is cut short its length.
+/// A length in groups of seven bits and a text, of a longer one its first 4294967295 bytes. A
+/// length that is refused has eaten what was looked at, a text that is cut short its length.
 impl BytesRepr for VarLen {
     const MAX_LEN: usize = 4294967295;
 
@@ -216,13 +190,10 @@ impl BytesRepr for VarLen {
 
     fn serialize<A: Allocator>(text: &[u8], buf: &mut Vec<u8, A>) -> Result<(), WireError> {
         let at = buf.len();
-        let cut = first_bytes(text, longest_text());
+        let cut = first_bytes(text, longest_u32_str());
         <VarLen as IntRepr>::serialize(cut.len() as u32, buf)?;
-        if buf.extend_from_slice(cut).is_err() {
-            buf.truncate(at);
-            return Err(WireError::OutOfMemory);
-        }
-        Ok(())
+        let put = buf.extend_from_slice(cut).is_ok();
+        all_or_nothing(put, at, buf)
     }
 
     fn deserialize<'de, A: Allocator>(

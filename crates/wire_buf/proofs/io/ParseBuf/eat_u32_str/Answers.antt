@@ -10,4 +10,5 @@ eat-requires c =
 pub returns : goal.returns
 returns c =
     let read = eats_fixed 4 _ _ _ c.requires c.eat_u32_le-len.ensures in
-    eats_text (IsFixed 4) (IsFixed-free 4) _ _ _ _ _ c.requires read c.eat.ensures.eaten c.eat.ensures.rest
+    eats_text (IsFixed 4) (IsFixed-free 4) _ _ _ _ _ c.requires read c.eat.ensures.eaten
+    c.eat.ensures.rest

@@ -10,4 +10,5 @@ eat-requires c =
 pub returns : goal.returns
 returns c =
     let read = eats_fixed 1 _ _ _ c.requires c.eat_u8-len.ensures in
-    eats_text (IsFixed 1) (IsFixed-free 1) _ _ _ _ _ c.requires read c.eat.ensures.eaten c.eat.ensures.rest
+    eats_text (IsFixed 1) (IsFixed-free 1) _ _ _ _ _ c.requires read c.eat.ensures.eaten
+    c.eat.ensures.rest

@@ -6,5 +6,9 @@ pub returns-in-None-clause-err : goal.returns-in-None-clause-err
 returns-in-None-clause-err c =
     let old = c.args.buf.now.0.now in
     let whole : old ≡ c.in-Some.first.now ∷ drop 1 old = search rules in
-    let short = c.in-None.ensures in
-    (refl, nothing_in_short _ c.in-Some.first.now old (drop 1 old) whole c.size_behind.ensures.low c.size_behind.ensures.mark short.0, short.1)
+    let short = c.in-None.ensures in (
+      refl,
+      nothing_in_short _ c.in-Some.first.now old (drop 1 old) whole c.size_behind.ensures.low
+          c.size_behind.ensures.mark short.0,
+      short.1,
+    )

@@ -7,8 +7,10 @@ use Rattle.wire_ext.proofs.misc.varlen.value_of.Goals as goal
 pub returns-then-size-eq9 : goal.returns-then-size-eq9
 returns-then-size-eq9 c =
     let bytes = c.args.spelling.now in
-    IsVarlenUint-marked_nine bytes _ (λ i. (c.type_inv.spelling i).fits) c.if-size-eq9.true c.requires.marked (c.read_u64.ensures ∙ ap (little_from 0 8) (take_rest bytes 1))
+    IsVarlenUint-marked_nine bytes _ (λ i. (c.type_inv.spelling i).fits) c.if-size-eq9.true
+    c.requires.marked (c.read_u64.ensures ∙ ap (little_from 0 8) (take_rest bytes 1))
 
 pub returns-else-size-eq9 : goal.returns-else-size-eq9
 returns-else-size-eq9 c =
-    IsVarlenUint-marked c.args.spelling.now _ (omega (arith, c.requires.high, c.if-size-eq9.false)) c.requires.marked c.read_uint.ensures
+    IsVarlenUint-marked c.args.spelling.now _ (omega (arith, c.requires.high, c.if-size-eq9.false))
+    c.requires.marked c.read_uint.ensures

@@ -9,8 +9,10 @@ returns-in-Some c =
     let end = c.in-Some.end in
     let (_, clean, parts, _) = found_at old end c.in-Some.ensures in
     let text : take end old ≡ c.eat-text.result.now = sym c.eat-text.ensures.eaten in
-    let left : drop 1 (drop end old) ≡ c.skip.new.self.0.now = ap (drop 1) (sym c.eat-text.ensures.rest) ∙ sym c.skip.ensures in (
-      parts ∙ ap (λ t. t ++ 0 ∷ drop 1 (drop end old)) text ∙ ap (λ r. c.eat-text.result.now ++ 0 ∷ r) left,
+    let left : drop 1 (drop end old) ≡ c.skip.new.self.0.now =
+    ap (drop 1) (sym c.eat-text.ensures.rest) ∙ sym c.skip.ensures in (
+      parts ∙ ap (λ t. t ++ 0 ∷ drop 1 (drop end old)) text
+          ∙ ap (λ r. c.eat-text.result.now ++ 0 ∷ r) left,
       subst HasNoZero text clean,
     )
 

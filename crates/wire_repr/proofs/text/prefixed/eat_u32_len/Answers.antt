@@ -8,4 +8,5 @@ pub returns-in-Some : goal.returns-in-Some
 returns-in-Some c =
     let old = c.args.buf.now.0.now in
     let new = c.checked_eat_u32_le.new.self.0.now in
-    NumberOrEof-left (IsFixed 4) 0 old (Ok c.in-Some.len) new (ReadsNumber-fixed 4 old (Some c.in-Some.len) new c.in-Some.ensures)
+    NumberOrEof-left (IsFixed 4) 0 old (Ok c.in-Some.len) new
+    (ReadsNumber-fixed 4 old (Some c.in-Some.len) new c.in-Some.ensures)

@@ -11,7 +11,8 @@ returns-in_ok-n-in-252-clause-ok g c =
     let new = remaining c.read_u16.new.self in
     let first : ReadsNumber big_number 1 old mid c.in_ok-byte.byte = search rules in
     let more : ReadsNumber little_number 2 mid new c.in_ok-n-in-252.n = search rules in
-    reads_behind 252 2 old mid new c.in_ok-byte.byte c.in_ok-n-in-252.n first (search rules) (λ n bytes form. inr (inl form)) more
+    reads_behind 252 2 old mid new c.in_ok-byte.byte c.in_ok-n-in-252.n first (search rules)
+    (λ n bytes form. inr (inl form)) more
 
 pub returns-in_ok-n-in-253-clause-ok : goal.returns-in_ok-n-in-253-clause-ok
 returns-in_ok-n-in-253-clause-ok g c =
@@ -21,7 +22,8 @@ returns-in_ok-n-in-253-clause-ok g c =
     let new = remaining c.read_u24.new.self in
     let first : ReadsNumber big_number 1 old mid c.in_ok-byte.byte = search rules in
     let more : ReadsNumber little_number 3 mid new c.in_ok-n-in-253.n = search rules in
-    reads_behind 253 3 old mid new c.in_ok-byte.byte c.in_ok-n-in-253.n first (search rules) (λ n bytes form. inr (inr (inl form))) more
+    reads_behind 253 3 old mid new c.in_ok-byte.byte c.in_ok-n-in-253.n first (search rules)
+    (λ n bytes form. inr (inr (inl form))) more
 
 pub returns-in_ok-n-in-254-clause-ok : goal.returns-in_ok-n-in-254-clause-ok
 returns-in_ok-n-in-254-clause-ok g c =
@@ -31,7 +33,8 @@ returns-in_ok-n-in-254-clause-ok g c =
     let new = remaining c.read_u64.new.self in
     let first : ReadsNumber big_number 1 old mid c.in_ok-byte.byte = search rules in
     let more : ReadsNumber little_number 8 mid new c.in_ok-n-in-254.n = search rules in
-    reads_behind 254 8 old mid new c.in_ok-byte.byte c.in_ok-n-in-254.n first (search rules) (λ n bytes form. inr (inr (inr form))) more
+    reads_behind 254 8 old mid new c.in_ok-byte.byte c.in_ok-n-in-254.n first (search rules)
+    (λ n bytes form. inr (inr (inr form))) more
 
 pub returns-in-0-to-250-clause-ok : goal.returns-in-0-to-250-clause-ok
 returns-in-0-to-250-clause-ok g c =

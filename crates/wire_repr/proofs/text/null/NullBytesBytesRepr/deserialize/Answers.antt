@@ -9,4 +9,5 @@ returns-in-Some g c =
     let text = c.in-Some.text.now in
     let new = c.eat_null.new.buf.0.now in
     let parts = c.in-Some.ensures.0 in
-    Reads-left ReadsNull c.args.buf.now.0.now (Ok text) new (text ++ 0 ∷ []) (parts ∙ sym (append_assoc text (0 ∷ []) new)) c.in-Some.ensures
+    Reads-left ReadsNull c.args.buf.now.0.now (Ok text) new (text ++ 0 ∷ [])
+    (parts ∙ sym (append_assoc text (0 ∷ []) new)) c.in-Some.ensures

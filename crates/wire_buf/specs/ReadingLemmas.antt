@@ -1,0 +1,31 @@
+-- What follows of bytes that were read, for who reads one field after another.
+use Rattle.std.proofs.Common.{ℕ, ◌≡◌, ◌≤◌, ◌+◌, List, length, take, drop, Result, Ok, Some, inl, inr, ap, ◌∙◌}
+use Rattle.std.proofs.lemmas.List.{drop-drop}
+use Rattle.wire_buf.specs.declared.error.WireError.{WireError}
+use Rattle.wire_buf.specs.Reading.{Reads, Parses}
+
+-- a value that `parse` answers of a type with a size: so many bytes were there, they are eaten, and
+-- they alone were read
+pub parsed_fixed : {X : Type 0} (reads : List ℕ → Result X WireError → ℕ → Type 0) (size : ℕ)
+    (old new : List ℕ) (value : X) → Reads (Parses (Some size) reads) old (Ok value) new
+    → (size ≤ length old) × (new ≡ drop size old)
+    × (looked_at : ℕ) × reads (take size old) (Ok value) looked_at
+parsed_fixed reads size old new value (eaten, there, left, inl (short, answered, none)) =
+    cc answered
+parsed_fixed reads size old new value (eaten, there, left, inr (enough, all, looked_at, read)) =
+    (enough, left ∙ ap (λ count. drop count old) all, looked_at, read)
+
+-- the first bytes of all of them are eaten
+pub eats_first : (count : ℕ) (all old new : List ℕ) → old ≡ all → new ≡ drop count old
+    → new ≡ drop count all
+eats_first count all old new was left = left ∙ ap (drop count) was
+
+-- more are eaten, behind those that were
+pub eats_on : (at count : ℕ) (all old new : List ℕ) → old ≡ drop at all → new ≡ drop count old
+    → new ≡ drop (at + count) all
+eats_on at count all old new was left = left ∙ ap (drop count) was ∙ drop-drop count at all
+
+-- the value of the bytes behind those that were eaten
+pub value_at : {X : Type 0} (at count : ℕ) (value : List ℕ → X) (all old : List ℕ) (x : X)
+    → old ≡ drop at all → x ≡ value (take count old) → x ≡ value (take count (drop at all))
+value_at at count value all old x was is = is ∙ ap (λ bytes. value (take count bytes)) was
