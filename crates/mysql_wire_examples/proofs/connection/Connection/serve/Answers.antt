@@ -1,0 +1,25 @@
+use Rattle.std.proofs.Common.{ℕ, ◌≡◌, List, [], ◌∷◌, ◌++◌, Bool, true, Result, Ok, ap, ◌∙◌, sym, rules}
+use Rattle.mysql_wire.specs.Codec.{input_of}
+use Rattle.mysql_wire.specs.Framing.{framing, next_id}
+use Rattle.mysql_wire.specs.PacketCodecError.{PacketCodecError}
+use Rattle.mysql_wire_examples.specs.Connection.{answer_to, state_of}
+use Rattle.mysql_wire_examples.proofs.ConnectionLemmas.{flat_map-on, flat_map-out}
+use Rattle.mysql_wire_examples.proofs.connection.Connection.serve.Goals as goal
+
+pub commands-preserved : goal.commands-preserved
+commands-preserved g c =
+    let told = c.in_ok-next_command.ensures in
+    let is : ◌≡◌ {A = Result Bool PacketCodecError} (Ok c.in_ok-next_command.field-0) (Ok true) = ap Ok (search rules) in
+    let command : List ℕ = c.next_command.new.self.unfinished.items in
+    let put = c.in_ok-answer.ensures in
+    let so_far = c.commands.invariant.so_far in
+    record {
+      awaits = put.awaits;
+      so_far = (
+        so_far.0 ++ command ∷ [],
+        flat_map-on (framing 0) so_far.0 command _ _ _ so_far.1
+            (told.whole is ∙ ap (λ bytes. framing 0 command ++ bytes) (sym put.left)),
+        flat_map-out (λ command. framing (next_id 0 command) (answer_to command)) so_far.0 command _ _ _ so_far.2
+            (put.answered ∙ ap (λ id. c.commands.output.items ++ framing id (answer_to command)) (told.next is)),
+      );
+    }

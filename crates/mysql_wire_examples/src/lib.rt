@@ -1,0 +1,5 @@
+//! Proved callers, as CALLING.md shows them.
+#![tactic(auto)]
+
+pub mod commands;
+pub mod connection;
