@@ -38,13 +38,15 @@ close_at-back : (id : ℕ) (rest : List ℕ) → id < 2 ^ 32
     → close_at (close_bytes id ++ rest) ≡ (Ok id, length (close_bytes id))
 close_at-back id rest fits = ap (λ n. (Ok n, 5)) (le_number-le_bytes_fits 4 id fits)
 
-pub close_bytes-back : (id : ℕ) (rest : List ℕ) → id < 2 ^ 32 → (answer : Result ℕ WireError) (eaten : ℕ)
+pub close_bytes-back : (id : ℕ) (rest : List ℕ) → id < 2 ^ 32
+    → (answer : Result ℕ WireError) (eaten : ℕ)
     → Answers (close_at (close_bytes id ++ rest)) answer eaten
     → Answers (Ok id, length (close_bytes id)) answer eaten
 close_bytes-back id rest fits answer eaten read =
     subst (λ outcome. Answers outcome answer eaten) (close_at-back id rest fits) read
 
-pub init_db_bytes-back : (schema rest : List ℕ) → rest ≡ [] → (answer : Result (List ℕ) WireError) (eaten : ℕ)
+pub init_db_bytes-back : (schema rest : List ℕ) → rest ≡ []
+    → (answer : Result (List ℕ) WireError) (eaten : ℕ)
     → Answers (init_db_at (init_db_bytes schema ++ rest)) answer eaten
     → Answers (Ok schema, length (init_db_bytes schema)) answer eaten
 init_db_bytes-back schema rest none answer eaten read =

@@ -31,9 +31,10 @@ abbrev pub answers_framed : List (List ℕ) → List ℕ
 answers_framed commands =
     flat_map (λ command. framing (next_id 0 command) (answer_to command)) commands
 
--- a piece was taken: the commands that are whole with it were answered, and the rest of the input is
--- waited with
-pub record Serves {A : Type 0} (before : Connection A) (piece written : List ℕ) (after : Connection A) (now : List ℕ) : Type 0 where
+-- a piece was taken: the commands that are whole with it were answered, and the rest of the input
+-- is kept
+pub record Serves {A : Type 0} (before : Connection A) (piece written : List ℕ)
+    (after : Connection A) (now : List ℕ) : Type 0 where
   pub commands : List (List ℕ)
   pub taken : input_of (state_of before) ++ piece
       ≡ commands_framed commands ++ input_of (state_of after)

@@ -112,7 +112,8 @@ impl HasSize for ComInitDb<'_> {
 impl<'de, A: Allocator + Copy> MyDeserialize<'de, A> for ComInitDb<'de> {
     type Ctx = ();
 
-    ghost reads = { λ _ input. Through (λ command. command.schema.now) (Answers (init_db_at input)) };
+    ghost reads = { λ _ input. Through (λ command. command.schema.now)
+        (Answers (init_db_at input)) };
 
     fn deserialize(_: A, _: (), buf: &mut ParseBuf<'de>) -> Result<Self, WireError> {
         match buf.checked_eat_u8() {

@@ -11,7 +11,8 @@ use mysql_wire::proto::codec::PacketCodec;
 use mysql_wire::proto::codec::error::PacketCodecError;
 use std::alloc::{Allocator, Global};
 
-/// A server's codec, with the bytes that have come and aren't read, and the packet that isn't whole.
+/// A server's codec, with the bytes that have come and aren't read, and the packet that isn't
+/// whole.
 #[derive(Debug, Drop)]
 pub struct Connection<A: Allocator + Copy = Global> {
     pub codec: PacketCodec,
@@ -52,8 +53,8 @@ impl<A: Allocator + Copy> Connection<A> {
         }
     }
 
-    /// Goes on with the command in front, whose bytes may come over several calls: whether it stands
-    /// whole in `unfinished` now.
+    /// Goes on with the command in front, whose bytes may come over several calls: whether it
+    /// stands whole in `unfinished` now.
     pub fn next_command(&mut self) -> Result<bool, PacketCodecError>
         requires { AwaitsCommand self.old }
         ensures decodes { DecodesPacket (state_of self.old) result (state_of self.new) }
@@ -62,7 +63,8 @@ impl<A: Allocator + Copy> Connection<A> {
         ensures idle { result ≡ Ok true → header_of self.new.codec ≡ None }
         ensures next { result ≡ Ok true
             → expected_id self.new.codec ≡ next_id 0 self.new.unfinished.items }
-        ensures shorter { result ≡ Ok true → length self.new.input.items < length self.old.input.items }
+        ensures shorter { result ≡ Ok true
+            → length self.new.input.items < length self.old.input.items }
         ensures waits { result ≡ Ok false → IsWaiting self.old.codec.max_allowed_packet
             self.new.unfinished.items self.new.input.items }
         ensures goes_on { result ≡ Ok false → AwaitsCommand self.new
@@ -74,8 +76,8 @@ impl<A: Allocator + Copy> Connection<A> {
 
     /// Answers the command that stands whole, numbered on from it, and makes ready for the next.
     ///
-    /// `PacketTooLarge`: the limit is below the answer's few bytes. After an error the command still
-    /// stands, and the call may be made again.
+    /// `PacketTooLarge`: the limit is below the answer's few bytes. After an error the command
+    /// still stands, and the call may be made again.
     pub fn answer(&mut self, output: &mut BytesMut<A>) -> Result<(), PacketCodecError>
         requires { header_of self.old.codec ≡ None }
         ensures answered { OnOk result (output.new.items ≡ output.old.items
@@ -94,12 +96,13 @@ impl<A: Allocator + Copy> Connection<A> {
         Ok(())
     }
 
-    /// Takes what one read of the socket gave, and answers each command that it completes. Where the
-    /// limit or the buffers were changed so that the codec doesn't stand, it answers
-    /// `PacketsOutOfSync`, and has read nothing.
+    /// Takes what one read of the socket gave, and answers each command that it completes. Where
+    /// the limit or the buffers were changed so that the codec doesn't stand, it answers
+    /// `PacketsOutOfSync`, and has decoded nothing.
     pub fn serve(&mut self, piece: &[u8], output: &mut BytesMut<A>) -> Result<(), PacketCodecError>
         requires { first_id (state_of self.old) ≡ 0 }
-        ensures { OnOk result (Serves self.old piece.now output.old.items self.new output.new.items) }
+        ensures { OnOk result
+            (Serves self.old piece.now output.old.items self.new output.new.items) }
     {
         self.input.extend_from_slice(piece)?;
         if !self

@@ -28,8 +28,10 @@ Framed first_id payload text = text ≡ framing first_id payload
 -- the line for one chunk, or for none
 abbrev pub chunk_line : Option ChunkInfo → List ℕ → List ℕ
 chunk_line None payload = codes "none\n"
-chunk_line (Some (Middle id)) payload = codes "middle " ++ decimal id ++ codes " " ++ payload_line payload
-chunk_line (Some (Last id)) payload = codes "last " ++ decimal id ++ codes " " ++ payload_line payload
+chunk_line (Some (Middle id)) payload =
+    codes "middle " ++ decimal id ++ codes " " ++ payload_line payload
+chunk_line (Some (Last id)) payload =
+    codes "last " ++ decimal id ++ codes " " ++ payload_line payload
 
 -- the status of `chunk`: bytes that hold no whole chunk are an error, no bytes are none
 abbrev pub chunk_status : Option ChunkInfo → List ℕ → ℕ
@@ -41,19 +43,25 @@ chunk_status None rest = if length rest == 0 then 0 else 3
 pub record Shown (input : List ℕ) (status : ℕ) (text : List ℕ) : Type 0 where
   pub info : Option ChunkInfo
   pub after : ChunkState
-  pub decoded : ChunkStep max_payload (record { header = None; unread = input; held = [] }) (Ok info) after
+  pub decoded : ChunkStep max_payload (record { header = None; unread = input; held = [] })
+      (Ok info) after
   pub is : text ≡ chunk_line info after.held ++ rest_line (length after.unread)
   pub ends : status ≡ chunk_status info after.unread
 
 -- `frame` ended with this status, where readers and writers tell their bytes: at 0 all input was
 -- read, and its framing was written
-pub record FrameEnds (first_id status : ℕ) (unread left written now : Option (List ℕ)) : Type 0 where
+pub record FrameEnds (first_id status : ℕ) (unread left written now : Option (List ℕ)) :
+    Type 0 where
   pub cases : (status ≡ 0) ⊎ (status ≡ 2) ⊎ (status ≡ 6)
-  pub text : status ≡ 0 → IfSome unread (λ input. (text : List ℕ) × Framed first_id input text × Appends written now text)
+  pub text : status ≡ 0
+      → IfSome unread (λ input. (text : List ℕ) × Framed first_id input text
+      × Appends written now text)
   pub all_read : status ≡ 0 → IsAtEnd left
 
 -- `chunk` ended with this status: at 0 and 3 all input was read, and what it shows was written
 pub record ChunkEnds (status : ℕ) (unread left written now : Option (List ℕ)) : Type 0 where
   pub cases : (status ≡ 0) ⊎ (status ≡ 2) ⊎ (status ≡ 3) ⊎ (status ≡ 6)
-  pub text : (status ≡ 0) ⊎ (status ≡ 3) → IfSome unread (λ input. (text : List ℕ) × Shown input status text × Appends written now text)
+  pub text : (status ≡ 0) ⊎ (status ≡ 3)
+      → IfSome unread (λ input. (text : List ℕ) × Shown input status text
+      × Appends written now text)
   pub all_read : (status ≡ 0) ⊎ (status ≡ 3) → IsAtEnd left

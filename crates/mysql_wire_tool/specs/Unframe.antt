@@ -35,15 +35,18 @@ pub record Unframed (limit : ℕ) (input : List ℕ) (status : ℕ) (text : List
   pub unfinished : List ℕ
   pub rest : List ℕ
   pub delivered : Delivers [] input 0 limit payloads ending unfinished rest
-  pub is : text ≡ packet_lines payloads ++ ending_line ending (length (front (id_after 0 payloads) unfinished ++ rest))
+  pub is : text ≡ packet_lines payloads
+      ++ ending_line ending (length (front (id_after 0 payloads) unfinished ++ rest))
   pub ends : status ≡ ending_status ending (length (front (id_after 0 payloads) unfinished ++ rest))
 
 -- `unframe` ended with this status, where readers and writers tell their bytes: at 0, 3, 4 and 5
 -- the text of what was read was written, and at 0 and 3 all input was read
 pub record UnframeEnds (limit status : ℕ) (unread left written now : Option (List ℕ)) : Type 0 where
-  pub cases : (status ≡ 0) ⊎ (status ≡ 2) ⊎ (status ≡ 3) ⊎ (status ≡ 4) ⊎ (status ≡ 5) ⊎ (status ≡ 6)
+  pub cases : (status ≡ 0) ⊎ (status ≡ 2) ⊎ (status ≡ 3) ⊎ (status ≡ 4) ⊎ (status ≡ 5)
+      ⊎ (status ≡ 6)
   pub text : (status ≡ 0) ⊎ (status ≡ 3) ⊎ (status ≡ 4) ⊎ (status ≡ 5)
-      → (input : List ℕ) × (text : List ℕ) × Consumes unread left input × Unframed limit input status text × Appends written now text
+      → (input : List ℕ) × (text : List ℕ) × Consumes unread left input
+      × Unframed limit input status text × Appends written now text
   pub all_read : (status ≡ 0) ⊎ (status ≡ 3) → IsAtEnd left
 
 -- so far these bytes were read and this text was written, and the codec waits for more
@@ -58,8 +61,10 @@ pub record Unframing (limit : ℕ) (state : CodecState) (input text : List ℕ) 
 -- what one piece makes of it
 abbrev pub TakesPiece : CodecState → List ℕ → Verdict → List (List ℕ) → CodecState → Type 0
 TakesPiece before piece verdict.Waits gained after = RunsTo before piece (Ok tt) gained after
-TakesPiece before piece verdict.TooLarge gained after = (left : List ℕ) × RunsOver before piece (Err PacketTooLarge) gained after left
-TakesPiece before piece verdict.OutOfSync gained after = (left : List ℕ) × RunsOver before piece (Err PacketsOutOfSync) gained after left
+TakesPiece before piece verdict.TooLarge gained after =
+    (left : List ℕ) × RunsOver before piece (Err PacketTooLarge) gained after left
+TakesPiece before piece verdict.OutOfSync gained after =
+    (left : List ℕ) × RunsOver before piece (Err PacketsOutOfSync) gained after left
 
 -- the lines for it
 abbrev pub verdict_line : Verdict → List ℕ
@@ -71,8 +76,8 @@ verdict_line verdict.OutOfSync = codes "out of sync\n"
 abbrev pub run_state : {A : Type 0} → Run A → CodecState
 run_state run = codec_state run.codec run.src.items run.dst.items
 
--- how many bytes came behind the last whole packet: the full chunks of an unfinished one, with their
--- headers, and the bytes unread
+-- how many bytes came behind the last whole packet: the full chunks of an unfinished one, with
+-- their headers, and the bytes unread
 abbrev pub bytes_left : CodecState → ℕ
 bytes_left state =
     length state.held + 4 * (length state.held / max_payload) + length state.unread

@@ -9,13 +9,19 @@ use Rattle.mysql_wire_tool.specs.Unframe.{UnframeEnds}
 
 -- these words ask for this
 abbrev pub Asks : List (List ℕ) → Request → Type 0
-Asks words (Frame id) = (word : List ℕ) × (words ≡ codes "frame" ∷ word ∷ []) × IsNumber word 255 × (digits_value 10 word ≡ id)
+Asks words (Frame id) =
+    (word : List ℕ) × (words ≡ codes "frame" ∷ word ∷ []) × IsNumber word 255
+    × (digits_value 10 word ≡ id)
 Asks words Chunk = words ≡ codes "chunk" ∷ []
-Asks words (Unframe step limit) = (first : List ℕ) × (second : List ℕ) × (words ≡ codes "unframe" ∷ first ∷ second ∷ [])
-    × IsNumber first 65536 × (digits_value 10 first ≡ step) × (0 < step) × IsNumber second 4294967295 × (digits_value 10 second ≡ limit)
+Asks words (Unframe step limit) =
+    (first : List ℕ) × (second : List ℕ) × (words ≡ codes "unframe" ∷ first ∷ second ∷ [])
+    × IsNumber first 65536 × (digits_value 10 first ≡ step) × (0 < step)
+    × IsNumber second 4294967295 × (digits_value 10 second ≡ limit)
 
 -- this command ended with this status, where readers and writers tell their bytes
-abbrev pub RequestEnds : Request → ℕ → Option (List ℕ) → Option (List ℕ) → Option (List ℕ) → Option (List ℕ) → Type 0
+abbrev pub RequestEnds : Request → ℕ → Option (List ℕ) → Option (List ℕ) → Option (List ℕ)
+    → Option (List ℕ) → Type 0
 RequestEnds (Frame id) status unread left written now = FrameEnds id status unread left written now
 RequestEnds Chunk status unread left written now = ChunkEnds status unread left written now
-RequestEnds (Unframe step limit) status unread left written now = UnframeEnds limit status unread left written now
+RequestEnds (Unframe step limit) status unread left written now =
+    UnframeEnds limit status unread left written now

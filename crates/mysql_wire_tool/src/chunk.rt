@@ -79,7 +79,8 @@ fn chunk<R: Read, W: Write>(
     input: &mut R,
     output: &mut W,
 ) -> Result<u8, Stop>
-    ensures { IfOk result (λ status. ChunkEnds status (R.remaining input.old) (R.remaining input.new)
+    ensures { IfOk result (λ status. ChunkEnds status
+        (R.remaining input.old) (R.remaining input.new)
         (W.contents output.old) (W.contents output.new)) }
 {
     let mut whole = read_whole(alloc, input)?;

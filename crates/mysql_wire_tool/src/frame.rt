@@ -33,7 +33,8 @@ fn frame<R: Read, W: Write>(
     input: &mut R,
     output: &mut W,
 ) -> Result<u8, Stop>
-    ensures { IfOk result (λ status. FrameEnds id status (R.remaining input.old) (R.remaining input.new)
+    ensures { IfOk result (λ status. FrameEnds id status
+        (R.remaining input.old) (R.remaining input.new)
         (W.contents output.old) (W.contents output.new)) }
 {
     let mut payload = read_whole(alloc, input)?;

@@ -21,7 +21,8 @@ pub fn push_payload<A: Allocator + Copy>(
     text: &mut String<A>,
     payload: &[u8],
 ) -> Result<(), AllocError>
-    ensures { OnOk result (string_bytes text.new ≡ string_bytes text.old ++ payload_line payload.now) }
+    ensures { OnOk result
+        (string_bytes text.new ≡ string_bytes text.old ++ payload_line payload.now) }
 {
     let digits = hex_or_dash(*text.allocator(), payload)?;
     writeln!(text, "{} {digits}", payload.len())

@@ -174,10 +174,10 @@ fn write_rest<A: Allocator + Copy, W: Write>(
     Ok(if count == 0 { 0 } else { 3 })
 }
 
-/// Reads at most `step` bytes (at least 1) at a time, and writes a line for each packet as soon as it
-/// has come, under a limit of `limit` payload bytes a packet. The answer is the exit status: 0 where
-/// the input ended between two packets, 3 where it ended inside one, 4 at a packet past the limit, 5
-/// at a chunk of another id, 2 where a read or a write failed, 6 where memory was refused.
+/// Asks each read for `step` bytes (at least 1), and writes a line for each packet that it
+/// completes, under a limit of `limit` payload bytes a packet. The answer is the exit status: 0
+/// where the input ended between two packets, 3 where it ended inside one, 4 at a packet past the
+/// limit, 5 at a chunk of another id, 2 where a read or a write failed, 6 where memory was refused.
 pub fn run_unframe<A: Allocator + Copy, R: Read, W: Write>(
     alloc: A,
     step: usize,

@@ -19,7 +19,7 @@ pub enum Request {
     Frame(u8),
     /// `chunk`
     Chunk,
-    /// `unframe STEP LIMIT`: at most so many bytes a read, and so many a packet.
+    /// `unframe STEP LIMIT`: so many bytes asked of a read, and at most so many a packet.
     Unframe { step: usize, limit: usize },
 }
 
@@ -42,7 +42,8 @@ impl Request {
     // What the words ask for.
     fn of<A: Allocator>(words: &[String<A>]) -> Option<Request>
         ensures asked { IfSome result (Asks (map string_bytes words.now)) }
-        ensures exact { (request : Request) → Asks (map string_bytes words.now) request → result ≡ Some request }
+        ensures exact { (request : Request) → Asks (map string_bytes words.now) request
+            → result ≡ Some request }
     {
         match words {
             [name, id] if name.as_str() == "frame" => {
@@ -75,9 +76,11 @@ pub fn run_words<A: Allocator + Copy, R: Read, W: Write>(
     input: &mut R,
     output: &mut W,
 ) -> u8
-    ensures ran { (request : Request) → Asks (map string_bytes words.now) request → RequestEnds request result
-        (R.remaining input.old) (R.remaining input.new) (W.contents output.old) (W.contents output.new) }
-    ensures refused { (result ≡ 1) ↔ ((request : Request) → ¬ (Asks (map string_bytes words.now) request)) }
+    ensures ran { (request : Request) → Asks (map string_bytes words.now) request
+        → RequestEnds request result (R.remaining input.old) (R.remaining input.new)
+        (W.contents output.old) (W.contents output.new) }
+    ensures refused { (result ≡ 1)
+        ↔ ((request : Request) → ¬ (Asks (map string_bytes words.now) request)) }
     ensures untouched { result ≡ 1 → Keeps (R.remaining input.old) (R.remaining input.new)
         × Keeps (W.contents output.old) (W.contents output.new) }
 {

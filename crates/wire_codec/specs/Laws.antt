@@ -12,12 +12,14 @@ use Rattle.wire_codec.specs.declared.codec.error.PacketCodecError.TheVariants.{O
 abbrev pub UniqueFraming : Type 0
 UniqueFraming =
     (first_id : ℕ) (payload other rest more : List ℕ)
-    → framing first_id payload ++ rest ≡ framing first_id other ++ more → (payload ≡ other) × (rest ≡ more)
+    → framing first_id payload ++ rest ≡ framing first_id other ++ more
+    → (payload ≡ other) × (rest ≡ more)
 
 -- a stream delivers one thing
 abbrev pub OneDelivery : Type 0
 OneDelivery =
-    (held input : List ℕ) (open_id limit : ℕ) (payloads others : List (List ℕ)) (ending other : Ending) (unfinished another rest more : List ℕ)
+    (held input : List ℕ) (open_id limit : ℕ) (payloads others : List (List ℕ))
+    (ending other : Ending) (unfinished another rest more : List ℕ)
     → Delivers held input open_id limit payloads ending unfinished rest
     → Delivers held input open_id limit others other another more
     → (payloads ≡ others) × (ending ≡ other) × (unfinished ≡ another) × (rest ≡ more)
@@ -25,17 +27,20 @@ OneDelivery =
 -- a run, and then a run over what it left and what came since, are one run over all
 abbrev pub JoinedRuns : Type 0
 JoinedRuns =
-    (held input : List ℕ) (open_id limit : ℕ) (payloads : List (List ℕ)) (unfinished rest more : List ℕ)
+    (held input : List ℕ) (open_id limit : ℕ) (payloads : List (List ℕ))
+    (unfinished rest more : List ℕ)
     (others : List (List ℕ)) (ending : Ending) (another left : List ℕ)
     → Splits held input open_id limit payloads unfinished rest
-    → Delivers unfinished (front (id_after open_id payloads) unfinished ++ (rest ++ more)) (id_after open_id payloads) limit others ending another left
+    → Delivers unfinished (front (id_after open_id payloads) unfinished ++ (rest ++ more))
+    (id_after open_id payloads) limit others ending another left
     → Delivers held (input ++ more) open_id limit (payloads ++ others) ending another left
 
 -- the same of what `deliver` says: a run that waits, or was refused memory, and the run that goes
 -- on from it are one run
 abbrev pub RunGoesOn : Type 0
 RunGoesOn =
-    (before between after : CodecState) (more next : List ℕ) (stopped answer : Result (Unit {0}) PacketCodecError) (gained others : List (List ℕ))
+    (before between after : CodecState) (more next : List ℕ)
+    (stopped answer : Result (Unit {0}) PacketCodecError) (gained others : List (List ℕ))
     → (stopped ≡ Ok tt) ⊎ (stopped ≡ Err OutOfMemory)
     → RunsTo before more stopped gained between → between.limit ≡ before.limit
     → RunsTo between next answer others after
@@ -44,7 +49,9 @@ RunGoesOn =
 -- how long a framing is
 abbrev pub FramedLength : Type 0
 FramedLength =
-    (first_id : ℕ) (payload : List ℕ) → length (framing first_id payload) ≡ length payload + 4 * (length payload / max_payload + 1)
+    (first_id : ℕ) (payload : List ℕ)
+    → length (framing first_id payload)
+    ≡ length payload + 4 * (length payload / max_payload + 1)
 
 -- what a stream delivers, with anything behind it, begins with its payloads; the others are
 -- delivered of what is behind it

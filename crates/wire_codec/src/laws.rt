@@ -35,13 +35,14 @@ pub fn stream_append()
     ensures { StreamAppend }
 {}
 
-/// The id after two lists of payloads is the one after the second, begun at the one after the first.
+/// The id after two lists of payloads is the one after the second, begun at the one after the
+/// first.
 pub fn id_after_append()
     ensures { IdAfterAppend }
 {}
 
-/// Between two packets a codec stands, whatever is to be read: it remembers no header, and nothing is
-/// held.
+/// Between two packets a codec stands, whatever is to be read: it remembers no header, and nothing
+/// is held.
 pub fn between_packets()
     ensures { BetweenPackets }
 {}

@@ -16,7 +16,8 @@ use Rattle.wire_const.specs.declared.item_result.ItemResult.TheVariants as item
 -- A number becomes the value that has it, exactly where one has; else the error holds it.
 abbrev pub ConvertsNumber : {V E N : Type 0} → (V → N) → (E → N) → N → Result V E → Type 0
 ConvertsNumber number_of raw_of number (Ok value) = number_of value ≡ number
-ConvertsNumber {V = V} number_of raw_of number (Err unknown) = ((value : V) → number_of value ≢ number) × (raw_of unknown ≡ number)
+ConvertsNumber {V = V} number_of raw_of number (Err unknown) =
+    ((value : V) → number_of value ≢ number) × (raw_of unknown ≡ number)
 
 -- the value is in the list
 abbrev pub IsOneOf : {V : Type 0} → List V → V → Type 0
@@ -143,7 +144,8 @@ numeric_types =
 -- what `is_character_type` is true of
 abbrev pub character_types : List ColumnType
 character_types =
-    kind.MYSQL_TYPE_STRING ∷ kind.MYSQL_TYPE_VAR_STRING ∷ kind.MYSQL_TYPE_VARCHAR ∷ kind.MYSQL_TYPE_BLOB ∷ []
+    kind.MYSQL_TYPE_STRING ∷ kind.MYSQL_TYPE_VAR_STRING ∷ kind.MYSQL_TYPE_VARCHAR ∷
+    kind.MYSQL_TYPE_BLOB ∷ []
 
 -- what `is_enum_or_set_type` is true of
 abbrev pub enum_or_set_types : List ColumnType

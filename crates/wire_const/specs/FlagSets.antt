@@ -17,8 +17,8 @@ use Rattle.wire_const.specs.declared.flag_sets.session.SqlMode.{SqlMode}
 abbrev pub IsKnown : ℕ → ℕ → Type 0
 IsKnown known raw = bit_and raw known ≡ raw
 
--- A raw number becomes the set with just its bits exactly where each of them is known; else the error
--- holds it.
+-- A raw number becomes the set with just its bits exactly where each of them is known; else the
+-- error holds it.
 abbrev pub ConvertsBits : {F E : Type 0} → ℕ → (F → ℕ) → (E → ℕ) → ℕ → Result F E → Type 0
 ConvertsBits known bits_of raw_of raw (Ok flags) = IsKnown known raw × (bits_of flags ≡ raw)
 ConvertsBits known bits_of raw_of raw (Err unknown) = (¬ IsKnown known raw) × (raw_of unknown ≡ raw)
@@ -163,7 +163,8 @@ abbrev pub stmt_execute_params_flags_known : ℕ
 stmt_execute_params_flags_known = 0x01
 
 -- they are those of the table
-pub stmt_execute_params_flags_union : known_bits stmt_execute_params_flags ≡ stmt_execute_params_flags_known
+pub stmt_execute_params_flags_union : known_bits stmt_execute_params_flags
+    ≡ stmt_execute_params_flags_known
 unfolding known_from
 stmt_execute_params_flags_union = refl
 
@@ -182,7 +183,8 @@ abbrev pub stmt_execute_param_flags_known : ℕ
 stmt_execute_param_flags_known = 0x80
 
 -- they are those of the table
-pub stmt_execute_param_flags_union : known_bits stmt_execute_param_flags ≡ stmt_execute_param_flags_known
+pub stmt_execute_param_flags_union : known_bits stmt_execute_param_flags
+    ≡ stmt_execute_param_flags_known
 unfolding known_from
 stmt_execute_param_flags_union = refl
 
@@ -202,7 +204,8 @@ abbrev pub stmt_bulk_execute_flags_known : ℕ
 stmt_bulk_execute_flags_known = 0x00c0
 
 -- they are those of the table
-pub stmt_bulk_execute_flags_union : known_bits stmt_bulk_execute_flags ≡ stmt_bulk_execute_flags_known
+pub stmt_bulk_execute_flags_union : known_bits stmt_bulk_execute_flags
+    ≡ stmt_bulk_execute_flags_known
 unfolding known_from
 stmt_bulk_execute_flags_union = refl
 

@@ -1,6 +1,7 @@
 //! Sets of flags: one bit a flag, under the name that MySQL or MariaDB gives it.
 //!
-//! The calls on a set (`contains`, `union`, `from_bits_truncate` and the others) are those of [`Flags`].
+//! The calls on a set (`contains`, `union`, `from_bits_truncate` and the others) are those of
+//! [`Flags`].
 
 // The row of a flag: its name and its set.
 macro_rules! flag {

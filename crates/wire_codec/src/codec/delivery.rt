@@ -65,7 +65,8 @@ pub fn deliver<A: Allocator + Copy>(
         let after = codec_state codec.new src.new.items dst.new.items in
         (gained : List (List ℕ)) × (payloads out.new.items ≡ payloads out.old.items ++ gained)
         × RunsTo before (joined (take result.0 pieces.now)) result.1 gained after
-        × RunsOver before (joined pieces.now) result.1 gained after (joined (drop result.0 pieces.now)) }
+        × RunsOver before (joined pieces.now) result.1 gained after
+        (joined (drop result.0 pieces.now)) }
 
     // So many pieces were appended, and with fewer of them the run only waits.
     ensures count { result.0 ≤ length pieces.now }

@@ -113,16 +113,16 @@ impl PacketCodec {
         packet: &mut T,
         dst: &mut BytesMut<impl Allocator + Copy>,
     ) -> Result<(), PacketCodecError>
-        ensures appended { OnOk result
-            (dst.new.items ≡ dst.old.items ++ framing (expected_id self.old) (T.unread packet.old)) }
+        ensures appended { OnOk result (dst.new.items
+            ≡ dst.old.items ++ framing (expected_id self.old) (T.unread packet.old)) }
         ensures emptied { OnOk result (T.unread packet.new ≡ []) }
         ensures next { OnOk result
             (expected_id self.new ≡ next_id (expected_id self.old) (T.unread packet.old)) }
 
         ensures too_large { (result ≡ Err PacketCodecError.PacketTooLarge)
             ↔ (self.old.max_allowed_packet < length (T.unread packet.old)) }
-        ensures errors { IfErr result
-            (λ error. (error ≡ PacketCodecError.PacketTooLarge) ⊎ (error ≡ PacketCodecError.OutOfMemory)) }
+        ensures errors { IfErr result (λ error. (error ≡ PacketCodecError.PacketTooLarge)
+            ⊎ (error ≡ PacketCodecError.OutOfMemory)) }
         ensures err { OnErr result ((expected_id self.new ≡ expected_id self.old)
             × (packet.new ≡ packet.old) × (dst.new.items ≡ dst.old.items)) }
 
@@ -216,8 +216,8 @@ impl PacketCodec {
         }
     }
 
-    // Takes room in `dst` for all bytes that one call takes. Where there is none, the chunk in front
-    // is remembered.
+    // Takes room in `dst` for all bytes that one call takes. Where there is none, the chunk in
+    // front is remembered.
     fn make_room<T: PacketDst>(
         &mut self,
         src: &BytesMut<impl Allocator + Copy>,
@@ -227,11 +227,14 @@ impl PacketCodec {
         ensures memory { IfErr result (λ error. error ≡ PacketCodecError.OutOfMemory) }
         ensures refused { OnErr result (DecodesChunk
             (header_of self.old) src.now.items (T.held dst.old) self.old.max_allowed_packet
-            (Err PacketCodecError.OutOfMemory) (header_of self.new) src.now.items (T.held dst.new)) }
+            (Err PacketCodecError.OutOfMemory)
+            (header_of self.new) src.now.items (T.held dst.new)) }
         ensures decodes { let before = codec_state self.old src.now.items (T.held dst.old) in
             let after = codec_state self.new src.now.items (T.held dst.new) in
-            OnErr result (Stands before → DecodesPacket before (Err PacketCodecError.OutOfMemory) after) }
-        ensures there { OnErr result (HasChunk (codec_state self.old src.now.items (T.held dst.old))) }
+            OnErr result (Stands before
+            → DecodesPacket before (Err PacketCodecError.OutOfMemory) after) }
+        ensures there { OnErr result
+            (HasChunk (codec_state self.old src.now.items (T.held dst.old))) }
         ensures id { expected_id self.new ≡ expected_id self.old }
         ensures limit { self.new.max_allowed_packet ≡ self.old.max_allowed_packet }
         ensures held { T.held dst.new ≡ T.held dst.old }

@@ -176,7 +176,8 @@ pub struct UnknownCapabilityFlags(pub u32);
 impl TryFrom<u32> for CapabilityFlags {
     type Error = UnknownCapabilityFlags;
 
-    ghost try_from_gives = { ConvertsBits capability_flags_known capability_flags_bits (λ unknown. unknown.0) };
+    ghost try_from_gives = { ConvertsBits capability_flags_known capability_flags_bits
+        (λ unknown. unknown.0) };
 
     #[tactic(auto, using(crate::specs::FlagSets::capability_flags_union))]
     fn try_from(bits: u32) -> Result<Self, UnknownCapabilityFlags> {

@@ -111,7 +111,8 @@ pub struct UnknownColumnFlags(pub u16);
 impl TryFrom<u16> for ColumnFlags {
     type Error = UnknownColumnFlags;
 
-    ghost try_from_gives = { ConvertsBits column_flags_known column_flags_bits (λ unknown. unknown.0) };
+    ghost try_from_gives = { ConvertsBits column_flags_known column_flags_bits
+        (λ unknown. unknown.0) };
 
     #[tactic(auto, using(crate::specs::FlagSets::column_flags_union))]
     fn try_from(bits: u16) -> Result<Self, UnknownColumnFlags> {

@@ -63,7 +63,8 @@ pub struct UnknownCursorType(pub u8);
 impl TryFrom<u8> for CursorType {
     type Error = UnknownCursorType;
 
-    ghost try_from_gives = { ConvertsBits cursor_type_known cursor_type_bits (λ unknown. unknown.0) };
+    ghost try_from_gives = { ConvertsBits cursor_type_known cursor_type_bits
+        (λ unknown. unknown.0) };
 
     #[tactic(auto, using(crate::specs::FlagSets::cursor_type_union))]
     fn try_from(bits: u8) -> Result<Self, UnknownCursorType> {
@@ -125,7 +126,8 @@ pub struct UnknownStmtExecuteParamsFlags(pub u8);
 impl TryFrom<u8> for StmtExecuteParamsFlags {
     type Error = UnknownStmtExecuteParamsFlags;
 
-    ghost try_from_gives = { ConvertsBits stmt_execute_params_flags_known stmt_execute_params_flags_bits (λ unknown. unknown.0) };
+    ghost try_from_gives = { ConvertsBits stmt_execute_params_flags_known stmt_execute_params_flags_bits
+        (λ unknown. unknown.0) };
 
     #[tactic(auto, using(crate::specs::FlagSets::stmt_execute_params_flags_union))]
     fn try_from(bits: u8) -> Result<Self, UnknownStmtExecuteParamsFlags> {
@@ -187,7 +189,8 @@ pub struct UnknownStmtExecuteParamFlags(pub u8);
 impl TryFrom<u8> for StmtExecuteParamFlags {
     type Error = UnknownStmtExecuteParamFlags;
 
-    ghost try_from_gives = { ConvertsBits stmt_execute_param_flags_known stmt_execute_param_flags_bits (λ unknown. unknown.0) };
+    ghost try_from_gives = { ConvertsBits stmt_execute_param_flags_known stmt_execute_param_flags_bits
+        (λ unknown. unknown.0) };
 
     #[tactic(auto, using(crate::specs::FlagSets::stmt_execute_param_flags_union))]
     fn try_from(bits: u8) -> Result<Self, UnknownStmtExecuteParamFlags> {
@@ -252,7 +255,8 @@ pub struct UnknownStmtBulkExecuteParamsFlags(pub u16);
 impl TryFrom<u16> for StmtBulkExecuteFlags {
     type Error = UnknownStmtBulkExecuteParamsFlags;
 
-    ghost try_from_gives = { ConvertsBits stmt_bulk_execute_flags_known stmt_bulk_execute_flags_bits (λ unknown. unknown.0) };
+    ghost try_from_gives = { ConvertsBits stmt_bulk_execute_flags_known stmt_bulk_execute_flags_bits
+        (λ unknown. unknown.0) };
 
     #[tactic(auto, using(crate::specs::FlagSets::stmt_bulk_execute_flags_union))]
     fn try_from(bits: u16) -> Result<Self, UnknownStmtBulkExecuteParamsFlags> {

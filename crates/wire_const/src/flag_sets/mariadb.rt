@@ -72,7 +72,8 @@ pub struct UnknownMariadbCapabilityFlags(pub u32);
 impl TryFrom<u32> for MariadbCapabilities {
     type Error = UnknownMariadbCapabilityFlags;
 
-    ghost try_from_gives = { ConvertsBits mariadb_capabilities_known mariadb_capabilities_bits (λ unknown. unknown.0) };
+    ghost try_from_gives = { ConvertsBits mariadb_capabilities_known mariadb_capabilities_bits
+        (λ unknown. unknown.0) };
 
     #[tactic(auto, using(crate::specs::FlagSets::mariadb_capabilities_union))]
     fn try_from(bits: u32) -> Result<Self, UnknownMariadbCapabilityFlags> {

@@ -108,7 +108,8 @@ pub struct UnknownStatusFlags(pub u16);
 impl TryFrom<u16> for StatusFlags {
     type Error = UnknownStatusFlags;
 
-    ghost try_from_gives = { ConvertsBits status_flags_known status_flags_bits (λ unknown. unknown.0) };
+    ghost try_from_gives = { ConvertsBits status_flags_known status_flags_bits
+        (λ unknown. unknown.0) };
 
     #[tactic(auto, using(crate::specs::FlagSets::status_flags_union))]
     fn try_from(bits: u16) -> Result<Self, UnknownStatusFlags> {
