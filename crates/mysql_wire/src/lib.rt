@@ -26,8 +26,8 @@ pub mod misc {
         pub mod int {
             pub use wire_repr::constant::{ConstU8, ConstU32};
             pub use wire_repr::int::{
-                IntRepr, IntSize, LeI16, LeI24, LeI32, LeI56, LeI64, LeU16, LeU24, LeU32,
-                LeU32LowerHalf, LeU32UpperHalf, LeU48, LeU56, LeU64, LenEnc, RawInt, VarLen,
+                IntRepr, LeI16, LeI24, LeI32, LeI56, LeI64, LeU16, LeU24, LeU32, LeU32LowerHalf,
+                LeU32UpperHalf, LeU48, LeU56, LeU64, LenEnc, RawInt, VarLen,
             };
         }
 
@@ -36,8 +36,8 @@ pub mod misc {
             pub use wire_repr::constant::{ConstBytes, ConstBytesValue};
             pub use wire_repr::int::LenEnc;
             pub use wire_repr::text::{
-                BareBytes, BareU8Bytes, BareU16Bytes, BytesRepr, BytesSize, EofBytes,
-                FixedLengthText, NullBytes, RawBytes, U8Bytes, U32Bytes,
+                BareBytes, BareU8Bytes, BareU16Bytes, BytesRepr, EofBytes, FixedLengthText,
+                NullBytes, RawBytes, U8Bytes, U32Bytes,
             };
         }
     }

@@ -1,6 +1,6 @@
 //! Values that are written to a buffer and read from one.
 
-ghost use Rattle.std.specs.Prelude.{◌≡◌, ℕ, List, ◌++◌, take, Option, Some, None, Result, Ok, Err, OnOk, IfErr};
+ghost use Rattle.std.specs.Prelude.{◌≡◌, ℕ, List, ◌++◌, take, Option, Some, None, Result, Ok, OnOk, IfErr};
 ghost use Rattle.wire_buf.specs.declared.error.WireError.{WireError};
 ghost use Rattle.wire_buf.specs.declared.error.WireError.TheVariants.{OutOfMemory};
 ghost use Rattle.wire_buf.specs.Reading.{HasBytes, Reads, Answers, Through, front_at};

@@ -1,6 +1,6 @@
 //! Bytes that are always the same, or that say nothing.
 
-ghost use Rattle.std.specs.Prelude.{ℕ, List, ◌<◌, ◌^◌, ◌≡◌, ◌∷◌, [], ◌++◌, length, replicate, Some, refl};
+ghost use Rattle.std.specs.Prelude.{ℕ, List, ◌<◌, ◌^◌, ◌≡◌, ◌∷◌, [], ◌++◌, length, replicate, refl};
 ghost use Rattle.wire_buf.specs.Numbers.{le_bytes};
 ghost use Rattle.wire_buf.specs.NumberLemmas.{length-le_bytes};
 ghost use Rattle.wire_repr.specs.Constants.{ReadsConst, ReadsAny, ReadsConst-back, ReadsAny-back, array-back, length-zeros};

@@ -1,6 +1,6 @@
 //! Numbers.
 
-ghost use Rattle.std.specs.Prelude.{◌≡◌, ℕ, List, ◌++◌, length, Option, Some, Result, Ok, OnOk, IfErr};
+ghost use Rattle.std.specs.Prelude.{◌≡◌, ℕ, List, ◌++◌, length, Some, Result, Ok, OnOk, IfErr};
 ghost use Rattle.wire_buf.specs.declared.error.WireError.{WireError};
 ghost use Rattle.wire_buf.specs.declared.error.WireError.TheVariants.{OutOfMemory};
 ghost use Rattle.wire_buf.specs.Reading.{HasBytes, Reads, Answers, Through};
@@ -29,13 +29,14 @@ use wire_buf::proto::{HasSize, MyDeserialize, MySerialize, ReadSize};
 /// How a number is written. One that a user writes has what those of this crate have, `RawInt` and
 /// its law.
 pub trait IntRepr {
-    /// How many bytes it has, where that is always the same.
-    const SIZE: Option<usize>;
+    /// How many bytes it has, where that is always the same: `Fixed` or `Varying`.
+    type Size: ReadSize;
+
+    /// The same as a number. It follows from `Size`, so an `impl` leaves it out.
+    const SIZE: Option<usize> = <Self::Size as ReadSize>::SIZE;
 
     /// The number's type.
     type Primitive: Debug + Default + Copy + Eq + Ord + Hash;
-
-    ghost SIZE: { Option ℕ };
 
     /// It is a value of its type.
     ghost is_value: { Self.Primitive → Type 0 };
@@ -57,7 +58,7 @@ pub trait IntRepr {
 
     /// Reads a number from the front of a buffer, which has the bytes that the size asks for.
     fn deserialize(buf: &mut ParseBuf<'_>) -> Result<Self::Primitive, WireError>
-        requires { HasBytes SIZE buf.old.0.now }
+        requires { HasBytes Self.Size.SIZE buf.old.0.now }
         ensures { Reads reads buf.old.0.now result buf.new.0.now };
 
     /// Does nothing, and tells a proof that the number is a value of its type.
@@ -69,7 +70,7 @@ pub trait IntRepr {
         → reads (bytes val ++ rest) answer eaten
         → Answers (Ok (kept val), length (bytes val)) answer eaten };
 
-    ghost of_size: { (val : Self.Primitive) (size : ℕ) → SIZE ≡ Some size
+    ghost of_size: { (val : Self.Primitive) (size : ℕ) → Self.Size.SIZE ≡ Some size
         → length (bytes val) ≡ size };
 }
 
@@ -93,18 +94,8 @@ impl<T: IntRepr> MySerialize for RawInt<T> {
     }
 }
 
-/// The size of a number's representation.
-#[derive(Debug)]
-pub struct IntSize<T>(PhantomData<T>);
-
-impl<T: IntRepr> ReadSize for IntSize<T> {
-    const SIZE: Option<usize> = T::SIZE;
-
-    ghost SIZE = { T.IntRepr.SIZE };
-}
-
 impl<T: IntRepr> HasSize for RawInt<T> {
-    type Size = IntSize<T>;
+    type Size = T::Size;
 }
 
 impl<'de, A: Allocator + Copy, T: IntRepr> MyDeserialize<'de, A> for RawInt<T> {

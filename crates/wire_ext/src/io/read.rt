@@ -1,6 +1,6 @@
 //! Numbers and texts over a reader.
 
-ghost use Rattle.std.specs.Prelude.{◌≡◌, ◌+◌, ◌<◌, ◌≤◌, ◌^◌, ℕ, List, ◌++◌, length, drop, OnOk, IfOk, IfErr, vec_len};
+ghost use Rattle.std.specs.Prelude.{◌≡◌, ◌+◌, ◌<◌, ◌^◌, ◌++◌, length, drop, OnOk, IfOk, IfErr, vec_len};
 ghost use Rattle.std.specs.Io.KnownBytes.{Consumes};
 ghost use Rattle.wire_buf.specs.Lenenc.{IsLenenc};
 ghost use Rattle.wire_ext.specs.Streams.{ConsumesSpelling, ConsumesText, IsIoOrMemory, RefusesLenenc, RefusesText};

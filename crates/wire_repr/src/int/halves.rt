@@ -2,7 +2,7 @@
 //!
 //! <https://dev.mysql.com/doc/dev/mysql-server/latest/page_protocol_connection_phase_packets_protocol_handshake_v10.html>
 
-ghost use Rattle.std.specs.Prelude.{◌<◌, ◌^◌, ◌%◌, ◌/◌, ◌-◌, ◌*◌, length, Some};
+ghost use Rattle.std.specs.Prelude.{◌<◌, ◌^◌, ◌%◌, ◌/◌, ◌-◌, ◌*◌, length};
 ghost use Rattle.wire_buf.specs.Numbers.{le_number, le_bytes};
 ghost use Rattle.wire_buf.specs.NumberLemmas.{length-le_bytes};
 ghost use Rattle.wire_repr.specs.Law.{ReadsFixed, size-is};
@@ -12,17 +12,16 @@ use super::IntRepr;
 use std::alloc::Allocator;
 use wire_buf::error::WireError;
 use wire_buf::io::ParseBuf;
+use wire_buf::proto::Fixed;
 
 /// The low 16 bits of a number, in two bytes.
 #[derive(Clone, Copy, Debug, PartialEq, Eq, PartialOrd, Ord, Hash, Default)]
 pub struct LeU32LowerHalf;
 
 impl IntRepr for LeU32LowerHalf {
-    const SIZE: Option<usize> = Some(2);
+    type Size = Fixed<2>;
 
     type Primitive = u32;
-
-    ghost SIZE = { Some 2 };
 
     ghost is_value = { λ val. val < 2 ^ 32 };
 
@@ -55,11 +54,9 @@ impl IntRepr for LeU32LowerHalf {
 pub struct LeU32UpperHalf;
 
 impl IntRepr for LeU32UpperHalf {
-    const SIZE: Option<usize> = Some(2);
+    type Size = Fixed<2>;
 
     type Primitive = u32;
-
-    ghost SIZE = { Some 2 };
 
     ghost is_value = { λ val. val < 2 ^ 32 };
 

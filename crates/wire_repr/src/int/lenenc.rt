@@ -1,6 +1,6 @@
 //! Length-encoded integers.
 
-ghost use Rattle.std.specs.Prelude.{◌≡◌, ◌<◌, ◌^◌, ◌++◌, None, OnOk, IfErr};
+ghost use Rattle.std.specs.Prelude.{◌≡◌, ◌<◌, ◌^◌, ◌++◌, OnOk, IfErr};
 ghost use Rattle.wire_buf.specs.declared.error.WireError.TheVariants.{OutOfMemory};
 ghost use Rattle.wire_buf.specs.Spelling.{IsShortest};
 ghost use Rattle.wire_buf.specs.Lenenc.{IsLenencOrMark, lenenc_bytes};
@@ -11,6 +11,7 @@ use super::IntRepr;
 use std::alloc::Allocator;
 use wire_buf::error::WireError;
 use wire_buf::io::ParseBuf;
+use wire_buf::proto::Varying;
 use wire_ext::io::BufMutExt;
 
 /// An `int<lenenc>`: 1, 3, 4 or 9 bytes, as few as hold the number, and for texts this as their
@@ -32,11 +33,9 @@ pub(crate) fn eat_lenenc(buf: &mut ParseBuf<'_>) -> Result<u64, WireError>
 }
 
 impl IntRepr for LenEnc {
-    const SIZE: Option<usize> = None;
+    type Size = Varying;
 
     type Primitive = u64;
-
-    ghost SIZE = { None };
 
     ghost is_value = { λ val. val < 2 ^ 64 };
 

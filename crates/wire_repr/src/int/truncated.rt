@@ -2,7 +2,7 @@
 //!
 //! <https://dev.mysql.com/doc/dev/mysql-server/latest/page_protocol_basic_dt_integers.html>
 
-ghost use Rattle.std.specs.Prelude.{◌<◌, ◌^◌, ◌%◌, length, Some};
+ghost use Rattle.std.specs.Prelude.{◌<◌, ◌^◌, ◌%◌, length};
 ghost use Rattle.std.specs.Int.{cast_unsigned, w32, w64};
 ghost use Rattle.std.specs.Int.RustNames.{FitsSigned};
 ghost use Rattle.wire_buf.specs.Numbers.{le_number, le_bytes, signed_number, signed_le_number};
@@ -14,6 +14,7 @@ use super::IntRepr;
 use std::alloc::Allocator;
 use wire_buf::error::WireError;
 use wire_buf::io::ParseBuf;
+use wire_buf::proto::Fixed;
 use wire_ext::io::BufMutExt;
 
 /// An `int<3>`: the low three bytes of a number.
@@ -21,11 +22,9 @@ use wire_ext::io::BufMutExt;
 pub struct LeU24;
 
 impl IntRepr for LeU24 {
-    const SIZE: Option<usize> = Some(3);
+    type Size = Fixed<3>;
 
     type Primitive = u32;
-
-    ghost SIZE = { Some 3 };
 
     ghost is_value = { λ val. val < 2 ^ 32 };
 
@@ -56,11 +55,9 @@ impl IntRepr for LeU24 {
 pub struct LeU48;
 
 impl IntRepr for LeU48 {
-    const SIZE: Option<usize> = Some(6);
+    type Size = Fixed<6>;
 
     type Primitive = u64;
-
-    ghost SIZE = { Some 6 };
 
     ghost is_value = { λ val. val < 2 ^ 64 };
 
@@ -91,11 +88,9 @@ impl IntRepr for LeU48 {
 pub struct LeU56;
 
 impl IntRepr for LeU56 {
-    const SIZE: Option<usize> = Some(7);
+    type Size = Fixed<7>;
 
     type Primitive = u64;
-
-    ghost SIZE = { Some 7 };
 
     ghost is_value = { λ val. val < 2 ^ 64 };
 
@@ -126,11 +121,9 @@ impl IntRepr for LeU56 {
 pub struct LeI24;
 
 impl IntRepr for LeI24 {
-    const SIZE: Option<usize> = Some(3);
+    type Size = Fixed<3>;
 
     type Primitive = i32;
-
-    ghost SIZE = { Some 3 };
 
     ghost is_value = { λ val. FitsSigned w32 val };
 
@@ -162,11 +155,9 @@ impl IntRepr for LeI24 {
 pub struct LeI56;
 
 impl IntRepr for LeI56 {
-    const SIZE: Option<usize> = Some(7);
+    type Size = Fixed<7>;
 
     type Primitive = i64;
-
-    ghost SIZE = { Some 7 };
 
     ghost is_value = { λ val. FitsSigned w64 val };
 

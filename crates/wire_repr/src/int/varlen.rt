@@ -1,6 +1,6 @@
 //! Numbers in groups of seven bits: base-128 varints.
 
-ghost use Rattle.std.specs.Prelude.{◌≡◌, ◌<◌, ◌≤◌, ◌^◌, ◌++◌, ◌∷◌, ◌+◌, ◌%◌, ◌/◌, [], None, OnOk, IfErr};
+ghost use Rattle.std.specs.Prelude.{◌≡◌, ◌<◌, ◌^◌, ◌++◌, ◌+◌, ◌%◌, OnOk, IfErr};
 ghost use Rattle.wire_buf.specs.declared.error.WireError.TheVariants.{OutOfMemory};
 ghost use Rattle.wire_buf.specs.Spelling.{IsShortest};
 ghost use Rattle.wire_repr.specs.Groups.{IsGroups, ReadsGroups, groups_bytes};
@@ -11,6 +11,7 @@ use super::IntRepr;
 use std::alloc::Allocator;
 use wire_buf::error::{InvalidReason, WireError};
 use wire_buf::io::ParseBuf;
+use wire_buf::proto::Varying;
 
 /// A number in one to five groups of seven bits (a base-128 varint), the least significant first,
 /// each but the last with the high bit; as few are written as hold the number. For texts this as
@@ -80,11 +81,9 @@ pub(crate) fn put_groups<A: Allocator>(number: u32, buf: &mut Vec<u8, A>) -> Res
 }
 
 impl IntRepr for VarLen {
-    const SIZE: Option<usize> = None;
+    type Size = Varying;
 
     type Primitive = u32;
-
-    ghost SIZE = { None };
 
     ghost is_value = { λ val. val < 2 ^ 32 };
 

@@ -1,6 +1,6 @@
 //! Texts that a zero ends.
 
-ghost use Rattle.std.specs.Prelude.{◌≡◌, ◌++◌, ◌∷◌, [], None, MatchOption};
+ghost use Rattle.std.specs.Prelude.{◌≡◌, ◌++◌, ◌∷◌, [], MatchOption};
 ghost use Rattle.std.specs.List.{before_first};
 ghost use Rattle.wire_buf.specs.NullText.{is_zero};
 ghost use Rattle.wire_repr.specs.NullTexts.{HasNoZero, ReadsNull};
@@ -13,6 +13,7 @@ use std::alloc::Allocator;
 use std::borrow::CowSlice;
 use wire_buf::error::{InvalidReason, WireError};
 use wire_buf::io::ParseBuf;
+use wire_buf::proto::Varying;
 
 /// A `string<NUL>`: the text and a zero. Of a text that holds a zero what stands before it is
 /// written. `NoNullTerminator` has eaten nothing.
@@ -50,13 +51,11 @@ fn eat_null<'a>(buf: &mut ParseBuf<'a>) -> Option<&'a [u8]>
 impl BytesRepr for NullBytes {
     const MAX_LEN: usize = usize::MAX;
 
-    const SIZE: Option<usize> = None;
+    type Size = Varying;
 
     type Ctx = ();
 
     ghost MAX_LEN = { 0xffff_ffff_ffff_ffff };
-
-    ghost SIZE = { None };
 
     ghost bytes = { λ text. before_first is_zero text ++ 0 ∷ [] };
 

@@ -2,7 +2,7 @@
 //!
 //! <https://dev.mysql.com/doc/dev/mysql-server/latest/page_protocol_basic_dt_strings.html>
 
-ghost use Rattle.std.specs.Prelude.{◌++◌, length, take, None};
+ghost use Rattle.std.specs.Prelude.{◌++◌, length, take};
 ghost use Rattle.wire_buf.specs.Lenenc.{IsLenencOrMark, lenenc_bytes};
 ghost use Rattle.wire_buf.specs.Numbers.{le_bytes};
 ghost use Rattle.wire_buf.specs.Reading.{Reads};
@@ -19,6 +19,7 @@ use std::alloc::Allocator;
 use std::borrow::CowSlice;
 use wire_buf::error::WireError;
 use wire_buf::io::ParseBuf;
+use wire_buf::proto::Varying;
 use wire_ext::io::BufMutExt;
 use wire_ext::text::{first_bytes, longest_u32_str};
 
@@ -26,13 +27,11 @@ use wire_ext::text::{first_bytes, longest_u32_str};
 impl BytesRepr for LenEnc {
     const MAX_LEN: usize = usize::MAX;
 
-    const SIZE: Option<usize> = None;
+    type Size = Varying;
 
     type Ctx = ();
 
     ghost MAX_LEN = { 0xffff_ffff_ffff_ffff };
-
-    ghost SIZE = { None };
 
     ghost bytes = { λ text. lenenc_bytes (length text) ++ text };
 
@@ -79,13 +78,11 @@ fn eat_u8_len(buf: &mut ParseBuf<'_>) -> Result<usize, WireError>
 impl BytesRepr for U8Bytes {
     const MAX_LEN: usize = 255;
 
-    const SIZE: Option<usize> = None;
+    type Size = Varying;
 
     type Ctx = ();
 
     ghost MAX_LEN = { 255 };
-
-    ghost SIZE = { None };
 
     ghost bytes = { λ text. le_bytes 1 (length (take u8_max text)) ++ take u8_max text };
 
@@ -132,13 +129,11 @@ fn eat_u32_len(buf: &mut ParseBuf<'_>) -> Result<usize, WireError>
 impl BytesRepr for U32Bytes {
     const MAX_LEN: usize = 4294967295;
 
-    const SIZE: Option<usize> = None;
+    type Size = Varying;
 
     type Ctx = ();
 
     ghost MAX_LEN = { 4294967295 };
-
-    ghost SIZE = { None };
 
     ghost bytes = { λ text. le_bytes 4 (length (take u32_max text)) ++ take u32_max text };
 
@@ -172,13 +167,11 @@ impl BytesRepr for U32Bytes {
 impl BytesRepr for VarLen {
     const MAX_LEN: usize = 4294967295;
 
-    const SIZE: Option<usize> = None;
+    type Size = Varying;
 
     type Ctx = ();
 
     ghost MAX_LEN = { 4294967295 };
-
-    ghost SIZE = { None };
 
     ghost bytes = { λ text. groups_bytes (length (take u32_max text)) ++ take u32_max text };
 

@@ -2,7 +2,7 @@
 //!
 //! <https://dev.mysql.com/doc/dev/mysql-server/latest/page_protocol_basic_dt_strings.html>
 
-ghost use Rattle.std.specs.Prelude.{◌≡◌, ◌≤◌, ◌<◌, length, min, take, drop, Some, None, [], Ok, IfOk, IfErr};
+ghost use Rattle.std.specs.Prelude.{◌≡◌, ◌≤◌, ◌<◌, length, min, take, drop, [], Ok, IfOk, IfErr};
 ghost use Rattle.wire_buf.specs.Reading.{Answers, front_at};
 ghost use Rattle.wire_repr.specs.BareTexts.{padded, all-back, front-back, padded-back, length-padded};
 ghost use Rattle.wire_buf.specs.declared.error.WireError.TheVariants.{UnexpectedEof};
@@ -15,6 +15,7 @@ use std::alloc::Allocator;
 use std::borrow::CowSlice;
 use wire_buf::error::WireError;
 use wire_buf::io::ParseBuf;
+use wire_buf::proto::{Fixed, Varying};
 use wire_ext::text::first_bytes;
 
 /// Eats this many bytes, borrowed.
@@ -41,13 +42,11 @@ pub struct EofBytes;
 impl BytesRepr for EofBytes {
     const MAX_LEN: usize = usize::MAX;
 
-    const SIZE: Option<usize> = None;
+    type Size = Varying;
 
     type Ctx = ();
 
     ghost MAX_LEN = { 0xffff_ffff_ffff_ffff };
-
-    ghost SIZE = { None };
 
     ghost bytes = { λ text. text };
 
@@ -88,13 +87,11 @@ pub type BareU16Bytes = BareBytes<65535>;
 impl<const N: usize> BytesRepr for BareBytes<N> {
     const MAX_LEN: usize = N;
 
-    const SIZE: Option<usize> = None;
+    type Size = Varying;
 
     type Ctx = usize;
 
     ghost MAX_LEN = { N };
-
-    ghost SIZE = { None };
 
     ghost bytes = { λ text. take N text };
 
@@ -128,13 +125,11 @@ pub struct FixedLengthText<const N: usize>;
 impl<const N: usize> BytesRepr for FixedLengthText<N> {
     const MAX_LEN: usize = N;
 
-    const SIZE: Option<usize> = Some(N);
+    type Size = Fixed<N>;
 
     type Ctx = ();
 
     ghost MAX_LEN = { N };
-
-    ghost SIZE = { Some N };
 
     ghost bytes = { padded N };
 
