@@ -1,1 +1,2 @@
+pub mod CallerLemmas
 pub mod ConnectionLemmas

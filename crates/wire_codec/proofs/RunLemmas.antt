@@ -10,7 +10,7 @@ use Rattle.wire_codec.specs.Framing.{max_payload, framing, front, next_id, strea
 use Rattle.wire_codec.specs.Delivery.{chunk_len, id_at, IsWholeChunks, Continues, Splits, Ending, Waiting, TooLarge, OutOfSync, Delivers}
 use Rattle.wire_codec.specs.Codec.{Stands, StandsAt, CodecState, open_id, first_id, input_of, DecodesFrom}
 use Rattle.wire_codec.specs.Runs.{RunsFrom, RunsTo, LeavesFrom, joined}
-use Rattle.wire_codec.specs.Laws.{empty_state}
+use Rattle.wire_codec.specs.Laws.{appended, empty_state}
 use Rattle.wire_codec.proofs.DeliveryLemmas.{stream-append, id_after-append, within_append, splits_join, delivers_join}
 use Rattle.wire_codec.proofs.CodecLemmas.{open_at_id, open_small}
 
@@ -178,6 +178,17 @@ pub stream_rest : (input : List ℕ) (pieces : List (Bor (List ℕ))) (i : ℕ) 
 stream_rest input pieces i =
     append_assoc input (joined (take i pieces)) (joined (drop i pieces))
     ∙ ap (λ (z : List ℕ). input ++ z) (sym (joined-append (take i pieces) (drop i pieces)) ∙ ap (λ (z : List (Bor (List ℕ))). joined z) (take-append-drop i pieces))
+
+-- bytes appended to what is to be read
+pub appended_run_is : (before after : CodecState) (more : List ℕ) (answer : Result (Unit {0}) PacketCodecError) (gained : List (List ℕ))
+    → (Stands before → Stands (appended before more)) × (RunsTo (appended before more) [] answer gained after → RunsTo before more answer gained after)
+appended_run_is before after more answer gained =
+    let first : ℕ = first_id before in
+    let chunks : List ℕ = front first before.held in (
+      λ stands. stands_append before.limit before.header before.unread more before.held stands,
+      λ run. subst (λ (z : List ℕ). RunsFrom first z before.held before.limit answer gained after.id after.header after.unread after.held)
+          (append-nil (chunks ++ (before.unread ++ more)) ∙ sym (append_assoc chunks before.unread more)) run,
+    )
 
 -- between two packets
 pub between_packets_is : (state : CodecState) → state.id < 256 → state.header ≡ None → state.held ≡ []

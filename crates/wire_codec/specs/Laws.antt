@@ -82,6 +82,25 @@ abbrev pub empty_state : ℕ → ℕ → CodecState
 empty_state id limit =
     record { limit = limit; id = id; header = None; unread = []; held = [] }
 
+-- a state with bytes appended to what is to be read
+abbrev pub appended : CodecState → List ℕ → CodecState
+appended state more = record {
+  limit = state.limit;
+  id = state.id;
+  header = state.header;
+  unread = state.unread ++ more;
+  held = state.held;
+}
+
+-- bytes appended to what is to be read leave a codec standing, and a run over nothing more is then
+-- one over them
+abbrev pub AppendedRun : Type 0
+AppendedRun =
+    (before after : CodecState) (more : List ℕ) (answer : Result (Unit {0}) PacketCodecError)
+    (gained : List (List ℕ))
+    → (Stands before → Stands (appended before more))
+    × (RunsTo (appended before more) [] answer gained after → RunsTo before more answer gained after)
+
 -- between two packets, where no header is remembered and nothing is held, a codec stands, the next
 -- packet begins with the id that it expects, and the input is what is to be read
 abbrev pub BetweenPackets : Type 0

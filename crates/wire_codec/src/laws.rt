@@ -1,7 +1,7 @@
 //! Laws over the definitions that the contracts cite. Each function takes and answers nothing: its
 //! contract is the law, and a caller has it by calling.
 
-ghost use Rattle.wire_codec.specs.Laws.{BetweenPackets, ChunksCounted, EncodedFirst, FramedLength, IdAfterAppend, JoinedRuns, NothingRead, OneDelivery, RunGoesOn, StreamAppend, UniqueFraming};
+ghost use Rattle.wire_codec.specs.Laws.{AppendedRun, BetweenPackets, ChunksCounted, EncodedFirst, FramedLength, IdAfterAppend, JoinedRuns, NothingRead, OneDelivery, RunGoesOn, StreamAppend, UniqueFraming};
 
 /// A stream delivers one list of payloads, one unfinished payload, one rest and one ending.
 pub fn one_delivery()
@@ -17,6 +17,11 @@ pub fn joined_runs()
 /// on from it are one run.
 pub fn run_goes_on()
     ensures { RunGoesOn }
+{}
+
+/// The same where the bytes are read straight into what is unread, and no pieces are given.
+pub fn appended_run()
+    ensures { AppendedRun }
 {}
 
 /// A framing with anything behind it is the framing of one payload alone.

@@ -1,0 +1,24 @@
+-- Runs from a new codec.
+use Rattle.std.proofs.Common.{◌≡◌, ℕ, List, [], ◌∷◌, ◌++◌, length, refl, arith, subst, Option, Some, None, IfSome, Ok, append-nil, ap, sym, ◌∙◌}
+use Rattle.std.specs.Io.KnownBytes.{Consumes, IsAtEnd}
+use Rattle.mysql_wire.specs.Framing.{max_payload}
+use Rattle.mysql_wire.specs.Delivery.{Delivers, Waiting}
+use Rattle.mysql_wire.specs.Codec.{CodecState}
+use Rattle.mysql_wire.specs.Laws.{empty_state}
+use Rattle.mysql_wire.specs.Runs.{RunsTo}
+
+pub nil_of_length : (xs : List ℕ) → length xs ≡ 0 → xs ≡ []
+nil_of_length [] none = refl
+nil_of_length (x ∷ xs) none = absurd (omega arith)
+
+-- what a run over all that a reader had has handed out
+pub delivers_all : (limit : ℕ) (unread left : Option (List ℕ)) (read : List ℕ) (gained : List (List ℕ)) (after : CodecState)
+    → Consumes unread left read → IsAtEnd left → RunsTo (empty_state 0 limit) read (Ok tt) gained after
+    → IfSome unread (λ input. (unfinished : List ℕ) × (rest : List ℕ) × Delivers [] input 0 limit gained Waiting unfinished rest)
+unfolding max_payload
+delivers_all limit None left read gained after consumed ended run = tt
+delivers_all limit (Some input) None read gained after consumed ended run = absurd consumed
+delivers_all limit (Some input) (Some rest) read gained after consumed ended run =
+    let all : read ≡ input = sym (consumed ∙ ap (λ (z : List ℕ). read ++ z) ended ∙ append-nil read) in
+    subst (λ (z : List ℕ). (unfinished : List ℕ) × (more : List ℕ) × Delivers [] z 0 limit gained Waiting unfinished more) all
+    (after.held, after.unread, run.0)
