@@ -1,33 +1,27 @@
-//! Made-up streams: well formed, cut short and damaged, each from a seed.
+//! Generated streams: well formed, cut short and damaged, each from a seed.
 
-use crate::plain::{between, low_byte, put_framing};
+use crate::reference::{between, low_byte, put_framing};
+use rand_core::{Rng, SeedableRng};
+use rand_xoshiro::Xoshiro256PlusPlus;
 use std::alloc::{AllocError, Global};
 
-/// Numbers that follow each other without order, the same ones from each seed.
+/// Numbers without order, the same ones from each seed.
 #[derive(Drop)]
-pub struct Dice {
-    state: u64,
+pub struct Draws {
+    rng: Xoshiro256PlusPlus,
 }
 
-impl Dice {
-    pub fn new(seed: u64) -> Dice {
-        Dice {
-            state: seed.wrapping_mul(0x9e37_79b9_7f4a_7c15) | 1,
+impl Draws {
+    pub fn new(seed: u64) -> Draws {
+        Draws {
+            rng: Xoshiro256PlusPlus::seed_from_u64(seed),
         }
     }
 
     /// A number below `n`, or 0 where there is none.
     pub fn below(&mut self, n: usize) -> usize {
-        let mut state = self.state;
-        state ^= state << 13;
-        state ^= state >> 7;
-        state ^= state << 17;
-        self.state = state;
-        if n == 0 {
-            0
-        } else {
-            (state >> 20) as usize % n
-        }
+        let word = self.rng.next_u64() as usize;
+        if n == 0 { 0 } else { word % n }
     }
 
     /// One of these.
@@ -47,17 +41,21 @@ pub struct Stream {
 
 impl Stream {
     /// A few small packets, their ids beginning with this one.
-    pub fn well_formed(alloc: Global, dice: &mut Dice, first_id: u8) -> Result<Stream, AllocError> {
+    pub fn well_formed(
+        alloc: Global,
+        draws: &mut Draws,
+        first_id: u8,
+    ) -> Result<Stream, AllocError> {
         let mut stream = Stream {
             bytes: Vec::new(alloc),
             headers: Vec::new(alloc),
             lens: Vec::new(alloc),
         };
         let mut id = first_id;
-        for _ in 0..dice.below(6) {
+        for _ in 0..draws.below(6) {
             let mut payload = Vec::new(alloc);
-            for _ in 0..dice.below(7) {
-                payload.push(low_byte(dice.below(4)))?;
+            for _ in 0..draws.below(7) {
+                payload.push(low_byte(draws.below(4)))?;
             }
             stream.headers.push(stream.bytes.len())?;
             stream.lens.push(payload.len())?;
@@ -74,32 +72,32 @@ impl Stream {
     }
 
     /// Damages it in one of five ways, of which the first is none.
-    pub fn damage(&mut self, dice: &mut Dice) {
-        let header = dice.one_of(self.headers.as_slice());
-        match dice.below(5) {
+    pub fn damage(&mut self, draws: &mut Draws) {
+        let header = draws.one_of(self.headers.as_slice());
+        match draws.below(5) {
             0 => {}
             // Cut short.
-            1 => self.bytes.truncate(dice.below(self.bytes.len())),
+            1 => self.bytes.truncate(draws.below(self.bytes.len())),
             // Another id.
-            2 => self.set(header.saturating_add(3), low_byte(dice.below(256))),
+            2 => self.set(header.saturating_add(3), low_byte(draws.below(256))),
             // Another length.
             3 => {
-                let byte = dice.below(3);
-                let len = dice.below(9);
+                let byte = draws.below(3);
+                let len = draws.below(9);
                 self.set(header.saturating_add(byte), low_byte(len));
             }
             // Another byte somewhere.
             _ => {
-                let at = dice.below(self.bytes.len());
-                self.set(at, low_byte(dice.below(256)));
+                let at = draws.below(self.bytes.len());
+                self.set(at, low_byte(draws.below(256)));
             }
         }
     }
 
     /// A limit near one of the packets, or none.
-    pub fn limit(&self, dice: &mut Dice) -> usize {
-        let len = dice.one_of(self.lens.as_slice());
-        dice.one_of(&[
+    pub fn limit(&self, draws: &mut Draws) -> usize {
+        let len = draws.one_of(self.lens.as_slice());
+        draws.one_of(&[
             usize::MAX,
             len.saturating_sub(1),
             len,
@@ -111,13 +109,13 @@ impl Stream {
 /// The stream in pieces of a few bytes, empty ones among them.
 pub fn pieces_of<'a>(
     alloc: Global,
-    dice: &mut Dice,
+    draws: &mut Draws,
     stream: &'a [u8],
 ) -> Result<Vec<&'a [u8]>, AllocError> {
     let mut pieces = Vec::new(alloc);
     let mut at = 0usize;
     for _ in 0..stream.len() {
-        let end = at.saturating_add(dice.below(5));
+        let end = at.saturating_add(draws.below(5));
         pieces.push(between(stream, at, end))?;
         at = end;
     }

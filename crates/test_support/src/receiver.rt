@@ -1,34 +1,39 @@
-//! A codec with its buffers, to which a stream is given in pieces.
+//! A codec to which a stream is given in pieces.
 
 use crate::told::Told;
 use bytes::BytesMut;
 use mysql_wire::proto::codec::{PacketCodec, deliver};
-use std::alloc::{Allocator, Global};
+use std::alloc::Allocator;
 
 /// A codec with its buffers, and what it delivered.
 #[derive(Drop)]
-pub struct Line<A: Allocator = Global> {
+pub struct Receiver<A: Allocator> {
     pub codec: PacketCodec,
     pub src: BytesMut<A>,
     pub dst: Vec<u8, A>,
     pub out: Vec<Vec<u8, A>, A>,
+    pub alloc: A,
 }
 
-impl<A: Allocator + Copy> Line<A> {
+/// How many pieces were appended, and what was answered.
+pub type Run = (usize, Told);
+
+impl<A: Allocator + Copy> Receiver<A> {
     pub fn new(alloc: A, limit: usize) -> Self {
         let mut codec = PacketCodec::default();
         codec.max_allowed_packet = limit;
-        Line {
+        Receiver {
             codec,
             src: BytesMut::new(alloc),
             dst: Vec::new(alloc),
             out: Vec::new(alloc),
+            alloc,
         }
     }
 
     /// The codec's next id becomes this one.
-    pub fn raise_to(&mut self, alloc: A, id: u8) {
-        let mut other = BytesMut::new(alloc);
+    pub fn raise_to(&mut self, id: u8) {
+        let mut other = BytesMut::new(self.alloc);
         for _ in 0..id {
             let mut packet = b"".as_slice();
             let _ = self.codec.encode(&mut packet, &mut other);
@@ -36,8 +41,8 @@ impl<A: Allocator + Copy> Line<A> {
     }
 
     /// The id that the codec gives the next chunk. It is raised by this.
-    pub fn next_id(&mut self, alloc: A) -> Option<u8> {
-        let mut other = BytesMut::new(alloc);
+    pub fn next_id(&mut self) -> Option<u8> {
+        let mut other = BytesMut::new(self.alloc);
         let mut packet = b"".as_slice();
         match self.codec.encode(&mut packet, &mut other) {
             Ok(()) => other.as_slice().last().copied(),
@@ -49,9 +54,8 @@ impl<A: Allocator + Copy> Line<A> {
         self.codec.stands_at(&self.src, self.dst.as_slice())
     }
 
-    /// How many pieces were appended, and what was answered. Where the codec doesn't stand, nothing
-    /// is called.
-    pub fn deliver(&mut self, pieces: &[&[u8]]) -> Option<(usize, Told)> {
+    /// One run over these pieces. Where the codec doesn't stand, nothing is called.
+    pub fn deliver(&mut self, pieces: &[&[u8]]) -> Option<Run> {
         if !self.codec.stands_at(&self.src, self.dst.as_slice()) {
             return None;
         }
@@ -66,7 +70,7 @@ impl<A: Allocator + Copy> Line<A> {
     }
 
     /// The same in two runs, the first over so many pieces.
-    pub fn deliver_in_two(&mut self, pieces: &[&[u8]], first: usize) -> Option<(usize, Told)> {
+    pub fn deliver_in_two(&mut self, pieces: &[&[u8]], first: usize) -> Option<Run> {
         let (front, back) = pieces.split_at(first.min(pieces.len()));
         let (count, told) = self.deliver(front)?;
         if told != Told::Waits {
@@ -77,7 +81,7 @@ impl<A: Allocator + Copy> Line<A> {
     }
 
     /// As `deliver`; where it stops at the limit, it goes on without one.
-    pub fn deliver_raised(&mut self, pieces: &[&[u8]]) -> Option<(usize, Told)> {
+    pub fn deliver_raised(&mut self, pieces: &[&[u8]]) -> Option<Run> {
         let (count, told) = self.deliver(pieces)?;
         self.codec.max_allowed_packet = usize::MAX;
         if told != Told::TooLarge {

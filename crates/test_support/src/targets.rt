@@ -17,6 +17,9 @@ pub trait Target<A: Allocator>: PacketDst + Drop {
     fn growth(&self) -> Option<(u64, usize)> {
         None
     }
+
+    /// The put of this number, counted from 0 at this call, is refused, where the target can.
+    fn refuse_put(&mut self, _: u64) {}
 }
 
 impl<A: Allocator> Target<A> for Vec<u8, A> {
@@ -78,6 +81,10 @@ impl<A: Allocator> Target<A> for Counting<A> {
 
     fn growth(&self) -> Option<(u64, usize)> {
         Some((self.asked, self.room))
+    }
+
+    fn refuse_put(&mut self, nth: u64) {
+        self.puts_left = nth;
     }
 }
 

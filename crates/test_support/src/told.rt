@@ -2,7 +2,6 @@
 
 use mysql_wire::proto::codec::ChunkInfo;
 use mysql_wire::proto::codec::error::PacketCodecError;
-use std::test::Fail;
 
 /// What a call of a codec or of a chunk decoder answered.
 #[derive(Clone, Copy, PartialEq, Eq)]
@@ -62,37 +61,6 @@ impl Told {
             Ok(Some(ChunkInfo::Middle(id))) => Told::Middle(id),
             Ok(Some(ChunkInfo::Last(id))) => Told::Last(id),
             Err(error) => Told::of_error(&error),
-        }
-    }
-}
-
-/// Fails the test with these words where the fact doesn't hold.
-pub fn ensure(holds: bool, words: &str) -> Result<(), Fail> {
-    if holds { Ok(()) } else { Err(Fail::new(words)) }
-}
-
-/// Facts that a test looks at one after another: it fails with the words of the first that doesn't
-/// hold.
-#[derive(Drop)]
-pub struct Facts {
-    failed: Option<&'static str>,
-}
-
-impl Facts {
-    pub fn new() -> Facts {
-        Facts { failed: None }
-    }
-
-    pub fn see(&mut self, holds: bool, words: &'static str) {
-        if !holds && self.failed.is_none() {
-            self.failed = Some(words);
-        }
-    }
-
-    pub fn end(self) -> Result<(), Fail> {
-        match self.failed {
-            Some(words) => Err(Fail::new(words)),
-            None => Ok(()),
         }
     }
 }

@@ -1,0 +1,142 @@
+//! A stream beside its reference reading, and whether a run ends as the reading says.
+
+use crate::receiver::{Receiver, Run, are_packets};
+use crate::reference::{Reading, between, reading_of};
+use crate::told::Told;
+use std::alloc::{AllocError, Allocator, Global};
+
+/// A stream, and the reading of all of it.
+#[derive(Drop)]
+pub struct Case<'a> {
+    pub first_id: u8,
+    pub limit: usize,
+    pub stream: &'a [u8],
+    pub reading: Reading,
+}
+
+// The least number of pieces that brings what shows the fault, where so many bytes are there
+// already; all of them where there is none.
+fn least_count(shown_at: usize, there: usize, pieces: &[&[u8]]) -> usize {
+    let mut there = there;
+    for (i, piece) in pieces.iter().enumerate() {
+        if there >= shown_at {
+            return i;
+        }
+        there = there.saturating_add(piece.len());
+    }
+    pieces.len()
+}
+
+// Whether two lists, each with an allocator of its own, have the same packets.
+fn are_same<A: Allocator>(packets: &[Vec<u8, A>], wanted: &[Vec<u8>]) -> bool {
+    let mut same = packets.len() == wanted.len();
+    for (packet, wanted) in packets.iter().zip(wanted) {
+        same = same && packet.as_slice() == wanted.as_slice();
+    }
+    same
+}
+
+// Whether these bytes are those of `src`, and then of the pieces from number `count` on.
+fn are_left(left: &[u8], src: &[u8], pieces: &[&[u8]], count: usize) -> bool {
+    let Some(mut left) = left.strip_prefix(src) else {
+        return false;
+    };
+    for piece in pieces.iter().skip(count) {
+        match left.strip_prefix(piece) {
+            Some(more) => left = more,
+            None => return false,
+        }
+    }
+    left.is_empty()
+}
+
+impl<'a> Case<'a> {
+    pub fn new(
+        alloc: Global,
+        first_id: u8,
+        limit: usize,
+        stream: &'a [u8],
+    ) -> Result<Self, AllocError> {
+        Ok(Case {
+            first_id,
+            limit,
+            stream,
+            reading: reading_of(alloc, first_id, limit, stream)?,
+        })
+    }
+
+    /// A receiver that expects the case's first id under its limit.
+    pub fn receiver<A: Allocator + Copy>(&self, alloc: A) -> Receiver<A> {
+        let mut receiver = Receiver::new(alloc, self.limit);
+        receiver.raise_to(self.first_id);
+        receiver
+    }
+
+    // Whether these packets came out, and these bytes are held.
+    fn is_delivered<A: Allocator + Copy>(&self, receiver: &Receiver<A>) -> bool {
+        are_same(receiver.out.as_slice(), self.reading.packets.as_slice())
+            && receiver.dst.as_slice() == self.reading.held.as_slice()
+    }
+
+    // Whether what stands in `src` and the pieces from number `count` on are left of the stream.
+    fn is_left(&self, src: &[u8], pieces: &[&[u8]], count: usize) -> bool {
+        let left = between(self.stream, self.reading.left, self.stream.len());
+        are_left(left, src, pieces, count)
+    }
+
+    /// Whether a receiver ended as the reading says, with a run over these pieces.
+    pub fn ends<A: Allocator + Copy>(
+        &self,
+        receiver: &Receiver<A>,
+        pieces: &[&[u8]],
+        run: Option<Run>,
+    ) -> bool {
+        let Some((count, told)) = run else {
+            return false;
+        };
+        told == self.reading.told
+            && self.is_delivered(receiver)
+            && self.is_left(receiver.src.as_slice(), pieces, count)
+            && receiver.codec.max_allowed_packet == self.limit
+            && (told == Told::OutOfSync || receiver.stands())
+    }
+
+    /// Whether no more pieces were appended than are needed, where so many bytes stood in `src`.
+    pub fn counts(&self, there: usize, pieces: &[&[u8]], run: Option<Run>) -> bool {
+        match run {
+            Some((count, _)) => count == least_count(self.reading.shown_at, there, pieces),
+            None => false,
+        }
+    }
+
+    /// Whether the stream in pieces, the first bytes in `src` and the first pieces in a run of their
+    /// own, is delivered as its reading says.
+    pub fn agrees(&self, alloc: Global, src: &[u8], pieces: &[&[u8]], first: usize) -> bool {
+        let mut receiver = self.receiver(alloc);
+        let comes = receiver.src.extend_from_slice(src).is_ok();
+        let run = receiver.deliver_in_two(pieces, first);
+        comes
+            && self.ends(&receiver, pieces, run)
+            && self.counts(src.len(), pieces, run)
+            && receiver.next_id() == Some(self.reading.next_id)
+    }
+}
+
+/// What a stream must be read as.
+#[derive(Clone, Copy)]
+pub struct Wanted<'a> {
+    pub packets: &'a [&'a [u8]],
+    pub told: Told,
+    pub held: &'a [u8],
+    pub left: usize,
+}
+
+impl Wanted<'_> {
+    /// Whether it is read so.
+    pub fn is_read(&self, reading: &Reading) -> bool {
+        are_packets(reading.packets.as_slice(), self.packets)
+            && reading.told == self.told
+            && reading.held.as_slice() == self.held
+            && reading.left == self.left
+    }
+}

@@ -1,0 +1,160 @@
+//! The steps of a test as a table.
+
+use crate::fixture::{Fixture, Remembered, decoder_of, is_filled};
+use crate::refusals::{Heap, Refusable};
+use crate::targets::{Counting, Target};
+use crate::told::Told;
+use bytes::BytesMut;
+use mysql_wire::proto::codec::PacketCodec;
+use refusing::{NEVER, Refusing};
+use std::alloc::Global;
+use std::test::Fail;
+
+/// One thing that a test does, or one that it looks at.
+#[derive(Clone, Copy)]
+pub enum Step<'a> {
+    /// The codec is another one, as `default` makes it.
+    Fresh,
+    /// The limit of a packet becomes this one.
+    Limit(usize),
+    /// The sequence id becomes 0.
+    Reset,
+    /// `sync_seq_id` is called, which changes nothing.
+    Sync,
+    /// These bytes come in behind `src`.
+    Comes(&'a [u8]),
+    /// So many bytes `42` come in behind `src`.
+    ComesMany(usize),
+    /// `src` becomes these bytes.
+    Src(&'a [u8]),
+    /// `dst` becomes these bytes.
+    Dst(&'a [u8]),
+    /// The decoder of single chunks becomes the one that remembers this.
+    Remember(Remembered),
+    /// The request for memory of this number, counted from 0 at this step, is refused.
+    Refuse(u64),
+    /// The put of this number into `dst` is refused, where the target can.
+    RefusePut(u64),
+    /// A packet is encoded behind `src`.
+    Encode(&'a [u8], Told),
+    /// A packet of so many bytes `42` is encoded behind `src`.
+    EncodeMany(usize, Told),
+    /// `decode` is called, and answers this.
+    Decode(Told),
+    /// A single chunk is decoded under this limit, and the answer is this.
+    Chunk(usize, Told),
+    /// `src` is these bytes.
+    Left(&'a [u8]),
+    /// `src` is so many bytes.
+    LeftMany(usize),
+    /// `dst` is these bytes.
+    Held(&'a [u8]),
+    /// `dst` is so many bytes `42`.
+    HeldMany(usize),
+    /// What the decoder of single chunks remembers.
+    Remembers(Remembered),
+    /// Whether the codec stands.
+    Stands(bool),
+    /// Whether the codec stands at another `src` and `dst`.
+    StandsAt(&'a [u8], &'a [u8], bool),
+    /// How often `dst` was asked for room, and for how much at last. Targets that don't count
+    /// skip this.
+    Grew(u64, usize),
+    /// So many requests for memory may still come before the one that is refused.
+    Unasked(u64),
+    /// Whether a request was refused.
+    Refused(bool),
+}
+
+impl<'h, T: Target<&'h Heap>> Fixture<'h, T> {
+    // Changes something, and says whether it could.
+    fn acts(&mut self, step: Step) -> bool {
+        match step {
+            Step::Fresh => self.codec = PacketCodec::default(),
+            Step::Limit(limit) => self.codec.max_allowed_packet = limit,
+            Step::Reset => self.codec.reset_seq_id(),
+            Step::Sync => self.codec.sync_seq_id(),
+            Step::Comes(bytes) => return self.src.extend_from_slice(bytes).is_ok(),
+            Step::ComesMany(len) => return self.comes_many(len),
+            Step::Src(bytes) => {
+                self.src.clear();
+                return self.src.extend_from_slice(bytes).is_ok();
+            }
+            Step::Dst(bytes) => return self.replace_dst(bytes),
+            Step::Remember(remembered) => self.decoder = decoder_of(remembered),
+            Step::Refuse(nth) => self.heap.refuse(nth),
+            Step::RefusePut(nth) => self.dst.refuse_put(nth),
+            _ => {}
+        }
+        true
+    }
+
+    /// Whether this step goes as it says.
+    pub fn goes(&mut self, step: Step) -> bool {
+        match step {
+            Step::Encode(payload, told) => self.encode(payload) == told,
+            Step::EncodeMany(len, told) => self.encode_many(len) == told,
+            Step::Decode(told) => self.decode() == told,
+            Step::Chunk(limit, told) => self.decode_chunk(limit) == told,
+            Step::Left(bytes) => self.src.as_slice() == bytes,
+            Step::LeftMany(len) => self.src.len() == len,
+            Step::Held(bytes) => self.dst.as_ref() == bytes,
+            Step::HeldMany(len) => is_filled(self.dst.as_ref(), len),
+            Step::Remembers(remembered) => self.decoder == decoder_of(remembered),
+            Step::Stands(stands) => self.stands() == stands,
+            Step::StandsAt(src, dst, stands) => self.stands_at(src, dst) == stands,
+            Step::Grew(growths, room) => self.grew(growths, room),
+            Step::Unasked(requests) => self.heap.left() == requests,
+            Step::Refused(refused) => self.heap.has_refused() == refused,
+            other => self.acts(other),
+        }
+    }
+
+    /// Goes through these steps, and gives the number of the first that goes otherwise.
+    pub fn fault(&mut self, steps: &[Step]) -> Option<usize> {
+        for (i, step) in steps.iter().enumerate() {
+            if !self.goes(*step) {
+                return Some(i);
+            }
+        }
+        None
+    }
+}
+
+/// What happens to a codec with empty buffers, under a name.
+#[derive(Clone, Copy)]
+pub struct Script<'a> {
+    pub name: &'a str,
+    pub steps: &'a [Step<'a>],
+}
+
+impl Script<'_> {
+    /// Goes through the steps with this kind of target.
+    pub fn play<'h, T: Target<&'h Heap>>(&self, heap: &'h Heap) -> Result<(), Fail> {
+        let mut fixture = Fixture::<'h, T>::new(heap);
+        match fixture.fault(self.steps) {
+            Some(i) => Err(Fail::new(format_args!("{}: step {i} went otherwise", self.name))),
+            None => Ok(()),
+        }
+    }
+}
+
+/// Goes through each script with each kind of target, over an allocator of its own.
+pub fn play(alloc: Global, scripts: &[Script]) -> Result<(), Fail> {
+    for script in scripts {
+        let heap = Refusing::new(alloc, NEVER);
+        script.play::<Vec<u8, &Heap>>(&heap)?;
+        script.play::<BytesMut<&Heap>>(&heap)?;
+        script.play::<Counting<&Heap>>(&heap)?;
+    }
+    Ok(())
+}
+
+/// Goes through each script with targets that count, which alone refuse puts.
+pub fn play_counting(alloc: Global, scripts: &[Script]) -> Result<(), Fail> {
+    for script in scripts {
+        let heap = Refusing::new(alloc, NEVER);
+        script.play::<Counting<&Heap>>(&heap)?;
+    }
+    Ok(())
+}
