@@ -1,6 +1,6 @@
 //! A stream beside its reference reading, and whether a run ends as the reading says.
 
-use crate::receiver::{Receiver, Run, are_packets};
+use crate::receiver::{Receiver, are_packets, pieces_from};
 use crate::reference::{Reading, between, reading_of};
 use crate::told::Told;
 use std::alloc::{AllocError, Allocator, Global};
@@ -30,24 +30,29 @@ fn least_count(shown_at: usize, there: usize, pieces: &[&[u8]]) -> usize {
 // Whether two lists, each with an allocator of its own, have the same packets.
 fn are_same<A: Allocator>(packets: &[Vec<u8, A>], wanted: &[Vec<u8>]) -> bool {
     let mut same = packets.len() == wanted.len();
-    for (packet, wanted) in packets.iter().zip(wanted) {
-        same = same && packet.as_slice() == wanted.as_slice();
+    for (i, packet) in packets.iter().enumerate() {
+        same = same && is_at(wanted, i, packet.as_slice());
     }
     same
 }
 
-// Whether these bytes are those of `src`, and then of the pieces from number `count` on.
-fn are_left(left: &[u8], src: &[u8], pieces: &[&[u8]], count: usize) -> bool {
-    let Some(mut left) = left.strip_prefix(src) else {
-        return false;
-    };
-    for piece in pieces.iter().skip(count) {
-        match left.strip_prefix(piece) {
-            Some(more) => left = more,
+fn is_at(packets: &[Vec<u8>], i: usize, packet: &[u8]) -> bool {
+    match packets.get(i) {
+        Some(there) => there.as_slice() == packet,
+        None => false,
+    }
+}
+
+// Whether the pieces one after another are these bytes.
+fn are_joined(pieces: &[&[u8]], bytes: &[u8]) -> bool {
+    let mut rest = bytes;
+    for piece in pieces {
+        match rest.strip_prefix(piece) {
+            Some(more) => rest = more,
             None => return false,
         }
     }
-    left.is_empty()
+    rest.is_empty()
 }
 
 impl<'a> Case<'a> {
@@ -78,35 +83,32 @@ impl<'a> Case<'a> {
             && receiver.dst.as_slice() == self.reading.held.as_slice()
     }
 
-    // Whether what stands in `src` and the pieces from number `count` on are left of the stream.
-    fn is_left(&self, src: &[u8], pieces: &[&[u8]], count: usize) -> bool {
+    // Whether what stands in `src`, and then the pieces that were not appended, are left.
+    fn is_left(&self, src: &[u8], pieces: &[&[u8]]) -> bool {
         let left = between(self.stream, self.reading.left, self.stream.len());
-        are_left(left, src, pieces, count)
+        match left.strip_prefix(src) {
+            Some(rest) => are_joined(pieces, rest),
+            None => false,
+        }
     }
 
-    /// Whether a receiver ended as the reading says, with a run over these pieces.
+    /// Whether a receiver ended as the reading says, with this answer, and left these pieces.
     pub fn ends<A: Allocator + Copy>(
         &self,
         receiver: &Receiver<A>,
-        pieces: &[&[u8]],
-        run: Option<Run>,
+        told: Told,
+        left: &[&[u8]],
     ) -> bool {
-        let Some((count, told)) = run else {
-            return false;
-        };
         told == self.reading.told
             && self.is_delivered(receiver)
-            && self.is_left(receiver.src.as_slice(), pieces, count)
+            && self.is_left(receiver.src.as_slice(), left)
             && receiver.codec.max_allowed_packet == self.limit
             && (told == Told::OutOfSync || receiver.stands())
     }
 
-    /// Whether no more pieces were appended than are needed, where so many bytes stood in `src`.
-    pub fn counts(&self, there: usize, pieces: &[&[u8]], run: Option<Run>) -> bool {
-        match run {
-            Some((count, _)) => count == least_count(self.reading.shown_at, there, pieces),
-            None => false,
-        }
+    /// The least number of these pieces that shows the end, where so many bytes are in `src`.
+    pub fn least_count(&self, there: usize, pieces: &[&[u8]]) -> usize {
+        least_count(self.reading.shown_at, there, pieces)
     }
 
     /// Whether the stream in pieces, the first bytes in `src` and the first pieces in a run of their
@@ -114,10 +116,10 @@ impl<'a> Case<'a> {
     pub fn agrees(&self, alloc: Global, src: &[u8], pieces: &[&[u8]], first: usize) -> bool {
         let mut receiver = self.receiver(alloc);
         let comes = receiver.src.extend_from_slice(src).is_ok();
-        let run = receiver.deliver_in_two(pieces, first);
+        let (count, told) = receiver.deliver_in_two(pieces, first);
         comes
-            && self.ends(&receiver, pieces, run)
-            && self.counts(src.len(), pieces, run)
+            && self.ends(&receiver, told, pieces_from(pieces, count))
+            && count == self.least_count(src.len(), pieces)
             && receiver.next_id() == Some(self.reading.next_id)
     }
 }

@@ -40,6 +40,17 @@ pub struct Stream {
 }
 
 impl Stream {
+    // Puts one small packet behind the others.
+    fn add(&mut self, alloc: Global, draws: &mut Draws, id: u8) -> Result<(), AllocError> {
+        let mut payload = Vec::new(alloc);
+        for _ in 0..draws.below(7) {
+            payload.push(low_byte(draws.below(4)))?;
+        }
+        self.headers.push(self.bytes.len())?;
+        self.lens.push(payload.len())?;
+        put_framing(&mut self.bytes, id, payload.as_slice())
+    }
+
     /// A few small packets, their ids beginning with this one.
     pub fn well_formed(
         alloc: Global,
@@ -53,13 +64,7 @@ impl Stream {
         };
         let mut id = first_id;
         for _ in 0..draws.below(6) {
-            let mut payload = Vec::new(alloc);
-            for _ in 0..draws.below(7) {
-                payload.push(low_byte(draws.below(4)))?;
-            }
-            stream.headers.push(stream.bytes.len())?;
-            stream.lens.push(payload.len())?;
-            put_framing(&mut stream.bytes, id, payload.as_slice())?;
+            stream.add(alloc, draws, id)?;
             id = id.wrapping_add(1);
         }
         Ok(stream)

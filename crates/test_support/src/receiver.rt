@@ -55,9 +55,9 @@ impl<A: Allocator + Copy> Receiver<A> {
     }
 
     /// One run over these pieces. Where the codec doesn't stand, nothing is called.
-    pub fn deliver(&mut self, pieces: &[&[u8]]) -> Option<Run> {
-        if !self.codec.stands_at(&self.src, self.dst.as_slice()) {
-            return None;
+    pub fn deliver(&mut self, pieces: &[&[u8]]) -> Run {
+        if !self.stands() {
+            return (0, Told::Fallen);
         }
         let (count, answer) = deliver(
             &mut self.codec,
@@ -66,30 +66,35 @@ impl<A: Allocator + Copy> Receiver<A> {
             pieces,
             &mut self.out,
         );
-        Some((count, Told::of_deliver(answer)))
+        (count, Told::of_deliver(answer))
     }
 
-    /// The same in two runs, the first over so many pieces.
-    pub fn deliver_in_two(&mut self, pieces: &[&[u8]], first: usize) -> Option<Run> {
+    // A run more, after one that ended so, over the pieces behind those that it appended.
+    fn deliver_more(&mut self, before: usize, pieces: &[&[u8]]) -> Run {
+        let (count, told) = self.deliver(pieces);
+        (before.wrapping_add(count), told)
+    }
+
+    /// As `deliver`, in two runs, the first over so many pieces.
+    pub fn deliver_in_two(&mut self, pieces: &[&[u8]], first: usize) -> Run {
         let (front, back) = pieces.split_at(first.min(pieces.len()));
-        let (count, told) = self.deliver(front)?;
-        if told != Told::Waits {
-            return Some((count, told));
+        let (count, told) = self.deliver(front);
+        if told == Told::Waits {
+            self.deliver_more(count, back)
+        } else {
+            (count, told)
         }
-        let (more, told) = self.deliver(back)?;
-        Some((count.wrapping_add(more), told))
     }
 
     /// As `deliver`; where it stops at the limit, it goes on without one.
-    pub fn deliver_raised(&mut self, pieces: &[&[u8]]) -> Option<Run> {
-        let (count, told) = self.deliver(pieces)?;
+    pub fn deliver_raised(&mut self, pieces: &[&[u8]]) -> Run {
+        let (count, told) = self.deliver(pieces);
         self.codec.max_allowed_packet = usize::MAX;
-        if told != Told::TooLarge {
-            return Some((count, told));
+        if told == Told::TooLarge {
+            self.deliver_more(count, pieces_from(pieces, count))
+        } else {
+            (count, told)
         }
-        let (_, left) = pieces.split_at(count.min(pieces.len()));
-        let (more, told) = self.deliver(left)?;
-        Some((count.wrapping_add(more), told))
     }
 
     /// Whether these packets came out, and these bytes stand in `src` and in `dst`.
@@ -100,11 +105,16 @@ impl<A: Allocator + Copy> Receiver<A> {
     }
 }
 
+/// The pieces from number `count` on.
+pub fn pieces_from<'a, 'b>(pieces: &'a [&'b [u8]], count: usize) -> &'a [&'b [u8]] {
+    &pieces[count.min(pieces.len())..]
+}
+
 /// Whether these are the packets that are wanted.
 pub fn are_packets<A: Allocator>(packets: &[Vec<u8, A>], wanted: &[&[u8]]) -> bool {
     let mut same = packets.len() == wanted.len();
-    for (packet, wanted) in packets.iter().zip(wanted) {
-        same = same && packet.as_slice() == *wanted;
+    for (i, packet) in packets.iter().enumerate() {
+        same = same && wanted.get(i) == Some(&packet.as_slice());
     }
     same
 }

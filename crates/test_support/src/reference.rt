@@ -80,11 +80,22 @@ impl Place {
 fn header_at(stream: &[u8], at: usize) -> Option<(usize, u8)> {
     match between(stream, at, at.saturating_add(4)) {
         [low, middle, high, id] => {
-            let len = *low as usize + 256 * *middle as usize + 65536 * *high as usize;
-            Some((len, *id))
+            let len = u32::from_le_bytes([*low, *middle, *high, 0]);
+            Some((len as usize, *id))
         }
         _ => None,
     }
+}
+
+// The chunk whose header stands at this place, if it is there whole.
+fn place_at(stream: &[u8], at: usize) -> Option<Place> {
+    let (len, id) = header_at(stream, at)?;
+    let start = at.saturating_add(4);
+    let end = start.saturating_add(len);
+    if stream.len() < end {
+        return None;
+    }
+    Some(Place { start, end, id })
 }
 
 // All chunks that stand whole at the front of the stream, whatever their ids and their lengths.
@@ -92,16 +103,11 @@ fn whole_chunks(alloc: Global, stream: &[u8]) -> Result<Vec<Place>, AllocError> 
     let mut places = Vec::new(alloc);
     let mut at = 0usize;
     for _ in 0..stream.len() {
-        let Some((len, id)) = header_at(stream, at) else {
+        let Some(place) = place_at(stream, at) else {
             break;
         };
-        let start = at.saturating_add(4);
-        let end = start.saturating_add(len);
-        if stream.len() < end {
-            break;
-        }
-        places.push(Place { start, end, id })?;
-        at = end;
+        at = place.end;
+        places.push(place)?;
     }
     Ok(places)
 }
@@ -111,24 +117,27 @@ fn id_at(first_id: u8, i: usize) -> u8 {
     low_byte(i.wrapping_add(first_id as usize))
 }
 
-// Whether chunk number `i` has its id, and its packet is within the limit up to this chunk's end.
-fn is_good(places: &[Place], i: usize, first_id: u8, limit: usize) -> bool {
-    let mut packet_len = 0usize;
+// How many bytes of a packet stand before chunk number `i`.
+fn held_before(places: &[Place], i: usize) -> usize {
+    let mut held = 0usize;
     for place in places.iter().take(i) {
-        packet_len = if place.is_last() {
+        held = if place.is_last() {
             0
         } else {
-            packet_len.saturating_add(place.len())
+            held.saturating_add(place.len())
         };
     }
-    match places.get(i) {
-        Some(place) => {
-            let len = place.len();
-            let fits = len == 0 || packet_len.saturating_add(len) <= limit;
-            fits && place.id == id_at(first_id, i)
-        }
-        None => false,
-    }
+    held
+}
+
+// Whether chunk number `i` has its id, and its packet is within the limit up to this chunk's end.
+fn is_good(places: &[Place], i: usize, first_id: u8, limit: usize) -> bool {
+    let Some(place) = places.get(i) else {
+        return false;
+    };
+    let len = place.len();
+    let fits = len == 0 || held_before(places, i).saturating_add(len) <= limit;
+    fits && place.id == id_at(first_id, i)
 }
 
 // How many chunks stand in front of the first that isn't good.
@@ -175,6 +184,45 @@ fn stop(rest: &[u8], held: usize, limit: usize) -> (Told, usize) {
     }
 }
 
+impl Reading {
+    // Nothing is read yet.
+    fn new(alloc: Global, next_id: u8) -> Reading {
+        Reading {
+            packets: Vec::new(alloc),
+            told: Told::Waits,
+            held: Vec::new(alloc),
+            left: 0,
+            shown_at: usize::MAX,
+            next_id,
+        }
+    }
+
+    // Takes a good chunk.
+    fn take(&mut self, alloc: Global, stream: &[u8], place: Place) -> Result<(), AllocError> {
+        self.held
+            .extend_from_slice(between(stream, place.start, place.end))?;
+        self.left = place.end;
+        if place.is_last() {
+            let packet = mem::replace(&mut self.held, Vec::new(alloc));
+            self.packets.push(packet)?;
+        }
+        Ok(())
+    }
+
+    // Stops where no good chunk is left.
+    fn stop(&mut self, stream: &[u8], limit: usize) -> Result<(), AllocError> {
+        let rest = between(stream, self.left, stream.len());
+        let (told, shown_by) = stop(rest, self.held.len(), limit);
+        self.told = told;
+        self.shown_at = self.left.saturating_add(shown_by);
+        if told == Told::OutOfSync {
+            self.left = self.shown_at;
+            self.held.extend_from_slice(between(rest, 4, shown_by))?;
+        }
+        Ok(())
+    }
+}
+
 /// What this stream delivers, from its first id on and under this limit.
 pub fn reading_of(
     alloc: Global,
@@ -184,29 +232,10 @@ pub fn reading_of(
 ) -> Result<Reading, AllocError> {
     let places = whole_chunks(alloc, stream)?;
     let count = good_count(places.as_slice(), first_id, limit);
-    let mut packets = Vec::new(alloc);
-    let mut held = Vec::new(alloc);
-    let mut rest = 0usize;
+    let mut reading = Reading::new(alloc, id_at(first_id, count));
     for place in places.iter().take(count) {
-        held.extend_from_slice(between(stream, place.start, place.end))?;
-        rest = place.end;
-        if place.is_last() {
-            packets.push(mem::replace(&mut held, Vec::new(alloc)))?;
-        }
+        reading.take(alloc, stream, *place)?;
     }
-    let (told, shown_by) = stop(between(stream, rest, stream.len()), held.len(), limit);
-    let shown_at = rest.saturating_add(shown_by);
-    let mut left = rest;
-    if told == Told::OutOfSync {
-        held.extend_from_slice(between(stream, rest.saturating_add(4), shown_at))?;
-        left = shown_at;
-    }
-    Ok(Reading {
-        packets,
-        told,
-        held,
-        left,
-        shown_at,
-        next_id: id_at(first_id, count),
-    })
+    reading.stop(stream, limit)?;
+    Ok(reading)
 }

@@ -66,27 +66,61 @@ pub enum Step<'a> {
     Refused(bool),
 }
 
+// Each of these looks at the steps of one kind, and hands the others on.
 impl<'h, T: Target<&'h Heap>> Fixture<'h, T> {
-    // Changes something, and says whether it could.
-    fn acts(&mut self, step: Step) -> bool {
+    // Changes something.
+    fn changes(&mut self, step: Step) {
         match step {
             Step::Fresh => self.codec = PacketCodec::default(),
             Step::Limit(limit) => self.codec.max_allowed_packet = limit,
             Step::Reset => self.codec.reset_seq_id(),
             Step::Sync => self.codec.sync_seq_id(),
-            Step::Comes(bytes) => return self.src.extend_from_slice(bytes).is_ok(),
-            Step::ComesMany(len) => return self.comes_many(len),
-            Step::Src(bytes) => {
-                self.src.clear();
-                return self.src.extend_from_slice(bytes).is_ok();
-            }
-            Step::Dst(bytes) => return self.replace_dst(bytes),
             Step::Remember(remembered) => self.decoder = decoder_of(remembered),
             Step::Refuse(nth) => self.heap.refuse(nth),
             Step::RefusePut(nth) => self.dst.refuse_put(nth),
             _ => {}
         }
-        true
+    }
+
+    // Whether bytes came in.
+    fn comes(&mut self, step: Step) -> bool {
+        match step {
+            Step::Comes(bytes) => self.src.extend_from_slice(bytes).is_ok(),
+            Step::ComesMany(len) => self.comes_many(len),
+            Step::Src(bytes) => {
+                self.src.clear();
+                self.src.extend_from_slice(bytes).is_ok()
+            }
+            Step::Dst(bytes) => self.replace_dst(bytes),
+            other => {
+                self.changes(other);
+                true
+            }
+        }
+    }
+
+    // Whether the codec, the target or the allocator is as the step says.
+    fn is_so(&mut self, step: Step) -> bool {
+        match step {
+            Step::Remembers(remembered) => self.decoder == decoder_of(remembered),
+            Step::Stands(stands) => self.stands() == stands,
+            Step::StandsAt(src, dst, stands) => self.stands_at(src, dst) == stands,
+            Step::Grew(growths, room) => self.grew(growths, room),
+            Step::Unasked(requests) => self.heap.left() == requests,
+            Step::Refused(refused) => self.heap.has_refused() == refused,
+            other => self.comes(other),
+        }
+    }
+
+    // Whether the bytes stand there.
+    fn shows(&mut self, step: Step) -> bool {
+        match step {
+            Step::Left(bytes) => self.src.as_slice() == bytes,
+            Step::LeftMany(len) => self.src.len() == len,
+            Step::Held(bytes) => self.dst.as_ref() == bytes,
+            Step::HeldMany(len) => is_filled(self.dst.as_ref(), len),
+            other => self.is_so(other),
+        }
     }
 
     /// Whether this step goes as it says.
@@ -96,17 +130,7 @@ impl<'h, T: Target<&'h Heap>> Fixture<'h, T> {
             Step::EncodeMany(len, told) => self.encode_many(len) == told,
             Step::Decode(told) => self.decode() == told,
             Step::Chunk(limit, told) => self.decode_chunk(limit) == told,
-            Step::Left(bytes) => self.src.as_slice() == bytes,
-            Step::LeftMany(len) => self.src.len() == len,
-            Step::Held(bytes) => self.dst.as_ref() == bytes,
-            Step::HeldMany(len) => is_filled(self.dst.as_ref(), len),
-            Step::Remembers(remembered) => self.decoder == decoder_of(remembered),
-            Step::Stands(stands) => self.stands() == stands,
-            Step::StandsAt(src, dst, stands) => self.stands_at(src, dst) == stands,
-            Step::Grew(growths, room) => self.grew(growths, room),
-            Step::Unasked(requests) => self.heap.left() == requests,
-            Step::Refused(refused) => self.heap.has_refused() == refused,
-            other => self.acts(other),
+            other => self.shows(other),
         }
     }
 

@@ -54,7 +54,10 @@ impl<A: Allocator> PacketDst for Counting<A> {
     fn reserve(&mut self, n: usize) -> Result<(), WireError> {
         self.asked = self.asked.wrapping_add(1);
         self.room = n;
-        self.bytes.reserve(n).map_err(|_| WireError::OutOfMemory)
+        match self.bytes.reserve(n) {
+            Ok(()) => Ok(()),
+            Err(_) => Err(WireError::OutOfMemory),
+        }
     }
 
     fn put_slice(&mut self, bytes: &[u8]) -> Result<(), WireError> {
@@ -63,9 +66,10 @@ impl<A: Allocator> PacketDst for Counting<A> {
         if left == 0 {
             return Err(WireError::OutOfMemory);
         }
-        self.bytes
-            .extend_from_slice(bytes)
-            .map_err(|_| WireError::OutOfMemory)
+        match self.bytes.extend_from_slice(bytes) {
+            Ok(()) => Ok(()),
+            Err(_) => Err(WireError::OutOfMemory),
+        }
     }
 }
 

@@ -20,6 +20,8 @@ pub enum Told {
     OutOfSync,
     OutOfMemory,
     Io,
+    /// The codec doesn't stand, so nothing was called.
+    Fallen,
 }
 
 impl Told {
