@@ -1,6 +1,7 @@
 //! A stream beside its reference reading, and whether a run ends as the reading says.
 
-use crate::receiver::{Receiver, are_packets, pieces_from};
+use crate::fixture::raise_to;
+use crate::receiver::{Receiver, Run, are_packets, pieces_from};
 use crate::reference::{Reading, between, reading_of};
 use crate::told::Told;
 use std::alloc::{AllocError, Allocator, Global};
@@ -73,7 +74,7 @@ impl<'a> Case<'a> {
     /// A receiver that expects the case's first id under its limit.
     pub fn receiver<A: Allocator + Copy>(&self, alloc: A) -> Receiver<A> {
         let mut receiver = Receiver::new(alloc, self.limit);
-        receiver.raise_to(self.first_id);
+        raise_to(&mut receiver.codec, alloc, self.first_id);
         receiver
     }
 
@@ -92,8 +93,8 @@ impl<'a> Case<'a> {
         }
     }
 
-    /// Whether a receiver ended as the reading says, with this answer, and left these pieces.
-    pub fn ends<A: Allocator + Copy>(
+    // Whether a receiver ended as the reading says, with this answer, and left these pieces.
+    fn ends<A: Allocator + Copy>(
         &self,
         receiver: &Receiver<A>,
         told: Told,
@@ -106,9 +107,19 @@ impl<'a> Case<'a> {
             && (told == Told::OutOfSync || receiver.stands())
     }
 
-    /// The least number of these pieces that shows the end, where so many bytes are in `src`.
-    pub fn least_count(&self, there: usize, pieces: &[&[u8]]) -> usize {
-        least_count(self.reading.shown_at, there, pieces)
+    /// Whether a receiver that had so many bytes in `src`, and then took pieces, ended as the
+    /// reading says: no more pieces were appended than are needed, and no id is raised twice.
+    pub fn is_ended<A: Allocator + Copy>(
+        &self,
+        receiver: &mut Receiver<A>,
+        there: usize,
+        pieces: &[&[u8]],
+        run: Run,
+    ) -> bool {
+        let (count, told) = run;
+        self.ends(receiver, told, pieces_from(pieces, count))
+            && count == least_count(self.reading.shown_at, there, pieces)
+            && receiver.next_id() == Some(self.reading.next_id)
     }
 
     /// Whether the stream in pieces, the first bytes in `src` and the first pieces in a run of their
@@ -116,11 +127,17 @@ impl<'a> Case<'a> {
     pub fn agrees(&self, alloc: Global, src: &[u8], pieces: &[&[u8]], first: usize) -> bool {
         let mut receiver = self.receiver(alloc);
         let comes = receiver.src.extend_from_slice(src).is_ok();
-        let (count, told) = receiver.deliver_in_two(pieces, first);
-        comes
-            && self.ends(&receiver, told, pieces_from(pieces, count))
-            && count == self.least_count(src.len(), pieces)
-            && receiver.next_id() == Some(self.reading.next_id)
+        let run = receiver.deliver_in_two(pieces, first);
+        comes && self.is_ended(&mut receiver, src.len(), pieces, run)
+    }
+
+    /// Whether it is so where the first run stops at a lower limit, and the next goes on under the
+    /// case's.
+    pub fn agrees_raised(&self, alloc: Global, limit: usize, pieces: &[&[u8]]) -> bool {
+        let mut receiver = self.receiver(alloc);
+        receiver.codec.max_allowed_packet = limit;
+        let (count, told) = receiver.deliver_raised(pieces, self.limit);
+        self.ends(&receiver, told, pieces_from(pieces, count))
     }
 }
 

@@ -5,6 +5,8 @@ use crate::targets::Target;
 use crate::told::Told;
 use bytes::BytesMut;
 use mysql_wire::proto::codec::{ChunkDecoder, PacketCodec};
+use refusing::NEVER;
+use std::alloc::Allocator;
 use std::num::NonZeroUsize;
 
 /// The byte that long payloads are made of.
@@ -29,6 +31,16 @@ pub fn is_filled(bytes: &[u8], len: usize) -> bool {
     bytes.len() == len && bytes.iter().all(|byte| *byte == FILL)
 }
 
+/// The codec's next id becomes this one, counted from 0.
+pub fn raise_to<A: Allocator + Copy>(codec: &mut PacketCodec, alloc: A, id: u8) {
+    let mut other = BytesMut::new(alloc);
+    codec.reset_seq_id();
+    for _ in 0..id {
+        let mut packet = b"".as_slice();
+        let _ = codec.encode(&mut packet, &mut other);
+    }
+}
+
 /// A codec and a decoder of single chunks, what they read, and what they put the payload into.
 #[derive(Drop)]
 pub struct Fixture<'h, T> {
@@ -39,13 +51,15 @@ pub struct Fixture<'h, T> {
     pub heap: &'h Heap,
 }
 
-impl<'h, T: Target<&'h Heap>> Fixture<'h, T> {
-    pub fn new(heap: &'h Heap) -> Self {
+impl<'h, T: Target> Fixture<'h, T> {
+    /// With nothing in its buffers, and no request refused.
+    pub fn new(heap: &'h Heap, dst: T) -> Self {
+        heap.refuse(NEVER);
         Fixture {
             codec: PacketCodec::default(),
             decoder: ChunkDecoder::default(),
             src: BytesMut::new(heap),
-            dst: T::empty(heap),
+            dst,
             heap,
         }
     }
@@ -78,8 +92,21 @@ impl<'h, T: Target<&'h Heap>> Fixture<'h, T> {
     }
 
     pub fn replace_dst(&mut self, bytes: &[u8]) -> bool {
-        self.dst = T::empty(self.heap);
+        self.dst.clear();
         self.dst.put_slice(bytes).is_ok()
+    }
+
+    /// `dst` becomes so many bytes `42`.
+    pub fn replace_dst_many(&mut self, len: usize) -> bool {
+        match Vec::from_elem(self.heap, FILL, len) {
+            Ok(bytes) => self.replace_dst(bytes.as_slice()),
+            Err(_) => false,
+        }
+    }
+
+    /// The codec's next id becomes this one.
+    pub fn raise_to(&mut self, id: u8) {
+        raise_to(&mut self.codec, self.heap, id);
     }
 
     pub fn stands(&self) -> bool {

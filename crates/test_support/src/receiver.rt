@@ -31,15 +31,6 @@ impl<A: Allocator + Copy> Receiver<A> {
         }
     }
 
-    /// The codec's next id becomes this one.
-    pub fn raise_to(&mut self, id: u8) {
-        let mut other = BytesMut::new(self.alloc);
-        for _ in 0..id {
-            let mut packet = b"".as_slice();
-            let _ = self.codec.encode(&mut packet, &mut other);
-        }
-    }
-
     /// The id that the codec gives the next chunk. It is raised by this.
     pub fn next_id(&mut self) -> Option<u8> {
         let mut other = BytesMut::new(self.alloc);
@@ -56,7 +47,7 @@ impl<A: Allocator + Copy> Receiver<A> {
 
     /// One run over these pieces. Where the codec doesn't stand, nothing is called.
     pub fn deliver(&mut self, pieces: &[&[u8]]) -> Run {
-        if !self.stands() {
+        if !self.codec.stands_at(&self.src, self.dst.as_slice()) {
             return (0, Told::Fallen);
         }
         let (count, answer) = deliver(
@@ -86,10 +77,10 @@ impl<A: Allocator + Copy> Receiver<A> {
         }
     }
 
-    /// As `deliver`; where it stops at the limit, it goes on without one.
-    pub fn deliver_raised(&mut self, pieces: &[&[u8]]) -> Run {
+    /// As `deliver`; where it stops at the limit, it goes on under another one.
+    pub fn deliver_raised(&mut self, pieces: &[&[u8]], limit: usize) -> Run {
         let (count, told) = self.deliver(pieces);
-        self.codec.max_allowed_packet = usize::MAX;
+        self.codec.max_allowed_packet = limit;
         if told == Told::TooLarge {
             self.deliver_more(count, pieces_from(pieces, count))
         } else {

@@ -80,8 +80,8 @@ impl Place {
 fn header_at(stream: &[u8], at: usize) -> Option<(usize, u8)> {
     match between(stream, at, at.saturating_add(4)) {
         [low, middle, high, id] => {
-            let len = u32::from_le_bytes([*low, *middle, *high, 0]);
-            Some((len as usize, *id))
+            let len = *low as usize + 256 * *middle as usize + 65536 * *high as usize;
+            Some((len, *id))
         }
         _ => None,
     }

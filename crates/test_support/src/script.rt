@@ -1,7 +1,6 @@
 //! The steps of a test as a table.
 
 use crate::fixture::{Fixture, Remembered, decoder_of, is_filled};
-use crate::refusals::{Heap, Refusable};
 use crate::targets::{Counting, Target};
 use crate::told::Told;
 use bytes::BytesMut;
@@ -12,7 +11,7 @@ use std::test::Fail;
 
 /// One thing that a test does, or one that it looks at.
 #[derive(Clone, Copy)]
-pub enum Step<'a> {
+pub enum Step {
     /// The codec is another one, as `default` makes it.
     Fresh,
     /// The limit of a packet becomes this one.
@@ -22,13 +21,17 @@ pub enum Step<'a> {
     /// `sync_seq_id` is called, which changes nothing.
     Sync,
     /// These bytes come in behind `src`.
-    Comes(&'a [u8]),
+    Comes(&'static [u8]),
     /// So many bytes `42` come in behind `src`.
     ComesMany(usize),
     /// `src` becomes these bytes.
-    Src(&'a [u8]),
+    Src(&'static [u8]),
     /// `dst` becomes these bytes.
-    Dst(&'a [u8]),
+    Dst(&'static [u8]),
+    /// `dst` becomes so many bytes `42`.
+    DstMany(usize),
+    /// The codec's next id becomes this one, counted from 0.
+    Id(u8),
     /// The decoder of single chunks becomes the one that remembers this.
     Remember(Remembered),
     /// The request for memory of this number, counted from 0 at this step, is refused.
@@ -36,7 +39,7 @@ pub enum Step<'a> {
     /// The put of this number into `dst` is refused, where the target can.
     RefusePut(u64),
     /// A packet is encoded behind `src`.
-    Encode(&'a [u8], Told),
+    Encode(&'static [u8], Told),
     /// A packet of so many bytes `42` is encoded behind `src`.
     EncodeMany(usize, Told),
     /// `decode` is called, and answers this.
@@ -44,11 +47,11 @@ pub enum Step<'a> {
     /// A single chunk is decoded under this limit, and the answer is this.
     Chunk(usize, Told),
     /// `src` is these bytes.
-    Left(&'a [u8]),
+    Left(&'static [u8]),
     /// `src` is so many bytes.
     LeftMany(usize),
     /// `dst` is these bytes.
-    Held(&'a [u8]),
+    Held(&'static [u8]),
     /// `dst` is so many bytes `42`.
     HeldMany(usize),
     /// What the decoder of single chunks remembers.
@@ -56,7 +59,7 @@ pub enum Step<'a> {
     /// Whether the codec stands.
     Stands(bool),
     /// Whether the codec stands at another `src` and `dst`.
-    StandsAt(&'a [u8], &'a [u8], bool),
+    StandsAt(&'static [u8], &'static [u8], bool),
     /// How often `dst` was asked for room, and for how much at last. Targets that don't count
     /// skip this.
     Grew(u64, usize),
@@ -67,13 +70,14 @@ pub enum Step<'a> {
 }
 
 // Each of these looks at the steps of one kind, and hands the others on.
-impl<'h, T: Target<&'h Heap>> Fixture<'h, T> {
+impl<T: Target> Fixture<'_, T> {
     // Changes something.
     fn changes(&mut self, step: Step) {
         match step {
             Step::Fresh => self.codec = PacketCodec::default(),
             Step::Limit(limit) => self.codec.max_allowed_packet = limit,
             Step::Reset => self.codec.reset_seq_id(),
+            Step::Id(id) => self.raise_to(id),
             Step::Sync => self.codec.sync_seq_id(),
             Step::Remember(remembered) => self.decoder = decoder_of(remembered),
             Step::Refuse(nth) => self.heap.refuse(nth),
@@ -92,6 +96,7 @@ impl<'h, T: Target<&'h Heap>> Fixture<'h, T> {
                 self.src.extend_from_slice(bytes).is_ok()
             }
             Step::Dst(bytes) => self.replace_dst(bytes),
+            Step::DstMany(len) => self.replace_dst_many(len),
             other => {
                 self.changes(other);
                 true
@@ -147,29 +152,31 @@ impl<'h, T: Target<&'h Heap>> Fixture<'h, T> {
 
 /// What happens to a codec with empty buffers, under a name.
 #[derive(Clone, Copy)]
-pub struct Script<'a> {
-    pub name: &'a str,
-    pub steps: &'a [Step<'a>],
+pub struct Script {
+    pub name: &'static str,
+    pub steps: &'static [Step],
 }
 
-impl Script<'_> {
-    /// Goes through the steps with this kind of target.
-    pub fn play<'h, T: Target<&'h Heap>>(&self, heap: &'h Heap) -> Result<(), Fail> {
-        let mut fixture = Fixture::<'h, T>::new(heap);
-        match fixture.fault(self.steps) {
-            Some(i) => Err(Fail::new(format_args!("{}: step {i} went otherwise", self.name))),
-            None => Ok(()),
-        }
+/// The number of the first of these steps that goes otherwise with some kind of target.
+pub fn first_fault(alloc: Global, steps: &[Step]) -> Option<usize> {
+    let heap = Refusing::new(alloc, NEVER);
+    let vec = Fixture::new(&heap, Vec::new(&heap)).fault(steps);
+    let bytes = Fixture::new(&heap, BytesMut::new(&heap)).fault(steps);
+    let counting = Fixture::new(&heap, Counting::new(&heap)).fault(steps);
+    vec.or(bytes).or(counting)
+}
+
+fn is_played(name: &str, fault: Option<usize>) -> Result<(), Fail> {
+    match fault {
+        Some(i) => Err(Fail::new(format_args!("{name}: step {i} went otherwise"))),
+        None => Ok(()),
     }
 }
 
-/// Goes through each script with each kind of target, over an allocator of its own.
+/// Goes through each script with each kind of target.
 pub fn play(alloc: Global, scripts: &[Script]) -> Result<(), Fail> {
     for script in scripts {
-        let heap = Refusing::new(alloc, NEVER);
-        script.play::<Vec<u8, &Heap>>(&heap)?;
-        script.play::<BytesMut<&Heap>>(&heap)?;
-        script.play::<Counting<&Heap>>(&heap)?;
+        is_played(script.name, first_fault(alloc, script.steps))?;
     }
     Ok(())
 }
@@ -178,7 +185,8 @@ pub fn play(alloc: Global, scripts: &[Script]) -> Result<(), Fail> {
 pub fn play_counting(alloc: Global, scripts: &[Script]) -> Result<(), Fail> {
     for script in scripts {
         let heap = Refusing::new(alloc, NEVER);
-        script.play::<Counting<&Heap>>(&heap)?;
+        let fault = Fixture::new(&heap, Counting::new(&heap)).fault(script.steps);
+        is_played(script.name, fault)?;
     }
     Ok(())
 }

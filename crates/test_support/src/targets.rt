@@ -8,10 +8,10 @@ use mysql_wire::proto::codec::PacketDst;
 use std::alloc::Allocator;
 use std::num::NonZeroUsize;
 
-/// A target that the tests make for themselves.
-pub trait Target<A: Allocator>: PacketDst + Drop {
-    /// Nothing is held.
-    fn empty(alloc: A) -> Self;
+/// A target that a step can empty.
+pub trait Target: PacketDst + Drop {
+    /// Nothing is held any more, and nothing is counted.
+    fn clear(&mut self);
 
     /// How often it was asked for room, and for how much at last. None where it doesn't count.
     fn growth(&self) -> Option<(u64, usize)> {
@@ -22,15 +22,15 @@ pub trait Target<A: Allocator>: PacketDst + Drop {
     fn refuse_put(&mut self, _: u64) {}
 }
 
-impl<A: Allocator> Target<A> for Vec<u8, A> {
-    fn empty(alloc: A) -> Self {
-        Vec::new(alloc)
+impl<A: Allocator> Target for Vec<u8, A> {
+    fn clear(&mut self) {
+        Vec::clear(self);
     }
 }
 
-impl<A: Allocator + Copy> Target<A> for BytesMut<A> {
-    fn empty(alloc: A) -> Self {
-        BytesMut::new(alloc)
+impl<A: Allocator + Copy> Target for BytesMut<A> {
+    fn clear(&mut self) {
+        BytesMut::clear(self);
     }
 }
 
@@ -73,14 +73,23 @@ impl<A: Allocator> PacketDst for Counting<A> {
     }
 }
 
-impl<A: Allocator> Target<A> for Counting<A> {
-    fn empty(alloc: A) -> Self {
+impl<A: Allocator> Counting<A> {
+    /// Nothing is held.
+    pub fn new(alloc: A) -> Self {
         Counting {
             bytes: Vec::new(alloc),
             asked: 0,
             room: 0,
             puts_left: u64::MAX,
         }
+    }
+}
+
+impl<A: Allocator> Target for Counting<A> {
+    fn clear(&mut self) {
+        self.bytes.clear();
+        self.asked = 0;
+        self.room = 0;
     }
 
     fn growth(&self) -> Option<(u64, usize)> {
