@@ -1,72 +1,57 @@
 //! One chunk at a time, in each state of a decoder.
 
-use crate::bench::FILL;
-use crate::targets::{Counting, Target};
-use crate::told::{Told, ensure};
-use bytes::BytesMut;
 use mysql_wire::constants::MAX_PAYLOAD_LEN;
-use mysql_wire::proto::codec::ChunkDecoder;
-use std::alloc::{AllocError, Global};
-use std::num::NonZeroUsize;
+use std::alloc::Global;
 use std::test::Fail;
-
-/// The header that a decoder remembers: its id, and the bytes that it needs. None is `Idle`.
-pub type State = Option<(u8, usize)>;
-
-/// The decoder that remembers it.
-pub fn decoder_of(state: State) -> ChunkDecoder {
-    match state {
-        Some((seq_id, needed)) => match NonZeroUsize::new(needed) {
-            Some(needed) => ChunkDecoder::Chunk { seq_id, needed },
-            None => ChunkDecoder::Idle,
-        },
-        None => ChunkDecoder::Idle,
-    }
-}
+use test_support::fixture::Remembered;
+use test_support::script::{Script, Step, first_fault, play};
+use test_support::told::Told;
 
 // A state, what is to be read, what is held and a limit; and the same after the call, with its
 // answer.
 #[derive(Clone, Copy)]
-struct Row<'a> {
-    state: State,
-    src: &'a [u8],
-    held: &'a [u8],
+struct Row {
+    state: Remembered,
+    src: &'static [u8],
+    held: &'static [u8],
     limit: usize,
     told: Told,
-    new_state: State,
-    left: &'a [u8],
-    new_held: &'a [u8],
+    new_state: Remembered,
+    left: &'static [u8],
+    new_held: &'static [u8],
 }
 
-fn goes<T: Target<Global>>(alloc: Global, row: Row) -> Result<bool, AllocError> {
-    let mut decoder = decoder_of(row.state);
-    let mut src = BytesMut::copy_from_slice(alloc, row.src)?;
-    let mut dst = T::empty(alloc);
-    let put = dst.put_slice(row.held).is_ok();
-    let told = Told::of_chunk(decoder.decode(&mut src, &mut dst, row.limit));
-    Ok(
-        put && told == row.told
-            && decoder == decoder_of(row.new_state)
-            && src.as_slice() == row.left
-            && dst.as_ref() == row.new_held,
-    )
+impl Row {
+    fn steps(&self) -> [Step; 7] {
+        [
+            Step::Remember(self.state),
+            Step::Src(self.src),
+            Step::Dst(self.held),
+            Step::Chunk(self.limit, self.told),
+            Step::Remembers(self.new_state),
+            Step::Left(self.left),
+            Step::Held(self.new_held),
+        ]
+    }
 }
 
-// Goes through the rows with each kind of target.
 fn all_go(alloc: Global, rows: &[Row]) -> Result<(), Fail> {
     for (i, row) in rows.iter().enumerate() {
-        let good = goes::<Vec<u8>>(alloc, *row)?
-            && goes::<BytesMut>(alloc, *row)?
-            && goes::<Counting<Global>>(alloc, *row)?;
-        if !good {
-            return Err(Fail::new(format_args!("row {i} goes otherwise")));
+        if let Some(step) = first_fault(alloc, &row.steps()) {
+            return Err(Fail::new(format_args!("row {i}, step {step}")));
         }
     }
     Ok(())
 }
 
 // A row that changes nothing.
-fn unchanged<'a>(state: State, src: &'a [u8], held: &'a [u8], limit: usize, told: Told) -> Row<'a> {
+fn unchanged(
+    state: Remembered,
+    src: &'static [u8],
+    held: &'static [u8],
+    limit: usize,
+    told: Told,
+) -> Row {
     Row {
         state,
         src,
@@ -94,14 +79,14 @@ fn without_a_whole_header_nothing_happens(rt: HostRuntime) -> Result<(), Fail> {
 }
 
 // From `Idle`, with everything taken.
-fn taken<'a>(
-    src: &'a [u8],
-    held: &'a [u8],
+fn taken(
+    src: &'static [u8],
+    held: &'static [u8],
     limit: usize,
     told: Told,
-    left: &'a [u8],
-    new_held: &'a [u8],
-) -> Row<'a> {
+    left: &'static [u8],
+    new_held: &'static [u8],
+) -> Row {
     Row {
         state: None,
         src,
@@ -156,7 +141,7 @@ fn a_chunk_past_the_limit_is_refused_by_its_header(rt: HostRuntime) -> Result<()
 }
 
 // From `Idle`, with the header alone taken, into the decoder.
-fn begun<'a>(src: &'a [u8], held: &'a [u8], limit: usize, id: u8, needed: usize) -> Row<'a> {
+fn begun(src: &'static [u8], held: &'static [u8], limit: usize, id: u8, needed: usize) -> Row {
     Row {
         state: None,
         src,
@@ -207,15 +192,15 @@ fn a_whole_chunk_is_moved(rt: HostRuntime) -> Result<(), Fail> {
 }
 
 // Whose header is remembered, with everything taken.
-fn finished<'a>(
+fn finished(
     id: u8,
     needed: usize,
-    src: &'a [u8],
+    src: &'static [u8],
     limit: usize,
     told: Told,
-    left: &'a [u8],
-    held: &'a [u8],
-) -> Row<'a> {
+    left: &'static [u8],
+    held: &'static [u8],
+) -> Row {
     Row {
         state: Some((id, needed)),
         src,
@@ -258,32 +243,49 @@ fn a_remembered_header_is_what_counts(rt: HostRuntime) -> Result<(), Fail> {
     all_go(rt.alloc(), &rows)
 }
 
-// Whether so many bytes, of so many that are needed, make this answer, where so many are held.
-fn finishes(
-    alloc: Global,
+// A decoder that needs so many bytes, where so many are there and so many held, and its answer.
+#[derive(Clone, Copy)]
+struct Long {
     needed: usize,
     there: usize,
     held: usize,
     told: Told,
-) -> Result<bool, AllocError> {
-    let state = decoder_of(Some((9, needed)));
-    let mut decoder = state;
-    let mut src = BytesMut::copy_from_slice(alloc, b"\x01\x02\x03\x04")?;
-    let bytes = Vec::from_elem(alloc, FILL, there)?;
-    src.extend_from_slice(bytes.as_slice())?;
-    let mut dst = Vec::from_elem(alloc, FILL, held)?;
-    let answer = Told::of_chunk(decoder.decode(&mut src, &mut dst, 0));
-    let waits = told == Told::Waits;
-    let gained = if waits { 0 } else { needed };
-    let eaten = if waits { 0 } else { needed.saturating_add(4) };
-    let new_state = if waits { state } else { ChunkDecoder::Idle };
-    let all = Vec::from_elem(alloc, FILL, held.saturating_add(gained))?;
-    Ok(
-        answer == told
-            && decoder == new_state
-            && src.len() == there.saturating_add(4).saturating_sub(eaten)
-            && dst == all,
-    )
+}
+
+impl Long {
+    // What is remembered, left and held after the call.
+    fn after(&self) -> (Remembered, usize, usize) {
+        if self.told == Told::Waits {
+            let left = self.there.saturating_add(4);
+            (Some((9, self.needed)), left, self.held)
+        } else {
+            let left = self.there.saturating_sub(self.needed);
+            (None, left, self.held.saturating_add(self.needed))
+        }
+    }
+
+    fn steps(&self) -> [Step; 8] {
+        let (remembered, left, held) = self.after();
+        [
+            Step::Remember(Some((9, self.needed))),
+            Step::Src(b"\x01\x02\x03\x04"),
+            Step::ComesMany(self.there),
+            Step::DstMany(self.held),
+            Step::Chunk(0, self.told),
+            Step::Remembers(remembered),
+            Step::LeftMany(left),
+            Step::HeldMany(held),
+        ]
+    }
+}
+
+fn long_row(needed: usize, there: usize, held: usize, told: Told) -> Long {
+    Long {
+        needed,
+        there,
+        held,
+        told,
+    }
 }
 
 #[test]
@@ -291,55 +293,54 @@ fn a_packet_goes_on_where_whole_chunks_are_held(rt: HostRuntime) -> Result<(), F
     let middle = Told::Middle(9);
     let last = Told::Last(9);
     let rows = [
-        (MAX_PAYLOAD_LEN, MAX_PAYLOAD_LEN, 0, middle),
-        (MAX_PAYLOAD_LEN, MAX_PAYLOAD_LEN + 1, 0, middle),
-        (MAX_PAYLOAD_LEN - 1, MAX_PAYLOAD_LEN - 1, 0, last),
+        long_row(MAX_PAYLOAD_LEN, MAX_PAYLOAD_LEN, 0, middle),
+        long_row(MAX_PAYLOAD_LEN, MAX_PAYLOAD_LEN + 1, 0, middle),
+        long_row(MAX_PAYLOAD_LEN - 1, MAX_PAYLOAD_LEN - 1, 0, last),
         // More than a header can state.
-        (MAX_PAYLOAD_LEN + 1, MAX_PAYLOAD_LEN + 1, 0, last),
-        (2 * MAX_PAYLOAD_LEN, 2 * MAX_PAYLOAD_LEN, 0, middle),
+        long_row(MAX_PAYLOAD_LEN + 1, MAX_PAYLOAD_LEN + 1, 0, last),
+        long_row(2 * MAX_PAYLOAD_LEN, 2 * MAX_PAYLOAD_LEN, 0, middle),
         // What was held counts.
-        (
+        long_row(
             MAX_PAYLOAD_LEN + 1,
             MAX_PAYLOAD_LEN + 1,
             MAX_PAYLOAD_LEN - 1,
             middle,
         ),
-        (MAX_PAYLOAD_LEN, MAX_PAYLOAD_LEN, 1, last),
-        (MAX_PAYLOAD_LEN, MAX_PAYLOAD_LEN, MAX_PAYLOAD_LEN, middle),
-        (1, 1, MAX_PAYLOAD_LEN, last),
-        (1, 1, MAX_PAYLOAD_LEN - 1, middle),
+        long_row(MAX_PAYLOAD_LEN, MAX_PAYLOAD_LEN, 1, last),
+        long_row(MAX_PAYLOAD_LEN, MAX_PAYLOAD_LEN, MAX_PAYLOAD_LEN, middle),
+        long_row(1, 1, MAX_PAYLOAD_LEN, last),
+        long_row(1, 1, MAX_PAYLOAD_LEN - 1, middle),
         // One byte is missing.
-        (MAX_PAYLOAD_LEN, MAX_PAYLOAD_LEN - 1, 0, Told::Waits),
-        (
+        long_row(MAX_PAYLOAD_LEN, MAX_PAYLOAD_LEN - 1, 0, Told::Waits),
+        long_row(
             MAX_PAYLOAD_LEN + 1,
             MAX_PAYLOAD_LEN,
             MAX_PAYLOAD_LEN - 1,
             Told::Waits,
         ),
     ];
-    for (needed, there, held, told) in rows {
-        if !finishes(rt.alloc(), needed, there, held, told)? {
-            return Err(Fail::new(format_args!("{needed} of {there} bytes, {held} held")));
+    for (i, row) in rows.iter().enumerate() {
+        if let Some(step) = first_fault(rt.alloc(), &row.steps()) {
+            return Err(Fail::new(format_args!("row {i}, step {step}")));
         }
     }
     Ok(())
 }
 
-// Whether an empty chunk is the last one of a packet of full chunks.
-fn empty_chunk_ends(alloc: Global) -> Result<bool, AllocError> {
-    let mut decoder = ChunkDecoder::default();
-    let mut src = BytesMut::copy_from_slice(alloc, b"\0\0\0\x01")?;
-    let mut dst = Vec::from_elem(alloc, FILL, MAX_PAYLOAD_LEN)?;
-    let told = Told::of_chunk(decoder.decode(&mut src, &mut dst, 0));
-    Ok(
-        told == Told::Last(1)
-            && decoder == ChunkDecoder::Idle
-            && src.is_empty()
-            && dst.len() == MAX_PAYLOAD_LEN,
-    )
-}
-
 #[test]
 fn an_empty_chunk_ends_a_packet_of_full_chunks(rt: HostRuntime) -> Result<(), Fail> {
-    ensure(empty_chunk_ends(rt.alloc())?, "the chunk is the last one")
+    play(
+        rt.alloc(),
+        &[Script {
+            name: "the chunk is the last one",
+            steps: &[
+                Step::DstMany(MAX_PAYLOAD_LEN),
+                Step::Src(b"\0\0\0\x01"),
+                Step::Chunk(0, Told::Last(1)),
+                Step::Remembers(None),
+                Step::Left(b""),
+                Step::HeldMany(MAX_PAYLOAD_LEN),
+            ],
+        }],
+    )
 }

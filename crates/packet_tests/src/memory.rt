@@ -1,135 +1,80 @@
 //! What a call leaves when its first, second, third request for memory is refused, and so on, and
 //! how it goes on; and the calls that ask for none.
 
-use crate::bench::Bench;
-use crate::case::{Case, is_read, least_count, left_of};
-use crate::chunks::decoder_of;
-use crate::line::Line;
-use crate::made_up::{Dice, Stream, pieces_of};
-use crate::targets::{Counting, Target, Zeros};
-use crate::told::{Facts, Told, ensure};
 use bytes::{Buf, BytesMut};
 use mysql_wire::constants::MAX_PAYLOAD_LEN;
 use mysql_wire::io::WireError;
-use mysql_wire::proto::codec::{ChunkDecoder, PacketCodec, packet_to_chunks};
+use mysql_wire::proto::codec::{PacketCodec, packet_to_chunks};
 use refusing::{NEVER, Refusing};
 use std::alloc::{AllocError, Global};
 use std::test::Fail;
-
-type Heap = Refusing<Global>;
+use test_support::case::{Case, Wanted};
+use test_support::facts::ensure;
+use test_support::fixture::Heap;
+use test_support::receiver::{Receiver, pieces_from};
+use test_support::script::{Script, Step, first_fault, play};
+use test_support::targets::Zeros;
+use test_support::told::Told;
 
 // No run that a test makes asks so often.
 const MOST: u64 = 100;
 
-// Where a run is refused no more, at least one was before it.
-fn last_run(nth: u64) -> Result<(), Fail> {
-    ensure(nth > 0, "a request was refused")
-}
-
-fn endless() -> Result<(), Fail> {
-    Err(Fail::new("each run was refused"))
-}
+// How much room a vector asks for, whether it is given, and how many requests may still come then.
+const GROWTHS: [(usize, bool, u64); 4] = [
+    (1000, true, 1),
+    // A growth is one request, and what is given back is none.
+    (10000, true, 0),
+    (100000, false, u64::MAX),
+    (100000, true, u64::MAX - 1),
+];
 
 #[test]
 fn the_request_of_this_number_is_refused(rt: HostRuntime) -> Result<(), Fail> {
-    let mut facts = Facts::new();
-    let heap = Refusing::new(rt.alloc(), 2);
-    let mut first = Vec::from_slice(&heap, b"a")?;
-    facts.see(heap.left() == 1, "one request was made");
-    // A growth is one request, and what is given back is none.
-    first.reserve(1000)?;
-    facts.see(heap.left() == 0, "two requests were made");
-    facts.see(!heap.has_refused(), "and none was refused");
-    facts.see(first.reserve(100000).is_err(), "the third is refused");
-    facts.see(heap.left() == u64::MAX, "it was made");
-    facts.see(heap.has_refused(), "and refused");
-    facts.see(first.reserve(100000).is_ok(), "the fourth is handed on");
+    let heap = Refusing::new(rt.alloc(), 3);
+    let mut bytes = Vec::from_slice(&heap, b"a")?;
+    let mut good = true;
+    for (room, given, left) in GROWTHS {
+        good = good && !(heap.has_refused() && !given);
+        good = good && bytes.reserve(room).is_ok() == given && heap.left() == left;
+    }
     heap.refuse(0);
-    facts.see(first.reserve(1000000).is_err(), "the next is refused");
-    facts.see(first.as_slice() == b"a".as_slice(), "nothing is lost");
-    facts.end()
+    good = good && bytes.reserve(1000000).is_err() && heap.has_refused();
+    ensure(good && bytes.as_slice() == b"a".as_slice(), "the requests")
 }
 
-// Frames five bytes behind two, with request number `nth` refused. Says whether it was.
-fn framing_refused(heap: &Heap, nth: u64) -> Result<bool, Fail> {
-    let mut facts = Facts::new();
-    let mut dst = BytesMut::copy_from_slice(heap, b"ab")?;
+// Frames five bytes in two pieces behind two, with request number `nth` refused. Says whether it
+// was, if the call leaves what it must.
+fn framing_refused(alloc: Global, nth: u64) -> Option<bool> {
+    let heap = Refusing::new(alloc, NEVER);
+    let mut dst = BytesMut::new(&heap);
+    let begins = dst.extend_from_slice(b"ab").is_ok();
     let mut packet = b"123".as_slice().chain(b"45".as_slice());
     heap.refuse(nth);
-    let told = match packet_to_chunks(255, &mut packet, &mut dst) {
-        Ok(id) => Some(id),
-        Err(WireError::OutOfMemory) => None,
-        Err(_) => return Err(Fail::new("an answer that no call gives")),
-    };
-    facts.see(
-        heap.has_refused() == told.is_none(),
-        "refused exactly where a request was",
-    );
-    if let Some(id) = told {
-        facts.see(id == 0, "the id after the packet");
-        facts.see(
-            dst.as_slice() == b"ab\x05\0\0\xff12345".as_slice(),
-            "the packet is there",
-        );
-        facts.see(packet.remaining() == 0, "all of it");
-    } else {
-        facts.see(
-            dst.as_slice() == b"ab".as_slice(),
-            "the buffer is as it was",
-        );
-        facts.see(packet.remaining() == 5, "the packet is as it was");
-        facts.see(packet.chunk() == b"123".as_slice(), "with its pieces");
-    }
-    facts.end()?;
-    Ok(told.is_none())
+    let next_id = packet_to_chunks(255, &mut packet, &mut dst).ok();
+    let refused = next_id.is_none();
+    let good = begins
+        && heap.has_refused() == refused
+        && if refused {
+            packet.remaining() == 5
+                && packet.chunk() == b"123".as_slice()
+                && dst.as_slice() == b"ab".as_slice()
+        } else {
+            packet.remaining() == 0
+                && next_id == Some(0)
+                && dst.as_slice() == b"ab\x05\0\0\xff12345".as_slice()
+        };
+    if good { Some(refused) } else { None }
 }
 
 #[test]
 fn packet_to_chunks_refused_changes_nothing(rt: HostRuntime) -> Result<(), Fail> {
-    for nth in 0..MOST {
-        let heap = Refusing::new(rt.alloc(), NEVER);
-        if !framing_refused(&heap, nth)? {
-            return last_run(nth);
-        }
-    }
-    endless()
+    let refused = framing_refused(rt.alloc(), 0) == Some(true);
+    let given = framing_refused(rt.alloc(), 1) == Some(false);
+    ensure(refused && given, "its one request")
 }
 
-// Encodes a packet behind another, with request number `nth` refused, and goes on. Says whether it
-// was.
-fn encode_refused(heap: &Heap, nth: u64) -> Result<bool, Fail> {
-    let mut facts = Facts::new();
-    let mut bench = Bench::<Vec<u8, &Heap>, &Heap>::new(heap);
-    facts.see(bench.encode(b"a") == Told::Done, "the packet before");
-    heap.refuse(nth);
-    let told = bench.encode(b"0123456789");
-    let refused = told == Told::OutOfMemory;
-    facts.see(
-        heap.has_refused() == refused,
-        "refused exactly where a request was",
-    );
-    if refused {
-        let before = b"\x01\0\0\0\x61".as_slice();
-        facts.see(bench.src.as_slice() == before, "the buffer is as it was");
-        facts.see(bench.encode(b"0123456789") == Told::Done, "the next call");
-    }
-    // The id is that of the one packet before.
-    let both = b"\x01\0\0\0\x61\x0a\0\0\x010123456789".as_slice();
-    facts.see(bench.src.as_slice() == both, "both packets are there");
-    facts.end()?;
-    Ok(refused)
-}
-
-#[test]
-fn encode_refused_changes_nothing(rt: HostRuntime) -> Result<(), Fail> {
-    for nth in 0..MOST {
-        let heap = Refusing::new(rt.alloc(), NEVER);
-        if !encode_refused(&heap, nth)? {
-            return last_run(nth);
-        }
-    }
-    endless()
-}
+// A packet of ten bytes, and a byte behind it.
+const PACKET: &[u8] = b"\x0a\0\0\x000123456789\xff";
 
 // Whether a payload whose framing no machine can hold is refused, and nothing is changed.
 fn huge_refused(alloc: Global, len: usize) -> Result<bool, AllocError> {
@@ -155,168 +100,164 @@ fn a_payload_that_no_machine_can_frame_is_refused(rt: HostRuntime) -> Result<(),
     Ok(())
 }
 
-// A packet of ten bytes, and a byte behind it.
-const PACKET: &[u8] = b"\x0a\0\0\x000123456789\xff";
+// A packet of two full chunks and a byte.
+const LONG: usize = 2 * MAX_PAYLOAD_LEN + 1;
 
-// What a refused call leaves.
-fn see_refused<'h, T: Target<&'h Heap>>(
-    facts: &mut Facts,
-    bench: &Bench<T, &'h Heap>,
-    src: &[u8],
-) -> Result<(), AllocError> {
-    facts.see(bench.src.as_slice() == src, "nothing was taken");
-    facts.see(bench.dst.as_ref().is_empty(), "nothing was put");
-    facts.see(bench.codec.stands_at(&bench.src, b""), "the codec stands");
-    // The header is remembered: the codec stands at no other one.
-    let other = BytesMut::copy_from_slice(bench.alloc, b"\x0a\0\0\x01")?;
-    facts.see(
-        !bench.codec.stands_at(&other, b""),
-        "the header is remembered",
-    );
-    Ok(())
-}
-
-// Decodes a packet with request number `nth` refused, and goes on. Says whether it was.
-fn decode_refused<'h, T: Target<&'h Heap>>(heap: &'h Heap, nth: u64) -> Result<bool, Fail> {
-    let mut facts = Facts::new();
-    heap.refuse(NEVER);
-    let mut bench = Bench::<T, &'h Heap>::new(heap);
-    bench.src.extend_from_slice(PACKET)?;
-    heap.refuse(nth);
-    let mut told = bench.decode();
-    let refused = told == Told::OutOfMemory;
-    facts.see(
-        heap.has_refused() == refused,
-        "refused exactly where a request was",
-    );
-    if refused {
-        see_refused(&mut facts, &bench, PACKET)?;
-        told = bench.decode();
-    }
-    facts.see(told == Told::Whole, "the call");
-    facts.see(
-        bench.dst.as_ref() == b"0123456789".as_slice(),
-        "the packet is there",
-    );
-    facts.see(
-        bench.src.as_slice() == b"\xff".as_slice(),
-        "the byte behind it is left",
-    );
-    facts.end()?;
-    Ok(refused)
-}
+const REFUSED: [Script; 9] = [
+    Script {
+        name: "the one request of encode is refused",
+        steps: &[
+            Step::Encode(b"a", Told::Done),
+            Step::Refuse(0),
+            Step::Encode(b"0123456789", Told::OutOfMemory),
+            Step::Refused(true),
+            Step::Left(b"\x01\0\0\0\x61"),
+            // The id is that of the one packet before.
+            Step::Encode(b"0123456789", Told::Done),
+            Step::Left(b"\x01\0\0\0\x61\x0a\0\0\x010123456789"),
+        ],
+    },
+    Script {
+        name: "encode asks once",
+        steps: &[
+            Step::Encode(b"a", Told::Done),
+            Step::Refuse(1),
+            Step::Encode(b"0123456789", Told::Done),
+            Step::Refused(false),
+            Step::Unasked(0),
+            Step::Left(b"\x01\0\0\0\x61\x0a\0\0\x010123456789"),
+        ],
+    },
+    Script {
+        name: "the one request of decode is refused",
+        steps: &[
+            Step::Src(PACKET),
+            Step::Refuse(0),
+            Step::Decode(Told::OutOfMemory),
+            Step::Refused(true),
+            Step::Left(PACKET),
+            Step::Held(b""),
+            // The header is remembered: the codec stands at no other one.
+            Step::Stands(true),
+            Step::StandsAt(b"\x0a\0\0\x01", b"", false),
+            Step::Decode(Told::Whole),
+            Step::Held(b"0123456789"),
+            Step::Left(b"\xff"),
+        ],
+    },
+    Script {
+        name: "decode asks once",
+        steps: &[
+            Step::Src(PACKET),
+            Step::Refuse(1),
+            Step::Decode(Told::Whole),
+            Step::Refused(false),
+            Step::Unasked(0),
+            Step::Held(b"0123456789"),
+            Step::Left(b"\xff"),
+        ],
+    },
+    Script {
+        name: "the first put is refused",
+        steps: &[
+            Step::Counting,
+            Step::Limit(LONG),
+            Step::EncodeMany(LONG, Told::Done),
+            Step::Reset,
+            Step::RefusePut(0),
+            Step::Decode(Told::OutOfMemory),
+            Step::HeldMany(0),
+            Step::LeftMany(LONG + 12),
+            Step::Stands(true),
+            // The header is remembered.
+            Step::Limit(0),
+            Step::Stands(false),
+            Step::Limit(LONG),
+            Step::Decode(Told::Whole),
+            Step::HeldMany(LONG),
+            Step::Left(b""),
+        ],
+    },
+    Script {
+        name: "the second put is refused",
+        steps: &[
+            Step::Counting,
+            Step::Limit(LONG),
+            Step::EncodeMany(LONG, Told::Done),
+            Step::Reset,
+            Step::RefusePut(1),
+            Step::Decode(Told::OutOfMemory),
+            // The chunk before it is held, and eaten.
+            Step::HeldMany(MAX_PAYLOAD_LEN),
+            Step::LeftMany(MAX_PAYLOAD_LEN + 9),
+            Step::Stands(true),
+            Step::Limit(0),
+            Step::Stands(false),
+            Step::Limit(LONG),
+            Step::Decode(Told::Whole),
+            Step::HeldMany(LONG),
+            Step::Left(b""),
+        ],
+    },
+    Script {
+        name: "the third put is refused",
+        steps: &[
+            Step::Counting,
+            Step::Limit(LONG),
+            Step::EncodeMany(LONG, Told::Done),
+            Step::Reset,
+            Step::RefusePut(2),
+            Step::Decode(Told::OutOfMemory),
+            Step::HeldMany(2 * MAX_PAYLOAD_LEN),
+            Step::LeftMany(5),
+            Step::Stands(true),
+            Step::Limit(0),
+            Step::Stands(false),
+            Step::Limit(LONG),
+            Step::Decode(Told::Whole),
+            Step::HeldMany(LONG),
+            Step::Left(b""),
+        ],
+    },
+    Script {
+        name: "a single chunk's put is refused",
+        steps: &[
+            Step::Counting,
+            Step::Src(b"\x02\0\0\x07ab"),
+            Step::RefusePut(0),
+            Step::Chunk(2, Told::OutOfMemory),
+            Step::Left(b"\x02\0\0\x07ab"),
+            Step::Held(b""),
+            Step::Remembers(Some((7, 2))),
+            // It is not judged again.
+            Step::Chunk(0, Told::Last(7)),
+            Step::Held(b"ab"),
+        ],
+    },
+    Script {
+        name: "the growth for a second chunk is refused",
+        steps: &[
+            Step::Limit(2 * MAX_PAYLOAD_LEN),
+            Step::Src(b"\xff\xff\xff\0"),
+            Step::ComesMany(MAX_PAYLOAD_LEN),
+            Step::Decode(Told::Waits),
+            Step::Comes(b"\xff\xff\xff\x01"),
+            Step::ComesMany(MAX_PAYLOAD_LEN),
+            Step::Refuse(0),
+            Step::Decode(Told::OutOfMemory),
+            Step::Refused(true),
+            Step::HeldMany(MAX_PAYLOAD_LEN),
+            Step::LeftMany(MAX_PAYLOAD_LEN + 4),
+            Step::Stands(true),
+            Step::Decode(Told::Waits),
+            Step::HeldMany(2 * MAX_PAYLOAD_LEN),
+        ],
+    },
+];
 
 #[test]
-fn decode_refused_goes_on(rt: HostRuntime) -> Result<(), Fail> {
-    for nth in 0..MOST {
-        let heap = Refusing::new(rt.alloc(), NEVER);
-        let vec_refused = decode_refused::<Vec<u8, &Heap>>(&heap, nth)?;
-        let bytes_refused = decode_refused::<BytesMut<&Heap>>(&heap, nth)?;
-        if !vec_refused || !bytes_refused {
-            ensure(vec_refused == bytes_refused, "both ask as often")?;
-            return last_run(nth);
-        }
-    }
-    endless()
-}
-
-// A packet of two full chunks and a byte, whose put number `nth` is refused, so many bytes being
-// held then, and so many left.
-fn put_refused(alloc: Global, nth: u64, held: usize, left: usize) -> Result<(), Fail> {
-    let mut facts = Facts::new();
-    let len = 2 * MAX_PAYLOAD_LEN + 1;
-    let mut bench = Bench::<Counting<Global>>::new(alloc);
-    bench.codec.max_allowed_packet = len;
-    facts.see(bench.encode_many(len)? == Told::Done, "the packet comes");
-    bench.codec.reset_seq_id();
-    bench.dst.puts_left = nth;
-    facts.see(bench.decode() == Told::OutOfMemory, "the put is refused");
-    facts.see(bench.holds_many(held)?, "the chunks before it are held");
-    facts.see(bench.src.len() == left, "and eaten");
-    facts.see(bench.stands(), "the codec stands");
-    bench.codec.max_allowed_packet = 0;
-    facts.see(!bench.stands(), "the next header is remembered");
-    bench.codec.max_allowed_packet = len;
-    facts.see(bench.decode() == Told::Whole, "the next call");
-    facts.see(bench.holds_many(len)?, "the packet is whole");
-    facts.see(bench.src.is_empty(), "nothing is left");
-    facts.end()
-}
-
-#[test]
-fn a_put_refused_after_the_growth_leaves_the_chunks_before(rt: HostRuntime) -> Result<(), Fail> {
-    put_refused(rt.alloc(), 0, 0, 2 * MAX_PAYLOAD_LEN + 13)?;
-    put_refused(rt.alloc(), 1, MAX_PAYLOAD_LEN, MAX_PAYLOAD_LEN + 9)?;
-    put_refused(rt.alloc(), 2, 2 * MAX_PAYLOAD_LEN, 5)
-}
-
-// Whether a decoder that takes a chunk whose put is refused remembers its header, and goes on.
-fn chunk_put_refused(alloc: Global) -> Result<(), Fail> {
-    let mut facts = Facts::new();
-    let mut decoder = ChunkDecoder::Idle;
-    let mut src = BytesMut::copy_from_slice(alloc, b"\x02\0\0\x07ab")?;
-    let mut dst = Counting::<Global>::empty(alloc);
-    dst.puts_left = 0;
-    let told = Told::of_chunk(decoder.decode(&mut src, &mut dst, 2));
-    facts.see(told == Told::OutOfMemory, "the put is refused");
-    facts.see(
-        src.as_slice() == b"\x02\0\0\x07ab".as_slice(),
-        "nothing is taken",
-    );
-    facts.see(dst.bytes.is_empty(), "nothing is put");
-    let remembered = decoder_of(Some((7, 2)));
-    facts.see(decoder == remembered, "the header is remembered");
-    // It is not judged again.
-    let told = Told::of_chunk(decoder.decode(&mut src, &mut dst, 0));
-    facts.see(told == Told::Last(7), "the next call");
-    facts.see(
-        dst.bytes.as_slice() == b"ab".as_slice(),
-        "the bytes are there",
-    );
-    facts.end()
-}
-
-#[test]
-fn a_chunk_whose_put_is_refused_is_remembered(rt: HostRuntime) -> Result<(), Fail> {
-    chunk_put_refused(rt.alloc())
-}
-
-// A growth is refused where a full chunk is held already.
-fn second_growth_refused(heap: &Heap) -> Result<(), Fail> {
-    let mut facts = Facts::new();
-    let mut bench = Bench::<Vec<u8, &Heap>, &Heap>::new(heap);
-    bench.codec.max_allowed_packet = 2 * MAX_PAYLOAD_LEN;
-    bench.src.extend_from_slice(b"\xff\xff\xff\0")?;
-    bench.comes_many(MAX_PAYLOAD_LEN)?;
-    facts.see(bench.decode() == Told::Waits, "a full chunk is held");
-    bench.src.extend_from_slice(b"\xff\xff\xff\x01")?;
-    bench.comes_many(MAX_PAYLOAD_LEN)?;
-    heap.refuse(0);
-    facts.see(bench.decode() == Told::OutOfMemory, "the growth is refused");
-    facts.see(heap.has_refused(), "by the allocator");
-    facts.see(
-        bench.holds_many(MAX_PAYLOAD_LEN)?,
-        "the full chunk is still held",
-    );
-    facts.see(
-        bench.src.len() == MAX_PAYLOAD_LEN + 4,
-        "the next one is left",
-    );
-    facts.see(bench.stands(), "the codec stands");
-    facts.see(bench.decode() == Told::Waits, "the next call");
-    facts.see(bench.holds_many(2 * MAX_PAYLOAD_LEN)?, "both are held");
-    facts.end()
-}
-
-#[test]
-fn a_growth_refused_between_two_chunks_loses_nothing(rt: HostRuntime) -> Result<(), Fail> {
-    let heap = Refusing::new(rt.alloc(), NEVER);
-    second_growth_refused(&heap)
-}
-
-// The pieces from number `count` on.
-fn pieces_from<'a, 'b>(pieces: &'a [&'b [u8]], count: usize) -> &'a [&'b [u8]] {
-    &pieces[count.min(pieces.len())..]
+fn what_was_taken_before_a_refusal_is_held(rt: HostRuntime) -> Result<(), Fail> {
+    play(rt.alloc(), &REFUSED)
 }
 
 // How much is refused in one run.
@@ -328,182 +269,135 @@ enum Refusals {
     Many,
 }
 
-// Delivers these pieces of a stream with request number `nth` refused, and goes on with those that
-// were not appended until no request is refused. The end must be that of the stream's reading. Says
-// how many requests were refused.
+// Delivers these pieces, and goes on with those that were not appended until no request is refused.
+// Says what all runs together did, and how many were refused, if just those ran out of memory.
+fn deliver_on(
+    receiver: &mut Receiver<&Heap>,
+    pieces: &[&[u8]],
+    refusals: Refusals,
+) -> Option<(usize, Told, u64)> {
+    let mut count = 0usize;
+    for refused in 0..MOST {
+        let (more, told) = receiver.deliver(pieces_from(pieces, count));
+        count = count.wrapping_add(more);
+        let again = told == Told::OutOfMemory;
+        if receiver.alloc.has_refused() != again {
+            return None;
+        }
+        if !again {
+            return Some((count, told, refused));
+        }
+        let later = refusals == Refusals::Many;
+        receiver
+            .alloc
+            .refuse(if later { refused + 1 } else { NEVER });
+    }
+    None
+}
+
+// Delivers a stream in pieces with request number `nth` refused, and goes on. Says how many requests
+// were refused, if the end is that of the stream's reading.
 fn deliver_refused(
     alloc: Global,
     case: &Case,
     pieces: &[&[u8]],
     nth: u64,
     refusals: Refusals,
-) -> Result<u64, Fail> {
-    let heap = Refusing::new(alloc, nth);
-    let mut line = Line::<&Heap>::new(&heap, case.limit);
-    let mut count = 0usize;
-    let mut told = Told::OutOfMemory;
-    let mut refused = 0u64;
-    for again in 1..MOST {
-        let Some((more, answer)) = line.deliver(pieces_from(pieces, count)) else {
-            return Err(Fail::new("the codec doesn't stand"));
-        };
-        count = count.wrapping_add(more);
-        told = answer;
-        ensure(
-            heap.has_refused() == (told == Told::OutOfMemory),
-            "refused where a request was",
-        )?;
-        if told != Told::OutOfMemory {
-            break;
-        }
-        refused = refused.wrapping_add(1);
-        heap.refuse(if refusals == Refusals::Many {
-            again
-        } else {
-            NEVER
-        });
-    }
+) -> Option<u64> {
+    let heap = Refusing::new(alloc, NEVER);
+    let mut receiver = case.receiver(&heap);
+    heap.refuse(nth);
+    let (count, told, refused) = deliver_on(&mut receiver, pieces, refusals)?;
     heap.refuse(NEVER);
-    let left = left_of(alloc, line.src.as_slice(), pieces, count)?;
-    let least = least_count(case.reading.shown_at, 0, pieces);
-    ensure(
-        count == least,
-        "no more pieces were appended than are needed",
-    )?;
-    ensure(case.ends(&line, told, left.as_slice()), "nothing is lost")?;
-    ensure(
-        line.next_id(&heap) == Some(case.reading.next_id),
-        "no id is raised twice",
-    )?;
-    Ok(refused)
+    if case.is_ended(&mut receiver, 0, pieces, (count, told)) {
+        Some(refused)
+    } else {
+        None
+    }
 }
 
 // Two packets and the front of a third.
 const TWO: &[u8] = b"\x03\0\0\x00123\x01\0\0\x01\xff\0";
 
-#[test]
-fn deliver_refused_goes_on(rt: HostRuntime) -> Result<(), Fail> {
-    let pieces: [&[u8]; 5] = [b"\x03", b"\0\0", b"\x001", b"", b"23\x01\0\0\x01\xff\0"];
-    let case = Case::new(rt.alloc(), 0, 4194304, TWO)?;
-    ensure(
-        is_read(&case.reading, &[b"123", b"\xff"], Told::Waits, b"", 12),
-        "the reading",
-    )?;
+const TWO_PIECES: [&[u8]; 5] = [b"\x03", b"\0\0", b"\x001", b"", b"23\x01\0\0\x01\xff\0"];
+
+const TWO_READ: Wanted<'static> = Wanted {
+    packets: &[b"123", b"\xff"],
+    told: Told::Waits,
+    held: b"",
+    left: 12,
+};
+
+// How many requests of a delivery can be refused, each in a run of its own.
+fn refusal_count(alloc: Global, case: &Case, pieces: &[&[u8]]) -> Option<u64> {
     for nth in 0..MOST {
-        if deliver_refused(rt.alloc(), &case, &pieces, nth, Refusals::One)? == 0 {
-            return ensure(nth > 3, "several requests were refused");
+        if deliver_refused(alloc, case, pieces, nth, Refusals::One)? == 0 {
+            return Some(nth);
         }
     }
-    endless()
+    None
 }
 
 #[test]
-fn deliver_refused_many_times_goes_on(rt: HostRuntime) -> Result<(), Fail> {
-    let pieces: [&[u8]; 5] = [b"\x03", b"\0\0", b"\x001", b"", b"23\x01\0\0\x01\xff\0"];
+fn deliver_refused_goes_on(rt: HostRuntime) -> Result<(), Fail> {
     let case = Case::new(rt.alloc(), 0, 4194304, TWO)?;
-    let refused = deliver_refused(rt.alloc(), &case, &pieces, 0, Refusals::Many)?;
-    ensure(refused > 2, "several requests were refused")
+    let read = TWO_READ.is_read(&case.reading);
+    let one = refusal_count(rt.alloc(), &case, &TWO_PIECES);
+    let many = deliver_refused(rt.alloc(), &case, &TWO_PIECES, 0, Refusals::Many);
+    // Several requests are refused, each in a run of its own and all in one.
+    let several = one.unwrap_or(0) > 3 && many.unwrap_or(0) > 2;
+    ensure(read && several, "the delivery")
 }
 
-// A made-up stream of this seed, under refusals.
-fn made_up_refused(alloc: Global, seed: u64) -> Result<(), Fail> {
-    let mut dice = Dice::new(seed);
-    let mut stream = Stream::well_formed(alloc, &mut dice, 0)?;
-    stream.damage(&mut dice);
-    let limit = stream.limit(&mut dice);
-    let case = Case::new(alloc, 0, limit, stream.bytes.as_slice())?;
-    let pieces = pieces_of(alloc, &mut dice, stream.bytes.as_slice())?;
-    let nth = dice.below(4) as u64;
-    deliver_refused(alloc, &case, pieces.as_slice(), nth, Refusals::One)?;
-    deliver_refused(alloc, &case, pieces.as_slice(), nth, Refusals::Many)?;
-    Ok(())
+/// Whether a stream in pieces is delivered as it is read, with request number `nth` refused, and
+/// with later ones too.
+pub fn agrees_refused(alloc: Global, case: &Case, pieces: &[&[u8]], nth: u64) -> bool {
+    deliver_refused(alloc, case, pieces, nth, Refusals::One).is_some()
+        && deliver_refused(alloc, case, pieces, nth, Refusals::Many).is_some()
 }
 
-#[test]
-fn made_up_streams_agree_whatever_is_refused(rt: HostRuntime) -> Result<(), Fail> {
-    for seed in 0..1000u64 {
-        made_up_refused(rt.alloc(), seed)?;
-    }
-    Ok(())
-}
+// What is to be read, a limit, and what `decode` answers where it takes no payload byte.
+type Row = (&'static [u8], usize, Told);
 
-// Whether a call of `decode` whose chunk in front is empty, not whole or past the limit asks for no
-// memory; nor do `stands_at`, `sync_seq_id` and `reset_seq_id`.
-fn asks_for_none<'h, T: Target<&'h Heap>>(
-    heap: &'h Heap,
-    src: &[u8],
-    limit: usize,
-    told: Told,
-) -> Result<bool, AllocError> {
-    heap.refuse(NEVER);
-    let mut bench = Bench::<T, &'h Heap>::new(heap);
-    bench.codec.max_allowed_packet = limit;
-    bench.src.extend_from_slice(src)?;
-    heap.refuse(0);
-    let goes = bench.decode() == told;
+const TAKING_NOTHING: [Row; 9] = [
+    (b"", 9, Told::Waits),
+    (b"\x01\0\0", 9, Told::Waits),
+    (b"\x02\0\0\0\x61", 9, Told::Waits),
+    (b"\xff\xff\xff\x07\x61", usize::MAX, Told::Waits),
+    (b"\0\0\0\0\x61", 0, Told::Whole),
+    (b"\0\0\0\x05", 0, Told::OutOfSync),
+    (b"\x09\0\0\0", 8, Told::TooLarge),
+    (b"\x01\0\0\x05\x61", 0, Told::TooLarge),
+    (b"\xff\xff\xff\0abc", 16777214, Told::TooLarge),
+];
+
+fn taking_nothing(row: &Row) -> [Step; 9] {
+    let (src, limit, told) = *row;
     // Where its header is remembered, a second call asks for none either.
-    let again = told != Told::Waits || bench.decode() == told;
-    let stands = bench.stands();
-    bench.codec.sync_seq_id();
-    bench.codec.reset_seq_id();
-    Ok(goes && again && stands && heap.left() == 0)
+    let again = if told == Told::Waits {
+        Step::Decode(Told::Waits)
+    } else {
+        Step::Sync
+    };
+    [
+        Step::Limit(limit),
+        Step::Src(src),
+        Step::Refuse(0),
+        Step::Decode(told),
+        again,
+        Step::Stands(true),
+        Step::Sync,
+        Step::Reset,
+        Step::Unasked(0),
+    ]
 }
 
 #[test]
 fn calls_that_take_nothing_ask_for_no_memory(rt: HostRuntime) -> Result<(), Fail> {
-    let rows: [(&[u8], usize, Told); 9] = [
-        (b"", 9, Told::Waits),
-        (b"\x01\0\0", 9, Told::Waits),
-        (b"\x02\0\0\0\x61", 9, Told::Waits),
-        (b"\xff\xff\xff\x07\x61", usize::MAX, Told::Waits),
-        (b"\0\0\0\0\x61", 0, Told::Whole),
-        (b"\0\0\0\x05", 0, Told::OutOfSync),
-        (b"\x09\0\0\0", 8, Told::TooLarge),
-        (b"\x01\0\0\x05\x61", 0, Told::TooLarge),
-        (b"\xff\xff\xff\0abc", 16777214, Told::TooLarge),
-    ];
-    let heap = Refusing::new(rt.alloc(), NEVER);
-    for (i, (src, limit, told)) in rows.iter().enumerate() {
-        let vec = asks_for_none::<Vec<u8, &Heap>>(&heap, src, *limit, *told)?;
-        let bytes = asks_for_none::<BytesMut<&Heap>>(&heap, src, *limit, *told)?;
-        if !vec || !bytes {
-            return Err(Fail::new(format_args!("row {i} goes otherwise")));
+    for (i, row) in TAKING_NOTHING.iter().enumerate() {
+        if let Some(step) = first_fault(rt.alloc(), &taking_nothing(row)) {
+            return Err(Fail::new(format_args!("row {i}, step {step}")));
         }
     }
     Ok(())
-}
-
-#[test]
-fn packet_to_chunks_succeeds_with_memory(rt: HostRuntime) -> Result<(), Fail> {
-    let mut dst = BytesMut::new(rt.alloc());
-    let mut packet = b"123".as_slice();
-    ensure(
-        packet_to_chunks(0, &mut packet, &mut dst).is_ok(),
-        "the packet is framed",
-    )
-}
-
-#[test]
-fn encode_succeeds_with_memory(rt: HostRuntime) -> Result<(), Fail> {
-    let mut bench = Bench::<Vec<u8>>::new(rt.alloc());
-    ensure(bench.encode(b"123") == Told::Done, "the packet is framed")
-}
-
-#[test]
-fn decode_succeeds_with_memory(rt: HostRuntime) -> Result<(), Fail> {
-    let mut bench = Bench::<Vec<u8>>::new(rt.alloc());
-    bench.src.extend_from_slice(PACKET)?;
-    ensure(bench.decode() == Told::Whole, "into a vector")?;
-    let mut bench = Bench::<BytesMut>::new(rt.alloc());
-    bench.src.extend_from_slice(PACKET)?;
-    ensure(bench.decode() == Told::Whole, "into a buffer")
-}
-
-#[test]
-fn deliver_succeeds_with_memory(rt: HostRuntime) -> Result<(), Fail> {
-    let mut line = Line::<Global>::new(rt.alloc(), 3);
-    ensure(
-        line.deliver(&[TWO]) == Some((1, Told::Waits)),
-        "the packets come out",
-    )
 }

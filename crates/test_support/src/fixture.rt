@@ -1,13 +1,15 @@
 //! A codec with its two buffers, over an allocator that refuses what it is told to.
 
-use crate::refusals::Heap;
 use crate::targets::Target;
 use crate::told::Told;
 use bytes::BytesMut;
 use mysql_wire::proto::codec::{ChunkDecoder, PacketCodec};
-use refusing::NEVER;
-use std::alloc::Allocator;
+use refusing::{NEVER, Refusing};
+use std::alloc::{Allocator, Global};
 use std::num::NonZeroUsize;
+
+/// The allocator of a test that refuses a request.
+pub type Heap = Refusing<Global>;
 
 /// The byte that long payloads are made of.
 pub const FILL: u8 = 0x42;

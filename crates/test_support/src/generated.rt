@@ -51,12 +51,8 @@ impl Stream {
         put_framing(&mut self.bytes, id, payload.as_slice())
     }
 
-    /// A few small packets, their ids beginning with this one.
-    pub fn well_formed(
-        alloc: Global,
-        draws: &mut Draws,
-        first_id: u8,
-    ) -> Result<Stream, AllocError> {
+    // A few small packets, their ids beginning with this one.
+    fn well_formed(alloc: Global, draws: &mut Draws, first_id: u8) -> Result<Stream, AllocError> {
         let mut stream = Stream {
             bytes: Vec::new(alloc),
             headers: Vec::new(alloc),
@@ -76,8 +72,8 @@ impl Stream {
         }
     }
 
-    /// Damages it in one of five ways, of which the first is none.
-    pub fn damage(&mut self, draws: &mut Draws) {
+    // Damages it in one of five ways, of which the first is none.
+    fn damage(&mut self, draws: &mut Draws) {
         let header = draws.one_of(self.headers.as_slice());
         match draws.below(5) {
             0 => {}
@@ -97,6 +93,13 @@ impl Stream {
                 self.set(at, low_byte(draws.below(256)));
             }
         }
+    }
+
+    /// A few small packets, of which one may be damaged.
+    pub fn damaged(alloc: Global, draws: &mut Draws, first_id: u8) -> Result<Stream, AllocError> {
+        let mut stream = Stream::well_formed(alloc, draws, first_id)?;
+        stream.damage(draws);
+        Ok(stream)
     }
 
     /// A limit near one of the packets, or none.

@@ -1,6 +1,5 @@
 //! What the crates of tests share: answers that can be compared, a codec with its buffers and its
-//! steps as a table, targets that count, a reference reading of streams, streams from a seed, and
-//! the loop that refuses each request for memory in turn.
+//! steps as a table, targets that count, a reference reading of streams, and streams from a seed.
 #![tactic(auto)]
 
 pub mod case;
@@ -9,7 +8,6 @@ pub mod fixture;
 pub mod generated;
 pub mod receiver;
 pub mod reference;
-pub mod refusals;
 pub mod script;
 pub mod targets;
 pub mod told;

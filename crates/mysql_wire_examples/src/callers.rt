@@ -1,9 +1,9 @@
 //! Callers of the codec, as CALLING.md shows them.
 
-ghost use Rattle.std.specs.Prelude.{◌≡◌, ◌<◌, ◌≤◌, ℕ, List, [], ◌++◌, None, Ok, true, OnOk, IfOk, IfSome, take, vec_len};
+ghost use Rattle.std.specs.Prelude.{◌≡◌, ◌<◌, ◌≤◌, ℕ, List, [], ◌++◌, None, Err, Ok, false, true, OnOk, IfOk, IfSome, take, vec_len};
 ghost use Rattle.std.specs.Io.KnownBytes.{Consumes, IsAtEnd};
 ghost use Rattle.mysql_wire.specs.Framing.{framing, next_id};
-ghost use Rattle.mysql_wire.specs.Delivery.{Delivers, Waiting};
+ghost use Rattle.mysql_wire.specs.Delivery.{Delivers, TooLarge, Waiting};
 ghost use Rattle.mysql_wire.specs.Codec.{codec_state, expected_id, header_of, Stands};
 ghost use Rattle.mysql_wire.specs.Runs.{joined, payloads, RunsTo};
 
@@ -55,6 +55,8 @@ pub fn next_command<A: Allocator + Copy>(
     ensures whole { result ≡ Ok true → input.old.items ≡ framing 0 command.new.items ++ input.new.items }
     ensures next { result ≡ Ok true → expected_id codec.new ≡ next_id 0 command.new.items }
     ensures between { result ≡ Ok true → header_of codec.new ≡ None }
+    ensures waits { result ≡ Ok false → Delivers [] input.old.items 0 codec.old.max_allowed_packet [] Waiting command.new.items input.new.items }
+    ensures too_large { result ≡ Err PacketCodecError.PacketTooLarge → Delivers [] input.old.items 0 codec.old.max_allowed_packet [] TooLarge command.new.items input.new.items }
 {
     codec.reset_seq_id();
     codec.decode(input, command)

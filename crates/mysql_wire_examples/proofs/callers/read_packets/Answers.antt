@@ -3,9 +3,9 @@ use Rattle.std.specs.Io.KnownBytes.{Consumes}
 use Rattle.std.proofs.KnownBytes.{Consumes-nil, Consumes-trans}
 use Rattle.mysql_wire.specs.Codec.{codec_state}
 use Rattle.mysql_wire.specs.Runs.{payloads, RunsTo}
-use Rattle.mysql_wire_vectors.specs.Start.{start}
-use Rattle.mysql_wire_vectors.proofs.CallerLemmas.{start_waits, delivers_all}
-use Rattle.mysql_wire_vectors.proofs.callers.read_packets.Goals as goal
+use Rattle.mysql_wire_examples.specs.Start.{start}
+use Rattle.mysql_wire_examples.proofs.CallerLemmas.{start_waits, delivers_all}
+use Rattle.mysql_wire_examples.proofs.callers.read_packets.Goals as goal
 
 pub reads-init : goal.reads-init
 reads-init g c = record {

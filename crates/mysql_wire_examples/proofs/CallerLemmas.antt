@@ -5,7 +5,7 @@ use Rattle.mysql_wire.specs.Framing.{max_payload}
 use Rattle.mysql_wire.specs.Delivery.{Delivers, Waiting}
 use Rattle.mysql_wire.specs.Codec.{CodecState}
 use Rattle.mysql_wire.specs.Runs.{RunsTo}
-use Rattle.mysql_wire_vectors.specs.Start.{start}
+use Rattle.mysql_wire_examples.specs.Start.{start}
 
 -- nothing read yet is a run that waits
 pub start_waits : (limit : ℕ) → RunsTo (start limit) [] (Ok tt) [] (start limit)

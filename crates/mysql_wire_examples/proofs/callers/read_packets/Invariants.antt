@@ -2,8 +2,8 @@ use Rattle.std.proofs.Common.{◌≡◌, ℕ, List, Ok, vec_len}
 use Rattle.std.specs.Io.KnownBytes.{Consumes}
 use Rattle.mysql_wire.specs.Codec.{codec_state}
 use Rattle.mysql_wire.specs.Runs.{payloads, RunsTo}
-use Rattle.mysql_wire_vectors.specs.Start.{start}
-use Rattle.mysql_wire_vectors.proofs.callers.read_packets.Given as goal
+use Rattle.mysql_wire_examples.specs.Start.{start}
+use Rattle.mysql_wire_examples.proofs.callers.read_packets.Given as goal
 
 abbrev pub invariant-reads : goal.invariant-reads
 invariant-reads g l = record {

@@ -1,8 +1,8 @@
 use Rattle.std.proofs.Common.{Global}
 use Rattle.std.specs.declared.borrow.CowSlice.TheVariants as slice
 use Rattle.mysql_wire.specs.RawBytes.{RawBytes}
-use Rattle.mysql_wire_vectors.specs.declared.own_fields.U16Bytes.{U16Bytes}
-use Rattle.mysql_wire_vectors.proofs.own_fields.read_name.Goals as goal
+use Rattle.mysql_wire_examples.specs.declared.own_fields.U16Bytes.{U16Bytes}
+use Rattle.mysql_wire_examples.proofs.own_fields.read_name.Goals as goal
 
 pub returns-clause-back : goal.returns-clause-back
 returns-clause-back c =

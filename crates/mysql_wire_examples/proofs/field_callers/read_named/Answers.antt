@@ -2,8 +2,8 @@ use Rattle.std.proofs.Common.{ℕ, List, subst}
 use Rattle.mysql_wire.specs.Lenenc.{IsLenencOrMark}
 use Rattle.mysql_wire.specs.RawTexts.{IsBorrowedText}
 use Rattle.mysql_wire.specs.Spelling.{EatsText}
-use Rattle.mysql_wire_vectors.proofs.FieldLemmas.{eaten_size, eaten_text}
-use Rattle.mysql_wire_vectors.proofs.field_callers.read_named.Goals as goal
+use Rattle.mysql_wire_examples.proofs.FieldLemmas.{eaten_size, eaten_text}
+use Rattle.mysql_wire_examples.proofs.field_callers.read_named.Goals as goal
 
 pub returns-clause-name : goal.returns-clause-name
 returns-clause-name c =

@@ -1,0 +1,6 @@
+//! The callers that CALLING.md shows, proved. The tests of `mysql_wire_vectors` run them.
+#![tactic(auto)]
+
+pub mod callers;
+pub mod field_callers;
+pub mod own_fields;
