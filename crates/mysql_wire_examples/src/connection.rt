@@ -41,13 +41,17 @@ pub fn answer_to(command: &[u8]) -> &'static [u8]
 ghost use Rattle.mysql_wire_examples.specs.Connection.{AwaitsCommand, Serves, answer_to, state_of};
 
 impl<A: Allocator + Copy> Connection<A> {
-    pub fn new(alloc: A) -> Self
+    /// At the start of a connection, under a limit of so many payload bytes a command.
+    pub fn new(alloc: A, limit: usize) -> Self
         ensures awaits { AwaitsCommand result }
         ensures nothing { input_of (state_of result) ≡ [] }
+        ensures limit { result.codec.max_allowed_packet ≡ limit }
     {
         laws::between_packets();
+        let mut codec = PacketCodec::default();
+        codec.max_allowed_packet = limit;
         Connection {
-            codec: PacketCodec::default(),
+            codec,
             input: BytesMut::new(alloc),
             unfinished: Vec::new(alloc),
         }

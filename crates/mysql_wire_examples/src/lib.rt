@@ -1,6 +1,8 @@
-//! Proved callers, as CALLING.md shows them.
+//! The callers that CALLING.md shows, proved. The tests of `mysql_wire_vectors` run them.
 #![tactic(auto)]
 
 pub mod callers;
 pub mod commands;
 pub mod connection;
+pub mod field_callers;
+pub mod own_fields;

@@ -1,2 +1,0 @@
-pub mod CallerLemmas
-pub mod FieldLemmas

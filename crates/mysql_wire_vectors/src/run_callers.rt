@@ -1,0 +1,182 @@
+//! The callers of the codec, run: each answer that they have.
+
+use bytes::BytesMut;
+use mysql_wire::proto::codec::error::PacketCodecError;
+use mysql_wire_examples::callers::{exchange, read_packets};
+use mysql_wire_examples::connection::Connection;
+use std::alloc::Global;
+use std::io;
+use std::io::Read;
+use std::test::Fail;
+use test_support::receiver::are_packets;
+
+// What a caller handed out, or why it stopped.
+type Answer = Result<Vec<Vec<u8>>, PacketCodecError>;
+
+// What is wanted of it.
+#[derive(Clone, Copy)]
+enum Wanted {
+    Packets(&'static [&'static [u8]]),
+    TooLarge,
+    OutOfSync,
+    Io,
+}
+
+fn is_wanted(answer: &Answer, wanted: Wanted) -> bool {
+    match answer {
+        Ok(packets) => match wanted {
+            Wanted::Packets(wanted) => are_packets(packets.as_slice(), wanted),
+            _ => false,
+        },
+        Err(PacketCodecError::PacketTooLarge) => matches!(wanted, Wanted::TooLarge),
+        Err(PacketCodecError::PacketsOutOfSync) => matches!(wanted, Wanted::OutOfSync),
+        Err(PacketCodecError::Io(_)) => matches!(wanted, Wanted::Io),
+        Err(PacketCodecError::OutOfMemory) => false,
+    }
+}
+
+// The command `0e` and its answer, in pieces.
+const EXCHANGES: [(&[&[u8]], Wanted); 5] = [
+    (
+        &[b"\x01\0\0", b"\x01\x61\x01\0\0\x02\x62\0"],
+        Wanted::Packets(&[b"a", b"b"]),
+    ),
+    (&[], Wanted::Packets(&[])),
+    (&[b"\0\0\0\x01"], Wanted::Packets(&[b""])),
+    (&[b"\x01\0\x40\x01"], Wanted::TooLarge),
+    (&[b"\x01\0\0\0\x61"], Wanted::OutOfSync),
+];
+
+fn is_exchanged(alloc: Global, answer: &[&[u8]], wanted: Wanted) -> bool {
+    let mut output = BytesMut::new(alloc);
+    let answer = exchange(alloc, b"\x0e", &mut output, answer);
+    is_wanted(&answer, wanted) && output.as_slice() == b"\x01\0\0\0\x0e".as_slice()
+}
+
+#[test]
+fn a_command_is_answered(rt: HostRuntime) -> Result<(), Fail> {
+    for (i, (answer, wanted)) in EXCHANGES.iter().enumerate() {
+        if !is_exchanged(rt.alloc(), answer, *wanted) {
+            return Err(Fail::new(format_args!("exchange {i}")));
+        }
+    }
+    Ok(())
+}
+
+// What a server answers to these bytes under a limit of 9, in front of a fault if there is one.
+type Row = (&'static [u8], &'static [u8], Option<Fault>);
+
+#[derive(Clone, Copy)]
+enum Fault {
+    TooLarge,
+    OutOfSync,
+}
+
+const QUERY_DONE: &[u8] = b"\x07\0\0\x01\0\0\0\x02\0\0\0";
+
+const UNKNOWN: &[u8] = b"\x09\0\0\x01\xff\x17\x04#08S01";
+
+const BOTH: &[u8] = b"\x07\0\0\x01\0\0\0\x02\0\0\0\x09\0\0\x01\xff\x17\x04#08S01";
+
+const COMMANDS: [Row; 9] = [
+    (b"", b"", None),
+    (b"\x02\0\0\0\x03S", QUERY_DONE, None),
+    (b"\0\0\0\0", UNKNOWN, None),
+    (b"\x01\0\0\0\x0e\x02\0\0\0\x03", UNKNOWN, None),
+    (b"\x01\0\0\0\x03\x04\0\0\0\x0e123", BOTH, None),
+    (b"\x01\0\0\0\x03\x01\0\0\0\x0e\x01\0", BOTH, None),
+    (b"\x01\0\0\0\x03\x0a\0\0\0", QUERY_DONE, Some(Fault::TooLarge)),
+    (b"\x0a\0\0\x01", b"", Some(Fault::TooLarge)),
+    (b"\x01\0\0\0\x03\x01\0\0\x01\x0e", QUERY_DONE, Some(Fault::OutOfSync)),
+];
+
+fn serve_both(
+    alloc: Global,
+    front: &[u8],
+    rest: &[u8],
+    output: &mut BytesMut,
+) -> Result<(), PacketCodecError> {
+    let mut connection = Connection::new(alloc, 9);
+    connection.serve(front, output)?;
+    connection.serve(rest, output)
+}
+
+fn is_served(alloc: Global, row: &Row, cut: usize) -> bool {
+    let (bytes, wanted, fault) = *row;
+    let (front, rest) = bytes.split_at(cut.min(bytes.len()));
+    let mut output = BytesMut::new(alloc);
+    let ends_so = match serve_both(alloc, front, rest, &mut output) {
+        Ok(()) => fault.is_none(),
+        Err(PacketCodecError::PacketTooLarge) => matches!(fault, Some(Fault::TooLarge)),
+        Err(PacketCodecError::PacketsOutOfSync) => matches!(fault, Some(Fault::OutOfSync)),
+        Err(_) => false,
+    };
+    ends_so && output.as_slice() == wanted
+}
+
+#[test]
+fn commands_are_served_however_they_are_cut(rt: HostRuntime) -> Result<(), Fail> {
+    for (i, row) in COMMANDS.iter().enumerate() {
+        for cut in 0..row.0.len() + 1 {
+            if !is_served(rt.alloc(), row, cut) {
+                return Err(Fail::new(format_args!("row {i} cut at {cut}")));
+            }
+        }
+    }
+    Ok(())
+}
+
+// A reader that gives a byte at a time, and then fails or ends.
+#[derive(Drop)]
+struct Bytewise {
+    left: &'static [u8],
+    fails: bool,
+}
+
+impl Read for Bytewise {
+    fn read(&mut self, buf: &mut [u8]) -> io::Result<usize> {
+        let left = self.left;
+        match (left, buf) {
+            ([first, rest @ ..], [place, ..]) => {
+                *place = *first;
+                self.left = rest;
+                Ok(1)
+            }
+            _ if self.fails => Err(io::Error::other("gone")),
+            _ => Ok(0),
+        }
+    }
+}
+
+// What a reader gives, whether it fails then, and the packets under a limit of 2.
+const STREAMS: [(&[u8], bool, Wanted); 6] = [
+    (b"", false, Wanted::Packets(&[])),
+    (
+        b"\x02\0\0\0ab\0\0\0\x01\x01\0\0\x02c",
+        false,
+        Wanted::Packets(&[b"ab", b"", b"c"]),
+    ),
+    (
+        b"\x02\0\0\0ab\x02\0\0\x01c",
+        false,
+        Wanted::Packets(&[b"ab"]),
+    ),
+    (b"\x03\0\0\0", false, Wanted::TooLarge),
+    (b"\x01\0\0\x01a", false, Wanted::OutOfSync),
+    (b"\x02\0\0\0ab", true, Wanted::Io),
+];
+
+#[test]
+fn packets_are_read_to_the_end(rt: HostRuntime) -> Result<(), Fail> {
+    for (i, (bytes, fails, wanted)) in STREAMS.iter().enumerate() {
+        let mut reader = Bytewise {
+            left: bytes,
+            fails: *fails,
+        };
+        let answer = read_packets(rt.alloc(), 2, &mut reader);
+        if !is_wanted(&answer, *wanted) {
+            return Err(Fail::new(format_args!("stream {i}")));
+        }
+    }
+    Ok(())
+}
