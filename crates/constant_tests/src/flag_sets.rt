@@ -1,19 +1,17 @@
-// Sets of flags: each bit, each number, the errors' texts, and the calls.
+// Sets of flags: each bit, each number, and the calls.
 
-use super::shows;
-use crate::constant_calls;
-use mysql_wire::constants::{
+use bitflags::Bits;
+use wire_const::{
     CapabilityFlags, ColumnFlags, CursorType, Flags, Flags2, MariadbCapabilities, SqlMode,
     StatusFlags, StmtBulkExecuteFlags, StmtExecuteParamFlags, StmtExecuteParamsFlags,
     UnknownCapabilityFlags, UnknownColumnFlags, UnknownCursorType, UnknownFlags2,
     UnknownMariadbCapabilityFlags, UnknownSqlMode, UnknownStatusFlags,
     UnknownStmtBulkExecuteParamsFlags, UnknownStmtExecuteParamFlags, UnknownStmtExecuteParamsFlags,
 };
-use std::test::Fail;
 
 // Whether the flags are the single bits of `known`, from the lowest to the highest, and `known` is
-// all that the set knows.
-fn are_the_bits_of<F: Flags>(flags: &[F], known: u64) -> bool
+// all that the set knows. The default has none.
+fn are_the_bits_of<F: Flags + Default>(flags: &[F], known: u64) -> bool
 where
     F::Bits: Into<u64>,
 {
@@ -26,454 +24,241 @@ where
         left ^= bits;
     }
     let all: u64 = F::all().bits().into();
-    left == 0 && all == known
+    left == 0 && all == known && F::default().bits() == F::empty().bits()
+}
+
+macro_rules! flags {
+    ($type:ident; $($name:ident,)*) => {
+        &[$($type::$name),*]
+    };
 }
 
 #[test]
-fn each_bit_of_status_flags(rt: HostRuntime) {
-    let flags = [
-        StatusFlags::SERVER_STATUS_IN_TRANS,
-        StatusFlags::SERVER_STATUS_AUTOCOMMIT,
-        StatusFlags::SERVER_MORE_RESULTS_EXISTS,
-        StatusFlags::SERVER_STATUS_NO_GOOD_INDEX_USED,
-        StatusFlags::SERVER_STATUS_NO_INDEX_USED,
-        StatusFlags::SERVER_STATUS_CURSOR_EXISTS,
-        StatusFlags::SERVER_STATUS_LAST_ROW_SENT,
-        StatusFlags::SERVER_STATUS_DB_DROPPED,
-        StatusFlags::SERVER_STATUS_NO_BACKSLASH_ESCAPES,
-        StatusFlags::SERVER_STATUS_METADATA_CHANGED,
-        StatusFlags::SERVER_QUERY_WAS_SLOW,
-        StatusFlags::SERVER_PS_OUT_PARAMS,
-        StatusFlags::SERVER_STATUS_IN_TRANS_READONLY,
-        StatusFlags::SERVER_SESSION_STATE_CHANGED,
-        StatusFlags::SERVER_STATUS_ANSI_QUOTES,
-    ];
-    assert!(rt; are_the_bits_of(&flags, 0xfffb));
-    assert_eq!(rt; StatusFlags::default(), StatusFlags::empty());
+fn each_bit_of_sets_of_the_protocol(rt: HostRuntime) {
+    let flags: &[StatusFlags] = flags! {
+        StatusFlags;
+        SERVER_STATUS_IN_TRANS,
+        SERVER_STATUS_AUTOCOMMIT,
+        SERVER_MORE_RESULTS_EXISTS,
+        SERVER_STATUS_NO_GOOD_INDEX_USED,
+        SERVER_STATUS_NO_INDEX_USED,
+        SERVER_STATUS_CURSOR_EXISTS,
+        SERVER_STATUS_LAST_ROW_SENT,
+        SERVER_STATUS_DB_DROPPED,
+        SERVER_STATUS_NO_BACKSLASH_ESCAPES,
+        SERVER_STATUS_METADATA_CHANGED,
+        SERVER_QUERY_WAS_SLOW,
+        SERVER_PS_OUT_PARAMS,
+        SERVER_STATUS_IN_TRANS_READONLY,
+        SERVER_SESSION_STATE_CHANGED,
+        SERVER_STATUS_ANSI_QUOTES,
+    };
+    assert!(rt; are_the_bits_of(flags, 0xfffb));
+    let flags: &[CapabilityFlags] = flags! {
+        CapabilityFlags;
+        CLIENT_LONG_PASSWORD,
+        CLIENT_FOUND_ROWS,
+        CLIENT_LONG_FLAG,
+        CLIENT_CONNECT_WITH_DB,
+        CLIENT_NO_SCHEMA,
+        CLIENT_COMPRESS,
+        CLIENT_ODBC,
+        CLIENT_LOCAL_FILES,
+        CLIENT_IGNORE_SPACE,
+        CLIENT_PROTOCOL_41,
+        CLIENT_INTERACTIVE,
+        CLIENT_SSL,
+        CLIENT_IGNORE_SIGPIPE,
+        CLIENT_TRANSACTIONS,
+        CLIENT_RESERVED,
+        CLIENT_SECURE_CONNECTION,
+        CLIENT_MULTI_STATEMENTS,
+        CLIENT_MULTI_RESULTS,
+        CLIENT_PS_MULTI_RESULTS,
+        CLIENT_PLUGIN_AUTH,
+        CLIENT_CONNECT_ATTRS,
+        CLIENT_PLUGIN_AUTH_LENENC_CLIENT_DATA,
+        CLIENT_CAN_HANDLE_EXPIRED_PASSWORDS,
+        CLIENT_SESSION_TRACK,
+        CLIENT_DEPRECATE_EOF,
+        CLIENT_OPTIONAL_RESULTSET_METADATA,
+        CLIENT_ZSTD_COMPRESSION_ALGORITHM,
+        CLIENT_QUERY_ATTRIBUTES,
+        MULTI_FACTOR_AUTHENTICATION,
+        CLIENT_PROGRESS_OBSOLETE,
+        CLIENT_SSL_VERIFY_SERVER_CERT,
+        CLIENT_REMEMBER_OPTIONS,
+    };
+    assert!(rt; are_the_bits_of(flags, 0xffff_ffff));
+    let flags: &[MariadbCapabilities] = flags! {
+        MariadbCapabilities;
+        MARIADB_CLIENT_PROGRESS,
+        MARIADB_CLIENT_RESERVED_1,
+        MARIADB_CLIENT_STMT_BULK_OPERATIONS,
+        MARIADB_CLIENT_EXTENDED_METADATA,
+        MARIADB_CLIENT_CACHE_METADATA,
+        MARIADB_CLIENT_BULK_UNIT_RESULTS,
+    };
+    assert!(rt; are_the_bits_of(flags, 0x3f));
 }
 
 #[test]
-fn each_bit_of_capability_flags(rt: HostRuntime) {
-    let flags = [
-        CapabilityFlags::CLIENT_LONG_PASSWORD,
-        CapabilityFlags::CLIENT_FOUND_ROWS,
-        CapabilityFlags::CLIENT_LONG_FLAG,
-        CapabilityFlags::CLIENT_CONNECT_WITH_DB,
-        CapabilityFlags::CLIENT_NO_SCHEMA,
-        CapabilityFlags::CLIENT_COMPRESS,
-        CapabilityFlags::CLIENT_ODBC,
-        CapabilityFlags::CLIENT_LOCAL_FILES,
-        CapabilityFlags::CLIENT_IGNORE_SPACE,
-        CapabilityFlags::CLIENT_PROTOCOL_41,
-        CapabilityFlags::CLIENT_INTERACTIVE,
-        CapabilityFlags::CLIENT_SSL,
-        CapabilityFlags::CLIENT_IGNORE_SIGPIPE,
-        CapabilityFlags::CLIENT_TRANSACTIONS,
-        CapabilityFlags::CLIENT_RESERVED,
-        CapabilityFlags::CLIENT_SECURE_CONNECTION,
-        CapabilityFlags::CLIENT_MULTI_STATEMENTS,
-        CapabilityFlags::CLIENT_MULTI_RESULTS,
-        CapabilityFlags::CLIENT_PS_MULTI_RESULTS,
-        CapabilityFlags::CLIENT_PLUGIN_AUTH,
-        CapabilityFlags::CLIENT_CONNECT_ATTRS,
-        CapabilityFlags::CLIENT_PLUGIN_AUTH_LENENC_CLIENT_DATA,
-        CapabilityFlags::CLIENT_CAN_HANDLE_EXPIRED_PASSWORDS,
-        CapabilityFlags::CLIENT_SESSION_TRACK,
-        CapabilityFlags::CLIENT_DEPRECATE_EOF,
-        CapabilityFlags::CLIENT_OPTIONAL_RESULTSET_METADATA,
-        CapabilityFlags::CLIENT_ZSTD_COMPRESSION_ALGORITHM,
-        CapabilityFlags::CLIENT_QUERY_ATTRIBUTES,
-        CapabilityFlags::MULTI_FACTOR_AUTHENTICATION,
-        CapabilityFlags::CLIENT_PROGRESS_OBSOLETE,
-        CapabilityFlags::CLIENT_SSL_VERIFY_SERVER_CERT,
-        CapabilityFlags::CLIENT_REMEMBER_OPTIONS,
-    ];
-    assert!(rt; are_the_bits_of(&flags, 0xffff_ffff));
-    assert_eq!(rt; CapabilityFlags::default(), CapabilityFlags::empty());
+fn each_bit_of_sets_of_statements_and_columns(rt: HostRuntime) {
+    let flags: &[CursorType] = flags! {
+        CursorType;
+        CURSOR_TYPE_READ_ONLY,
+        CURSOR_TYPE_FOR_UPDATE,
+        CURSOR_TYPE_SCROLLABLE,
+    };
+    assert!(rt; are_the_bits_of(flags, 0x07));
+    let flags: &[StmtExecuteParamsFlags] = flags! {
+        StmtExecuteParamsFlags;
+        NEW_PARAMS_BOUND,
+    };
+    assert!(rt; are_the_bits_of(flags, 0x01));
+    let flags: &[StmtExecuteParamFlags] = flags! {
+        StmtExecuteParamFlags;
+        UNSIGNED,
+    };
+    assert!(rt; are_the_bits_of(flags, 0x80));
+    let flags: &[StmtBulkExecuteFlags] = flags! {
+        StmtBulkExecuteFlags;
+        SEND_UNIT_RESULTS,
+        SEND_TYPES_TO_SERVER,
+    };
+    assert!(rt; are_the_bits_of(flags, 0x00c0));
+    let flags: &[ColumnFlags] = flags! {
+        ColumnFlags;
+        NOT_NULL_FLAG,
+        PRI_KEY_FLAG,
+        UNIQUE_KEY_FLAG,
+        MULTIPLE_KEY_FLAG,
+        BLOB_FLAG,
+        UNSIGNED_FLAG,
+        ZEROFILL_FLAG,
+        BINARY_FLAG,
+        ENUM_FLAG,
+        AUTO_INCREMENT_FLAG,
+        TIMESTAMP_FLAG,
+        SET_FLAG,
+        NO_DEFAULT_VALUE_FLAG,
+        ON_UPDATE_NOW_FLAG,
+        PART_KEY_FLAG,
+        NUM_FLAG,
+    };
+    assert!(rt; are_the_bits_of(flags, 0xffff));
+    assert!(rt; CursorType::CURSOR_TYPE_NO_CURSOR.bits() == 0);
 }
 
 #[test]
-fn each_bit_of_mariadb_capabilities(rt: HostRuntime) {
-    let flags = [
-        MariadbCapabilities::MARIADB_CLIENT_PROGRESS,
-        MariadbCapabilities::MARIADB_CLIENT_RESERVED_1,
-        MariadbCapabilities::MARIADB_CLIENT_STMT_BULK_OPERATIONS,
-        MariadbCapabilities::MARIADB_CLIENT_EXTENDED_METADATA,
-        MariadbCapabilities::MARIADB_CLIENT_CACHE_METADATA,
-        MariadbCapabilities::MARIADB_CLIENT_BULK_UNIT_RESULTS,
-    ];
-    assert!(rt; are_the_bits_of(&flags, 0x0000_003f));
-    assert_eq!(rt;
-        MariadbCapabilities::default(),
-        MariadbCapabilities::empty()
-    );
+fn each_bit_of_sets_of_the_binary_log(rt: HostRuntime) {
+    let flags: &[Flags2] = flags! {
+        Flags2;
+        OPTION_AUTO_IS_NULL,
+        OPTION_NOT_AUTOCOMMIT,
+        OPTION_NO_FOREIGN_KEY_CHECKS,
+        OPTION_RELAXED_UNIQUE_CHECKS,
+    };
+    assert!(rt; are_the_bits_of(flags, 0x0c08_4000));
+    let flags: &[SqlMode] = flags! {
+        SqlMode;
+        MODE_REAL_AS_FLOAT,
+        MODE_PIPES_AS_CONCAT,
+        MODE_ANSI_QUOTES,
+        MODE_IGNORE_SPACE,
+        MODE_NOT_USED,
+        MODE_ONLY_FULL_GROUP_BY,
+        MODE_NO_UNSIGNED_SUBTRACTION,
+        MODE_NO_DIR_IN_CREATE,
+        MODE_POSTGRESQL,
+        MODE_ORACLE,
+        MODE_MSSQL,
+        MODE_DB2,
+        MODE_MAXDB,
+        MODE_NO_KEY_OPTIONS,
+        MODE_NO_TABLE_OPTIONS,
+        MODE_NO_FIELD_OPTIONS,
+        MODE_MYSQL323,
+        MODE_MYSQL40,
+        MODE_ANSI,
+        MODE_NO_AUTO_VALUE_ON_ZERO,
+        MODE_NO_BACKSLASH_ESCAPES,
+        MODE_STRICT_TRANS_TABLES,
+        MODE_STRICT_ALL_TABLES,
+        MODE_NO_ZERO_IN_DATE,
+        MODE_NO_ZERO_DATE,
+        MODE_INVALID_DATES,
+        MODE_ERROR_FOR_DIVISION_BY_ZERO,
+        MODE_TRADITIONAL,
+        MODE_NO_AUTO_CREATE_USER,
+        MODE_HIGH_NOT_PRECEDENCE,
+        MODE_NO_ENGINE_SUBSTITUTION,
+        MODE_PAD_CHAR_TO_FULL_LENGTH,
+        MODE_TIME_TRUNCATE_FRACTIONAL,
+        MODE_LAST,
+    };
+    assert!(rt; are_the_bits_of(flags, 0x3_ffff_ffff));
 }
 
-#[test]
-fn each_bit_of_cursor_type(rt: HostRuntime) {
-    let flags = [
-        CursorType::CURSOR_TYPE_READ_ONLY,
-        CursorType::CURSOR_TYPE_FOR_UPDATE,
-        CursorType::CURSOR_TYPE_SCROLLABLE,
-    ];
-    assert!(rt; are_the_bits_of(&flags, 0x07));
-    assert_eq!(rt; CursorType::CURSOR_TYPE_NO_CURSOR.bits(), 0);
-    assert_eq!(rt; CursorType::default(), CursorType::empty());
-}
-
-#[test]
-fn each_bit_of_stmt_execute_params_flags(rt: HostRuntime) {
-    let flags = [StmtExecuteParamsFlags::NEW_PARAMS_BOUND];
-    assert!(rt; are_the_bits_of(&flags, 0x01));
-    assert_eq!(rt;
-        StmtExecuteParamsFlags::default(),
-        StmtExecuteParamsFlags::empty()
-    );
-}
-
-#[test]
-fn each_bit_of_stmt_execute_param_flags(rt: HostRuntime) {
-    let flags = [StmtExecuteParamFlags::UNSIGNED];
-    assert!(rt; are_the_bits_of(&flags, 0x80));
-    assert_eq!(rt;
-        StmtExecuteParamFlags::default(),
-        StmtExecuteParamFlags::empty()
-    );
-}
-
-#[test]
-fn each_bit_of_stmt_bulk_execute_flags(rt: HostRuntime) {
-    let flags = [
-        StmtBulkExecuteFlags::SEND_UNIT_RESULTS,
-        StmtBulkExecuteFlags::SEND_TYPES_TO_SERVER,
-    ];
-    assert!(rt; are_the_bits_of(&flags, 0x00c0));
-    assert_eq!(rt;
-        StmtBulkExecuteFlags::default(),
-        StmtBulkExecuteFlags::empty()
-    );
-}
-
-#[test]
-fn each_bit_of_column_flags(rt: HostRuntime) {
-    let flags = [
-        ColumnFlags::NOT_NULL_FLAG,
-        ColumnFlags::PRI_KEY_FLAG,
-        ColumnFlags::UNIQUE_KEY_FLAG,
-        ColumnFlags::MULTIPLE_KEY_FLAG,
-        ColumnFlags::BLOB_FLAG,
-        ColumnFlags::UNSIGNED_FLAG,
-        ColumnFlags::ZEROFILL_FLAG,
-        ColumnFlags::BINARY_FLAG,
-        ColumnFlags::ENUM_FLAG,
-        ColumnFlags::AUTO_INCREMENT_FLAG,
-        ColumnFlags::TIMESTAMP_FLAG,
-        ColumnFlags::SET_FLAG,
-        ColumnFlags::NO_DEFAULT_VALUE_FLAG,
-        ColumnFlags::ON_UPDATE_NOW_FLAG,
-        ColumnFlags::PART_KEY_FLAG,
-        ColumnFlags::NUM_FLAG,
-    ];
-    assert!(rt; are_the_bits_of(&flags, 0xffff));
-    assert_eq!(rt; ColumnFlags::default(), ColumnFlags::empty());
-}
-
-#[test]
-fn each_bit_of_flags2(rt: HostRuntime) {
-    let flags = [
-        Flags2::OPTION_AUTO_IS_NULL,
-        Flags2::OPTION_NOT_AUTOCOMMIT,
-        Flags2::OPTION_NO_FOREIGN_KEY_CHECKS,
-        Flags2::OPTION_RELAXED_UNIQUE_CHECKS,
-    ];
-    assert!(rt; are_the_bits_of(&flags, 0x0c08_4000));
-    assert_eq!(rt; Flags2::default(), Flags2::empty());
-}
-
-#[test]
-fn each_bit_of_sql_mode(rt: HostRuntime) {
-    let flags = [
-        SqlMode::MODE_REAL_AS_FLOAT,
-        SqlMode::MODE_PIPES_AS_CONCAT,
-        SqlMode::MODE_ANSI_QUOTES,
-        SqlMode::MODE_IGNORE_SPACE,
-        SqlMode::MODE_NOT_USED,
-        SqlMode::MODE_ONLY_FULL_GROUP_BY,
-        SqlMode::MODE_NO_UNSIGNED_SUBTRACTION,
-        SqlMode::MODE_NO_DIR_IN_CREATE,
-        SqlMode::MODE_POSTGRESQL,
-        SqlMode::MODE_ORACLE,
-        SqlMode::MODE_MSSQL,
-        SqlMode::MODE_DB2,
-        SqlMode::MODE_MAXDB,
-        SqlMode::MODE_NO_KEY_OPTIONS,
-        SqlMode::MODE_NO_TABLE_OPTIONS,
-        SqlMode::MODE_NO_FIELD_OPTIONS,
-        SqlMode::MODE_MYSQL323,
-        SqlMode::MODE_MYSQL40,
-        SqlMode::MODE_ANSI,
-        SqlMode::MODE_NO_AUTO_VALUE_ON_ZERO,
-        SqlMode::MODE_NO_BACKSLASH_ESCAPES,
-        SqlMode::MODE_STRICT_TRANS_TABLES,
-        SqlMode::MODE_STRICT_ALL_TABLES,
-        SqlMode::MODE_NO_ZERO_IN_DATE,
-        SqlMode::MODE_NO_ZERO_DATE,
-        SqlMode::MODE_INVALID_DATES,
-        SqlMode::MODE_ERROR_FOR_DIVISION_BY_ZERO,
-        SqlMode::MODE_TRADITIONAL,
-        SqlMode::MODE_NO_AUTO_CREATE_USER,
-        SqlMode::MODE_HIGH_NOT_PRECEDENCE,
-        SqlMode::MODE_NO_ENGINE_SUBSTITUTION,
-        SqlMode::MODE_PAD_CHAR_TO_FULL_LENGTH,
-        SqlMode::MODE_TIME_TRUNCATE_FRACTIONAL,
-        SqlMode::MODE_LAST,
-    ];
-    assert!(rt; are_the_bits_of(&flags, 0x3_ffff_ffff));
-    assert_eq!(rt; SqlMode::default(), SqlMode::empty());
-}
-
-#[test]
-fn each_number_of_status_flags(rt: HostRuntime) {
-    for raw in 0..=u16::MAX {
-        let back = StatusFlags::try_from(raw).map(u16::from);
-        let is_known = raw & 0xfffb == raw;
-        let wanted = if is_known {
-            Ok(raw)
-        } else {
-            Err(UnknownStatusFlags(raw))
-        };
-        assert!(rt; back == wanted, "at {raw}");
+// Whether a raw number, where the set's type has it, converts there and back if its bits are all
+// known, and else stands in the error.
+fn is_converted<F, U>(number: u64, known: u64, unknown: &U) -> bool
+where
+    F: Flags + TryFrom<F::Bits, Error: Copy + PartialEq>,
+    F::Bits: TryFrom<u64, Error: Drop> + From<F>,
+    U: Fn(F::Bits) -> F::Error,
+    requires { U.IsAlwaysCallable unknown.now }
+{
+    let Ok(raw) = F::Bits::try_from(number) else {
+        return true;
+    };
+    match F::try_from(raw) {
+        Ok(flags) => number & known == number && F::Bits::from(flags) == raw,
+        Err(error) => number & known != number && error == unknown(raw),
     }
 }
 
-#[test]
-fn numbers_of_capability_flags(rt: HostRuntime) {
-    for place in 0..32u32 {
-        let bit = 1u32.wrapping_shl(place);
-        for raw in [bit, u32::MAX ^ bit, 0xffff_ffff ^ bit] {
-            let back = CapabilityFlags::try_from(raw).map(u32::from);
-            let is_known = raw & 0xffff_ffff == raw;
-            let wanted = if is_known {
-                Ok(raw)
-            } else {
-                Err(UnknownCapabilityFlags(raw))
-            };
-            assert!(rt; back == wanted, "at {raw}");
+// The first raw number that is converted wrongly: of those below 65536, and of those that have one
+// bit, or all but one, or differ in one from what is known.
+fn wrong_number<F, U>(known: u64, unknown: U) -> Option<u64>
+where
+    F: Flags + TryFrom<F::Bits, Error: Copy + PartialEq>,
+    F::Bits: TryFrom<u64, Error: Drop> + From<F> + Into<u64>,
+    U: Fn(F::Bits) -> F::Error,
+    requires { U.IsAlwaysCallable unknown }
+{
+    for number in 0..65_536u64 {
+        if !is_converted::<F, U>(number, known, &unknown) {
+            return Some(number);
         }
     }
-}
-
-#[test]
-fn numbers_of_mariadb_capabilities(rt: HostRuntime) {
-    for place in 0..32u32 {
-        let bit = 1u32.wrapping_shl(place);
-        for raw in [bit, u32::MAX ^ bit, 0x0000_003f ^ bit] {
-            let back = MariadbCapabilities::try_from(raw).map(u32::from);
-            let is_known = raw & 0x0000_003f == raw;
-            let wanted = if is_known {
-                Ok(raw)
-            } else {
-                Err(UnknownMariadbCapabilityFlags(raw))
-            };
-            assert!(rt; back == wanted, "at {raw}");
-        }
-    }
-}
-
-#[test]
-fn each_number_of_cursor_type(rt: HostRuntime) {
-    for raw in 0..=u8::MAX {
-        let back = CursorType::try_from(raw).map(u8::from);
-        let is_known = raw & 0x07 == raw;
-        let wanted = if is_known {
-            Ok(raw)
-        } else {
-            Err(UnknownCursorType(raw))
-        };
-        assert!(rt; back == wanted, "at {raw}");
-    }
-}
-
-#[test]
-fn each_number_of_stmt_execute_params_flags(rt: HostRuntime) {
-    for raw in 0..=u8::MAX {
-        let back = StmtExecuteParamsFlags::try_from(raw).map(u8::from);
-        let is_known = raw & 0x01 == raw;
-        let wanted = if is_known {
-            Ok(raw)
-        } else {
-            Err(UnknownStmtExecuteParamsFlags(raw))
-        };
-        assert!(rt; back == wanted, "at {raw}");
-    }
-}
-
-#[test]
-fn each_number_of_stmt_execute_param_flags(rt: HostRuntime) {
-    for raw in 0..=u8::MAX {
-        let back = StmtExecuteParamFlags::try_from(raw).map(u8::from);
-        let is_known = raw & 0x80 == raw;
-        let wanted = if is_known {
-            Ok(raw)
-        } else {
-            Err(UnknownStmtExecuteParamFlags(raw))
-        };
-        assert!(rt; back == wanted, "at {raw}");
-    }
-}
-
-#[test]
-fn each_number_of_stmt_bulk_execute_flags(rt: HostRuntime) {
-    for raw in 0..=u16::MAX {
-        let back = StmtBulkExecuteFlags::try_from(raw).map(u16::from);
-        let is_known = raw & 0x00c0 == raw;
-        let wanted = if is_known {
-            Ok(raw)
-        } else {
-            Err(UnknownStmtBulkExecuteParamsFlags(raw))
-        };
-        assert!(rt; back == wanted, "at {raw}");
-    }
-}
-
-#[test]
-fn each_number_of_column_flags(rt: HostRuntime) {
-    for raw in 0..=u16::MAX {
-        let back = ColumnFlags::try_from(raw).map(u16::from);
-        let is_known = raw & 0xffff == raw;
-        let wanted = if is_known {
-            Ok(raw)
-        } else {
-            Err(UnknownColumnFlags(raw))
-        };
-        assert!(rt; back == wanted, "at {raw}");
-    }
-}
-
-#[test]
-fn numbers_of_flags2(rt: HostRuntime) {
-    for place in 0..32u32 {
-        let bit = 1u32.wrapping_shl(place);
-        for raw in [bit, u32::MAX ^ bit, 0x0c08_4000 ^ bit] {
-            let back = Flags2::try_from(raw).map(u32::from);
-            let is_known = raw & 0x0c08_4000 == raw;
-            let wanted = if is_known {
-                Ok(raw)
-            } else {
-                Err(UnknownFlags2(raw))
-            };
-            assert!(rt; back == wanted, "at {raw}");
-        }
-    }
-}
-
-#[test]
-fn numbers_of_sql_mode(rt: HostRuntime) {
+    let all: u64 = <F::Bits as Bits>::all().into();
     for place in 0..64u32 {
         let bit = 1u64.wrapping_shl(place);
-        for raw in [bit, u64::MAX ^ bit, 0x3_ffff_ffff ^ bit] {
-            let back = SqlMode::try_from(raw).map(u64::from);
-            let is_known = raw & 0x3_ffff_ffff == raw;
-            let wanted = if is_known {
-                Ok(raw)
-            } else {
-                Err(UnknownSqlMode(raw))
-            };
-            assert!(rt; back == wanted, "at {raw}");
+        for number in [bit, all ^ bit, known ^ bit] {
+            if !is_converted::<F, U>(number, known, &unknown) {
+                return Some(number);
+            }
         }
     }
+    None
 }
 
 #[test]
-fn flags_refused_by_name(rt: HostRuntime) {
-    assert!(rt; StatusFlags::try_from(4) == Err(UnknownStatusFlags(4)));
-    assert!(rt; CursorType::try_from(7) == Ok(CursorType::all()));
-    assert!(rt; CursorType::try_from(8) == Err(UnknownCursorType(8)));
-    assert!(rt; MariadbCapabilities::try_from(64) == Err(UnknownMariadbCapabilityFlags(64)));
-    assert!(rt; constant_calls::status_there_and_back(4) == Err(UnknownStatusFlags(4)));
-    assert!(rt; constant_calls::status_there_and_back(3) == Ok(3));
-}
-
-#[test]
-fn texts_of_errors_of_the_protocol(rt: HostRuntime) -> Result<(), Fail> {
-    let alloc = rt.alloc();
-    assert!(rt;
-        shows(
-            alloc,
-            &UnknownStatusFlags(4),
-            "Unknown flags in the raw value of StatusFlags (raw=100)"
-        )?
-    );
-    assert!(rt;
-        shows(
-            alloc,
-            &UnknownCapabilityFlags(5),
-            "Unknown flags in the raw value of CapabilityFlags (raw=101)"
-        )?
-    );
-    assert!(rt;
-        shows(
-            alloc,
-            &UnknownMariadbCapabilityFlags(64),
-            "Unknown flags in the raw value of MariadbCapabilities (raw=1000000)"
-        )?
-    );
-    assert!(rt;
-        shows(
-            alloc,
-            &UnknownCursorType(8),
-            "Unknown flags in the raw value of CursorType (raw=1000)"
-        )?
-    );
-    assert!(rt;
-        shows(
-            alloc,
-            &UnknownStmtExecuteParamsFlags(2),
-            "Unknown flags in the raw value of StmtExecuteParamsFlags (raw=10)"
-        )?
-    );
-    Ok(())
-}
-
-#[test]
-fn texts_of_errors_of_statements_and_columns(rt: HostRuntime) -> Result<(), Fail> {
-    let alloc = rt.alloc();
-    assert!(rt;
-        shows(
-            alloc,
-            &UnknownStmtExecuteParamFlags(1),
-            "Unknown flags in the raw value of StmtExecuteParamFlags (raw=1)"
-        )?
-    );
-    assert!(rt;
-        shows(
-            alloc,
-            &UnknownStmtBulkExecuteParamsFlags(1),
-            "Unknown flags in the raw value of StmtBulkExecuteParamsFlags (raw=1)"
-        )?
-    );
-    assert!(rt;
-        shows(
-            alloc,
-            &UnknownColumnFlags(6),
-            "Unknown flags in the raw value of ColumnFlags (raw=110)"
-        )?
-    );
-    assert!(rt;
-        shows(
-            alloc,
-            &UnknownFlags2(1),
-            "Unknown flags in the raw value of Flags2 (raw=1)"
-        )?
-    );
-    assert!(rt;
-        shows(
-            alloc,
-            &UnknownSqlMode(0x4_0000_0000),
-            "Unknown flags in the raw value of SqlMode (raw=10000000000000000000000000000000000)"
-        )?
-    );
-    Ok(())
+fn each_number_of_sets(rt: HostRuntime) {
+    let wrong = [
+        wrong_number::<StatusFlags, _>(0xfffb, UnknownStatusFlags),
+        wrong_number::<CapabilityFlags, _>(0xffff_ffff, UnknownCapabilityFlags),
+        wrong_number::<MariadbCapabilities, _>(0x3f, UnknownMariadbCapabilityFlags),
+        wrong_number::<CursorType, _>(0x07, UnknownCursorType),
+        wrong_number::<StmtExecuteParamsFlags, _>(0x01, UnknownStmtExecuteParamsFlags),
+        wrong_number::<StmtExecuteParamFlags, _>(0x80, UnknownStmtExecuteParamFlags),
+        wrong_number::<StmtBulkExecuteFlags, _>(0xc0, UnknownStmtBulkExecuteParamsFlags),
+        wrong_number::<ColumnFlags, _>(0xffff, UnknownColumnFlags),
+        wrong_number::<Flags2, _>(0x0c08_4000, UnknownFlags2),
+        wrong_number::<SqlMode, _>(0x3_ffff_ffff, UnknownSqlMode),
+    ];
+    assert!(rt; wrong == [None; 10]);
 }
 
 // Two sets that share a bit, one of them with a bit that no flag names.
@@ -487,50 +272,67 @@ fn second() -> StatusFlags {
 
 #[test]
 fn calls_that_make_sets(rt: HostRuntime) {
-    assert!(rt; constant_calls::bits(first()) == 0x0003);
-    assert!(rt; constant_calls::from_bits_retain(0x000e).bits() == 0x000e);
-    assert!(rt; constant_calls::empty().bits() == 0);
-    assert!(rt; constant_calls::default().bits() == 0);
-    assert!(rt; constant_calls::all().bits() == 0xfffb);
-    assert!(rt; constant_calls::from_bits(0x0003) == Some(first()));
-    assert!(rt; constant_calls::from_bits(0x000e) == None);
-    assert!(rt; constant_calls::from_bits_truncate(0x000e).bits() == 0x000a);
+    let made = [
+        first().bits(),
+        second().bits(),
+        StatusFlags::empty().bits(),
+        StatusFlags::default().bits(),
+        StatusFlags::all().bits(),
+        StatusFlags::from_bits_truncate(0x000e).bits(),
+    ];
+    assert!(rt; made == [0x0003, 0x000e, 0, 0, 0xfffb, 0x000a]);
+    let known = [
+        StatusFlags::from_bits(0x0003),
+        StatusFlags::from_bits(0x000e),
+    ];
+    assert!(rt; known == [Some(first()), None]);
 }
 
 #[test]
 fn calls_that_test(rt: HostRuntime) {
-    assert!(rt; constant_calls::is_empty(StatusFlags::empty()));
-    assert!(rt; !constant_calls::is_empty(second()));
-    assert!(rt; constant_calls::is_all(StatusFlags::all()));
-    assert!(rt; constant_calls::is_all(StatusFlags::from_bits_retain(0xffff)));
-    assert!(rt; !constant_calls::is_all(StatusFlags::from_bits_retain(0x7fff)));
-    assert!(rt; constant_calls::contains(first(), StatusFlags::SERVER_STATUS_AUTOCOMMIT));
-    assert!(rt; constant_calls::contains(first(), StatusFlags::empty()));
-    assert!(rt; !constant_calls::contains(first(), second()));
-    assert!(rt; constant_calls::intersects(first(), second()));
-    assert!(rt; !constant_calls::intersects(first(), StatusFlags::empty()));
+    let autocommit = StatusFlags::SERVER_STATUS_AUTOCOMMIT;
+    let hold = [
+        StatusFlags::empty().is_empty(),
+        StatusFlags::all().is_all(),
+        StatusFlags::from_bits_retain(0xffff).is_all(),
+        first().contains(autocommit),
+        first().contains(StatusFlags::empty()),
+        first().intersects(second()),
+    ];
+    assert!(rt; hold == [true; 6]);
+    let fail = [
+        second().is_empty(),
+        StatusFlags::from_bits_retain(0x7fff).is_all(),
+        first().contains(second()),
+        first().intersects(StatusFlags::empty()),
+    ];
+    assert!(rt; fail == [false; 4]);
 }
 
 #[test]
 fn calls_that_join_sets(rt: HostRuntime) {
-    assert!(rt; constant_calls::union(first(), second()).bits() == 0x000f);
-    assert!(rt; constant_calls::intersection(first(), second()).bits() == 0x0002);
-    assert!(rt; constant_calls::difference(first(), second()).bits() == 0x0001);
-    assert!(rt; constant_calls::symmetric_difference(first(), second()).bits() == 0x000d);
-    assert!(rt; constant_calls::complement(second()).bits() == 0xfff1);
+    let joined = [
+        first().union(second()).bits(),
+        first().intersection(second()).bits(),
+        first().difference(second()).bits(),
+        first().symmetric_difference(second()).bits(),
+        second().complement().bits(),
+    ];
+    assert!(rt; joined == [0x000f, 0x0002, 0x0001, 0x000d, 0xfff1]);
 }
 
 #[test]
 fn calls_that_change_sets(rt: HostRuntime) {
     let mut flags = first();
-    constant_calls::insert(&mut flags, second());
-    assert!(rt; flags.bits() == 0x000f);
-    constant_calls::remove(&mut flags, StatusFlags::SERVER_STATUS_IN_TRANS);
-    assert!(rt; flags.bits() == 0x000e);
-    constant_calls::toggle(&mut flags, first());
-    assert!(rt; flags.bits() == 0x000d);
-    constant_calls::set(&mut flags, first(), true);
-    assert!(rt; flags.bits() == 0x000f);
-    constant_calls::set(&mut flags, second(), false);
-    assert!(rt; flags.bits() == 0x0001);
+    flags.insert(second());
+    let inserted = flags.bits();
+    flags.remove(StatusFlags::SERVER_STATUS_IN_TRANS);
+    let removed = flags.bits();
+    flags.toggle(first());
+    let toggled = flags.bits();
+    flags.set(first(), true);
+    let set = flags.bits();
+    flags.set(second(), false);
+    let changed = [inserted, removed, toggled, set, flags.bits()];
+    assert!(rt; changed == [0x000f, 0x000e, 0x000d, 0x000f, 0x0001]);
 }
