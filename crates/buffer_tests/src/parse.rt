@@ -1,390 +1,93 @@
-// The buffer that is read from its front.
+// The buffer that is read from its front, the values that are read from it, and the errors.
 
 ghost use Rattle.std.specs.Prelude.{◌≡◌, take, Ok, IfErr};
 
-use crate::plain::between;
+use crate::answers::{Fault, shows, told};
+use crate::slices::between;
 use mysql_wire::io::{InvalidLengthEncodedInteger, InvalidReason, ParseBuf, WireError};
-use mysql_wire::proto::{Binary, Fixed, MyDeserialize, MySerialize, ReadSize, Text};
+use mysql_wire::proto::{Binary, Fixed, MyDeserialize, Text};
 use refusing::Refusing;
 use std::alloc::{Allocator, Global};
 use std::fmt::Debug;
 use std::hash::Hash;
 use std::io::{self, Read};
-use std::process::Abort;
-use std::test::Fail;
-
-// What both forms of a reader answer to an input, and how many bytes they leave of it.
-#[derive(Clone, Copy, PartialEq, Eq)]
-struct Answers<T> {
-    checked: Option<T>,
-    left: usize,
-    plain: Option<T>,
-    plain_left: usize,
-}
-
-// Whether both forms of a reader of so many bytes read this number from an input that has them, and
-// nothing from one that has fewer.
-fn is_read<T: Copy + PartialEq>(answers: Answers<T>, width: usize, len: usize, number: T) -> bool {
-    let left = len.saturating_sub(width);
-    if len < width {
-        answers.checked.is_none() && answers.left == len
-    } else {
-        answers.checked == Some(number)
-            && answers.left == left
-            && answers.plain == Some(number)
-            && answers.plain_left == left
-    }
-}
-
-// Both forms of a reader of so many bytes, on no byte, on fewer, on as many, and on one more.
-macro_rules! reads {
-    ($rt:ident; $eat:ident, $checked:ident, $width:literal; $bytes:literal => $want:expr) => {{
-        let bytes: &[u8] = $bytes;
-        let mut all = bytes.len() == $width + 1;
-        for len in 0..$width + 2usize {
-            let mut buf = ParseBuf(between(bytes, 0, len));
-            let mut same = buf;
-            let checked = buf.$checked();
-            let plain = match checked {
-                Some(_) => Some(same.$eat()),
-                None => None,
-            };
-            let answers = Answers {
-                checked,
-                left: buf.len(),
-                plain,
-                plain_left: same.len(),
-            };
-            all = all && is_read(answers, $width, len, $want);
-        }
-        assert!($rt; all);
-    }};
-}
 
 #[test]
-fn reads_u8(rt: HostRuntime) {
-    reads!(rt; eat_u8, checked_eat_u8, 1; b"\x01\xee" => 1);
-    reads!(rt; eat_u8, checked_eat_u8, 1; b"\x8f\xee" => 0x8f);
-}
-
-#[test]
-fn reads_i8(rt: HostRuntime) {
-    reads!(rt; eat_i8, checked_eat_i8, 1; b"\x01\xee" => 1);
-    reads!(rt; eat_i8, checked_eat_i8, 1; b"\x8f\xee" => -0x71);
-}
-
-#[test]
-fn reads_u16_le(rt: HostRuntime) {
-    reads!(rt; eat_u16_le, checked_eat_u16_le, 2; b"\x01\x11\xee" => 0x1101);
-    reads!(rt; eat_u16_le, checked_eat_u16_le, 2; b"\x84\x8f\xee" => 0x8f84);
-}
-
-#[test]
-fn reads_i16_le(rt: HostRuntime) {
-    reads!(rt; eat_i16_le, checked_eat_i16_le, 2; b"\x01\x11\xee" => 0x1101);
-    reads!(rt; eat_i16_le, checked_eat_i16_le, 2; b"\x84\x8f\xee" => -0x707c);
-}
-
-#[test]
-fn reads_u16_be(rt: HostRuntime) {
-    reads!(rt; eat_u16_be, checked_eat_u16_be, 2; b"\x01\x11\xee" => 0x111);
-    reads!(rt; eat_u16_be, checked_eat_u16_be, 2; b"\x8f\x84\xee" => 0x8f84);
-}
-
-#[test]
-fn reads_i16_be(rt: HostRuntime) {
-    reads!(rt; eat_i16_be, checked_eat_i16_be, 2; b"\x01\x11\xee" => 0x111);
-    reads!(rt; eat_i16_be, checked_eat_i16_be, 2; b"\x8f\x84\xee" => -0x707c);
-}
-
-#[test]
-fn reads_u24_le(rt: HostRuntime) {
-    reads!(rt; eat_u24_le, checked_eat_u24_le, 3; b"\x01\x11\x21\xee" => 0x21_1101);
-    reads!(rt; eat_u24_le, checked_eat_u24_le, 3; b"\x99\x84\x8f\xee" => 0x8f_8499);
-}
-
-#[test]
-fn reads_i24_le(rt: HostRuntime) {
-    reads!(rt; eat_i24_le, checked_eat_i24_le, 3; b"\x01\x11\x21\xee" => 0x21_1101);
-    reads!(rt; eat_i24_le, checked_eat_i24_le, 3; b"\x99\x84\x8f\xee" => -0x70_7b67);
-}
-
-#[test]
-fn reads_u24_be(rt: HostRuntime) {
-    reads!(rt; eat_u24_be, checked_eat_u24_be, 3; b"\x01\x11\x21\xee" => 0x1_1121);
-    reads!(rt; eat_u24_be, checked_eat_u24_be, 3; b"\x8f\x84\x99\xee" => 0x8f_8499);
-}
-
-#[test]
-fn reads_i24_be(rt: HostRuntime) {
-    reads!(rt; eat_i24_be, checked_eat_i24_be, 3; b"\x01\x11\x21\xee" => 0x1_1121);
-    reads!(rt; eat_i24_be, checked_eat_i24_be, 3; b"\x8f\x84\x99\xee" => -0x70_7b67);
-}
-
-#[test]
-fn reads_u32_le(rt: HostRuntime) {
-    reads!(rt; eat_u32_le, checked_eat_u32_le, 4; b"\x01\x11\x21\x31\xee" => 0x3121_1101);
-    reads!(rt; eat_u32_le, checked_eat_u32_le, 4; b"\xae\x99\x84\x8f\xee" => 0x8f84_99ae);
-}
-
-#[test]
-fn reads_i32_le(rt: HostRuntime) {
-    reads!(rt; eat_i32_le, checked_eat_i32_le, 4; b"\x01\x11\x21\x31\xee" => 0x3121_1101);
-    reads!(rt; eat_i32_le, checked_eat_i32_le, 4; b"\xae\x99\x84\x8f\xee" => -0x707b_6652);
-}
-
-#[test]
-fn reads_u32_be(rt: HostRuntime) {
-    reads!(rt; eat_u32_be, checked_eat_u32_be, 4; b"\x01\x11\x21\x31\xee" => 0x111_2131);
-    reads!(rt; eat_u32_be, checked_eat_u32_be, 4; b"\x8f\x84\x99\xae\xee" => 0x8f84_99ae);
-}
-
-#[test]
-fn reads_i32_be(rt: HostRuntime) {
-    reads!(rt; eat_i32_be, checked_eat_i32_be, 4; b"\x01\x11\x21\x31\xee" => 0x111_2131);
-    reads!(rt; eat_i32_be, checked_eat_i32_be, 4; b"\x8f\x84\x99\xae\xee" => -0x707b_6652);
-}
-
-#[test]
-fn reads_u40_le(rt: HostRuntime) {
-    reads!(rt; eat_u40_le, checked_eat_u40_le, 5; b"\x01\x11\x21\x31\x41\xee" => 0x41_3121_1101);
-    reads!(rt; eat_u40_le, checked_eat_u40_le, 5; b"\xa3\xae\x99\x84\x8f\xee" => 0x8f_8499_aea3);
-}
-
-#[test]
-fn reads_i40_le(rt: HostRuntime) {
-    reads!(rt; eat_i40_le, checked_eat_i40_le, 5; b"\x01\x11\x21\x31\x41\xee" => 0x41_3121_1101);
-    reads!(rt; eat_i40_le, checked_eat_i40_le, 5; b"\xa3\xae\x99\x84\x8f\xee" => -0x70_7b66_515d);
-}
-
-#[test]
-fn reads_u40_be(rt: HostRuntime) {
-    reads!(rt; eat_u40_be, checked_eat_u40_be, 5; b"\x01\x11\x21\x31\x41\xee" => 0x1_1121_3141);
-    reads!(rt; eat_u40_be, checked_eat_u40_be, 5; b"\x8f\x84\x99\xae\xa3\xee" => 0x8f_8499_aea3);
-}
-
-#[test]
-fn reads_i40_be(rt: HostRuntime) {
-    reads!(rt; eat_i40_be, checked_eat_i40_be, 5; b"\x01\x11\x21\x31\x41\xee" => 0x1_1121_3141);
-    reads!(rt; eat_i40_be, checked_eat_i40_be, 5; b"\x8f\x84\x99\xae\xa3\xee" => -0x70_7b66_515d);
-}
-
-#[test]
-fn reads_u48_le(rt: HostRuntime) {
-    reads!(rt; eat_u48_le, checked_eat_u48_le, 6; b"\x01\x11\x21\x31\x41\x51\xee" => 0x5141_3121_1101);
-    reads!(rt; eat_u48_le, checked_eat_u48_le, 6; b"\xb8\xa3\xae\x99\x84\x8f\xee" => 0x8f84_99ae_a3b8);
-}
-
-#[test]
-fn reads_i48_le(rt: HostRuntime) {
-    reads!(rt; eat_i48_le, checked_eat_i48_le, 6; b"\x01\x11\x21\x31\x41\x51\xee" => 0x5141_3121_1101);
-    reads!(rt; eat_i48_le, checked_eat_i48_le, 6; b"\xb8\xa3\xae\x99\x84\x8f\xee" => -0x707b_6651_5c48);
-}
-
-#[test]
-fn reads_u48_be(rt: HostRuntime) {
-    reads!(rt; eat_u48_be, checked_eat_u48_be, 6; b"\x01\x11\x21\x31\x41\x51\xee" => 0x111_2131_4151);
-    reads!(rt; eat_u48_be, checked_eat_u48_be, 6; b"\x8f\x84\x99\xae\xa3\xb8\xee" => 0x8f84_99ae_a3b8);
-}
-
-#[test]
-fn reads_i48_be(rt: HostRuntime) {
-    reads!(rt; eat_i48_be, checked_eat_i48_be, 6; b"\x01\x11\x21\x31\x41\x51\xee" => 0x111_2131_4151);
-    reads!(rt; eat_i48_be, checked_eat_i48_be, 6; b"\x8f\x84\x99\xae\xa3\xb8\xee" => -0x707b_6651_5c48);
-}
-
-#[test]
-fn reads_u56_le(rt: HostRuntime) {
-    reads!(rt; eat_u56_le, checked_eat_u56_le, 7; b"\x01\x11\x21\x31\x41\x51\x61\xee" => 0x61_5141_3121_1101);
-    reads!(rt; eat_u56_le, checked_eat_u56_le, 7; b"\xcd\xb8\xa3\xae\x99\x84\x8f\xee" => 0x8f_8499_aea3_b8cd);
-}
-
-#[test]
-fn reads_i56_le(rt: HostRuntime) {
-    reads!(rt; eat_i56_le, checked_eat_i56_le, 7; b"\x01\x11\x21\x31\x41\x51\x61\xee" => 0x61_5141_3121_1101);
-    reads!(rt; eat_i56_le, checked_eat_i56_le, 7; b"\xcd\xb8\xa3\xae\x99\x84\x8f\xee" => -0x70_7b66_515c_4733);
-}
-
-#[test]
-fn reads_u56_be(rt: HostRuntime) {
-    reads!(rt; eat_u56_be, checked_eat_u56_be, 7; b"\x01\x11\x21\x31\x41\x51\x61\xee" => 0x1_1121_3141_5161);
-    reads!(rt; eat_u56_be, checked_eat_u56_be, 7; b"\x8f\x84\x99\xae\xa3\xb8\xcd\xee" => 0x8f_8499_aea3_b8cd);
-}
-
-#[test]
-fn reads_i56_be(rt: HostRuntime) {
-    reads!(rt; eat_i56_be, checked_eat_i56_be, 7; b"\x01\x11\x21\x31\x41\x51\x61\xee" => 0x1_1121_3141_5161);
-    reads!(rt; eat_i56_be, checked_eat_i56_be, 7; b"\x8f\x84\x99\xae\xa3\xb8\xcd\xee" => -0x70_7b66_515c_4733);
-}
-
-#[test]
-fn reads_u64_le(rt: HostRuntime) {
-    reads!(rt; eat_u64_le, checked_eat_u64_le, 8; b"\x01\x11\x21\x31\x41\x51\x61\x71\xee" => 0x7161_5141_3121_1101);
-    reads!(rt; eat_u64_le, checked_eat_u64_le, 8; b"\xc2\xcd\xb8\xa3\xae\x99\x84\x8f\xee" => 0x8f84_99ae_a3b8_cdc2);
-}
-
-#[test]
-fn reads_i64_le(rt: HostRuntime) {
-    reads!(rt; eat_i64_le, checked_eat_i64_le, 8; b"\x01\x11\x21\x31\x41\x51\x61\x71\xee" => 0x7161_5141_3121_1101);
-    reads!(rt; eat_i64_le, checked_eat_i64_le, 8; b"\xc2\xcd\xb8\xa3\xae\x99\x84\x8f\xee" => -0x707b_6651_5c47_323e);
-}
-
-#[test]
-fn reads_u64_be(rt: HostRuntime) {
-    reads!(rt; eat_u64_be, checked_eat_u64_be, 8; b"\x01\x11\x21\x31\x41\x51\x61\x71\xee" => 0x111_2131_4151_6171);
-    reads!(rt; eat_u64_be, checked_eat_u64_be, 8; b"\x8f\x84\x99\xae\xa3\xb8\xcd\xc2\xee" => 0x8f84_99ae_a3b8_cdc2);
-}
-
-#[test]
-fn reads_i64_be(rt: HostRuntime) {
-    reads!(rt; eat_i64_be, checked_eat_i64_be, 8; b"\x01\x11\x21\x31\x41\x51\x61\x71\xee" => 0x111_2131_4151_6171);
-    reads!(rt; eat_i64_be, checked_eat_i64_be, 8; b"\x8f\x84\x99\xae\xa3\xb8\xcd\xc2\xee" => -0x707b_6651_5c47_323e);
-}
-
-#[test]
-fn reads_u128_le(rt: HostRuntime) {
-    reads!(rt; eat_u128_le, checked_eat_u128_le, 16; b"\x01\x11\x21\x31\x41\x51\x61\x71\x02\x12\x22\x32\x42\x52\x62\x72\xee" => 0x7262_5242_3222_1202_7161_5141_3121_1101);
-    reads!(rt; eat_u128_le, checked_eat_u128_le, 16; b"\xaa\x95\x80\x8b\xf6\xe1\xec\xd7\xc2\xcd\xb8\xa3\xae\x99\x84\x8f\xee" => 0x8f84_99ae_a3b8_cdc2_d7ec_e1f6_8b80_95aa);
-}
-
-#[test]
-fn reads_i128_le(rt: HostRuntime) {
-    reads!(rt; eat_i128_le, checked_eat_i128_le, 16; b"\x01\x11\x21\x31\x41\x51\x61\x71\x02\x12\x22\x32\x42\x52\x62\x72\xee" => 0x7262_5242_3222_1202_7161_5141_3121_1101);
-    reads!(rt; eat_i128_le, checked_eat_i128_le, 16; b"\xaa\x95\x80\x8b\xf6\xe1\xec\xd7\xc2\xcd\xb8\xa3\xae\x99\x84\x8f\xee" => -0x707b_6651_5c47_323d_2813_1e09_747f_6a56);
-}
-
-#[test]
-fn reads_u128_be(rt: HostRuntime) {
-    reads!(rt; eat_u128_be, checked_eat_u128_be, 16; b"\x01\x11\x21\x31\x41\x51\x61\x71\x02\x12\x22\x32\x42\x52\x62\x72\xee" => 0x111_2131_4151_6171_0212_2232_4252_6272);
-    reads!(rt; eat_u128_be, checked_eat_u128_be, 16; b"\x8f\x84\x99\xae\xa3\xb8\xcd\xc2\xd7\xec\xe1\xf6\x8b\x80\x95\xaa\xee" => 0x8f84_99ae_a3b8_cdc2_d7ec_e1f6_8b80_95aa);
-}
-
-#[test]
-fn reads_i128_be(rt: HostRuntime) {
-    reads!(rt; eat_i128_be, checked_eat_i128_be, 16; b"\x01\x11\x21\x31\x41\x51\x61\x71\x02\x12\x22\x32\x42\x52\x62\x72\xee" => 0x111_2131_4151_6171_0212_2232_4252_6272);
-    reads!(rt; eat_i128_be, checked_eat_i128_be, 16; b"\x8f\x84\x99\xae\xa3\xb8\xcd\xc2\xd7\xec\xe1\xf6\x8b\x80\x95\xaa\xee" => -0x707b_6651_5c47_323d_2813_1e09_747f_6a56);
-}
-
-// A sign is that of the number's own width.
-#[test]
-fn i24_at_its_ends(rt: HostRuntime) {
-    reads!(rt; eat_i24_le, checked_eat_i24_le, 3; b"\xff\xff\xff\0" => -1);
-    reads!(rt; eat_i24_le, checked_eat_i24_le, 3; b"\0\0\x80\0" => -8388608);
-    reads!(rt; eat_i24_be, checked_eat_i24_be, 3; b"\x80\0\0\0" => -8388608);
-    reads!(rt; eat_i24_le, checked_eat_i24_le, 3; b"\xff\xff\x7f\0" => 8388607);
-}
-
-// The test of the Rust crate under this name.
-#[test]
-fn be_le(rt: HostRuntime) {
-    let bytes: &[u8] = b"\0\x01\x02\x03\x04\x05\x06";
-    assert_eq!(rt; ParseBuf(bytes).checked_eat_u24_le(), Some(0x020100));
-    assert_eq!(rt; ParseBuf(bytes).checked_eat_u24_be(), Some(0x000102));
-    assert_eq!(rt; ParseBuf(bytes).checked_eat_u40_le(), Some(0x0403020100));
-    assert_eq!(rt; ParseBuf(bytes).checked_eat_u40_be(), Some(0x0001020304));
-    assert_eq!(rt; ParseBuf(bytes).checked_eat_u48_le(), Some(0x050403020100));
-    assert_eq!(rt; ParseBuf(bytes).checked_eat_u48_be(), Some(0x000102030405));
-    assert_eq!(rt;
-        ParseBuf(bytes).checked_eat_u56_le(),
-        Some(0x06050403020100)
-    );
-    assert_eq!(rt;
-        ParseBuf(bytes).checked_eat_u56_be(),
-        Some(0x00010203040506)
-    );
-}
-
-#[test]
-fn short_number_is_left(rt: HostRuntime) {
-    let mut buf = ParseBuf(&[7; 15]);
-    assert_eq!(rt; buf.checked_eat_u128_le(), None);
-    assert_eq!(rt; buf.len(), 15);
+fn checked_slices_are_the_eaten_part(rt: HostRuntime) {
+    let mut buf = ParseBuf(b"abcdefgh");
+    let eaten = [
+        buf.checked_eat(0),
+        buf.checked_eat(3),
+        buf.checked_eat(6),
+        buf.checked_eat_buf(6).map(|eaten| eaten.0),
+        buf.checked_eat_buf(1).map(|eaten| eaten.0),
+    ];
+    assert!(rt; eaten == [Some(b"".as_slice()), Some(b"abc"), None, None, Some(b"d")]);
+    let skipped = [buf.checked_skip(5), buf.checked_skip(1)];
+    assert!(rt; skipped == [false, true]);
+    assert!(rt; buf.0 == b"fgh".as_slice());
 }
 
 #[test]
 fn slices_are_the_eaten_part(rt: HostRuntime) {
-    let mut buf = ParseBuf(b"abcdefgh");
-    assert!(rt; !buf.is_empty());
-    assert_eq!(rt; buf.eat(1), b"a".as_slice());
-    assert_eq!(rt; buf.checked_eat(0), Some(b"".as_slice()));
-    assert_eq!(rt; buf.checked_eat(2), Some(b"bc".as_slice()));
-    assert_eq!(rt; buf.checked_eat(6), None);
-    assert_eq!(rt; buf.len(), 5);
-    assert_eq!(rt; buf.eat_buf(1).0, b"d".as_slice());
-    assert_eq!(rt; buf.checked_eat_buf(5), None);
-    assert!(rt; !buf.checked_skip(5));
-    assert_eq!(rt; buf.checked_eat_buf(1), Some(ParseBuf(b"e")));
-    assert!(rt; buf.checked_skip(1));
-    assert_eq!(rt; buf.len(), 2);
+    let mut buf = ParseBuf(b"abcdef");
+    let lens = [buf.len(), buf.eat(1).len(), buf.len()];
+    assert!(rt; lens == [6, 1, 5]);
+    let eaten = [buf.eat(1), buf.eat_buf(1).0];
     buf.skip(1);
-    assert_eq!(rt; buf.eat_all(), b"h".as_slice());
+    let rest = [buf.eat_all(), buf.eat_all()];
+    assert!(rt; eaten == [b"b".as_slice(), b"c"]);
+    assert!(rt; rest == [b"ef".as_slice(), b""]);
     assert!(rt; buf.is_empty());
-    assert_eq!(rt; buf.eat_all(), b"".as_slice());
+    assert!(rt; !ParseBuf(b"a").is_empty());
+}
+
+// Whether this text is eaten up to its zero, and this is left.
+fn eats_null_str(input: &[u8], text: &[u8], left: &[u8]) -> bool {
+    let mut buf = ParseBuf(input);
+    buf.eat_null_str() == text && buf.0 == left
 }
 
 #[test]
 fn null_str_ends_at_a_zero(rt: HostRuntime) {
-    let mut buf = ParseBuf(b"a\0b");
-    assert_eq!(rt; buf.eat_null_str(), b"a".as_slice());
-    assert_eq!(rt; buf.0, b"b".as_slice());
-    assert_eq!(rt; buf.eat_null_str(), b"b".as_slice());
-    assert_eq!(rt; buf.eat_null_str(), b"".as_slice());
-    let mut buf = ParseBuf(b"\0");
-    assert_eq!(rt; buf.eat_null_str(), b"".as_slice());
-    assert!(rt; buf.is_empty());
+    assert!(rt; eats_null_str(b"a\0b", b"a", b"b"));
+    assert!(rt; eats_null_str(b"b", b"b", b""));
+    assert!(rt; eats_null_str(b"", b"", b""));
+    assert!(rt; eats_null_str(b"\0", b"", b""));
 }
 
-// How many bytes stand before the first zero, counted one by one.
-fn count_to_zero(text: &[u8]) -> usize {
-    let mut count = 0usize;
-    for byte in text {
-        if *byte == 0 {
-            return count;
-        }
-        count = count.wrapping_add(1);
-    }
-    count
-}
-
-// The text and what is left, against the count.
-fn check_null_str(rt: &impl Abort, bytes: &[u8]) {
-    let count = count_to_zero(bytes);
-    let mut buf = ParseBuf(bytes);
-    let text = buf.eat_null_str();
-    assert_eq!(rt; text.len(), count);
-    assert_eq!(rt; text.len() + buf.len() + 1, bytes.len().max(count + 1));
-    assert!(rt; bytes.starts_with(text));
-    assert!(rt; bytes.ends_with(buf.0));
-}
-
+// A text of each length up to 300, with a zero at each place, and with none.
 #[test]
-fn null_str_is_that_of_a_plain_loop(rt: HostRuntime) {
+fn the_zero_of_a_null_str_is_found(rt: HostRuntime) {
+    let mut all = true;
     for len in 0..301usize {
         let mut bytes = [b'a'; 300];
         for zero in 0..len {
             bytes[zero] = 0;
-            check_null_str(&rt, &bytes[..len]);
+            let text = between(&bytes, 0, zero);
+            all &= eats_null_str(&bytes[..len], text, between(&bytes, zero + 1, len));
             bytes[zero] = b'a';
         }
-        check_null_str(&rt, &bytes[..len]);
+        all &= eats_null_str(&bytes[..len], &bytes[..len], b"");
     }
+    assert!(rt; all);
 }
 
 #[test]
-fn read_gives_what_fits(rt: HostRuntime) -> Result<(), Fail> {
+fn read_gives_what_fits(rt: HostRuntime) {
     let mut buf = ParseBuf(b"abc");
     let mut front = [0; 2];
-    assert_eq!(rt; buf.read(&mut front)?, 2);
-    assert_eq!(rt; front, *b"ab");
-    assert_eq!(rt; buf.0, b"c".as_slice());
-    assert_eq!(rt; buf.read(&mut front)?, 1);
-    assert_eq!(rt; front, *b"cb");
-    assert_eq!(rt; buf.read(&mut front)?, 0);
-    Ok(())
+    let mut all = true;
+    for (count, wanted, left) in [(2usize, *b"ab", 1usize), (1, *b"cb", 0), (0, *b"cb", 0)] {
+        all &= matches!(buf.read(&mut front), Ok(read) if read == count);
+        all &= front == wanted;
+        all &= buf.len() == left;
+    }
+    assert!(rt; all);
 }
 
 // Asks for four bytes and looks at two.
-#[derive(Debug, Drop)]
+#[derive(Clone, Copy, Debug, PartialEq)]
 struct Hasty(u16);
 
 impl<'de, A: Allocator + Copy> MyDeserialize<'de, A> for Hasty {
@@ -405,7 +108,7 @@ impl<'de, A: Allocator + Copy> MyDeserialize<'de, A> for Hasty {
 }
 
 // Asks for four bytes and refuses them all, unseen.
-#[derive(Debug, Drop)]
+#[derive(Clone, Copy, Debug, PartialEq)]
 struct Refused;
 
 impl<'de, A: Allocator + Copy> MyDeserialize<'de, A> for Refused {
@@ -425,138 +128,112 @@ impl<'de, A: Allocator + Copy> MyDeserialize<'de, A> for Refused {
     }
 }
 
+// Whether `parse` answers this, and leaves this of the input.
+fn parses<'de, T: PartialEq + MyDeserialize<'de, Global>>(
+    alloc: Global,
+    ctx: T::Ctx,
+    input: &'de [u8],
+    wanted: Result<T, Fault>,
+    left: &[u8],
+) -> bool {
+    let mut buf = ParseBuf(input);
+    told(buf.parse::<T>(alloc, ctx)) == wanted && buf.0 == left
+}
+
+// What is looked at is two bytes, and what is eaten is the size, where it is there.
 #[test]
 fn parse_eats_the_size(rt: HostRuntime) {
-    let mut buf = ParseBuf(b"\x01\x02\x03\x04\x05");
-    let read = buf.parse::<Hasty>(rt.alloc(), ());
-    assert!(rt; matches!(read, Ok(Hasty(0x0201))));
-    assert_eq!(rt; buf.0, b"\x05".as_slice());
-
-    let mut buf = ParseBuf(b"\x01\x02\x03");
-    let read = buf.parse::<Hasty>(rt.alloc(), ());
-    assert!(rt; matches!(read, Err(WireError::UnexpectedEof)));
-    assert_eq!(rt; buf.len(), 3);
-
-    let mut buf = ParseBuf(b"\x01\x02\x03\x04\x05");
-    let read = buf.parse::<Refused>(rt.alloc(), ());
-    assert!(rt;
-        matches!(
-            read,
-            Err(WireError::InvalidData(InvalidReason::UnknownValue))
-        )
-    );
-    assert_eq!(rt; buf.len(), 1);
+    let alloc = rt.alloc();
+    let refused = Fault::Invalid(InvalidReason::UnknownValue);
+    let bytes = b"\x01\x02\x03\x04\x05".as_slice();
+    assert!(rt; parses::<Hasty>(alloc, (), bytes, Ok(Hasty(0x0201)), b"\x05"));
+    assert!(rt; parses::<Hasty>(alloc, (), b"abc", Err(Fault::UnexpectedEof), b"abc"));
+    assert!(rt; parses::<Refused>(alloc, (), bytes, Err(refused), b"\x05"));
 }
 
 #[test]
 fn parse_unchecked_eats_what_is_looked_at(rt: HostRuntime) {
     let mut buf = ParseBuf(b"\x01\x02\x03\x04\x05");
-    let read = buf.parse_unchecked::<Hasty>(rt.alloc(), ());
-    assert!(rt; matches!(read, Ok(Hasty(0x0201))));
-    assert_eq!(rt; buf.len(), 3);
+    let read = told(buf.parse_unchecked::<Hasty>(rt.alloc(), ()));
+    assert!(rt; read == Ok(Hasty(0x0201)));
+    assert!(rt; buf.len() == 3);
 }
 
 #[test]
-fn buffers_and_arrays_are_read(rt: HostRuntime) -> Result<(), Fail> {
-    let mut buf = ParseBuf(b"abcdef");
-    let front = buf.parse::<ParseBuf<'_>>(rt.alloc(), 2)?;
-    assert_eq!(rt; front.0, b"ab".as_slice());
-    assert_eq!(rt; buf.parse::<[u8; 3]>(rt.alloc(), ())?, *b"cde");
-    let read = buf.parse::<ParseBuf<'_>>(rt.alloc(), 2);
-    assert!(rt; matches!(read, Err(WireError::UnexpectedEof)));
-    let read = buf.parse::<[u8; 3]>(rt.alloc(), ());
-    assert!(rt; matches!(read, Err(WireError::UnexpectedEof)));
-    assert_eq!(rt; buf.0, b"f".as_slice());
-    Ok(())
+fn buffers_and_arrays_are_read(rt: HostRuntime) {
+    let alloc = rt.alloc();
+    let eof = Fault::UnexpectedEof;
+    assert!(rt; parses(alloc, 2, b"abc", Ok(ParseBuf(b"ab")), b"c"));
+    assert!(rt; parses::<ParseBuf<'_>>(alloc, 2, b"a", Err(eof), b"a"));
+    assert!(rt; parses(alloc, (), b"abcd", Ok(*b"abc"), b"d"));
+    assert!(rt; parses::<[u8; 3]>(alloc, (), b"ab", Err(eof), b"ab"));
 }
 
-// Reading these takes no memory.
+// Whether a value is read with this memory.
+fn is_read<'de, T, A>(alloc: A, ctx: T::Ctx, input: &'de [u8]) -> bool
+where
+    A: Allocator + Copy,
+    T: MyDeserialize<'de, A>,
+{
+    ParseBuf(input).parse_in::<T, A>(alloc, ctx).is_ok()
+}
+
 #[test]
 fn parse_asks_for_no_memory(rt: HostRuntime) {
     let heap = Refusing::new(rt.alloc(), 0);
-    let mut buf = ParseBuf(b"abcdefghij");
-    assert!(rt; buf.parse_in::<ParseBuf<'_>, _>(&heap, 2).is_ok());
-    assert!(rt; buf.parse_in::<[u8; 3], _>(&heap, ()).is_ok());
-    assert!(rt; buf.parse_in::<Hasty, _>(&heap, ()).is_ok());
-    assert_eq!(rt; buf.len(), 1);
-    assert_eq!(rt; heap.left(), 0);
-}
-
-#[test]
-fn refused_serialize_changes_nothing(rt: HostRuntime) -> Result<(), Fail> {
-    let heap = Refusing::new(rt.alloc(), 1);
-    let mut buf = Vec::with_capacity(&heap, 1)?;
-    buf.push(0xaa)?;
-    assert!(rt; matches!([1; 40].serialize(&mut buf), Err(WireError::OutOfMemory)));
-    assert_eq!(rt; buf.as_slice(), [0xaa].as_slice());
-    assert!(rt; [1; 40].serialize(&mut buf).is_ok());
-    assert_eq!(rt; buf.len(), 41);
-    Ok(())
-}
-
-// What `SIZE` says, `Size` says.
-fn check_size<'de, T: MyDeserialize<'de, Global>>(rt: &impl Abort, size: Option<usize>) {
-    assert_eq!(rt; T::SIZE, size);
-    assert_eq!(rt; <T::Size as ReadSize>::SIZE, size);
-}
-
-#[test]
-fn sizes_agree(rt: HostRuntime) {
-    check_size::<ParseBuf<'_>>(&rt, None);
-    check_size::<[u8; 0]>(&rt, Some(0));
-    check_size::<[u8; 7]>(&rt, Some(7));
-    check_size::<Hasty>(&rt, Some(4));
+    assert!(rt; is_read::<ParseBuf<'_>, _>(&heap, 2, b"ab"));
+    assert!(rt; is_read::<[u8; 3], _>(&heap, (), b"abc"));
+    assert!(rt; is_read::<Hasty, _>(&heap, (), b"abcd"));
+    assert!(rt; heap.left() == 0);
 }
 
 // Copied and compared.
-fn check_marker<T: Copy + Eq + Hash + Debug>(rt: &impl Abort, marker: T) {
+fn is_value<T: Copy + Eq + Hash + Debug>(marker: T) -> bool {
     let copy = marker;
-    assert!(rt; copy == marker);
+    copy == marker
 }
 
 #[test]
 fn markers_are_values(rt: HostRuntime) {
-    check_marker(&rt, Text);
-    check_marker(&rt, Binary);
+    assert!(rt; is_value(Text));
+    assert!(rt; is_value(Binary));
+}
+
+// Whether the reason is shown as this text, by itself and in an error.
+fn shows_reason(alloc: Global, reason: InvalidReason, text: &str) -> bool {
+    shows(alloc, reason, text) && shows(alloc, WireError::InvalidData(reason), text)
 }
 
 #[test]
-fn errors_show_their_texts(rt: HostRuntime) -> Result<(), Fail> {
-    let texts = [
-        (
-            WireError::UnexpectedEof,
-            "can't parse: buf doesn't have enough data",
+fn errors_show_their_texts(rt: HostRuntime) {
+    let alloc = rt.alloc();
+    let eof = "can't parse: buf doesn't have enough data";
+    let lenenc = "Invalid length-encoded integer value (starts with 0xfb|0xff)";
+    let shown = [
+        shows(alloc, WireError::UnexpectedEof, eof),
+        shows(alloc, WireError::Other(InvalidLengthEncodedInteger), lenenc),
+        shows(
+            alloc,
+            WireError::Io(io::Error::other("it broke")),
+            "it broke",
         ),
-        (
-            WireError::InvalidData(InvalidReason::UnknownValue),
-            "unknown value",
-        ),
-        (
-            WireError::InvalidData(InvalidReason::ConstMismatch),
-            "constant mismatch",
-        ),
-        (
-            WireError::InvalidData(InvalidReason::NoNullTerminator),
-            "no null terminator for null-terminated string",
-        ),
-        (
-            WireError::InvalidData(InvalidReason::VarLenTooLarge),
-            "invalid variable-length value (> u32::MAX)",
-        ),
-        (
-            WireError::InvalidData(InvalidReason::VarLenTooLong),
-            "invalid variable-length value (more than 5 bytes)",
-        ),
-        (
-            WireError::Other(InvalidLengthEncodedInteger),
-            "Invalid length-encoded integer value (starts with 0xfb|0xff)",
-        ),
-        (WireError::OutOfMemory, "Out of memory"),
+        shows(alloc, WireError::OutOfMemory, "Out of memory"),
     ];
-    for (error, text) in texts {
-        assert_eq!(rt; format!(in rt.alloc(); "{error}")?.as_str(), text);
-    }
-    let error = WireError::Io(io::Error::other("it broke"));
-    assert_eq!(rt; format!(in rt.alloc(); "{error}")?.as_str(), "it broke");
-    Ok(())
+    assert!(rt; shown == [true; 4]);
+}
+
+#[test]
+fn reasons_show_their_texts(rt: HostRuntime) {
+    let alloc = rt.alloc();
+    let no_zero = "no null terminator for null-terminated string";
+    let too_large = "invalid variable-length value (> u32::MAX)";
+    let too_long = "invalid variable-length value (more than 5 bytes)";
+    let shown = [
+        shows_reason(alloc, InvalidReason::UnknownValue, "unknown value"),
+        shows_reason(alloc, InvalidReason::ConstMismatch, "constant mismatch"),
+        shows_reason(alloc, InvalidReason::NoNullTerminator, no_zero),
+        shows_reason(alloc, InvalidReason::VarLenTooLarge, too_large),
+        shows_reason(alloc, InvalidReason::VarLenTooLong, too_long),
+    ];
+    assert!(rt; shown == [true; 5]);
 }
