@@ -3,16 +3,16 @@
 ghost use Rattle.std.specs.Prelude.{◌∷◌, [], refl};
 ghost use Rattle.std.proofs.Common.{arith};
 
-use super::{ends_early, is_invalid, joined, last, writes};
-use crate::plain::between;
+use crate::answers::Fault;
+use crate::fields::{Heap, has_size, is_written, stops};
+use crate::slices::{between, last};
 use mysql_wire::io::{InvalidReason, ParseBuf};
 use mysql_wire::misc::raw::Skip;
 use mysql_wire::misc::raw::bytes::{ConstBytes, ConstBytesValue};
 use mysql_wire::misc::raw::int::{ConstU8, ConstU32};
 use mysql_wire::proto::{MyDeserialize, MySerialize};
-use std::alloc::Global;
-use std::process::Abort;
-use std::test::Fail;
+use refusing::Refusing;
+use std::alloc::Allocator;
 
 // What a file of the binary log begins with.
 pub struct Magic;
@@ -44,131 +44,137 @@ impl ConstBytesValue<0> for Nothing {
     ghost fits = { Prim.omega arith };
 }
 
-// Whether a value is read, and this is left of the input.
-fn reads<'de, T: MyDeserialize<'de, Global, Ctx = ()>>(
-    alloc: Global,
-    input: &'de [u8],
-    left: &[u8],
-) -> bool {
+// Whether a value is read, and so many bytes are left.
+fn takes<'de, T, A>(alloc: A, input: &'de [u8], left: usize) -> bool
+where
+    A: Allocator + Copy,
+    T: MyDeserialize<'de, A, Ctx = ()>,
+{
     let mut buf = ParseBuf(input);
-    let read = buf.parse::<T>(alloc, ());
-    read.is_ok() && buf.0 == left
+    let is_read = buf.parse_in::<T, A>(alloc, ()).is_ok();
+    is_read & (buf.0 == last(input, left))
 }
 
-// Whether a value is written as these bytes, and read from them, whatever follows; and whether from
-// fewer none is, and none is eaten.
-fn is_at<'de, T: MySerialize + MyDeserialize<'de, Global, Ctx = ()>>(
-    alloc: Global,
-    value: &T,
-    bytes: &[u8],
-    and_more: &'de [u8],
-) -> Result<bool, Fail> {
-    let len = bytes.len();
-    let whole = between(and_more, 0, len);
-    let mut all = writes(alloc, value, bytes)? && whole == bytes;
-    all = all && reads::<T>(alloc, whole, b"");
-    all = all && reads::<T>(alloc, and_more, between(and_more, len, and_more.len()));
-    for there in 0..len {
-        let short = between(and_more, 0, there);
-        all = all && ends_early::<T>(alloc, (), short, short);
+// Whether a value is written as the first bytes of an input, so many, and read from them, whatever
+// follows; and whether from fewer none is, and none is eaten. The memory is the heap's, and readers
+// take none.
+fn is_at<'de, T, A>(heap: &Heap, alloc: A, value: T, input: &'de [u8], len: usize) -> bool
+where
+    A: Allocator + Copy,
+    T: MySerialize + MyDeserialize<'de, A, Ctx = ()>,
+{
+    let mut all = is_written(heap, &value, between(input, 0, len));
+    heap.refuse(0);
+    for there in 0..input.len() + 1 {
+        let front = between(input, 0, there);
+        all &= if there < len {
+            stops::<T, (), A>(alloc, (), front, Fault::UnexpectedEof, there)
+        } else {
+            takes::<T, A>(alloc, front, there - len)
+        };
     }
-    Ok(all)
+    all & (heap.left() == 0)
 }
 
 #[test]
-fn constant_bytes(rt: HostRuntime) -> Result<(), Fail> {
-    let byte = ConstU8::<(), 7>::new();
-    assert_eq!(rt; byte.value(), 7);
-    assert!(rt; is_at(rt.alloc(), &byte, b"\x07", b"\x07\x07\0")?);
-    let zero = ConstU8::<(), 0>::new();
-    assert_eq!(rt; zero.value(), 0);
-    assert!(rt; is_at(rt.alloc(), &zero, b"\0", b"\0\0")?);
-    let last = ConstU8::<(), 255>::default();
-    assert_eq!(rt; last.value(), 255);
-    assert!(rt; is_at(rt.alloc(), &last, b"\xff", b"\xff")?);
-    Ok(())
-}
-
-#[test]
-fn constant_numbers(rt: HostRuntime) -> Result<(), Fail> {
-    let seven = ConstU32::<(), 7>::new();
-    assert!(rt; is_at(rt.alloc(), &seven, b"\x07\0\0\0", b"\x07\0\0\0\x07")?);
+fn constant_bytes_and_numbers(rt: HostRuntime) {
+    let heap = &Refusing::new(rt.alloc(), 0);
     let number = ConstU32::<(), 0x01020304>::new();
-    assert!(rt;
-        is_at(
-            rt.alloc(),
-            &number,
-            b"\x04\x03\x02\x01",
-            b"\x04\x03\x02\x01\0"
-        )?
-    );
     let most = ConstU32::<(), 0xffffffff>::default();
-    assert!(rt;
+    let at = [
+        is_at(heap, heap, ConstU8::<(), 7>::new(), b"\x07\x07\0", 1),
+        is_at(heap, heap, ConstU8::<(), 0>::new(), b"\0\0", 1),
+        is_at(heap, heap, ConstU8::<(), 255>::default(), b"\xff", 1),
+        is_at(heap, heap, ConstU32::<(), 7>::new(), b"\x07\0\0\0\x07", 4),
+        is_at(heap, heap, number, b"\x04\x03\x02\x01\0", 4),
+        is_at(heap, heap, most, b"\xff\xff\xff\xff\xff", 4),
+    ];
+    assert!(rt; at == [true; 6]);
+    let values = [
+        ConstU8::<(), 7>::new().value(),
+        ConstU8::<(), 0>::new().value(),
+        ConstU8::<(), 255>::default().value(),
+    ];
+    assert!(rt; values == [7, 0, 255]);
+}
+
+#[test]
+fn constant_texts_and_arrays(rt: HostRuntime) {
+    let heap = &Refusing::new(rt.alloc(), 0);
+    let at = [
         is_at(
-            rt.alloc(),
-            &most,
-            b"\xff\xff\xff\xff",
-            b"\xff\xff\xff\xff\xff"
-        )?
-    );
-    Ok(())
+            heap,
+            heap,
+            ConstBytes::<Magic, 4>::default(),
+            b"\xfebin\0",
+            4,
+        ),
+        is_at(heap, heap, ConstBytes::<Nothing, 0>::default(), b"a", 0),
+        is_at(heap, heap, *b"a", b"abc", 1),
+        is_at(heap, heap, *b"abc", b"abcde", 3),
+        is_at(heap, heap, [0u8; 0], b"a", 0),
+        is_at(heap, heap, [1u8; 40], &[1; 41], 40),
+    ];
+    assert!(rt; at == [true; 6]);
 }
 
+// Anything is read in place of the zeros.
 #[test]
-fn constant_texts(rt: HostRuntime) -> Result<(), Fail> {
-    let magic = ConstBytes::<Magic, 4>::default();
-    assert!(rt; is_at(rt.alloc(), &magic, b"\xfebin", b"\xfebin\0")?);
-    let nothing = ConstBytes::<Nothing, 0>::default();
-    assert!(rt; is_at(rt.alloc(), &nothing, b"", b"a")?);
-    Ok(())
-}
-
-#[test]
-fn bytes_to_skip(rt: HostRuntime) -> Result<(), Fail> {
-    assert!(rt; is_at(rt.alloc(), &Skip::<1>, b"\0", b"\0\x01")?);
-    assert!(rt; is_at(rt.alloc(), &Skip::<3>, b"\0\0\0", b"\0\0\0\x01")?);
-    assert!(rt; is_at(rt.alloc(), &Skip::<0>, b"", b"\x01")?);
-    // Anything is read in place of the zeros.
-    assert!(rt; reads::<Skip<3>>(rt.alloc(), b"abcd", b"d"));
-    Ok(())
-}
-
-#[test]
-fn arrays(rt: HostRuntime) -> Result<(), Fail> {
-    assert!(rt; is_at(rt.alloc(), b"a", b"a", b"abc")?);
-    assert!(rt; is_at(rt.alloc(), b"abc", b"abc", b"abcde")?);
-    assert!(rt; is_at(rt.alloc(), &[0u8; 0], b"", b"a")?);
-    let mut buf = ParseBuf(b"abcd");
-    assert_eq!(rt; buf.parse::<[u8; 3]>(rt.alloc(), ())?, *b"abc");
-    Ok(())
+fn bytes_to_skip(rt: HostRuntime) {
+    let heap = &Refusing::new(rt.alloc(), 0);
+    let at = [
+        is_at(heap, heap, Skip::<1>, b"\0\x01", 1),
+        is_at(heap, heap, Skip::<2>, b"\0\0", 2),
+        is_at(heap, heap, Skip::<3>, b"\0\0\0\x01", 3),
+        is_at(heap, heap, Skip::<0>, b"\x01", 0),
+        takes::<Skip<3>, _>(heap, b"abcd", 1),
+    ];
+    assert!(rt; at == [true; 5]);
 }
 
 // Whether each of these, which differs from the constant, is refused, its bytes being eaten.
-fn are_refused<'de, T: MyDeserialize<'de, Global, Ctx = ()>>(
-    alloc: Global,
-    inputs: &[&'de [u8]],
-    left: usize,
-) -> bool {
+fn are_refused<'de, T, A>(alloc: A, inputs: &[&'de [u8]], left: usize) -> bool
+where
+    A: Allocator + Copy,
+    T: MyDeserialize<'de, A, Ctx = ()>,
+{
     let mut all = true;
     for input in inputs {
-        let why = InvalidReason::ConstMismatch;
-        all = all && is_invalid::<T>(alloc, (), *input, why, last(*input, left));
+        let why = Fault::Invalid(InvalidReason::ConstMismatch);
+        all &= stops::<T, (), A>(alloc, (), *input, why, left);
     }
     all
 }
 
 #[test]
 fn others_than_the_constant_are_refused(rt: HostRuntime) {
-    let bytes: [&[u8]; 3] = [b"\x08\x01", b"\x06\x07", b"\x87\0"];
-    assert!(rt; are_refused::<ConstU8<(), 7>>(rt.alloc(), &bytes, 1));
-    let numbers: [&[u8]; 5] = [
+    let heap = &Refusing::new(rt.alloc(), 0);
+    let bytes: &[&[u8]] = &[b"\x08\x01", b"\x06\x07", b"\x87\0"];
+    assert!(rt; are_refused::<ConstU8<(), 7>, _>(heap, bytes, 1));
+    let numbers: &[&[u8]] = &[
         b"\x08\0\0\0a",
         b"\x07\x01\0\0b",
         b"\x07\0\x01\0c",
         b"\x07\0\0\x01d",
         b"\0\0\0\x07e",
     ];
-    assert!(rt; are_refused::<ConstU32<(), 7>>(rt.alloc(), &numbers, 1));
-    let texts: [&[u8]; 4] = [b"\0bin\0a", b"\xfecin\0b", b"\xfebon\0c", b"\xfebim\0d"];
-    assert!(rt; are_refused::<ConstBytes<Magic, 4>>(rt.alloc(), &texts, 2));
+    assert!(rt; are_refused::<ConstU32<(), 7>, _>(heap, numbers, 1));
+    let texts: &[&[u8]] = &[b"\0bin\0a", b"\xfecin\0b", b"\xfebon\0c", b"\xfebim\0d"];
+    assert!(rt; are_refused::<ConstBytes<Magic, 4>, _>(heap, texts, 2));
+    assert!(rt; heap.left() == 0);
+}
+
+#[test]
+fn sizes_of_constants(rt: HostRuntime) {
+    let sizes = [
+        has_size::<ConstU8<(), 7>>(Some(1)),
+        has_size::<ConstU32<(), 7>>(Some(4)),
+        has_size::<ConstBytes<Magic, 4>>(Some(4)),
+        has_size::<Skip<0>>(Some(0)),
+        has_size::<Skip<3>>(Some(3)),
+        has_size::<[u8; 0]>(Some(0)),
+        has_size::<[u8; 7]>(Some(7)),
+        has_size::<ParseBuf<'_>>(None),
+    ];
+    assert!(rt; sizes == [true; 8]);
 }

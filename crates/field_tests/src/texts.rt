@@ -1,8 +1,12 @@
-// Each representation of a text: at the ends of its lengths, cut short, and with bytes behind.
+// Each representation of a text: at the ends of its lengths, cut short, with bytes behind, and with
+// each request for memory refused.
 
-use super::{Eaten, ends_early, is_invalid, joined, last, reads_bare, reads_text, writes};
-use crate::plain::{between, low_byte};
-use mysql_wire::io::{InvalidReason, ParseBuf, WireError};
+use crate::answers::Fault;
+use crate::fields::{
+    Eaten, Heap, MORE, Short, gives, has_size, is_read, is_written, joined, starved, stops,
+};
+use crate::slices::between;
+use mysql_wire::io::InvalidReason;
 use mysql_wire::misc::raw::RawBytes;
 use mysql_wire::misc::raw::bytes::{
     BareBytes, BareU8Bytes, BareU16Bytes, BytesRepr, EofBytes, FixedLengthText, LenEnc, NullBytes,
@@ -10,323 +14,348 @@ use mysql_wire::misc::raw::bytes::{
 };
 use mysql_wire::misc::raw::int::VarLen;
 use refusing::Refusing;
-use std::alloc::Global;
-use std::process::Abort;
+use std::alloc::{AllocError, Global};
 use std::test::Fail;
 
-// A text of so many bytes, none of them a zero.
-fn letters(alloc: Global, len: usize) -> Result<Vec<u8>, Fail> {
+/// A text of so many bytes, none of them a zero.
+pub fn letters(alloc: Global, len: usize) -> Result<Vec<u8>, AllocError> {
     let mut text = Vec::with_capacity(alloc, len)?;
-    for i in 0..len {
-        text.push(low_byte(i % 26).wrapping_add(b'a'))?;
+    for _ in 0..len.div_ceil(26) {
+        text.extend_from_slice(b"abcdefghijklmnopqrstuvwxyz")?;
     }
+    text.truncate(len);
     Ok(text)
+}
+
+// Whether a text is written as the first two of these parts, its length and as much of it, which is
+// read back, whatever follows, and takes no memory.
+fn is_text<T: BytesRepr<Ctx = C>, C: Copy>(
+    heap: &Heap,
+    ctx: C,
+    text: &[u8],
+    [front, cut, more]: [&[u8]; 3],
+    short: Short,
+) -> bool {
+    let Ok(input) = joined(heap, &[front, cut, more]) else {
+        return false;
+    };
+    let len = front.len().saturating_add(cut.len());
+    let value = RawBytes::<T>::from(text);
+    let is_written = is_written(heap, &value, between(input.as_slice(), 0, len));
+    let back = RawBytes::<T, &Heap>::from(cut);
+    let is_read = is_read(starved(heap), ctx, input.as_slice(), len, &back, short);
+    is_written & is_read & (heap.left() == 0)
+}
+
+// ---- sizes
+
+// Whether at most so many bytes of a text are written, and it has this size.
+fn is_bounded<T: BytesRepr>(text: &[u8], most: usize, size: Option<usize>) -> bool {
+    let is_cut = RawBytes::<T>::from(text).len() == text.len().min(most);
+    is_cut & (T::MAX_LEN == most) & has_size::<RawBytes<'_, T>>(size)
+}
+
+#[test]
+fn sizes_of_texts(rt: HostRuntime) -> Result<(), Fail> {
+    let letters = letters(rt.alloc(), 65537)?;
+    let text = letters.as_slice();
+    let bounded = [
+        is_bounded::<LenEnc>(text, usize::MAX, None),
+        is_bounded::<U8Bytes>(text, 255, None),
+        is_bounded::<U32Bytes>(text, 4294967295, None),
+        is_bounded::<VarLen>(text, 4294967295, None),
+        is_bounded::<NullBytes>(text, usize::MAX, None),
+        is_bounded::<EofBytes>(text, usize::MAX, None),
+        is_bounded::<BareBytes<299>>(text, 299, None),
+        is_bounded::<BareU8Bytes>(text, 255, None),
+        is_bounded::<BareU16Bytes>(text, 65535, None),
+        is_bounded::<FixedLengthText<4>>(text, 4, Some(4)),
+        is_bounded::<FixedLengthText<0>>(text, 0, Some(0)),
+    ];
+    assert!(rt; bounded == [true; 11]);
+    Ok(())
 }
 
 // ---- texts behind their length
 
-// A text is written as `front`, its length, and then its first bytes, `most` at most. Whatever
-// follows, those are read back.
-fn check_prefixed<T: BytesRepr<Ctx = ()>>(
-    rt: &impl Abort,
-    alloc: Global,
-    text: &[u8],
-    front: &[u8],
-    most: usize,
-) -> Result<(), Fail> {
-    let cut = between(text, 0, most);
-    let bytes = joined(alloc, front, cut)?;
-    assert!(rt; writes(alloc, &RawBytes::<T>::from(text), bytes.as_slice())?);
-    assert!(rt; reads_text::<T>(alloc, bytes.as_slice(), cut, b""));
-    let more = joined(alloc, bytes.as_slice(), b"\xff\x80\0")?;
-    assert!(rt; reads_text::<T>(alloc, more.as_slice(), cut, b"\xff\x80\0"));
-    Ok(())
-}
+/// The length of a text, and what is written of that.
+pub type Row<'a> = (usize, &'a [u8]);
 
-// From fewer bytes than a length states none are read, and the length is eaten, if it is there
-// whole.
-fn check_short<T: BytesRepr<Ctx = ()>>(
-    rt: &impl Abort,
-    alloc: Global,
-    eaten: Eaten,
-    text: &[u8],
-    front: &[u8],
-    most: usize,
-) -> Result<(), Fail> {
-    let bytes = joined(alloc, front, between(text, 0, most))?;
-    for there in 0..bytes.len() {
-        let left = if there < front.len() {
-            eaten.left_of(there)
-        } else {
-            there - front.len()
-        };
-        let short = between(bytes.as_slice(), 0, there);
-        assert!(rt; ends_early::<RawBytes<'_, T>>(alloc, (), short, last(short, left)));
-    }
-    Ok(())
-}
-
-// The length of a text, and what is written of that.
-pub(super) type Row<'a> = (usize, &'a [u8]);
-
-pub(super) fn check_lengths<T: BytesRepr<Ctx = ()>>(
-    rt: &impl Abort,
-    alloc: Global,
+/// Whether texts of these lengths are written behind their length, `most` bytes of them at most. A
+/// length is eaten, where it is there, and else as `eaten` says.
+pub fn are_texts<T: BytesRepr<Ctx = ()>>(
+    heap: &Heap,
+    letters: &[u8],
     eaten: Eaten,
     rows: &[Row<'_>],
     most: usize,
-) -> Result<(), Fail> {
+) -> bool {
+    let mut all = true;
     for (len, front) in rows {
-        let text = letters(alloc, *len)?;
-        check_prefixed::<T>(rt, alloc, text.as_slice(), *front, most)?;
-        // A long text has too many lengths to be cut to.
-        if *len <= 300 {
-            check_short::<T>(rt, alloc, eaten, text.as_slice(), *front, most)?;
-        }
+        let text = between(letters, 0, *len);
+        let short = Short {
+            fault: Fault::UnexpectedEof,
+            eaten,
+            front: front.len(),
+        };
+        all &= is_text::<T, ()>(
+            heap,
+            (),
+            text,
+            [*front, between(text, 0, most), MORE],
+            short,
+        );
     }
+    all
+}
+
+const LENENC: &[Row] = &[
+    (0, b"\0"),
+    (1, b"\x01"),
+    (250, b"\xfa"),
+    (251, b"\xfc\xfb\0"),
+    (300, b"\xfc\x2c\x01"),
+    (65536, b"\xfd\0\0\x01"),
+];
+
+const U8: &[Row] = &[
+    (0, b"\0"),
+    (1, b"\x01"),
+    (254, b"\xfe"),
+    (255, b"\xff"),
+    (256, b"\xff"),
+    (300, b"\xff"),
+];
+
+const U32: &[Row] = &[
+    (0, b"\0\0\0\0"),
+    (1, b"\x01\0\0\0"),
+    (255, b"\xff\0\0\0"),
+    (256, b"\0\x01\0\0"),
+    (65536, b"\0\0\x01\0"),
+];
+
+const VARLEN: &[Row] = &[
+    (0, b"\0"),
+    (1, b"\x01"),
+    (127, b"\x7f"),
+    (128, b"\x80\x01"),
+    (300, b"\xac\x02"),
+    (16383, b"\xff\x7f"),
+    (16384, b"\x80\x80\x01"),
+];
+
+#[test]
+fn texts_behind_their_length(rt: HostRuntime) -> Result<(), Fail> {
+    let heap = Refusing::new(rt.alloc(), 0);
+    let letters = letters(rt.alloc(), 65536)?;
+    let text = letters.as_slice();
+    assert!(rt; are_texts::<LenEnc>(&heap, text, Eaten::First, LENENC, usize::MAX));
+    assert!(rt; are_texts::<U8Bytes>(&heap, text, Eaten::Nothing, U8, 255));
+    assert!(rt; are_texts::<U32Bytes>(&heap, text, Eaten::Nothing, U32, usize::MAX));
+    assert!(rt; are_texts::<VarLen>(&heap, text, Eaten::All, VARLEN, usize::MAX));
     Ok(())
 }
 
-#[test]
-fn lenenc_texts(rt: HostRuntime) -> Result<(), Fail> {
-    let rows: [Row<'_>; 6] = [
-        (0, b"\0"),
-        (1, b"\x01"),
-        (250, b"\xfa"),
-        (251, b"\xfc\xfb\0"),
-        (300, b"\xfc\x2c\x01"),
-        (65536, b"\xfd\0\0\x01"),
-    ];
-    check_lengths::<LenEnc>(&rt, rt.alloc(), Eaten::First, &rows, usize::MAX)
-}
-
-#[test]
-fn u8_texts_are_cut_to_255_bytes(rt: HostRuntime) -> Result<(), Fail> {
-    let rows: [Row<'_>; 6] = [
-        (0, b"\0"),
-        (1, b"\x01"),
-        (254, b"\xfe"),
-        (255, b"\xff"),
-        (256, b"\xff"),
-        (300, b"\xff"),
-    ];
-    check_lengths::<U8Bytes>(&rt, rt.alloc(), Eaten::Nothing, &rows, 255)
-}
-
-#[test]
-fn u32_texts(rt: HostRuntime) -> Result<(), Fail> {
-    let rows: [Row<'_>; 5] = [
-        (0, b"\0\0\0\0"),
-        (1, b"\x01\0\0\0"),
-        (255, b"\xff\0\0\0"),
-        (256, b"\0\x01\0\0"),
-        (65536, b"\0\0\x01\0"),
-    ];
-    check_lengths::<U32Bytes>(&rt, rt.alloc(), Eaten::Nothing, &rows, usize::MAX)
-}
-
-#[test]
-fn varlen_texts(rt: HostRuntime) -> Result<(), Fail> {
-    let rows: [Row<'_>; 7] = [
-        (0, b"\0"),
-        (1, b"\x01"),
-        (127, b"\x7f"),
-        (128, b"\x80\x01"),
-        (300, b"\xac\x02"),
-        (16383, b"\xff\x7f"),
-        (16384, b"\x80\x80\x01"),
-    ];
-    check_lengths::<VarLen>(&rt, rt.alloc(), Eaten::All, &rows, usize::MAX)
+// Whether this text is read from an input, and so many bytes are left.
+fn gives_text<T: BytesRepr<Ctx = C>, C>(
+    heap: &Heap,
+    ctx: C,
+    input: &[u8],
+    text: &[u8],
+    left: usize,
+) -> bool {
+    let wanted = RawBytes::<T, &Heap>::from(text);
+    gives(starved(heap), ctx, input, &wanted, left)
 }
 
 // A length is read in each of its spellings.
 #[test]
 fn longer_spellings_of_lengths_are_read(rt: HostRuntime) {
-    let alloc = rt.alloc();
-    assert!(rt; reads_text::<LenEnc>(alloc, b"\xfc\x01\0ab", b"a", b"b"));
-    assert!(rt; reads_text::<LenEnc>(alloc, b"\xfe\x02\0\0\0\0\0\0\0abc", b"ab", b"c"));
-    assert!(rt; reads_text::<LenEnc>(alloc, b"\xfba", b"", b"a"));
-    assert!(rt; reads_text::<LenEnc>(alloc, b"\xffa", b"", b"a"));
-    assert!(rt; reads_text::<VarLen>(alloc, b"\x81\x80\0ab", b"a", b"b"));
+    let heap = Refusing::new(rt.alloc(), 0);
+    let read = [
+        gives_text::<LenEnc, ()>(&heap, (), b"\xfc\x01\0ab", b"a", 1),
+        gives_text::<LenEnc, ()>(&heap, (), b"\xfe\x02\0\0\0\0\0\0\0abc", b"ab", 1),
+        gives_text::<LenEnc, ()>(&heap, (), b"\xfba", b"", 1),
+        gives_text::<LenEnc, ()>(&heap, (), b"\xffa", b"", 1),
+        gives_text::<VarLen, ()>(&heap, (), b"\x81\x80\0ab", b"a", 1),
+    ];
+    assert!(rt; read == [true; 5]);
+}
+
+// Whether no text is read for this reason, and so many bytes are left.
+fn stops_text<T: BytesRepr<Ctx = C>, C>(
+    heap: &Heap,
+    ctx: C,
+    input: &[u8],
+    fault: Fault,
+    left: usize,
+) -> bool {
+    stops::<RawBytes<'_, T, &Heap>, C, _>(starved(heap), ctx, input, fault, left)
 }
 
 #[test]
 fn lengths_that_are_refused(rt: HostRuntime) {
-    let large = b"\xff\xff\xff\xff\x1fab";
-    let why = InvalidReason::VarLenTooLarge;
-    assert!(rt; is_invalid::<RawBytes<'_, VarLen>>(rt.alloc(), (), large, why, b"ab"));
-    let long = b"\x80\x80\x80\x80\x80ab";
-    let why = InvalidReason::VarLenTooLong;
-    assert!(rt; is_invalid::<RawBytes<'_, VarLen>>(rt.alloc(), (), long, why, b"ab"));
+    let heap = Refusing::new(rt.alloc(), 0);
+    let large = Fault::Invalid(InvalidReason::VarLenTooLarge);
+    assert!(rt; stops_text::<VarLen, ()>(&heap, (), b"\xff\xff\xff\xff\x1fab", large, 2));
+    let long = Fault::Invalid(InvalidReason::VarLenTooLong);
+    assert!(rt; stops_text::<VarLen, ()>(&heap, (), b"\x80\x80\x80\x80\x80ab", long, 2));
 }
 
-// Whether a text without its bytes ends early, one byte is left, and no memory is asked for.
-fn is_hostile<T: BytesRepr<Ctx = ()>>(heap: &Refusing<Global>, input: &[u8]) -> bool {
-    let mut buf = ParseBuf(input);
-    let read = buf.parse_in::<RawBytes<'_, T, &Refusing<Global>>, _>(heap, ());
-    matches!(read, Err(WireError::UnexpectedEof)) && buf.0 == b"a".as_slice() && heap.left() == 0
-}
-
+// A text that isn't there ends early, and no memory is asked for.
 #[test]
 fn hostile_lengths_ask_for_no_memory(rt: HostRuntime) {
     let heap = Refusing::new(rt.alloc(), 0);
-    assert!(rt; is_hostile::<LenEnc>(&heap, b"\xfe\0\0\0\0\x01\0\0\0a"));
-    assert!(rt; is_hostile::<LenEnc>(&heap, b"\xfe\xff\xff\xff\xff\xff\xff\xff\xffa"));
-    assert!(rt; is_hostile::<U8Bytes>(&heap, b"\xffa"));
-    assert!(rt; is_hostile::<U32Bytes>(&heap, b"\xff\xff\xff\xffa"));
-    assert!(rt; is_hostile::<VarLen>(&heap, b"\xff\xff\xff\xff\x0fa"));
+    let eof = Fault::UnexpectedEof;
+    let stopped = [
+        stops_text::<LenEnc, ()>(&heap, (), b"\xfe\0\0\0\0\x01\0\0\0a", eof, 1),
+        stops_text::<LenEnc, ()>(&heap, (), b"\xfe\xff\xff\xff\xff\xff\xff\xff\xffa", eof, 1),
+        stops_text::<U8Bytes, ()>(&heap, (), b"\xffa", eof, 1),
+        stops_text::<U32Bytes, ()>(&heap, (), b"\xff\xff\xff\xffa", eof, 1),
+        stops_text::<VarLen, ()>(&heap, (), b"\xff\xff\xff\xff\x0fa", eof, 1),
+    ];
+    assert!(rt; stopped == [true; 5]);
 }
 
 // ---- texts that a zero ends
 
-// A text is written as these bytes and a zero, and they are read back, whatever follows; without
+const NULL: &[(&[u8], &[u8])] = &[
+    (b"", b""),
+    (b"a", b"a"),
+    (b"ab", b"ab"),
+    (b"\0", b""),
+    (b"a\0b", b"a"),
+    (b"ab\0", b"ab"),
+    (b"\0\0a", b""),
+];
+
+// Whether the first bytes of a text are written and a zero, and read back, whatever follows. Without
 // the zero none are.
-fn check_null(rt: &impl Abort, alloc: Global, text: &[u8], front: &[u8]) -> Result<(), Fail> {
-    let bytes = joined(alloc, front, b"\0")?;
-    assert!(rt; writes(alloc, &RawBytes::<NullBytes>::from(text), bytes.as_slice())?);
-    assert!(rt; reads_text::<NullBytes>(alloc, bytes.as_slice(), front, b""));
-    let more = joined(alloc, bytes.as_slice(), b"\0\xff")?;
-    assert!(rt; reads_text::<NullBytes>(alloc, more.as_slice(), front, b"\0\xff"));
-    let why = InvalidReason::NoNullTerminator;
-    for there in 0..bytes.len() {
-        let short = between(bytes.as_slice(), 0, there);
-        assert!(rt; is_invalid::<RawBytes<'_, NullBytes>>(alloc, (), short, why, short));
-    }
-    Ok(())
+fn is_null(heap: &Heap, text: &[u8], cut: &[u8]) -> bool {
+    let Ok(input) = joined(heap, &[cut, b"\0\0\xff"]) else {
+        return false;
+    };
+    let len = cut.len().saturating_add(1);
+    let value = RawBytes::<NullBytes>::from(text);
+    let is_written = is_written(heap, &value, between(input.as_slice(), 0, len));
+    let back = RawBytes::<NullBytes, &Heap>::from(cut);
+    let short = Short {
+        fault: Fault::Invalid(InvalidReason::NoNullTerminator),
+        eaten: Eaten::Nothing,
+        front: usize::MAX,
+    };
+    let is_read = is_read(starved(heap), (), input.as_slice(), len, &back, short);
+    is_written & is_read & (heap.left() == 0)
 }
 
 #[test]
 fn null_texts_end_at_their_first_zero(rt: HostRuntime) -> Result<(), Fail> {
-    let rows: [(&[u8], &[u8]); 7] = [
-        (b"", b""),
-        (b"a", b"a"),
-        (b"ab", b"ab"),
-        (b"\0", b""),
-        (b"a\0b", b"a"),
-        (b"ab\0", b"ab"),
-        (b"\0\0a", b""),
-    ];
-    for (text, front) in rows {
-        check_null(&rt, rt.alloc(), text, front)?;
-    }
+    let heap = Refusing::new(rt.alloc(), 0);
     let long = letters(rt.alloc(), 300)?;
-    check_null(&rt, rt.alloc(), long.as_slice(), long.as_slice())
+    let mut all = is_null(&heap, long.as_slice(), long.as_slice());
+    for (text, cut) in NULL {
+        all &= is_null(&heap, *text, *cut);
+    }
+    assert!(rt; all);
+    Ok(())
 }
 
 // ---- texts whose end is not in their bytes
 
+// Whether a text is written as it is, and all of an input is read.
+fn is_all(heap: &Heap, text: &[u8]) -> bool {
+    let value = RawBytes::<EofBytes, &Heap>::from(text);
+    is_written(heap, &value, text) & gives_text::<EofBytes, ()>(heap, (), text, text, 0)
+}
+
 #[test]
 fn eof_texts_are_all_the_rest(rt: HostRuntime) -> Result<(), Fail> {
+    let heap = Refusing::new(rt.alloc(), 0);
+    let letters = letters(rt.alloc(), 65536)?;
+    let mut all = is_all(&heap, b"\0a\0");
     for len in [0usize, 1, 250, 251, 300, 65536] {
-        let text = letters(rt.alloc(), len)?;
-        assert!(rt;
-            writes(
-                rt.alloc(),
-                &RawBytes::<EofBytes>::from(text.as_slice()),
-                text.as_slice()
-            )?
-        );
-        assert!(rt; reads_text::<EofBytes>(rt.alloc(), text.as_slice(), text.as_slice(), b""));
+        all &= is_all(&heap, between(letters.as_slice(), 0, len));
     }
-    assert!(rt; reads_text::<EofBytes>(rt.alloc(), b"\0a\0", b"\0a\0", b""));
+    assert!(rt; all);
     Ok(())
 }
 
-// The first bytes of a text are written, N at most, and read back where the context says how many;
-// from fewer bytes none are, and none is eaten.
-fn check_bare<const N: usize>(rt: &impl Abort, alloc: Global, text: &[u8]) -> Result<(), Fail> {
+// Whether the first bytes of a text are written, N at most, and read back where the context says how
+// many.
+fn is_bare<const N: usize>(heap: &Heap, text: &[u8]) -> bool {
     let cut = between(text, 0, N);
-    let count = cut.len();
-    assert!(rt; writes(alloc, &RawBytes::<BareBytes<N>>::from(text), cut)?);
-    assert!(rt; reads_bare::<N>(alloc, count, cut, cut, b""));
-    let more = joined(alloc, cut, b"\xff\x80\0")?;
-    assert!(rt; reads_bare::<N>(alloc, count, more.as_slice(), cut, b"\xff\x80\0"));
-    for there in 0..count {
-        let short = between(cut, 0, there);
-        assert!(rt; ends_early::<RawBytes<'_, BareBytes<N>>>(alloc, count, short, short));
-    }
-    Ok(())
+    let short = Short::eats(Eaten::Nothing);
+    is_text::<BareBytes<N>, usize>(heap, cut.len(), text, [b"", cut, MORE], short)
 }
 
 #[test]
 fn bare_texts_are_as_long_as_the_context_says(rt: HostRuntime) -> Result<(), Fail> {
-    let alloc = rt.alloc();
-    let long = letters(alloc, 300)?;
+    let heap = Refusing::new(rt.alloc(), 0);
+    let letters = letters(rt.alloc(), 300)?;
+    let mut all = true;
     for len in [0usize, 1, 2, 3, 254, 255, 256, 300] {
-        let text = between(long.as_slice(), 0, len);
-        check_bare::<0>(&rt, alloc, text)?;
-        check_bare::<2>(&rt, alloc, text)?;
-        check_bare::<255>(&rt, alloc, text)?;
+        let text = between(letters.as_slice(), 0, len);
+        all &= is_bare::<0>(&heap, text);
+        all &= is_bare::<2>(&heap, text);
+        all &= is_bare::<255>(&heap, text);
     }
-    // The context alone counts, above the most that is written too.
-    assert!(rt; reads_bare::<2>(alloc, 0, b"abc", b"", b"abc"));
-    assert!(rt; reads_bare::<2>(alloc, 3, b"abcd", b"abc", b"d"));
-    assert!(rt; ends_early::<RawBytes<'_, BareBytes<2>>>(alloc, usize::MAX, b"abc", b"abc"));
+    assert!(rt; all);
     Ok(())
+}
+
+// The context alone counts, above the most that is written too.
+#[test]
+fn bare_texts_of_any_context(rt: HostRuntime) {
+    let heap = Refusing::new(rt.alloc(), 0);
+    let eof = Fault::UnexpectedEof;
+    let read = [
+        gives_text::<BareBytes<2>, usize>(&heap, 0, b"abc", b"", 3),
+        gives_text::<BareBytes<2>, usize>(&heap, 3, b"abcd", b"abc", 1),
+        stops_text::<BareBytes<2>, usize>(&heap, usize::MAX, b"abc", eof, 3),
+    ];
+    assert!(rt; read == [true; 3]);
 }
 
 #[test]
 fn bare_texts_whose_length_is_elsewhere(rt: HostRuntime) -> Result<(), Fail> {
-    let text = letters(rt.alloc(), 65536)?;
-    assert_eq!(rt; RawBytes::<BareU8Bytes>::from(text.as_slice()).len(), 255);
-    let raw = RawBytes::<BareU16Bytes>::from(text.as_slice());
-    assert_eq!(rt; raw.len(), 65535);
-    assert!(rt; writes(rt.alloc(), &raw, between(text.as_slice(), 0, 65535))?);
+    let heap = Refusing::new(rt.alloc(), 0);
+    let letters = letters(rt.alloc(), 65536)?;
+    let text = letters.as_slice();
+    let raw = RawBytes::<BareU16Bytes>::from(text);
+    assert!(rt; is_written(&heap, &raw, between(text, 0, 65535)));
     Ok(())
 }
 
-// A text is written as these N bytes, which are read back, its zeros with it; from fewer none are.
-fn check_fixed<const N: usize>(
-    rt: &impl Abort,
-    alloc: Global,
-    text: &[u8],
-    bytes: &[u8],
-) -> Result<(), Fail> {
-    assert_eq!(rt; bytes.len(), N);
-    assert!(rt; writes(alloc, &RawBytes::<FixedLengthText<N>>::from(text), bytes)?);
-    assert!(rt; reads_text::<FixedLengthText<N>>(alloc, bytes, bytes, b""));
-    let more = joined(alloc, bytes, b"\xff\x80\0")?;
-    assert!(rt; reads_text::<FixedLengthText<N>>(alloc, more.as_slice(), bytes, b"\xff\x80\0"));
-    for there in 0..bytes.len() {
-        let short = between(bytes, 0, there);
-        assert!(rt; ends_early::<RawBytes<'_, FixedLengthText<N>>>(alloc, (), short, short));
-    }
-    Ok(())
+// Whether a text is written as N bytes, cut or filled with zeros, and they are read back.
+fn is_fixed<const N: usize>(heap: &Heap, text: &[u8], bytes: &[u8]) -> bool {
+    let short = Short::eats(Eaten::Nothing);
+    let is_text = is_text::<FixedLengthText<N>, ()>(heap, (), text, [b"", bytes, MORE], short);
+    is_text & (bytes.len() == N)
 }
+
+const FIXED: &[(&[u8], &[u8])] = &[
+    (b"", b"\0\0\0\0"),
+    (b"a", b"a\0\0\0"),
+    (b"ab", b"ab\0\0"),
+    (b"abcd", b"abcd"),
+    (b"abcde", b"abcd"),
+    (b"\0b", b"\0b\0\0"),
+];
 
 #[test]
 fn fixed_texts_are_cut_or_filled_with_zeros(rt: HostRuntime) -> Result<(), Fail> {
-    let rows: [(&[u8], &[u8]); 6] = [
-        (b"", b"\0\0\0\0"),
-        (b"a", b"a\0\0\0"),
-        (b"ab", b"ab\0\0"),
-        (b"abcd", b"abcd"),
-        (b"abcde", b"abcd"),
-        (b"\0b", b"\0b\0\0"),
-    ];
-    for (text, bytes) in rows {
-        check_fixed::<4>(&rt, rt.alloc(), text, bytes)?;
+    let heap = Refusing::new(rt.alloc(), 0);
+    let mut filled = letters(rt.alloc(), 300)?;
+    filled.extend_from_slice(b"\0\0")?;
+    let long = between(filled.as_slice(), 0, 300);
+    let mut all = is_fixed::<0>(&heap, b"", b"");
+    all &= is_fixed::<0>(&heap, b"abc", b"");
+    all &= is_fixed::<300>(&heap, long, long);
+    all &= is_fixed::<302>(&heap, long, filled.as_slice());
+    for (text, bytes) in FIXED {
+        all &= is_fixed::<4>(&heap, *text, *bytes);
     }
-    check_fixed::<0>(&rt, rt.alloc(), b"", b"")?;
-    check_fixed::<0>(&rt, rt.alloc(), b"abc", b"")?;
-    let long = letters(rt.alloc(), 300)?;
-    let filled = joined(rt.alloc(), long.as_slice(), b"\0\0")?;
-    check_fixed::<300>(&rt, rt.alloc(), long.as_slice(), long.as_slice())?;
-    check_fixed::<302>(&rt, rt.alloc(), long.as_slice(), filled.as_slice())
-}
-
-// One byte, by each representation.
-#[test]
-fn a_byte_by_each_representation(rt: HostRuntime) -> Result<(), Fail> {
-    let alloc = rt.alloc();
-    let text = b"a".as_slice();
-    assert!(rt; writes(alloc, &RawBytes::<LenEnc>::from(text), b"\x01a")?);
-    assert!(rt; writes(alloc, &RawBytes::<U8Bytes>::from(text), b"\x01a")?);
-    assert!(rt; writes(alloc, &RawBytes::<VarLen>::from(text), b"\x01a")?);
-    assert!(rt; writes(alloc, &RawBytes::<U32Bytes>::from(text), b"\x01\0\0\0a")?);
-    assert!(rt; writes(alloc, &RawBytes::<NullBytes>::from(text), b"a\0")?);
-    assert!(rt; writes(alloc, &RawBytes::<EofBytes>::from(text), b"a")?);
-    assert!(rt; writes(alloc, &RawBytes::<BareBytes<1>>::from(text), b"a")?);
-    assert!(rt; writes(alloc, &RawBytes::<FixedLengthText<1>>::from(text), b"a")?);
+    assert!(rt; all);
     Ok(())
 }
