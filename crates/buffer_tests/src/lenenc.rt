@@ -1,13 +1,13 @@
 // Numbers whose length is in their first byte, and texts behind their length: put into buffers, and
 // read from buffers.
 
-use crate::answers::{Fault, told};
 use crate::numbers::{Readers, Row, wrong_row};
-use crate::slices::between;
 use bytes::{BufMut, BytesMut};
 use mysql_wire::io::{BufMutExt, ParseBuf, WriteMysqlExt};
 use mysql_wire::misc::{lenenc_int_len, lenenc_str_len};
 use std::alloc::Global;
+use test_support::answers::{Fault, told};
+use test_support::reference::between;
 
 // ---- length-encoded integers
 

@@ -3,8 +3,6 @@
 #![tactic(auto)]
 
 #[cfg(test)]
-mod answers;
-#[cfg(test)]
 mod lenenc;
 #[cfg(test)]
 mod memory;
@@ -12,8 +10,6 @@ mod memory;
 mod numbers;
 #[cfg(test)]
 mod parse;
-#[cfg(test)]
-mod slices;
 #[cfg(test)]
 mod streams;
 #[cfg(test)]

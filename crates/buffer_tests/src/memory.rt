@@ -1,12 +1,11 @@
 // What is left where the first, the second request for memory is refused, and so on.
 
-use crate::answers::{Fault, told};
 use mysql_wire::io::{BufMutExt, ReadMysqlExt};
 use mysql_wire::misc::{varlen_uint_size, write_varlen_uint};
 use refusing::{NEVER, Refusing};
 use std::alloc::Global;
-
-type Heap = Refusing<Global>;
+use test_support::answers::{Fault, told};
+use test_support::fixture::Heap;
 
 // A buffer with no room, which holds the byte `aa`. Then request number `nth` is refused.
 fn full(heap: &Heap, nth: u64) -> Vec<u8, &Heap> {

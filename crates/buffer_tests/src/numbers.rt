@@ -1,8 +1,8 @@
 // Readers of numbers, each in both its forms: on no byte, on fewer than it eats, on as many, and on
 // more.
 
-use crate::slices::between;
 use mysql_wire::io::ParseBuf;
+use test_support::reference::between;
 
 /// Readers of numbers, by the width of the number in bytes.
 pub trait Readers {

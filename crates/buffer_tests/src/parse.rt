@@ -2,8 +2,6 @@
 
 ghost use Rattle.std.specs.Prelude.{◌≡◌, take, Ok, IfErr};
 
-use crate::answers::{Fault, shows, told};
-use crate::slices::between;
 use mysql_wire::io::{InvalidLengthEncodedInteger, InvalidReason, ParseBuf, WireError};
 use mysql_wire::proto::{Binary, Fixed, MyDeserialize, Text};
 use refusing::Refusing;
@@ -11,6 +9,8 @@ use std::alloc::{Allocator, Global};
 use std::fmt::Debug;
 use std::hash::Hash;
 use std::io::{self, Read};
+use test_support::answers::{Fault, shows, told};
+use test_support::reference::between;
 
 #[test]
 fn checked_slices_are_the_eaten_part(rt: HostRuntime) {

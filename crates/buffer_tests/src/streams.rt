@@ -1,15 +1,15 @@
 // Numbers and texts over readers and writers.
 
-use crate::answers::{Fault, told};
 use crate::lenenc::{Lenenc, WRITTEN};
 use crate::numbers::{self, Row};
-use crate::slices::between;
 use linked_list_allocator::LocalHeap;
 use mysql_wire::io::{BufMutExt, ReadMysqlExt, WriteMysqlExt};
 use mysql_wire::misc::lenenc_str_len;
 use std::alloc::Global;
 use std::io::{self, Read, Write};
 use std::test::Fail;
+use test_support::answers::{Fault, told};
+use test_support::reference::between;
 
 // Gives at most 100 bytes a read, and fails at the read of this number.
 #[derive(Drop)]

@@ -3,9 +3,7 @@
 ghost use Rattle.std.specs.Prelude.{◌∷◌, [], refl};
 ghost use Rattle.std.proofs.Common.{arith};
 
-use crate::answers::Fault;
-use crate::fields::{Heap, has_size, is_written, stops};
-use crate::slices::{between, last};
+use crate::fields::{has_size, is_written, last, stops};
 use mysql_wire::io::{InvalidReason, ParseBuf};
 use mysql_wire::misc::raw::Skip;
 use mysql_wire::misc::raw::bytes::{ConstBytes, ConstBytesValue};
@@ -13,6 +11,9 @@ use mysql_wire::misc::raw::int::{ConstU8, ConstU32};
 use mysql_wire::proto::{MyDeserialize, MySerialize};
 use refusing::Refusing;
 use std::alloc::Allocator;
+use test_support::answers::Fault;
+use test_support::fixture::Heap;
+use test_support::reference::between;
 
 // What a file of the binary log begins with.
 pub struct Magic;

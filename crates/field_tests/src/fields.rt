@@ -1,21 +1,24 @@
 //! A value of any type that is a field of packets: how it is written and read back, and what is
 //! left where its end is missing or memory is refused.
 
-use crate::answers::{Fault, told};
-use crate::slices::{between, last};
 use mysql_wire::io::ParseBuf;
 use mysql_wire::proto::{MyDeserialize, MySerialize, ReadSize};
-use refusing::{NEVER, Refusing};
+use refusing::NEVER;
 use std::alloc::{AllocError, Allocator, Global};
-
-/// The tests' allocator, which refuses the request that it is told to.
-pub type Heap = Refusing<Global>;
+use test_support::answers::{Fault, told};
+use test_support::fixture::Heap;
+use test_support::reference::between;
 
 /// What follows a value in most inputs.
 pub const MORE: &[u8] = b"\xff\x80\0";
 
-// No value asks so often.
+// No value asks for memory so often.
 const MOST: u64 = 100;
+
+/// The last bytes, so many.
+pub fn last(bytes: &[u8], count: usize) -> &[u8] {
+    between(bytes, bytes.len().saturating_sub(count), bytes.len())
+}
 
 /// Bytes one after another.
 pub fn joined<'h>(heap: &'h Heap, parts: &[&[u8]]) -> Result<Vec<u8, &'h Heap>, AllocError> {

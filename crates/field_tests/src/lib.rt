@@ -2,8 +2,6 @@
 #![tactic(auto)]
 
 #[cfg(test)]
-mod answers;
-#[cfg(test)]
 mod calls;
 #[cfg(test)]
 mod constants;
@@ -16,7 +14,7 @@ mod null;
 #[cfg(test)]
 mod numbers;
 #[cfg(test)]
-mod slices;
+mod own;
 #[cfg(test)]
 mod texts;
 #[cfg(test)]

@@ -1,12 +1,12 @@
 // The end of a text at its first zero, wherever that stands.
 
-use crate::answers::{Fault, told};
-use crate::slices::between;
 use mysql_wire::io::{InvalidReason, ParseBuf};
 use mysql_wire::misc::raw::RawBytes;
 use mysql_wire::misc::raw::bytes::NullBytes;
 use mysql_wire::proto::MySerialize;
 use std::alloc::Global;
+use test_support::answers::{Fault, told};
+use test_support::reference::between;
 
 // Whether so many bytes of the text are written, and a zero.
 fn is_written(buf: &mut Vec<u8>, text: &[u8], count: usize) -> bool {

@@ -1,11 +1,7 @@
 // Each representation of a number: the ends of its range, cut short, with bytes behind, and with
 // each request for memory refused.
 
-use crate::answers::Fault;
-use crate::fields::{
-    Eaten, Heap, MORE, Short, has_size, is_read, is_written, joined, starved, stops,
-};
-use crate::slices::between;
+use crate::fields::{Eaten, MORE, Short, has_size, is_read, is_written, joined, starved, stops};
 use mysql_wire::io::InvalidReason;
 use mysql_wire::misc::raw::RawInt;
 use mysql_wire::misc::raw::int::{
@@ -13,6 +9,9 @@ use mysql_wire::misc::raw::int::{
     LeU32UpperHalf, LeU48, LeU56, LeU64, LenEnc, VarLen,
 };
 use refusing::Refusing;
+use test_support::answers::Fault;
+use test_support::fixture::Heap;
+use test_support::reference::between;
 
 /// A number, the bytes that it is written as, and the number that is read back from them.
 pub type Row<'a, T> = (

@@ -1,11 +1,9 @@
 // Each representation of a text: at the ends of its lengths, cut short, with bytes behind, and with
 // each request for memory refused.
 
-use crate::answers::Fault;
 use crate::fields::{
-    Eaten, Heap, MORE, Short, gives, has_size, is_read, is_written, joined, starved, stops,
+    Eaten, MORE, Short, gives, has_size, is_read, is_written, joined, starved, stops,
 };
-use crate::slices::between;
 use mysql_wire::io::InvalidReason;
 use mysql_wire::misc::raw::RawBytes;
 use mysql_wire::misc::raw::bytes::{
@@ -16,6 +14,9 @@ use mysql_wire::misc::raw::int::VarLen;
 use refusing::Refusing;
 use std::alloc::{AllocError, Global};
 use std::test::Fail;
+use test_support::answers::Fault;
+use test_support::fixture::Heap;
+use test_support::reference::between;
 
 /// A text of so many bytes, none of them a zero.
 pub fn letters(alloc: Global, len: usize) -> Result<Vec<u8>, AllocError> {
@@ -49,8 +50,8 @@ fn is_text<T: BytesRepr<Ctx = C>, C: Copy>(
 
 // ---- sizes
 
-// Whether at most so many bytes of a text are written, and it has this size.
-fn is_bounded<T: BytesRepr>(text: &[u8], most: usize, size: Option<usize>) -> bool {
+/// Whether at most so many bytes of a text are written, and it has this size.
+pub fn is_bounded<T: BytesRepr>(text: &[u8], most: usize, size: Option<usize>) -> bool {
     let is_cut = RawBytes::<T>::from(text).len() == text.len().min(most);
     is_cut & (T::MAX_LEN == most) & has_size::<RawBytes<'_, T>>(size)
 }

@@ -1,7 +1,6 @@
 // The traits and the sizes of the types, and that a wrapper is compared, ordered, hashed and shown
 // by its field.
 
-use crate::answers::shows_debug;
 use crate::constants::Magic;
 use mysql_wire::misc::raw::bytes::{
     BareBytes, BareU8Bytes, BareU16Bytes, BytesRepr, ConstBytes, EofBytes, FixedLengthText,
@@ -15,6 +14,7 @@ use mysql_wire::misc::raw::{RawBytes, RawInt, Skip};
 use std::cmp::Ordering;
 use std::fmt::Debug;
 use std::hash::{DefaultHasher, Hash, Hasher};
+use test_support::answers::shows_debug;
 
 // These do nothing: that they are called at a type shows that the type has the traits.
 fn is_plain<T: Copy + Debug + Eq + Hash>() {}

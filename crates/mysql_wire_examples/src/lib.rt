@@ -1,5 +1,8 @@
-//! The callers that CALLING.md shows, and what a caller knows of sets of flags and of enums: each
-//! with the contract that follows from the library's alone.
+//! The callers that CALLING.md shows, and what a caller knows of sets of flags and of enums, proved.
+//! The tests of `mysql_wire_vectors` and `field_tests` use them.
 #![tactic(auto)]
 
+pub mod callers;
 pub mod constant_calls;
+pub mod field_callers;
+pub mod own_fields;

@@ -1,12 +1,12 @@
 //! What the errors say.
 
-use crate::told::ensure;
 use mysql_wire::io::{InvalidLengthEncodedInteger, InvalidReason, WireError};
 use mysql_wire::proto::codec::error::PacketCodecError;
 use std::alloc::{AllocError, Global};
 use std::fmt::{Debug, Display};
 use std::io;
 use std::test::Fail;
+use test_support::facts::ensure;
 
 // Whether an error shows as this text, and has some text for its programmers.
 fn shows<E: Display + Debug>(alloc: Global, error: &E, text: &str) -> Result<bool, AllocError> {
@@ -15,37 +15,40 @@ fn shows<E: Display + Debug>(alloc: Global, error: &E, text: &str) -> Result<boo
     Ok(shown.as_str() == text && !debugged.is_empty())
 }
 
+const REASONS: [(InvalidReason, &str); 5] = [
+    (InvalidReason::UnknownValue, "unknown value"),
+    (InvalidReason::ConstMismatch, "constant mismatch"),
+    (
+        InvalidReason::NoNullTerminator,
+        "no null terminator for null-terminated string",
+    ),
+    (
+        InvalidReason::VarLenTooLarge,
+        "invalid variable-length value (> u32::MAX)",
+    ),
+    (
+        InvalidReason::VarLenTooLong,
+        "invalid variable-length value (more than 5 bytes)",
+    ),
+];
+
+const LENGTH: &str = "Invalid length-encoded integer value (starts with 0xfb|0xff)";
+
 #[test]
 fn wire_errors_show_their_texts(rt: HostRuntime) -> Result<(), Fail> {
+    for (reason, text) in REASONS {
+        ensure(shows(rt.alloc(), &reason, text)?, text)?;
+        let error = WireError::InvalidData(reason);
+        ensure(shows(rt.alloc(), &error, text)?, text)?;
+    }
+    let length = InvalidLengthEncodedInteger;
+    ensure(shows(rt.alloc(), &length, LENGTH)?, LENGTH)?;
     let rows = [
         (
             WireError::UnexpectedEof,
             "can't parse: buf doesn't have enough data",
         ),
-        (
-            WireError::InvalidData(InvalidReason::UnknownValue),
-            "unknown value",
-        ),
-        (
-            WireError::InvalidData(InvalidReason::ConstMismatch),
-            "constant mismatch",
-        ),
-        (
-            WireError::InvalidData(InvalidReason::NoNullTerminator),
-            "no null terminator for null-terminated string",
-        ),
-        (
-            WireError::InvalidData(InvalidReason::VarLenTooLarge),
-            "invalid variable-length value (> u32::MAX)",
-        ),
-        (
-            WireError::InvalidData(InvalidReason::VarLenTooLong),
-            "invalid variable-length value (more than 5 bytes)",
-        ),
-        (
-            WireError::Other(InvalidLengthEncodedInteger),
-            "Invalid length-encoded integer value (starts with 0xfb|0xff)",
-        ),
+        (WireError::Other(InvalidLengthEncodedInteger), LENGTH),
         (WireError::Io(io::Error::other("gone")), "gone"),
         (WireError::OutOfMemory, "Out of memory"),
     ];
@@ -53,31 +56,6 @@ fn wire_errors_show_their_texts(rt: HostRuntime) -> Result<(), Fail> {
         ensure(shows(rt.alloc(), error, text)?, text)?;
     }
     Ok(())
-}
-
-#[test]
-fn the_parts_of_wire_errors_show_the_same_texts(rt: HostRuntime) -> Result<(), Fail> {
-    let rows = [
-        (InvalidReason::UnknownValue, "unknown value"),
-        (InvalidReason::ConstMismatch, "constant mismatch"),
-        (
-            InvalidReason::NoNullTerminator,
-            "no null terminator for null-terminated string",
-        ),
-        (
-            InvalidReason::VarLenTooLarge,
-            "invalid variable-length value (> u32::MAX)",
-        ),
-        (
-            InvalidReason::VarLenTooLong,
-            "invalid variable-length value (more than 5 bytes)",
-        ),
-    ];
-    for (reason, text) in &rows {
-        ensure(shows(rt.alloc(), reason, text)?, text)?;
-    }
-    let text = "Invalid length-encoded integer value (starts with 0xfb|0xff)";
-    ensure(shows(rt.alloc(), &InvalidLengthEncodedInteger, text)?, text)
 }
 
 #[test]

@@ -1,8 +1,0 @@
-//! Parts of inputs.
-
-/// The bytes from `start` to `end`, as far as there are any.
-pub fn between(bytes: &[u8], start: usize, end: usize) -> &[u8] {
-    let end = end.min(bytes.len());
-    let start = start.min(end);
-    &bytes[start..end]
-}

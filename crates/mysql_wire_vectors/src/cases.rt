@@ -1,0 +1,117 @@
+//! The cases of the Rust crate's own tests.
+
+use mysql_wire::constants::MAX_PAYLOAD_LEN;
+use refusing::{NEVER, Refusing};
+use std::alloc::{AllocError, Global};
+use std::test::Fail;
+use test_support::facts::ensure;
+use test_support::fixture::Fixture;
+use test_support::script::{Script, Step, play};
+use test_support::told::Told;
+
+const CASES: [Script; 5] = [
+    Script {
+        name: "zero_len_packet",
+        steps: &[
+            Step::Encode(b"", Told::Done),
+            Step::Left(b"\0\0\0\0"),
+            Step::Fresh,
+            Step::Decode(Told::Whole),
+            Step::Held(b""),
+            Step::Left(b""),
+            // The id was raised.
+            Step::Encode(b"", Told::Done),
+            Step::Left(b"\0\0\0\x01"),
+        ],
+    },
+    Script {
+        name: "regular_packet",
+        steps: &[
+            Step::Encode(b"123", Told::Done),
+            Step::Left(b"\x03\0\0\x00123"),
+            Step::Fresh,
+            Step::Decode(Told::Whole),
+            Step::Held(b"123"),
+            Step::Left(b""),
+        ],
+    },
+    Script {
+        name: "out_of_sync",
+        steps: &[
+            Step::Src(b"\0\0\0\x01"),
+            Step::Decode(Told::OutOfSync),
+            Step::Held(b""),
+            Step::Left(b""),
+            // The id was not raised.
+            Step::Encode(b"", Told::Done),
+            Step::Left(b"\0\0\0\0"),
+        ],
+    },
+    Script {
+        name: "packet_too_large",
+        steps: &[
+            Step::Comes(b"ab"),
+            Step::EncodeMany(4194305, Told::TooLarge),
+            Step::Left(b"ab"),
+            Step::Src(b""),
+            Step::EncodeMany(4194304, Told::Done),
+            Step::LeftMany(4194308),
+            Step::Reset,
+            Step::Decode(Told::Whole),
+            Step::HeldMany(4194304),
+        ],
+    },
+    Script {
+        name: "large_packets",
+        steps: &[
+            Step::Limit(2 * MAX_PAYLOAD_LEN),
+            Step::EncodeMany(MAX_PAYLOAD_LEN, Told::Done),
+            Step::EncodeMany(MAX_PAYLOAD_LEN + 1, Told::Done),
+            Step::EncodeMany(2 * MAX_PAYLOAD_LEN, Told::Done),
+            Step::LeftMany(4 * MAX_PAYLOAD_LEN + 29),
+            Step::Reset,
+            Step::Decode(Told::Whole),
+            Step::HeldMany(MAX_PAYLOAD_LEN),
+            Step::Dst(b""),
+            Step::Decode(Told::Whole),
+            Step::HeldMany(MAX_PAYLOAD_LEN + 1),
+            Step::Dst(b""),
+            Step::Decode(Told::Whole),
+            Step::HeldMany(2 * MAX_PAYLOAD_LEN),
+            Step::Left(b""),
+            Step::Encode(b"", Told::Done),
+            Step::Left(b"\0\0\0\x07"),
+        ],
+    },
+];
+
+#[test]
+fn each_case_goes_as_it_says(rt: HostRuntime) -> Result<(), Fail> {
+    play(rt.alloc(), &CASES)
+}
+
+// Packets of 0 to 1023 zero bytes through one buffer, from one codec to another.
+fn sequence_passes(alloc: Global) -> Result<bool, AllocError> {
+    let heap = Refusing::new(alloc, NEVER);
+    let mut sender = Fixture::new(&heap, Vec::new(&heap));
+    let mut receiver = Fixture::new(&heap, Vec::new(&heap));
+    let payload = Vec::from_elem(alloc, 0u8, 1024)?;
+    let mut passes = true;
+    for len in 0..1024usize {
+        let packet = &payload[..len];
+        receiver.dst.clear();
+        passes = passes && sender.encode(packet) == Told::Done;
+        std::mem::swap(&mut sender.src, &mut receiver.src);
+        passes = passes && receiver.decode() == Told::Whole;
+        passes = passes && receiver.dst.as_slice() == packet && receiver.src.is_empty();
+    }
+    Ok(passes)
+}
+
+#[test]
+fn packet_sequence(rt: HostRuntime) -> Result<(), Fail> {
+    ensure(
+        sequence_passes(rt.alloc())?,
+        "each packet comes out as it went in",
+    )
+}

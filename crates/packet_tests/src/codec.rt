@@ -1,0 +1,433 @@
+//! Packets, one call of the codec at a time.
+
+use mysql_wire::constants::MAX_PAYLOAD_LEN;
+use std::alloc::Global;
+use std::test::Fail;
+use test_support::reference::framed_len;
+use test_support::script::{Script, Step, first_fault, play};
+use test_support::told::Told;
+
+// What each call answers, takes and leaves.
+const CALLS: [Script; 5] = [
+    Script {
+        name: "a header is kept until its bytes come",
+        steps: &[
+            Step::Src(b"\x02\0\0\0"),
+            Step::Decode(Told::Waits),
+            Step::Held(b""),
+            Step::Left(b"\x02\0\0\0"),
+            Step::Comes(b"\xaa"),
+            Step::Decode(Told::Waits),
+            Step::Left(b"\x02\0\0\0\xaa"),
+            Step::Comes(b"\xbb"),
+            Step::Decode(Told::Whole),
+            Step::Held(b"\xaa\xbb"),
+            Step::Left(b""),
+        ],
+    },
+    Script {
+        name: "a packet past the limit is left unread",
+        steps: &[
+            Step::Limit(4),
+            // The limit comes before the id, and before the bytes.
+            Step::Src(b"\x05\0\0\x07"),
+            Step::Decode(Told::TooLarge),
+            Step::Held(b""),
+            Step::Left(b"\x05\0\0\x07"),
+            Step::Stands(true),
+            Step::Decode(Told::TooLarge),
+            Step::Encode(b"12345", Told::TooLarge),
+            Step::Left(b"\x05\0\0\x07"),
+            // A larger limit goes on at the same header.
+            Step::Src(b"\x05\0\0\x0012345"),
+            Step::Decode(Told::TooLarge),
+            Step::Limit(5),
+            Step::Decode(Told::Whole),
+            Step::Held(b"12345"),
+        ],
+    },
+    Script {
+        name: "at limit 0 empty packets pass",
+        steps: &[
+            Step::Limit(0),
+            Step::Src(b"\0\0\0\0\x01\0\0\x01"),
+            Step::Decode(Told::Whole),
+            Step::Held(b""),
+            Step::Left(b"\x01\0\0\x01"),
+            Step::Decode(Told::TooLarge),
+            Step::Left(b"\x01\0\0\x01"),
+            Step::Encode(b"", Told::Done),
+            Step::Left(b"\x01\0\0\x01\0\0\0\x01"),
+            Step::Encode(b"a", Told::TooLarge),
+        ],
+    },
+    Script {
+        name: "encoding and decoding share one id",
+        steps: &[
+            // What one codec encoded, it can't decode without a reset.
+            Step::Encode(b"\x01", Told::Done),
+            Step::Decode(Told::OutOfSync),
+            Step::Fresh,
+            Step::Dst(b""),
+            Step::Src(b""),
+            // A command, its answer, and a packet more.
+            Step::Encode(b"", Told::Done),
+            Step::Left(b"\0\0\0\0"),
+            Step::Src(b"\0\0\0\x01"),
+            Step::Decode(Told::Whole),
+            Step::Encode(b"", Told::Done),
+            Step::Left(b"\0\0\0\x02"),
+            // The next command.
+            Step::Reset,
+            Step::Src(b"\0\0\0\0\x01\0\0\x01\x61"),
+            Step::Decode(Told::Whole),
+            Step::Decode(Told::Whole),
+            Step::Held(b"a"),
+            // A refused packet raises nothing.
+            Step::Limit(1),
+            Step::Encode(b"ab", Told::TooLarge),
+            Step::Sync,
+            Step::Encode(b"a", Told::Done),
+            Step::Left(b"\x01\0\0\x02\x61"),
+        ],
+    },
+    Script {
+        name: "bytes that are no chunk count for the limit",
+        steps: &[
+            Step::Dst(b"xyz"),
+            Step::Src(b"\x02\0\0\0\xaa\xbb"),
+            Step::Limit(4),
+            Step::Decode(Told::TooLarge),
+            Step::Held(b"xyz"),
+            Step::Left(b"\x02\0\0\0\xaa\xbb"),
+            Step::Limit(5),
+            Step::Decode(Told::Whole),
+            Step::Held(b"xyz\xaa\xbb"),
+            Step::Left(b""),
+        ],
+    },
+];
+
+#[test]
+fn each_call_goes_by_the_stream(rt: HostRuntime) -> Result<(), Fail> {
+    play(rt.alloc(), &CALLS)
+}
+
+// Where a codec stands, and what it remembers.
+const STANDING: [Script; 3] = [
+    Script {
+        name: "a codec stands where its header is",
+        steps: &[
+            // Between two packets, and with nothing held.
+            Step::StandsAt(b"", b"", true),
+            Step::StandsAt(b"\x02\0\0", b"", true),
+            Step::StandsAt(b"\x02\0\0\0", b"", true),
+            Step::StandsAt(b"\xff\xff\xff\xff\x61", b"", true),
+            Step::StandsAt(b"", b"a", false),
+            // Behind a header.
+            Step::Src(b"\x02\0\0\0"),
+            Step::Decode(Told::Waits),
+            Step::Sync,
+            Step::Stands(true),
+            Step::StandsAt(b"\x02\0\0\0\x61\x62\x63", b"", true),
+            Step::StandsAt(b"\x02\0\0", b"", false),
+            Step::StandsAt(b"", b"", false),
+            Step::StandsAt(b"\x03\0\0\0", b"", false),
+            Step::StandsAt(b"\x02\x01\0\0", b"", false),
+            Step::StandsAt(b"\x02\0\x01\0", b"", false),
+            Step::StandsAt(b"\x02\0\0\x01", b"", false),
+            Step::StandsAt(b"\x02\0\0\0", b"a", false),
+            Step::Limit(2),
+            Step::Stands(true),
+            Step::Limit(1),
+            Step::Stands(false),
+            // The id that is expected has no part in it.
+            Step::Limit(2),
+            Step::Reset,
+            Step::Stands(true),
+        ],
+    },
+    Script {
+        name: "full chunks that are held stand",
+        steps: &[
+            Step::Limit(MAX_PAYLOAD_LEN + 2),
+            Step::Src(b"\xff\xff\xff\0"),
+            Step::ComesMany(MAX_PAYLOAD_LEN),
+            Step::Comes(b"\x02\0\0\x01"),
+            Step::Decode(Told::Waits),
+            Step::HeldMany(MAX_PAYLOAD_LEN),
+            Step::Left(b"\x02\0\0\x01"),
+            Step::Stands(true),
+            // The limit counts the bytes that are held.
+            Step::Limit(MAX_PAYLOAD_LEN + 1),
+            Step::Stands(false),
+            Step::Comes(b"\x42\x42"),
+            Step::Decode(Told::Whole),
+            Step::HeldMany(MAX_PAYLOAD_LEN + 2),
+            Step::Stands(false),
+        ],
+    },
+    Script {
+        name: "a remembered header is not read again",
+        steps: &[
+            // The bytes in front were replaced.
+            Step::Src(b"\x02\0\0\0"),
+            Step::Decode(Told::Waits),
+            Step::Src(b"\xff\xff\xff\x09\x61\x62"),
+            Step::Decode(Told::Whole),
+            Step::Held(b"ab"),
+            Step::Left(b""),
+            // The limit was lowered.
+            Step::Fresh,
+            Step::Dst(b""),
+            Step::Src(b"\x02\0\0\0"),
+            Step::Decode(Told::Waits),
+            Step::Limit(0),
+            Step::Comes(b"\x61\x62"),
+            Step::Decode(Told::Whole),
+            Step::Held(b"ab"),
+            // The id was reset, and the header's is another one then.
+            Step::Fresh,
+            Step::Dst(b""),
+            Step::Src(b"\0\0\0\0\x02\0\0\x01"),
+            Step::Decode(Told::Whole),
+            Step::Decode(Told::Waits),
+            Step::Reset,
+            Step::Comes(b"\x61\x62"),
+            Step::Decode(Told::OutOfSync),
+            Step::Held(b"ab"),
+        ],
+    },
+];
+
+#[test]
+fn a_codec_stands_where_it_stopped(rt: HostRuntime) -> Result<(), Fail> {
+    play(rt.alloc(), &STANDING)
+}
+
+// How often the target is asked for room, and for how much.
+const GROWTHS: [Script; 10] = [
+    Script {
+        name: "a packet of two full chunks grows once",
+        steps: &[
+            Step::Limit(2 * MAX_PAYLOAD_LEN),
+            Step::Src(b"\xff\xff\xff\0"),
+            Step::ComesMany(MAX_PAYLOAD_LEN),
+            Step::Comes(b"\xff\xff\xff\x01"),
+            Step::ComesMany(MAX_PAYLOAD_LEN),
+            // Chunks of another packet are not in the growth.
+            Step::Comes(b"\0\0\0\x02\x01\0\0\x03\x61"),
+            Step::Decode(Told::Whole),
+            Step::HeldMany(2 * MAX_PAYLOAD_LEN),
+            Step::Left(b"\x01\0\0\x03\x61"),
+            Step::Grew(1, 2 * MAX_PAYLOAD_LEN),
+        ],
+    },
+    Script {
+        name: "a chunk of another id is in the growth",
+        steps: &[
+            Step::Limit(2 * MAX_PAYLOAD_LEN),
+            Step::Src(b"\xff\xff\xff\0"),
+            Step::ComesMany(MAX_PAYLOAD_LEN),
+            Step::Comes(b"\x01\0\0\x05\x42"),
+            Step::Decode(Told::OutOfSync),
+            Step::HeldMany(MAX_PAYLOAD_LEN + 1),
+            Step::Left(b""),
+            Step::Grew(1, MAX_PAYLOAD_LEN + 1),
+            // The full chunk was accepted, and its id is passed.
+            Step::Encode(b"", Told::Done),
+            Step::Left(b"\0\0\0\x01"),
+        ],
+    },
+    Script {
+        name: "a chunk that is not taken asks for no room",
+        steps: &[
+            Step::Src(b"\0\0\0\0"),
+            Step::Decode(Told::Whole),
+            Step::Src(b"\x02\0\0"),
+            Step::Decode(Told::Waits),
+            Step::Src(b"\x02\0\0\x01\x61"),
+            Step::Decode(Told::Waits),
+            Step::Fresh,
+            Step::Limit(1),
+            Step::Src(b"\x02\0\0\0\x61\x62"),
+            Step::Decode(Told::TooLarge),
+            Step::Grew(0, 0),
+        ],
+    },
+    Script {
+        name: "a short packet grows once, with another behind it",
+        steps: &[
+            Step::Src(b"\x02\0\0\0\xaa\xbb\x01\0\0\x01\x61"),
+            Step::Decode(Told::Whole),
+            Step::Grew(1, 2),
+            Step::Held(b"\xaa\xbb"),
+            Step::Left(b"\x01\0\0\x01\x61"),
+        ],
+    },
+    Script {
+        name: "a short chunk of another id grows once",
+        steps: &[
+            Step::Src(b"\x02\0\0\x07\xaa\xbb\x01"),
+            Step::Decode(Told::OutOfSync),
+            Step::Grew(1, 2),
+            Step::Held(b"\xaa\xbb"),
+            Step::Left(b"\x01"),
+        ],
+    },
+    Script {
+        name: "a remembered header says what is grown",
+        steps: &[
+            Step::Src(b"\x02\0\0\0"),
+            Step::Decode(Told::Waits),
+            Step::Comes(b"\xaa"),
+            Step::Decode(Told::Waits),
+            Step::Grew(0, 0),
+            Step::Comes(b"\xbb\x01\0\0\x01\x61"),
+            Step::Decode(Told::Whole),
+            Step::Grew(1, 2),
+            Step::Left(b"\x01\0\0\x01\x61"),
+            // The bytes in front were replaced, by a header that states more.
+            Step::Fresh,
+            Step::Dst(b""),
+            Step::Src(b"\x02\0\0\0"),
+            Step::Decode(Told::Waits),
+            Step::Src(b"\xff\xff\xff\x09\x61\x62\x63"),
+            Step::Decode(Told::Whole),
+            Step::Grew(1, 2),
+            Step::Held(b"ab"),
+            Step::Left(b"c"),
+        ],
+    },
+    Script {
+        name: "a remembered full chunk and the next one grow at once",
+        steps: &[
+            Step::Limit(MAX_PAYLOAD_LEN + 2),
+            Step::Src(b"\xff\xff\xff\0"),
+            Step::Decode(Told::Waits),
+            Step::Grew(0, 0),
+            Step::ComesMany(MAX_PAYLOAD_LEN),
+            Step::Comes(b"\x02\0\0\x01\x42\x42\x01"),
+            Step::Decode(Told::Whole),
+            Step::Grew(1, MAX_PAYLOAD_LEN + 2),
+            Step::HeldMany(MAX_PAYLOAD_LEN + 2),
+            Step::Left(b"\x01"),
+        ],
+    },
+    Script {
+        name: "each call grows by what it takes",
+        steps: &[
+            Step::Limit(MAX_PAYLOAD_LEN + 2),
+            Step::Src(b"\xff\xff\xff\0"),
+            Step::ComesMany(MAX_PAYLOAD_LEN),
+            Step::Comes(b"\x02\0\0\x01\x42"),
+            Step::Decode(Told::Waits),
+            Step::Grew(1, MAX_PAYLOAD_LEN),
+            Step::Decode(Told::Waits),
+            Step::Grew(1, MAX_PAYLOAD_LEN),
+            Step::Comes(b"\x42"),
+            Step::Decode(Told::Whole),
+            Step::Grew(2, 2),
+            Step::HeldMany(MAX_PAYLOAD_LEN + 2),
+            Step::Left(b""),
+        ],
+    },
+    Script {
+        name: "chunks of ids that pass 255 are in the growth",
+        steps: &[
+            Step::Id(254),
+            Step::Limit(usize::MAX),
+            Step::Src(b"\xff\xff\xff\xfe"),
+            Step::ComesMany(MAX_PAYLOAD_LEN),
+            Step::Comes(b"\xff\xff\xff\xff"),
+            Step::ComesMany(MAX_PAYLOAD_LEN),
+            Step::Comes(b"\xff\xff\xff\0"),
+            Step::ComesMany(MAX_PAYLOAD_LEN),
+            Step::Comes(b"\x02\0\0\x01\x42\x42"),
+            Step::Decode(Told::Whole),
+            Step::Grew(1, 3 * MAX_PAYLOAD_LEN + 2),
+            Step::HeldMany(3 * MAX_PAYLOAD_LEN + 2),
+            Step::Left(b""),
+        ],
+    },
+    Script {
+        name: "the next packet is not in the growth",
+        steps: &[
+            Step::Limit(usize::MAX),
+            Step::Src(b"\xff\xff\xff\0"),
+            Step::ComesMany(MAX_PAYLOAD_LEN),
+            Step::Comes(b"\x02\0\0\x01\x42\x42\xff\xff\xff\x02"),
+            Step::ComesMany(MAX_PAYLOAD_LEN),
+            Step::Comes(b"\0\0\0\x03"),
+            Step::Decode(Told::Whole),
+            Step::Grew(1, MAX_PAYLOAD_LEN + 2),
+            Step::HeldMany(MAX_PAYLOAD_LEN + 2),
+            Step::LeftMany(MAX_PAYLOAD_LEN + 8),
+        ],
+    },
+];
+
+#[test]
+fn a_call_grows_its_target_once(rt: HostRuntime) -> Result<(), Fail> {
+    play(rt.alloc(), &GROWTHS)
+}
+
+// A packet of so many bytes at this limit, which is not below.
+fn passing(len: usize, limit: usize) -> [Step; 7] {
+    [
+        Step::Limit(limit),
+        Step::EncodeMany(len, Told::Done),
+        Step::LeftMany(framed_len(len)),
+        Step::Reset,
+        Step::Decode(Told::Whole),
+        Step::HeldMany(len),
+        Step::Left(b""),
+    ]
+}
+
+// And at a limit of one byte less: then the chunk with its last byte is refused, so many bytes being
+// held, and so many left.
+fn refused(len: usize, held: usize, left: usize) -> [Step; 9] {
+    let limit = len.saturating_sub(1);
+    [
+        Step::Limit(len),
+        Step::EncodeMany(len, Told::Done),
+        Step::Reset,
+        Step::Limit(limit),
+        Step::Decode(Told::TooLarge),
+        Step::HeldMany(held),
+        Step::Stands(true),
+        Step::EncodeMany(len, Told::TooLarge),
+        Step::LeftMany(left),
+    ]
+}
+
+fn goes_at_limits(alloc: Global, len: usize, held: usize) -> bool {
+    let eaten = held.saturating_add((held / MAX_PAYLOAD_LEN).saturating_mul(4));
+    let left = framed_len(len).saturating_sub(eaten);
+    first_fault(alloc, &passing(len, len)).is_none()
+        && first_fault(alloc, &passing(len, len.saturating_add(1))).is_none()
+        && first_fault(alloc, &refused(len, held, left)).is_none()
+}
+
+#[test]
+fn packets_pass_at_a_limit_of_their_length(rt: HostRuntime) -> Result<(), Fail> {
+    let rows = [
+        (1, 0),
+        (2, 0),
+        (MAX_PAYLOAD_LEN - 1, 0),
+        (MAX_PAYLOAD_LEN, 0),
+        (MAX_PAYLOAD_LEN + 1, MAX_PAYLOAD_LEN),
+        (MAX_PAYLOAD_LEN + 2, MAX_PAYLOAD_LEN),
+        (2 * MAX_PAYLOAD_LEN - 1, MAX_PAYLOAD_LEN),
+        (2 * MAX_PAYLOAD_LEN, MAX_PAYLOAD_LEN),
+        (2 * MAX_PAYLOAD_LEN + 1, 2 * MAX_PAYLOAD_LEN),
+        (2 * MAX_PAYLOAD_LEN + 2, 2 * MAX_PAYLOAD_LEN),
+    ];
+    for (len, held) in rows {
+        if !goes_at_limits(rt.alloc(), len, held) {
+            return Err(Fail::new(format_args!("{len} bytes")));
+        }
+    }
+    Ok(())
+}

@@ -1,0 +1,167 @@
+//! Packets from a stream that comes in pieces, row by row.
+
+use std::alloc::Global;
+use std::test::Fail;
+use test_support::receiver::Receiver;
+use test_support::told::Told;
+
+// Pieces, the first of them in a run of their own, and what came of them. A row begins with these
+// bytes in `src`, nothing held, and id 0.
+#[derive(Clone, Copy)]
+struct Row<'a> {
+    limit: usize,
+    src: &'a [u8],
+    pieces: &'a [&'a [u8]],
+    first: usize,
+    count: usize,
+    told: Told,
+    packets: &'a [&'a [u8]],
+    left: &'a [u8],
+    held: &'a [u8],
+}
+
+impl Row<'_> {
+    fn goes(&self, alloc: Global) -> bool {
+        let mut receiver = Receiver::<Global>::new(alloc, self.limit);
+        let comes = receiver.src.extend_from_slice(self.src).is_ok();
+        let run = receiver.deliver_in_two(self.pieces, self.first);
+        comes
+            && run == (self.count, self.told)
+            && receiver.shows(self.packets, self.left, self.held)
+            && receiver.codec.max_allowed_packet == self.limit
+    }
+}
+
+const MANY: usize = 4194304;
+
+const ROWS: [Row; 10] = [
+    Row {
+        limit: MANY,
+        src: b"",
+        pieces: &[b"\x03", b"\0\0", b"\x001", b"", b"23\x01\0\0\x01\xff\0"],
+        first: 0,
+        count: 5,
+        told: Told::Waits,
+        packets: &[b"123", b"\xff"],
+        left: b"\0",
+        held: b"",
+    },
+    Row {
+        limit: MANY,
+        src: b"",
+        pieces: &[],
+        first: 0,
+        count: 0,
+        told: Told::Waits,
+        packets: &[],
+        left: b"",
+        held: b"",
+    },
+    Row {
+        limit: 3,
+        src: b"",
+        pieces: &[b"\x01\0\0\0\x61\x03\0\0", b"\x09", b"\x62"],
+        first: 0,
+        count: 3,
+        told: Told::Waits,
+        packets: &[b"a"],
+        left: b"\x03\0\0\x09\x62",
+        held: b"",
+    },
+    // It stops at the piece that brings the header of a packet past the limit.
+    Row {
+        limit: 2,
+        src: b"",
+        pieces: &[b"\x01\0\0\0\x61\x03\0\0", b"\x09", b"\x62"],
+        first: 0,
+        count: 2,
+        told: Told::TooLarge,
+        packets: &[b"a"],
+        left: b"\x03\0\0\x09",
+        held: b"",
+    },
+    // And at the piece that makes a chunk of another id whole.
+    Row {
+        limit: 3,
+        src: b"",
+        pieces: &[
+            b"\x01\0\0\0\x61\x03\0\0\x09",
+            b"\x62",
+            b"\x63\x64\x05",
+            b"\x06",
+        ],
+        first: 0,
+        count: 3,
+        told: Told::OutOfSync,
+        packets: &[b"a"],
+        left: b"\x05",
+        held: b"bcd",
+    },
+    Row {
+        limit: 0,
+        src: b"",
+        pieces: &[b"\0\0\0", b"\x01\x02", b"\x03"],
+        first: 0,
+        count: 2,
+        told: Told::OutOfSync,
+        packets: &[],
+        left: b"\x02",
+        held: b"",
+    },
+    // A run goes on where the last one stopped, also over no pieces.
+    Row {
+        limit: MANY,
+        src: b"",
+        pieces: &[b"\x03\0"],
+        first: 0,
+        count: 1,
+        told: Told::Waits,
+        packets: &[],
+        left: b"\x03\0",
+        held: b"",
+    },
+    Row {
+        limit: MANY,
+        src: b"",
+        pieces: &[b"\x03\0", b"\0\x00123"],
+        first: 1,
+        count: 2,
+        told: Told::Waits,
+        packets: &[b"123"],
+        left: b"",
+        held: b"",
+    },
+    Row {
+        limit: MANY,
+        src: b"",
+        pieces: &[b"\0\0\0\0\x05"],
+        first: 1,
+        count: 1,
+        told: Told::Waits,
+        packets: &[b""],
+        left: b"\x05",
+        held: b"",
+    },
+    // What `src` holds is delivered before any piece.
+    Row {
+        limit: MANY,
+        src: b"\0\0\0\0\x05",
+        pieces: &[],
+        first: 0,
+        count: 0,
+        told: Told::Waits,
+        packets: &[b""],
+        left: b"\x05",
+        held: b"",
+    },
+];
+
+#[test]
+fn pieces_become_packets(rt: HostRuntime) -> Result<(), Fail> {
+    for (i, row) in ROWS.iter().enumerate() {
+        if !row.goes(rt.alloc()) {
+            return Err(Fail::new(format_args!("row {i} goes otherwise")));
+        }
+    }
+    Ok(())
+}

@@ -1,0 +1,493 @@
+//! One stream cut in many ways, and many streams: each run is compared with the reference reading
+//! of the whole stream.
+
+use crate::memory::agrees_refused;
+use mysql_wire::constants::MAX_PAYLOAD_LEN;
+use std::alloc::{AllocError, Global};
+use std::test::Fail;
+use test_support::case::{Case, Wanted};
+use test_support::facts::ensure;
+use test_support::fixture::FILL;
+use test_support::generated::{Draws, Stream, pieces_of};
+use test_support::reference::{between, chunk_count, low_byte, put_framing, reading_of};
+use test_support::told::Told;
+
+// The stream, cut behind its byte number i + 1 where bit i of the number is set.
+fn cut_by_bits<'a>(
+    alloc: Global,
+    stream: &'a [u8],
+    bits: u32,
+) -> Result<Vec<&'a [u8]>, AllocError> {
+    let mut pieces = Vec::new(alloc);
+    let mut start = 0usize;
+    let mut bits = bits;
+    for end in 1..stream.len() {
+        if bits % 2 == 1 {
+            pieces.push(between(stream, start, end))?;
+            start = end;
+        }
+        bits /= 2;
+    }
+    pieces.push(between(stream, start, stream.len()))?;
+    Ok(pieces)
+}
+
+// Each byte of the stream as a piece, and an empty piece behind it.
+fn single_bytes<'a>(alloc: Global, stream: &'a [u8]) -> Result<Vec<&'a [u8]>, AllocError> {
+    let mut pieces = Vec::new(alloc);
+    for start in 0..stream.len() {
+        pieces.push(between(stream, start, start.wrapping_add(1)))?;
+        pieces.push(between(stream, start, start))?;
+    }
+    Ok(pieces)
+}
+
+// How many cuttings into pieces that aren't empty a stream of fewer than 33 bytes has.
+fn cutting_count(stream: &[u8]) -> u32 {
+    let mut count = 1u32;
+    for _ in 1..stream.len() {
+        count = count.wrapping_mul(2);
+    }
+    count
+}
+
+// Whether all cuttings of a stream into pieces that aren't empty are delivered as its reading says,
+// and so are its single bytes with empty pieces between them.
+fn all_cuttings_agree(alloc: Global, case: &Case) -> Result<bool, AllocError> {
+    let pieces = single_bytes(alloc, case.stream)?;
+    let mut agree = case.agrees(alloc, b"", pieces.as_slice(), 0);
+    for bits in 0..cutting_count(case.stream) {
+        let pieces = cut_by_bits(alloc, case.stream, bits)?;
+        agree = agree && case.agrees(alloc, b"", pieces.as_slice(), 0);
+    }
+    Ok(agree)
+}
+
+// A stream from id 0 on, and what every one of so many cuttings of it must show.
+#[derive(Clone, Copy)]
+struct Row<'a> {
+    stream: &'a [u8],
+    cuttings: u32,
+    limit: usize,
+    wanted: Wanted<'a>,
+    shown_at: usize,
+}
+
+impl Row<'_> {
+    fn is_shown(&self, alloc: Global) -> Result<bool, AllocError> {
+        let case = Case::new(alloc, 0, self.limit, self.stream)?;
+        Ok(
+            self.wanted.is_read(&case.reading)
+                && case.reading.shown_at == self.shown_at
+                && cutting_count(self.stream) == self.cuttings
+                && all_cuttings_agree(alloc, &case)?,
+        )
+    }
+}
+
+// A packet, and one of another id, whose header is whole with the ninth byte.
+const FAULTY: &[u8] = b"\x01\0\0\0\x61\x03\0\0\x09\x62\x63\x64";
+// It is not whole.
+const SHORT: &[u8] = b"\x01\0\0\0\x61\x03\0\0\x09\x62";
+
+const TOO_LARGE: Wanted<'static> = Wanted {
+    packets: &[b"a"],
+    told: Told::TooLarge,
+    held: b"",
+    left: 5,
+};
+
+const ROWS: [Row; 5] = [
+    Row {
+        stream: b"\x01\0\0\0\x61\x01\0\0\x01\x62\0\0\0\x02",
+        cuttings: 8192,
+        limit: 1,
+        wanted: Wanted {
+            packets: &[b"a", b"b", b""],
+            told: Told::Waits,
+            held: b"",
+            left: 14,
+        },
+        shown_at: usize::MAX,
+    },
+    Row {
+        stream: FAULTY,
+        cuttings: 2048,
+        limit: 2,
+        wanted: TOO_LARGE,
+        shown_at: 9,
+    },
+    Row {
+        stream: FAULTY,
+        cuttings: 2048,
+        limit: 3,
+        wanted: Wanted {
+            packets: &[b"a"],
+            told: Told::OutOfSync,
+            held: b"bcd",
+            left: 12,
+        },
+        shown_at: 12,
+    },
+    Row {
+        stream: SHORT,
+        cuttings: 512,
+        limit: 3,
+        wanted: Wanted {
+            packets: &[b"a"],
+            told: Told::Waits,
+            held: b"",
+            left: 5,
+        },
+        shown_at: usize::MAX,
+    },
+    Row {
+        stream: SHORT,
+        cuttings: 512,
+        limit: 2,
+        wanted: TOO_LARGE,
+        shown_at: 9,
+    },
+];
+
+#[test]
+fn all_cuttings_of_a_stream_agree(rt: HostRuntime) -> Result<(), Fail> {
+    for (i, row) in ROWS.iter().enumerate() {
+        if !row.is_shown(rt.alloc())? {
+            return Err(Fail::new(format_args!("row {i}")));
+        }
+    }
+    Ok(())
+}
+
+// Whether a stream in three pieces agrees: in one run, with the first piece in `src`, and in two
+// runs.
+fn three_pieces_agree(alloc: Global, case: &Case, a: usize, b: usize) -> bool {
+    let stream = case.stream;
+    let first = between(stream, 0, a);
+    let second = between(stream, a, b);
+    let third = between(stream, b, stream.len());
+    let all = [first, second, third];
+    case.agrees(alloc, b"", &all, 0)
+        && case.agrees(alloc, first, &all[1..], 0)
+        && case.agrees(alloc, b"", &all, 1)
+        && case.agrees(alloc, first, &all[1..], 1)
+}
+
+// Whether a stream agrees, cut at any two places.
+fn all_three_pieces_agree(alloc: Global, case: &Case) -> bool {
+    let len = case.stream.len();
+    let mut agree = true;
+    for a in 0..=len {
+        for b in a..=len {
+            agree = agree && three_pieces_agree(alloc, case, a, b);
+        }
+    }
+    agree
+}
+
+const SHORT_STREAMS: [(u8, usize, &[u8]); 8] = [
+    (0, 9, b"\x03\0\0\x00123\x01\0\0\x01\xff\0"),
+    // Empty packets, and one of another id.
+    (0, 0, b"\0\0\0\0\0\0\0\x01\0\0\0\x03\0\0\0\x02"),
+    // Ids that pass 255, and a packet past the limit.
+    (
+        254,
+        2,
+        b"\x02\0\0\xfeab\0\0\0\xff\x02\0\0\0cd\x03\0\0\x01xyz",
+    ),
+    // A chunk of another id, within the limit and past it.
+    (0, 4, b"\x02\0\0\x07\xaa\xbb\x01\0\0\0\x61"),
+    (0, 1, b"\x02\0\0\x07\xaa\xbb\x01\0\0\0\x61"),
+    // Payloads that look like headers.
+    (
+        0,
+        8,
+        b"\x04\0\0\0\x01\0\0\x01\x08\0\0\x01\0\0\0\x01\0\0\0\x02",
+    ),
+    // A length of three bytes.
+    (7, usize::MAX, b"\0\0\0\x07\x03\x02\x01\x08abcdefgh"),
+    (0, 9, b"\x09\0\0\0abcdefghi\x01\0"),
+];
+
+#[test]
+fn streams_cut_at_any_two_places_agree(rt: HostRuntime) -> Result<(), Fail> {
+    for (first_id, limit, stream) in SHORT_STREAMS {
+        let case = Case::new(rt.alloc(), first_id, limit, stream)?;
+        if !all_three_pieces_agree(rt.alloc(), &case) {
+            return Err(Fail::new(format_args!("the stream {stream:?}")));
+        }
+    }
+    Ok(())
+}
+
+// A stream with full chunks: the lengths of its packets, a byte that is another one, and what comes
+// of it.
+#[derive(Clone, Copy)]
+struct Long<'a> {
+    first_id: u8,
+    lens: &'a [usize],
+    damage: Option<(usize, u8)>,
+    limit: usize,
+    told: Told,
+    packets: usize,
+    held: usize,
+}
+
+impl Long<'_> {
+    // The packets one behind another.
+    fn framed(&self, alloc: Global) -> Result<Vec<u8>, AllocError> {
+        let mut stream = Vec::new(alloc);
+        let mut id = self.first_id;
+        for len in self.lens {
+            let payload = Vec::from_elem(alloc, FILL, *len)?;
+            put_framing(&mut stream, id, payload.as_slice())?;
+            id = id.wrapping_add(low_byte(chunk_count(*len)));
+        }
+        Ok(stream)
+    }
+
+    fn stream(&self, alloc: Global) -> Result<Vec<u8>, AllocError> {
+        let mut stream = self.framed(alloc)?;
+        if let Some((at, byte)) = self.damage {
+            if let Some(place) = stream.get_mut(at) {
+                *place = byte;
+            }
+        }
+        Ok(stream)
+    }
+
+    fn is_read(&self, case: &Case) -> bool {
+        case.reading.told == self.told
+            && case.reading.packets.len() == self.packets
+            && case.reading.held.len() == self.held
+    }
+
+    // Whether it is read as it says, and agrees with its reading when it is cut near the headers.
+    fn agrees(&self, alloc: Global) -> Result<bool, AllocError> {
+        let stream = self.stream(alloc)?;
+        let case = Case::new(alloc, self.first_id, self.limit, stream.as_slice())?;
+        let mut agree = self.is_read(&case);
+        for header in [0, MAX_PAYLOAD_LEN + 4, 2 * MAX_PAYLOAD_LEN + 8] {
+            for more in [0usize, 1, 4, 5, 10] {
+                agree = agree && agrees_at(alloc, &case, more.saturating_add(header));
+            }
+        }
+        Ok(agree)
+    }
+}
+
+// Whether a stream cut at this place agrees, in one run and in two.
+fn agrees_at(alloc: Global, case: &Case, at: usize) -> bool {
+    let pieces = [
+        between(case.stream, 0, at),
+        between(case.stream, at, case.stream.len()),
+    ];
+    case.agrees(alloc, b"", &pieces, 0) && case.agrees(alloc, b"", &pieces, 1)
+}
+
+// Where the second chunk's header begins, behind a full chunk.
+const SECOND: usize = MAX_PAYLOAD_LEN + 4;
+
+const LONG: [Long; 10] = [
+    Long {
+        first_id: 0,
+        lens: &[MAX_PAYLOAD_LEN],
+        damage: None,
+        limit: MAX_PAYLOAD_LEN,
+        told: Told::Waits,
+        packets: 1,
+        held: 0,
+    },
+    Long {
+        first_id: 0,
+        lens: &[MAX_PAYLOAD_LEN],
+        damage: None,
+        limit: MAX_PAYLOAD_LEN - 1,
+        told: Told::TooLarge,
+        packets: 0,
+        held: 0,
+    },
+    Long {
+        first_id: 0,
+        lens: &[MAX_PAYLOAD_LEN + 1],
+        damage: None,
+        limit: MAX_PAYLOAD_LEN,
+        told: Told::TooLarge,
+        packets: 0,
+        held: MAX_PAYLOAD_LEN,
+    },
+    Long {
+        first_id: 0,
+        lens: &[2 * MAX_PAYLOAD_LEN, 1],
+        damage: None,
+        limit: 2 * MAX_PAYLOAD_LEN,
+        told: Told::Waits,
+        packets: 2,
+        held: 0,
+    },
+    // Ids that pass 255 inside a packet.
+    Long {
+        first_id: 254,
+        lens: &[2, MAX_PAYLOAD_LEN + 1, 1],
+        damage: None,
+        limit: MAX_PAYLOAD_LEN + 1,
+        told: Told::Waits,
+        packets: 3,
+        held: 0,
+    },
+    // The first chunk's id is another one, and the second one's.
+    Long {
+        first_id: 0,
+        lens: &[MAX_PAYLOAD_LEN],
+        damage: Some((3, 1)),
+        limit: MAX_PAYLOAD_LEN,
+        told: Told::OutOfSync,
+        packets: 0,
+        held: MAX_PAYLOAD_LEN,
+    },
+    Long {
+        first_id: 0,
+        lens: &[MAX_PAYLOAD_LEN],
+        damage: Some((SECOND + 3, 0)),
+        limit: MAX_PAYLOAD_LEN,
+        told: Told::OutOfSync,
+        packets: 0,
+        held: MAX_PAYLOAD_LEN,
+    },
+    Long {
+        first_id: 0,
+        lens: &[MAX_PAYLOAD_LEN + 2],
+        damage: Some((SECOND + 3, 2)),
+        limit: usize::MAX,
+        told: Told::OutOfSync,
+        packets: 0,
+        held: MAX_PAYLOAD_LEN + 2,
+    },
+    // The second chunk's length is another one: more than comes, and past the limit.
+    Long {
+        first_id: 0,
+        lens: &[MAX_PAYLOAD_LEN + 2],
+        damage: Some((SECOND, 3)),
+        limit: MAX_PAYLOAD_LEN + 3,
+        told: Told::Waits,
+        packets: 0,
+        held: MAX_PAYLOAD_LEN,
+    },
+    Long {
+        first_id: 0,
+        lens: &[MAX_PAYLOAD_LEN + 2],
+        damage: Some((SECOND, 3)),
+        limit: MAX_PAYLOAD_LEN + 2,
+        told: Told::TooLarge,
+        packets: 0,
+        held: MAX_PAYLOAD_LEN,
+    },
+];
+
+#[test]
+fn long_packets_cut_near_their_headers_agree(rt: HostRuntime) -> Result<(), Fail> {
+    for (i, row) in LONG.iter().enumerate() {
+        if !row.agrees(rt.alloc())? {
+            return Err(Fail::new(format_args!("row {i} goes otherwise")));
+        }
+    }
+    Ok(())
+}
+
+// Whether this front of the stream waits, if it doesn't show the fault.
+fn front_waits(alloc: Global, case: &Case, end: usize) -> Result<bool, AllocError> {
+    let front = between(case.stream, 0, end);
+    let reading = reading_of(alloc, case.first_id, case.limit, front)?;
+    Ok((reading.told == Told::Waits) == (end < case.reading.shown_at))
+}
+
+fn fronts_wait(alloc: Global, case: &Case) -> Result<bool, AllocError> {
+    for end in 0..=case.stream.len() {
+        if !front_waits(alloc, case, end)? {
+            return Ok(false);
+        }
+    }
+    Ok(true)
+}
+
+// Whether a stream agrees, cut at drawn places, some of it in `src` and some in a run of its own.
+fn drawn_cutting_agrees(alloc: Global, draws: &mut Draws, case: &Case) -> Result<bool, AllocError> {
+    let at = draws.one_of(&[0, 0, 3, 7]);
+    let rest = between(case.stream, at, case.stream.len());
+    let pieces = pieces_of(alloc, draws, rest)?;
+    let first = draws.below(pieces.len());
+    Ok(case.agrees(alloc, between(case.stream, 0, at), pieces.as_slice(), first))
+}
+
+// Whether it agrees where requests for memory are refused; and where a run stops at the limit, and
+// goes on without one as if it had begun so.
+fn drawn_stops_agree(alloc: Global, draws: &mut Draws, case: &Case) -> Result<bool, AllocError> {
+    let pieces = pieces_of(alloc, draws, case.stream)?;
+    let nth = draws.below(4) as u64;
+    let unlimited = Case::new(alloc, case.first_id, usize::MAX, case.stream)?;
+    Ok(
+        agrees_refused(alloc, case, pieces.as_slice(), nth)
+            && unlimited.agrees_raised(alloc, case.limit, pieces.as_slice()),
+    )
+}
+
+fn all_agree(alloc: Global, draws: &mut Draws, case: &Case) -> Result<bool, AllocError> {
+    Ok(
+        drawn_cutting_agrees(alloc, draws, case)?
+            && drawn_stops_agree(alloc, draws, case)?
+            && fronts_wait(alloc, case)?,
+    )
+}
+
+// What the generated stream of this seed ends with, if it agrees.
+fn generated_agrees(alloc: Global, seed: u64) -> Result<Option<Told>, AllocError> {
+    let mut draws = Draws::new(seed);
+    let first_id = low_byte(draws.one_of(&[0, 0, 1, 253, 255]));
+    let stream = Stream::damaged(alloc, &mut draws, first_id)?;
+    let limit = stream.limit(&mut draws);
+    let case = Case::new(alloc, first_id, limit, stream.bytes.as_slice())?;
+    let agree = all_agree(alloc, &mut draws, &case)?;
+    Ok(if agree { Some(case.reading.told) } else { None })
+}
+
+// How often the streams ended so.
+#[derive(Clone, Copy)]
+struct Ends {
+    waits: u64,
+    too_large: u64,
+    out_of_sync: u64,
+}
+
+impl Ends {
+    // Counts one more, if it is one of these.
+    fn count(&mut self, told: Option<Told>) -> bool {
+        let ends = match told {
+            Some(Told::Waits) => &mut self.waits,
+            Some(Told::TooLarge) => &mut self.too_large,
+            Some(Told::OutOfSync) => &mut self.out_of_sync,
+            _ => return false,
+        };
+        *ends = ends.wrapping_add(1);
+        true
+    }
+}
+
+#[test]
+fn generated_streams_agree(rt: HostRuntime) -> Result<(), Fail> {
+    let mut ends = Ends {
+        waits: 0,
+        too_large: 0,
+        out_of_sync: 0,
+    };
+    for seed in 0..3000u64 {
+        if !ends.count(generated_agrees(rt.alloc(), seed)?) {
+            return Err(Fail::new(format_args!("the stream of seed {seed}")));
+        }
+    }
+    // Each end comes often.
+    ensure(
+        ends.waits > 300 && ends.too_large > 300 && ends.out_of_sync > 300,
+        "the streams are of all kinds",
+    )
+}

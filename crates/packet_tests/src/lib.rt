@@ -1,0 +1,15 @@
+//! Tests of packets: framing, chunks, the codec, delivery, refused memory, and every cutting.
+#![tactic(auto)]
+
+#[cfg(test)]
+mod chunks;
+#[cfg(test)]
+mod codec;
+#[cfg(test)]
+mod delivery;
+#[cfg(test)]
+mod fragmentation;
+#[cfg(test)]
+mod framing;
+#[cfg(test)]
+mod memory;

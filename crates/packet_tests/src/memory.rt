@@ -1,0 +1,403 @@
+//! What a call leaves when its first, second, third request for memory is refused, and so on, and
+//! how it goes on; and the calls that ask for none.
+
+use bytes::{Buf, BytesMut};
+use mysql_wire::constants::MAX_PAYLOAD_LEN;
+use mysql_wire::io::WireError;
+use mysql_wire::proto::codec::{PacketCodec, packet_to_chunks};
+use refusing::{NEVER, Refusing};
+use std::alloc::{AllocError, Global};
+use std::test::Fail;
+use test_support::case::{Case, Wanted};
+use test_support::facts::ensure;
+use test_support::fixture::Heap;
+use test_support::receiver::{Receiver, pieces_from};
+use test_support::script::{Script, Step, first_fault, play};
+use test_support::targets::Zeros;
+use test_support::told::Told;
+
+// No run that a test makes asks so often.
+const MOST: u64 = 100;
+
+// How much room a vector asks for, whether it is given, and how many requests may still come then.
+const GROWTHS: [(usize, bool, u64); 4] = [
+    (1000, true, 1),
+    // A growth is one request, and what is given back is none.
+    (10000, true, 0),
+    (100000, false, u64::MAX),
+    (100000, true, u64::MAX - 1),
+];
+
+#[test]
+fn the_request_of_this_number_is_refused(rt: HostRuntime) -> Result<(), Fail> {
+    let heap = Refusing::new(rt.alloc(), 3);
+    let mut bytes = Vec::from_slice(&heap, b"a")?;
+    let mut good = true;
+    for (room, given, left) in GROWTHS {
+        good = good && !(heap.has_refused() && !given);
+        good = good && bytes.reserve(room).is_ok() == given && heap.left() == left;
+    }
+    heap.refuse(0);
+    good = good && bytes.reserve(1000000).is_err() && heap.has_refused();
+    ensure(good && bytes.as_slice() == b"a".as_slice(), "the requests")
+}
+
+// Frames five bytes in two pieces behind two, with request number `nth` refused. Says whether it
+// was, if the call leaves what it must.
+fn framing_refused(alloc: Global, nth: u64) -> Option<bool> {
+    let heap = Refusing::new(alloc, NEVER);
+    let mut dst = BytesMut::new(&heap);
+    let begins = dst.extend_from_slice(b"ab").is_ok();
+    let mut packet = b"123".as_slice().chain(b"45".as_slice());
+    heap.refuse(nth);
+    let next_id = packet_to_chunks(255, &mut packet, &mut dst).ok();
+    let refused = next_id.is_none();
+    let good = begins
+        && heap.has_refused() == refused
+        && if refused {
+            packet.remaining() == 5
+                && packet.chunk() == b"123".as_slice()
+                && dst.as_slice() == b"ab".as_slice()
+        } else {
+            packet.remaining() == 0
+                && next_id == Some(0)
+                && dst.as_slice() == b"ab\x05\0\0\xff12345".as_slice()
+        };
+    if good { Some(refused) } else { None }
+}
+
+#[test]
+fn packet_to_chunks_refused_changes_nothing(rt: HostRuntime) -> Result<(), Fail> {
+    let refused = framing_refused(rt.alloc(), 0) == Some(true);
+    let given = framing_refused(rt.alloc(), 1) == Some(false);
+    ensure(refused && given, "its one request")
+}
+
+// A packet of ten bytes, and a byte behind it.
+const PACKET: &[u8] = b"\x0a\0\0\x000123456789\xff";
+
+// Whether a payload whose framing no machine can hold is refused, and nothing is changed.
+fn huge_refused(alloc: Global, len: usize) -> Result<bool, AllocError> {
+    let mut dst = BytesMut::copy_from_slice(alloc, b"ab")?;
+    let mut packet = Zeros { left: len };
+    let mut codec = PacketCodec::default();
+    codec.max_allowed_packet = usize::MAX;
+    let framed = packet_to_chunks(0, &mut packet, &mut dst);
+    let encoded = Told::of_encode(codec.encode(&mut packet, &mut dst));
+    let unchanged = packet.left == len && dst.as_slice() == b"ab".as_slice();
+    Ok(matches!(framed, Err(WireError::OutOfMemory)) && encoded == Told::OutOfMemory && unchanged)
+}
+
+#[test]
+fn a_payload_that_no_machine_can_frame_is_refused(rt: HostRuntime) -> Result<(), Fail> {
+    // The bytes and the headers are more than a machine counts, or just as many, or fewer.
+    let most = usize::MAX - 4398045724676;
+    for len in [usize::MAX, most + 1, most, usize::MAX / 2, usize::MAX / 4] {
+        if !huge_refused(rt.alloc(), len)? {
+            return Err(Fail::new(format_args!("{len} bytes")));
+        }
+    }
+    Ok(())
+}
+
+// A packet of two full chunks and a byte.
+const LONG: usize = 2 * MAX_PAYLOAD_LEN + 1;
+
+const REFUSED: [Script; 9] = [
+    Script {
+        name: "the one request of encode is refused",
+        steps: &[
+            Step::Encode(b"a", Told::Done),
+            Step::Refuse(0),
+            Step::Encode(b"0123456789", Told::OutOfMemory),
+            Step::Refused(true),
+            Step::Left(b"\x01\0\0\0\x61"),
+            // The id is that of the one packet before.
+            Step::Encode(b"0123456789", Told::Done),
+            Step::Left(b"\x01\0\0\0\x61\x0a\0\0\x010123456789"),
+        ],
+    },
+    Script {
+        name: "encode asks once",
+        steps: &[
+            Step::Encode(b"a", Told::Done),
+            Step::Refuse(1),
+            Step::Encode(b"0123456789", Told::Done),
+            Step::Refused(false),
+            Step::Unasked(0),
+            Step::Left(b"\x01\0\0\0\x61\x0a\0\0\x010123456789"),
+        ],
+    },
+    Script {
+        name: "the one request of decode is refused",
+        steps: &[
+            Step::Src(PACKET),
+            Step::Refuse(0),
+            Step::Decode(Told::OutOfMemory),
+            Step::Refused(true),
+            Step::Left(PACKET),
+            Step::Held(b""),
+            // The header is remembered: the codec stands at no other one.
+            Step::Stands(true),
+            Step::StandsAt(b"\x0a\0\0\x01", b"", false),
+            Step::Decode(Told::Whole),
+            Step::Held(b"0123456789"),
+            Step::Left(b"\xff"),
+        ],
+    },
+    Script {
+        name: "decode asks once",
+        steps: &[
+            Step::Src(PACKET),
+            Step::Refuse(1),
+            Step::Decode(Told::Whole),
+            Step::Refused(false),
+            Step::Unasked(0),
+            Step::Held(b"0123456789"),
+            Step::Left(b"\xff"),
+        ],
+    },
+    Script {
+        name: "the first put is refused",
+        steps: &[
+            Step::Counting,
+            Step::Limit(LONG),
+            Step::EncodeMany(LONG, Told::Done),
+            Step::Reset,
+            Step::RefusePut(0),
+            Step::Decode(Told::OutOfMemory),
+            Step::HeldMany(0),
+            Step::LeftMany(LONG + 12),
+            Step::Stands(true),
+            // The header is remembered.
+            Step::Limit(0),
+            Step::Stands(false),
+            Step::Limit(LONG),
+            Step::Decode(Told::Whole),
+            Step::HeldMany(LONG),
+            Step::Left(b""),
+        ],
+    },
+    Script {
+        name: "the second put is refused",
+        steps: &[
+            Step::Counting,
+            Step::Limit(LONG),
+            Step::EncodeMany(LONG, Told::Done),
+            Step::Reset,
+            Step::RefusePut(1),
+            Step::Decode(Told::OutOfMemory),
+            // The chunk before it is held, and eaten.
+            Step::HeldMany(MAX_PAYLOAD_LEN),
+            Step::LeftMany(MAX_PAYLOAD_LEN + 9),
+            Step::Stands(true),
+            Step::Limit(0),
+            Step::Stands(false),
+            Step::Limit(LONG),
+            Step::Decode(Told::Whole),
+            Step::HeldMany(LONG),
+            Step::Left(b""),
+        ],
+    },
+    Script {
+        name: "the third put is refused",
+        steps: &[
+            Step::Counting,
+            Step::Limit(LONG),
+            Step::EncodeMany(LONG, Told::Done),
+            Step::Reset,
+            Step::RefusePut(2),
+            Step::Decode(Told::OutOfMemory),
+            Step::HeldMany(2 * MAX_PAYLOAD_LEN),
+            Step::LeftMany(5),
+            Step::Stands(true),
+            Step::Limit(0),
+            Step::Stands(false),
+            Step::Limit(LONG),
+            Step::Decode(Told::Whole),
+            Step::HeldMany(LONG),
+            Step::Left(b""),
+        ],
+    },
+    Script {
+        name: "a single chunk's put is refused",
+        steps: &[
+            Step::Counting,
+            Step::Src(b"\x02\0\0\x07ab"),
+            Step::RefusePut(0),
+            Step::Chunk(2, Told::OutOfMemory),
+            Step::Left(b"\x02\0\0\x07ab"),
+            Step::Held(b""),
+            Step::Remembers(Some((7, 2))),
+            // It is not judged again.
+            Step::Chunk(0, Told::Last(7)),
+            Step::Held(b"ab"),
+        ],
+    },
+    Script {
+        name: "the growth for a second chunk is refused",
+        steps: &[
+            Step::Limit(2 * MAX_PAYLOAD_LEN),
+            Step::Src(b"\xff\xff\xff\0"),
+            Step::ComesMany(MAX_PAYLOAD_LEN),
+            Step::Decode(Told::Waits),
+            Step::Comes(b"\xff\xff\xff\x01"),
+            Step::ComesMany(MAX_PAYLOAD_LEN),
+            Step::Refuse(0),
+            Step::Decode(Told::OutOfMemory),
+            Step::Refused(true),
+            Step::HeldMany(MAX_PAYLOAD_LEN),
+            Step::LeftMany(MAX_PAYLOAD_LEN + 4),
+            Step::Stands(true),
+            Step::Decode(Told::Waits),
+            Step::HeldMany(2 * MAX_PAYLOAD_LEN),
+        ],
+    },
+];
+
+#[test]
+fn what_was_taken_before_a_refusal_is_held(rt: HostRuntime) -> Result<(), Fail> {
+    play(rt.alloc(), &REFUSED)
+}
+
+// How much is refused in one run.
+#[derive(Clone, Copy, PartialEq, Eq)]
+enum Refusals {
+    // One request.
+    One,
+    // One in each call: each time a later one.
+    Many,
+}
+
+// Delivers these pieces, and goes on with those that were not appended until no request is refused.
+// Says what all runs together did, and how many were refused, if just those ran out of memory.
+fn deliver_on(
+    receiver: &mut Receiver<&Heap>,
+    pieces: &[&[u8]],
+    refusals: Refusals,
+) -> Option<(usize, Told, u64)> {
+    let mut count = 0usize;
+    for refused in 0..MOST {
+        let (more, told) = receiver.deliver(pieces_from(pieces, count));
+        count = count.wrapping_add(more);
+        let again = told == Told::OutOfMemory;
+        if receiver.alloc.has_refused() != again {
+            return None;
+        }
+        if !again {
+            return Some((count, told, refused));
+        }
+        let later = refusals == Refusals::Many;
+        receiver
+            .alloc
+            .refuse(if later { refused + 1 } else { NEVER });
+    }
+    None
+}
+
+// Delivers a stream in pieces with request number `nth` refused, and goes on. Says how many requests
+// were refused, if the end is that of the stream's reading.
+fn deliver_refused(
+    alloc: Global,
+    case: &Case,
+    pieces: &[&[u8]],
+    nth: u64,
+    refusals: Refusals,
+) -> Option<u64> {
+    let heap = Refusing::new(alloc, NEVER);
+    let mut receiver = case.receiver(&heap);
+    heap.refuse(nth);
+    let (count, told, refused) = deliver_on(&mut receiver, pieces, refusals)?;
+    heap.refuse(NEVER);
+    if case.is_ended(&mut receiver, 0, pieces, (count, told)) {
+        Some(refused)
+    } else {
+        None
+    }
+}
+
+// Two packets and the front of a third.
+const TWO: &[u8] = b"\x03\0\0\x00123\x01\0\0\x01\xff\0";
+
+const TWO_PIECES: [&[u8]; 5] = [b"\x03", b"\0\0", b"\x001", b"", b"23\x01\0\0\x01\xff\0"];
+
+const TWO_READ: Wanted<'static> = Wanted {
+    packets: &[b"123", b"\xff"],
+    told: Told::Waits,
+    held: b"",
+    left: 12,
+};
+
+// How many requests of a delivery can be refused, each in a run of its own.
+fn refusal_count(alloc: Global, case: &Case, pieces: &[&[u8]]) -> Option<u64> {
+    for nth in 0..MOST {
+        if deliver_refused(alloc, case, pieces, nth, Refusals::One)? == 0 {
+            return Some(nth);
+        }
+    }
+    None
+}
+
+#[test]
+fn deliver_refused_goes_on(rt: HostRuntime) -> Result<(), Fail> {
+    let case = Case::new(rt.alloc(), 0, 4194304, TWO)?;
+    let read = TWO_READ.is_read(&case.reading);
+    let one = refusal_count(rt.alloc(), &case, &TWO_PIECES);
+    let many = deliver_refused(rt.alloc(), &case, &TWO_PIECES, 0, Refusals::Many);
+    // Several requests are refused, each in a run of its own and all in one.
+    let several = one.unwrap_or(0) > 3 && many.unwrap_or(0) > 2;
+    ensure(read && several, "the delivery")
+}
+
+/// Whether a stream in pieces is delivered as it is read, with request number `nth` refused, and
+/// with later ones too.
+pub fn agrees_refused(alloc: Global, case: &Case, pieces: &[&[u8]], nth: u64) -> bool {
+    deliver_refused(alloc, case, pieces, nth, Refusals::One).is_some()
+        && deliver_refused(alloc, case, pieces, nth, Refusals::Many).is_some()
+}
+
+// What is to be read, a limit, and what `decode` answers where it takes no payload byte.
+type Row = (&'static [u8], usize, Told);
+
+const TAKING_NOTHING: [Row; 9] = [
+    (b"", 9, Told::Waits),
+    (b"\x01\0\0", 9, Told::Waits),
+    (b"\x02\0\0\0\x61", 9, Told::Waits),
+    (b"\xff\xff\xff\x07\x61", usize::MAX, Told::Waits),
+    (b"\0\0\0\0\x61", 0, Told::Whole),
+    (b"\0\0\0\x05", 0, Told::OutOfSync),
+    (b"\x09\0\0\0", 8, Told::TooLarge),
+    (b"\x01\0\0\x05\x61", 0, Told::TooLarge),
+    (b"\xff\xff\xff\0abc", 16777214, Told::TooLarge),
+];
+
+fn taking_nothing(row: &Row) -> [Step; 9] {
+    let (src, limit, told) = *row;
+    // Where its header is remembered, a second call asks for none either.
+    let again = if told == Told::Waits {
+        Step::Decode(Told::Waits)
+    } else {
+        Step::Sync
+    };
+    [
+        Step::Limit(limit),
+        Step::Src(src),
+        Step::Refuse(0),
+        Step::Decode(told),
+        again,
+        Step::Stands(true),
+        Step::Sync,
+        Step::Reset,
+        Step::Unasked(0),
+    ]
+}
+
+#[test]
+fn calls_that_take_nothing_ask_for_no_memory(rt: HostRuntime) -> Result<(), Fail> {
+    for (i, row) in TAKING_NOTHING.iter().enumerate() {
+        if let Some(step) = first_fault(rt.alloc(), &taking_nothing(row)) {
+            return Err(Fail::new(format_args!("row {i}, step {step}")));
+        }
+    }
+    Ok(())
+}

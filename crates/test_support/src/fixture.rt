@@ -1,0 +1,133 @@
+//! A codec with its two buffers, over an allocator that refuses what it is told to.
+
+use crate::targets::Target;
+use crate::told::Told;
+use bytes::BytesMut;
+use mysql_wire::proto::codec::{ChunkDecoder, PacketCodec};
+use refusing::{NEVER, Refusing};
+use std::alloc::{Allocator, Global};
+use std::num::NonZeroUsize;
+
+/// The allocator of a test that refuses a request.
+pub type Heap = Refusing<Global>;
+
+/// The byte that long payloads are made of.
+pub const FILL: u8 = 0x42;
+
+/// The header that a decoder remembers: its id, and the bytes that it needs. None is `Idle`.
+pub type Remembered = Option<(u8, usize)>;
+
+/// The decoder that remembers it.
+pub fn decoder_of(remembered: Remembered) -> ChunkDecoder {
+    let Some((seq_id, needed)) = remembered else {
+        return ChunkDecoder::Idle;
+    };
+    match NonZeroUsize::new(needed) {
+        Some(needed) => ChunkDecoder::Chunk { seq_id, needed },
+        None => ChunkDecoder::Idle,
+    }
+}
+
+/// Whether these are so many bytes `42`.
+pub fn is_filled(bytes: &[u8], len: usize) -> bool {
+    bytes.len() == len && bytes.iter().all(|byte| *byte == FILL)
+}
+
+/// The codec's next id becomes this one, counted from 0.
+pub fn raise_to<A: Allocator + Copy>(codec: &mut PacketCodec, alloc: A, id: u8) {
+    let mut other = BytesMut::new(alloc);
+    codec.reset_seq_id();
+    for _ in 0..id {
+        let mut packet = b"".as_slice();
+        let _ = codec.encode(&mut packet, &mut other);
+    }
+}
+
+/// A codec and a decoder of single chunks, what they read, and what they put the payload into.
+#[derive(Drop)]
+pub struct Fixture<'h, T> {
+    pub codec: PacketCodec,
+    pub decoder: ChunkDecoder,
+    pub src: BytesMut<&'h Heap>,
+    pub dst: T,
+    pub heap: &'h Heap,
+}
+
+impl<'h, T: Target> Fixture<'h, T> {
+    /// With nothing in its buffers, and no request refused.
+    pub fn new(heap: &'h Heap, dst: T) -> Self {
+        heap.refuse(NEVER);
+        Fixture {
+            codec: PacketCodec::default(),
+            decoder: ChunkDecoder::default(),
+            src: BytesMut::new(heap),
+            dst,
+            heap,
+        }
+    }
+
+    pub fn decode(&mut self) -> Told {
+        Told::of_decode(self.codec.decode(&mut self.src, &mut self.dst))
+    }
+
+    pub fn decode_chunk(&mut self, limit: usize) -> Told {
+        Told::of_chunk(self.decoder.decode(&mut self.src, &mut self.dst, limit))
+    }
+
+    pub fn encode(&mut self, payload: &[u8]) -> Told {
+        let mut packet = payload;
+        Told::of_encode(self.codec.encode(&mut packet, &mut self.src))
+    }
+
+    /// Encodes so many bytes `42`.
+    pub fn encode_many(&mut self, len: usize) -> Told {
+        match Vec::from_elem(self.heap, FILL, len) {
+            Ok(payload) => self.encode(payload.as_slice()),
+            Err(_) => Told::OutOfMemory,
+        }
+    }
+
+    /// So many bytes `42` come in behind `src`.
+    pub fn comes_many(&mut self, len: usize) -> bool {
+        let len = self.src.len().saturating_add(len);
+        self.src.resize(len, FILL).is_ok()
+    }
+
+    pub fn replace_dst(&mut self, bytes: &[u8]) -> bool {
+        self.dst.clear();
+        self.dst.put_slice(bytes).is_ok()
+    }
+
+    /// `dst` becomes so many bytes `42`.
+    pub fn replace_dst_many(&mut self, len: usize) -> bool {
+        match Vec::from_elem(self.heap, FILL, len) {
+            Ok(bytes) => self.replace_dst(bytes.as_slice()),
+            Err(_) => false,
+        }
+    }
+
+    /// The codec's next id becomes this one.
+    pub fn raise_to(&mut self, id: u8) {
+        raise_to(&mut self.codec, self.heap, id);
+    }
+
+    pub fn stands(&self) -> bool {
+        self.codec.stands_at(&self.src, self.dst.as_ref())
+    }
+
+    /// Whether the codec stands at another `src` and `dst`.
+    pub fn stands_at(&self, src: &[u8], dst: &[u8]) -> bool {
+        let mut other = BytesMut::new(self.heap);
+        let _ = other.extend_from_slice(src);
+        self.codec.stands_at(&other, dst)
+    }
+
+    /// Whether `dst` was asked for room so often, and for so much at last. Targets that don't
+    /// count agree to all.
+    pub fn grew(&self, growths: u64, room: usize) -> bool {
+        match self.dst.growth() {
+            Some(counted) => counted == (growths, room),
+            None => true,
+        }
+    }
+}

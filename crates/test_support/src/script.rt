@@ -1,0 +1,184 @@
+//! The steps of a test as a table.
+
+use crate::fixture::{Fixture, Remembered, decoder_of, is_filled};
+use crate::targets::{Counting, Target};
+use crate::told::Told;
+use bytes::BytesMut;
+use mysql_wire::proto::codec::PacketCodec;
+use refusing::{NEVER, Refusing};
+use std::alloc::Global;
+use std::test::Fail;
+
+/// One thing that a test does, or one that it looks at.
+#[derive(Clone, Copy)]
+pub enum Step {
+    /// The codec is another one, as `default` makes it.
+    Fresh,
+    /// The limit of a packet becomes this one.
+    Limit(usize),
+    /// The sequence id becomes 0.
+    Reset,
+    /// `sync_seq_id` is called, which changes nothing.
+    Sync,
+    /// These bytes come in behind `src`.
+    Comes(&'static [u8]),
+    /// So many bytes `42` come in behind `src`.
+    ComesMany(usize),
+    /// `src` becomes these bytes.
+    Src(&'static [u8]),
+    /// `dst` becomes these bytes.
+    Dst(&'static [u8]),
+    /// `dst` becomes so many bytes `42`.
+    DstMany(usize),
+    /// The codec's next id becomes this one, counted from 0.
+    Id(u8),
+    /// The decoder of single chunks becomes the one that remembers this.
+    Remember(Remembered),
+    /// The request for memory of this number, counted from 0 at this step, is refused.
+    Refuse(u64),
+    /// What follows is for targets that count, which alone refuse puts.
+    Counting,
+    /// The put of this number into `dst`, counted from 0 at this step, is refused.
+    RefusePut(u64),
+    /// A packet is encoded behind `src`.
+    Encode(&'static [u8], Told),
+    /// A packet of so many bytes `42` is encoded behind `src`.
+    EncodeMany(usize, Told),
+    /// `decode` is called, and answers this.
+    Decode(Told),
+    /// A single chunk is decoded under this limit, and the answer is this.
+    Chunk(usize, Told),
+    /// `src` is these bytes.
+    Left(&'static [u8]),
+    /// `src` is so many bytes.
+    LeftMany(usize),
+    /// `dst` is these bytes.
+    Held(&'static [u8]),
+    /// `dst` is so many bytes `42`.
+    HeldMany(usize),
+    /// What the decoder of single chunks remembers.
+    Remembers(Remembered),
+    /// Whether the codec stands.
+    Stands(bool),
+    /// Whether the codec stands at another `src` and `dst`.
+    StandsAt(&'static [u8], &'static [u8], bool),
+    /// How often `dst` was asked for room, and for how much at last. Targets that don't count
+    /// skip this.
+    Grew(u64, usize),
+    /// So many requests for memory may still come before the one that is refused.
+    Unasked(u64),
+    /// Whether a request was refused.
+    Refused(bool),
+}
+
+// Each of these looks at the steps of one kind, and hands the others on.
+impl<T: Target> Fixture<'_, T> {
+    // Changes something.
+    fn changes(&mut self, step: Step) {
+        match step {
+            Step::Fresh => self.codec = PacketCodec::default(),
+            Step::Limit(limit) => self.codec.max_allowed_packet = limit,
+            Step::Reset => self.codec.reset_seq_id(),
+            Step::Id(id) => self.raise_to(id),
+            Step::Sync => self.codec.sync_seq_id(),
+            Step::Remember(remembered) => self.decoder = decoder_of(remembered),
+            Step::Refuse(nth) => self.heap.refuse(nth),
+            Step::RefusePut(nth) => self.dst.refuse_put(nth),
+            _ => {}
+        }
+    }
+
+    // Whether bytes came in.
+    fn comes(&mut self, step: Step) -> bool {
+        match step {
+            Step::Comes(bytes) => self.src.extend_from_slice(bytes).is_ok(),
+            Step::ComesMany(len) => self.comes_many(len),
+            Step::Src(bytes) => {
+                self.src.clear();
+                self.src.extend_from_slice(bytes).is_ok()
+            }
+            Step::Dst(bytes) => self.replace_dst(bytes),
+            Step::DstMany(len) => self.replace_dst_many(len),
+            other => {
+                self.changes(other);
+                true
+            }
+        }
+    }
+
+    // Whether the codec, the target or the allocator is as the step says.
+    fn is_so(&mut self, step: Step) -> bool {
+        match step {
+            Step::Remembers(remembered) => self.decoder == decoder_of(remembered),
+            Step::Stands(stands) => self.stands() == stands,
+            Step::StandsAt(src, dst, stands) => self.stands_at(src, dst) == stands,
+            Step::Grew(growths, room) => self.grew(growths, room),
+            Step::Unasked(requests) => self.heap.left() == requests,
+            Step::Refused(refused) => self.heap.has_refused() == refused,
+            other => self.comes(other),
+        }
+    }
+
+    // Whether the bytes stand there.
+    fn shows(&mut self, step: Step) -> bool {
+        match step {
+            Step::Left(bytes) => self.src.as_slice() == bytes,
+            Step::LeftMany(len) => self.src.len() == len,
+            Step::Held(bytes) => self.dst.as_ref() == bytes,
+            Step::HeldMany(len) => is_filled(self.dst.as_ref(), len),
+            other => self.is_so(other),
+        }
+    }
+
+    /// Whether this step goes as it says.
+    pub fn goes(&mut self, step: Step) -> bool {
+        match step {
+            Step::Encode(payload, told) => self.encode(payload) == told,
+            Step::EncodeMany(len, told) => self.encode_many(len) == told,
+            Step::Decode(told) => self.decode() == told,
+            Step::Chunk(limit, told) => self.decode_chunk(limit) == told,
+            other => self.shows(other),
+        }
+    }
+
+    /// Goes through these steps, and gives the number of the first that goes otherwise.
+    pub fn fault(&mut self, steps: &[Step]) -> Option<usize> {
+        let counts = self.dst.growth().is_some();
+        for (i, step) in steps.iter().enumerate() {
+            if matches!(step, Step::Counting) && !counts {
+                return None;
+            }
+            if !self.goes(*step) {
+                return Some(i);
+            }
+        }
+        None
+    }
+}
+
+/// What happens to a codec with empty buffers, under a name.
+#[derive(Clone, Copy)]
+pub struct Script {
+    pub name: &'static str,
+    pub steps: &'static [Step],
+}
+
+/// The number of the first of these steps that goes otherwise with some kind of target.
+pub fn first_fault(alloc: Global, steps: &[Step]) -> Option<usize> {
+    let heap = Refusing::new(alloc, NEVER);
+    let vec = Fixture::new(&heap, Vec::new(&heap)).fault(steps);
+    let bytes = Fixture::new(&heap, BytesMut::new(&heap)).fault(steps);
+    let counting = Fixture::new(&heap, Counting::new(&heap)).fault(steps);
+    vec.or(bytes).or(counting)
+}
+
+/// Goes through each script with each kind of target.
+pub fn play(alloc: Global, scripts: &[Script]) -> Result<(), Fail> {
+    for script in scripts {
+        let name = script.name;
+        if let Some(i) = first_fault(alloc, script.steps) {
+            return Err(Fail::new(format_args!("{name}: step {i} went otherwise")));
+        }
+    }
+    Ok(())
+}
