@@ -4,5 +4,6 @@
 pub mod callers;
 pub mod commands;
 pub mod connection;
+pub mod constant_calls;
 pub mod field_callers;
 pub mod own_fields;

@@ -2,6 +2,7 @@
 //! steps as a table, targets that count, a reference reading of streams, and streams from a seed.
 #![tactic(auto)]
 
+pub mod answers;
 pub mod case;
 pub mod facts;
 pub mod fixture;

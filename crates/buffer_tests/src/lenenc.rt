@@ -1,0 +1,274 @@
+// Numbers whose length is in their first byte, and texts behind their length: put into buffers, and
+// read from buffers.
+
+use crate::numbers::{Readers, Row, wrong_row};
+use bytes::{BufMut, BytesMut};
+use mysql_wire::io::{BufMutExt, ParseBuf, WriteMysqlExt};
+use mysql_wire::misc::{lenenc_int_len, lenenc_str_len};
+use std::alloc::Global;
+use test_support::answers::{Fault, told};
+use test_support::reference::between;
+
+// ---- length-encoded integers
+
+/// The readers of length-encoded integers. Of one that is cut short, the first byte is eaten.
+pub struct Lenenc;
+
+impl Readers for Lenenc {
+    type Number = u64;
+
+    fn checked(_: usize, buf: &mut ParseBuf<'_>) -> Option<u64> {
+        buf.checked_eat_lenenc_int()
+    }
+
+    fn plain(_: usize, buf: &mut ParseBuf<'_>) -> Option<u64> {
+        let mut same = *buf;
+        same.checked_eat_lenenc_int()?;
+        Some(buf.eat_lenenc_int())
+    }
+
+    fn left(len: usize) -> usize {
+        len.saturating_sub(1)
+    }
+}
+
+/// Numbers at the ends of the forms, each as it is written, and a byte behind it.
+pub const WRITTEN: &[Row<u64>] = &[
+    (1, b"\0\xfe", 0),
+    (1, b"\x01\xfe", 1),
+    (1, b"\x02\xfe", 2),
+    (1, b"\x05\xfe", 5),
+    (1, b"\xfa\xfe", 250),
+    (3, b"\xfc\xfb\0\xfe", 251),
+    (3, b"\xfc\xfc\0\xfe", 252),
+    (3, b"\xfc\xff\xff\xfe", 65535),
+    (4, b"\xfd\0\0\x01\xfe", 65536),
+    (4, b"\xfd\x01\0\x01\xfe", 65537),
+    (4, b"\xfd\xff\xff\xff\xfe", 16777215),
+    (9, b"\xfe\0\0\0\x01\0\0\0\0\xfe", 16777216),
+    (9, b"\xfe\x01\0\0\x01\0\0\0\0\xfe", 16777217),
+    (9, b"\xfe\0\0\0\0\0\x01\0\0\xfe", 1 << 40),
+    (9, b"\xfe\xfe\xff\xff\xff\xff\xff\xff\xff\xfe", u64::MAX - 1),
+    (9, b"\xfe\xff\xff\xff\xff\xff\xff\xff\xff\xfe", u64::MAX),
+];
+
+// The marks, which slices take as zero.
+const MARKS: &[Row<u64>] = &[(1, b"\xfb", 0), (1, b"\xfb\x01", 0), (1, b"\xff\x01", 0)];
+
+#[test]
+fn lenenc_ints_are_eaten(rt: HostRuntime) {
+    assert!(rt; wrong_row::<Lenenc>(WRITTEN) == None);
+    assert!(rt; wrong_row::<Lenenc>(MARKS) == None);
+}
+
+// Whether the row's number is put and written as its bytes, whose length is known beforehand.
+fn is_written(alloc: Global, row: &Row<'_, u64>) -> bool {
+    let (width, bytes, number) = *row;
+    let bytes = between(bytes, 0, width);
+    let mut vec = Vec::new(alloc);
+    let put = vec.put_lenenc_int(number).is_ok();
+    let mut room = BytesMut::new(alloc);
+    let put_too = room.put_lenenc_int(number).is_ok();
+    let mut out = Vec::new(alloc);
+    let written = told(out.write_lenenc_int(number));
+    let mut all = put & put_too & (written == Ok(width as u64));
+    all &= vec.as_slice() == bytes;
+    all &= room.as_slice() == bytes;
+    all &= out.as_slice() == bytes;
+    all & (lenenc_int_len(number) == width as u64)
+}
+
+#[test]
+fn lenenc_ints_are_written(rt: HostRuntime) {
+    let mut all = true;
+    for row in WRITTEN {
+        all &= is_written(rt.alloc(), row);
+    }
+    assert!(rt; all);
+}
+
+// ---- numbers of a fixed width, and texts
+
+#[test]
+fn low_bytes_are_put(rt: HostRuntime) {
+    let mut buf = Vec::new(rt.alloc());
+    let put = [
+        buf.put_u24_le(0x01020304).is_ok(),
+        buf.put_i24_le(8388608).is_ok(),
+        buf.put_i24_le(-2).is_ok(),
+        buf.put_u48_le(1).is_ok(),
+        buf.put_u56_le(1).is_ok(),
+        buf.put_i56_le(-2).is_ok(),
+    ];
+    let bytes = b"\x04\x03\x02\
+        \0\0\x80\
+        \xfe\xff\xff\
+        \x01\0\0\0\0\0\
+        \x01\0\0\0\0\0\0\
+        \xfe\xff\xff\xff\xff\xff\xff";
+    assert!(rt; put == [true; 6]);
+    assert!(rt; buf.as_slice() == bytes.as_slice());
+}
+
+#[test]
+fn texts_are_put_behind_their_length(rt: HostRuntime) {
+    let mut buf = Vec::new(rt.alloc());
+    let put = [
+        buf.put_lenenc_str(b"a").is_ok(),
+        buf.put_u8_str(b"b").is_ok(),
+        buf.put_u32_str(b"c").is_ok(),
+        buf.put_u8_str(&[b'd'; 256]).is_ok(),
+    ];
+    assert!(rt; put == [true; 4]);
+    let text = buf.as_slice();
+    assert!(rt; between(text, 0, 10) == b"\x01a\x01b\x01\0\0\0c\xff".as_slice());
+    assert!(rt; between(text, 10, usize::MAX) == [b'd'; 255].as_slice());
+}
+
+// What the length of a text is.
+#[derive(Clone, Copy)]
+enum Length {
+    Lenenc,
+    OneByte,
+    FourBytes,
+}
+
+impl Length {
+    // The form that says where bytes are missing.
+    fn checked<'a>(self, buf: &mut ParseBuf<'a>) -> Option<&'a [u8]> {
+        match self {
+            Length::Lenenc => buf.checked_eat_lenenc_str(),
+            Length::OneByte => buf.checked_eat_u8_str(),
+            Length::FourBytes => buf.checked_eat_u32_str(),
+        }
+    }
+}
+
+// The forms that want the text to be there, where it is.
+fn eat_lenenc<'a>(buf: &mut ParseBuf<'a>) -> Option<&'a [u8]> {
+    let mut same = *buf;
+    same.checked_eat_lenenc_str()?;
+    Some(buf.eat_lenenc_str())
+}
+
+fn eat_u8<'a>(buf: &mut ParseBuf<'a>) -> Option<&'a [u8]> {
+    let mut same = *buf;
+    same.checked_eat_u8_str()?;
+    Some(buf.eat_u8_str())
+}
+
+fn eat_u32<'a>(buf: &mut ParseBuf<'a>) -> Option<&'a [u8]> {
+    let mut same = *buf;
+    same.checked_eat_u32_str()?;
+    Some(buf.eat_u32_str())
+}
+
+// An input, the text that it begins with, and what is left.
+type Eaten<'a> = (Length, &'a [u8], Option<&'a [u8]>, &'a [u8]);
+
+const EATEN: &[Eaten] = &[
+    (Length::Lenenc, b"\x02abc", Some(b"ab"), b"c"),
+    (Length::OneByte, b"\x01de", Some(b"d"), b"e"),
+    (Length::FourBytes, b"\x01\0\0\0fg", Some(b"f"), b"g"),
+    (Length::Lenenc, b"\x03ab", None, b"ab"),
+    (
+        Length::Lenenc,
+        b"\xfe\xff\xff\xff\xff\xff\xff\xff\xffa",
+        None,
+        b"a",
+    ),
+    (Length::OneByte, b"\x03ab", None, b"ab"),
+    (Length::FourBytes, b"\x03\0\0\0ab", None, b"ab"),
+    (Length::FourBytes, b"\x03\0\0", None, b"\x03\0\0"),
+];
+
+// Whether both forms eat the text.
+fn is_eaten(row: &Eaten) -> bool {
+    let (length, input, text, left) = *row;
+    let mut buf = ParseBuf(input);
+    let mut same = buf;
+    let plain = match length {
+        Length::Lenenc => eat_lenenc(&mut same),
+        Length::OneByte => eat_u8(&mut same),
+        Length::FourBytes => eat_u32(&mut same),
+    };
+    let wanted = if text.is_some() { left } else { input };
+    let checked = length.checked(&mut buf);
+    let texts = (checked == text) & (plain == text);
+    texts & (buf.0 == left) & (same.0 == wanted)
+}
+
+#[test]
+fn texts_are_eaten(rt: HostRuntime) {
+    let mut all = true;
+    for row in EATEN {
+        all &= is_eaten(row);
+    }
+    assert!(rt; all);
+}
+
+// ---- bounded buffers
+
+// What a put of a text into so much room answers, and what it leaves.
+fn put_text(alloc: Global, text: &[u8], room: usize) -> (Result<(), Fault>, Vec<u8>) {
+    let mut buf = Vec::new(alloc).limit(room);
+    let put = told(buf.put_lenenc_str(text));
+    (put, buf.into_inner())
+}
+
+fn put_number(alloc: Global, number: u64, room: usize) -> (Result<(), Fault>, Vec<u8>) {
+    let mut buf = Vec::new(alloc).limit(room);
+    let put = told(buf.put_lenenc_int(number));
+    (put, buf.into_inner())
+}
+
+// Whether a put leaves all that it writes where there is room for that, and else its length, where
+// there is room for that, and else nothing.
+fn is_left(put: &Result<(), Fault>, left: &[u8], room: usize, front: usize, whole: &[u8]) -> bool {
+    let (wanted, len) = if room >= whole.len() {
+        (Ok(()), whole.len())
+    } else if room >= front {
+        (Err(Fault::OutOfMemory), front)
+    } else {
+        (Err(Fault::OutOfMemory), 0)
+    };
+    *put == wanted && left == between(whole, 0, len)
+}
+
+#[test]
+fn texts_in_too_little_room(rt: HostRuntime) {
+    let bytes = [b'a'; 300];
+    let mut all = true;
+    for len in [0usize, 1, 3, 250, 251, 300] {
+        let text = &bytes[..len];
+        let (_, whole) = put_text(rt.alloc(), text, usize::MAX);
+        let front = whole.len().saturating_sub(len);
+        all &= lenenc_int_len(len as u64) == front as u64;
+        all &= lenenc_str_len(text) == whole.len() as u64;
+        for room in 0..len + 5 {
+            let (put, left) = put_text(rt.alloc(), text, room);
+            all &= is_left(&put, left.as_slice(), room, front, whole.as_slice());
+        }
+    }
+    assert!(rt; all);
+}
+
+#[test]
+fn the_length_of_a_refused_text_is_left(rt: HostRuntime) {
+    let (put, left) = put_text(rt.alloc(), b"abc", 2);
+    assert!(rt; put == Err(Fault::OutOfMemory));
+    assert!(rt; left.as_slice() == b"\x03".as_slice());
+}
+
+#[test]
+fn numbers_in_too_little_room(rt: HostRuntime) {
+    let mut all = true;
+    for (width, bytes, number) in WRITTEN {
+        let whole = between(*bytes, 0, *width);
+        for room in 0..11usize {
+            let (put, left) = put_number(rt.alloc(), *number, room);
+            all &= is_left(&put, left.as_slice(), room, *width, whole);
+        }
+    }
+    assert!(rt; all);
+}

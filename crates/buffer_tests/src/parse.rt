@@ -1,0 +1,239 @@
+// The buffer that is read from its front, the values that are read from it, and the errors.
+
+ghost use Rattle.std.specs.Prelude.{◌≡◌, take, Ok, IfErr};
+
+use mysql_wire::io::{InvalidLengthEncodedInteger, InvalidReason, ParseBuf, WireError};
+use mysql_wire::proto::{Binary, Fixed, MyDeserialize, Text};
+use refusing::Refusing;
+use std::alloc::{Allocator, Global};
+use std::fmt::Debug;
+use std::hash::Hash;
+use std::io::{self, Read};
+use test_support::answers::{Fault, shows, told};
+use test_support::reference::between;
+
+#[test]
+fn checked_slices_are_the_eaten_part(rt: HostRuntime) {
+    let mut buf = ParseBuf(b"abcdefgh");
+    let eaten = [
+        buf.checked_eat(0),
+        buf.checked_eat(3),
+        buf.checked_eat(6),
+        buf.checked_eat_buf(6).map(|eaten| eaten.0),
+        buf.checked_eat_buf(1).map(|eaten| eaten.0),
+    ];
+    assert!(rt; eaten == [Some(b"".as_slice()), Some(b"abc"), None, None, Some(b"d")]);
+    let skipped = [buf.checked_skip(5), buf.checked_skip(1)];
+    assert!(rt; skipped == [false, true]);
+    assert!(rt; buf.0 == b"fgh".as_slice());
+}
+
+#[test]
+fn slices_are_the_eaten_part(rt: HostRuntime) {
+    let mut buf = ParseBuf(b"abcdef");
+    let lens = [buf.len(), buf.eat(1).len(), buf.len()];
+    assert!(rt; lens == [6, 1, 5]);
+    let eaten = [buf.eat(1), buf.eat_buf(1).0];
+    buf.skip(1);
+    let rest = [buf.eat_all(), buf.eat_all()];
+    assert!(rt; eaten == [b"b".as_slice(), b"c"]);
+    assert!(rt; rest == [b"ef".as_slice(), b""]);
+    assert!(rt; buf.is_empty());
+    assert!(rt; !ParseBuf(b"a").is_empty());
+}
+
+// Whether this text is eaten up to its zero, and this is left.
+fn eats_null_str(input: &[u8], text: &[u8], left: &[u8]) -> bool {
+    let mut buf = ParseBuf(input);
+    buf.eat_null_str() == text && buf.0 == left
+}
+
+#[test]
+fn null_str_ends_at_a_zero(rt: HostRuntime) {
+    assert!(rt; eats_null_str(b"a\0b", b"a", b"b"));
+    assert!(rt; eats_null_str(b"b", b"b", b""));
+    assert!(rt; eats_null_str(b"", b"", b""));
+    assert!(rt; eats_null_str(b"\0", b"", b""));
+}
+
+// A text of each length up to 300, with a zero at each place, and with none.
+#[test]
+fn the_zero_of_a_null_str_is_found(rt: HostRuntime) {
+    let mut all = true;
+    for len in 0..301usize {
+        let mut bytes = [b'a'; 300];
+        for zero in 0..len {
+            bytes[zero] = 0;
+            let text = between(&bytes, 0, zero);
+            all &= eats_null_str(&bytes[..len], text, between(&bytes, zero + 1, len));
+            bytes[zero] = b'a';
+        }
+        all &= eats_null_str(&bytes[..len], &bytes[..len], b"");
+    }
+    assert!(rt; all);
+}
+
+#[test]
+fn read_gives_what_fits(rt: HostRuntime) {
+    let mut buf = ParseBuf(b"abc");
+    let mut front = [0; 2];
+    let mut all = true;
+    for (count, wanted, left) in [(2usize, *b"ab", 1usize), (1, *b"cb", 0), (0, *b"cb", 0)] {
+        all &= matches!(buf.read(&mut front), Ok(read) if read == count);
+        all &= front == wanted;
+        all &= buf.len() == left;
+    }
+    assert!(rt; all);
+}
+
+// Asks for four bytes and looks at two.
+#[derive(Clone, Copy, Debug, PartialEq)]
+struct Hasty(u16);
+
+impl<'de, A: Allocator + Copy> MyDeserialize<'de, A> for Hasty {
+    ghost use Rattle.mysql_wire.specs.Numbers.{le_number};
+    ghost use Rattle.mysql_wire.specs.Reading.{Wraps};
+
+    const SIZE: Option<usize> = Some(4);
+
+    type Size = Fixed<4>;
+
+    type Ctx = ();
+
+    ghost reads = { λ _ input. Wraps (λ hasty. hasty.0) (Ok (le_number (take 2 input)), 2) };
+
+    fn deserialize(_: A, _: (), buf: &mut ParseBuf<'de>) -> Result<Self, WireError> {
+        Ok(Hasty(buf.eat_u16_le()))
+    }
+}
+
+// Asks for four bytes and refuses them all, unseen.
+#[derive(Clone, Copy, Debug, PartialEq)]
+struct Refused;
+
+impl<'de, A: Allocator + Copy> MyDeserialize<'de, A> for Refused {
+    ghost use Rattle.mysql_wire.specs.Reading.{Answers};
+    ghost use Rattle.mysql_wire.specs.WireError.TheVariants.{InvalidData};
+
+    const SIZE: Option<usize> = Some(4);
+
+    type Size = Fixed<4>;
+
+    type Ctx = ();
+
+    ghost reads = { λ _ _ answer eaten. IfErr answer (λ _. eaten ≡ 0) };
+
+    fn deserialize(_: A, _: (), _: &mut ParseBuf<'de>) -> Result<Self, WireError> {
+        Err(WireError::InvalidData(InvalidReason::UnknownValue))
+    }
+}
+
+// Whether `parse` answers this, and leaves this of the input.
+fn parses<'de, T: PartialEq + MyDeserialize<'de, Global>>(
+    alloc: Global,
+    ctx: T::Ctx,
+    input: &'de [u8],
+    wanted: Result<T, Fault>,
+    left: &[u8],
+) -> bool {
+    let mut buf = ParseBuf(input);
+    told(buf.parse::<T>(alloc, ctx)) == wanted && buf.0 == left
+}
+
+// What is looked at is two bytes, and what is eaten is the size, where it is there.
+#[test]
+fn parse_eats_the_size(rt: HostRuntime) {
+    let alloc = rt.alloc();
+    let refused = Fault::Invalid(InvalidReason::UnknownValue);
+    let bytes = b"\x01\x02\x03\x04\x05".as_slice();
+    assert!(rt; parses::<Hasty>(alloc, (), bytes, Ok(Hasty(0x0201)), b"\x05"));
+    assert!(rt; parses::<Hasty>(alloc, (), b"abc", Err(Fault::UnexpectedEof), b"abc"));
+    assert!(rt; parses::<Refused>(alloc, (), bytes, Err(refused), b"\x05"));
+}
+
+#[test]
+fn parse_unchecked_eats_what_is_looked_at(rt: HostRuntime) {
+    let mut buf = ParseBuf(b"\x01\x02\x03\x04\x05");
+    let read = told(buf.parse_unchecked::<Hasty>(rt.alloc(), ()));
+    assert!(rt; read == Ok(Hasty(0x0201)));
+    assert!(rt; buf.len() == 3);
+}
+
+#[test]
+fn buffers_and_arrays_are_read(rt: HostRuntime) {
+    let alloc = rt.alloc();
+    let eof = Fault::UnexpectedEof;
+    assert!(rt; parses(alloc, 2, b"abc", Ok(ParseBuf(b"ab")), b"c"));
+    assert!(rt; parses::<ParseBuf<'_>>(alloc, 2, b"a", Err(eof), b"a"));
+    assert!(rt; parses(alloc, (), b"abcd", Ok(*b"abc"), b"d"));
+    assert!(rt; parses::<[u8; 3]>(alloc, (), b"ab", Err(eof), b"ab"));
+}
+
+// Whether a value is read with this memory.
+fn is_read<'de, T, A>(alloc: A, ctx: T::Ctx, input: &'de [u8]) -> bool
+where
+    A: Allocator + Copy,
+    T: MyDeserialize<'de, A>,
+{
+    ParseBuf(input).parse_in::<T, A>(alloc, ctx).is_ok()
+}
+
+#[test]
+fn parse_asks_for_no_memory(rt: HostRuntime) {
+    let heap = Refusing::new(rt.alloc(), 0);
+    assert!(rt; is_read::<ParseBuf<'_>, _>(&heap, 2, b"ab"));
+    assert!(rt; is_read::<[u8; 3], _>(&heap, (), b"abc"));
+    assert!(rt; is_read::<Hasty, _>(&heap, (), b"abcd"));
+    assert!(rt; heap.left() == 0);
+}
+
+// Copied and compared.
+fn is_value<T: Copy + Eq + Hash + Debug>(marker: T) -> bool {
+    let copy = marker;
+    copy == marker
+}
+
+#[test]
+fn markers_are_values(rt: HostRuntime) {
+    assert!(rt; is_value(Text));
+    assert!(rt; is_value(Binary));
+}
+
+// Whether the reason is shown as this text, by itself and in an error.
+fn shows_reason(alloc: Global, reason: InvalidReason, text: &str) -> bool {
+    shows(alloc, reason, text) && shows(alloc, WireError::InvalidData(reason), text)
+}
+
+#[test]
+fn errors_show_their_texts(rt: HostRuntime) {
+    let alloc = rt.alloc();
+    let eof = "can't parse: buf doesn't have enough data";
+    let lenenc = "Invalid length-encoded integer value (starts with 0xfb|0xff)";
+    let shown = [
+        shows(alloc, WireError::UnexpectedEof, eof),
+        shows(alloc, WireError::Other(InvalidLengthEncodedInteger), lenenc),
+        shows(
+            alloc,
+            WireError::Io(io::Error::other("it broke")),
+            "it broke",
+        ),
+        shows(alloc, WireError::OutOfMemory, "Out of memory"),
+    ];
+    assert!(rt; shown == [true; 4]);
+}
+
+#[test]
+fn reasons_show_their_texts(rt: HostRuntime) {
+    let alloc = rt.alloc();
+    let no_zero = "no null terminator for null-terminated string";
+    let too_large = "invalid variable-length value (> u32::MAX)";
+    let too_long = "invalid variable-length value (more than 5 bytes)";
+    let shown = [
+        shows_reason(alloc, InvalidReason::UnknownValue, "unknown value"),
+        shows_reason(alloc, InvalidReason::ConstMismatch, "constant mismatch"),
+        shows_reason(alloc, InvalidReason::NoNullTerminator, no_zero),
+        shows_reason(alloc, InvalidReason::VarLenTooLarge, too_large),
+        shows_reason(alloc, InvalidReason::VarLenTooLong, too_long),
+    ];
+    assert!(rt; shown == [true; 5]);
+}

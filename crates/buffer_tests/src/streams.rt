@@ -1,0 +1,219 @@
+// Numbers and texts over readers and writers.
+
+use crate::lenenc::{Lenenc, WRITTEN};
+use crate::numbers::{self, Row};
+use linked_list_allocator::LocalHeap;
+use mysql_wire::io::{BufMutExt, ReadMysqlExt, WriteMysqlExt};
+use mysql_wire::misc::lenenc_str_len;
+use std::alloc::Global;
+use std::io::{self, Read, Write};
+use std::test::Fail;
+use test_support::answers::{Fault, told};
+use test_support::reference::between;
+
+// Gives at most 100 bytes a read, and fails at the read of this number.
+#[derive(Drop)]
+struct FailingReader<'a> {
+    bytes: &'a [u8],
+    reads_left: u64,
+}
+
+impl Read for FailingReader<'_> {
+    fn read(&mut self, buf: &mut [u8]) -> io::Result<usize> {
+        if self.reads_left == 0 {
+            return Err(io::Error::other("no more reads"));
+        }
+        self.reads_left -= 1;
+        let room = buf.len().min(100);
+        self.bytes.read(&mut buf[..room])
+    }
+}
+
+// Takes at most 100 bytes a write, and fails at the write of this number.
+#[derive(Drop)]
+struct FailingWriter {
+    bytes: Vec<u8>,
+    writes_left: u64,
+}
+
+impl Write for FailingWriter {
+    fn write(&mut self, buf: &[u8]) -> io::Result<usize> {
+        if self.writes_left == 0 {
+            return Err(io::Error::other("no more writes"));
+        }
+        self.writes_left -= 1;
+        let room = buf.len().min(100);
+        self.bytes.write(&buf[..room])
+    }
+
+    fn flush(&mut self) -> io::Result<()> {
+        Ok(())
+    }
+}
+
+// ---- numbers
+
+// Whether a stream that begins so gives this number, and is left with so many bytes.
+fn gives(bytes: &[u8], wanted: Result<u64, Fault>, left: usize) -> bool {
+    let mut reader = bytes;
+    let read = told(reader.read_lenenc_int());
+    (read == wanted) & (reader.len() == left)
+}
+
+// Whether the row's number is read, whatever follows, and an end of input from fewer bytes.
+fn is_read(row: &Row<'_, u64>) -> bool {
+    let (width, bytes, number) = *row;
+    let mut all = gives(bytes, Ok(number), bytes.len().saturating_sub(width));
+    for len in 0..width {
+        let mut reader = between(bytes, 0, len);
+        all &= told(reader.read_lenenc_int()) == Err(Fault::Io);
+    }
+    all
+}
+
+#[test]
+fn lenenc_ints_are_read(rt: HostRuntime) {
+    let mut all = true;
+    for row in WRITTEN {
+        all &= is_read(row);
+    }
+    assert!(rt; all);
+}
+
+// Whether a number is read from a spelling of a first byte and so many bytes behind it.
+fn is_spelled(first: u8, behind: usize, number: u64) -> bool {
+    let mut bytes = [0; 10];
+    bytes[0] = first;
+    bytes[1..9].copy_from_slice(&number.to_le_bytes());
+    let width = behind.min(8) + 1;
+    let row = (width, &bytes[..width + 1], number);
+    is_read(&row) & numbers::is_read::<Lenenc>(&row)
+}
+
+// Slices take longer spellings too.
+#[test]
+fn overlong_lenenc_ints_are_read(rt: HostRuntime) {
+    let mut all = true;
+    for number in 0..300u64 {
+        for (first, behind) in [(0xfc, 2usize), (0xfd, 3), (0xfe, 8)] {
+            all &= is_spelled(first, behind, number);
+        }
+    }
+    assert!(rt; all);
+}
+
+// ---- texts
+
+// Whether a stream answers so where a text is wanted.
+fn refuses(alloc: Global, bytes: &[u8], fault: Fault) -> bool {
+    let mut reader = bytes;
+    matches!(told(reader.read_lenenc_str(alloc)), Err(why) if why == fault)
+}
+
+#[test]
+fn marks_are_refused(rt: HostRuntime) {
+    let mut all = true;
+    for bytes in [b"\xfb\x01", b"\xff\x01"] {
+        all &= gives(bytes, Err(Fault::NoInteger), 1);
+        all &= refuses(rt.alloc(), bytes, Fault::NoInteger);
+    }
+    assert!(rt; all);
+}
+
+// Whether a text is read from its spelling, and nothing is left.
+fn reads_back(alloc: Global, spelling: &[u8], text: &[u8]) -> bool {
+    let mut reader = spelling;
+    match told(reader.read_lenenc_str(alloc)) {
+        Ok(read) => (read.as_slice() == text) & reader.is_empty(),
+        Err(_) => false,
+    }
+}
+
+// Whether a text is written as it is put, and read back.
+fn comes_back(alloc: Global, text: &[u8]) -> bool {
+    let mut put = Vec::new(alloc);
+    let mut all = put.put_lenenc_str(text).is_ok();
+    let mut out = Vec::new(alloc);
+    let written = told(out.write_lenenc_str(text));
+    all &= written == Ok(lenenc_str_len(text));
+    all &= out.len() as u64 == lenenc_str_len(text);
+    all &= out == put;
+    all & reads_back(alloc, out.as_slice(), text)
+}
+
+// Of a long text the room is asked for piece by piece.
+#[test]
+fn texts_are_written_and_read(rt: HostRuntime) {
+    assert!(rt; comes_back(rt.alloc(), b""));
+    assert!(rt; comes_back(rt.alloc(), &[b'a'; 251]));
+    assert!(rt; comes_back(rt.alloc(), &[b'a'; 100_000]));
+}
+
+#[test]
+fn a_writer_fails_at_each_write(rt: HostRuntime) {
+    let text = [b'a'; 300];
+    let mut all = true;
+    for writes in 0..5u64 {
+        let mut writer = FailingWriter {
+            bytes: Vec::new(rt.alloc()),
+            writes_left: writes,
+        };
+        let written = told(writer.write_lenenc_str(&text));
+        let wanted = if writes < 4 { Err(Fault::Io) } else { Ok(303) };
+        all &= written == wanted;
+        all &= writes < 4 || writer.bytes.len() == 303;
+    }
+    assert!(rt; all);
+}
+
+// The spelling of a text of 300 bytes.
+fn spelling(alloc: Global) -> Vec<u8> {
+    let mut bytes = Vec::new(alloc);
+    let _ = bytes.put_lenenc_str(&[b'a'; 300]);
+    bytes
+}
+
+#[test]
+fn a_reader_fails_at_each_read(rt: HostRuntime) {
+    let bytes = spelling(rt.alloc());
+    let mut all = true;
+    for reads in 0..6u64 {
+        let mut reader = FailingReader {
+            bytes: bytes.as_slice(),
+            reads_left: reads,
+        };
+        all &= match told(reader.read_lenenc_str(rt.alloc())) {
+            Ok(text) => (reads == 5) & (text.as_slice() == [b'a'; 300].as_slice()),
+            Err(why) => (reads < 5) & (why == Fault::Io),
+        };
+    }
+    assert!(rt; all);
+}
+
+#[test]
+fn a_text_ends_at_each_byte(rt: HostRuntime) {
+    let bytes = spelling(rt.alloc());
+    let mut all = true;
+    for len in 0..bytes.len() {
+        all &= refuses(rt.alloc(), between(bytes.as_slice(), 0, len), Fault::Io);
+    }
+    assert!(rt; all);
+}
+
+// Whatever length is declared, 64 KiB of memory are enough to find where the input ends.
+#[test]
+fn a_hostile_length_takes_little_memory(rt: HostRuntime) -> Result<(), Fail> {
+    let heap = LocalHeap::new(rt.alloc(), 65536)?;
+    let rows: [&[u8]; 2] = [
+        b"\xfe\0\0\0\0\x01\0\0\0abc",
+        b"\xfe\xff\xff\xff\xff\xff\xff\xff\xffa",
+    ];
+    let mut all = true;
+    for bytes in rows {
+        let mut reader = bytes;
+        let read = told(reader.read_lenenc_str(&heap));
+        all &= matches!(read, Err(Fault::Io));
+    }
+    assert!(rt; all);
+    Ok(())
+}

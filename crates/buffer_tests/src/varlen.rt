@@ -1,0 +1,112 @@
+// Integers of the serialization library.
+
+use crate::numbers::Row;
+use mysql_wire::io::ParseBuf;
+use mysql_wire::misc::{read_varlen_uint, varlen_uint_size, write_varlen_uint};
+use std::alloc::Global;
+use test_support::answers::{Fault, told};
+use test_support::reference::between;
+
+// Whether the row's number is read, whatever follows, and from fewer bytes none is, and none is
+// eaten.
+fn is_read(row: &Row<'_, u64>) -> bool {
+    let (width, bytes, number) = *row;
+    let mut all = width <= bytes.len();
+    for len in 0..bytes.len() + 1 {
+        let mut buf = ParseBuf(between(bytes, 0, len));
+        let read = told(read_varlen_uint(&mut buf));
+        let wanted = if len < width {
+            (Err(Fault::UnexpectedEof), len)
+        } else {
+            (Ok(number), len - width)
+        };
+        all &= (read, buf.len()) == wanted;
+    }
+    all
+}
+
+// Whether the row's number is written as its bytes.
+fn is_written(alloc: Global, row: &Row<'_, u64>) -> bool {
+    let (width, bytes, number) = *row;
+    let mut buf = Vec::new(alloc);
+    let written = write_varlen_uint(&mut buf, number).is_ok();
+    let is_right = buf.as_slice() == between(bytes, 0, width);
+    written & is_right & (varlen_uint_size(number) == width)
+}
+
+const WRITTEN: &[Row<u64>] = &[
+    (1, b"\0", 0),
+    (1, b"\x0a", 5),
+    (1, b"\xfe", 127),
+    (2, b"\x01\x02", 128),
+    (2, b"\xfd\xff", 16383),
+    (3, b"\x03\0\x02", 16384),
+    (8, b"\x7f\xff\xff\xff\xff\xff\xff\xff", (1 << 56) - 1),
+    (9, b"\xff\0\0\0\0\0\0\0\x01", 1 << 56),
+];
+
+const LONGER: &[Row<u64>] = &[
+    (2, b"\x15\0", 5),
+    (9, b"\xff\x05\0\0\0\0\0\0\0", 5),
+    (2, b"\x01\0", 0),
+];
+
+#[test]
+fn varlen_uints_are_written_and_read(rt: HostRuntime) {
+    let mut all = true;
+    for row in WRITTEN {
+        all &= is_written(rt.alloc(), row);
+        all &= is_read(row);
+    }
+    for row in LONGER {
+        all &= is_read(row);
+    }
+    assert!(rt; all);
+}
+
+// Whether a number is read back from what is written, whatever follows, and from nothing shorter.
+fn comes_back(alloc: Global, number: u64) -> bool {
+    let mut buf = Vec::new(alloc);
+    let written = write_varlen_uint(&mut buf, number).is_ok();
+    let width = buf.len();
+    let and_more = buf.push(0xff).is_ok();
+    let row = (width, buf.as_slice(), number);
+    written & and_more & (varlen_uint_size(number) == width) & is_read(&row)
+}
+
+#[test]
+fn varlen_uints_come_back(rt: HostRuntime) {
+    let mut all = comes_back(rt.alloc(), u64::MAX);
+    for groups in 0..9u32 {
+        let edge = 1u64 << (7 * groups);
+        for number in [edge - 1, edge, edge + 1] {
+            all &= comes_back(rt.alloc(), number);
+        }
+    }
+    assert!(rt; all);
+}
+
+// The number behind a mark of so many bytes, by multiplication.
+fn overlong(size: u32, number: u64) -> u128 {
+    if size > 8 {
+        return (number as u128).wrapping_mul(256).wrapping_add(255);
+    }
+    let mark = 1u128 << size.saturating_sub(1);
+    (number as u128)
+        .wrapping_mul(1 << size)
+        .wrapping_add(mark)
+        .wrapping_sub(1)
+}
+
+#[test]
+fn overlong_varlen_uints_are_read(rt: HostRuntime) {
+    let mut all = true;
+    for number in 0..128u64 {
+        for size in 1..10u32 {
+            let bytes = overlong(size, number).to_le_bytes();
+            let width = size as usize;
+            all &= is_read(&(width, &bytes[..width], number));
+        }
+    }
+    assert!(rt; all);
+}

@@ -1,0 +1,207 @@
+//! A value of any type that is a field of packets: how it is written and read back, and what is
+//! left where its end is missing or memory is refused.
+
+use mysql_wire::io::ParseBuf;
+use mysql_wire::proto::{MyDeserialize, MySerialize, ReadSize};
+use refusing::NEVER;
+use std::alloc::{AllocError, Allocator, Global};
+use test_support::answers::{Fault, told};
+use test_support::fixture::Heap;
+use test_support::reference::between;
+
+/// What follows a value in most inputs.
+pub const MORE: &[u8] = b"\xff\x80\0";
+
+// No value asks for memory so often.
+const MOST: u64 = 100;
+
+/// The last bytes, so many.
+pub fn last(bytes: &[u8], count: usize) -> &[u8] {
+    between(bytes, bytes.len().saturating_sub(count), bytes.len())
+}
+
+/// Bytes one after another.
+pub fn joined<'h>(heap: &'h Heap, parts: &[&[u8]]) -> Result<Vec<u8, &'h Heap>, AllocError> {
+    heap.refuse(NEVER);
+    let mut bytes = Vec::new(heap);
+    for part in parts {
+        bytes.extend_from_slice(*part)?;
+    }
+    Ok(bytes)
+}
+
+/// Whether `SIZE` is this, and `Size` says the same.
+pub fn has_size<'de, T: MyDeserialize<'de, Global>>(size: Option<usize>) -> bool {
+    (T::SIZE == size) & (<T::Size as ReadSize>::SIZE == size)
+}
+
+// ---- writing
+
+// A buffer with no room, which holds the byte `aa`.
+fn full(heap: &Heap) -> Option<Vec<u8, &Heap>> {
+    heap.refuse(NEVER);
+    let mut buf = Vec::with_capacity(heap, 1).ok()?;
+    buf.push(0xaa).ok()?;
+    Some(buf)
+}
+
+// Whether these bytes stand behind the byte that was there.
+fn is_behind(buf: &[u8], bytes: &[u8]) -> bool {
+    match buf {
+        [first, rest @ ..] => (*first == 0xaa) & (rest == bytes),
+        [] => false,
+    }
+}
+
+// Whether a value is refused where request number `nth` is. None where something else is written
+// than these bytes, by the first call or, where that is refused, by the next.
+fn is_refused<T: MySerialize>(heap: &Heap, value: &T, bytes: &[u8], nth: u64) -> Option<bool> {
+    let mut buf = full(heap)?;
+    heap.refuse(nth);
+    let answer = told(value.serialize(&mut buf));
+    if !heap.has_refused() {
+        let is_right = (answer == Ok(())) & is_behind(buf.as_slice(), bytes);
+        return is_right.then_some(false);
+    }
+    let mut all = answer == Err(Fault::OutOfMemory);
+    all &= is_behind(buf.as_slice(), b"");
+    all &= value.serialize(&mut buf).is_ok();
+    all &= is_behind(buf.as_slice(), bytes);
+    all.then_some(true)
+}
+
+/// How many requests for memory were refused, each in turn, before a value was written as these
+/// bytes. None where a refused call leaves something, or something else is written.
+pub fn refusals<T: MySerialize>(heap: &Heap, value: &T, bytes: &[u8]) -> Option<u64> {
+    for nth in 0..MOST {
+        if !is_refused(heap, value, bytes, nth)? {
+            return Some(nth);
+        }
+    }
+    None
+}
+
+/// Whether a value is written as these bytes, whichever request for memory is refused. No bytes ask
+/// for none.
+pub fn is_written<T: MySerialize>(heap: &Heap, value: &T, bytes: &[u8]) -> bool {
+    match refusals(heap, value, bytes) {
+        Some(count) => (count == 0) == bytes.is_empty(),
+        None => false,
+    }
+}
+
+// ---- reading
+
+/// How many bytes are eaten of a number whose end is missing.
+#[derive(Clone, Copy)]
+pub enum Eaten {
+    Nothing,
+    First,
+    All,
+}
+
+impl Eaten {
+    // So many are left of these.
+    fn left_of(self, there: usize) -> usize {
+        match self {
+            Eaten::Nothing => there,
+            Eaten::First => there.saturating_sub(1),
+            Eaten::All => 0,
+        }
+    }
+}
+
+/// What is answered where the end of a value is missing, and what is eaten.
+#[derive(Clone, Copy)]
+pub struct Short {
+    pub fault: Fault,
+    /// What is eaten of a front that isn't there whole.
+    pub eaten: Eaten,
+    /// How many bytes the front has, which is eaten where it is there.
+    pub front: usize,
+}
+
+impl Short {
+    /// The input ends early, and this is eaten.
+    pub fn eats(eaten: Eaten) -> Short {
+        Short {
+            fault: Fault::UnexpectedEof,
+            eaten,
+            front: usize::MAX,
+        }
+    }
+
+    // So many bytes are left of these.
+    fn left_of(self, there: usize) -> usize {
+        if there < self.front {
+            self.eaten.left_of(there)
+        } else {
+            there - self.front
+        }
+    }
+}
+
+/// The allocator, which refuses the next request: that of a reader that takes memory.
+pub fn starved(heap: &Heap) -> &Heap {
+    heap.refuse(0);
+    heap
+}
+
+/// Whether this value is read, and so many bytes are left.
+pub fn gives<'de, T, C, A>(alloc: A, ctx: C, input: &'de [u8], wanted: &T, left: usize) -> bool
+where
+    A: Allocator + Copy,
+    T: PartialEq + MyDeserialize<'de, A, Ctx = C>,
+{
+    let mut buf = ParseBuf(input);
+    let is_wanted = match buf.parse_in::<T, A>(alloc, ctx) {
+        Ok(value) => value == *wanted,
+        Err(_) => false,
+    };
+    is_wanted & (buf.0 == last(input, left))
+}
+
+/// Whether no value is read for this reason, and so many bytes are left.
+pub fn stops<'de, T, C, A>(alloc: A, ctx: C, input: &'de [u8], fault: Fault, left: usize) -> bool
+where
+    A: Allocator + Copy,
+    T: MyDeserialize<'de, A, Ctx = C>,
+{
+    let mut buf = ParseBuf(input);
+    let is_fault = match told(buf.parse_in::<T, A>(alloc, ctx)) {
+        Ok(_) => false,
+        Err(why) => why == fault,
+    };
+    is_fault & (buf.0 == last(input, left))
+}
+
+/// Whether this value is read from the first `len` bytes of the input, whatever follows, and none
+/// from fewer.
+pub fn is_read<'de, T, C, A>(
+    alloc: A,
+    ctx: C,
+    input: &'de [u8],
+    len: usize,
+    wanted: &T,
+    short: Short,
+) -> bool
+where
+    A: Allocator + Copy,
+    C: Copy,
+    T: PartialEq + MyDeserialize<'de, A, Ctx = C>,
+{
+    let mut all = len <= input.len();
+    for there in 0..input.len() + 1 {
+        // A long input is cut near both its ends alone.
+        if there > 400 && there < input.len().saturating_sub(8) {
+            continue;
+        }
+        let front = between(input, 0, there);
+        all &= if there < len {
+            stops::<T, C, A>(alloc, ctx, front, short.fault, short.left_of(there))
+        } else {
+            gives::<T, C, A>(alloc, ctx, front, wanted, there - len)
+        };
+    }
+    all
+}

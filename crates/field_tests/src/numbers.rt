@@ -1,0 +1,385 @@
+// Each representation of a number: the ends of its range, cut short, with bytes behind, and with
+// each request for memory refused.
+
+use crate::fields::{Eaten, MORE, Short, has_size, is_read, is_written, joined, starved, stops};
+use mysql_wire::io::InvalidReason;
+use mysql_wire::misc::raw::RawInt;
+use mysql_wire::misc::raw::int::{
+    IntRepr, LeI16, LeI24, LeI32, LeI56, LeI64, LeU16, LeU24, LeU32, LeU32LowerHalf,
+    LeU32UpperHalf, LeU48, LeU56, LeU64, LenEnc, VarLen,
+};
+use refusing::Refusing;
+use test_support::answers::Fault;
+use test_support::fixture::Heap;
+use test_support::reference::between;
+
+/// A number, the bytes that it is written as, and the number that is read back from them.
+pub type Row<'a, T> = (
+    <T as IntRepr>::Primitive,
+    &'a [u8],
+    <T as IntRepr>::Primitive,
+);
+
+// Whether the number is written and read back as the row says, which takes no memory.
+fn is_number<T: IntRepr>(heap: &Heap, eaten: Eaten, row: &Row<'_, T>) -> bool {
+    let (number, bytes, back) = *row;
+    let value = RawInt::<T>::new(number);
+    let back = RawInt::<T>::new(back);
+    let Ok(input) = joined(heap, &[bytes, MORE]) else {
+        return false;
+    };
+    let is_written = is_written(heap, &value, bytes);
+    let short = Short::eats(eaten);
+    let is_read = is_read(
+        starved(heap),
+        (),
+        input.as_slice(),
+        bytes.len(),
+        &back,
+        short,
+    );
+    is_written & is_read & (heap.left() == 0)
+}
+
+/// Whether a representation has this size, and each row is as it has it, where so much is eaten of a
+/// number cut short.
+pub fn are_numbers<T: IntRepr>(
+    heap: &Heap,
+    size: Option<usize>,
+    eaten: Eaten,
+    rows: &[Row<'_, T>],
+) -> bool {
+    let mut all = has_size::<RawInt<T>>(size);
+    for row in rows {
+        all &= is_number::<T>(heap, eaten, row);
+    }
+    all
+}
+
+const U8: &[Row<u8>] = &[
+    (0, b"\0", 0),
+    (1, b"\x01", 1),
+    (127, b"\x7f", 127),
+    (128, b"\x80", 128),
+    (255, b"\xff", 255),
+];
+
+const LE_U16: &[Row<LeU16>] = &[
+    (0, b"\0\0", 0),
+    (1, b"\x01\0", 1),
+    (255, b"\xff\0", 255),
+    (256, b"\0\x01", 256),
+    (65535, b"\xff\xff", 65535),
+];
+
+const LE_U32: &[Row<LeU32>] = &[
+    (0, b"\0\0\0\0", 0),
+    (1, b"\x01\0\0\0", 1),
+    (65536, b"\0\0\x01\0", 65536),
+    (0x01020304, b"\x04\x03\x02\x01", 0x01020304),
+    (u32::MAX, b"\xff\xff\xff\xff", u32::MAX),
+];
+
+const LE_U64: &[Row<LeU64>] = &[
+    (0, b"\0\0\0\0\0\0\0\0", 0),
+    (1, b"\x01\0\0\0\0\0\0\0", 1),
+    (
+        0x0102_0304_0506_0708,
+        b"\x08\x07\x06\x05\x04\x03\x02\x01",
+        0x0102_0304_0506_0708,
+    ),
+    (u64::MAX, b"\xff\xff\xff\xff\xff\xff\xff\xff", u64::MAX),
+];
+
+const I8: &[Row<i8>] = &[
+    (0, b"\0", 0),
+    (1, b"\x01", 1),
+    (127, b"\x7f", 127),
+    (-128, b"\x80", -128),
+    (-1, b"\xff", -1),
+];
+
+const LE_I16: &[Row<LeI16>] = &[
+    (0, b"\0\0", 0),
+    (1, b"\x01\0", 1),
+    (32767, b"\xff\x7f", 32767),
+    (-32768, b"\0\x80", -32768),
+    (-1, b"\xff\xff", -1),
+];
+
+const LE_I32: &[Row<LeI32>] = &[
+    (0, b"\0\0\0\0", 0),
+    (1, b"\x01\0\0\0", 1),
+    (-1, b"\xff\xff\xff\xff", -1),
+    (i32::MAX, b"\xff\xff\xff\x7f", i32::MAX),
+    (i32::MIN, b"\0\0\0\x80", i32::MIN),
+];
+
+const LE_I64: &[Row<LeI64>] = &[
+    (0, b"\0\0\0\0\0\0\0\0", 0),
+    (1, b"\x01\0\0\0\0\0\0\0", 1),
+    (-1, b"\xff\xff\xff\xff\xff\xff\xff\xff", -1),
+    (i64::MAX, b"\xff\xff\xff\xff\xff\xff\xff\x7f", i64::MAX),
+    (i64::MIN, b"\0\0\0\0\0\0\0\x80", i64::MIN),
+];
+
+const LE_U24: &[Row<LeU24>] = &[
+    (0, b"\0\0\0", 0),
+    (1, b"\x01\0\0", 1),
+    (0x01020304, b"\x04\x03\x02", 0x020304),
+    (16777215, b"\xff\xff\xff", 16777215),
+    (16777216, b"\0\0\0", 0),
+    (u32::MAX, b"\xff\xff\xff", 16777215),
+];
+
+const LE_U48: &[Row<LeU48>] = &[
+    (0, b"\0\0\0\0\0\0", 0),
+    (1, b"\x01\0\0\0\0\0", 1),
+    (
+        0x0102_0304_0506_0708,
+        b"\x08\x07\x06\x05\x04\x03",
+        0x30405060708,
+    ),
+    ((1 << 48) - 1, b"\xff\xff\xff\xff\xff\xff", (1 << 48) - 1),
+    (1 << 48, b"\0\0\0\0\0\0", 0),
+    (u64::MAX, b"\xff\xff\xff\xff\xff\xff", 281474976710655),
+];
+
+const LE_U56: &[Row<LeU56>] = &[
+    (0, b"\0\0\0\0\0\0\0", 0),
+    (1, b"\x01\0\0\0\0\0\0", 1),
+    (
+        0x0102_0304_0506_0708,
+        b"\x08\x07\x06\x05\x04\x03\x02",
+        0x2030405060708,
+    ),
+    (
+        (1 << 56) - 1,
+        b"\xff\xff\xff\xff\xff\xff\xff",
+        (1 << 56) - 1,
+    ),
+    (1 << 56, b"\0\0\0\0\0\0\0", 0),
+    (u64::MAX, b"\xff\xff\xff\xff\xff\xff\xff", 72057594037927935),
+];
+
+const LE_I24: &[Row<LeI24>] = &[
+    (0, b"\0\0\0", 0),
+    (1, b"\x01\0\0", 1),
+    (-1, b"\xff\xff\xff", -1),
+    (8388607, b"\xff\xff\x7f", 8388607),
+    (-8388608, b"\0\0\x80", -8388608),
+    (8388608, b"\0\0\x80", -8388608),
+    (-8388609, b"\xff\xff\x7f", 8388607),
+    (i32::MAX, b"\xff\xff\xff", -1),
+    (i32::MIN, b"\0\0\0", 0),
+];
+
+const LE_I56: &[Row<LeI56>] = &[
+    (0, b"\0\0\0\0\0\0\0", 0),
+    (1, b"\x01\0\0\0\0\0\0", 1),
+    (-1, b"\xff\xff\xff\xff\xff\xff\xff", -1),
+    (
+        0x0102_0304_0506_0708,
+        b"\x08\x07\x06\x05\x04\x03\x02",
+        0x2030405060708,
+    ),
+    (
+        (1 << 55) - 1,
+        b"\xff\xff\xff\xff\xff\xff\x7f",
+        (1 << 55) - 1,
+    ),
+    (-(1 << 55), b"\0\0\0\0\0\0\x80", -(1 << 55)),
+    (1 << 55, b"\0\0\0\0\0\0\x80", -36028797018963968),
+    (
+        -(1 << 55) - 1,
+        b"\xff\xff\xff\xff\xff\xff\x7f",
+        36028797018963967,
+    ),
+    (i64::MAX, b"\xff\xff\xff\xff\xff\xff\xff", -1),
+    (i64::MIN, b"\0\0\0\0\0\0\0", 0),
+];
+
+const LOWER_HALVES: &[Row<LeU32LowerHalf>] = &[
+    (0, b"\0\0", 0),
+    (1, b"\x01\0", 1),
+    (0x12345678, b"\x78\x56", 0x005678),
+    (65535, b"\xff\xff", 65535),
+    (65536, b"\0\0", 0),
+    (u32::MAX, b"\xff\xff", 65535),
+];
+
+const UPPER_HALVES: &[Row<LeU32UpperHalf>] = &[
+    (0, b"\0\0", 0),
+    (1, b"\0\0", 0),
+    (0x12345678, b"\x34\x12", 0x12340000),
+    (65535, b"\0\0", 0),
+    (65536, b"\x01\0", 65536),
+    (u32::MAX, b"\xff\xff", 4294901760),
+];
+
+const LENENC: &[Row<LenEnc>] = &[
+    (0, b"\0", 0),
+    (1, b"\x01", 1),
+    (250, b"\xfa", 250),
+    (251, b"\xfc\xfb\0", 251),
+    (255, b"\xfc\xff\0", 255),
+    (256, b"\xfc\0\x01", 256),
+    (65535, b"\xfc\xff\xff", 65535),
+    (65536, b"\xfd\0\0\x01", 65536),
+    (16777215, b"\xfd\xff\xff\xff", 16777215),
+    (16777216, b"\xfe\0\0\0\x01\0\0\0\0", 16777216),
+    (u64::MAX, b"\xfe\xff\xff\xff\xff\xff\xff\xff\xff", u64::MAX),
+];
+
+const VARLEN: &[Row<VarLen>] = &[
+    (0, b"\0", 0),
+    (1, b"\x01", 1),
+    (5, b"\x05", 5),
+    (127, b"\x7f", 127),
+    (128, b"\x80\x01", 128),
+    (300, b"\xac\x02", 300),
+    (16383, b"\xff\x7f", 16383),
+    (16384, b"\x80\x80\x01", 16384),
+    (2097151, b"\xff\xff\x7f", 2097151),
+    (2097152, b"\x80\x80\x80\x01", 2097152),
+    (268435455, b"\xff\xff\xff\x7f", 268435455),
+    (268435456, b"\x80\x80\x80\x80\x01", 268435456),
+    (u32::MAX, b"\xff\xff\xff\xff\x0f", u32::MAX),
+];
+
+// Fixed widths, without and with a sign.
+#[test]
+fn unsigned_numbers(rt: HostRuntime) {
+    let heap = Refusing::new(rt.alloc(), 0);
+    assert!(rt; are_numbers::<u8>(&heap, Some(1), Eaten::Nothing, U8));
+    assert!(rt; are_numbers::<LeU16>(&heap, Some(2), Eaten::Nothing, LE_U16));
+    assert!(rt; are_numbers::<LeU32>(&heap, Some(4), Eaten::Nothing, LE_U32));
+    assert!(rt; are_numbers::<LeU64>(&heap, Some(8), Eaten::Nothing, LE_U64));
+}
+
+#[test]
+fn signed_numbers(rt: HostRuntime) {
+    let heap = Refusing::new(rt.alloc(), 0);
+    assert!(rt; are_numbers::<i8>(&heap, Some(1), Eaten::Nothing, I8));
+    assert!(rt; are_numbers::<LeI16>(&heap, Some(2), Eaten::Nothing, LE_I16));
+    assert!(rt; are_numbers::<LeI32>(&heap, Some(4), Eaten::Nothing, LE_I32));
+    assert!(rt; are_numbers::<LeI64>(&heap, Some(8), Eaten::Nothing, LE_I64));
+}
+
+// Of a wider number the low bytes are written.
+#[test]
+fn unsigned_numbers_are_cut(rt: HostRuntime) {
+    let heap = Refusing::new(rt.alloc(), 0);
+    assert!(rt; are_numbers::<LeU24>(&heap, Some(3), Eaten::Nothing, LE_U24));
+    assert!(rt; are_numbers::<LeU48>(&heap, Some(6), Eaten::Nothing, LE_U48));
+    assert!(rt; are_numbers::<LeU56>(&heap, Some(7), Eaten::Nothing, LE_U56));
+}
+
+#[test]
+fn signed_numbers_are_cut(rt: HostRuntime) {
+    let heap = Refusing::new(rt.alloc(), 0);
+    assert!(rt; are_numbers::<LeI24>(&heap, Some(3), Eaten::Nothing, LE_I24));
+    assert!(rt; are_numbers::<LeI56>(&heap, Some(7), Eaten::Nothing, LE_I56));
+}
+
+#[test]
+fn halves_are_the_low_and_the_high_bits(rt: HostRuntime) {
+    let heap = Refusing::new(rt.alloc(), 0);
+    assert!(rt; are_numbers::<LeU32LowerHalf>(&heap, Some(2), Eaten::Nothing, LOWER_HALVES));
+    assert!(rt; are_numbers::<LeU32UpperHalf>(&heap, Some(2), Eaten::Nothing, UPPER_HALVES));
+}
+
+#[test]
+fn variable_numbers_at_the_ends_of_their_forms(rt: HostRuntime) {
+    let heap = Refusing::new(rt.alloc(), 0);
+    assert!(rt; are_numbers::<LenEnc>(&heap, None, Eaten::First, LENENC));
+    assert!(rt; are_numbers::<VarLen>(&heap, None, Eaten::All, VARLEN));
+}
+
+// Whether this number is read from each of these spellings.
+fn are_spelled<T: IntRepr>(
+    heap: &Heap,
+    eaten: Eaten,
+    rows: &[(usize, &[u8], T::Primitive)],
+) -> bool {
+    let mut all = true;
+    for (len, input, number) in rows {
+        let wanted = RawInt::<T>::new(*number);
+        all &= is_read(starved(heap), (), *input, *len, &wanted, Short::eats(eaten));
+    }
+    all
+}
+
+// Of length-encoded integers, with the marks, which are read as zero.
+#[test]
+fn longer_spellings_are_read(rt: HostRuntime) {
+    let heap = Refusing::new(rt.alloc(), 0);
+    let lenenc: &[(usize, &[u8], u64)] = &[
+        (1, b"\x05", 5),
+        (3, b"\xfc\x05\0", 5),
+        (4, b"\xfd\x05\0\0", 5),
+        (9, b"\xfe\x05\0\0\0\0\0\0\0", 5),
+        (1, b"\xfb", 0),
+        (1, b"\xfb\x01", 0),
+        (1, b"\xff\xff\xff", 0),
+    ];
+    assert!(rt; are_spelled::<LenEnc>(&heap, Eaten::First, lenenc));
+    let varlen: &[(usize, &[u8], u32)] = &[
+        (2, b"\x80\0", 0),
+        (3, b"\x85\x80\0", 5),
+        (4, b"\x85\x80\x80\0", 5),
+        (5, b"\x80\x80\x80\x80\0", 0),
+        (5, b"\xff\xff\xff\xff\0", 268435455),
+    ];
+    assert!(rt; are_spelled::<VarLen>(&heap, Eaten::All, varlen));
+}
+
+// Whether no number is read for this reason, so many bytes being left.
+fn stops_varlen(heap: &Heap, input: &[u8], why: InvalidReason, left: usize) -> bool {
+    stops::<RawInt<VarLen>, (), _>(starved(heap), (), input, Fault::Invalid(why), left)
+}
+
+#[test]
+fn varlen_above_its_type_is_too_large(rt: HostRuntime) {
+    let heap = Refusing::new(rt.alloc(), 0);
+    let rows: [&[u8]; 4] = [
+        b"\xff\xff\xff\xff\x1f\xaa",
+        b"\xff\xff\xff\xff\x10\xaa",
+        b"\x80\x80\x80\x80\x10\xaa",
+        b"\x80\x80\x80\x80\x7f\xaa",
+    ];
+    let mut all = true;
+    for input in rows {
+        all &= stops_varlen(&heap, input, InvalidReason::VarLenTooLarge, 1);
+    }
+    assert!(rt; all);
+}
+
+// Whatever the five groups come to.
+#[test]
+fn varlen_of_more_than_five_bytes_is_too_long(rt: HostRuntime) {
+    let heap = Refusing::new(rt.alloc(), 0);
+    let rows: [&[u8]; 4] = [
+        b"\x80\x80\x80\x80\x80",
+        b"\x80\x80\x80\x80\x80\0",
+        b"\xff\xff\xff\xff\xff\x01",
+        b"\x81\x80\x80\x80\x80\x80\x80",
+    ];
+    let mut all = true;
+    for input in rows {
+        let left = input.len().saturating_sub(5);
+        all &= stops_varlen(&heap, input, InvalidReason::VarLenTooLong, left);
+    }
+    assert!(rt; all);
+}
+
+#[test]
+fn varlen_that_ends_early_is_eaten(rt: HostRuntime) {
+    let heap = Refusing::new(rt.alloc(), 0);
+    let mut all = true;
+    for there in 0..5usize {
+        let short = between(b"\xff\x80\xff\x80", 0, there);
+        all &= stops::<RawInt<VarLen>, (), _>(&heap, (), short, Fault::UnexpectedEof, 0);
+    }
+    assert!(rt; all);
+}

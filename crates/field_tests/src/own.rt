@@ -1,0 +1,44 @@
+// A number and a text in representations of one's own, by the same checks as those of the crate.
+
+use crate::fields::Eaten;
+use crate::memory::is_refused_twice;
+use crate::numbers::{self, are_numbers};
+use crate::texts::{self, are_texts, is_bounded, letters};
+use mysql_wire_examples::own_fields::{BeU16, U16Bytes};
+use refusing::Refusing;
+use std::test::Fail;
+
+const BE_U16: &[numbers::Row<BeU16>] = &[
+    (0, b"\0\0", 0),
+    (1, b"\0\x01", 1),
+    (256, b"\x01\0", 256),
+    (0x0102, b"\x01\x02", 0x0102),
+    (65535, b"\xff\xff", 65535),
+];
+
+#[test]
+fn a_number_of_ones_own(rt: HostRuntime) {
+    let heap = Refusing::new(rt.alloc(), 0);
+    assert!(rt; are_numbers::<BeU16>(&heap, Some(2), Eaten::Nothing, BE_U16));
+}
+
+const U16: &[texts::Row] = &[
+    (0, b"\0\0"),
+    (1, b"\0\x01"),
+    (255, b"\0\xff"),
+    (256, b"\x01\0"),
+    (300, b"\x01\x2c"),
+    (65535, b"\xff\xff"),
+    (65536, b"\xff\xff"),
+];
+
+#[test]
+fn a_text_of_ones_own(rt: HostRuntime) -> Result<(), Fail> {
+    let heap = Refusing::new(rt.alloc(), 0);
+    let letters = letters(rt.alloc(), 65536)?;
+    let text = letters.as_slice();
+    assert!(rt; is_bounded::<U16Bytes>(text, 65535, None));
+    assert!(rt; are_texts::<U16Bytes>(&heap, text, Eaten::Nothing, U16, 65535));
+    assert!(rt; is_refused_twice::<U16Bytes>(&heap, [b"\0\xc8", &[b'a'; 200], b""]));
+    Ok(())
+}

@@ -1,0 +1,51 @@
+//! What readers and writers of fields answered, in a form that tests compare.
+
+use mysql_wire::io::{InvalidReason, WireError};
+use std::alloc::Global;
+use std::fmt::{Debug, Display};
+
+/// Why a value wasn't read or written.
+#[derive(Clone, Copy, PartialEq, Eq)]
+pub enum Fault {
+    UnexpectedEof,
+    Invalid(InvalidReason),
+    NoInteger,
+    Io,
+    OutOfMemory,
+}
+
+impl Fault {
+    pub fn of(error: &WireError) -> Fault {
+        match error {
+            WireError::UnexpectedEof => Fault::UnexpectedEof,
+            WireError::InvalidData(reason) => Fault::Invalid(*reason),
+            WireError::Other(_) => Fault::NoInteger,
+            WireError::Io(_) => Fault::Io,
+            WireError::OutOfMemory => Fault::OutOfMemory,
+        }
+    }
+}
+
+/// The same answer, with a fault in place of the error.
+pub fn told<T>(answer: Result<T, WireError>) -> Result<T, Fault> {
+    match answer {
+        Ok(value) => Ok(value),
+        Err(error) => Err(Fault::of(&error)),
+    }
+}
+
+/// Whether the error is shown as this text.
+pub fn shows<T: Display + Drop>(alloc: Global, error: T, text: &str) -> bool {
+    match format!(in alloc; "{error}") {
+        Ok(shown) => shown.as_str() == text,
+        Err(_) => false,
+    }
+}
+
+/// Whether the value is shown as this text for debugging.
+pub fn shows_debug<T: Debug>(alloc: Global, value: &T, text: &str) -> bool {
+    match format!(in alloc; "{value:?}") {
+        Ok(shown) => shown.as_str() == text,
+        Err(_) => false,
+    }
+}
