@@ -3,7 +3,7 @@
 ghost use Rattle.std.specs.Prelude.{◌≡◌, take, Ok, IfErr};
 
 use mysql_wire::io::{InvalidLengthEncodedInteger, InvalidReason, ParseBuf, WireError};
-use mysql_wire::proto::{Binary, Fixed, MyDeserialize, Text};
+use mysql_wire::proto::{Binary, Fixed, HasSize, MyDeserialize, Text};
 use refusing::Refusing;
 use std::alloc::{Allocator, Global};
 use std::fmt::Debug;
@@ -90,17 +90,18 @@ fn read_gives_what_fits(rt: HostRuntime) {
 #[derive(Clone, Copy, Debug, PartialEq)]
 struct Hasty(u16);
 
+impl HasSize for Hasty {
+    type Size = Fixed<4>;
+}
+
 impl<'de, A: Allocator + Copy> MyDeserialize<'de, A> for Hasty {
     ghost use Rattle.mysql_wire.specs.Numbers.{le_number};
-    ghost use Rattle.mysql_wire.specs.Reading.{Wraps};
-
-    const SIZE: Option<usize> = Some(4);
-
-    type Size = Fixed<4>;
+    ghost use Rattle.mysql_wire.specs.Reading.{Answers, Through};
 
     type Ctx = ();
 
-    ghost reads = { λ _ input. Wraps (λ hasty. hasty.0) (Ok (le_number (take 2 input)), 2) };
+    ghost reads = { λ _ input. Through (λ hasty. hasty.0)
+        (Answers (Ok (le_number (take 2 input)), 2)) };
 
     fn deserialize(_: A, _: (), buf: &mut ParseBuf<'de>) -> Result<Self, WireError> {
         Ok(Hasty(buf.eat_u16_le()))
@@ -111,13 +112,13 @@ impl<'de, A: Allocator + Copy> MyDeserialize<'de, A> for Hasty {
 #[derive(Clone, Copy, Debug, PartialEq)]
 struct Refused;
 
+impl HasSize for Refused {
+    type Size = Fixed<4>;
+}
+
 impl<'de, A: Allocator + Copy> MyDeserialize<'de, A> for Refused {
     ghost use Rattle.mysql_wire.specs.Reading.{Answers};
     ghost use Rattle.mysql_wire.specs.WireError.TheVariants.{InvalidData};
-
-    const SIZE: Option<usize> = Some(4);
-
-    type Size = Fixed<4>;
 
     type Ctx = ();
 

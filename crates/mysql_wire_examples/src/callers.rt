@@ -58,8 +58,8 @@ fn take_unread<A: Allocator + Copy>(
     result
 }
 
-/// Reads packets to the end of any reader, at least 8192 bytes at a time where they are there, in at
-/// most 2^64 - 1 reads.
+/// Reads packets to the end of any reader, in at most 2^64 - 1 reads, each of which is asked for
+/// 8192 bytes or more.
 pub fn read_packets<A: Allocator + Copy, R: Read>(
     alloc: A,
     limit: usize,

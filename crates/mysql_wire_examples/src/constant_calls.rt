@@ -66,7 +66,8 @@ pub fn is_empty(a: StatusFlags) -> bool
 
 #[tactic(auto, using(wire_const::specs::FlagSets::status_flags_union))]
 pub fn is_all(a: StatusFlags) -> bool
-    ensures { IsTrue result ↔ (bit_or status_flags_known (status_flags_bits a) ≡ status_flags_bits a) }
+    ensures { IsTrue result
+        ↔ (bit_or status_flags_known (status_flags_bits a) ≡ status_flags_bits a) }
 {
     a.is_all()
 }

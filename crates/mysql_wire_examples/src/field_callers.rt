@@ -23,9 +23,12 @@ pub struct EofPacket {
 
 /// Reads an `EOF_Packet`: `fe`, the number of warnings and the status flags, two bytes each.
 pub fn read_eof(payload: &[u8]) -> Option<EofPacket>
-    ensures there { IsSome result ↔ ((5 ≤ length payload.now) × (le_number (take 1 payload.now) ≡ 0xfe)) }
-    ensures warnings { IfSome result (λ packet. packet.warnings ≡ le_number (take 2 (drop 1 payload.now))) }
-    ensures flags { IfSome result (λ packet. packet.status_flags ≡ le_number (take 2 (drop 3 payload.now))) }
+    ensures there { IsSome result
+        ↔ ((5 ≤ length payload.now) × (le_number (take 1 payload.now) ≡ 0xfe)) }
+    ensures warnings { IfSome result
+        (λ packet. packet.warnings ≡ le_number (take 2 (drop 1 payload.now))) }
+    ensures flags { IfSome result
+        (λ packet. packet.status_flags ≡ le_number (take 2 (drop 3 payload.now))) }
 {
     let mut buf = ParseBuf(payload);
     if buf.len() < 5 || buf.eat_u8() != 0xfe {
@@ -52,7 +55,8 @@ pub fn read_error(payload: &[u8]) -> Option<(u16, &[u8])>
     Some((code, buf.eat_all()))
 }
 
-/// Reads the counts of an `OK_Packet`: the rows that were changed, and the last id that was inserted.
+/// Reads the counts of an `OK_Packet`: the rows that were changed, and the last id that was
+/// inserted.
 pub fn read_ok(payload: &[u8]) -> Option<(u64, u64)>
     ensures { IfSome result (λ counts. (mid : List ℕ) × (rest : List ℕ)
         × EatsSpelling IsLenencOrMark (drop 1 payload.now) counts.0 mid
@@ -69,7 +73,8 @@ pub fn read_ok(payload: &[u8]) -> Option<(u64, u64)>
 
 /// Puts flags of three bytes and the name of a schema.
 pub fn put_schema<B: BufMut>(buf: &mut B, flags: u32, schema: &[u8]) -> Result<(), WireError>
-    ensures { OnOk result (B.written buf.new ≡ B.written buf.old ++ (le_bytes 3 flags ++ (lenenc_bytes (length schema.now) ++ schema.now))) }
+    ensures { OnOk result (B.written buf.new ≡ B.written buf.old
+        ++ (le_bytes 3 flags ++ (lenenc_bytes (length schema.now) ++ schema.now))) }
 {
     buf.put_u24_le(flags)?;
     buf.put_lenenc_str(schema)
@@ -77,14 +82,16 @@ pub fn put_schema<B: BufMut>(buf: &mut B, flags: u32, schema: &[u8]) -> Result<(
 
 /// Writes a name behind its length, and counts what was written.
 pub fn write_name<W: WriteMysqlExt>(out: &mut W, name: &[u8]) -> Result<u64, WireError>
-    ensures { OnOk result (Appends (W.contents out.old) (W.contents out.new) (lenenc_bytes (length name.now) ++ name.now)) }
+    ensures { OnOk result (Appends (W.contents out.old) (W.contents out.new)
+        (lenenc_bytes (length name.now) ++ name.now)) }
 {
     out.write_lenenc_str(name)
 }
 
 /// Appends an id of two bytes and a name behind its length.
 pub fn put_named(buf: &mut Vec<u8>, id: u16, name: &[u8]) -> Result<(), WireError>
-    ensures { OnOk result (buf.new.items ≡ buf.old.items ++ (le_bytes 2 id ++ (lenenc_bytes (length name.now) ++ name.now))) }
+    ensures { OnOk result (buf.new.items ≡ buf.old.items
+        ++ (le_bytes 2 id ++ (lenenc_bytes (length name.now) ++ name.now))) }
 {
     RawInt::<LeU16>::new(id).serialize(buf)?;
     RawBytes::<LenEnc>::from(name).serialize(buf)
@@ -97,7 +104,8 @@ pub fn read_named<'a>(
 ) -> Result<(RawInt<LeU16>, RawBytes<'a, LenEnc>), WireError>
     ensures id { IfOk result (λ named. named.0.0 ≡ le_number (take 2 payload.entry.now)) }
     ensures name { IfOk result (λ named. (text : List ℕ) × (rest : List ℕ)
-        × IsBorrowedText named.1.0 text × EatsText IsLenencOrMark (drop 2 payload.entry.now) text rest) }
+        × IsBorrowedText named.1.0 text
+        × EatsText IsLenencOrMark (drop 2 payload.entry.now) text rest) }
 {
     let mut buf = ParseBuf(payload);
     let id: RawInt<LeU16> = buf.parse(alloc, ())?;

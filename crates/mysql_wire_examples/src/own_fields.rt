@@ -1,5 +1,5 @@
-//! Representations of one's own, as CALLING.md shows them: a number and a text that the crate lacks,
-//! each with the law that what is written is read back. `RawInt` and `RawBytes` make fields of them.
+//! Representations of one's own: a number and a text that the crate lacks, each with the law that
+//! what is written is read back. `RawInt` and `RawBytes` make fields of them.
 
 ghost use Rattle.std.specs.Prelude.{◌≡◌, ◌≤◌, ◌<◌, ◌^◌, ℕ, List, ◌++◌, length, take, Some, None};
 ghost use Rattle.mysql_wire.specs.Law.{ReadsFixed, ParsesFixed, LeavesRest, size-is};
@@ -10,8 +10,9 @@ ghost use Rattle.mysql_wire_examples.specs.OwnFields.{be_u16_bytes, u16_text_byt
 
 use mysql_wire::io::{ParseBuf, WireError};
 use mysql_wire::misc::raw::bytes::{BytesRepr, RawBytes};
+use mysql_wire::misc::raw::field_laws::{number_back, parse_back};
 use mysql_wire::misc::raw::int::{IntRepr, RawInt};
-use mysql_wire::misc::raw::laws::{number_back, parse_back};
+use mysql_wire::proto::{Fixed, Varying};
 use std::alloc::{Allocator, Global};
 use std::borrow::CowSlice;
 use std::cmp::min;
@@ -21,11 +22,9 @@ use std::cmp::min;
 pub struct BeU16;
 
 impl IntRepr for BeU16 {
-    const SIZE: Option<usize> = Some(2);
+    type Size = Fixed<2>;
 
     type Primitive = u16;
-
-    ghost SIZE = { Some 2 };
 
     ghost is_value = { λ val. val < 2 ^ 16 };
 
@@ -48,7 +47,8 @@ impl IntRepr for BeU16 {
 
     ghost comes_back = { be_u16_bytes-back };
 
-    ghost of_size = { λ val size stated. size-is 2 size (length (be_u16_bytes val)) stated (length-be_u16_bytes val) };
+    ghost of_size = { λ val size stated.
+        size-is 2 size (length (be_u16_bytes val)) stated (length-be_u16_bytes val) };
 }
 
 /// Two bytes of length, the most significant first, and a text, of a longer one its first 65535
@@ -67,13 +67,11 @@ fn first_bytes(text: &[u8], most: usize) -> &[u8]
 impl BytesRepr for U16Bytes {
     const MAX_LEN: usize = 65535;
 
-    const SIZE: Option<usize> = None;
+    type Size = Varying;
 
     type Ctx = ();
 
     ghost MAX_LEN = { 65535 };
-
-    ghost SIZE = { None };
 
     ghost bytes = { u16_text_bytes };
 
@@ -115,7 +113,8 @@ impl BytesRepr for U16Bytes {
 /// Reads a port. Whatever stands behind what was written of one, it comes back.
 pub fn read_port(alloc: Global, buf: &mut ParseBuf<'_>) -> Result<RawInt<BeU16>, WireError>
     ensures reads { ParsesFixed (λ int. int.0) 2 be_number buf.old.0.now result buf.new.0.now }
-    ensures back { (port : ℕ) (rest : List ℕ) → port < 2 ^ 16 → buf.old.0.now ≡ be_u16_bytes port ++ rest
+    ensures back { (port : ℕ) (rest : List ℕ) → port < 2 ^ 16
+        → buf.old.0.now ≡ be_u16_bytes port ++ rest
         → LeavesRest (λ back. back.0 ≡ port) ⊥ rest result buf.new.0.now }
 {
     number_back(alloc, buf)
@@ -127,9 +126,12 @@ pub fn read_name<'a>(
     alloc: Global,
     buf: &mut ParseBuf<'a>,
 ) -> Result<RawBytes<'a, U16Bytes>, WireError>
-    ensures reads { Reads (λ input. Borrows (λ text. text.0) (Answers (u16_text_at input))) buf.old.0.now result buf.new.0.now }
-    ensures back { (name rest : List ℕ) → IsText name → buf.old.0.now ≡ u16_text_bytes name ++ rest
-        → LeavesRest (λ back. IsBorrowedText back.0 (take 65535 name)) ⊥ rest result buf.new.0.now }
+    ensures reads { Reads (λ input. Borrows (λ text. text.0) (Answers (u16_text_at input)))
+        buf.old.0.now result buf.new.0.now }
+    ensures back { (name rest : List ℕ) → IsText name
+        → buf.old.0.now ≡ u16_text_bytes name ++ rest
+        → LeavesRest (λ back. IsBorrowedText back.0 (take 65535 name)) ⊥ rest
+        result buf.new.0.now }
 {
     parse_back::<'a, RawBytes<'a, U16Bytes>, Global>(alloc, (), buf)
 }
