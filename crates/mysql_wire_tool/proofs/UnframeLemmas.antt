@@ -11,10 +11,6 @@ use Rattle.mysql_wire.specs.Laws.{JoinedRuns, FramedLength, NothingRead, empty_s
 use Rattle.mysql_wire_tool.specs.Texts.{payload_line}
 use Rattle.mysql_wire_tool.specs.Unframe.{packet_lines, ending_line, ending_status, Unframing, Unframed, UnframeEnds}
 
-pub max_payload_is : max_payload ≡ 16777215
-unfolding max_payload
-max_payload_is = refl
-
 -- nothing read yet
 pub unframing_start : NothingRead → (limit : ℕ) (state : CodecState) → state.id ≡ 0 → state.header ≡ None → state.unread ≡ [] → state.held ≡ [] → state.limit ≡ limit
     → Unframing limit state [] []

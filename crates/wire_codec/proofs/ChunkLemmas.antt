@@ -5,12 +5,7 @@ use Rattle.std.proofs.Math.Seq.{take-add}
 use Rattle.std.proofs.lemmas.List.{take-append-le, drop-append-le, length-take-le, take_min, drop_min}
 use Rattle.std.proofs.Math.Nat.{min_comm}
 use Rattle.wire_buf.specs.Numbers.{le_number, le_bytes}
-use Rattle.wire_codec.specs.Framing.{max_payload, chunk, chunks, framing}
-
--- the number that stands for it: opened here alone, since a take of so many would be unrolled
-pub max_payload_is : max_payload ≡ 16777215
-unfolding max_payload
-max_payload_is = refl
+use Rattle.wire_codec.specs.Framing.{max_payload, max_payload_is, chunk, chunks, framing}
 
 pub max_payload_pos : 0 < max_payload
 max_payload_pos = omega (arith, max_payload_is)

@@ -6,13 +6,13 @@ use Rattle.wire_codec.specs.declared.codec.chunk.ChunkInfo.{ChunkInfo}
 use Rattle.wire_codec.specs.declared.codec.chunk.ChunkInfo.TheVariants.{Middle, Last}
 use Rattle.wire_codec.specs.declared.codec.error.PacketCodecError.{PacketCodecError}
 use Rattle.wire_codec.specs.declared.codec.error.PacketCodecError.TheVariants.{PacketTooLarge, OutOfMemory, PacketsOutOfSync, Io}
-use Rattle.wire_codec.specs.Framing.{max_payload, header, chunk, chunks, front}
+use Rattle.wire_codec.specs.Framing.{max_payload, max_payload_is, header, chunk, chunks, front}
 use Rattle.wire_codec.specs.Delivery.{chunk_len, IsSpelled, id_at, IsWholeChunks, Continues, Splits, Ending, Waiting, TooLarge, OutOfSync, Delivers}
 use Rattle.wire_codec.specs.OneChunk.{info_of, Answer, FinishesChunk, DecodesChunk}
 use Rattle.wire_codec.specs.Codec.{StandsAt, open_id, DecodesFrom, TakesChunk}
 use Rattle.wire_codec.specs.declared.codec.packet.Progress.{Progress}
 use Rattle.wire_codec.specs.declared.codec.packet.Progress.TheVariants.{Whole, Starved, More}
-use Rattle.wire_codec.proofs.ChunkLemmas.{max_payload_is, blocks_whole, chunk-mod, chunks-push}
+use Rattle.wire_codec.proofs.ChunkLemmas.{blocks_whole, chunk-mod, chunks-push}
 use Rattle.wire_codec.proofs.DeliveryLemmas.{continues_trans}
 
 -- ids

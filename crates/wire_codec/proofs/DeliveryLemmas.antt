@@ -3,9 +3,9 @@ use Rattle.std.proofs.Common.{◌≡◌, ℕ, ◌+◌, ◌-◌, ◌*◌, ◌/◌
 use Rattle.std.proofs.lemmas.List.{take-take}
 use Rattle.std.proofs.lemmas.List.Elements.{All-nil, All-cons, All-head, All-tail}
 use Rattle.std.proofs.lemmas.Bool.{cases_lt}
-use Rattle.wire_codec.specs.Framing.{max_payload, chunk, chunks, framing, front, next_id, stream, id_after}
+use Rattle.wire_codec.specs.Framing.{max_payload, max_payload_is, chunk, chunks, framing, front, next_id, stream, id_after}
 use Rattle.wire_codec.specs.Delivery.{chunk_len, id_at, IsWholeChunks, Continues, AreWithin, Splits, Ending, Waiting, TooLarge, OutOfSync, Ends, Delivers}
-use Rattle.wire_codec.proofs.ChunkLemmas.{max_payload_is, blocks_below, blocks_whole, whole_blocks, le_number-le_bytes, chunks-add, chunks_cancel, length-chunks_tail, framing_ends, framing_cancel}
+use Rattle.wire_codec.proofs.ChunkLemmas.{blocks_below, blocks_whole, whole_blocks, le_number-le_bytes, chunks-add, chunks_cancel, length-chunks_tail, framing_ends, framing_cancel}
 
 -- streams joined
 pub stream-append : (s : ℕ) (ps qs : List (List ℕ)) → stream s (ps ++ qs) ≡ stream s ps ++ stream (id_after s ps) qs

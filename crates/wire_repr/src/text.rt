@@ -112,7 +112,8 @@ impl<'a, T: BytesRepr, A: Allocator> RawBytes<'a, T, A> {
         RawBytes(text, PhantomData)
     }
 
-    /// The length of what is written, where the text is longer than `MAX_LEN`: that.
+    /// The text's length in bytes, or `MAX_LEN` where it is longer. It is no length of what is
+    /// written, which may have a length or a zero beside the text, or end at a zero in it.
     pub fn len(&self) -> usize
         ensures { result ≡ min (length (cow_slice_items self.now.0)) T.MAX_LEN }
     {

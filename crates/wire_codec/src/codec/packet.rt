@@ -67,8 +67,8 @@ impl PacketCodec {
     }
 
     /// Takes chunks from the front of `src` until a packet is whole, and puts their payload bytes
-    /// behind what `dst` holds, which grows once a call. The answer is whether `dst` now holds a
-    /// whole packet. After false the call is made again with the same `dst` and more bytes in
+    /// behind what `dst` holds, which is asked for room once, for all bytes that the call takes. The
+    /// answer is whether `dst` now holds a whole packet. After false the call is made again with the same `dst` and more bytes in
     /// `src`; after true, with an empty `dst`.
     ///
     /// `PacketTooLarge`: the chunk in front would take the packet past the limit. Its header is
@@ -92,7 +92,7 @@ impl PacketCodec {
             let after = codec_state self.new src.new.items (T.held dst.new) in
             Stands before → (result ≢ Ok true)
             → (result ≢ Err PacketCodecError.PacketsOutOfSync) → Stands after }
-        // Memory is asked for only where a chunk is there to be taken.
+        // Want of memory is answered only where a chunk is there to be taken.
         ensures memory { let before = codec_state self.old src.old.items (T.held dst.old) in
             result ≡ Err PacketCodecError.OutOfMemory → HasChunk before }
 
