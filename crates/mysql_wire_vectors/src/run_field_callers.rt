@@ -75,5 +75,8 @@ fn own_fields_are_written_and_read(rt: HostRuntime) -> Result<(), Fail> {
     RawInt::<BeU16>::new(0x1234).serialize(&mut buf)?;
     RawBytes::<U16Bytes>::from(b"id".as_slice()).serialize(&mut buf)?;
     let written = buf.as_slice() == b"\x12\x34\0\x02id".as_slice();
-    ensure(written && is_own(rt.alloc(), buf.as_slice()), "a port and a name")
+    ensure(
+        written && is_own(rt.alloc(), buf.as_slice()),
+        "a port and a name",
+    )
 }
