@@ -80,7 +80,6 @@ impl<A: Allocator + Copy> Run<A> {
 
     // How many bytes came behind the last whole packet: the full chunks of an unfinished one, with
     // their headers, and the bytes unread.
-    #[tactic(auto, using(mysql_wire::specs::Framing::max_payload_is))]
     fn bytes_left(&self) -> u128
         ensures { result ≡ bytes_left (run_state self.now) }
     {
