@@ -12,8 +12,8 @@ use test_support::case::{Case, Wanted};
 use test_support::facts::ensure;
 use test_support::fixture::{Fixture, Heap};
 use test_support::receiver::{Receiver, pieces_from};
-use test_support::script::{Script, Step};
-use test_support::targets::{Counting, Zeros};
+use test_support::script::{Script, Step, play};
+use test_support::targets::Zeros;
 use test_support::told::Told;
 
 // No run that a test makes asks so often.
@@ -110,7 +110,7 @@ fn a_payload_that_no_machine_can_frame_is_refused(rt: HostRuntime) -> Result<(),
 // A packet of two full chunks and a byte.
 const LONG: usize = 2 * MAX_PAYLOAD_LEN + 1;
 
-const REFUSED: [Script; 9] = [
+const REFUSED: [Script; 5] = [
     Script {
         name: "the one request of encode is refused",
         steps: &[
@@ -164,6 +164,29 @@ const REFUSED: [Script; 9] = [
             Step::Left(b"\xff"),
         ],
     },
+    Script {
+        name: "the growth for a second chunk is refused",
+        steps: &[
+            Step::Limit(2 * MAX_PAYLOAD_LEN),
+            Step::Src(b"\xff\xff\xff\0"),
+            Step::ComesMany(MAX_PAYLOAD_LEN),
+            Step::Decode(Told::Waits),
+            Step::Comes(b"\xff\xff\xff\x01"),
+            Step::ComesMany(MAX_PAYLOAD_LEN),
+            Step::Refuse(0),
+            Step::Decode(Told::OutOfMemory),
+            Step::Refused(true),
+            Step::HeldMany(MAX_PAYLOAD_LEN),
+            Step::LeftMany(MAX_PAYLOAD_LEN + 4),
+            Step::Stands(true),
+            Step::Decode(Told::Waits),
+            Step::HeldMany(2 * MAX_PAYLOAD_LEN),
+        ],
+    },
+];
+
+// The target refuses to put what it took room for.
+const PUTS: [Script; 4] = [
     Script {
         name: "the first put is refused",
         steps: &[
@@ -241,36 +264,20 @@ const REFUSED: [Script; 9] = [
             Step::Held(b"ab"),
         ],
     },
-    Script {
-        name: "the growth for a second chunk is refused",
-        steps: &[
-            Step::Limit(2 * MAX_PAYLOAD_LEN),
-            Step::Src(b"\xff\xff\xff\0"),
-            Step::ComesMany(MAX_PAYLOAD_LEN),
-            Step::Decode(Told::Waits),
-            Step::Comes(b"\xff\xff\xff\x01"),
-            Step::ComesMany(MAX_PAYLOAD_LEN),
-            Step::Refuse(0),
-            Step::Decode(Told::OutOfMemory),
-            Step::Refused(true),
-            Step::HeldMany(MAX_PAYLOAD_LEN),
-            Step::LeftMany(MAX_PAYLOAD_LEN + 4),
-            Step::Stands(true),
-            Step::Decode(Told::Waits),
-            Step::HeldMany(2 * MAX_PAYLOAD_LEN),
-        ],
-    },
 ];
 
-// As `first_fault`, over an allocator that refuses.
+#[test]
+fn what_was_put_before_a_refusal_is_held(rt: HostRuntime) -> Result<(), Fail> {
+    play(rt.alloc(), &PUTS)
+}
+
+// As `first_fault`, over an allocator that refuses, with the targets that take its memory.
 fn refused_fault(alloc: Global, steps: &[Step]) -> Option<usize> {
     let heap = Refusing::new(alloc, NEVER);
     let vec = Fixture::new(&heap, Some(&heap), Vec::new(&heap)).fault(steps);
     heap.refuse(NEVER);
     let bytes = Fixture::new(&heap, Some(&heap), BytesMut::new(&heap)).fault(steps);
-    heap.refuse(NEVER);
-    let counting = Fixture::new(&heap, Some(&heap), Counting::new(&heap)).fault(steps);
-    vec.or(bytes).or(counting)
+    vec.or(bytes)
 }
 
 #[test]
