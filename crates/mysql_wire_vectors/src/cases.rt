@@ -1,13 +1,14 @@
 //! The cases of the Rust crate's own tests.
 
 use mysql_wire::constants::MAX_PAYLOAD_LEN;
-use refusing::{NEVER, Refusing};
-use std::alloc::{AllocError, Global};
+use std::alloc::Global;
 use std::test::Fail;
 use test_support::facts::ensure;
 use test_support::fixture::Fixture;
 use test_support::script::{Script, Step, play};
 use test_support::told::Told;
+
+const ZEROS: [u8; 1024] = [0; 1024];
 
 const CASES: [Script; 5] = [
     Script {
@@ -90,28 +91,25 @@ fn each_case_goes_as_it_says(rt: HostRuntime) -> Result<(), Fail> {
     play(rt.alloc(), &CASES)
 }
 
-// Packets of 0 to 1023 zero bytes through one buffer, from one codec to another.
-fn sequence_passes(alloc: Global) -> Result<bool, AllocError> {
-    let heap = Refusing::new(alloc, NEVER);
-    let mut sender = Fixture::new(&heap, Vec::new(&heap));
-    let mut receiver = Fixture::new(&heap, Vec::new(&heap));
-    let payload = Vec::from_elem(alloc, 0u8, 1024)?;
-    let mut passes = true;
-    for len in 0..1024usize {
-        let packet = &payload[..len];
-        receiver.dst.clear();
-        passes = passes && sender.encode(packet) == Told::Done;
-        std::mem::swap(&mut sender.src, &mut receiver.src);
-        passes = passes && receiver.decode() == Told::Whole;
-        passes = passes && receiver.dst.as_slice() == packet && receiver.src.is_empty();
-    }
-    Ok(passes)
+// Whether a packet through one buffer, from one codec to another, comes out as it went in.
+fn passes(sender: &mut Ends, receiver: &mut Ends, packet: &[u8]) -> bool {
+    receiver.dst.clear();
+    let sent = sender.encode(packet) == Told::Done;
+    std::mem::swap(&mut sender.src, &mut receiver.src);
+    let whole = receiver.decode() == Told::Whole;
+    sent && whole && receiver.dst.as_slice() == packet && receiver.src.is_empty()
 }
+
+type Ends = Fixture<'static, Global, Vec<u8>>;
 
 #[test]
 fn packet_sequence(rt: HostRuntime) -> Result<(), Fail> {
-    ensure(
-        sequence_passes(rt.alloc())?,
-        "each packet comes out as it went in",
-    )
+    let alloc = rt.alloc();
+    let mut sender = Fixture::new(alloc, None, Vec::new(alloc));
+    let mut receiver = Fixture::new(alloc, None, Vec::new(alloc));
+    let mut good = true;
+    for len in 0..1024usize {
+        good = good && passes(&mut sender, &mut receiver, &ZEROS[..len]);
+    }
+    ensure(good, "each packet comes out as it went in")
 }

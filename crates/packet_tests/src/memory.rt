@@ -10,9 +10,9 @@ use std::alloc::{AllocError, Global};
 use std::test::Fail;
 use test_support::case::{Case, Wanted};
 use test_support::facts::ensure;
-use test_support::fixture::Heap;
+use test_support::fixture::{Fixture, Heap};
 use test_support::receiver::{Receiver, pieces_from};
-use test_support::script::{Script, Step, first_fault, play};
+use test_support::script::{Script, Step, play};
 use test_support::targets::Zeros;
 use test_support::told::Told;
 
@@ -28,14 +28,19 @@ const GROWTHS: [(usize, bool, u64); 4] = [
     (100000, true, u64::MAX - 1),
 ];
 
+fn is_grown(bytes: &mut Vec<u8, &Heap>, heap: &Heap, growth: (usize, bool, u64)) -> bool {
+    let (room, given, left) = growth;
+    bytes.reserve(room).is_ok() == given && heap.left() == left
+}
+
 #[test]
 fn the_request_of_this_number_is_refused(rt: HostRuntime) -> Result<(), Fail> {
     let heap = Refusing::new(rt.alloc(), 3);
     let mut bytes = Vec::from_slice(&heap, b"a")?;
     let mut good = true;
-    for (room, given, left) in GROWTHS {
-        good = good && !(heap.has_refused() && !given);
-        good = good && bytes.reserve(room).is_ok() == given && heap.left() == left;
+    for growth in GROWTHS {
+        good = good && is_grown(&mut bytes, &heap, growth);
+        good = good && heap.has_refused() == (heap.left() > NEVER);
     }
     heap.refuse(0);
     good = good && bytes.reserve(1000000).is_err() && heap.has_refused();
@@ -51,19 +56,21 @@ fn framing_refused(alloc: Global, nth: u64) -> Option<bool> {
     let mut packet = b"123".as_slice().chain(b"45".as_slice());
     heap.refuse(nth);
     let next_id = packet_to_chunks(255, &mut packet, &mut dst).ok();
-    let refused = next_id.is_none();
-    let good = begins
-        && heap.has_refused() == refused
-        && if refused {
-            packet.remaining() == 5
-                && packet.chunk() == b"123".as_slice()
-                && dst.as_slice() == b"ab".as_slice()
-        } else {
-            packet.remaining() == 0
-                && next_id == Some(0)
-                && dst.as_slice() == b"ab\x05\0\0\xff12345".as_slice()
-        };
-    if good { Some(refused) } else { None }
+    let is_left = is_left(next_id, dst.as_slice(), packet.chunk(), packet.remaining());
+    if begins && is_left && heap.has_refused() == next_id.is_none() {
+        Some(next_id.is_none())
+    } else {
+        None
+    }
+}
+
+// Whether the buffer, and the front and the length of the packet, are what a call leaves that gave
+// this id, or else was refused.
+fn is_left(next_id: Option<u8>, dst: &[u8], front: &[u8], len: usize) -> bool {
+    match next_id {
+        Some(id) => id == 0 && dst == b"ab\x05\0\0\xff12345".as_slice() && len == 0,
+        None => dst == b"ab".as_slice() && front == b"123".as_slice() && len == 5,
+    }
 }
 
 #[test]
@@ -103,7 +110,7 @@ fn a_payload_that_no_machine_can_frame_is_refused(rt: HostRuntime) -> Result<(),
 // A packet of two full chunks and a byte.
 const LONG: usize = 2 * MAX_PAYLOAD_LEN + 1;
 
-const REFUSED: [Script; 9] = [
+const REFUSED: [Script; 5] = [
     Script {
         name: "the one request of encode is refused",
         steps: &[
@@ -157,6 +164,29 @@ const REFUSED: [Script; 9] = [
             Step::Left(b"\xff"),
         ],
     },
+    Script {
+        name: "the growth for a second chunk is refused",
+        steps: &[
+            Step::Limit(2 * MAX_PAYLOAD_LEN),
+            Step::Src(b"\xff\xff\xff\0"),
+            Step::ComesMany(MAX_PAYLOAD_LEN),
+            Step::Decode(Told::Waits),
+            Step::Comes(b"\xff\xff\xff\x01"),
+            Step::ComesMany(MAX_PAYLOAD_LEN),
+            Step::Refuse(0),
+            Step::Decode(Told::OutOfMemory),
+            Step::Refused(true),
+            Step::HeldMany(MAX_PAYLOAD_LEN),
+            Step::LeftMany(MAX_PAYLOAD_LEN + 4),
+            Step::Stands(true),
+            Step::Decode(Told::Waits),
+            Step::HeldMany(2 * MAX_PAYLOAD_LEN),
+        ],
+    },
+];
+
+// The target refuses to put what it took room for.
+const PUTS: [Script; 4] = [
     Script {
         name: "the first put is refused",
         steps: &[
@@ -234,30 +264,28 @@ const REFUSED: [Script; 9] = [
             Step::Held(b"ab"),
         ],
     },
-    Script {
-        name: "the growth for a second chunk is refused",
-        steps: &[
-            Step::Limit(2 * MAX_PAYLOAD_LEN),
-            Step::Src(b"\xff\xff\xff\0"),
-            Step::ComesMany(MAX_PAYLOAD_LEN),
-            Step::Decode(Told::Waits),
-            Step::Comes(b"\xff\xff\xff\x01"),
-            Step::ComesMany(MAX_PAYLOAD_LEN),
-            Step::Refuse(0),
-            Step::Decode(Told::OutOfMemory),
-            Step::Refused(true),
-            Step::HeldMany(MAX_PAYLOAD_LEN),
-            Step::LeftMany(MAX_PAYLOAD_LEN + 4),
-            Step::Stands(true),
-            Step::Decode(Told::Waits),
-            Step::HeldMany(2 * MAX_PAYLOAD_LEN),
-        ],
-    },
 ];
 
 #[test]
-fn what_was_taken_before_a_refusal_is_held(rt: HostRuntime) -> Result<(), Fail> {
-    play(rt.alloc(), &REFUSED)
+fn what_was_put_before_a_refusal_is_held(rt: HostRuntime) -> Result<(), Fail> {
+    play(rt.alloc(), &PUTS)
+}
+
+// As `first_fault`, over an allocator that refuses, with the targets that take its memory.
+fn refused_fault(alloc: Global, steps: &[Step]) -> Option<usize> {
+    let heap = Refusing::new(alloc, NEVER);
+    let vec = Fixture::new(&heap, Some(&heap), Vec::new(&heap)).fault(steps);
+    heap.refuse(NEVER);
+    let bytes = Fixture::new(&heap, Some(&heap), BytesMut::new(&heap)).fault(steps);
+    vec.or(bytes)
+}
+
+#[test]
+fn a_refused_call_goes_on(rt: HostRuntime) -> Result<(), Fail> {
+    for script in &REFUSED {
+        script.ends(refused_fault(rt.alloc(), script.steps))?;
+    }
+    Ok(())
 }
 
 // How much is refused in one run.
@@ -395,7 +423,7 @@ fn taking_nothing(row: &Row) -> [Step; 9] {
 #[test]
 fn calls_that_take_nothing_ask_for_no_memory(rt: HostRuntime) -> Result<(), Fail> {
     for (i, row) in TAKING_NOTHING.iter().enumerate() {
-        if let Some(step) = first_fault(rt.alloc(), &taking_nothing(row)) {
+        if let Some(step) = refused_fault(rt.alloc(), &taking_nothing(row)) {
             return Err(Fail::new(format_args!("row {i}, step {step}")));
         }
     }

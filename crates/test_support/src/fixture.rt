@@ -1,4 +1,4 @@
-//! A codec with its two buffers, over an allocator that refuses what it is told to.
+//! A codec with its two buffers, over an allocator that may refuse what it is told to.
 
 use crate::targets::Target;
 use crate::told::Told;
@@ -45,24 +45,41 @@ pub fn raise_to<A: Allocator + Copy>(codec: &mut PacketCodec, alloc: A, id: u8) 
 
 /// A codec and a decoder of single chunks, what they read, and what they put the payload into.
 #[derive(Drop)]
-pub struct Fixture<'h, T> {
+pub struct Fixture<'h, A: Allocator, T> {
     pub codec: PacketCodec,
     pub decoder: ChunkDecoder,
-    pub src: BytesMut<&'h Heap>,
+    pub src: BytesMut<A>,
     pub dst: T,
-    pub heap: &'h Heap,
+    pub alloc: A,
+    /// The allocator, where it is one that refuses.
+    pub heap: Option<&'h Heap>,
 }
 
-impl<'h, T: Target> Fixture<'h, T> {
-    /// With nothing in its buffers, and no request refused.
-    pub fn new(heap: &'h Heap, dst: T) -> Self {
-        heap.refuse(NEVER);
+impl<'h, A: Allocator + Copy, T: Target> Fixture<'h, A, T> {
+    /// With nothing in its buffers.
+    pub fn new(alloc: A, heap: Option<&'h Heap>, dst: T) -> Self {
         Fixture {
             codec: PacketCodec::default(),
             decoder: ChunkDecoder::default(),
-            src: BytesMut::new(heap),
+            src: BytesMut::new(alloc),
             dst,
+            alloc,
             heap,
+        }
+    }
+
+    /// The request of this number is refused, where the allocator can.
+    pub fn refuse(&self, nth: u64) {
+        if let Some(heap) = self.heap {
+            heap.refuse(nth);
+        }
+    }
+
+    /// How many requests may come before the one that is refused, and whether one was.
+    pub fn requests(&self) -> (u64, bool) {
+        match self.heap {
+            Some(heap) => (heap.left(), heap.has_refused()),
+            None => (NEVER, false),
         }
     }
 
@@ -81,7 +98,7 @@ impl<'h, T: Target> Fixture<'h, T> {
 
     /// Encodes so many bytes `42`.
     pub fn encode_many(&mut self, len: usize) -> Told {
-        match Vec::from_elem(self.heap, FILL, len) {
+        match Vec::from_elem(self.alloc, FILL, len) {
             Ok(payload) => self.encode(payload.as_slice()),
             Err(_) => Told::OutOfMemory,
         }
@@ -100,7 +117,7 @@ impl<'h, T: Target> Fixture<'h, T> {
 
     /// `dst` becomes so many bytes `42`.
     pub fn replace_dst_many(&mut self, len: usize) -> bool {
-        match Vec::from_elem(self.heap, FILL, len) {
+        match Vec::from_elem(self.alloc, FILL, len) {
             Ok(bytes) => self.replace_dst(bytes.as_slice()),
             Err(_) => false,
         }
@@ -108,7 +125,7 @@ impl<'h, T: Target> Fixture<'h, T> {
 
     /// The codec's next id becomes this one.
     pub fn raise_to(&mut self, id: u8) {
-        raise_to(&mut self.codec, self.heap, id);
+        raise_to(&mut self.codec, self.alloc, id);
     }
 
     pub fn stands(&self) -> bool {
@@ -117,7 +134,7 @@ impl<'h, T: Target> Fixture<'h, T> {
 
     /// Whether the codec stands at another `src` and `dst`.
     pub fn stands_at(&self, src: &[u8], dst: &[u8]) -> bool {
-        let mut other = BytesMut::new(self.heap);
+        let mut other = BytesMut::new(self.alloc);
         let _ = other.extend_from_slice(src);
         self.codec.stands_at(&other, dst)
     }

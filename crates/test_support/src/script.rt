@@ -5,8 +5,7 @@ use crate::targets::{Counting, Target};
 use crate::told::Told;
 use bytes::BytesMut;
 use mysql_wire::proto::codec::PacketCodec;
-use refusing::{NEVER, Refusing};
-use std::alloc::Global;
+use std::alloc::{Allocator, Global};
 use std::test::Fail;
 
 /// One thing that a test does, or one that it looks at.
@@ -34,7 +33,8 @@ pub enum Step {
     Id(u8),
     /// The decoder of single chunks becomes the one that remembers this.
     Remember(Remembered),
-    /// The request for memory of this number, counted from 0 at this step, is refused.
+    /// The request for memory of this number, counted from 0 at this step, is refused, where the
+    /// allocator can.
     Refuse(u64),
     /// What follows is for targets that count, which alone refuse puts.
     Counting,
@@ -72,7 +72,7 @@ pub enum Step {
 }
 
 // Each of these looks at the steps of one kind, and hands the others on.
-impl<T: Target> Fixture<'_, T> {
+impl<A: Allocator + Copy, T: Target> Fixture<'_, A, T> {
     // Changes something.
     fn changes(&mut self, step: Step) {
         match step {
@@ -82,7 +82,7 @@ impl<T: Target> Fixture<'_, T> {
             Step::Id(id) => self.raise_to(id),
             Step::Sync => self.codec.sync_seq_id(),
             Step::Remember(remembered) => self.decoder = decoder_of(remembered),
-            Step::Refuse(nth) => self.heap.refuse(nth),
+            Step::Refuse(nth) => self.refuse(nth),
             Step::RefusePut(nth) => self.dst.refuse_put(nth),
             _ => {}
         }
@@ -113,8 +113,8 @@ impl<T: Target> Fixture<'_, T> {
             Step::Stands(stands) => self.stands() == stands,
             Step::StandsAt(src, dst, stands) => self.stands_at(src, dst) == stands,
             Step::Grew(growths, room) => self.grew(growths, room),
-            Step::Unasked(requests) => self.heap.left() == requests,
-            Step::Refused(refused) => self.heap.has_refused() == refused,
+            Step::Unasked(left) => self.requests().0 == left,
+            Step::Refused(refused) => self.requests().1 == refused,
             other => self.comes(other),
         }
     }
@@ -163,22 +163,29 @@ pub struct Script {
     pub steps: &'static [Step],
 }
 
+impl Script {
+    /// Fails where a step went otherwise.
+    pub fn ends(&self, fault: Option<usize>) -> Result<(), Fail> {
+        let name = self.name;
+        match fault {
+            Some(i) => Err(Fail::new(format_args!("{name}: step {i} went otherwise"))),
+            None => Ok(()),
+        }
+    }
+}
+
 /// The number of the first of these steps that goes otherwise with some kind of target.
 pub fn first_fault(alloc: Global, steps: &[Step]) -> Option<usize> {
-    let heap = Refusing::new(alloc, NEVER);
-    let vec = Fixture::new(&heap, Vec::new(&heap)).fault(steps);
-    let bytes = Fixture::new(&heap, BytesMut::new(&heap)).fault(steps);
-    let counting = Fixture::new(&heap, Counting::new(&heap)).fault(steps);
+    let vec = Fixture::new(alloc, None, Vec::new(alloc)).fault(steps);
+    let bytes = Fixture::new(alloc, None, BytesMut::new(alloc)).fault(steps);
+    let counting = Fixture::new(alloc, None, Counting::new(alloc)).fault(steps);
     vec.or(bytes).or(counting)
 }
 
 /// Goes through each script with each kind of target.
 pub fn play(alloc: Global, scripts: &[Script]) -> Result<(), Fail> {
     for script in scripts {
-        let name = script.name;
-        if let Some(i) = first_fault(alloc, script.steps) {
-            return Err(Fail::new(format_args!("{name}: step {i} went otherwise")));
-        }
+        script.ends(first_fault(alloc, script.steps))?;
     }
     Ok(())
 }
