@@ -41,9 +41,11 @@ pub const WRITTEN: &[Row<u64>] = &[
     (1, b"\xfa\xfe", 250),
     (3, b"\xfc\xfb\0\xfe", 251),
     (3, b"\xfc\xfc\0\xfe", 252),
+    (3, b"\xfc\x2c\x01\xfe", 300),
     (3, b"\xfc\xff\xff\xfe", 65535),
     (4, b"\xfd\0\0\x01\xfe", 65536),
     (4, b"\xfd\x01\0\x01\xfe", 65537),
+    (4, b"\xfd\x70\x11\x01\xfe", 70000),
     (4, b"\xfd\xff\xff\xff\xfe", 16777215),
     (9, b"\xfe\0\0\0\x01\0\0\0\0\xfe", 16777216),
     (9, b"\xfe\x01\0\0\x01\0\0\0\0\xfe", 16777217),
@@ -245,6 +247,7 @@ fn texts_in_too_little_room(rt: HostRuntime) {
         let front = whole.len().saturating_sub(len);
         all &= lenenc_int_len(len as u64) == front as u64;
         all &= lenenc_str_len(text) == whole.len() as u64;
+        all &= whole.ends_with(text);
         for room in 0..len + 5 {
             let (put, left) = put_text(rt.alloc(), text, room);
             all &= is_left(&put, left.as_slice(), room, front, whole.as_slice());

@@ -5,6 +5,7 @@ use crate::numbers::{self, Row};
 use linked_list_allocator::LocalHeap;
 use mysql_wire::io::{BufMutExt, ReadMysqlExt, WriteMysqlExt};
 use mysql_wire::misc::lenenc_str_len;
+use refusing::Refusing;
 use std::alloc::Global;
 use std::io::{self, Read, Write};
 use std::test::Fail;
@@ -64,6 +65,7 @@ fn gives(bytes: &[u8], wanted: Result<u64, Fault>, left: usize) -> bool {
 fn is_read(row: &Row<'_, u64>) -> bool {
     let (width, bytes, number) = *row;
     let mut all = gives(bytes, Ok(number), bytes.len().saturating_sub(width));
+    all &= gives(between(bytes, 0, width), Ok(number), 0);
     for len in 0..width {
         let mut reader = between(bytes, 0, len);
         all &= told(reader.read_lenenc_int()) == Err(Fault::Io);
@@ -215,5 +217,9 @@ fn a_hostile_length_takes_little_memory(rt: HostRuntime) -> Result<(), Fail> {
         all &= matches!(read, Err(Fault::Io));
     }
     assert!(rt; all);
+    let heap = Refusing::new(rt.alloc(), 0);
+    let mut reader = b"\xfe\xff\xff\xff\xff\xff\xff\xff\xffa".as_slice();
+    let read = told(reader.read_lenenc_str(&heap));
+    assert!(rt; matches!(read, Err(Fault::OutOfMemory)));
     Ok(())
 }
