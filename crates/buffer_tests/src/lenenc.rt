@@ -41,9 +41,11 @@ pub const WRITTEN: &[Row<u64>] = &[
     (1, b"\xfa\xfe", 250),
     (3, b"\xfc\xfb\0\xfe", 251),
     (3, b"\xfc\xfc\0\xfe", 252),
+    (3, b"\xfc\x2c\x01\xfe", 300),
     (3, b"\xfc\xff\xff\xfe", 65535),
     (4, b"\xfd\0\0\x01\xfe", 65536),
     (4, b"\xfd\x01\0\x01\xfe", 65537),
+    (4, b"\xfd\x70\x11\x01\xfe", 70000),
     (4, b"\xfd\xff\xff\xff\xfe", 16777215),
     (9, b"\xfe\0\0\0\x01\0\0\0\0\xfe", 16777216),
     (9, b"\xfe\x01\0\0\x01\0\0\0\0\xfe", 16777217),
@@ -61,27 +63,32 @@ fn lenenc_ints_are_eaten(rt: HostRuntime) {
     assert!(rt; wrong_row::<Lenenc>(MARKS) == None);
 }
 
-// Whether the row's number is put and written as its bytes, whose length is known beforehand.
-fn is_written(alloc: Global, row: &Row<'_, u64>) -> bool {
+// Whether the row's number is put as its bytes.
+fn is_put(alloc: Global, row: &Row<'_, u64>) -> bool {
     let (width, bytes, number) = *row;
     let bytes = between(bytes, 0, width);
     let mut vec = Vec::new(alloc);
-    let put = vec.put_lenenc_int(number).is_ok();
+    let mut all = vec.put_lenenc_int(number).is_ok();
+    all &= vec.as_slice() == bytes;
     let mut room = BytesMut::new(alloc);
-    let put_too = room.put_lenenc_int(number).is_ok();
+    all &= room.put_lenenc_int(number).is_ok();
+    all & (room.as_slice() == bytes)
+}
+
+// Whether the row's number is written as its bytes, whose length is known beforehand.
+fn is_written(alloc: Global, row: &Row<'_, u64>) -> bool {
+    let (width, bytes, number) = *row;
     let mut out = Vec::new(alloc);
     let written = told(out.write_lenenc_int(number));
-    let mut all = put & put_too & (written == Ok(width as u64));
-    all &= vec.as_slice() == bytes;
-    all &= room.as_slice() == bytes;
-    all &= out.as_slice() == bytes;
-    all & (lenenc_int_len(number) == width as u64)
+    let is_right = out.as_slice() == between(bytes, 0, width);
+    is_right & (written == Ok(width as u64)) & (lenenc_int_len(number) == width as u64)
 }
 
 #[test]
 fn lenenc_ints_are_written(rt: HostRuntime) {
     let mut all = true;
     for row in WRITTEN {
+        all &= is_put(rt.alloc(), row);
         all &= is_written(rt.alloc(), row);
     }
     assert!(rt; all);
@@ -245,6 +252,7 @@ fn texts_in_too_little_room(rt: HostRuntime) {
         let front = whole.len().saturating_sub(len);
         all &= lenenc_int_len(len as u64) == front as u64;
         all &= lenenc_str_len(text) == whole.len() as u64;
+        all &= whole.ends_with(text);
         for room in 0..len + 5 {
             let (put, left) = put_text(rt.alloc(), text, room);
             all &= is_left(&put, left.as_slice(), room, front, whole.as_slice());

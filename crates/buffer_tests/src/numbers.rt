@@ -183,6 +183,11 @@ impl Readers for SignedBe {
 /// A width, bytes that begin with a number of that width, and the number.
 pub type Row<'a, N> = (usize, &'a [u8], N);
 
+// The last bytes, so many.
+fn last(bytes: &[u8], count: usize) -> &[u8] {
+    between(bytes, bytes.len().saturating_sub(count), bytes.len())
+}
+
 // Whether both forms answer this, and leave so many bytes. Where there is no number, the plain form
 // isn't called.
 fn answers<R: Readers>(width: usize, input: &[u8], wanted: Option<R::Number>, left: usize) -> bool {
@@ -193,8 +198,8 @@ fn answers<R: Readers>(width: usize, input: &[u8], wanted: Option<R::Number>, le
     let plain_left = if plain.is_some() { left } else { input.len() };
     let mut all = checked == wanted;
     all &= plain == wanted;
-    all &= buf.len() == left;
-    all &= same.len() == plain_left;
+    all &= buf.0 == last(input, left);
+    all &= same.0 == last(input, plain_left);
     all
 }
 

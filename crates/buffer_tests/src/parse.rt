@@ -74,6 +74,18 @@ fn the_zero_of_a_null_str_is_found(rt: HostRuntime) {
 }
 
 #[test]
+fn the_first_of_two_zeros_ends_a_null_str(rt: HostRuntime) {
+    let mut all = true;
+    for zero in 0..299usize {
+        let mut bytes = [b'a'; 300];
+        bytes[zero] = 0;
+        bytes[299] = 0;
+        all &= eats_null_str(&bytes, &bytes[..zero], &bytes[zero + 1..]);
+    }
+    assert!(rt; all);
+}
+
+#[test]
 fn read_gives_what_fits(rt: HostRuntime) {
     let mut buf = ParseBuf(b"abc");
     let mut front = [0; 2];

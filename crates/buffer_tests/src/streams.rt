@@ -5,7 +5,8 @@ use crate::numbers::{self, Row};
 use linked_list_allocator::LocalHeap;
 use mysql_wire::io::{BufMutExt, ReadMysqlExt, WriteMysqlExt};
 use mysql_wire::misc::lenenc_str_len;
-use std::alloc::Global;
+use refusing::Refusing;
+use std::alloc::{Allocator, Global};
 use std::io::{self, Read, Write};
 use std::test::Fail;
 use test_support::answers::{Fault, told};
@@ -64,6 +65,7 @@ fn gives(bytes: &[u8], wanted: Result<u64, Fault>, left: usize) -> bool {
 fn is_read(row: &Row<'_, u64>) -> bool {
     let (width, bytes, number) = *row;
     let mut all = gives(bytes, Ok(number), bytes.len().saturating_sub(width));
+    all &= gives(between(bytes, 0, width), Ok(number), 0);
     for len in 0..width {
         let mut reader = between(bytes, 0, len);
         all &= told(reader.read_lenenc_int()) == Err(Fault::Io);
@@ -105,9 +107,12 @@ fn overlong_lenenc_ints_are_read(rt: HostRuntime) {
 // ---- texts
 
 // Whether a stream answers so where a text is wanted.
-fn refuses(alloc: Global, bytes: &[u8], fault: Fault) -> bool {
+fn refuses<A: Allocator>(alloc: A, bytes: &[u8], fault: Fault) -> bool {
     let mut reader = bytes;
-    matches!(told(reader.read_lenenc_str(alloc)), Err(why) if why == fault)
+    match told(reader.read_lenenc_str(alloc)) {
+        Ok(_) => false,
+        Err(why) => why == fault,
+    }
 }
 
 #[test]
@@ -204,16 +209,10 @@ fn a_text_ends_at_each_byte(rt: HostRuntime) {
 #[test]
 fn a_hostile_length_takes_little_memory(rt: HostRuntime) -> Result<(), Fail> {
     let heap = LocalHeap::new(rt.alloc(), 65536)?;
-    let rows: [&[u8]; 2] = [
-        b"\xfe\0\0\0\0\x01\0\0\0abc",
-        b"\xfe\xff\xff\xff\xff\xff\xff\xff\xffa",
-    ];
-    let mut all = true;
-    for bytes in rows {
-        let mut reader = bytes;
-        let read = told(reader.read_lenenc_str(&heap));
-        all &= matches!(read, Err(Fault::Io));
-    }
-    assert!(rt; all);
+    let none = Refusing::new(rt.alloc(), 0);
+    let most = b"\xfe\xff\xff\xff\xff\xff\xff\xff\xffa";
+    assert!(rt; refuses(&heap, b"\xfe\0\0\0\0\x01\0\0\0abc", Fault::Io));
+    assert!(rt; refuses(&heap, most, Fault::Io));
+    assert!(rt; refuses(&none, most, Fault::OutOfMemory));
     Ok(())
 }

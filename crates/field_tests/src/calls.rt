@@ -1,5 +1,6 @@
 // The calls of a text in hand.
 
+use crate::fields::is_written;
 use mysql_wire::io::ParseBuf;
 use mysql_wire::misc::raw::RawBytes;
 use mysql_wire::misc::raw::bytes::{
@@ -79,6 +80,7 @@ fn slices_are_borrowed_and_the_empty_text_is_default(rt: HostRuntime) {
     assert!(rt; is_borrowed(&text) & text.eq_bytes(b"ab"));
     let text = RawBytes::<U8Bytes>::default();
     assert!(rt; text.is_empty() & text.eq_bytes(b""));
+    assert!(rt; is_written(&Refusing::new(rt.alloc(), 0), &text, b"\0"));
 }
 
 // Whether a text becomes owned, and this one, or why it doesn't.

@@ -77,26 +77,37 @@ where
     all & (heap.left() == 0)
 }
 
+// The same of each kind of constant.
+fn is_byte<const N: u8>(heap: &Heap, value: ConstU8<(), N>, input: &[u8]) -> bool {
+    let is_value = value.value() == N;
+    is_value & is_at(heap, heap, value, input, 1)
+}
+
+fn is_number<const N: u32>(heap: &Heap, value: ConstU32<(), N>, input: &[u8]) -> bool {
+    is_at(heap, heap, value, input, 4)
+}
+
+fn is_skipped<const N: usize>(heap: &Heap, input: &[u8]) -> bool {
+    is_at(heap, heap, Skip::<N>, input, N)
+}
+
+fn is_array<const N: usize>(heap: &Heap, value: [u8; N], input: &[u8]) -> bool {
+    is_at(heap, heap, value, input, N)
+}
+
 #[test]
 fn constant_bytes_and_numbers(rt: HostRuntime) {
-    let heap = &Refusing::new(rt.alloc(), 0);
+    let heap = Refusing::new(rt.alloc(), 0);
     let number = ConstU32::<(), 0x01020304>::new();
-    let most = ConstU32::<(), 0xffffffff>::default();
     let at = [
-        is_at(heap, heap, ConstU8::<(), 7>::new(), b"\x07\x07\0", 1),
-        is_at(heap, heap, ConstU8::<(), 0>::new(), b"\0\0", 1),
-        is_at(heap, heap, ConstU8::<(), 255>::default(), b"\xff", 1),
-        is_at(heap, heap, ConstU32::<(), 7>::new(), b"\x07\0\0\0\x07", 4),
-        is_at(heap, heap, number, b"\x04\x03\x02\x01\0", 4),
-        is_at(heap, heap, most, b"\xff\xff\xff\xff\xff", 4),
+        is_byte::<7>(&heap, ConstU8::new(), b"\x07\x07\0"),
+        is_byte::<0>(&heap, ConstU8::new(), b"\0\0"),
+        is_byte::<255>(&heap, ConstU8::default(), b"\xff"),
+        is_number::<7>(&heap, ConstU32::new(), b"\x07\0\0\0\x07"),
+        is_number(&heap, number, b"\x04\x03\x02\x01\0"),
+        is_number::<0xffffffff>(&heap, ConstU32::default(), b"\xff\xff\xff\xff\xff"),
     ];
     assert!(rt; at == [true; 6]);
-    let values = [
-        ConstU8::<(), 7>::new().value(),
-        ConstU8::<(), 0>::new().value(),
-        ConstU8::<(), 255>::default().value(),
-    ];
-    assert!(rt; values == [7, 0, 255]);
 }
 
 #[test]
@@ -111,10 +122,10 @@ fn constant_texts_and_arrays(rt: HostRuntime) {
             4,
         ),
         is_at(heap, heap, ConstBytes::<Nothing, 0>::default(), b"a", 0),
-        is_at(heap, heap, *b"a", b"abc", 1),
-        is_at(heap, heap, *b"abc", b"abcde", 3),
-        is_at(heap, heap, [0u8; 0], b"a", 0),
-        is_at(heap, heap, [1u8; 40], &[1; 41], 40),
+        is_array(heap, *b"a", b"abc"),
+        is_array(heap, *b"abc", b"abcde"),
+        is_array(heap, [], b"a"),
+        is_array(heap, [1; 40], &[1; 41]),
     ];
     assert!(rt; at == [true; 6]);
 }
@@ -122,13 +133,13 @@ fn constant_texts_and_arrays(rt: HostRuntime) {
 // Anything is read in place of the zeros.
 #[test]
 fn bytes_to_skip(rt: HostRuntime) {
-    let heap = &Refusing::new(rt.alloc(), 0);
+    let heap = Refusing::new(rt.alloc(), 0);
     let at = [
-        is_at(heap, heap, Skip::<1>, b"\0\x01", 1),
-        is_at(heap, heap, Skip::<2>, b"\0\0", 2),
-        is_at(heap, heap, Skip::<3>, b"\0\0\0\x01", 3),
-        is_at(heap, heap, Skip::<0>, b"\x01", 0),
-        takes::<Skip<3>, _>(heap, b"abcd", 1),
+        is_skipped::<0>(&heap, b"\x01"),
+        is_skipped::<1>(&heap, b"\0\x01"),
+        is_skipped::<2>(&heap, b"\0\0"),
+        is_skipped::<3>(&heap, b"\0\0\0\x01"),
+        takes::<Skip<3>, _>(&heap, b"abcd", 1),
     ];
     assert!(rt; at == [true; 5]);
 }

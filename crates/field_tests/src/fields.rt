@@ -4,7 +4,7 @@
 use mysql_wire::io::ParseBuf;
 use mysql_wire::proto::{MyDeserialize, MySerialize, ReadSize};
 use refusing::NEVER;
-use std::alloc::{AllocError, Allocator, Global};
+use std::alloc::{Allocator, Global};
 use test_support::answers::{Fault, told};
 use test_support::fixture::Heap;
 use test_support::reference::between;
@@ -21,13 +21,13 @@ pub fn last(bytes: &[u8], count: usize) -> &[u8] {
 }
 
 /// Bytes one after another.
-pub fn joined<'h>(heap: &'h Heap, parts: &[&[u8]]) -> Result<Vec<u8, &'h Heap>, AllocError> {
+pub fn joined<'h>(heap: &'h Heap, parts: &[&[u8]]) -> Vec<u8, &'h Heap> {
     heap.refuse(NEVER);
     let mut bytes = Vec::new(heap);
     for part in parts {
-        bytes.extend_from_slice(*part)?;
+        let _ = bytes.extend_from_slice(*part);
     }
-    Ok(bytes)
+    bytes
 }
 
 /// Whether `SIZE` is this, and `Size` says the same.
@@ -38,11 +38,13 @@ pub fn has_size<'de, T: MyDeserialize<'de, Global>>(size: Option<usize>) -> bool
 // ---- writing
 
 // A buffer with no room, which holds the byte `aa`.
-fn full(heap: &Heap) -> Option<Vec<u8, &Heap>> {
+fn full(heap: &Heap) -> Vec<u8, &Heap> {
     heap.refuse(NEVER);
-    let mut buf = Vec::with_capacity(heap, 1).ok()?;
-    buf.push(0xaa).ok()?;
-    Some(buf)
+    let mut buf = Vec::new(heap);
+    if buf.reserve_exact(1).is_ok() {
+        let _ = buf.push(0xaa);
+    }
+    buf
 }
 
 // Whether these bytes stand behind the byte that was there.
@@ -56,18 +58,19 @@ fn is_behind(buf: &[u8], bytes: &[u8]) -> bool {
 // Whether a value is refused where request number `nth` is. None where something else is written
 // than these bytes, by the first call or, where that is refused, by the next.
 fn is_refused<T: MySerialize>(heap: &Heap, value: &T, bytes: &[u8], nth: u64) -> Option<bool> {
-    let mut buf = full(heap)?;
+    let mut buf = full(heap);
     heap.refuse(nth);
     let answer = told(value.serialize(&mut buf));
-    if !heap.has_refused() {
-        let is_right = (answer == Ok(())) & is_behind(buf.as_slice(), bytes);
-        return is_right.then_some(false);
+    let refused = heap.has_refused();
+    let mut all = true;
+    if refused {
+        all &= answer == Err(Fault::OutOfMemory);
+        all &= is_behind(buf.as_slice(), b"");
+        all &= value.serialize(&mut buf).is_ok();
+    } else {
+        all &= answer.is_ok();
     }
-    let mut all = answer == Err(Fault::OutOfMemory);
-    all &= is_behind(buf.as_slice(), b"");
-    all &= value.serialize(&mut buf).is_ok();
-    all &= is_behind(buf.as_slice(), bytes);
-    all.then_some(true)
+    (all & is_behind(buf.as_slice(), bytes)).then_some(refused)
 }
 
 /// How many requests for memory were refused, each in turn, before a value was written as these

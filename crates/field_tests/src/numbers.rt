@@ -25,9 +25,7 @@ fn is_number<T: IntRepr>(heap: &Heap, eaten: Eaten, row: &Row<'_, T>) -> bool {
     let (number, bytes, back) = *row;
     let value = RawInt::<T>::new(number);
     let back = RawInt::<T>::new(back);
-    let Ok(input) = joined(heap, &[bytes, MORE]) else {
-        return false;
-    };
+    let input = joined(heap, &[bytes, MORE]);
     let is_written = is_written(heap, &value, bytes);
     let short = Short::eats(eaten);
     let is_read = is_read(

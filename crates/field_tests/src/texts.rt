@@ -28,23 +28,20 @@ pub fn letters(alloc: Global, len: usize) -> Result<Vec<u8>, AllocError> {
     Ok(text)
 }
 
-// Whether a text is written as the first two of these parts, its length and as much of it, which is
-// read back, whatever follows, and takes no memory.
+// Whether a text is written as the input, but for `MORE` at its end, and `cut` is read back, whatever
+// follows, which takes no memory.
 fn is_text<T: BytesRepr<Ctx = C>, C: Copy>(
     heap: &Heap,
     ctx: C,
-    text: &[u8],
-    [front, cut, more]: [&[u8]; 3],
+    (text, cut): (&[u8], &[u8]),
+    input: &[u8],
     short: Short,
 ) -> bool {
-    let Ok(input) = joined(heap, &[front, cut, more]) else {
-        return false;
-    };
-    let len = front.len().saturating_add(cut.len());
+    let len = input.len().saturating_sub(MORE.len());
     let value = RawBytes::<T>::from(text);
-    let is_written = is_written(heap, &value, between(input.as_slice(), 0, len));
+    let is_written = is_written(heap, &value, between(input, 0, len));
     let back = RawBytes::<T, &Heap>::from(cut);
-    let is_read = is_read(starved(heap), ctx, input.as_slice(), len, &back, short);
+    let is_read = is_read(starved(heap), ctx, input, len, &back, short);
     is_written & is_read & (heap.left() == 0)
 }
 
@@ -94,18 +91,14 @@ pub fn are_texts<T: BytesRepr<Ctx = ()>>(
     let mut all = true;
     for (len, front) in rows {
         let text = between(letters, 0, *len);
+        let cut = between(text, 0, most);
+        let input = joined(heap, &[*front, cut, MORE]);
         let short = Short {
             fault: Fault::UnexpectedEof,
             eaten,
             front: front.len(),
         };
-        all &= is_text::<T, ()>(
-            heap,
-            (),
-            text,
-            [*front, between(text, 0, most), MORE],
-            short,
-        );
+        all &= is_text::<T, ()>(heap, (), (text, cut), input.as_slice(), short);
     }
     all
 }
@@ -234,20 +227,13 @@ const NULL: &[(&[u8], &[u8])] = &[
 // Whether the first bytes of a text are written and a zero, and read back, whatever follows. Without
 // the zero none are.
 fn is_null(heap: &Heap, text: &[u8], cut: &[u8]) -> bool {
-    let Ok(input) = joined(heap, &[cut, b"\0\0\xff"]) else {
-        return false;
-    };
-    let len = cut.len().saturating_add(1);
-    let value = RawBytes::<NullBytes>::from(text);
-    let is_written = is_written(heap, &value, between(input.as_slice(), 0, len));
-    let back = RawBytes::<NullBytes, &Heap>::from(cut);
+    let input = joined(heap, &[cut, b"\0", MORE]);
     let short = Short {
         fault: Fault::Invalid(InvalidReason::NoNullTerminator),
         eaten: Eaten::Nothing,
         front: usize::MAX,
     };
-    let is_read = is_read(starved(heap), (), input.as_slice(), len, &back, short);
-    is_written & is_read & (heap.left() == 0)
+    is_text::<NullBytes, ()>(heap, (), (text, cut), input.as_slice(), short)
 }
 
 #[test]
@@ -286,15 +272,16 @@ fn eof_texts_are_all_the_rest(rt: HostRuntime) -> Result<(), Fail> {
 // many.
 fn is_bare<const N: usize>(heap: &Heap, text: &[u8]) -> bool {
     let cut = between(text, 0, N);
+    let input = joined(heap, &[cut, MORE]);
     let short = Short::eats(Eaten::Nothing);
-    is_text::<BareBytes<N>, usize>(heap, cut.len(), text, [b"", cut, MORE], short)
+    is_text::<BareBytes<N>, usize>(heap, cut.len(), (text, cut), input.as_slice(), short)
 }
 
 #[test]
 fn bare_texts_are_as_long_as_the_context_says(rt: HostRuntime) -> Result<(), Fail> {
     let heap = Refusing::new(rt.alloc(), 0);
     let letters = letters(rt.alloc(), 300)?;
-    let mut all = true;
+    let mut all = is_bare::<1>(&heap, b"a");
     for len in [0usize, 1, 2, 3, 254, 255, 256, 300] {
         let text = between(letters.as_slice(), 0, len);
         all &= is_bare::<0>(&heap, text);
@@ -330,8 +317,10 @@ fn bare_texts_whose_length_is_elsewhere(rt: HostRuntime) -> Result<(), Fail> {
 
 // Whether a text is written as N bytes, cut or filled with zeros, and they are read back.
 fn is_fixed<const N: usize>(heap: &Heap, text: &[u8], bytes: &[u8]) -> bool {
+    let input = joined(heap, &[bytes, MORE]);
     let short = Short::eats(Eaten::Nothing);
-    let is_text = is_text::<FixedLengthText<N>, ()>(heap, (), text, [b"", bytes, MORE], short);
+    let pair = (text, bytes);
+    let is_text = is_text::<FixedLengthText<N>, ()>(heap, (), pair, input.as_slice(), short);
     is_text & (bytes.len() == N)
 }
 
@@ -352,6 +341,7 @@ fn fixed_texts_are_cut_or_filled_with_zeros(rt: HostRuntime) -> Result<(), Fail>
     let long = between(filled.as_slice(), 0, 300);
     let mut all = is_fixed::<0>(&heap, b"", b"");
     all &= is_fixed::<0>(&heap, b"abc", b"");
+    all &= is_fixed::<1>(&heap, b"a", b"a");
     all &= is_fixed::<300>(&heap, long, long);
     all &= is_fixed::<302>(&heap, long, filled.as_slice());
     for (text, bytes) in FIXED {
