@@ -1,7 +1,8 @@
 -- What follows of bytes that were read, for who reads one field after another.
-use Rattle.std.proofs.Common.{ℕ, ◌≡◌, ◌≤◌, ◌+◌, List, length, take, drop, Result, Ok, Some, inl, inr, ap, ◌∙◌}
+use Rattle.std.proofs.Common.{ℕ, ◌≡◌, ◌≤◌, ◌+◌, ◌⊎◌, List, length, take, drop, Result, Ok, Err, Some, inl, inr, ap, ◌∙◌}
 use Rattle.std.proofs.lemmas.List.{drop-drop}
 use Rattle.wire_buf.specs.declared.error.WireError.{WireError}
+use Rattle.wire_buf.specs.declared.error.WireError.TheVariants.{UnexpectedEof}
 use Rattle.wire_buf.specs.Reading.{Reads, Parses}
 
 -- a value that `parse` answers of a type with a size: so many bytes were there, they are eaten, and
@@ -14,6 +15,16 @@ parsed_fixed reads size old new value (eaten, there, left, inl (short, answered,
     cc answered
 parsed_fixed reads size old new value (eaten, there, left, inr (enough, all, looked_at, read)) =
     (enough, left ∙ ap (λ count. drop count old) all, looked_at, read)
+
+-- what such a value leaves, where its type's relation need not be named
+pub eaten_size : {X Short : Type 0} {LooksAt : ℕ → Type 0} (size : ℕ) (old new : List ℕ) (value : X)
+    → (eaten : ℕ) × (eaten ≤ length old) × (new ≡ drop eaten old)
+    × ((Short × ◌≡◌ {A = Result X WireError} (Ok value) (Err UnexpectedEof) × (eaten ≡ 0))
+    ⊎ ((size ≤ length old) × (eaten ≡ size) × (looked_at : ℕ) × LooksAt looked_at))
+    → new ≡ drop size old
+eaten_size size old new value (eaten, there, left, inl (short, answered, none)) = cc answered
+eaten_size size old new value (eaten, there, left, inr (enough, all, looked_at, read)) =
+    left ∙ ap (λ count. drop count old) all
 
 -- the first bytes of all of them are eaten
 pub eats_first : (count : ℕ) (all old new : List ℕ) → old ≡ all → new ≡ drop count old
