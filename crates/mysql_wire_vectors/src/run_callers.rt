@@ -85,9 +85,17 @@ const COMMANDS: [Row; 9] = [
     (b"\x01\0\0\0\x0e\x02\0\0\0\x03", UNKNOWN, None),
     (b"\x01\0\0\0\x03\x04\0\0\0\x0e123", BOTH, None),
     (b"\x01\0\0\0\x03\x01\0\0\0\x0e\x01\0", BOTH, None),
-    (b"\x01\0\0\0\x03\x0a\0\0\0", QUERY_DONE, Some(Fault::TooLarge)),
+    (
+        b"\x01\0\0\0\x03\x0a\0\0\0",
+        QUERY_DONE,
+        Some(Fault::TooLarge),
+    ),
     (b"\x0a\0\0\x01", b"", Some(Fault::TooLarge)),
-    (b"\x01\0\0\0\x03\x01\0\0\x01\x0e", QUERY_DONE, Some(Fault::OutOfSync)),
+    (
+        b"\x01\0\0\0\x03\x01\0\0\x01\x0e",
+        QUERY_DONE,
+        Some(Fault::OutOfSync),
+    ),
 ];
 
 fn serve_both(
