@@ -1,5 +1,5 @@
-//! Tests of `wire_buf` and `wire_ext`: the buffer that is read from its front, numbers whose length is
-//! in their first byte, texts behind their length, streams, and versions.
+//! Tests of `wire_buf` and `wire_ext`: the buffer that is read from its front, numbers whose length
+//! is in their first byte, texts behind their length, streams, and versions.
 #![tactic(auto)]
 
 #[cfg(test)]

@@ -1,5 +1,5 @@
-// How often values ask for memory where they are written. That each request may be refused, and that
-// readers make none, the tests of each representation show.
+// How often values ask for memory where they are written. That each request may be refused, and
+// that readers make none, the tests of each representation show.
 
 use crate::fields::{joined, refusals};
 use mysql_wire::misc::raw::RawBytes;
@@ -8,8 +8,8 @@ use mysql_wire::misc::raw::int::{LenEnc, VarLen};
 use refusing::Refusing;
 use test_support::fixture::Heap;
 
-/// Whether a text, the second of these parts, is written as all of them, and refused twice at least:
-/// at each of its two puts.
+/// Whether a text, the second of these parts, is written as all of them, and refused twice at
+/// least: at each of its two puts.
 pub fn is_refused_twice<T: BytesRepr>(heap: &Heap, parts: [&[u8]; 3]) -> bool {
     let [_, text, _] = parts;
     let value = RawBytes::<T>::from(text);

@@ -39,8 +39,8 @@ fn is_number<T: IntRepr>(heap: &Heap, eaten: Eaten, row: &Row<'_, T>) -> bool {
     is_written & is_read & (heap.left() == 0)
 }
 
-/// Whether a representation has this size, and each row is as it has it, where so much is eaten of a
-/// number cut short.
+/// Whether a representation has this size, and each row is as it has it, where so much is eaten of
+/// a number cut short.
 pub fn are_numbers<T: IntRepr>(
     heap: &Heap,
     size: Option<usize>,

@@ -28,8 +28,8 @@ pub fn letters(alloc: Global, len: usize) -> Result<Vec<u8>, AllocError> {
     Ok(text)
 }
 
-// Whether a text is written as the input, but for `MORE` at its end, and `cut` is read back, whatever
-// follows, which takes no memory.
+// Whether a text is written as the input, but for `MORE` at its end, and `cut` is read back,
+// whatever follows, which takes no memory.
 fn is_text<T: BytesRepr<Ctx = C>, C: Copy>(
     heap: &Heap,
     ctx: C,
@@ -224,8 +224,8 @@ const NULL: &[(&[u8], &[u8])] = &[
     (b"\0\0a", b""),
 ];
 
-// Whether the first bytes of a text are written and a zero, and read back, whatever follows. Without
-// the zero none are.
+// Whether the first bytes of a text are written and a zero, and read back, whatever follows.
+// Without the zero none are.
 fn is_null(heap: &Heap, text: &[u8], cut: &[u8]) -> bool {
     let input = joined(heap, &[cut, b"\0", MORE]);
     let short = Short {
@@ -268,8 +268,8 @@ fn eof_texts_are_all_the_rest(rt: HostRuntime) -> Result<(), Fail> {
     Ok(())
 }
 
-// Whether the first bytes of a text are written, N at most, and read back where the context says how
-// many.
+// Whether the first bytes of a text are written, N at most, and read back where the context says
+// how many.
 fn is_bare<const N: usize>(heap: &Heap, text: &[u8]) -> bool {
     let cut = between(text, 0, N);
     let input = joined(heap, &[cut, MORE]);
