@@ -1,15 +1,15 @@
-// The buffer that is read from its front, the values that are read from it, and the errors.
+// The buffer that is read from its front, and the values that are read from it.
 
 ghost use Rattle.std.specs.Prelude.{◌≡◌, take, Ok, IfErr};
 
-use mysql_wire::io::{InvalidLengthEncodedInteger, InvalidReason, ParseBuf, WireError};
+use mysql_wire::io::{InvalidReason, ParseBuf, WireError};
 use mysql_wire::proto::{Binary, Fixed, HasSize, MyDeserialize, Text};
 use refusing::Refusing;
 use std::alloc::{Allocator, Global};
 use std::fmt::Debug;
 use std::hash::Hash;
-use std::io::{self, Read};
-use test_support::answers::{Fault, shows, told};
+use std::io::Read;
+use test_support::answers::{Fault, told};
 use test_support::reference::between;
 
 #[test]
@@ -210,43 +210,4 @@ fn is_value<T: Copy + Eq + Hash + Debug>(marker: T) -> bool {
 fn markers_are_values(rt: HostRuntime) {
     assert!(rt; is_value(Text));
     assert!(rt; is_value(Binary));
-}
-
-// Whether the reason is shown as this text, by itself and in an error.
-fn shows_reason(alloc: Global, reason: InvalidReason, text: &str) -> bool {
-    shows(alloc, reason, text) && shows(alloc, WireError::InvalidData(reason), text)
-}
-
-#[test]
-fn errors_show_their_texts(rt: HostRuntime) {
-    let alloc = rt.alloc();
-    let eof = "can't parse: buf doesn't have enough data";
-    let lenenc = "Invalid length-encoded integer value (starts with 0xfb|0xff)";
-    let shown = [
-        shows(alloc, WireError::UnexpectedEof, eof),
-        shows(alloc, WireError::Other(InvalidLengthEncodedInteger), lenenc),
-        shows(
-            alloc,
-            WireError::Io(io::Error::other("it broke")),
-            "it broke",
-        ),
-        shows(alloc, WireError::OutOfMemory, "Out of memory"),
-    ];
-    assert!(rt; shown == [true; 4]);
-}
-
-#[test]
-fn reasons_show_their_texts(rt: HostRuntime) {
-    let alloc = rt.alloc();
-    let no_zero = "no null terminator for null-terminated string";
-    let too_large = "invalid variable-length value (> u32::MAX)";
-    let too_long = "invalid variable-length value (more than 5 bytes)";
-    let shown = [
-        shows_reason(alloc, InvalidReason::UnknownValue, "unknown value"),
-        shows_reason(alloc, InvalidReason::ConstMismatch, "constant mismatch"),
-        shows_reason(alloc, InvalidReason::NoNullTerminator, no_zero),
-        shows_reason(alloc, InvalidReason::VarLenTooLarge, too_large),
-        shows_reason(alloc, InvalidReason::VarLenTooLong, too_long),
-    ];
-    assert!(rt; shown == [true; 5]);
 }

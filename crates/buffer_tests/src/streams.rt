@@ -148,7 +148,7 @@ fn comes_back(alloc: Global, text: &[u8]) -> bool {
 
 // Of a long text the room is asked for piece by piece.
 #[test]
-fn texts_are_written_and_read(rt: HostRuntime) {
+fn each_call_succeeds_on_a_good_stream(rt: HostRuntime) {
     assert!(rt; comes_back(rt.alloc(), b""));
     assert!(rt; comes_back(rt.alloc(), &[b'a'; 251]));
     assert!(rt; comes_back(rt.alloc(), &[b'a'; 100_000]));

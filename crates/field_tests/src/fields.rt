@@ -2,7 +2,7 @@
 //! left where its end is missing or memory is refused.
 
 use mysql_wire::io::ParseBuf;
-use mysql_wire::proto::{MyDeserialize, MySerialize, ReadSize};
+use mysql_wire::proto::{MyDeserialize, MySerialize};
 use refusing::NEVER;
 use std::alloc::{Allocator, Global};
 use test_support::answers::{Fault, told};
@@ -30,9 +30,9 @@ pub fn joined<'h>(heap: &'h Heap, parts: &[&[u8]]) -> Vec<u8, &'h Heap> {
     bytes
 }
 
-/// Whether `SIZE` is this, and `Size` says the same.
+/// Whether a type's size is this.
 pub fn has_size<'de, T: MyDeserialize<'de, Global>>(size: Option<usize>) -> bool {
-    (T::SIZE == size) & (<T::Size as ReadSize>::SIZE == size)
+    T::SIZE == size
 }
 
 // ---- writing

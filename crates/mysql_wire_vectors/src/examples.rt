@@ -118,7 +118,7 @@ const EXAMPLES: [Script; 9] = [
 ];
 
 #[test]
-fn each_example_goes_as_it_says(rt: HostRuntime) -> Result<(), Fail> {
+fn each_example_succeeds_with_memory(rt: HostRuntime) -> Result<(), Fail> {
     play(rt.alloc(), &EXAMPLES)
 }
 
