@@ -2,7 +2,7 @@
 
 use mysql_wire::io::{InvalidReason, WireError};
 use std::alloc::Global;
-use std::fmt::{Debug, Display};
+use std::fmt::Debug;
 
 /// Why a value wasn't read or written.
 #[derive(Clone, Copy, PartialEq, Eq)]
@@ -31,14 +31,6 @@ pub fn told<T>(answer: Result<T, WireError>) -> Result<T, Fault> {
     match answer {
         Ok(value) => Ok(value),
         Err(error) => Err(Fault::of(&error)),
-    }
-}
-
-/// Whether the error is shown as this text.
-pub fn shows<T: Display + Drop>(alloc: Global, error: T, text: &str) -> bool {
-    match format!(in alloc; "{error}") {
-        Ok(shown) => shown.as_str() == text,
-        Err(_) => false,
     }
 }
 
