@@ -7,6 +7,7 @@ use mysql_wire::misc::raw::bytes::{
     BareBytes, BytesRepr, EofBytes, FixedLengthText, LenEnc, NullBytes, U8Bytes, U32Bytes,
 };
 use mysql_wire::misc::raw::int::VarLen;
+use mysql_wire::proto::ReadSize;
 use refusing::{NEVER, Refusing};
 use std::alloc::{Allocator, Global};
 use std::borrow::CowSlice;
@@ -49,7 +50,7 @@ fn is_borrowed<T: BytesRepr>(text: &RawBytes<'_, T>) -> bool {
 }
 
 // Whether the text that is read borrows from the input.
-fn borrows<T: BytesRepr<Ctx = ()>>(alloc: Global, input: &[u8]) -> bool {
+fn borrows<T: BytesRepr<Ctx = (), Size = S>, S: ReadSize>(alloc: Global, input: &[u8]) -> bool {
     let mut buf = ParseBuf(input);
     match buf.parse::<RawBytes<'_, T>>(alloc, ()) {
         Ok(text) => is_borrowed(&text),
@@ -61,13 +62,13 @@ fn borrows<T: BytesRepr<Ctx = ()>>(alloc: Global, input: &[u8]) -> bool {
 fn what_is_read_is_borrowed(rt: HostRuntime) {
     let alloc = rt.alloc();
     let borrowed = [
-        borrows::<LenEnc>(alloc, b"\x01a"),
-        borrows::<U8Bytes>(alloc, b"\x01a"),
-        borrows::<U32Bytes>(alloc, b"\x01\0\0\0a"),
-        borrows::<NullBytes>(alloc, b"a\0"),
-        borrows::<EofBytes>(alloc, b"a"),
-        borrows::<FixedLengthText<1>>(alloc, b"a"),
-        borrows::<VarLen>(alloc, b"\x01a"),
+        borrows::<LenEnc, _>(alloc, b"\x01a"),
+        borrows::<U8Bytes, _>(alloc, b"\x01a"),
+        borrows::<U32Bytes, _>(alloc, b"\x01\0\0\0a"),
+        borrows::<NullBytes, _>(alloc, b"a\0"),
+        borrows::<EofBytes, _>(alloc, b"a"),
+        borrows::<FixedLengthText<1>, _>(alloc, b"a"),
+        borrows::<VarLen, _>(alloc, b"\x01a"),
     ];
     assert!(rt; borrowed == [true; 7]);
     let read = told(ParseBuf(b"a").parse::<RawBytes<'_, BareBytes<1>>>(alloc, 1));
