@@ -19,7 +19,8 @@ abbrev pub ReadsCounted : {X Z V : Type 0} → (V → CowSlice X Z) → Result �
     → (ℕ → List ℕ → Result (List X) WireError → ℕ → Type 0) → List ℕ → Result V WireError → ℕ
     → Type 0
 ReadsCounted seq (Ok number, width) each input (Ok items) eaten =
-    IsOwned (seq items) × ((taken : ℕ) × each number (drop width input) (Ok (cow_slice_items (seq items))) taken
+    IsOwned (seq items) × ((taken : ℕ)
+    × each number (drop width input) (Ok (cow_slice_items (seq items))) taken
     × (eaten ≡ width + taken))
 ReadsCounted seq (Ok number, width) each input (Err error) eaten =
     (taken : ℕ) × each number (drop width input) (Err error) taken × (eaten ≡ width + taken)

@@ -19,9 +19,8 @@ use wire_repr::wire::Wire;
 /// A set of flags of `T` as it was read, with the bits that no flag names. Its bits are written as
 /// the representation `U` says.
 ///
-/// The sets of flags that packets have are listed on
-/// <https://dev.mysql.com/doc/dev/mysql-server/latest/page_protocol_connection_phase.html> and the
-/// pages of the commands.
+/// Sets of flags, as those of capabilities:
+/// <https://dev.mysql.com/doc/dev/mysql-server/latest/group__group__cs__capabilities__flags.html>
 #[derive_where(Clone, Copy, Debug, PartialEq, Eq, PartialOrd, Ord, Hash, Default; B)]
 pub struct RawFlags<T: Flags<Bits = B>, U, B = <T as Flags>::Bits>(pub B, PhantomData<(T, U)>);
 
@@ -86,7 +85,8 @@ impl<'de, A: Allocator + Copy, T: Flags, U: IntRepr<Primitive = T::Bits>> Wire<'
     ghost of_size = { λ flags size _ stated. U.IntRepr.of_size flags.0 size stated };
 }
 
-/// A number as it was read, which may stand for no value of `U`. It is written as the
+/// A number as it was read, which may stand for no value of `U`, as the type of a column:
+/// <https://dev.mysql.com/doc/dev/mysql-server/latest/field__types_8h.html>. It is written as the
 /// representation `T` says.
 #[derive_where(Clone, Copy, Debug, PartialEq, Eq, PartialOrd, Ord, Hash, Default; P)]
 pub struct RawConst<T: IntRepr<Primitive = P>, U, P = <T as IntRepr>::Primitive>(

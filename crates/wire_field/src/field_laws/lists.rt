@@ -29,9 +29,11 @@ pub fn seq_u32<'de, T: IntRepr>(
         (ReadsAll T.Size.SIZE
         (Parses T.Size.SIZE (λ input. Through (λ int. int.0) (T.reads input)))) input)
         buf.old.0.now result buf.new.0.now }
-    ensures back { (values : List (RawInt T T.Primitive T.Size)) (rest : List ℕ) → length values ≤ 4294967295
+    ensures back { (values : List (RawInt T T.Primitive T.Size)) (rest : List ℕ)
+        → length values ≤ 4294967295
         → All (λ int. T.is_value int.0) values
-        → buf.old.0.now ≡ (le_bytes 4 (length values) ++ flat_map (λ int. T.bytes int.0) values) ++ rest
+        → buf.old.0.now
+        ≡ (le_bytes 4 (length values) ++ flat_map (λ int. T.bytes int.0) values) ++ rest
         → LeavesRest (λ back. AllKept (λ int back. back.0 ≡ T.kept int.0) values
         (cow_slice_items back.0)) (Unit {0}) rest result buf.new.0.now }
 {
@@ -60,9 +62,11 @@ pub fn seq_u64<'de, T: IntRepr>(
         (ReadsAll T.Size.SIZE
         (Parses T.Size.SIZE (λ input. Through (λ int. int.0) (T.reads input)))) input)
         buf.old.0.now result buf.new.0.now }
-    ensures back { (values : List (RawInt T T.Primitive T.Size)) (rest : List ℕ) → length values < 2 ^ 64
+    ensures back { (values : List (RawInt T T.Primitive T.Size)) (rest : List ℕ)
+        → length values < 2 ^ 64
         → All (λ int. T.is_value int.0) values
-        → buf.old.0.now ≡ (le_bytes 8 (length values) ++ flat_map (λ int. T.bytes int.0) values) ++ rest
+        → buf.old.0.now
+        ≡ (le_bytes 8 (length values) ++ flat_map (λ int. T.bytes int.0) values) ++ rest
         → LeavesRest (λ back. AllKept (λ int back. back.0 ≡ T.kept int.0) values
         (cow_slice_items back.0)) (Unit {0}) rest result buf.new.0.now }
 {
@@ -92,7 +96,8 @@ pub fn seq_unknown<'de, T: IntRepr>(
         (ReadsAll T.Size.SIZE
         (Parses T.Size.SIZE (λ input. Through (λ int. int.0) (T.reads input)))) input)
         buf.old.0.now result buf.new.0.now }
-    ensures back { (values : List (RawInt T T.Primitive T.Size)) (rest : List ℕ) → count ≡ length values
+    ensures back { (values : List (RawInt T T.Primitive T.Size)) (rest : List ℕ)
+        → count ≡ length values
         → length values < 2 ^ 64
         → All (λ int. T.is_value int.0) values
         → buf.old.0.now ≡ flat_map (λ int. T.bytes int.0) values ++ rest

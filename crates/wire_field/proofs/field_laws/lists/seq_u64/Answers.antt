@@ -10,6 +10,7 @@ returns-clause-back g c =
     let few : length values ≤ 0xffff_ffff_ffff_ffff = omega arith in
     let whole = whole-list 0xffff_ffff_ffff_ffff (le_bytes 8)
     (λ int. g.T.IntRepr.bytes int.0) values few in
-    c.parse_back.ensures.back (record { 0 = slice.Borrowed (record { ref_ptr = (0, 0); now = values }); 1 = record {} })
+    c.parse_back.ensures.back
+    (record { 0 = slice.Borrowed (record { ref_ptr = (0, 0); now = values }); 1 = record {} })
     rest (fits, is) (tt, λ index default below more. tt)
     (at ∙ sym (ap (λ bytes. bytes ++ rest) whole)))
