@@ -1,5 +1,5 @@
 -- Bytes of a length that the context says, which are lent.
-use Rattle.std.proofs.Common.{ℕ, ◌≡◌, ◌≤◌, List, ◌++◌, length, Result, Ok, Err, subst, sym, refl, arith}
+use Rattle.std.proofs.Common.{ℕ, ◌≡◌, ◌≤◌, List, ◌++◌, length, Result, Ok, subst, sym, refl, arith}
 use Rattle.std.proofs.lemmas.List.{take_at, length-append}
 use Rattle.std.proofs.lemmas.Bool.{le-ltb}
 use Rattle.std.specs.declared.borrow.CowSlice.{CowSlice}

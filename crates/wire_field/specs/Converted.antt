@@ -1,5 +1,5 @@
 -- A value that a number converts to.
-use Rattle.std.proofs.Common.{◌≡◌, ℕ, ◌∙◌, Result, Ok, Err, ◌⊎◌, inl, inr, subst}
+use Rattle.std.proofs.Common.{◌≡◌, ℕ, Result, Ok, Err, ◌⊎◌, inl, inr, subst}
 use Rattle.wire_buf.specs.declared.error.WireError.{WireError}
 use Rattle.wire_buf.specs.declared.error.WireError.TheVariants.{InvalidData}
 use Rattle.wire_buf.specs.declared.error.InvalidReason.TheVariants.{UnknownValue}

@@ -1,5 +1,5 @@
 -- One of two values, and two values one after the other.
-use Rattle.std.proofs.Common.{◌≡◌, ◌≤◌, ℕ, ◌+◌, List, ◌++◌, length, drop, sym, ap, ◌∙◌, arith, Option, Some, Result, Ok, Err, inl, inr, ◌⊎◌, subst}
+use Rattle.std.proofs.Common.{◌≡◌, ◌≤◌, ℕ, ◌+◌, List, ◌++◌, length, drop, sym, ap, ◌∙◌, arith, Result, Ok, Err, inl, inr, ◌⊎◌, subst}
 use Rattle.std.proofs.lemmas.List.{drop_at, length-append, append_assoc}
 use Rattle.wire_buf.specs.declared.error.WireError.{WireError}
 use Rattle.wire_field.specs.declared.row.Either.{Either}
