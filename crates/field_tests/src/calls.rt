@@ -1,6 +1,5 @@
 // The calls of a text in hand.
 
-use crate::fields::is_written;
 use mysql_wire::io::ParseBuf;
 use mysql_wire::misc::raw::RawBytes;
 use mysql_wire::misc::raw::bytes::{
@@ -12,6 +11,7 @@ use refusing::{NEVER, Refusing};
 use std::alloc::{Allocator, Global};
 use std::borrow::CowSlice;
 use test_support::answers::{Fault, told};
+use test_support::fields::is_written;
 
 // Whether a text shows these bytes of all that it holds, and this string.
 fn is_shown<T: BytesRepr>(alloc: Global, whole: &[u8], bytes: &[u8], string: &str) -> bool {

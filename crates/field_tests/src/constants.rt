@@ -3,7 +3,6 @@
 ghost use Rattle.std.specs.Prelude.{◌∷◌, [], refl};
 ghost use Rattle.std.proofs.Common.{arith};
 
-use crate::fields::{has_size, is_written, last, stops};
 use mysql_wire::io::{InvalidReason, ParseBuf};
 use mysql_wire::misc::raw::Skip;
 use mysql_wire::misc::raw::bytes::{ConstBytes, ConstBytesValue};
@@ -12,6 +11,7 @@ use mysql_wire::proto::{MyDeserialize, MySerialize};
 use refusing::Refusing;
 use std::alloc::Allocator;
 use test_support::answers::Fault;
+use test_support::fields::{has_size, is_written, last, stops};
 use test_support::fixture::Heap;
 use test_support::reference::between;
 

@@ -6,8 +6,6 @@ mod calls;
 #[cfg(test)]
 mod constants;
 #[cfg(test)]
-mod fields;
-#[cfg(test)]
 mod memory;
 #[cfg(test)]
 mod null;

@@ -1,11 +1,11 @@
 // How often values ask for memory where they are written. That each request may be refused, and
 // that readers make none, the tests of each representation show.
 
-use crate::fields::{joined, refusals};
 use mysql_wire::misc::raw::RawBytes;
 use mysql_wire::misc::raw::bytes::{BytesRepr, FixedLengthText, NullBytes, U8Bytes, U32Bytes};
 use mysql_wire::misc::raw::int::{LenEnc, VarLen};
 use refusing::Refusing;
+use test_support::fields::{joined, refusals};
 use test_support::fixture::Heap;
 
 /// Whether a text, the second of these parts, is written as all of them, and refused twice at

@@ -1,7 +1,6 @@
 // Each representation of a number: the ends of its range, cut short, with bytes behind, and with
 // each request for memory refused.
 
-use crate::fields::{Eaten, MORE, Short, has_size, is_read, is_written, joined, starved, stops};
 use mysql_wire::io::InvalidReason;
 use mysql_wire::misc::raw::RawInt;
 use mysql_wire::misc::raw::int::{
@@ -10,6 +9,9 @@ use mysql_wire::misc::raw::int::{
 };
 use refusing::Refusing;
 use test_support::answers::Fault;
+use test_support::fields::{
+    Eaten, MORE, Short, has_size, is_read, is_written, joined, starved, stops,
+};
 use test_support::fixture::Heap;
 use test_support::reference::between;
 

@@ -1,12 +1,12 @@
 // A number and a text in representations of one's own, by the same checks as those of the crate.
 
-use crate::fields::Eaten;
 use crate::memory::is_refused_twice;
 use crate::numbers::{self, are_numbers};
 use crate::texts::{self, are_texts, is_bounded, letters};
 use mysql_wire_examples::own_fields::{BeU16, U16Bytes};
 use refusing::Refusing;
 use std::test::Fail;
+use test_support::fields::Eaten;
 
 const BE_U16: &[numbers::Row<BeU16>] = &[
     (0, b"\0\0", 0),

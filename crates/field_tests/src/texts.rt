@@ -1,9 +1,6 @@
 // Each representation of a text: at the ends of its lengths, cut short, with bytes behind, and with
 // each request for memory refused.
 
-use crate::fields::{
-    Eaten, MORE, Short, gives, has_size, is_read, is_written, joined, starved, stops,
-};
 use mysql_wire::io::InvalidReason;
 use mysql_wire::misc::raw::RawBytes;
 use mysql_wire::misc::raw::bytes::{
@@ -15,6 +12,9 @@ use refusing::Refusing;
 use std::alloc::{AllocError, Global};
 use std::test::Fail;
 use test_support::answers::Fault;
+use test_support::fields::{
+    Eaten, MORE, Short, gives, has_size, is_read, is_written, joined, starved, stops,
+};
 use test_support::fixture::Heap;
 use test_support::reference::between;
 

@@ -15,12 +15,39 @@ pub mod misc {
         write_varlen_uint,
     };
 
-    /// Numbers, texts and constants as fields of packets.
+    /// Numbers, texts and constants as fields of packets, and fields in a row and in lists.
     pub mod raw {
+        pub use wire_field::converted::{Const, IntoNumber, RawConst, RawFlags};
+        pub use wire_field::raw_seq::RawSeq;
+        pub use wire_field::row::{Both, Either, Slice};
         pub use wire_repr::constant::Skip;
-        pub use wire_repr::field_laws;
         pub use wire_repr::int::RawInt;
         pub use wire_repr::text::RawBytes;
+
+        /// What was written is read back, as functions.
+        pub mod field_laws {
+            pub use wire_field::field_laws::{converted, lists, rows};
+            pub use wire_repr::field_laws::{
+                constants, number_back, number_comes_back, numbers, parse_back, text_comes_back,
+                texts,
+            };
+        }
+
+        /// Numbers that stand for constants.
+        pub mod _const {
+            pub use wire_field::converted::{Const, RawConst};
+        }
+
+        /// Numbers that stand for sets of flags.
+        pub mod flags {
+            pub use wire_field::converted::RawFlags;
+        }
+
+        /// Lists, by the representations of their count.
+        pub mod seq {
+            pub use wire_field::raw_seq::RawSeq;
+            pub use wire_field::seq::{Seq, SeqRepr, Unknown};
+        }
 
         /// Numbers, by their representations.
         pub mod int {

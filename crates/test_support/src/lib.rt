@@ -5,6 +5,7 @@
 pub mod answers;
 pub mod case;
 pub mod facts;
+pub mod fields;
 pub mod fixture;
 pub mod generated;
 pub mod receiver;

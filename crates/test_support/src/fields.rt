@@ -1,13 +1,13 @@
 //! A value of any type that is a field of packets: how it is written and read back, and what is
 //! left where its end is missing or memory is refused.
 
+use crate::answers::{Fault, told};
+use crate::fixture::Heap;
+use crate::reference::between;
 use mysql_wire::io::ParseBuf;
 use mysql_wire::proto::{MyDeserialize, MySerialize};
 use refusing::NEVER;
 use std::alloc::{Allocator, Global};
-use test_support::answers::{Fault, told};
-use test_support::fixture::Heap;
-use test_support::reference::between;
 
 /// What follows a value in most inputs.
 pub const MORE: &[u8] = b"\xff\x80\0";

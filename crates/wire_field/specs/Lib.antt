@@ -1,0 +1,5 @@
+pub mod Converted
+pub mod Borrowed
+pub mod Rows
+pub mod Elements
+pub mod Counted
