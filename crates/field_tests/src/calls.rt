@@ -1,12 +1,11 @@
 // The calls of a text in hand.
 
-use mysql_wire::io::ParseBuf;
+use mysql_wire::io::{ParseBuf, WireError};
 use mysql_wire::misc::raw::RawBytes;
 use mysql_wire::misc::raw::bytes::{
     BareBytes, BytesRepr, EofBytes, FixedLengthText, LenEnc, NullBytes, U8Bytes, U32Bytes,
 };
 use mysql_wire::misc::raw::int::VarLen;
-use mysql_wire::proto::ReadSize;
 use refusing::{NEVER, Refusing};
 use std::alloc::{Allocator, Global};
 use std::borrow::CowSlice;
@@ -49,30 +48,25 @@ fn is_borrowed<T: BytesRepr>(text: &RawBytes<'_, T>) -> bool {
     matches!(text.0, CowSlice::Borrowed(_))
 }
 
-// Whether the text that is read borrows from the input.
-fn borrows<T: BytesRepr<Ctx = (), Size = S>, S: ReadSize>(alloc: Global, input: &[u8]) -> bool {
-    let mut buf = ParseBuf(input);
-    match buf.parse::<RawBytes<'_, T>>(alloc, ()) {
-        Ok(text) => is_borrowed(&text),
-        Err(_) => false,
-    }
+// Whether a text was read, and borrows from the input.
+fn borrows<T: BytesRepr>(read: Result<RawBytes<'_, T>, WireError>) -> bool {
+    matches!(&read, Ok(text) if is_borrowed(text))
 }
 
 #[test]
 fn what_is_read_is_borrowed(rt: HostRuntime) {
     let alloc = rt.alloc();
     let borrowed = [
-        borrows::<LenEnc, _>(alloc, b"\x01a"),
-        borrows::<U8Bytes, _>(alloc, b"\x01a"),
-        borrows::<U32Bytes, _>(alloc, b"\x01\0\0\0a"),
-        borrows::<NullBytes, _>(alloc, b"a\0"),
-        borrows::<EofBytes, _>(alloc, b"a"),
-        borrows::<FixedLengthText<1>, _>(alloc, b"a"),
-        borrows::<VarLen, _>(alloc, b"\x01a"),
+        borrows(ParseBuf(b"\x01a").parse::<RawBytes<'_, LenEnc>>(alloc, ())),
+        borrows(ParseBuf(b"\x01a").parse::<RawBytes<'_, U8Bytes>>(alloc, ())),
+        borrows(ParseBuf(b"\x01\0\0\0a").parse::<RawBytes<'_, U32Bytes>>(alloc, ())),
+        borrows(ParseBuf(b"a\0").parse::<RawBytes<'_, NullBytes>>(alloc, ())),
+        borrows(ParseBuf(b"a").parse::<RawBytes<'_, EofBytes>>(alloc, ())),
+        borrows(ParseBuf(b"a").parse::<RawBytes<'_, FixedLengthText<1>>>(alloc, ())),
+        borrows(ParseBuf(b"\x01a").parse::<RawBytes<'_, VarLen>>(alloc, ())),
+        borrows(ParseBuf(b"a").parse::<RawBytes<'_, BareBytes<1>>>(alloc, 1)),
     ];
-    assert!(rt; borrowed == [true; 7]);
-    let read = told(ParseBuf(b"a").parse::<RawBytes<'_, BareBytes<1>>>(alloc, 1));
-    assert!(rt; matches!(&read, Ok(text) if is_borrowed(text)));
+    assert!(rt; borrowed == [true; 8]);
 }
 
 #[test]
