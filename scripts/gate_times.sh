@@ -11,11 +11,14 @@ trap 'rm -f "$samples"' EXIT
 
 # A line for each check that runs: what it checks, its process, and its seconds so far.
 sample() {
-    ps -eo pid=,cputimes=,args= | grep '[/]rattle check --crate-name ' | while read -r pid seconds args; do
+    ps -eo pid=,cputimes=,args= | grep '[/]rattle [a-z]* --crate-name ' | while read -r pid seconds args; do
         crate=${args#*--crate-name }
-        kind=proof
-        case $args in *' --test'*) kind=tests ;; esac
-        case $(readlink "/proc/$pid/cwd") in *rt-edit-*) kind=edits ;; esac
+        case $(readlink "/proc/$pid/cwd") in
+            "$PWD"/crates/*) kind=proof ;;
+            */rt-edit-*) kind=edits ;;
+            *) continue ;;
+        esac
+        [ "$kind" = proof ] && case $args in *' --test'*) kind=tests ;; esac
         echo "${crate%% *} $kind $pid $seconds"
     done
 }
@@ -45,6 +48,7 @@ awk -v log_file="$log" '
     END {
         for (key in most) { split(key, part, " "); sum[part[1] " " part[2]] += most[key] }
         for (crate in crates) {
+            edits = tests = 0
             "ls crates/" crate "/must-fail/*.edit 2> /dev/null | wc -l" | getline edits
             "cat $(find crates/" crate "/src -name \"*.rt\") | grep -c \"#\\[test\\]\"" | getline tests
             printf "| `%s` | %s | %s | %s | %d | %d | %d |\n", crate, functions[crate], tests, edits, \
