@@ -49,8 +49,8 @@ awk -v log_file="$log" '
         for (key in most) { split(key, part, " "); sum[part[1] " " part[2]] += most[key] }
         for (crate in crates) {
             edits = tests = 0
-            "ls crates/" crate "/must-fail/*.edit 2> /dev/null | wc -l" | getline edits
-            "cat $(find crates/" crate "/src -name \"*.rt\") | grep -c \"#\\[test\\]\"" | getline tests
+            ("ls crates/" crate "/must-fail 2> /dev/null | grep -c edit$") | getline edits
+            ("grep -rho \"#.test.\" crates/" crate "/src | wc -l") | getline tests
             printf "| `%s` | %s | %s | %s | %d | %d | %d |\n", crate, functions[crate], tests, edits, \
                 sum[crate " proof"], sum[crate " tests"], sum[crate " edits"]
         }
