@@ -21,8 +21,8 @@ fn made_up_texts(len: usize) -> Vec<Vec<u8>> {
     (0..TEXTS).map(|_| numbers.bytes(len)).collect()
 }
 
-// The length-encoded spelling of a number, written plainly.
-fn lenenc(n: u64) -> Vec<u8> {
+/// The length-encoded spelling of a number, written plainly.
+pub fn lenenc(n: u64) -> Vec<u8> {
     let bytes = n.to_le_bytes();
     match n {
         0..251 => vec![bytes[0]],
@@ -51,8 +51,8 @@ fn copy_parts(parts: &[Vec<u8>]) -> Box<dyn FnMut(u64) -> u64> {
     })
 }
 
-// A workload on these bytes, beside a copy of these parts.
-fn parts_row(
+/// A workload on these bytes, beside a copy of these parts.
+pub fn parts_row(
     name: String,
     parts: &[Vec<u8>],
     input: &[u8],

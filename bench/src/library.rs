@@ -11,6 +11,9 @@ unsafe extern "C" {
     fn mw_null(ptr: *const u8, len: usize, form: u64, reps: u64) -> u64;
     fn mw_put_lenenc(ptr: *const u8, len: usize, form: u64, reps: u64) -> u64;
     fn mw_eat_lenenc(ptr: *const u8, len: usize, reps: u64) -> u64;
+    fn mw_coldef(ptr: *const u8, len: usize, reps: u64) -> u64;
+    fn mw_coldef_by_hand(ptr: *const u8, len: usize, reps: u64) -> u64;
+    fn mw_coldef_copy(ptr: *const u8, len: usize, form: u64, reps: u64) -> u64;
 }
 
 /// A payload framed `count` times a repetition: form 0 by `packet_to_chunks`, form 1 by
@@ -58,4 +61,19 @@ pub fn put_lenenc(bytes: &[u8], form: u64, reps: u64) -> u64 {
 /// Length-encoded integers read.
 pub fn eat_lenenc(bytes: &[u8], reps: u64) -> u64 {
     unsafe { mw_eat_lenenc(bytes.as_ptr(), bytes.len(), reps) }
+}
+
+/// Column definitions read by `parse`.
+pub fn coldef(bytes: &[u8], reps: u64) -> u64 {
+    unsafe { mw_coldef(bytes.as_ptr(), bytes.len(), reps) }
+}
+
+/// The same, each part read by a call of the buffer's.
+pub fn coldef_by_hand(bytes: &[u8], reps: u64) -> u64 {
+    unsafe { mw_coldef_by_hand(bytes.as_ptr(), bytes.len(), reps) }
+}
+
+/// The same read and written again, form 0 by `parse` and `serialize`, form 1 each part by hand.
+pub fn coldef_copy(bytes: &[u8], form: u64, reps: u64) -> u64 {
+    unsafe { mw_coldef_copy(bytes.as_ptr(), bytes.len(), form, reps) }
 }

@@ -8,6 +8,7 @@
 //! measurement of memory alone.
 
 mod check;
+mod columns;
 mod fields;
 mod inputs;
 mod library;
@@ -41,6 +42,7 @@ fn measure_rows(word: &str) -> bool {
     let mut rows = Vec::new();
     packets::rows(&mut rows);
     fields::rows(&mut rows);
+    columns::rows(&mut rows);
     let mut passed = true;
     for row in rows.iter_mut().filter(|row| row.name.contains(word)) {
         match timing::measure(row) {

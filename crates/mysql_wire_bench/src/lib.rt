@@ -4,5 +4,6 @@
 #![tactic(auto)]
 
 mod check;
+mod columns;
 mod fields;
 mod packets;

@@ -9,16 +9,16 @@ use Rattle.wire_repr.specs.Law.{ComesBack}
 -- the number that is read converts to the value, or else to none, and the value is unknown
 abbrev pub ReadsConverted : {P T E Y : Type 0} → (Y → T) → (P → Result T E → Type 0)
     → (Result P WireError → ℕ → Type 0) → Result Y WireError → ℕ → Type 0
-ReadsConverted {P = P} part converts says (Ok value) eaten = (number : P) × says (Ok number) eaten
-    × converts number (Ok (part value))
+ReadsConverted {P = P} part converts says (Ok value) eaten =
+    (number : P) × says (Ok number) eaten × converts number (Ok (part value))
 ReadsConverted {P = P} {E = E} part converts says (Err error) eaten =
     says (Err error) eaten ⊎ ((number : P) × (refusal : E) × says (Ok number) eaten
     × converts number (Err refusal) × (error ≡ InvalidData UnknownValue))
 
 -- the number converts to the value, and to nothing else
 abbrev pub ConvertsBack : {P T E : Type 0} → (P → Result T E → Type 0) → P → T → Type 0
-ConvertsBack {T = T} {E = E} converts number value = (answer : Result T E) → converts number answer
-    → answer ≡ Ok value
+ConvertsBack {T = T} {E = E} converts number value =
+    (answer : Result T E) → converts number answer → answer ≡ Ok value
 
 -- ---- lemmas
 
@@ -33,8 +33,9 @@ ReadsConverted-back {P = P} {T = T} {E = E} part converts says kept_number value
     let answered = law (Ok number) eaten read in
     let is : ◌≡◌ {A = Result P WireError} (Ok number) (Ok kept_number) = answered.0 in
     let same_number : number ≡ kept_number = cc is in
-    let same_value : ◌≡◌ {A = Result T E} (Ok (part wrapped)) (Ok value) = converts_back
-    (Ok (part wrapped)) (subst (λ from. converts from (Ok (part wrapped))) same_number converted) in
+    let same_value : ◌≡◌ {A = Result T E} (Ok (part wrapped)) (Ok value) =
+    converts_back (Ok (part wrapped))
+    (subst (λ from. converts from (Ok (part wrapped))) same_number converted) in
     let same_part : part wrapped ≡ value = cc same_value in
     (same_part, answered.1)
 ReadsConverted-back {P = P} part converts says kept_number value len law converts_back (Err error)
@@ -47,6 +48,7 @@ ReadsConverted-back {P = P} {T = T} {E = E} part converts says kept_number value
     let is : ◌≡◌ {A = Result P WireError} (Ok number) (Ok kept_number) =
     (law (Ok number) eaten read).0 in
     let same_number : number ≡ kept_number = cc is in
-    let same_value : ◌≡◌ {A = Result T E} (Err refusal) (Ok value) = converts_back (Err refusal)
+    let same_value : ◌≡◌ {A = Result T E} (Err refusal) (Ok value) =
+    converts_back (Err refusal)
     (subst (λ from. converts from (Err refusal)) same_number converted) in
     cc same_value

@@ -35,61 +35,56 @@ count_at width input =
 
 -- a count and then values, from the bytes before to those that are left
 pub counted-read : {X Z V : Type 0} (seq : V → CowSlice X Z)
-    (counted : List ℕ → Result ℕ WireError × ℕ) (each : ℕ → List ℕ → Result (List X) WireError → ℕ
-    → Type 0) (old mid new : List ℕ) (number : ℕ) (value : V)
+    (counted : List ℕ → Result ℕ WireError × ℕ)
+    (each : ℕ → List ℕ → Result (List X) WireError → ℕ → Type 0) (old mid new : List ℕ)
+    (number : ℕ) (value : V)
     → Reads (λ input. Answers (counted input)) old (Ok number) mid → IsOwned (seq value)
     → Reads (each number) mid (Ok (cow_slice_items (seq value))) new
     → Reads (λ input. ReadsCounted seq (counted input) each input) old (Ok value) new
 counted-read seq counted each old mid new number value (width, fits, at, (answered, ate)) own
     (taken, room, is, read) =
-    let pair : (Ok number, width) ≡ counted old = ap (λ answer. (answer, width)) answered
-    ∙ ap (λ eaten. ((counted old).0, eaten)) ate in
+    let pair : (Ok number, width) ≡ counted old =
+    ap (λ answer. (answer, width)) answered ∙ ap (λ eaten. ((counted old).0, eaten)) ate in
     let len : length mid ≡ length old - width = ap length at ∙ length-drop width old in
-    let there : new ≡ drop (width + taken) old = is ∙ ap (drop taken) at
-    ∙ drop-drop taken width old in (
+    let there : new ≡ drop (width + taken) old =
+    is ∙ ap (drop taken) at ∙ drop-drop taken width old in (
       width + taken,
       omega arith,
       there,
-      subst (λ outcome. ReadsCounted seq outcome each old
-          (Ok value) (width + taken)) pair (
-            own,
-            (
-              taken,
-              subst
-                  (λ input. each number input (Ok (cow_slice_items (seq value))) taken) at read,
-              refl,
-            ),
-          ),
+      subst (λ outcome. ReadsCounted seq outcome each old (Ok value) (width + taken)) pair (
+        own,
+        (
+          taken,
+          subst (λ input. each number input (Ok (cow_slice_items (seq value))) taken) at read,
+          refl,
+        ),
+      ),
     )
 
 pub counted-failed : {X Z V : Type 0} (seq : V → CowSlice X Z)
-    (counted : List ℕ → Result ℕ WireError × ℕ) (each : ℕ → List ℕ → Result (List X) WireError → ℕ
-    → Type 0) (old mid new : List ℕ) (number : ℕ) (error : WireError)
+    (counted : List ℕ → Result ℕ WireError × ℕ)
+    (each : ℕ → List ℕ → Result (List X) WireError → ℕ → Type 0) (old mid new : List ℕ)
+    (number : ℕ) (error : WireError)
     → Reads (λ input. Answers (counted input)) old (Ok number) mid
     → Reads (each number) mid (Err error) new
     → Reads (λ input. ReadsCounted seq (counted input) each input) old (Err error) new
 counted-failed seq counted each old mid new number error (width, fits, at, (answered, ate))
     (taken, room, is, read) =
-    let pair : (Ok number, width) ≡ counted old = ap (λ answer. (answer, width)) answered
-    ∙ ap (λ eaten. ((counted old).0, eaten)) ate in
+    let pair : (Ok number, width) ≡ counted old =
+    ap (λ answer. (answer, width)) answered ∙ ap (λ eaten. ((counted old).0, eaten)) ate in
     let len : length mid ≡ length old - width = ap length at ∙ length-drop width old in
-    let there : new ≡ drop (width + taken) old = is ∙ ap (drop taken) at
-    ∙ drop-drop taken width old in (
+    let there : new ≡ drop (width + taken) old =
+    is ∙ ap (drop taken) at ∙ drop-drop taken width old in (
       width + taken,
       omega arith,
       there,
-      subst (λ outcome. ReadsCounted seq outcome each old
-          (Err error) (width + taken)) pair (
-            taken,
-            subst (λ input. each number input (Err error) taken)
-                at read,
-            refl,
-          ),
+      subst (λ outcome. ReadsCounted seq outcome each old (Err error) (width + taken)) pair
+          (taken, subst (λ input. each number input (Err error) taken) at read, refl),
     )
 
 -- what is cut at the lesser of its length and a bound is cut at the bound
-pub cut-least : {X : Type 0} (max : ℕ) (others : List X) → take (min (length others) max) others
-    ≡ take max others
+pub cut-least : {X : Type 0} (max : ℕ) (others : List X)
+    → take (min (length others) max) others ≡ take max others
 cut-least zero [] = refl
 cut-least zero (first ∷ others) =
     let least : min (suc (length others)) 0 ≡ 0 = omega arith in
@@ -105,16 +100,11 @@ cut-least (suc max) (first ∷ others) =
 pub count-back : (width number : ℕ) (rest : List ℕ) → number < 256 ^ width
     → count_at width (le_bytes width number ++ rest) ≡ (Ok number, length (le_bytes width number))
 count-back width number rest small =
-    let enough : width ≤ length (le_bytes width number ++ rest) = omega
-    (arith, length-append (le_bytes width number) rest, length-le_bytes width number) in
-    rw (
-      le-ltb (length (le_bytes width number ++ rest)) width enough,
-      take_at
-          (le_bytes width number) rest width (length-le_bytes width number),
-      le_number-le_bytes_fits width
-          number small,
-      length-le_bytes width number,
-    ) refl
+    let bytes = le_bytes width number in
+    let len : length bytes ≡ width = length-le_bytes width number in
+    let enough : width ≤ length (bytes ++ rest) = omega (arith, length-append bytes rest, len) in
+    let is : le_number bytes ≡ number = le_number-le_bytes_fits width number small in
+    rw (le-ltb (length (bytes ++ rest)) width enough, take_at bytes rest width len, is, len) refl
 
 -- values of a size have that many bytes each
 pub sized-values : {X : Type 0} (size : Option ℕ) (bytes : X → List ℕ) (is_value : X → Type 0)
@@ -143,11 +133,11 @@ pub all-back : {X : Type 0} (size : Option ℕ) (reads : List ℕ → Result X W
     → (rest : List ℕ) (answer : Result (List X) WireError) (eaten : ℕ)
     → ReadsAll size reads (length values) (flat_map bytes values ++ rest) answer eaten
     → ComesBack (AllKept kept values) (Unit {0}) (length (flat_map bytes values)) answer eaten
-all-back None reads bytes kept memory values sized laws rest answer eaten read = each-back
-    (Unit {0}) reads bytes kept memory values laws rest answer eaten read
+all-back None reads bytes kept memory values sized laws rest answer eaten read =
+    each-back (Unit {0}) reads bytes kept memory values laws rest answer eaten read
 all-back (Some count) reads bytes kept memory values sized laws rest answer eaten
-    (inl (none, read)) = each-back (Unit {0}) reads bytes kept memory values laws rest answer eaten
-    read
+    (inl (none, read)) =
+    each-back (Unit {0}) reads bytes kept memory values laws rest answer eaten read
 all-back (Some count) reads bytes kept memory values sized laws rest answer eaten
     (inr (inl (one, few, answered, none))) =
     let len : length (flat_map bytes values) ≡ count * length values = sized count refl in
@@ -160,7 +150,8 @@ all-back (Some count) reads bytes kept memory values sized laws rest answer eate
     (inr (inr (inr (one, fits, all, taken, read)))) =
     let len : length (flat_map bytes values) ≡ count * length values = sized count refl in
     let shown : take (count * length values) (flat_map bytes values ++ rest)
-    ≡ flat_map bytes values ++ [] = take_at (flat_map bytes values) rest (count * length values) len
+    ≡ flat_map bytes values ++ [] =
+    take_at (flat_map bytes values) rest (count * length values) len
     ∙ sym (append-nil (flat_map bytes values)) in
     let back = each-back ⊥ reads bytes kept memory values laws [] answer taken
     (subst (λ input. ReadsEach ⊥ reads (length values) input answer taken) shown read) in
@@ -199,15 +190,15 @@ behind-count : {X Z V : Type 0} (seq : V → CowSlice X Z) (number : ℕ) (front
     → ComesBack (λ value. kept (cow_slice_items (seq value))) (Unit {0}) (length (front ++ flat))
     answer eaten
 behind-count seq number front flat rest kept each law (Ok value) eaten (own, (taken, read, all)) =
-    let at : drop (length front) ((front ++ flat) ++ rest)
-    ≡ flat ++ rest = ap (drop (length front)) (append_assoc front flat rest)
+    let at : drop (length front) ((front ++ flat) ++ rest) ≡ flat ++ rest =
+    ap (drop (length front)) (append_assoc front flat rest)
     ∙ drop_at front (flat ++ rest) (length front) refl in
     let back = law (Ok (cow_slice_items (seq value))) taken
     (subst (λ input. each number input (Ok (cow_slice_items (seq value))) taken) at read) in
     (back.0, all ∙ ap (λ eaten. length front + eaten) back.1 ∙ sym (length-append front flat))
 behind-count seq number front flat rest kept each law (Err error) eaten (taken, read, all) =
-    let at : drop (length front) ((front ++ flat) ++ rest)
-    ≡ flat ++ rest = ap (drop (length front)) (append_assoc front flat rest)
+    let at : drop (length front) ((front ++ flat) ++ rest) ≡ flat ++ rest =
+    ap (drop (length front)) (append_assoc front flat rest)
     ∙ drop_at front (flat ++ rest) (length front) refl in
     law (Err error) taken (subst (λ input. each number input (Err error) taken) at read)
 
@@ -241,10 +232,11 @@ seq-back {X} {Z} {V} seq size reads bytes kept memory max front counted values r
     count answer eaten =
     let number = length values in
     let shape : front (min number max) ++ flat_map bytes (take max values)
-    ≡ front number ++ flat_map bytes values = whole-list max front bytes values few in
+    ≡ front number ++ flat_map bytes values =
+    whole-list max front bytes values few in
     let is : counted ((front number ++ flat_map bytes values) ++ rest)
-    ≡ (Ok number, length (front number)) = ap counted
-    (append_assoc (front number) (flat_map bytes values) rest)
+    ≡ (Ok number, length (front number)) =
+    ap counted (append_assoc (front number) (flat_map bytes values) rest)
     ∙ count (flat_map bytes values ++ rest) in
     let Goal : List ℕ → Type 0 = λ written. ReadsCounted seq (counted (written ++ rest))
     (ReadsAll size (Parses size reads)) (written ++ rest) answer eaten

@@ -68,8 +68,8 @@ pub more-so_far : {X : Type 0} (short : Type 0) (reads : List ℕ → Result X W
 more-so_far short reads count start items left rest value taken next (done, fits, at, completes)
     room is read =
     let len : length rest ≡ length start - done = ap length at ∙ length-drop done start in
-    let there : next ≡ drop (done + taken) start = is ∙ ap (drop taken) at
-    ∙ drop-drop taken done start in (
+    let there : next ≡ drop (done + taken) start =
+    is ∙ ap (drop taken) at ∙ drop-drop taken done start in (
       done + taken,
       omega arith,
       there,
@@ -82,8 +82,7 @@ more-so_far short reads count start items left rest value taken next (done, fits
             others,
             room,
             read,
-            subst
-                (λ input. ReadsEach short reads left input others after) is later,
+            subst (λ input. ReadsEach short reads left input others after) is later,
             refl,
             refl,
           ))) in
@@ -95,10 +94,10 @@ more-so_far short reads count start items left rest value taken next (done, fits
     )
 
 -- room is refused
-pub refused-so_far : {X : Type 0} (short : Type 0) (reads : List ℕ → Result X WireError → ℕ
-    → Type 0) (count : ℕ) (start : List ℕ) (items : List X) (left : ℕ) (rest : List ℕ)
-    → short → SoFar short reads count start items (suc left) rest → (done : ℕ)
-    × (done ≤ length start) × (rest ≡ drop done start)
+pub refused-so_far : {X : Type 0} (short : Type 0)
+    (reads : List ℕ → Result X WireError → ℕ → Type 0) (count : ℕ) (start : List ℕ) (items : List X)
+    (left : ℕ) (rest : List ℕ) → short → SoFar short reads count start items (suc left) rest
+    → (done : ℕ) × (done ≤ length start) × (rest ≡ drop done start)
     × ReadsEach short reads count start (Err OutOfMemory) done
 refused-so_far short reads count start items left rest missing (done, fits, at, completes) =
     let same : done + 0 ≡ done = omega arith in (
@@ -114,20 +113,22 @@ pub failed-so_far : {X : Type 0} (short : Type 0) (reads : List ℕ → Result X
     (count : ℕ) (start : List ℕ) (items : List X) (left : ℕ) (rest : List ℕ) (error : WireError)
     (taken : ℕ) (next : List ℕ)
     → SoFar short reads count start items (suc left) rest → taken ≤ length rest
-    → next ≡ drop taken rest → reads rest (Err error) taken → (done : ℕ) × (done ≤ length start)
-    × (next ≡ drop done start) × ReadsEach short reads count start (Err error) done
+    → next ≡ drop taken rest → reads rest (Err error) taken
+    → (done : ℕ) × (done ≤ length start) × (next ≡ drop done start)
+    × ReadsEach short reads count start (Err error) done
 failed-so_far short reads count start items left rest error taken next (done, fits, at, completes)
     room is read =
     let len : length rest ≡ length start - done = ap length at ∙ length-drop done start in
-    let there : next ≡ drop (done + taken) start = is ∙ ap (drop taken) at
-    ∙ drop-drop taken done start in
+    let there : next ≡ drop (done + taken) start =
+    is ∙ ap (drop taken) at ∙ drop-drop taken done start in
     (done + taken, omega arith, there, completes (Err error) taken (inr (inl (error, refl, read))))
 
 -- all are read
 pub done-so_far : {X : Type 0} (short : Type 0) (reads : List ℕ → Result X WireError → ℕ → Type 0)
     (count : ℕ) (start : List ℕ) (items : List X) (rest : List ℕ)
-    → SoFar short reads count start items 0 rest → (done : ℕ) × (done ≤ length start)
-    × (rest ≡ drop done start) × ReadsEach short reads count start (Ok items) done
+    → SoFar short reads count start items 0 rest
+    → (done : ℕ) × (done ≤ length start) × (rest ≡ drop done start)
+    × ReadsEach short reads count start (Ok items) done
 done-so_far short reads count start items rest (done, fits, at, completes) =
     let same : done + 0 ≡ done = omega arith in
     let whole = completes (Ok []) 0 (refl, refl) in (
@@ -187,8 +188,8 @@ each-back short reads bytes kept memory (value ∷ others) laws rest answer eate
 each-back short reads bytes kept memory (value ∷ others) laws rest answer eaten
     (inr (inl (error, answered, read))) =
     let shape : flat_map bytes (value ∷ others) ++ rest
-    ≡ bytes value ++ (flat_map bytes others ++ rest) = append_assoc (bytes value)
-    (flat_map bytes others) rest in
+    ≡ bytes value ++ (flat_map bytes others ++ rest) =
+    append_assoc (bytes value) (flat_map bytes others) rest in
     let back = laws.0 (flat_map bytes others ++ rest) (Err error) eaten
     (subst (λ input. reads input (Err error) eaten) shape read) in
     subst (λ outcome. ComesBack (AllKept kept (value ∷ others)) (Unit {0})
@@ -196,20 +197,19 @@ each-back short reads bytes kept memory (value ∷ others) laws rest answer eate
 each-back short reads bytes kept memory (value ∷ others) laws rest answer eaten
     (inr (inr (first, taken, after, later, room, read, read_later, answered, all_eaten))) =
     let shape : flat_map bytes (value ∷ others) ++ rest
-    ≡ bytes value ++ (flat_map bytes others ++ rest) = append_assoc (bytes value)
-    (flat_map bytes others) rest in
+    ≡ bytes value ++ (flat_map bytes others ++ rest) =
+    append_assoc (bytes value) (flat_map bytes others) rest in
     let back = laws.0 (flat_map bytes others ++ rest) (Ok first) taken
     (subst (λ input. reads input (Ok first) taken) shape read) in
-    let at : drop taken (flat_map bytes (value ∷ others) ++ rest)
-    ≡ flat_map bytes others ++ rest = ap (drop taken) shape
+    let at : drop taken (flat_map bytes (value ∷ others) ++ rest) ≡ flat_map bytes others ++ rest =
+    ap (drop taken) shape
     ∙ drop_at (bytes value) (flat_map bytes others ++ rest) taken (sym back.1) in
     let others_back = each-back short reads bytes kept memory others laws.1 rest later after
     (subst (λ input. ReadsEach short reads (length others) input later after) at read_later) in
     let whole = in_front kept value first others (length (flat_map bytes others)) taken after later
     back.0 others_back in
-    let len : taken + length (flat_map bytes others)
-    ≡ length (flat_map bytes (value ∷ others)) = ap
-    (λ number. number + length (flat_map bytes others)) back.1
+    let len : taken + length (flat_map bytes others) ≡ length (flat_map bytes (value ∷ others)) =
+    ap (λ number. number + length (flat_map bytes others)) back.1
     ∙ sym (length-append (bytes value) (flat_map bytes others)) in
     subst (λ outcome. ComesBack (AllKept kept (value ∷ others)) (Unit {0})
     (length (flat_map bytes (value ∷ others))) outcome eaten) (sym answered)
@@ -238,8 +238,7 @@ each-short short missing_too weaken reads (suc count) input answer eaten
       others,
       room,
       read,
-      each-short short missing_too weaken reads
-          count (drop taken input) others after rest,
+      each-short short missing_too weaken reads count (drop taken input) others after rest,
       answered,
       all_eaten,
     ))
@@ -268,10 +267,10 @@ pub gives-short : {V X : Type 0} (items : V → List X) (short more : Type 0) �
     (answer : Result V WireError) (eaten : ℕ)
     → Gives items (ReadsEach short reads count input) answer eaten
     → Gives items (ReadsEach more reads count input) answer eaten
-gives-short items short more weaken reads count input (Ok values) eaten read = each-short short more
-    weaken reads count input (Ok (items values)) eaten read
-gives-short items short more weaken reads count input (Err error) eaten read = each-short short more
-    weaken reads count input (Err error) eaten read
+gives-short items short more weaken reads count input (Ok values) eaten read =
+    each-short short more weaken reads count input (Ok (items values)) eaten read
+gives-short items short more weaken reads count input (Err error) eaten read =
+    each-short short more weaken reads count input (Err error) eaten read
 
 pub eats-short : {V X : Type 0} (items : V → List X) (short more : Type 0) → (short → more)
     → (reads : List ℕ → Result X WireError → ℕ → Type 0) (count : ℕ) (old : List ℕ)
@@ -287,10 +286,10 @@ gives-block : {V X : Type 0} (items : V → List X) (reads : List ℕ → Result
     → size * count ≤ length input
     → Gives items (ReadsEach ⊥ reads count (take (size * count) input)) answer taken
     → Gives items (ReadsAll (Some size) reads count input) answer (size * count)
-gives-block items reads size count input taken (Ok values) one fits read = inr
-    (inr (inr (one, fits, refl, taken, read)))
-gives-block items reads size count input taken (Err error) one fits read = inr
-    (inr (inr (one, fits, refl, taken, read)))
+gives-block items reads size count input taken (Ok values) one fits read =
+    inr (inr (inr (one, fits, refl, taken, read)))
+gives-block items reads size count input taken (Err error) one fits read =
+    inr (inr (inr (one, fits, refl, taken, read)))
 
 pub eats-block : {V X : Type 0} (items : V → List X) (short : Type 0) → (short → ⊥)
     → (reads : List ℕ → Result X WireError → ℕ → Type 0) (size count : ℕ) (old : List ℕ)
@@ -308,23 +307,18 @@ eats-block items short room reads size count old answer left one fits (taken, so
 -- too few bytes
 pub eats-short_block : {V X : Type 0} (items : V → List X)
     (reads : List ℕ → Result X WireError → ℕ → Type 0) (size count : ℕ) (old : List ℕ) → 1 ≤ size
-    → length old < size * count → ReadsInto {V = V} items (ReadsAll (Some size) reads count) old
-    (Err UnexpectedEof) old
+    → length old < size * count
+    → ReadsInto {V = V} items (ReadsAll (Some size) reads count) old (Err UnexpectedEof) old
 eats-short_block items reads size count old one few =
     (0, omega arith, refl, inr (inl (one, few, refl, refl)))
 
 -- no room for the block's values
 pub eats-refused : {V X : Type 0} (items : V → List X)
     (reads : List ℕ → Result X WireError → ℕ → Type 0) (size count : ℕ) (old : List ℕ) → 1 ≤ size
-    → size * count ≤ length old → ReadsInto {V = V} items (ReadsAll (Some size) reads count) old
-    (Err OutOfMemory) old
-eats-refused items reads size count old one fits = (
-  0,
-  omega arith,
-  refl,
-  inr
-      (inr (inl (one, fits, refl, refl))),
-)
+    → size * count ≤ length old
+    → ReadsInto {V = V} items (ReadsAll (Some size) reads count) old (Err OutOfMemory) old
+eats-refused items reads size count old one fits =
+    (0, omega arith, refl, inr (inr (inl (one, fits, refl, refl))))
 
 -- values with no bytes
 gives-none : {V X : Type 0} (items : V → List X) (reads : List ℕ → Result X WireError → ℕ → Type 0)

@@ -22,16 +22,16 @@ ReadsBoth {A = A} first second reads_first reads_second input (Err error) eaten 
 abbrev pub ReadsEither : {C D A B : Type 0} → (C → List ℕ → Result A WireError → ℕ → Type 0)
     → (D → List ℕ → Result B WireError → ℕ → Type 0) → Either C D → List ℕ
     → Result (Either A B) WireError → ℕ → Type 0
-ReadsEither reads_left reads_right (Left ctx) input (Ok (Left left)) eaten = reads_left ctx input
-    (Ok left) eaten
+ReadsEither reads_left reads_right (Left ctx) input (Ok (Left left)) eaten =
+    reads_left ctx input (Ok left) eaten
 ReadsEither reads_left reads_right (Left ctx) input (Ok (Right right)) eaten = ⊥
-ReadsEither reads_left reads_right (Left ctx) input (Err error) eaten = reads_left ctx input
-    (Err error) eaten
+ReadsEither reads_left reads_right (Left ctx) input (Err error) eaten =
+    reads_left ctx input (Err error) eaten
 ReadsEither reads_left reads_right (Right ctx) input (Ok (Left left)) eaten = ⊥
-ReadsEither reads_left reads_right (Right ctx) input (Ok (Right right)) eaten = reads_right ctx
-    input (Ok right) eaten
-ReadsEither reads_left reads_right (Right ctx) input (Err error) eaten = reads_right ctx input
-    (Err error) eaten
+ReadsEither reads_left reads_right (Right ctx) input (Ok (Right right)) eaten =
+    reads_right ctx input (Ok right) eaten
+ReadsEither reads_left reads_right (Right ctx) input (Err error) eaten =
+    reads_right ctx input (Err error) eaten
 
 -- what one makes of the value, by its side
 abbrev pub by_side : {A B X : Type 0} → (A → X) → (B → X) → Either A B → X
@@ -78,32 +78,32 @@ pub both-back : {A B Y : Type 0} (first : Y → A) (second : Y → B)
     (length (bytes_a ++ bytes_b)) answer eaten
 both-back first second reads_a reads_b kept_a kept_b memory_a memory_b bytes_a bytes_b rest law_a
     law_b (Ok both) eaten (taken, after, fits, read_a, read_b, all) =
-    let shape : (bytes_a ++ bytes_b) ++ rest
-    ≡ bytes_a ++ (bytes_b ++ rest) = append_assoc bytes_a bytes_b rest in
-    let back_a = law_a (Ok (first both)) taken (subst
-    (λ input. reads_a input (Ok (first both)) taken) shape read_a) in
-    let at : drop taken ((bytes_a ++ bytes_b) ++ rest) ≡ bytes_b ++ rest = ap (drop taken) shape
-    ∙ drop_at bytes_a (bytes_b ++ rest) taken (sym back_a.1) in
-    let back_b = law_b (Ok (second both)) after (subst
-    (λ input. reads_b input (Ok (second both)) after) at read_b) in
+    let shape : (bytes_a ++ bytes_b) ++ rest ≡ bytes_a ++ (bytes_b ++ rest) =
+    append_assoc bytes_a bytes_b rest in
+    let back_a = law_a (Ok (first both)) taken
+    (subst (λ input. reads_a input (Ok (first both)) taken) shape read_a) in
+    let at : drop taken ((bytes_a ++ bytes_b) ++ rest) ≡ bytes_b ++ rest =
+    ap (drop taken) shape ∙ drop_at bytes_a (bytes_b ++ rest) taken (sym back_a.1) in
+    let back_b = law_b (Ok (second both)) after
+    (subst (λ input. reads_b input (Ok (second both)) after) at read_b) in
     ((back_a.0, back_b.0), omega (arith, back_a.1, back_b.1, all, length-append bytes_a bytes_b))
 both-back first second reads_a reads_b kept_a kept_b memory_a memory_b bytes_a bytes_b rest law_a
     law_b (Err error) eaten (inl read_a) =
-    let shape : (bytes_a ++ bytes_b) ++ rest
-    ≡ bytes_a ++ (bytes_b ++ rest) = append_assoc bytes_a bytes_b rest in
-    let back_a = law_a (Err error) eaten (subst (λ input. reads_a input (Err error) eaten) shape
-    read_a) in
+    let shape : (bytes_a ++ bytes_b) ++ rest ≡ bytes_a ++ (bytes_b ++ rest) =
+    append_assoc bytes_a bytes_b rest in
+    let back_a = law_a (Err error) eaten
+    (subst (λ input. reads_a input (Err error) eaten) shape read_a) in
     (back_a.0, inl back_a.1)
 both-back first second reads_a reads_b kept_a kept_b memory_a memory_b bytes_a bytes_b rest law_a
     law_b (Err error) eaten (inr (before, taken, after, fits, read_a, read_b, all)) =
-    let shape : (bytes_a ++ bytes_b) ++ rest
-    ≡ bytes_a ++ (bytes_b ++ rest) = append_assoc bytes_a bytes_b rest in
-    let back_a = law_a (Ok before) taken (subst (λ input. reads_a input (Ok before) taken) shape
-    read_a) in
-    let at : drop taken ((bytes_a ++ bytes_b) ++ rest) ≡ bytes_b ++ rest = ap (drop taken) shape
-    ∙ drop_at bytes_a (bytes_b ++ rest) taken (sym back_a.1) in
-    let back_b = law_b (Err error) after (subst (λ input. reads_b input (Err error) after) at
-    read_b) in
+    let shape : (bytes_a ++ bytes_b) ++ rest ≡ bytes_a ++ (bytes_b ++ rest) =
+    append_assoc bytes_a bytes_b rest in
+    let back_a = law_a (Ok before) taken
+    (subst (λ input. reads_a input (Ok before) taken) shape read_a) in
+    let at : drop taken ((bytes_a ++ bytes_b) ++ rest) ≡ bytes_b ++ rest =
+    ap (drop taken) shape ∙ drop_at bytes_a (bytes_b ++ rest) taken (sym back_a.1) in
+    let back_b = law_b (Err error) after
+    (subst (λ input. reads_b input (Err error) after) at read_b) in
     (back_b.0, inr back_b.1)
 
 -- the value of the context's side comes back
@@ -124,11 +124,11 @@ pub either-back : {C D A B : Type 0} (reads_a : C → List ℕ → Result A Wire
     → ComesBack (SameSide kept_a kept_b either) (memory_a ⊎ memory_b)
     (length (by_side bytes_a bytes_b either)) answer eaten
 either-back reads_a reads_b is_a is_b good_a good_b kept_a kept_b memory_a memory_b bytes_a bytes_b
-    rest law_a law_b (Left ctx) (Left left) (Ok (Left answered)) eaten value good read = law_a ctx
-    left (Ok answered) eaten value good read
+    rest law_a law_b (Left ctx) (Left left) (Ok (Left answered)) eaten value good read =
+    law_a ctx left (Ok answered) eaten value good read
 either-back reads_a reads_b is_a is_b good_a good_b kept_a kept_b memory_a memory_b bytes_a bytes_b
-    rest law_a law_b (Left ctx) (Left left) (Ok (Right answered)) eaten value good read = absurd
-    read
+    rest law_a law_b (Left ctx) (Left left) (Ok (Right answered)) eaten value good read =
+    absurd read
 either-back reads_a reads_b is_a is_b good_a good_b kept_a kept_b memory_a memory_b bytes_a bytes_b
     rest law_a law_b (Left ctx) (Left left) (Err error) eaten value good read =
     let back = law_a ctx left (Err error) eaten value good read in
@@ -138,11 +138,11 @@ either-back reads_a reads_b is_a is_b good_a good_b kept_a kept_b memory_a memor
 either-back reads_a reads_b is_a is_b good_a good_b kept_a kept_b memory_a memory_b bytes_a bytes_b
     rest law_a law_b (Right ctx) (Left left) answer eaten value good read = absurd good
 either-back reads_a reads_b is_a is_b good_a good_b kept_a kept_b memory_a memory_b bytes_a bytes_b
-    rest law_a law_b (Right ctx) (Right right) (Ok (Left answered)) eaten value good read = absurd
-    read
+    rest law_a law_b (Right ctx) (Right right) (Ok (Left answered)) eaten value good read =
+    absurd read
 either-back reads_a reads_b is_a is_b good_a good_b kept_a kept_b memory_a memory_b bytes_a bytes_b
-    rest law_a law_b (Right ctx) (Right right) (Ok (Right answered)) eaten value good read = law_b
-    ctx right (Ok answered) eaten value good read
+    rest law_a law_b (Right ctx) (Right right) (Ok (Right answered)) eaten value good read =
+    law_b ctx right (Ok answered) eaten value good read
 either-back reads_a reads_b is_a is_b good_a good_b kept_a kept_b memory_a memory_b bytes_a bytes_b
     rest law_a law_b (Right ctx) (Right right) (Err error) eaten value good read =
     let back = law_b ctx right (Err error) eaten value good read in

@@ -165,6 +165,9 @@ pub trait IntoNumber<P>: Copy + Into<P> {
 
 /// A value that is written as its number, in the representation `U`. A number that stands for none
 /// is refused as `UnknownValue`, and has been eaten.
+///
+/// As the type of a column in its definition:
+/// <https://dev.mysql.com/doc/dev/mysql-server/latest/page_protocol_com_query_response_text_resultset_column_definition.html>
 #[derive_where(Clone, Copy, Debug, PartialEq, Eq, PartialOrd, Ord, Hash, Default; T)]
 pub struct Const<T, U>(pub T, PhantomData<U>);
 

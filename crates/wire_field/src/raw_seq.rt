@@ -20,6 +20,9 @@ use wire_repr::wire::Wire;
 /// Numbers, each of which may stand for a value of `U`. The context is how many are read. Those of
 /// one byte are written and read, and what is read is borrowed; where there are fewer, that is
 /// `UnexpectedEof`, and none is eaten.
+///
+/// As the types of a table's columns:
+/// <https://dev.mysql.com/doc/dev/mysql-server/latest/classmysql_1_1binlog_1_1event_1_1Table__map__event.html>
 #[derive(Drop)]
 #[derive_where(Clone; A, T::Primitive)]
 #[derive_where(Debug, PartialEq, Eq, PartialOrd, Ord, Hash; T::Primitive)]

@@ -15,6 +15,9 @@ use wire_repr::wire::Wire;
 
 /// Bytes as they are, lent from the payload. The context is how many are read; where there are
 /// fewer, that is `UnexpectedEof`, and none is eaten.
+///
+/// A `string<var>`:
+/// <https://dev.mysql.com/doc/dev/mysql-server/latest/page_protocol_basic_dt_strings.html>
 #[derive(Clone, Copy, Debug, PartialEq, Eq)]
 pub struct Slice<'a>(pub &'a [u8]);
 
@@ -63,7 +66,11 @@ impl<'de, A: Allocator + Copy> Wire<'de, A> for Slice<'de> {
 }
 
 /// One of two values. The context is that of the side that is read.
+///
+/// As the answer to a challenge, which a flag gives one of two forms:
+/// <https://dev.mysql.com/doc/dev/mysql-server/latest/page_protocol_connection_phase_packets_protocol_handshake_response.html>
 #[derive(Drop, Clone, Debug, PartialEq, Eq, Hash)]
+#[derive_where(Copy; T, U)]
 pub enum Either<T, U> {
     Left(T),
     Right(U),
@@ -119,6 +126,7 @@ impl<'de, T: MyDeserialize<'de, H>, U: MyDeserialize<'de, H>, H: Allocator + Cop
     ghost reads = { ReadsEither (λ ctx. Parses T.Size.SIZE (T.reads ctx))
         (λ ctx. Parses U.Size.SIZE (U.reads ctx)) };
 
+    #[inline(always)]
     fn deserialize(
         alloc: H,
         ctx: Either<T::Ctx, U::Ctx>,
@@ -177,7 +185,11 @@ impl<'de, T: Wire<'de, H>, U: Wire<'de, H>, H: Allocator + Copy> Wire<'de, H> fo
 }
 
 /// Two values, the second behind the first. The context is a pair of theirs.
+///
+/// As a connection attribute's key and value:
+/// <https://dev.mysql.com/doc/dev/mysql-server/latest/page_protocol_connection_phase_packets_protocol_handshake_response.html>
 #[derive(Drop, Clone, Debug, PartialEq, Eq, Hash)]
+#[derive_where(Copy; A, B)]
 pub struct Both<A, B>(pub A, pub B);
 
 impl<A: MySerialize, B: MySerialize> MySerialize for Both<A, B> {
@@ -207,6 +219,7 @@ impl<'de, A: MyDeserialize<'de, H>, B: MyDeserialize<'de, H>, H: Allocator + Cop
     ghost reads = { λ ctx. ReadsBoth (λ both. both.0) (λ both. both.1)
         (Parses A.Size.SIZE (A.reads ctx.0)) (Parses B.Size.SIZE (B.reads ctx.1)) };
 
+    #[inline(always)]
     fn deserialize(
         alloc: H,
         ctx: (A::Ctx, B::Ctx),

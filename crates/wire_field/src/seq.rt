@@ -29,6 +29,9 @@ use wire_repr::wire::Wire;
 /// owns its values.
 ///
 /// Copies of values are made by `clone` of their type, which has to give the same value.
+///
+/// As the ids of servers with their transactions:
+/// <https://dev.mysql.com/doc/dev/mysql-server/latest/page_protocol_com_binlog_dump_gtid.html>
 #[derive(Drop)]
 #[derive_where(Debug, PartialEq, Eq, PartialOrd, Ord, Hash; T)]
 pub struct Seq<'a, T: Clone, U, A: Allocator = Global>(pub CowSlice<'a, T, A>, PhantomData<U>);

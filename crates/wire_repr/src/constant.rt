@@ -16,6 +16,9 @@ use wire_buf::proto::{Fixed, HasSize, MyDeserialize, MySerialize};
 
 /// The byte `N`. Another is refused as `ConstMismatch`, and has been eaten. `T` names what it
 /// stands for.
+///
+/// As the first byte of an answer:
+/// <https://dev.mysql.com/doc/dev/mysql-server/latest/page_protocol_basic_response_packets.html>
 #[derive_where(Clone, Copy, Debug, PartialEq, Eq, Hash, Default)]
 pub struct ConstU8<T, const N: u8>(PhantomData<T>);
 
@@ -77,6 +80,8 @@ impl<'de, A: Allocator + Copy, T, const N: u8> Wire<'de, A> for ConstU8<T, N> {
 
 /// Four bytes of the number `N`, the least significant first. Others are refused as
 /// `ConstMismatch`, and have been eaten.
+///
+/// <https://dev.mysql.com/doc/dev/mysql-server/latest/page_protocol_basic_dt_integers.html>
 #[derive_where(Clone, Copy, Debug, PartialEq, Eq, Hash, Default)]
 pub struct ConstU32<T, const N: u32>(PhantomData<T>);
 
@@ -145,6 +150,9 @@ pub trait ConstBytesValue<const LEN: usize> {
 }
 
 /// The bytes of `T`. Others are refused as `ConstMismatch`, and have been eaten.
+///
+/// A `string<fix>`:
+/// <https://dev.mysql.com/doc/dev/mysql-server/latest/page_protocol_basic_dt_strings.html>
 #[derive_where(Clone, Copy, Debug, PartialEq, Eq, Hash, Default)]
 pub struct ConstBytes<T, const LEN: usize>(PhantomData<T>);
 
@@ -197,6 +205,9 @@ impl<'de, A: Allocator + Copy, T: ConstBytesValue<LEN>, const LEN: usize> Wire<'
 }
 
 /// `LEN` zeros. What is read in their place may be anything.
+///
+/// As the filler of a handshake:
+/// <https://dev.mysql.com/doc/dev/mysql-server/latest/page_protocol_connection_phase_packets_protocol_handshake_response.html>
 #[derive(Clone, Copy, Debug, PartialEq, Eq, PartialOrd, Ord, Hash, Default)]
 pub struct Skip<const LEN: usize>;
 

@@ -28,6 +28,8 @@ use wire_buf::proto::{HasSize, MyDeserialize, MySerialize, ReadSize};
 
 /// How a number is written. One that a user writes has what those of this crate have, `RawInt` and
 /// its law.
+///
+/// <https://dev.mysql.com/doc/dev/mysql-server/latest/page_protocol_basic_dt_integers.html>
 pub trait IntRepr {
     /// How many bytes it has, where that is always the same: `Fixed` or `Varying`.
     type Size: ReadSize;
@@ -75,6 +77,8 @@ pub trait IntRepr {
 }
 
 /// A number that is written as `T` says.
+///
+/// <https://dev.mysql.com/doc/dev/mysql-server/latest/page_protocol_basic_dt_integers.html>
 #[derive_where(Clone, Copy, Debug, PartialEq, Eq, PartialOrd, Ord, Hash, Default; P)]
 pub struct RawInt<T: IntRepr<Primitive = P>, P = <T as IntRepr>::Primitive>(pub P, PhantomData<T>);
 

@@ -25,6 +25,8 @@ use wire_buf::proto::{HasSize, MyDeserialize, MySerialize, ReadSize};
 
 /// How a text is written. One that a user writes has what those of this crate have, `RawBytes` and
 /// its law.
+///
+/// <https://dev.mysql.com/doc/dev/mysql-server/latest/page_protocol_basic_dt_strings.html>
 pub trait BytesRepr {
     /// How many bytes of a text are written at most.
     const MAX_LEN: usize;
@@ -97,6 +99,8 @@ fn known_text(_text: &[u8])
 {}
 
 /// A text that is written as `T` says. What is read borrows from the payload.
+///
+/// <https://dev.mysql.com/doc/dev/mysql-server/latest/page_protocol_basic_dt_strings.html>
 #[derive(Drop)]
 #[derive_where(Clone; A)]
 #[derive_where(Debug, PartialEq, Eq, PartialOrd, Ord, Hash)]

@@ -1,5 +1,6 @@
 //! Values read from a buffer.
 
+ghost use Rattle.std.specs.Prelude.{◌≡◌, Some};
 ghost use Rattle.wire_buf.specs.Reading.{HasBytes, Reads, Parses};
 
 use crate::error::WireError;
@@ -9,6 +10,7 @@ use std::alloc::{Allocator, Global};
 
 impl<'a> ParseBuf<'a> {
     /// Reads a value, where the buffer has the bytes that its size asks for.
+    #[inline(always)]
     pub fn parse_unchecked<T>(&mut self, alloc: Global, ctx: T::Ctx) -> Result<T, WireError>
     where
         T: MyDeserialize<'a, Global>,
@@ -19,6 +21,7 @@ impl<'a> ParseBuf<'a> {
     }
 
     /// As `parse_unchecked`, with memory from any allocator.
+    #[inline(always)]
     pub fn parse_unchecked_in<T, A>(&mut self, alloc: A, ctx: T::Ctx) -> Result<T, WireError>
     where
         A: Allocator + Copy,
@@ -32,6 +35,7 @@ impl<'a> ParseBuf<'a> {
     /// Reads a value. A type with a size sees so many bytes and no more, and they are eaten even
     /// where it refuses them or looks at fewer, so that a reader goes on behind a bad field. Where
     /// fewer are left, the answer is `UnexpectedEof`, and none is eaten.
+    #[inline(always)]
     pub fn parse<T>(&mut self, alloc: Global, ctx: T::Ctx) -> Result<T, WireError>
     where
         T: MyDeserialize<'a, Global>,
@@ -41,6 +45,7 @@ impl<'a> ParseBuf<'a> {
     }
 
     /// As `parse`, with memory from any allocator.
+    #[inline(always)]
     pub fn parse_in<T, A>(&mut self, alloc: A, ctx: T::Ctx) -> Result<T, WireError>
     where
         A: Allocator + Copy,
@@ -48,13 +53,22 @@ impl<'a> ParseBuf<'a> {
         ensures { Reads (Parses T.Size.SIZE (T.reads ctx)) self.old.0.now result self.new.0.now }
     {
         match <T::Size as ReadSize>::SIZE {
-            Some(size) => {
-                let Some(mut front) = self.checked_eat_buf(size) else {
-                    return Err(WireError::UnexpectedEof);
-                };
-                front.parse_unchecked_in(alloc, ctx)
-            }
+            Some(size) => self.parse_front(size, alloc, ctx),
             None => self.parse_unchecked_in(alloc, ctx),
         }
+    }
+
+    // Reads a value of this size from the first bytes, so many.
+    fn parse_front<T, A>(&mut self, size: usize, alloc: A, ctx: T::Ctx) -> Result<T, WireError>
+    where
+        A: Allocator + Copy,
+        T: MyDeserialize<'a, A>,
+        requires { T.Size.SIZE ≡ Some size }
+        ensures { Reads (Parses T.Size.SIZE (T.reads ctx)) self.old.0.now result self.new.0.now }
+    {
+        let Some(mut front) = self.checked_eat_buf(size) else {
+            return Err(WireError::UnexpectedEof);
+        };
+        front.parse_unchecked_in(alloc, ctx)
     }
 }

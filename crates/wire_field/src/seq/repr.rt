@@ -19,6 +19,9 @@ use wire_buf::proto::{MyDeserialize, MySerialize};
 use wire_repr::int::{LeU32, LeU64};
 
 /// How many values a list has, and how that is written.
+///
+/// As the ids of servers with their transactions, behind eight bytes:
+/// <https://dev.mysql.com/doc/dev/mysql-server/latest/page_protocol_com_binlog_dump_gtid.html>
 pub trait SeqRepr {
     /// How many values are written at most. The others are left out.
     const MAX_LEN: usize;
@@ -73,6 +76,9 @@ pub trait SeqRepr {
 }
 
 /// The count stands elsewhere, and is the context.
+///
+/// As the parameters of a query:
+/// <https://dev.mysql.com/doc/dev/mysql-server/latest/page_protocol_com_query.html>
 #[derive(Clone, Copy, Debug, PartialEq, Eq, PartialOrd, Ord, Hash)]
 pub struct Unknown;
 

@@ -83,6 +83,8 @@ impl IntRepr for i8 {
 }
 
 /// An `int<2>`.
+///
+/// <https://dev.mysql.com/doc/dev/mysql-server/latest/page_protocol_basic_dt_integers.html>
 #[derive(Clone, Copy, Debug, PartialEq, Eq, PartialOrd, Ord, Hash, Default)]
 pub struct LeU16;
 
@@ -117,6 +119,8 @@ impl IntRepr for LeU16 {
 }
 
 /// An `int<4>`.
+///
+/// <https://dev.mysql.com/doc/dev/mysql-server/latest/page_protocol_basic_dt_integers.html>
 #[derive(Clone, Copy, Debug, PartialEq, Eq, PartialOrd, Ord, Hash, Default)]
 pub struct LeU32;
 
@@ -151,6 +155,8 @@ impl IntRepr for LeU32 {
 }
 
 /// An `int<8>`.
+///
+/// <https://dev.mysql.com/doc/dev/mysql-server/latest/page_protocol_basic_dt_integers.html>
 #[derive(Clone, Copy, Debug, PartialEq, Eq, PartialOrd, Ord, Hash, Default)]
 pub struct LeU64;
 
@@ -185,6 +191,8 @@ impl IntRepr for LeU64 {
 }
 
 /// An `int<2>` with a sign.
+///
+/// <https://dev.mysql.com/doc/dev/mysql-server/latest/page_protocol_basic_dt_integers.html>
 #[derive(Clone, Copy, Debug, PartialEq, Eq, PartialOrd, Ord, Hash, Default)]
 pub struct LeI16;
 
@@ -222,6 +230,8 @@ impl IntRepr for LeI16 {
 }
 
 /// An `int<4>` with a sign.
+///
+/// <https://dev.mysql.com/doc/dev/mysql-server/latest/page_protocol_basic_dt_integers.html>
 #[derive(Clone, Copy, Debug, PartialEq, Eq, PartialOrd, Ord, Hash, Default)]
 pub struct LeI32;
 
@@ -259,6 +269,8 @@ impl IntRepr for LeI32 {
 }
 
 /// An `int<8>` with a sign.
+///
+/// <https://dev.mysql.com/doc/dev/mysql-server/latest/page_protocol_basic_dt_integers.html>
 #[derive(Clone, Copy, Debug, PartialEq, Eq, PartialOrd, Ord, Hash, Default)]
 pub struct LeI64;
 

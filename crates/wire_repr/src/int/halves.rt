@@ -15,6 +15,9 @@ use wire_buf::io::ParseBuf;
 use wire_buf::proto::Fixed;
 
 /// The low 16 bits of a number, in two bytes.
+///
+/// As the capability flags:
+/// <https://dev.mysql.com/doc/dev/mysql-server/latest/page_protocol_connection_phase_packets_protocol_handshake_v10.html>
 #[derive(Clone, Copy, Debug, PartialEq, Eq, PartialOrd, Ord, Hash, Default)]
 pub struct LeU32LowerHalf;
 
@@ -50,6 +53,9 @@ impl IntRepr for LeU32LowerHalf {
 }
 
 /// The high 16 bits of a number, in two bytes.
+///
+/// As the capability flags:
+/// <https://dev.mysql.com/doc/dev/mysql-server/latest/page_protocol_connection_phase_packets_protocol_handshake_v10.html>
 #[derive(Clone, Copy, Debug, PartialEq, Eq, PartialOrd, Ord, Hash, Default)]
 pub struct LeU32UpperHalf;
 

@@ -18,6 +18,8 @@ use wire_buf::proto::Fixed;
 use wire_ext::io::BufMutExt;
 
 /// An `int<3>`: the low three bytes of a number.
+///
+/// <https://dev.mysql.com/doc/dev/mysql-server/latest/page_protocol_basic_dt_integers.html>
 #[derive(Clone, Copy, Debug, PartialEq, Eq, PartialOrd, Ord, Hash, Default)]
 pub struct LeU24;
 
@@ -51,6 +53,8 @@ impl IntRepr for LeU24 {
 }
 
 /// An `int<6>`: the low six bytes of a number.
+///
+/// <https://dev.mysql.com/doc/dev/mysql-server/latest/page_protocol_basic_dt_integers.html>
 #[derive(Clone, Copy, Debug, PartialEq, Eq, PartialOrd, Ord, Hash, Default)]
 pub struct LeU48;
 
@@ -84,6 +88,9 @@ impl IntRepr for LeU48 {
 }
 
 /// Seven bytes: the low seven bytes of a number.
+///
+/// As the times of a transaction:
+/// <https://dev.mysql.com/doc/dev/mysql-server/latest/classmysql_1_1binlog_1_1event_1_1Gtid__event.html>
 #[derive(Clone, Copy, Debug, PartialEq, Eq, PartialOrd, Ord, Hash, Default)]
 pub struct LeU56;
 
@@ -117,6 +124,8 @@ impl IntRepr for LeU56 {
 }
 
 /// An `int<3>` with a sign: the low three bytes of a number.
+///
+/// <https://dev.mysql.com/doc/dev/mysql-server/latest/page_protocol_basic_dt_integers.html>
 #[derive(Clone, Copy, Debug, PartialEq, Eq, PartialOrd, Ord, Hash, Default)]
 pub struct LeI24;
 

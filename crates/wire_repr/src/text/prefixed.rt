@@ -62,6 +62,9 @@ impl BytesRepr for LenEnc {
 
 /// One byte of length and a text, of a longer one its first 255 bytes. A text that is cut short has
 /// eaten its length.
+///
+/// As the answer to a challenge:
+/// <https://dev.mysql.com/doc/dev/mysql-server/latest/page_protocol_connection_phase_packets_protocol_handshake_response.html>
 #[derive(Clone, Copy, Debug, PartialEq, Eq, Hash, Default)]
 pub struct U8Bytes;
 
@@ -113,6 +116,9 @@ impl BytesRepr for U8Bytes {
 
 /// Four bytes of length, the least significant first, and a text, of a longer one its first
 /// 4294967295 bytes. A text that is cut short has eaten its length.
+///
+/// As the name of a log's file:
+/// <https://dev.mysql.com/doc/dev/mysql-server/latest/page_protocol_com_binlog_dump_gtid.html>
 #[derive(Clone, Copy, Debug, PartialEq, Eq, Hash, Default)]
 pub struct U32Bytes;
 

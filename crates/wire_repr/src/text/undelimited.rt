@@ -36,6 +36,8 @@ pub(super) fn eat_text<'de, A: Allocator>(
 }
 
 /// A `string<EOF>`: all the rest. It comes back where nothing follows it.
+///
+/// <https://dev.mysql.com/doc/dev/mysql-server/latest/page_protocol_basic_dt_strings.html>
 #[derive(Clone, Copy, Debug, PartialEq, Eq, Hash, Default)]
 pub struct EofBytes;
 
@@ -75,13 +77,19 @@ impl BytesRepr for EofBytes {
 
 /// A `string<var>`: as many bytes as the context says, and of a longer text than `N` the first `N`.
 /// `UnexpectedEof` has eaten nothing.
+///
+/// <https://dev.mysql.com/doc/dev/mysql-server/latest/page_protocol_basic_dt_strings.html>
 #[derive(Clone, Copy, Debug, PartialEq, Eq, Hash)]
 pub struct BareBytes<const N: usize>;
 
 /// As `BareBytes`, where one byte elsewhere has the length.
+///
+/// <https://dev.mysql.com/doc/dev/mysql-server/latest/page_protocol_basic_dt_strings.html>
 pub type BareU8Bytes = BareBytes<255>;
 
 /// As `BareBytes`, where two bytes elsewhere have the length.
+///
+/// <https://dev.mysql.com/doc/dev/mysql-server/latest/page_protocol_basic_dt_strings.html>
 pub type BareU16Bytes = BareBytes<65535>;
 
 impl<const N: usize> BytesRepr for BareBytes<N> {
@@ -119,6 +127,8 @@ impl<const N: usize> BytesRepr for BareBytes<N> {
 }
 
 /// A `string<fix>`: `N` bytes, the text and zeros behind it. The zeros come back with it.
+///
+/// <https://dev.mysql.com/doc/dev/mysql-server/latest/page_protocol_basic_dt_strings.html>
 #[derive(Clone, Copy, Debug, PartialEq, Eq, Hash, Default)]
 pub struct FixedLengthText<const N: usize>;
 
