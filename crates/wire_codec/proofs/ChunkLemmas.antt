@@ -205,7 +205,7 @@ length-chunk_alone : (i : ℕ) (c : List ℕ) → length (chunk i c) ≡ 4 + len
 unfolding chunk
 length-chunk_alone i c = omega arith
 
-length-chunks : (n s : ℕ) (p : List ℕ) → n * max_payload ≤ length p → length (chunks n s p) ≡ n * max_payload + 4 * n
+pub length-chunks : (n s : ℕ) (p : List ℕ) → n * max_payload ≤ length p → length (chunks n s p) ≡ n * max_payload + 4 * n
 length-chunks zero s p h = omega (arith, zero-mul max_payload)
 length-chunks (suc n) s p h =
     let room : max_payload ≤ length (drop (n * max_payload) p) = rw length-drop (omega arith) in

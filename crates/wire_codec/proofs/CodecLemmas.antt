@@ -84,7 +84,7 @@ pub data Outcome (limit : ℕ) (src held : List ℕ) (answer : Answer) (header :
   refused : 4 ≤ length src → 0 < chunk_len src → length held + chunk_len src ≤ limit
       → answer ≡ Err OutOfMemory → header ≡ Some (slice_index src 3, chunk_len src) → rest ≡ src → dst ≡ held → Outcome limit src held answer header rest dst
 
-outcome_finished : (limit : ℕ) (src held : List ℕ) (answer : Answer) (header : Option (ℕ × ℕ)) (rest dst : List ℕ)
+pub outcome_finished : (limit : ℕ) (src held : List ℕ) (answer : Answer) (header : Option (ℕ × ℕ)) (rest dst : List ℕ)
     → 4 ≤ length src → 0 < chunk_len src → length held + chunk_len src ≤ limit
     → FinishesChunk (slice_index src 3) (chunk_len src) src held answer header rest dst → Outcome limit src held answer header rest dst
 outcome_finished limit src held answer header rest dst long some small f =
@@ -125,7 +125,7 @@ pub record Taken (limit : ℕ) (src held : List ℕ) (info : ChunkInfo) (header 
   pub dst_is : dst ≡ held ++ take (chunk_len src) (drop 4 src)
   pub kind : ((chunk_len src ≡ max_payload) × (info ≡ Middle (slice_index src 3))) ⊎ ((chunk_len src < max_payload) × (info ≡ Last (slice_index src 3)))
 
-len_taken : (src held : List ℕ) → 4 + chunk_len src ≤ length src → length (held ++ take (chunk_len src) (drop 4 src)) ≡ length held + chunk_len src
+pub len_taken : (src held : List ℕ) → 4 + chunk_len src ≤ length src → length (held ++ take (chunk_len src) (drop 4 src)) ≡ length held + chunk_len src
 len_taken src held h =
     let room : chunk_len src ≤ length (drop 4 src) = rw length-drop (omega arith) in
     length-append held (take (chunk_len src) (drop 4 src)) ∙ ap (λ (n : ℕ). length held + n) (length-take-le (chunk_len src) (drop 4 src) room)
@@ -276,7 +276,7 @@ stands_with limit src held header whole long some small x =
 pub stands_without : (limit : ℕ) (src held : List ℕ) (header : Option (ℕ × ℕ)) → IsWholeChunks held → header ≡ None → StandsAt limit header src held
 stands_without limit src held header whole x = subst (λ (z : Option (ℕ × ℕ)). StandsAt limit z src held) (sym x) (whole, tt)
 
-none_none : (header : Option (ℕ × ℕ)) → header ≡ None → IsSome header → ⊥
+pub none_none : (header : Option (ℕ × ℕ)) → header ≡ None → IsSome header → ⊥
 none_none None e s = cc
 none_none (Some h) e s = cc
 

@@ -1,5 +1,5 @@
 -- What one input delivers: runs joined, and no two readings of one input.
-use Rattle.std.proofs.Common.{◌≡◌, ℕ, ◌+◌, ◌-◌, ◌*◌, ◌/◌, ◌%◌, ◌≤◌, ◌⊎◌, List, [], ◌∷◌, ◌++◌, length, take, drop, suc, refl, sym, ap, ap₂, ◌∙◌, subst, arith, append_assoc, length-append, length-drop, length-take, take_all, inl, inr, All, max, min, slice_index, mul-le-mul_right, le_of_lt}
+use Rattle.std.proofs.Common.{◌≡◌, ℕ, ◌+◌, ◌-◌, ◌*◌, ◌/◌, ◌%◌, ◌<◌, ◌≤◌, ◌⊎◌, List, [], ◌∷◌, ◌++◌, length, take, drop, suc, refl, sym, ap, ap₂, ◌∙◌, subst, arith, append_assoc, length-append, length-drop, length-take, take_all, inl, inr, All, max, min, slice_index, mul-le-mul_right, le_of_lt}
 use Rattle.std.proofs.lemmas.List.{take-take}
 use Rattle.std.proofs.lemmas.List.Elements.{All-nil, All-cons, All-head, All-tail}
 use Rattle.std.proofs.lemmas.Bool.{cases_lt}
@@ -122,11 +122,20 @@ pub length-chunk : (i : ℕ) (c r : List ℕ) → length (chunk i c ++ r) ≡ 4 
 unfolding chunk
 length-chunk i c r = simp length-append (omega arith)
 
+-- the chunk of this number of the payload is within the limit, where it is not empty and stands
+-- behind the bytes that come before it
+abbrev pub FitsAt : ℕ → ℕ → List ℕ → List ℕ → List ℕ → Type 0
+FitsAt limit index before rest payload =
+    index * max_payload < length payload → length before + chunk_len rest ≡ min (length payload) (index * max_payload + max_payload) → length before + chunk_len rest ≤ limit
+
+fits_within : (L a : ℕ) (d q p W : List ℕ) → length q ≡ a * max_payload → length d ≤ length q → length p ≤ max L (length d) → FitsAt L a q W p
+fits_within L a d q p W len held small some size = omega arith
+
 -- where a longer payload goes on, no end stands
-pub front_goes_on : (e : Ending) (s L a more : ℕ) (d q p W y : List ℕ) → length q ≡ a * max_payload → a * max_payload ≤ length p
-    → length d ≤ length q → length p ≤ max L (length d)
+pub front_goes_on : (e : Ending) (s L a more : ℕ) (q p W y : List ℕ) → length q ≡ a * max_payload → a * max_payload ≤ length p
+    → FitsAt L a q W p
     → chunks a s q ++ W ≡ chunks (suc a + more) s p ++ y → Ends e s L q W → ⊥
-front_goes_on e s L a more d q p W y len_q long held small same ends =
+front_goes_on e s L a more q p W y len_q long allowed same ends =
     let c : List ℕ = take max_payload (drop (a * max_payload) p) in
     let tail : List ℕ = chunks more (s + suc a) (drop (suc a * max_payload) p) ++ y in
     let same' : chunks a s q ++ W ≡ chunks a s p ++ (chunk (s + a) c ++ tail) =
@@ -136,33 +145,34 @@ front_goes_on e s L a more d q p W y len_q long held small same ends =
     let small_c : length c ≤ max_payload = length-chunks_tail a p in
     let len_c : length c ≡ min max_payload (length p - a * max_payload) = rw (length-take, length-drop) refl in
     let at : length q / max_payload ≡ a = (whole_blocks a (length q) len_q).1 in
+    let says : chunk_len W ≡ length c = ap (λ (z : List ℕ). chunk_len z) is ∙ chunk_len-chunk (s + a) c tail small_c in
     let fits : (length c ≡ 0) ⊎ (length q + length c ≤ L) =
-    elim (cases_lt 0 (length c)) [ inl some ↦ inr (omega arith) | inr none ↦ inl (omega arith) ] in
+    elim (cases_lt 0 (length c)) [ inl some ↦ inr (let h = allowed (omega arith) (omega arith) in omega arith) | inr none ↦ inl (omega arith) ] in
     no_end e s L (length c) q W
-    (ap (λ (z : List ℕ). chunk_len z) is ∙ chunk_len-chunk (s + a) c tail small_c)
+    says
     (rw is (rw length-chunk (omega arith)))
     fits
     (ap (λ (z : List ℕ). slice_index z 3) is ∙ id-chunk (s + a) c tail ∙ ap (λ (n : ℕ). (s + n) % 256) (sym at))
     ends
 
 -- unfinished payloads: two readings that stop before the first whole payload are one
-stops_once : (e f : Ending) (s L a b : ℕ) (d q r W V : List ℕ) → length q ≡ a * max_payload → length r ≡ b * max_payload
-    → Continues d L q → Continues d L r
-    → chunks a s q ++ W ≡ chunks b s r ++ V → Ends e s L q W → Ends f s L r V → (q ≡ r) × (W ≡ V)
-stops_once e f s L a b d q r W V len_q len_r cq cr same eq er =
+pub stops_once : (e f : Ending) (s L M a b : ℕ) (q r W V : List ℕ) → length q ≡ a * max_payload → length r ≡ b * max_payload
+    → FitsAt L a q W r → FitsAt M b r V q
+    → chunks a s q ++ W ≡ chunks b s r ++ V → Ends e s L q W → Ends f s M r V → (q ≡ r) × (W ≡ V)
+stops_once e f s L M a b q r W V len_q len_r fits_r fits_q same eq er =
     elim (cases_lt a b) [
       | inl short ↦
           let more : ℕ = b - suc a in
           let count : b ≡ suc a + more = omega arith in
           let room : a * max_payload ≤ b * max_payload = mul-le-mul_right max_payload (le_of_lt short) in
-          absurd (front_goes_on e s L a more d q r W V len_q (omega arith) (continues_long d L q cq) cr.small
+          absurd (front_goes_on e s L a more q r W V len_q (omega arith) fits_r
           (same ∙ ap (λ (k : ℕ). chunks k s r ++ V) count) eq)
       | inr long ↦ elim (cases_lt b a) [
         | inl short ↦
             let more : ℕ = a - suc b in
             let count : a ≡ suc b + more = omega arith in
             let room : b * max_payload ≤ a * max_payload = mul-le-mul_right max_payload (le_of_lt short) in
-            absurd (front_goes_on f s L b more d r q V W len_r (omega arith) (continues_long d L r cr) cq.small
+            absurd (front_goes_on f s M b more r q V W len_r (omega arith) fits_q
             (sym same ∙ ap (λ (k : ℕ). chunks k s q ++ W) count) er)
         | inr other ↦
             let ab : a ≡ b = omega arith in
@@ -175,9 +185,9 @@ stops_once e f s L a b d q r W V len_q len_r cq cr same eq er =
     ]
 
 -- a whole payload is no place to stop
-not_whole : (e : Ending) (s L a : ℕ) (d q p W y : List ℕ) → length q ≡ a * max_payload → Continues d L q → Continues d L p
+pub not_whole : (e : Ending) (s L a : ℕ) (q p W y : List ℕ) → length q ≡ a * max_payload → FitsAt L a q W p
     → chunks a s q ++ W ≡ framing s p ++ y → Ends e s L q W → ⊥
-not_whole e s L a d q p W y len_q cq cp same ends =
+not_whole e s L a q p W y len_q fits same ends =
     elim (cases_lt (length p / max_payload) a) [
       | inl short ↦ framing_ends s a p q y W short (omega arith) (sym same)
       | inr long ↦
@@ -186,9 +196,13 @@ not_whole e s L a d q p W y len_q cq cp same ends =
           let count : suc b ≡ suc a + more = omega arith in
           let room : a * max_payload ≤ b * max_payload = mul-le-mul_right max_payload long in
           let below : b * max_payload ≤ length p = blocks_below (length p) in
-          front_goes_on e s L a more d q p W y len_q (omega arith) (continues_long d L q cq) cp.small
+          front_goes_on e s L a more q p W y len_q (omega arith) fits
           (same ∙ ap (λ (k : ℕ). chunks k s p ++ y) count) ends
     ]
+
+-- what is held of the one and what the other goes on with
+fits_held : (L : ℕ) (d q p W : List ℕ) → IsWholeChunks q → Continues d L q → Continues d L p → FitsAt L (length q / max_payload) q W p
+fits_held L d q p W whole cq cp = fits_within L (length q / max_payload) d q p W (blocks_whole (length q) whole) (continues_long d L q cq) cp.small
 
 -- what a stream delivers, as one list of its parts
 pub one_reading : (e f : Ending) (s L : ℕ) (d : List ℕ) (ps qs : List (List ℕ)) (q r W V : List ℕ)
@@ -196,13 +210,13 @@ pub one_reading : (e f : Ending) (s L : ℕ) (d : List ℕ) (ps qs : List (List 
     → stream s ps ++ (front (id_after s ps) q ++ W) ≡ stream s qs ++ (front (id_after s qs) r ++ V)
     → Ends e (id_after s ps) L q W → Ends f (id_after s qs) L r V → (ps ≡ qs) × (q ≡ r) × (W ≡ V)
 one_reading e f s L d [] [] q r W V wq wr aq ar same eq er =
-    let parts = stops_once e f s L (length q / max_payload) (length r / max_payload) d q r W V (blocks_whole (length q) wq) (blocks_whole (length r) wr) aq ar same eq er in
+    let parts = stops_once e f s L L (length q / max_payload) (length r / max_payload) q r W V (blocks_whole (length q) wq) (blocks_whole (length r) wr) (fits_held L d q r W wq aq ar) (fits_held L d r q V wr ar aq) same eq er in
     (refl, parts.0, parts.1)
 one_reading e f s L d [] (p ∷ qs) q r W V wq wr aq ar same eq er =
-    absurd (not_whole e s L (length q / max_payload) d q p W (stream (next_id s p) qs ++ (front (id_after (next_id s p) qs) r ++ V)) (blocks_whole (length q) wq) aq ar.0
+    absurd (not_whole e s L (length q / max_payload) q p W (stream (next_id s p) qs ++ (front (id_after (next_id s p) qs) r ++ V)) (blocks_whole (length q) wq) (fits_held L d q p W wq aq ar.0)
     (same ∙ append_assoc (framing s p) (stream (next_id s p) qs) (front (id_after (next_id s p) qs) r ++ V)) eq)
 one_reading e f s L d (p ∷ ps) [] q r W V wq wr aq ar same eq er =
-    absurd (not_whole f s L (length r / max_payload) d r p V (stream (next_id s p) ps ++ (front (id_after (next_id s p) ps) q ++ W)) (blocks_whole (length r) wr) ar aq.0
+    absurd (not_whole f s L (length r / max_payload) r p V (stream (next_id s p) ps ++ (front (id_after (next_id s p) ps) q ++ W)) (blocks_whole (length r) wr) (fits_held L d r p V wr ar aq.0)
     (sym same ∙ append_assoc (framing s p) (stream (next_id s p) ps) (front (id_after (next_id s p) ps) q ++ W)) er)
 one_reading e f s L d (p ∷ ps) (o ∷ qs) q r W V wq wr aq ar same eq er =
     let X : List ℕ = stream (next_id s p) ps ++ (front (id_after (next_id s p) ps) q ++ W) in
@@ -233,8 +247,8 @@ pub encoded_first_is : (s L : ℕ) (ps qs : List (List ℕ)) (x : List ℕ) (e :
     → (others : List (List ℕ)) × (qs ≡ ps ++ others) × Delivers [] x (id_after s ps) L others e q W
 encoded_first_is s L [] qs x e q W small d = (qs, refl, d)
 encoded_first_is s L (p ∷ ps) [] x e q W small d =
-    absurd (not_whole e s L (length q / max_payload) [] q p W (stream (next_id s p) ps ++ x) (blocks_whole (length q) d.splits.unfinished_whole)
-    d.splits.within (continues_nothing L p (All-head (λ (o : List ℕ). length o ≤ L) p ps small))
+    absurd (not_whole e s L (length q / max_payload) q p W (stream (next_id s p) ps ++ x) (blocks_whole (length q) d.splits.unfinished_whole)
+    (fits_held L [] q p W d.splits.unfinished_whole d.splits.within (continues_nothing L p (All-head (λ (o : List ℕ). length o ≤ L) p ps small)))
     (sym d.splits.is ∙ append_assoc (framing s p) (stream (next_id s p) ps) x) d.ends)
 encoded_first_is s L (p ∷ ps) (o ∷ qs) x e q W small d =
     let X : List ℕ = stream (next_id s p) ps ++ x in

@@ -86,10 +86,10 @@ unfolding max_payload
 next_open s ps id p e h = (omega arith) ∙ e ∙ sym (id_after-append s ps (p ∷ []))
 
 -- more bytes behind change nothing of what is there
-chunk_len_append : (W x : List ℕ) → 4 ≤ length W → chunk_len (W ++ x) ≡ chunk_len W
+pub chunk_len_append : (W x : List ℕ) → 4 ≤ length W → chunk_len (W ++ x) ≡ chunk_len W
 chunk_len_append W x h = ap le_number (take-append-le 3 W x (omega arith))
 
-id_append : (W x : List ℕ) → 4 ≤ length W → slice_index (W ++ x) 3 ≡ slice_index W 3
+pub id_append : (W x : List ℕ) → 4 ≤ length W → slice_index (W ++ x) 3 ≡ slice_index W 3
 id_append W x h = get_or_append_left W x 0 3 (omega arith)
 
 pub stands_append : (limit : ℕ) (header : Option (ℕ × ℕ)) (src x held : List ℕ) → StandsAt limit header src held → StandsAt limit header (src ++ x) held
@@ -113,7 +113,7 @@ runs_join (Err OutOfMemory) d S s L ps q W x qs id header src dst a b =
 runs_join (Err (Io e)) d S s L ps q W x qs id header src dst a b = b
 
 -- the whole input, of which a part is left
-splits_extend : (d S : List ℕ) (s L : ℕ) (ps : List (List ℕ)) (q W x : List ℕ) → Splits d S s L ps q W → Splits d (S ++ x) s L ps q (W ++ x)
+pub splits_extend : (d S : List ℕ) (s L : ℕ) (ps : List (List ℕ)) (q W x : List ℕ) → Splits d S s L ps q W → Splits d (S ++ x) s L ps q (W ++ x)
 splits_extend d S s L ps q W x a = record {
   is =
       let A : List ℕ = stream s ps in

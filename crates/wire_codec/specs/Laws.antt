@@ -1,8 +1,11 @@
 -- Laws over the definitions alone, which the functions of `laws` carry.
-use Rattle.std.specs.Prelude.{◌≡◌, ℕ, List, [], ◌++◌, length, ◌/◌, ◌%◌, ◌+◌, ◌*◌, ◌<◌, ◌≤◌, ◌⊎◌, All, None, Result, Ok, Err}
+use Rattle.std.specs.Prelude.{◌≡◌, ℕ, List, [], ◌++◌, length, ◌/◌, ◌%◌, ◌+◌, ◌*◌, ◌<◌, ◌≤◌, ◌⊎◌, ◌↔◌, All, None, Result, Ok, Err}
+use Rattle.std.specs.Borrow.{Bor}
 use Rattle.wire_codec.specs.Framing.{framing, front, id_after, max_payload, stream}
 use Rattle.wire_codec.specs.Delivery.{Ending, Splits, Delivers}
 use Rattle.wire_codec.specs.Counted.{Call, Follows, chunk_count}
+use Rattle.wire_codec.specs.Limited.{Limits, DeliversUnder}
+use Rattle.wire_codec.specs.LimitedRuns.{run_limits}
 use Rattle.wire_codec.specs.Codec.{CodecState, Stands, first_id, input_of}
 use Rattle.wire_codec.specs.Runs.{RunsTo}
 use Rattle.wire_codec.specs.declared.codec.error.PacketCodecError.{PacketCodecError}
@@ -24,6 +27,28 @@ OneDelivery =
     → Delivers held input open_id limit others other another more
     → (payloads ≡ others) × (ending ≡ other) × (unfinished ≡ another) × (rest ≡ more)
 
+-- the same where each byte has its limit
+abbrev pub OneLimitedDelivery : Type 0
+OneLimitedDelivery =
+    (limits : Limits) (place : ℕ) (held input : List ℕ) (open_id : ℕ)
+    (payloads others : List (List ℕ)) (ending other : Ending)
+    (unfinished another rest more : List ℕ)
+    → DeliversUnder limits place held input open_id payloads ending unfinished rest
+    → DeliversUnder limits place held input open_id others other another more
+    → (payloads ≡ others) × (ending ≡ other) × (unfinished ≡ another) × (rest ≡ more)
+
+-- where the codec stands and all limits are its own, what a stream delivers under them is what it
+-- delivers
+abbrev pub EqualLimits : Type 0
+EqualLimits =
+    (before : CodecState) (pieces : List (ℕ × Bor (List ℕ))) (more : List ℕ)
+    (payloads : List (List ℕ)) (ending : Ending) (unfinished rest : List ℕ)
+    → Stands before → All (λ piece. piece.0 ≡ before.limit) pieces
+    → DeliversUnder (run_limits before pieces) 0 before.held (input_of before
+    ++ more) (first_id before) payloads ending unfinished rest
+    ↔ Delivers before.held (input_of before
+    ++ more) (first_id before) before.limit payloads ending unfinished rest
+
 -- a run, and then a run over what it left and what came since, are one run over all
 abbrev pub JoinedRuns : Type 0
 JoinedRuns =
@@ -34,6 +59,16 @@ JoinedRuns =
     → Delivers unfinished (front (id_after open_id payloads) unfinished ++ (rest ++ more))
     (id_after open_id payloads) limit others ending another left
     → Delivers held (input ++ more) open_id limit (payloads ++ others) ending another left
+
+-- the same of runs that need not have ended
+abbrev pub JoinedSplits : Type 0
+JoinedSplits =
+    (held input : List ℕ) (open_id limit : ℕ) (payloads : List (List ℕ))
+    (unfinished rest more : List ℕ) (others : List (List ℕ)) (another left : List ℕ)
+    → Splits held input open_id limit payloads unfinished rest
+    → Splits unfinished (front (id_after open_id payloads) unfinished
+    ++ (rest ++ more)) (id_after open_id payloads) limit others another left
+    → Splits held (input ++ more) open_id limit (payloads ++ others) another left
 
 -- the same of what `deliver` says: a run that waits, or was refused memory, and the run that goes
 -- on from it are one run
@@ -99,7 +134,8 @@ AppendedRun =
     (before after : CodecState) (more : List ℕ) (answer : Result (Unit {0}) PacketCodecError)
     (gained : List (List ℕ))
     → (Stands before → Stands (appended before more))
-    × (RunsTo (appended before more) [] answer gained after → RunsTo before more answer gained after)
+    × (RunsTo (appended before more) [] answer gained after
+    → RunsTo before more answer gained after)
 
 -- between two packets, where no header is remembered and nothing is held, a codec stands, the next
 -- packet begins with the id that it expects, and the input is what is to be read

@@ -4,10 +4,14 @@ mod delivery;
 pub mod error;
 mod framing;
 mod header;
+mod limited;
 mod packet;
 mod room;
+mod value;
 
 pub use chunk::{ChunkDecoder, ChunkInfo, PacketDst};
 pub use delivery::deliver;
 pub use framing::packet_to_chunks;
+pub use limited::deliver_limited;
 pub use packet::PacketCodec;
+pub use value::encode_value;

@@ -1,16 +1,32 @@
 //! Laws over the definitions that the contracts cite. Each function takes and answers nothing: its
 //! contract is the law, and a caller has it by calling.
 
-ghost use Rattle.wire_codec.specs.Laws.{AppendedRun, BetweenPackets, ChunksCounted, EncodedFirst, FramedLength, IdAfterAppend, JoinedRuns, NothingRead, OneDelivery, RunGoesOn, StreamAppend, UniqueFraming};
+ghost use Rattle.wire_codec.specs.Laws.{AppendedRun, BetweenPackets, ChunksCounted, EncodedFirst, EqualLimits, FramedLength, IdAfterAppend, JoinedRuns, JoinedSplits, NothingRead, OneDelivery, OneLimitedDelivery, RunGoesOn, StreamAppend, UniqueFraming};
 
 /// A stream delivers one list of payloads, one unfinished payload, one rest and one ending.
 pub fn one_delivery()
     ensures { OneDelivery }
 {}
 
+/// The same where each byte has its limit.
+pub fn one_limited_delivery()
+    ensures { OneLimitedDelivery }
+{}
+
+/// Where the codec stands and all limits are its own, what a stream delivers under them is what it
+/// delivers.
+pub fn equal_limits()
+    ensures { EqualLimits }
+{}
+
 /// A run, and then a run over what it left and what came since, are together one run over all.
 pub fn joined_runs()
     ensures { JoinedRuns }
+{}
+
+/// The same of runs that need not have ended.
+pub fn joined_splits()
+    ensures { JoinedSplits }
 {}
 
 /// The same of what `deliver` says: a run that waits, or was refused memory, and the run that goes

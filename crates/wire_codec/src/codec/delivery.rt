@@ -11,7 +11,7 @@ use std::alloc::Allocator;
 use std::mem;
 
 // Moves a packet to the end of the list, where there is room.
-fn hand_out<A: Allocator + Copy>(dst: &mut Vec<u8, A>, out: &mut Vec<Vec<u8, A>, A>)
+pub(crate) fn hand_out<A: Allocator + Copy>(dst: &mut Vec<u8, A>, out: &mut Vec<Vec<u8, A>, A>)
     requires { vec_len out.old < vec_capacity out.old }
     ensures packet { payloads out.new.items ≡ payloads out.old.items ++ dst.old.items ∷ [] }
     ensures empty { dst.new.items ≡ [] }

@@ -3,6 +3,8 @@
 ghost use Rattle.std.specs.Prelude.{◌≡◌, ◌≢◌, ℕ, ◌+◌, ◌%◌, ◌<◌, ◌≤◌, ◌↔◌, ◌⊎◌, OnOk, OnErr, IfErr, Err, [], length, None, true, IsTrue, slice_index, ◌++◌};
 ghost use Rattle.wire_codec.specs.Delivery.{chunk_len};
 
+mod front;
+
 use crate::codec::chunk::{ChunkDecoder, ChunkInfo, PacketDst};
 use crate::codec::error::PacketCodecError;
 use crate::codec::framing::packet_to_chunks;
@@ -46,6 +48,7 @@ impl Default for PacketCodec {
 
 impl PacketCodec {
     ghost use Rattle.wire_codec.specs.Codec.{expected_id, header_of, codec_state, Stands, DecodesPacket, ChunkChain, HasChunk};
+    ghost use Rattle.wire_codec.specs.LimitedRuns.{Aligned, DecodesAligned};
     ghost use Rattle.wire_codec.specs.Framing.{framing, next_id};
 
     /// Whether `decode` goes on here with the packet that it was at: `dst` holds full chunks alone,
@@ -54,6 +57,22 @@ impl PacketCodec {
     pub fn stands_at(&self, src: &BytesMut<impl Allocator + Copy>, dst: &[u8]) -> bool
         ensures { IsTrue result ↔ Stands (codec_state self.now src.now.items dst.now) }
     {
+        if !self.aligned_at(src, dst) {
+            return false;
+        }
+        match self.decoder {
+            ChunkDecoder::Idle => true,
+            ChunkDecoder::Chunk { needed, .. } => {
+                fits(dst.len(), needed.get(), self.max_allowed_packet)
+            }
+        }
+    }
+
+    /// As `stands_at`, but a remembered header may be past the limit: it was judged under the one
+    /// that stood then, and isn't judged again. `deliver_limited` asks for it.
+    pub fn aligned_at(&self, src: &BytesMut<impl Allocator + Copy>, dst: &[u8]) -> bool
+        ensures { IsTrue result ↔ Aligned (codec_state self.now src.now.items dst.now) }
+    {
         if !is_full_chunks(dst.len()) {
             return false;
         }
@@ -61,15 +80,14 @@ impl PacketCodec {
             ChunkDecoder::Idle => true,
             ChunkDecoder::Chunk { seq_id, needed } => {
                 has_header(src.as_slice(), seq_id, needed.get())
-                    && fits(dst.len(), needed.get(), self.max_allowed_packet)
             }
         }
     }
 
     /// Takes chunks from the front of `src` until a packet is whole, and puts their payload bytes
-    /// behind what `dst` holds, which is asked for room once, for all bytes that the call takes. The
-    /// answer is whether `dst` now holds a whole packet. After false the call is made again with the same `dst` and more bytes in
-    /// `src`; after true, with an empty `dst`.
+    /// behind what `dst` holds, which is asked for room once, for all bytes that the call takes.
+    /// The answer is whether `dst` now holds a whole packet. After false the call is made again
+    /// with the same `dst` and more bytes in `src`; after true, with an empty `dst`.
     ///
     /// `PacketTooLarge`: the chunk in front would take the packet past the limit. Its header is
     /// left in `src`. `PacketsOutOfSync`: the chunk in front bore another id. It was taken, and its
@@ -83,6 +101,10 @@ impl PacketCodec {
         ensures decodes { let before = codec_state self.old src.old.items (T.held dst.old) in
             let after = codec_state self.new src.new.items (T.held dst.new) in
             Stands before → DecodesPacket before result after }
+        // The same at any limit that was set since: a remembered header isn't judged again.
+        ensures aligned { let before = codec_state self.old src.old.items (T.held dst.old) in
+            let after = codec_state self.new src.new.items (T.held dst.new) in
+            Aligned before → DecodesAligned before result after }
         // In every state it is a chain of single chunks.
         ensures chain { let before = codec_state self.old src.old.items (T.held dst.old) in
             let after = codec_state self.new src.new.items (T.held dst.new) in
@@ -99,8 +121,7 @@ impl PacketCodec {
         ensures shorter { result ≡ Ok true → length src.new.items < length src.old.items }
         ensures limit { self.new.max_allowed_packet ≡ self.old.max_allowed_packet }
     {
-        self.make_room(src, dst)?;
-        self.take_chunks(src, dst)
+        self.decode_on(src, dst)
     }
 
     /// Appends the packet's chunks to `dst` and empties the packet, where it has at most
@@ -172,6 +193,7 @@ enum Progress {
 
 impl PacketCodec {
     ghost use Rattle.wire_codec.specs.Codec.{expected_id, header_of, codec_state, first_id, input_of, Stands, DecodesPacket, ChunkChain, HasChunk, TakesChunk, LinksChain};
+    ghost use Rattle.wire_codec.specs.GoingOn.{Takes, Decodes};
     ghost use Rattle.wire_codec.specs.OneChunk.{DecodesChunk};
 
     // Takes one chunk.
@@ -187,6 +209,9 @@ impl PacketCodec {
         ensures links { LinksChain self.old.max_allowed_packet
             (expected_id self.old) (header_of self.old) src.old.items (T.held dst.old) result
             (expected_id self.new) (header_of self.new) src.new.items (T.held dst.new) }
+        ensures on { let before = codec_state self.old src.old.items (T.held dst.old) in
+            let after = codec_state self.new src.new.items (T.held dst.new) in
+            Takes before result after }
         ensures more { result ≡ Ok Progress.More → length src.new.items < length src.old.items }
         ensures whole { result ≡ Ok Progress.Whole → length src.new.items < length src.old.items }
         ensures limit { self.new.max_allowed_packet ≡ self.old.max_allowed_packet }
@@ -236,6 +261,7 @@ impl PacketCodec {
         ensures there { OnErr result
             (HasChunk (codec_state self.old src.now.items (T.held dst.old))) }
         ensures id { expected_id self.new ≡ expected_id self.old }
+        ensures small { OnErr result (expected_id self.old < 256) }
         ensures limit { self.new.max_allowed_packet ≡ self.old.max_allowed_packet }
         ensures held { T.held dst.new ≡ T.held dst.old }
     {
@@ -257,6 +283,30 @@ impl PacketCodec {
         }
     }
 
+    // `decode`, and what it makes of a run whose bytes came under different limits.
+    pub(crate) fn decode_on<T: PacketDst>(
+        &mut self,
+        src: &mut BytesMut<impl Allocator + Copy>,
+        dst: &mut T,
+    ) -> Result<bool, PacketCodecError>
+        ensures decodes { let before = codec_state self.old src.old.items (T.held dst.old) in
+            let after = codec_state self.new src.new.items (T.held dst.new) in
+            Stands before → DecodesPacket before result after }
+        ensures on { let before = codec_state self.old src.old.items (T.held dst.old) in
+            let after = codec_state self.new src.new.items (T.held dst.new) in
+            Decodes before result after }
+        ensures chain { let before = codec_state self.old src.old.items (T.held dst.old) in
+            let after = codec_state self.new src.new.items (T.held dst.new) in
+            (accepted : ℕ) × ChunkChain accepted before result after }
+        ensures memory { let before = codec_state self.old src.old.items (T.held dst.old) in
+            result ≡ Err PacketCodecError.OutOfMemory → HasChunk before }
+        ensures shorter { result ≡ Ok true → length src.new.items < length src.old.items }
+        ensures limit { self.new.max_allowed_packet ≡ self.old.max_allowed_packet }
+    {
+        self.make_room(src, dst)?;
+        self.take_chunks(src, dst)
+    }
+
     // The chunks of one call, one after another.
     fn take_chunks<T: PacketDst>(
         &mut self,
@@ -271,6 +321,9 @@ impl PacketCodec {
             (accepted : ℕ) × ChunkChain accepted before result after }
         ensures memory { let before = codec_state self.old src.old.items (T.held dst.old) in
             result ≡ Err PacketCodecError.OutOfMemory → HasChunk before }
+        ensures on { let before = codec_state self.old src.old.items (T.held dst.old) in
+            let after = codec_state self.new src.new.items (T.held dst.new) in
+            Decodes before result after }
         ensures shorter { result ≡ Ok true → length src.new.items < length src.old.items }
         ensures limit { self.new.max_allowed_packet ≡ self.old.max_allowed_packet }
     {

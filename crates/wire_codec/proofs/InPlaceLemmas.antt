@@ -1,0 +1,117 @@
+-- A packet where it lies.
+use Rattle.std.proofs.Common.{◌≡◌, ℕ, ◌+◌, ◌-◌, ◌%◌, ◌<◌, ◌≤◌, List, [], ◌∷◌, length, take, drop, refl, sym, ap, ◌∙◌, subst, arith, inl, slice_index, Option, Some, None, MatchOption, Ok, Bool, true, ne_eqb, if◌then◌else◌, length-drop}
+use Rattle.std.proofs.lemmas.List.{length-take-le}
+use Rattle.wire_codec.specs.declared.codec.chunk.ChunkInfo.{ChunkInfo}
+use Rattle.wire_codec.specs.declared.codec.chunk.ChunkInfo.TheVariants.{Middle, Last}
+use Rattle.wire_codec.specs.Framing.{max_payload}
+use Rattle.wire_codec.specs.Delivery.{chunk_len, IsSpelled, IsWholeChunks}
+use Rattle.wire_codec.specs.OneChunk.{info_of, FinishesChunk, DecodesChunk}
+use Rattle.wire_codec.specs.Codec.{CodecState, Stands, open_id, DecodesPacket, ChunkChain}
+use Rattle.wire_codec.specs.Limited.{rest_limit}
+use Rattle.wire_codec.specs.LimitedRuns.{DecodesAligned, run_limits}
+use Rattle.wire_codec.specs.GoingOn.{Decodes}
+use Rattle.wire_codec.specs.InPlace.{front_payload, HasFront, behind_front}
+use Rattle.wire_codec.proofs.CodecLemmas.{id_at_open, outcome_of, chunk_taken, taken_last}
+use Rattle.wire_codec.proofs.GoingOnLemmas.{outcome_under, last_under, start_mark, goes_on_start}
+
+-- a codec and its buffers, by the parts
+abbrev pub state_of : ℕ → ℕ → Option (ℕ × ℕ) → List ℕ → List ℕ → CodecState
+state_of limit id header unread held = record { limit = limit; id = id; header = header; unread = unread; held = held }
+
+short_chunk : (n : ℕ) → 0 < n → n < max_payload → n % max_payload ≡ 0 → ⊥
+unfolding max_payload
+short_chunk n some small e = absurd (omega arith)
+
+nothing_whole : IsWholeChunks []
+unfolding max_payload
+nothing_whole = refl
+
+pub front_len : (src : List ℕ) → 4 + chunk_len src ≤ length src → length (front_payload src) ≡ chunk_len src
+front_len src whole =
+    let room : chunk_len src ≤ length (drop 4 src) = rw length-drop (omega arith) in
+    length-take-le (chunk_len src) (drop 4 src) room
+
+front_info : (src : List ℕ) → 4 + chunk_len src ≤ length src → 0 < chunk_len src → chunk_len src < max_payload
+    → info_of (slice_index src 3) (front_payload src) ≡ Last (slice_index src 3)
+front_info src whole some small =
+    let len = front_len src whole in
+    let ne : length (front_payload src) % max_payload ≡ 0 → ⊥ = λ z. short_chunk (chunk_len src) some small (ap (λ (n : ℕ). n % max_payload) (sym len) ∙ z) in
+    ap (λ (t : Bool). if t then Middle (slice_index src 3) else Last (slice_index src 3)) (ne_eqb (length (front_payload src) % max_payload) 0 ne)
+
+front_finishes : (id : ℕ) (src : List ℕ) → 4 + chunk_len src ≤ length src → 0 < chunk_len src → chunk_len src < max_payload → slice_index src 3 ≡ id
+    → FinishesChunk (slice_index src 3) (chunk_len src) src [] (Ok (Some (Last id))) None (drop (4 + chunk_len src) src) (front_payload src)
+front_finishes id src whole some small is = record {
+  waits = λ less. absurd (omega arith);
+  takes = λ w. inl (ap (λ (i : ChunkInfo). Ok (Some i)) (ap (λ (n : ℕ). Last n) (sym is) ∙ sym (front_info src whole some small)), refl, refl, refl);
+}
+
+-- it is the chunk that a step takes
+pub front_chunk : (limit id : ℕ) (header : Option (ℕ × ℕ)) (src : List ℕ) → HasFront (state_of limit id header src [])
+    → DecodesChunk header src [] limit (Ok (Some (Last id))) None (drop (4 + chunk_len src) src) (front_payload src)
+front_chunk limit id None src (aligned, empty, long, whole, small, is, within) = record {
+  short = λ less. absurd (omega arith);
+  empty = λ l none. (
+    ap (λ (n : ℕ). Ok (Some (Last n))) (sym is),
+    refl,
+    ap (λ (n : ℕ). drop (4 + n) src) none,
+    ap (λ (n : ℕ). take n (drop 4 src)) none,
+  );
+  large = λ l some more. absurd (omega arith);
+  begins = λ l some fits. front_finishes id src whole some small is;
+}
+front_chunk limit id (Some (i, needed)) src (aligned, empty, long, whole, small, is, within) =
+    let s = aligned.1 in
+    subst (λ (n : ℕ). FinishesChunk n needed src [] (Ok (Some (Last id))) None (drop (4 + chunk_len src) src) (front_payload src)) s.1
+    (subst (λ (n : ℕ). FinishesChunk (slice_index src 3) n src [] (Ok (Some (Last id))) None (drop (4 + chunk_len src) src) (front_payload src)) s.2
+    (front_finishes id src whole (omega (arith, s.2, s.3)) small is))
+
+-- what stands after it
+abbrev pub after_front : ℕ → ℕ → List ℕ → CodecState
+after_front limit id src = state_of limit ((id + 1) % 256) None (drop (4 + chunk_len src) src) (front_payload src)
+
+pub front_decodes : (limit id : ℕ) (header : Option (ℕ × ℕ)) (src : List ℕ) → id < 256 → IsSpelled src → HasFront (state_of limit id header src [])
+    → Stands (state_of limit id header src []) → DecodesPacket (state_of limit id header src []) (Ok true) (after_front limit id src)
+front_decodes limit id header src byte spelled there stands =
+    let first = open_id id [] in
+    let rest = drop (4 + chunk_len src) src in
+    let dst = front_payload src in
+    let t = chunk_taken header limit src [] (Last id) None rest dst spelled stands
+    (outcome_of header limit src [] (Ok (Some (Last id))) None rest dst stands (front_chunk limit id header src there)) in
+    taken_last first id limit src [] None rest dst spelled stands.0 (sym (id_at_open id [] byte)) t
+
+pub front_on : (limit id : ℕ) (header : Option (ℕ × ℕ)) (src : List ℕ) → id < 256 → IsSpelled src → HasFront (state_of limit id header src [])
+    → Decodes (state_of limit id header src []) (Ok true) (after_front limit id src)
+front_on limit id header src byte spelled there limits mark place on =
+    let first = open_id id [] in
+    let rest = drop (4 + chunk_len src) src in
+    let dst = front_payload src in
+    let judged = rest_limit limits place [] src in
+    let t = chunk_taken None judged src [] (Last id) None rest dst spelled (on.aligned.0, tt)
+    (outcome_under limits mark place limit header src [] (Ok (Some (Last id))) None rest dst on (front_chunk limit id header src there)) in
+    last_under limits mark place limit header first id src [] None rest dst on spelled (sym (id_at_open id [] byte)) t
+
+pub front_aligned : (limit id : ℕ) (header : Option (ℕ × ℕ)) (src : List ℕ) → id < 256 → IsSpelled src → HasFront (state_of limit id header src [])
+    → DecodesAligned (state_of limit id header src []) (Ok true) (after_front limit id src)
+front_aligned limit id header src byte spelled there =
+    (front_on limit id header src byte spelled there (run_limits (state_of limit id header src []) []) (start_mark header []) 0
+    (goes_on_start limit id header src [] [] there.0)).0
+
+pub front_chain : (limit id : ℕ) (header : Option (ℕ × ℕ)) (src : List ℕ) → HasFront (state_of limit id header src [])
+    → ChunkChain 1 (state_of limit id header src []) (Ok true) (after_front limit id src)
+front_chain limit id header src there =
+    inl (refl, record { info = Last id; chunk = front_chunk limit id header src there; expected = refl; ends = refl; id_rises = refl })
+
+-- a packet in front, by what is tested one after another
+pub front_there : (limit id : ℕ) (header : Option (ℕ × ℕ)) (src held : List ℕ) → length held ≡ 0 → 4 ≤ length src
+    → MatchOption header (chunk_len src ≤ limit) (λ h. (slice_index src 3 ≡ h.0) × (chunk_len src ≡ h.1) × (0 < h.1))
+    → slice_index src 3 ≡ id → chunk_len src < max_payload → chunk_len src ≤ length src - 4
+    → HasFront (state_of limit id header src held)
+front_there limit id header src (x ∷ held) empty long passes is small whole = absurd (omega arith)
+front_there limit id None src [] empty long passes is small whole = ((nothing_whole, tt), refl, long, omega arith, small, is, passes)
+front_there limit id (Some h) src [] empty long passes is small whole =
+    ((nothing_whole, (long, passes.0, passes.1, passes.2)), refl, long, omega arith, small, is, tt)
+
+pub front_decodes_at : (limit id : ℕ) (header : Option (ℕ × ℕ)) (src held : List ℕ) → id < 256 → IsSpelled src → HasFront (state_of limit id header src held)
+    → Stands (state_of limit id header src held) → DecodesPacket (state_of limit id header src held) (Ok true) (behind_front (state_of limit id header src held))
+front_decodes_at limit id header src [] byte spelled there stands = front_decodes limit id header src byte spelled there stands
+front_decodes_at limit id header src (x ∷ held) byte spelled there stands = absurd (let e = there.1 in cc)

@@ -1,0 +1,16 @@
+use Rattle.std.proofs.Common.{[]}
+use Rattle.wire_codec.specs.Codec.{expected_id, header_of}
+use Rattle.wire_codec.specs.LimitedRuns.{run_limits}
+use Rattle.wire_codec.proofs.GoingOnLemmas.{start_mark, goes_on_start}
+use Rattle.wire_codec.proofs.codec.packet.PacketCodec.decode.Goals as goal
+
+pub returns-clause-aligned : goal.returns-clause-aligned
+returns-clause-aligned g c aligned =
+    let held = g.T.PacketDst.held c.args.dst.now in
+    let src = c.args.src.now.items in
+    let limit = c.args.self.now.max_allowed_packet in
+    let header = header_of c.args.self.now in
+    let id = expected_id c.args.self.now in
+    let limits = run_limits (record { limit = limit; id = id; header = header; unread = src; held = held }) [] in
+    let start = goes_on_start limit id header src held [] aligned in
+    (c.decode_on.ensures.on limits (start_mark header held) 0 start).0

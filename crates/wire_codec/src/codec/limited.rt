@@ -1,0 +1,116 @@
+//! Packets from a stream whose pieces each have a limit.
+
+ghost use Rattle.std.specs.Prelude.{◌≡◌, ◌≢◌, ℕ, ◌<◌, ◌≤◌, List, ◌++◌, length, take, Err, OnOk, OnErr, IfErr};
+ghost use Rattle.wire_codec.specs.Limited.{Limits, place_after};
+ghost use Rattle.wire_codec.specs.LimitedRuns.{Aligned, RunsUnder, RunsLimited, WaitsLimited, last_limit};
+ghost use Rattle.wire_codec.specs.GoingOn.{GoesOn, Remembers};
+ghost use Rattle.wire_codec.specs.Codec.{codec_state, expected_id, first_id, header_of, input_of};
+ghost use Rattle.wire_codec.specs.Runs.{payloads};
+
+use crate::codec::delivery::hand_out;
+use crate::codec::error::PacketCodecError;
+use crate::codec::packet::PacketCodec;
+use bytes::BytesMut;
+use std::alloc::Allocator;
+
+// Decodes until more bytes are needed, under whatever limits the bytes came.
+fn drain_on<A: Allocator + Copy>(
+    codec: &mut PacketCodec,
+    src: &mut BytesMut<A>,
+    dst: &mut Vec<u8, A>,
+    out: &mut Vec<Vec<u8, A>, A>,
+) -> Result<(), PacketCodecError>
+    ensures on { let before = codec_state codec.old src.old.items dst.old.items in
+        let after = codec_state codec.new src.new.items dst.new.items in
+        (limits : Limits) (mark place : ℕ) → GoesOn limits mark place before
+        → (gained : List (List ℕ)) × (payloads out.new.items ≡ payloads out.old.items ++ gained)
+        × RunsUnder limits place (first_id before) (input_of before) before.held result gained
+        after.id after.header after.unread after.held
+        × (result ≡ Err PacketCodecError.OutOfMemory
+        → Remembers mark (place_after place gained) after.header after.unread after.held) }
+    ensures limit { codec.new.max_allowed_packet ≡ codec.old.max_allowed_packet }
+{
+    'packets: loop {
+        if out.reserve(1).is_err() {
+            return Err(PacketCodecError::OutOfMemory);
+        }
+        match codec.decode_on(src, dst) {
+            Ok(true) => hand_out(dst, out),
+            Ok(false) => return Ok(()),
+            Err(error) => return Err(error),
+        }
+    }
+}
+
+// Appends a piece, and sets its limit.
+fn append<A: Allocator + Copy>(
+    codec: &mut PacketCodec,
+    src: &mut BytesMut<A>,
+    limit: usize,
+    piece: &[u8],
+) -> Result<(), PacketCodecError>
+    ensures src { OnOk result (src.new.items ≡ src.old.items ++ piece.now) }
+    ensures set { OnOk result (codec.new.max_allowed_packet ≡ limit) }
+    ensures id { expected_id codec.new ≡ expected_id codec.old }
+    ensures header { header_of codec.new ≡ header_of codec.old }
+    ensures memory { IfErr result (λ error. error ≡ PacketCodecError.OutOfMemory) }
+    ensures kept { OnErr result (src.new.items ≡ src.old.items) }
+    ensures same { OnErr result (codec.new.max_allowed_packet ≡ codec.old.max_allowed_packet) }
+{
+    src.extend_from_slice(piece)?;
+    codec.max_allowed_packet = limit;
+    Ok(())
+}
+
+/// `deliver` under limits that move: each piece comes with the limit of the packets whose headers
+/// it ends, and once it is appended that limit is the codec's. What `src` holds at the start is
+/// decoded under the codec's own limit.
+///
+/// A chunk is judged once, by the limit of the piece that brought the fourth byte of its header.
+/// After `PacketTooLarge` a larger limit goes on at the same header.
+///
+/// It asks that the codec is aligned at the buffers; `aligned_at` is the test. After everything but
+/// `PacketsOutOfSync` it is aligned again, so that the next call goes on; after `OutOfMemory`, with
+/// the pieces that were not appended.
+pub fn deliver_limited<A: Allocator + Copy>(
+    codec: &mut PacketCodec,
+    src: &mut BytesMut<A>,
+    dst: &mut Vec<u8, A>,
+    pieces: &[(usize, &[u8])],
+    out: &mut Vec<Vec<u8, A>, A>,
+) -> (usize, Result<(), PacketCodecError>)
+    requires { Aligned (codec_state codec.old src.old.items dst.old.items) }
+    ensures runs { let before = codec_state codec.old src.old.items dst.old.items in
+        let after = codec_state codec.new src.new.items dst.new.items in
+        (gained : List (List ℕ)) × (payloads out.new.items ≡ payloads out.old.items ++ gained)
+        × RunsLimited before pieces.now result.0 result.1 gained after }
+
+    // So many pieces were appended, and with fewer of them the run only waits.
+    ensures count { result.0 ≤ length pieces.now }
+    ensures least { let before = codec_state codec.old src.old.items dst.old.items in
+        (j : ℕ) → j < result.0 → WaitsLimited before pieces.now j }
+    ensures all { OnOk result.1 (result.0 ≡ length pieces.now) }
+
+    ensures aligned { result.1 ≢ Err PacketCodecError.PacketsOutOfSync
+        → Aligned (codec_state codec.new src.new.items dst.new.items) }
+    ensures limit { codec.new.max_allowed_packet
+        ≡ last_limit codec.old.max_allowed_packet (take result.0 pieces.now) }
+{
+    match drain_on(codec, src, dst, out) {
+        Ok(()) => {}
+        Err(error) => return (0, Err(error)),
+    }
+    let mut count = 0;
+    for piece in pieces {
+        match append(codec, src, piece.0, piece.1) {
+            Ok(()) => {}
+            Err(error) => return (count, Err(error)),
+        }
+        count += 1;
+        match drain_on(codec, src, dst, out) {
+            Ok(()) => {}
+            Err(error) => return (count, Err(error)),
+        }
+    }
+    (count, Ok(()))
+}
