@@ -1,6 +1,8 @@
 //! MySQL's packet codec and wire primitives, under the paths of `mysql_common`.
 #![tactic(auto)]
 
+pub mod laws;
+
 /// Buffers, readers and writers, and errors.
 pub mod io {
     pub use wire_buf::error::{InvalidLengthEncodedInteger, InvalidReason, WireError};
@@ -81,10 +83,15 @@ pub mod proto {
 
     /// Packets and chunks.
     pub mod codec {
+        pub use wire_buf::io::{parse_packet, parse_packet_in};
         pub use wire_codec::codec::{
-            ChunkDecoder, ChunkInfo, PacketCodec, PacketDst, deliver, error, packet_to_chunks,
+            ChunkDecoder, ChunkInfo, PacketCodec, PacketDst, deliver, deliver_limited,
+            encode_value, error, packet_to_chunks,
         };
     }
-}
 
-pub use wire_codec::laws;
+    /// Packets from readers, and to writers.
+    pub mod packet_io {
+        pub use wire_codec::packet_io::{PacketIoError, PacketReader, PacketWriter};
+    }
+}

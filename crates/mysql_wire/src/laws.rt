@@ -1,0 +1,57 @@
+//! Laws over the definitions that the contracts cite. Each function but `packet_back` takes and
+//! answers nothing: its contract is the law, and a caller has it by calling.
+
+ghost use Rattle.std.specs.Prelude.{◌≡◌, ◌≤◌, ℕ, List, [], ◌++◌, length, map, All, Result};
+ghost use Rattle.wire_buf.specs.Payloads.{ReadsPayload};
+ghost use Rattle.wire_buf.specs.Reading.{Parses};
+ghost use Rattle.wire_buf.specs.declared.error.WireError.{WireError};
+ghost use Rattle.wire_codec.specs.Delivery.{Ending, Delivers};
+ghost use Rattle.wire_codec.specs.Framing.{id_after, stream};
+ghost use Rattle.wire_repr.specs.Law.{ComesBack, seen};
+ghost use Rattle.mysql_wire.specs.PayloadsBack.{LeavesAfter};
+
+use std::alloc::Allocator;
+use wire_buf::error::WireError;
+use wire_buf::io::{ParseBuf, parse_packet_in};
+pub use wire_codec::laws::{
+    appended_run, between_packets, chunks_counted, encoded_first, equal_limits, framed_length,
+    id_after_append, joined_runs, joined_splits, nothing_read, one_delivery, one_limited_delivery,
+    run_goes_on, stream_append, unique_framing,
+};
+use wire_repr::wire::Wire;
+
+/// Reads a value from the front of a payload, as `parse_packet_in` does. Where what a value was
+/// written as stands at the front, and the value is good under the context and before what follows,
+/// it comes back, and what follows is left.
+pub fn packet_back<'de, T: Wire<'de, A>, A: Allocator + Copy>(
+    alloc: A,
+    ctx: T::Ctx,
+    payload: &'de [u8],
+) -> Result<(T, ParseBuf<'de>), WireError>
+    ensures reads { ReadsPayload (Parses T.Size.SIZE (T.reads ctx)) payload.entry.now result }
+    ensures back { (value : T) (rest : List ℕ) → T.is_value value
+        → T.good ctx value (seen T.Size.SIZE rest) → payload.entry.now ≡ T.bytes value ++ rest
+        → LeavesAfter (T.kept value) T.takes_memory rest result }
+{
+    parse_packet_in(alloc, ctx, payload)
+}
+
+/// From values to bytes and back. Of the stream of the packets that values were encoded as, with
+/// anything behind it, delivery hands out these packets first; and each of them, read as its type
+/// is read, gives back its value, and nothing is left.
+pub fn values_come_back<'de, T: Wire<'de, A>, A: Allocator + Copy>()
+    ensures delivered { (first_id limit : ℕ) (values : List T) (more : List ℕ)
+        (delivered : List (List ℕ)) (ending : Ending) (unfinished rest : List ℕ)
+        → All (λ value. length (T.bytes value) ≤ limit) values
+        → Delivers [] (stream first_id (map T.bytes values) ++ more) first_id limit delivered
+        ending unfinished rest
+        → (others : List (List ℕ)) × (delivered ≡ map T.bytes values ++ others)
+        × Delivers [] more (id_after first_id (map T.bytes values)) limit others ending unfinished
+        rest }
+    ensures back { (ctx : T.Ctx) (value : T) (answer : Result T WireError) (eaten : ℕ)
+        → T.is_value value → T.good ctx value []
+        → Parses T.Size.SIZE (T.reads ctx) (T.bytes value) answer eaten
+        → ComesBack (T.kept value) T.takes_memory (length (T.bytes value)) answer eaten }
+{
+    encoded_first();
+}
