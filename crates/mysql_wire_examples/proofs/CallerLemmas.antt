@@ -1,11 +1,14 @@
 -- Runs from a new codec.
-use Rattle.std.proofs.Common.{◌≡◌, ℕ, List, [], ◌∷◌, ◌++◌, length, refl, arith, subst, Option, Some, None, IfSome, Ok, append-nil, ap, sym, ◌∙◌}
+use Rattle.std.proofs.Common.{◌≡◌, ℕ, List, [], ◌∷◌, ◌++◌, length, refl, arith, subst, Option, Some, None, IfSome, Result, Ok, append-nil, ap, sym, ◌∙◌}
 use Rattle.std.specs.Io.KnownBytes.{Consumes, IsAtEnd}
 use Rattle.mysql_wire.specs.Framing.{max_payload}
 use Rattle.mysql_wire.specs.Delivery.{Delivers, Waiting}
 use Rattle.mysql_wire.specs.Codec.{CodecState}
 use Rattle.mysql_wire.specs.Laws.{empty_state}
 use Rattle.mysql_wire.specs.Runs.{RunsTo}
+use Rattle.mysql_wire.specs.LimitedRuns.{RunsLimited}
+use Rattle.mysql_wire.specs.PacketCodecError.{PacketCodecError}
+use Rattle.std.specs.Borrow.{Bor}
 
 pub nil_of_length : (xs : List ℕ) → length xs ≡ 0 → xs ≡ []
 nil_of_length [] none = refl
@@ -22,3 +25,14 @@ delivers_all limit (Some input) (Some rest) read gained after consumed ended run
     let all : read ≡ input = sym (consumed ∙ ap (λ (z : List ℕ). read ++ z) ended ∙ append-nil read) in
     subst (λ (z : List ℕ). (unfinished : List ℕ) × (more : List ℕ) × Delivers [] z 0 limit gained Waiting unfinished more) all
     (after.held, after.unread, run.0)
+
+-- a run over two pieces from a new codec, in the words of its start
+pub two_pieces : (start before after : CodecState) (pieces : List (ℕ × Bor (List ℕ))) (count : ℕ) (answer : Result (Unit {0}) PacketCodecError) (gained old out : List (List ℕ))
+    → before ≡ start → count ≡ 2 → answer ≡ Ok tt → old ≡ [] → out ≡ old ++ gained
+    → RunsLimited before pieces count answer gained after → RunsLimited start pieces 2 (Ok tt) out after
+two_pieces start before after pieces count answer gained old out is two ok none at run =
+    let same : gained ≡ out = sym (at ∙ ap (λ (z : List (List ℕ)). z ++ gained) none) in
+    subst (λ z. RunsLimited z pieces 2 (Ok tt) out after) is
+    (subst (λ z. RunsLimited before pieces z (Ok tt) out after) two
+    (subst (λ z. RunsLimited before pieces count z out after) ok
+    (subst (λ z. RunsLimited before pieces count answer z after) same run)))

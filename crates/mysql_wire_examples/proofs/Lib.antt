@@ -1,2 +1,3 @@
 pub mod CallerLemmas
+pub mod ValueLemmas
 pub mod ConnectionLemmas

@@ -1,3 +1,4 @@
 pub mod Commands
 pub mod Connection
 pub mod OwnFields
+pub mod Parameters

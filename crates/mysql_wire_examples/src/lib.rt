@@ -6,4 +6,8 @@ pub mod commands;
 pub mod connection;
 pub mod constant_calls;
 pub mod field_callers;
+pub mod login;
 pub mod own_fields;
+pub mod parameters;
+pub mod sockets;
+pub mod values;
