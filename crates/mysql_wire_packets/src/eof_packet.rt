@@ -1,0 +1,87 @@
+//! The `EOF_Packet`.
+
+ghost use Rattle.std.specs.Prelude.{◌≡◌, ◌<◌, ◌^◌, ◌∷◌, ◌++◌};
+ghost use Rattle.mysql_wire.specs.Numbers.{le_bytes};
+ghost use Rattle.mysql_wire.specs.Reading.{Through};
+ghost use Rattle.mysql_wire_packets.specs.InOrder.{packet, both, const_u8, number};
+
+use mysql_wire::constants::StatusFlags;
+use mysql_wire::io::{ParseBuf, WireError};
+use mysql_wire::misc::raw::int::{ConstU8, LeU16, RawInt};
+use mysql_wire::misc::raw::{Both, RawFlags};
+use mysql_wire::proto::{HasSize, MyDeserialize, MySerialize, Varying, Wire};
+use std::alloc::Allocator;
+
+// The payload's fields, in order.
+type Fields = Both<ConstU8<(), 0xfe>, Both<RawInt<LeU16>, RawFlags<StatusFlags, LeU16>>>;
+
+/// What ends the definitions of columns and the rows of an answer, on a connection under
+/// `CLIENT_PROTOCOL_41` and without `CLIENT_DEPRECATE_EOF`.
+///
+/// <https://dev.mysql.com/doc/dev/mysql-server/latest/page_protocol_basic_eof_packet.html>
+#[derive(Clone, Copy, Debug, PartialEq, Eq)]
+pub struct EofPacket {
+    /// How many warnings there were.
+    pub warnings: u16,
+    pub status_flags: RawFlags<StatusFlags, LeU16>,
+}
+
+impl MySerialize for EofPacket {
+    ghost bytes = { λ eof. 0xfe ∷ (le_bytes 2 eof.warnings ++ le_bytes 2 eof.status_flags.0) };
+
+    fn serialize<A: Allocator>(&self, buf: &mut Vec<u8, A>) -> Result<(), WireError> {
+        let warnings = RawInt::<LeU16>::new(self.warnings);
+        Both(
+            ConstU8::<(), 0xfe>::new(),
+            Both(warnings, self.status_flags),
+        )
+        .serialize(buf)
+    }
+}
+
+impl HasSize for EofPacket {
+    type Size = Varying;
+}
+
+impl<'de, A: Allocator + Copy> MyDeserialize<'de, A> for EofPacket {
+    type Ctx = ();
+
+    ghost reads = { λ _ input. Through
+        (λ eof. (_, ((eof.warnings, _), eof.status_flags)))
+        (⟦<Fields as MyDeserialize<'de, A>>⟧.reads (tt, (tt, tt)) input) };
+
+    fn deserialize(alloc: A, _: (), buf: &mut ParseBuf<'de>) -> Result<Self, WireError> {
+        match buf.parse_in::<Fields, A>(alloc, ((), ((), ()))) {
+            Ok(Both(_, Both(warnings, status_flags))) => Ok(EofPacket {
+                warnings: warnings.0,
+                status_flags,
+            }),
+            Err(error) => Err(error),
+        }
+    }
+}
+
+impl<'de, A: Allocator + Copy> Wire<'de, A> for EofPacket {
+    ghost is_value = { λ eof. (eof.warnings < 2 ^ 16) × (eof.status_flags.0 < 2 ^ 16) };
+
+    ghost good = { λ _ _ _. Unit {0} };
+
+    ghost kept = { λ eof back. (back.warnings ≡ eof.warnings)
+        × (back.status_flags.0 ≡ eof.status_flags.0) };
+
+    ghost takes_memory = { ⊥ };
+
+    fn known(&self) {
+        let _warnings = self.warnings;
+        let _flags = self.status_flags.0;
+    }
+
+    ghost comes_back = { λ ctx eof rest answer eaten value good read.
+        packet (⟦<Fields as MyDeserialize<'de, A>>⟧.reads (tt, (tt, tt)))
+        _ _ (λ back came. came.1)
+        (both const_u8 (both (number (λ int. int.0) 2 eof.warnings value.0)
+        (number (λ flags. flags.0) 2 eof.status_flags.0 value.1)))
+        answer eaten read };
+
+    ghost of_size = { λ eof size _ stated. Prim.cc };
+}
