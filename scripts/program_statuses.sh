@@ -6,7 +6,7 @@ set -u
 folder=$(cd "$(dirname "$0")/.." && pwd)/crates/mysql_wire_tool
 program=$folder/out/mysql_wire_tool
 [ -x "$program" ] || (cd "$folder" && rt run -- chunk < /dev/null > /dev/null 2>&1)
-usage='usage: mysql_wire_tool frame ID | chunk | unframe STEP LIMIT'
+usage='usage: mysql_wire_tool frame ID | chunk | unframe STEP LIMIT | reframe LIMIT'
 passed=0
 failed=0
 errors=$(mktemp)
@@ -32,12 +32,14 @@ judge() {
 line=$'\n'
 want 0 "last 0 3 313233${line}rest 0${line}" '' '\3\0\0\000123' chunk
 want 0 "1 61${line}rest 0${line}" '' '\1\0\0\0a' unframe 1 10
+judge 0 "1 61${line}0 -${line}rest 0${line}" '' "$(printf '\1\0\0\0a\0\0\0\1' | "$program" reframe 1 2> "$errors" | "$program" unframe 1 1; echo "status $?")" 'reframe 1'
 judge 0 "last 7 2 6162${line}rest 0${line}" '' "$(printf ab | "$program" frame 7 2> "$errors" | "$program" chunk; echo "status $?")" 'frame 7'
 want 1 '' "$usage" ''
 want 1 '' "$usage" '123' frame
 want 1 '' "$usage" '123' frame 256
 want 1 '' "$usage" '123' chunk chunk
 want 1 '' "$usage" '123' unframe 0 1
+want 1 '' "$usage" '123' reframe
 want 3 "none${line}rest 3${line}" '' '\2\0\0' chunk
 want 3 "1 61${line}rest 2${line}" '' '\1\0\0\0a\2\0' unframe 3 10
 want 4 "too large${line}" '' '\1\0\0\0' unframe 9 0

@@ -1,0 +1,293 @@
+// The commands with each read, each write and each request for memory failing in turn, and what
+// they ask of a reader.
+
+use crate::run::run;
+use refusing::{NEVER, Refusing};
+use std::alloc::Global;
+use std::io;
+use std::io::{ErrorKind, Read, Write};
+use std::test::Fail;
+use test_support::facts::no_row;
+use test_support::fixture::Heap;
+
+// Gives one byte a read, and fails at the read of this number, counted from 0.
+#[derive(Drop)]
+struct OneByOne<'a> {
+    bytes: &'a [u8],
+    until_fault: usize,
+}
+
+impl Read for OneByOne<'_> {
+    fn read(&mut self, buf: &mut [u8]) -> io::Result<usize> {
+        if self.until_fault == 0 {
+            return Err(io::Error::from(ErrorKind::Other));
+        }
+        self.until_fault -= 1;
+        if buf.is_empty() {
+            return Ok(0);
+        }
+        match self.bytes {
+            [] => Ok(0),
+            [first, rest @ ..] => {
+                buf[0] = *first;
+                self.bytes = rest;
+                Ok(1)
+            }
+        }
+    }
+}
+
+// Takes this many bytes in all, and then none. A flush succeeds or fails as told.
+#[derive(Drop)]
+struct Narrow {
+    room: usize,
+    flushes: bool,
+}
+
+impl Write for Narrow {
+    fn write(&mut self, buf: &[u8]) -> io::Result<usize> {
+        let count = buf.len().min(self.room);
+        self.room -= count;
+        Ok(count)
+    }
+
+    fn flush(&mut self) -> io::Result<()> {
+        if self.flushes {
+            Ok(())
+        } else {
+            Err(io::Error::from(ErrorKind::Other))
+        }
+    }
+}
+
+// Gives what a read asks for, and notes the least and the most that was asked for.
+#[derive(Drop)]
+struct Noting<'a> {
+    bytes: &'a [u8],
+    least: usize,
+    most: usize,
+}
+
+impl Read for Noting<'_> {
+    fn read(&mut self, buf: &mut [u8]) -> io::Result<usize> {
+        self.least = self.least.min(buf.len());
+        self.most = self.most.max(buf.len());
+        self.bytes.read(buf)
+    }
+}
+
+// The words, the input, how many reads they make of one byte each, and the status and the text
+// that they end with.
+type Reads<'a> = (&'a [&'a str], &'a [u8], usize, u8, &'a [u8]);
+
+// All input is read, and its end.
+const WHOLE: &[Reads] = &[
+    (&["frame", "0"], b"123", 4, 0, b"\x03\0\0\0123"),
+    (
+        &["frame", "0"],
+        b"\x03\0\0\0123",
+        8,
+        0,
+        b"\x07\0\0\0\x03\0\0\0123",
+    ),
+    (
+        &["chunk"],
+        b"\x03\0\0\0123",
+        8,
+        0,
+        b"last 0 3 313233\nrest 0\n",
+    ),
+];
+
+// The fault is known with the last of these bytes; one read more would fail.
+const FAULTS: &[Reads] = &[
+    (
+        &["unframe", "1", "10"],
+        b"\x01\0\0\0a\x01\0\0\x05b",
+        10,
+        5,
+        b"1 61\nout of sync\n",
+    ),
+    (
+        &["unframe", "1", "1"],
+        b"\x01\0\0\0a\x02\0\0\x01",
+        9,
+        4,
+        b"1 61\ntoo large\n",
+    ),
+];
+
+// Each packet is written as soon as it is whole.
+const PACKETS: &[Reads] = &[
+    (&["reframe", "3"], b"\x03\0\0\0123", 8, 0, b"\x03\0\0\0123"),
+    (
+        &["reframe", "3"],
+        b"\x01\0\0\0a\0\0\0\x05",
+        9,
+        5,
+        b"\x01\0\0\0a",
+    ),
+];
+
+// Whether a row ends so where this read fails. Where it is made, what was written is a front of the
+// text, and as long as `most` at most.
+fn is_read(alloc: Global, heap: &Heap, row: &Reads<'_>, until_fault: usize, most: usize) -> bool {
+    let (words, bytes, reads, wanted, text) = *row;
+    let mut input = OneByOne { bytes, until_fault };
+    let mut output = Vec::new(alloc);
+    let status = run(heap, NEVER, words, &mut input, &mut output);
+    let is_front = text.starts_with(output.as_slice());
+    if until_fault < reads {
+        (status == 2) & is_front & (output.len() <= most)
+    } else {
+        (status == wanted) & is_front & (output.len() == text.len())
+    }
+}
+
+// The first row that doesn't end so at some read.
+fn wrong_read(alloc: Global, rows: &[Reads], most: usize) -> Option<usize> {
+    let heap = Refusing::new(alloc, NEVER);
+    let mut wrong = None;
+    for i in 0..rows.len() {
+        for until_fault in 0..=rows[i].2 {
+            if !is_read(alloc, &heap, &rows[i], until_fault, most) {
+                wrong = Some(i);
+            }
+        }
+    }
+    wrong
+}
+
+#[test]
+fn each_read_fails_in_turn(rt: HostRuntime) -> Result<(), Fail> {
+    no_row(wrong_read(rt.alloc(), WHOLE, 0))
+}
+
+#[test]
+fn unframe_reads_no_further_than_a_fault(rt: HostRuntime) -> Result<(), Fail> {
+    no_row(wrong_read(rt.alloc(), FAULTS, usize::MAX))
+}
+
+#[test]
+fn each_read_of_a_packet_fails_in_turn(rt: HostRuntime) -> Result<(), Fail> {
+    no_row(wrong_read(rt.alloc(), PACKETS, usize::MAX))
+}
+
+// The words, the input, and how long their output is.
+type Writes<'a> = (&'a [&'a str], &'a [u8], usize);
+
+const WRITES: &[Writes] = &[
+    (&["frame", "0"], b"\x03\0\0\0123", 11),
+    (&["chunk"], b"\x03\0\0\0123", 23),
+    (&["unframe", "2", "3"], b"\x03\0\0\0123", 16),
+    (&["frame", "0"], b"123", 7),
+    (&["chunk"], b"", 12),
+    (&["reframe", "3"], b"\x03\0\0\0123", 7),
+];
+
+fn status_in(heap: &Heap, row: &Writes<'_>, room: usize, flushes: bool) -> u8 {
+    let (words, input, _) = *row;
+    let mut input = input;
+    let mut output = Narrow { room, flushes };
+    run(heap, NEVER, words, &mut input, &mut output)
+}
+
+#[test]
+fn each_write_and_the_flush_fail_in_turn(rt: HostRuntime) -> Result<(), Fail> {
+    let heap = Refusing::new(rt.alloc(), NEVER);
+    let mut wrong = None;
+    for i in 0..WRITES.len() {
+        let mut is_right = status_in(&heap, &WRITES[i], 99, false) == 2;
+        for room in 0..30usize {
+            let wanted = if room < WRITES[i].2 { 2 } else { 0 };
+            is_right &= status_in(&heap, &WRITES[i], room, true) == wanted;
+        }
+        if !is_right {
+            wrong = Some(i);
+        }
+    }
+    no_row(wrong)
+}
+
+// The words, and how many requests for memory they make at least.
+const REQUESTS: &[(&[&str], u64)] = &[
+    // The input, as it grows, and the framing.
+    (&["frame", "0"], 2),
+    // The input, the payload, and the text as it grows.
+    (&["chunk"], 3),
+    // The pieces, what is unread, each packet, the list of packets, and each text.
+    (&["unframe", "2", "3"], 6),
+    // Room for a read, the packet, and its framing.
+    (&["reframe", "3"], 3),
+];
+
+// Whether request number `nth` is met and refused, and the status is 6 then. None where words end
+// otherwise. The output is kept elsewhere.
+fn is_refused(alloc: Global, heap: &Heap, words: &[&str], nth: u64) -> Option<bool> {
+    let mut input = b"\x03\0\0\0123".as_slice();
+    let mut output: Vec<u8> = Vec::new(alloc);
+    let status = run(heap, nth, words, &mut input, &mut output);
+    let refused = heap.has_refused();
+    let is_right = if refused {
+        status == 6
+    } else {
+        (status == 0) & !output.is_empty()
+    };
+    is_right.then_some(refused)
+}
+
+// How many requests are refused, each in turn, before these words succeed.
+fn refusals(alloc: Global, heap: &Heap, words: &[&str]) -> Option<u64> {
+    for nth in 0..100u64 {
+        if !is_refused(alloc, heap, words, nth)? {
+            return Some(nth);
+        }
+    }
+    None
+}
+
+#[test]
+fn each_request_for_memory_is_refused_in_turn(rt: HostRuntime) -> Result<(), Fail> {
+    let heap = Refusing::new(rt.alloc(), NEVER);
+    let mut wrong = None;
+    for i in 0..REQUESTS.len() {
+        let (words, least) = REQUESTS[i];
+        if refusals(rt.alloc(), &heap, words) < Some(least) {
+            wrong = Some(i);
+        }
+    }
+    no_row(wrong)
+}
+
+const STEPS: &[(&str, usize)] = &[("1", 1), ("2", 2), ("9", 9), ("65536", 65536)];
+
+// The least and the most that a read was asked for, and the status.
+fn asked(alloc: Global, heap: &Heap, step: &str) -> (usize, usize, u8) {
+    let mut input = Noting {
+        bytes: b"\x03\0\0\0123\0\0\0\x01",
+        least: usize::MAX,
+        most: 0,
+    };
+    let mut output: Vec<u8> = Vec::new(alloc);
+    let status = run(
+        heap,
+        NEVER,
+        &["unframe", step, "9"],
+        &mut input,
+        &mut output,
+    );
+    (input.least, input.most, status)
+}
+
+#[test]
+fn unframe_asks_each_read_for_its_step(rt: HostRuntime) -> Result<(), Fail> {
+    let heap = Refusing::new(rt.alloc(), NEVER);
+    let mut wrong = None;
+    for i in 0..STEPS.len() {
+        let (word, step) = STEPS[i];
+        if asked(rt.alloc(), &heap, word) != (step, step, 0) {
+            wrong = Some(i);
+        }
+    }
+    no_row(wrong)
+}

@@ -1,0 +1,9 @@
+//! Tests of the program's commands, as its words run them.
+#![tactic(auto)]
+
+#[cfg(test)]
+mod faults;
+#[cfg(test)]
+mod rows;
+#[cfg(test)]
+mod run;

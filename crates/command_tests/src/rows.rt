@@ -1,0 +1,239 @@
+// The commands on real bytes, row by row.
+
+ghost use Rattle.std.specs.Prelude.{◌<◌};
+
+use crate::run::run;
+use mysql_wire_commands::unframe::run_unframe;
+use refusing::{NEVER, Refusing};
+use std::alloc::Global;
+use std::test::Fail;
+use test_support::facts::no_row;
+use test_support::fixture::{FILL, Heap};
+
+// The words, the input, and the status and the text that they end with.
+type Row<'a> = (&'a [&'a str], &'a [u8], u8, &'a [u8]);
+
+const FRAME: &[Row] = &[
+    (&["frame", "0"], b"123", 0, b"\x03\0\0\0123"),
+    (&["frame", "7"], b"ab", 0, b"\x02\0\0\x07ab"),
+    (&["frame", "255"], b"", 0, b"\0\0\0\xff"),
+    (&["frame", "0000000255"], b"", 0, b"\0\0\0\xff"),
+];
+
+const CHUNK: &[Row] = &[
+    (
+        &["chunk"],
+        b"\x03\0\0\0123",
+        0,
+        b"last 0 3 313233\nrest 0\n",
+    ),
+    (
+        &["chunk"],
+        b"\x02\0\0\x07ab\0",
+        0,
+        b"last 7 2 6162\nrest 1\n",
+    ),
+    (&["chunk"], b"\0\0\0\xff", 0, b"last 255 0 -\nrest 0\n"),
+    (&["chunk"], b"", 0, b"none\nrest 0\n"),
+    (&["chunk"], b"\x02\0\0", 3, b"none\nrest 3\n"),
+    (&["chunk"], b"\x02\0\0\x07a", 3, b"none\nrest 5\n"),
+];
+
+const UNFRAME: &[Row] = &[
+    (
+        &["unframe", "1", "10"],
+        b"\x01\0\0\0a\0\0\0\x01\x02\0",
+        3,
+        b"1 61\n0 -\nrest 2\n",
+    ),
+    (
+        &["unframe", "1", "10"],
+        b"\x01\0\0\0a\x01\0\0\x05b",
+        5,
+        b"1 61\nout of sync\n",
+    ),
+    (&["unframe", "9", "0"], b"\x01\0\0\0", 4, b"too large\n"),
+    (
+        &["unframe", "2", "1"],
+        b"\x01\0\0\0a\x02\0\0\x01bc",
+        4,
+        b"1 61\ntoo large\n",
+    ),
+    (&["unframe", "65536", "4294967295"], b"", 0, b"rest 0\n"),
+    (&["unframe", "3", "1"], b"\x01\0\0\0a", 0, b"1 61\nrest 0\n"),
+];
+
+const REFRAME: &[Row] = &[
+    (
+        &["reframe", "10"],
+        b"\x01\0\0\0a\x02\0\0\x01b",
+        3,
+        b"\x01\0\0\0a",
+    ),
+    (&["reframe", "10"], b"\x01\0\0\0a", 0, b"\x01\0\0\0a"),
+    (&["reframe", "0"], b"", 0, b""),
+    (
+        &["reframe", "1"],
+        b"\x01\0\0\0a\x02\0\0\x01bc",
+        4,
+        b"\x01\0\0\0a",
+    ),
+    (
+        &["reframe", "4294967295"],
+        b"\x01\0\0\0a\0\0\0\x01\0\0\0\x05",
+        5,
+        b"\x01\0\0\0a\0\0\0\x01",
+    ),
+];
+
+// Words that ask for no command: nothing is read, and nothing is written.
+const OTHER_WORDS: &[&[&str]] = &[
+    &[],
+    &["frame"],
+    &["frame", "256"],
+    &["frame", "x"],
+    &["frame", ""],
+    &["frame", "+5"],
+    &["frame", "-0"],
+    &["frame", "00000000001"],
+    &["frame", "1", "2"],
+    &["chunk", "1"],
+    &["Chunk"],
+    &["unframe", "0", "1"],
+    &["unframe", "65537", "1"],
+    &["unframe", "1", "4294967296"],
+    &["unframe", "1", "-1"],
+    &["unframe", "1"],
+    &["unframe", "1", "1", "1"],
+    &["reframe"],
+    &["reframe", "4294967296"],
+    &["reframe", "1", "1"],
+];
+
+fn goes(alloc: Global, heap: &Heap, row: &Row<'_>) -> bool {
+    let (words, input, wanted, text) = *row;
+    let mut input = input;
+    let mut output = Vec::new(alloc);
+    let status = run(heap, NEVER, words, &mut input, &mut output);
+    (status == wanted) & (output.as_slice() == text)
+}
+
+fn wrong_row(alloc: Global, rows: &[Row]) -> Option<usize> {
+    let heap = Refusing::new(alloc, NEVER);
+    for i in 0..rows.len() {
+        if !goes(alloc, &heap, &rows[i]) {
+            return Some(i);
+        }
+    }
+    None
+}
+
+#[test]
+fn frame_writes_the_framing(rt: HostRuntime) -> Result<(), Fail> {
+    no_row(wrong_row(rt.alloc(), FRAME))
+}
+
+#[test]
+fn chunk_shows_what_stands_in_front(rt: HostRuntime) -> Result<(), Fail> {
+    no_row(wrong_row(rt.alloc(), CHUNK))
+}
+
+#[test]
+fn unframe_shows_each_packet(rt: HostRuntime) -> Result<(), Fail> {
+    no_row(wrong_row(rt.alloc(), UNFRAME))
+}
+
+#[test]
+fn reframe_copies_whole_packets(rt: HostRuntime) -> Result<(), Fail> {
+    no_row(wrong_row(rt.alloc(), REFRAME))
+}
+
+fn is_untouched(alloc: Global, heap: &Heap, words: &[&str]) -> bool {
+    let mut input = b"123".as_slice();
+    let mut output: Vec<u8> = Vec::new(alloc);
+    let status = run(heap, NEVER, words, &mut input, &mut output);
+    (status == 1) & (input.len() == 3) & output.is_empty()
+}
+
+#[test]
+fn other_words_read_and_write_nothing(rt: HostRuntime) -> Result<(), Fail> {
+    let heap = Refusing::new(rt.alloc(), NEVER);
+    let mut wrong = None;
+    for i in 0..OTHER_WORDS.len() {
+        if !is_untouched(rt.alloc(), &heap, OTHER_WORDS[i]) {
+            wrong = Some(i);
+        }
+    }
+    no_row(wrong)
+}
+
+// The limit, the input, and the status and the text, whatever the step is.
+type Stream<'a> = (usize, &'a [u8], u8, &'a [u8]);
+
+const STREAMS: &[Stream] = &[
+    (
+        1,
+        b"\x01\0\0\0a\x01\0\0\x01b\0\0\0\x02",
+        0,
+        b"1 61\n1 62\n0 -\nrest 0\n",
+    ),
+    (2, b"\x01\0\0\0a\x03\0\0\x09b", 4, b"1 61\ntoo large\n"),
+    (3, b"\x01\0\0\0a\x03\0\0\x09b", 3, b"1 61\nrest 5\n"),
+    (3, b"\x01\0\0\0a\x03\0\0\x09bcd", 5, b"1 61\nout of sync\n"),
+];
+
+fn is_same(alloc: Global, row: &Stream<'_>, step: usize) -> bool
+    requires { 0 < step }
+{
+    let (limit, input, wanted, text) = *row;
+    let mut input = input;
+    let mut output = Vec::new(alloc);
+    let status = run_unframe(alloc, step, limit, &mut input, &mut output);
+    (status == wanted) & (output.as_slice() == text)
+}
+
+#[test]
+fn unframe_writes_the_same_however_it_reads(rt: HostRuntime) -> Result<(), Fail> {
+    let mut wrong = None;
+    for i in 0..STREAMS.len() {
+        for step in 1..16usize {
+            if !is_same(rt.alloc(), &STREAMS[i], step) {
+                wrong = Some(i);
+            }
+        }
+    }
+    no_row(wrong)
+}
+
+// The header of a chunk of so many bytes, and how its line begins.
+const LENGTHS: &[(&[u8], usize, &[u8])] = &[
+    (b"\x0b\0\0\x01", 11, b"last 1 11 4242"),
+    (b"\xff\xff\xff\x01", 16777215, b"middle 1 16777215 4242"),
+];
+
+// Whether a chunk of so many bytes `42` is shown with two digits for each of them.
+fn is_shown(alloc: Global, row: &(&[u8], usize, &[u8])) -> bool {
+    let (header, len, front) = *row;
+    let heap = Refusing::new(alloc, NEVER);
+    let mut whole = Vec::new(alloc);
+    let mut all = whole.extend_from_slice(header).is_ok();
+    all &= whole.resize(header.len().saturating_add(len), FILL).is_ok();
+    let mut input = whole.as_slice();
+    let mut output = Vec::new(alloc);
+    all &= run(&heap, NEVER, &["chunk"], &mut input, &mut output) == 0;
+    all &= output.as_slice().starts_with(front);
+    all &= output.as_slice().ends_with(b"42\nrest 0\n");
+    let digits = len.saturating_mul(2);
+    all & (output.len() == front.len().saturating_add(digits).saturating_add(4))
+}
+
+#[test]
+fn a_chunk_may_be_as_long_as_a_chunk_can_be(rt: HostRuntime) -> Result<(), Fail> {
+    let mut wrong = None;
+    for i in 0..LENGTHS.len() {
+        if !is_shown(rt.alloc(), &LENGTHS[i]) {
+            wrong = Some(i);
+        }
+    }
+    no_row(wrong)
+}

@@ -1,0 +1,4 @@
+pub mod InputLemmas
+pub mod UnframeLemmas
+pub mod WordLemmas
+pub mod ReframeLemmas

@@ -1,0 +1,16 @@
+use Rattle.std.proofs.Common.{◌≡◌, ℕ, List, [], ◌-◌, ◌^◌, false}
+use Rattle.std.specs.Io.KnownBytes.{Appends, Consumes}
+use Rattle.mysql_wire.specs.Codec.{codec_state, expected_id}
+use Rattle.mysql_wire_commands.specs.Reframe.{Reframing}
+use Rattle.mysql_wire_commands.proofs.reframe.copy_packets.Given as goal
+
+abbrev pub invariant-packets : goal.invariant-packets
+invariant-packets g l = record {
+  found : l.from.lost ≡ false;
+  idle : l.to.pending.items ≡ [];
+  encoder : l.encoder.max_allowed_packet ≡ l.fn.limit;
+  so_far : (input : List ℕ) × (text : List ℕ)
+      × Reframing l.fn.limit (codec_state l.decoder l.from.src.items l.from.dst.items) (expected_id l.encoder) input text
+      × Consumes (g.R.Read.remaining l.fn.from.reader) (g.R.Read.remaining l.from.reader) input
+      × Appends (g.W.Write.contents l.fn.to.writer) (g.W.Write.contents l.to.writer) text;
+}

@@ -1,0 +1,6 @@
+pub mod Numbers
+pub mod Reframe
+pub mod Status
+pub mod Texts
+pub mod Unframe
+pub mod Words

@@ -1,0 +1,44 @@
+//! Reading.
+
+ghost use Rattle.std.specs.Prelude.{◌≡◌, ◌<◌, ◌≤◌, IfOk, OnOk, take, vec_len};
+ghost use Rattle.std.specs.Io.KnownBytes.{Consumes, IsAtEnd};
+
+use crate::status::Stop;
+use bytes::BytesMut;
+use std::alloc::Allocator;
+use std::io;
+use std::io::Read;
+
+// The room for one read, at least, in bytes.
+const READ_SIZE: usize = 8192;
+
+/// The whole input, in at most 2^64 - 1 reads.
+pub fn read_whole<A: Allocator + Copy, R: Read>(
+    alloc: A,
+    input: &mut R,
+) -> Result<BytesMut<A>, Stop>
+    ensures bytes { IfOk result
+        (λ whole. Consumes (R.remaining input.old) (R.remaining input.new) whole.items) }
+    ensures end { OnOk result (IsAtEnd (R.remaining input.new)) }
+{
+    let mut whole = BytesMut::new(alloc);
+    'reads: for _ in 0..u64::MAX {
+        whole.reserve(READ_SIZE)?;
+        if whole.read_from(input)? == 0 {
+            return Ok(whole);
+        }
+    }
+    Err(Stop::Io)
+}
+
+/// One read to the front of `piece`: how many bytes came, none at the end of the input.
+pub fn read_piece<A: Allocator, R: Read>(input: &mut R, piece: &mut Vec<u8, A>) -> io::Result<usize>
+    requires { 0 < vec_len piece.old }
+    ensures len { vec_len piece.new ≡ vec_len piece.old }
+    ensures count { IfOk result (λ n. n ≤ vec_len piece.new) }
+    ensures bytes { IfOk result
+        (λ n. Consumes (R.remaining input.old) (R.remaining input.new) (take n piece.new.items)) }
+    ensures end { IfOk result (λ n. n ≡ 0 → IsAtEnd (R.remaining input.new)) }
+{
+    input.read(piece.as_mut_slice())
+}

@@ -1,0 +1,12 @@
+//! The commands of the program `mysql_wire_tool`, over any reader and any writer.
+#![tactic(auto)]
+
+pub mod chunk;
+pub mod frame;
+mod input;
+mod lines;
+mod output;
+pub mod reframe;
+pub mod status;
+pub mod unframe;
+pub mod words;

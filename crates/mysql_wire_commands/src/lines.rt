@@ -1,0 +1,58 @@
+//! The lines of text that the program writes.
+
+ghost use Rattle.std.specs.Prelude.{◌≡◌, ◌++◌, IfOk, OnOk, string_bytes};
+ghost use Rattle.mysql_wire_commands.specs.Texts.{chunk_line, hex_or_dash, payload_line, rest_line};
+
+use mysql_wire::proto::codec::ChunkInfo;
+use std::alloc::{AllocError, Allocator};
+
+// Two digits a byte, or a dash where there are no bytes.
+fn hex_or_dash<A: Allocator>(alloc: A, bytes: &[u8]) -> Result<String<A>, AllocError>
+    ensures { IfOk result (λ text. string_bytes text ≡ hex_or_dash bytes.now) }
+{
+    if bytes.is_empty() {
+        return String::from_str(alloc, "-");
+    }
+    hex::encode(alloc, bytes)
+}
+
+/// Appends how many bytes the payload has, and their digits.
+pub fn push_payload<A: Allocator + Copy>(
+    text: &mut String<A>,
+    payload: &[u8],
+) -> Result<(), AllocError>
+    ensures { OnOk result
+        (string_bytes text.new ≡ string_bytes text.old ++ payload_line payload.now) }
+{
+    let digits = hex_or_dash(*text.allocator(), payload)?;
+    writeln!(text, "{} {digits}", payload.len())
+}
+
+/// Appends the line of a chunk, or of none.
+pub fn push_chunk<A: Allocator + Copy>(
+    text: &mut String<A>,
+    info: Option<ChunkInfo>,
+    payload: &[u8],
+) -> Result<(), AllocError>
+    ensures { OnOk result
+        (string_bytes text.new ≡ string_bytes text.old ++ chunk_line info payload.now) }
+{
+    match info {
+        None => text.push_str("none\n"),
+        Some(ChunkInfo::Middle(id)) => {
+            write!(text, "middle {id} ")?;
+            push_payload(text, payload)
+        }
+        Some(ChunkInfo::Last(id)) => {
+            write!(text, "last {id} ")?;
+            push_payload(text, payload)
+        }
+    }
+}
+
+/// Appends how many bytes are left.
+pub fn push_rest<A: Allocator>(text: &mut String<A>, count: u128) -> Result<(), AllocError>
+    ensures { OnOk result (string_bytes text.new ≡ string_bytes text.old ++ rest_line count) }
+{
+    writeln!(text, "rest {count}")
+}

@@ -1,0 +1,104 @@
+//! What the words on the command line ask for.
+
+ghost use Rattle.std.specs.Prelude.{◌≡◌, ◌↔◌, map, string_bytes, IfSome, Some};
+ghost use Rattle.std.specs.Io.KnownBytes.{Keeps};
+ghost use Rattle.std.specs.Option.{SomeIff};
+ghost use Rattle.std.specs.Str.Parse.{digits_value};
+ghost use Rattle.mysql_wire_commands.specs.Numbers.{IsNumber};
+
+use crate::chunk::run_chunk;
+use crate::frame::run_frame;
+use crate::reframe::run_reframe;
+use crate::unframe::run_unframe;
+use std::alloc::Allocator;
+use std::io::{Read, Write};
+
+/// One of the program's commands.
+#[derive(Debug, Clone, Copy, PartialEq, Eq)]
+pub enum Request {
+    /// `frame ID`
+    Frame(u8),
+    /// `chunk`
+    Chunk,
+    /// `unframe STEP LIMIT`: so many bytes asked of a read, and at most so many a packet.
+    Unframe { step: usize, limit: usize },
+    /// `reframe LIMIT`: at most so many bytes a packet.
+    Reframe(usize),
+}
+
+// The number that one to ten digits write, where it is at most `most`.
+fn number(word: &str, most: u64) -> Option<u64>
+    ensures { SomeIff result (IsNumber word.now most) (digits_value 10 word.now) }
+{
+    if word.len() > 10 || word.starts_with('+') {
+        return None;
+    }
+    match word.parse::<u64>() {
+        Ok(number) if number <= most => Some(number),
+        _ => None,
+    }
+}
+
+impl Request {
+    ghost use Rattle.mysql_wire_commands.specs.Words.{Asks};
+
+    // What the words ask for.
+    fn of<A: Allocator>(words: &[String<A>]) -> Option<Request>
+        ensures asked { IfSome result (Asks (map string_bytes words.now)) }
+        ensures exact { (request : Request) → Asks (map string_bytes words.now) request
+            → result ≡ Some request }
+    {
+        match words {
+            [name, id] if name.as_str() == "frame" => {
+                Some(Request::Frame(number(id.as_str(), 255)? as u8))
+            }
+            [name, most] if name.as_str() == "reframe" => {
+                Some(Request::Reframe(number(most.as_str(), 4294967295)? as usize))
+            }
+            [name] if name.as_str() == "chunk" => Some(Request::Chunk),
+            [name, step, limit] if name.as_str() == "unframe" => {
+                let step = number(step.as_str(), 65536)?;
+                let limit = number(limit.as_str(), 4294967295)?;
+                if step == 0 {
+                    return None;
+                }
+                Some(Request::Unframe {
+                    step: step as usize,
+                    limit: limit as usize,
+                })
+            }
+            _ => None,
+        }
+    }
+}
+
+ghost use Rattle.mysql_wire_commands.specs.Words.{Asks, RequestEnds};
+
+/// Runs the command that the words after the program's name ask for. The answer is the exit status:
+/// that of the command, or 1 where the words ask for none, and then nothing was read or written.
+/// Input and output are handed back, as they are then.
+pub fn run_words<A: Allocator + Copy, R: Read, W: Write>(
+    alloc: A,
+    words: &[String<A>],
+    mut input: R,
+    mut output: W,
+) -> (u8, R, W)
+    ensures ran { (request : Request) → Asks (map string_bytes words.now) request
+        → RequestEnds request result.0 (R.remaining input) (R.remaining result.1)
+        (W.contents output) (W.contents result.2) }
+    ensures refused { (result.0 ≡ 1)
+        ↔ ((request : Request) → ¬ (Asks (map string_bytes words.now) request)) }
+    ensures untouched { result.0 ≡ 1 → Keeps (R.remaining input) (R.remaining result.1)
+        × Keeps (W.contents output) (W.contents result.2) }
+{
+    let status = match Request::of(words) {
+        None => 1,
+        Some(Request::Frame(id)) => run_frame(alloc, id, &mut input, &mut output),
+        Some(Request::Chunk) => run_chunk(alloc, &mut input, &mut output),
+        Some(Request::Unframe { step, limit }) => {
+            run_unframe(alloc, step, limit, &mut input, &mut output)
+        }
+        Some(Request::Reframe(limit)) => return run_reframe(alloc, limit, input, output),
+    };
+    (status, input, output)
+}
