@@ -3,13 +3,14 @@
 use mysql_wire::io::{BufMutExt, ReadMysqlExt};
 use mysql_wire::misc::{varlen_uint_size, write_varlen_uint};
 use refusing::{NEVER, Refusing};
-use std::alloc::Global;
+use std::alloc::Allocator;
 use test_support::answers::{Fault, told};
 use test_support::fixture::Heap;
 
 // A buffer with no room, which holds the byte `aa`. Then request number `nth` is refused.
-fn full(heap: &Heap, nth: u64) -> Vec<u8, &Heap> {
-    let mut buf = Vec::new(heap);
+fn full<A: Allocator>(heap: &Heap, alloc: A, nth: u64) -> Vec<u8, A> {
+    heap.refuse(NEVER);
+    let mut buf = Vec::new(alloc);
     if buf.reserve_exact(1).is_ok() {
         let _ = buf.push(0xaa);
     }
@@ -17,28 +18,31 @@ fn full(heap: &Heap, nth: u64) -> Vec<u8, &Heap> {
     buf
 }
 
-// Whether a text is put so, request number `nth` being refused.
-fn puts(alloc: Global, nth: u64, wanted: Result<(), Fault>, left: &[u8]) -> bool {
-    let heap = Refusing::new(alloc, NEVER);
-    let mut buf = full(&heap, nth);
+// Whether a put with request number `nth` refused leaves this; of number 2 there is none.
+fn puts<A: Allocator>(heap: &Heap, alloc: A, nth: u64, left: &[u8]) -> bool {
+    let mut buf = full(heap, alloc, nth);
     let put = told(buf.put_lenenc_str(&[b'a'; 40]));
+    let wanted = if nth < 2 {
+        Err(Fault::OutOfMemory)
+    } else {
+        Ok(())
+    };
     (put == wanted) & (heap.has_refused() == wanted.is_err()) & (buf.as_slice() == left)
 }
 
 // A put asks twice, for the length and for the text: what was there stays, and perhaps the length.
 #[test]
 fn refused_puts_leave_nothing_or_the_length(rt: HostRuntime) {
-    let refused = Err(Fault::OutOfMemory);
+    let heap = &Refusing::new(rt.alloc(), NEVER);
     let whole = b"\xaa\x28aaaaaaaaaaaaaaaaaaaaaaaaaaaaaaaaaaaaaaaa";
-    assert!(rt; puts(rt.alloc(), 0, refused, b"\xaa"));
-    assert!(rt; puts(rt.alloc(), 1, refused, b"\xaa\x28"));
-    assert!(rt; puts(rt.alloc(), 2, Ok(()), whole));
+    assert!(rt; puts(heap, heap, 0, b"\xaa"));
+    assert!(rt; puts(heap, heap, 1, b"\xaa\x28"));
+    assert!(rt; puts(heap, heap, 2, whole));
 }
 
 // Whether nothing is written of a number where memory is refused, and all of it at the next call.
-fn writes_later(alloc: Global, number: u64) -> bool {
-    let heap = Refusing::new(alloc, NEVER);
-    let mut buf = full(&heap, 0);
+fn writes_later<A: Allocator>(heap: &Heap, alloc: A, number: u64) -> bool {
+    let mut buf = full(heap, alloc, 0);
     let written = told(write_varlen_uint(&mut buf, number));
     let mut all = written == Err(Fault::OutOfMemory);
     all &= buf.as_slice() == b"\xaa".as_slice();
@@ -48,26 +52,27 @@ fn writes_later(alloc: Global, number: u64) -> bool {
 
 #[test]
 fn refused_varlen_uint_changes_nothing(rt: HostRuntime) {
-    assert!(rt; writes_later(rt.alloc(), 5));
-    assert!(rt; writes_later(rt.alloc(), 1 << 60));
+    let heap = &Refusing::new(rt.alloc(), NEVER);
+    assert!(rt; writes_later(heap, heap, 5));
+    assert!(rt; writes_later(heap, heap, 1 << 60));
 }
 
-// Whether a text is read where request number `nth` is refused: all of it, or memory is missing.
+// Whether a text is read where a request may be refused: all of it, or memory is missing.
 // None where the answer is another one.
-fn is_read(alloc: Global, nth: u64, bytes: &[u8], text: &[u8]) -> Option<bool> {
-    let heap = Refusing::new(alloc, nth);
+fn is_read<A: Allocator>(heap: &Heap, alloc: A, bytes: &[u8], text: &[u8]) -> Option<bool> {
     let mut reader = bytes;
-    let (is_read, is_right) = match told(reader.read_lenenc_str(&heap)) {
+    let (is_read, is_right) = match reader.read_lenenc_str(alloc) {
         Ok(read) => (true, read.as_slice() == text),
-        Err(why) => (false, why == Fault::OutOfMemory),
+        Err(error) => (false, Fault::of(&error) == Fault::OutOfMemory),
     };
     (is_right & (heap.has_refused() != is_read)).then_some(is_read)
 }
 
 // How many requests are refused, each in turn, before a text is read.
-fn refusals(alloc: Global, bytes: &[u8], text: &[u8]) -> Option<u64> {
+fn refusals(heap: &Heap, bytes: &[u8], text: &[u8]) -> Option<u64> {
     for nth in 0..20u64 {
-        if is_read(alloc, nth, bytes, text)? {
+        heap.refuse(nth);
+        if is_read(heap, heap, bytes, text)? {
             return Some(nth);
         }
     }
@@ -79,6 +84,7 @@ fn refused_text_is_out_of_memory(rt: HostRuntime) {
     let text = [b'a'; 40_000];
     let mut bytes = Vec::new(rt.alloc());
     assert!(rt; bytes.put_lenenc_str(&text).is_ok());
-    let refusals = refusals(rt.alloc(), bytes.as_slice(), &text);
+    let heap = Refusing::new(rt.alloc(), NEVER);
+    let refusals = refusals(&heap, bytes.as_slice(), &text);
     assert!(rt; refusals > Some(1));
 }

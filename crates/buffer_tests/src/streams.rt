@@ -10,6 +10,7 @@ use std::alloc::{Allocator, Global};
 use std::io::{self, Read, Write};
 use std::test::Fail;
 use test_support::answers::{Fault, told};
+use test_support::fields::{MORE, last};
 use test_support::reference::between;
 
 // Gives at most 100 bytes a read, and fails at the read of this number.
@@ -54,11 +55,11 @@ impl Write for FailingWriter {
 
 // ---- numbers
 
-// Whether a stream that begins so gives this number, and is left with so many bytes.
+// Whether a stream that begins so gives this number, and its last bytes are left, so many.
 fn gives(bytes: &[u8], wanted: Result<u64, Fault>, left: usize) -> bool {
     let mut reader = bytes;
     let read = told(reader.read_lenenc_int());
-    (read == wanted) & (reader.len() == left)
+    (read == wanted) & (reader == last(bytes, left))
 }
 
 // Whether the row's number is read, whatever follows, and an end of input from fewer bytes.
@@ -115,21 +116,33 @@ fn refuses<A: Allocator>(alloc: A, bytes: &[u8], fault: Fault) -> bool {
     }
 }
 
+// Whether a text behind a mark is refused, and what stands behind the mark is left.
+fn refuses_mark(alloc: Global, bytes: &[u8]) -> bool {
+    let mut reader = bytes;
+    let is_refused = match reader.read_lenenc_str(alloc) {
+        Ok(_) => false,
+        Err(error) => Fault::of(&error) == Fault::NoInteger,
+    };
+    is_refused & (reader == last(bytes, bytes.len().saturating_sub(1)))
+}
+
+const MARKS: &[&[u8]] = &[b"\xfb\x01", b"\xff\x01", b"\xfb\x01\x02\x03", b"\xff\xfb\0"];
+
 #[test]
 fn marks_are_refused(rt: HostRuntime) {
     let mut all = true;
-    for bytes in [b"\xfb\x01", b"\xff\x01"] {
-        all &= gives(bytes, Err(Fault::NoInteger), 1);
-        all &= refuses(rt.alloc(), bytes, Fault::NoInteger);
+    for bytes in MARKS {
+        all &= gives(*bytes, Err(Fault::NoInteger), bytes.len().saturating_sub(1));
+        all &= refuses_mark(rt.alloc(), *bytes);
     }
     assert!(rt; all);
 }
 
-// Whether a text is read from its spelling, and nothing is left.
-fn reads_back(alloc: Global, spelling: &[u8], text: &[u8]) -> bool {
-    let mut reader = spelling;
-    match told(reader.read_lenenc_str(alloc)) {
-        Ok(read) => (read.as_slice() == text) & reader.is_empty(),
+// Whether a text is read from its spelling, and what stands behind that is left.
+fn reads_back(alloc: Global, bytes: &[u8], text: &[u8], left: &[u8]) -> bool {
+    let mut reader = bytes;
+    match reader.read_lenenc_str(alloc) {
+        Ok(read) => (read.as_slice() == text) & (reader == left),
         Err(_) => false,
     }
 }
@@ -142,8 +155,10 @@ fn comes_back(alloc: Global, text: &[u8]) -> bool {
     let written = told(out.write_lenenc_str(text));
     all &= written == Ok(lenenc_str_len(text));
     all &= out.len() as u64 == lenenc_str_len(text);
-    all &= out == put;
-    all & reads_back(alloc, out.as_slice(), text)
+    all &= out.as_slice() == put.as_slice();
+    all &= reads_back(alloc, out.as_slice(), text, b"");
+    all &= out.extend_from_slice(MORE).is_ok();
+    all & reads_back(alloc, out.as_slice(), text, MORE)
 }
 
 // Of a long text the room is asked for piece by piece.

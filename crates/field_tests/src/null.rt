@@ -5,37 +5,37 @@ use mysql_wire::misc::raw::RawBytes;
 use mysql_wire::misc::raw::bytes::NullBytes;
 use mysql_wire::proto::MySerialize;
 use std::alloc::Global;
-use test_support::answers::{Fault, told};
-use test_support::reference::between;
+use test_support::answers::Fault;
+use test_support::reference::{between, first_zero};
 
-// Whether so many bytes of the text are written, and a zero.
-fn is_written(buf: &mut Vec<u8>, text: &[u8], count: usize) -> bool {
+// Whether the text up to its first zero is written, and a zero.
+fn is_written(buf: &mut Vec<u8>, text: &[u8], zero: usize) -> bool {
     buf.clear();
-    let written = RawBytes::<NullBytes>::from(text).serialize(buf);
-    written.is_ok()
-        && buf.last() == Some(&0)
-        && buf.len() == count.wrapping_add(1)
-        && between(buf.as_slice(), 0, count) == between(text, 0, count)
+    let is_put = RawBytes::<NullBytes>::from(text).serialize(buf).is_ok();
+    let bytes = buf.as_slice();
+    let is_front = between(bytes, 0, zero) == between(text, 0, zero);
+    is_put & is_front & (between(bytes, zero, bytes.len()) == b"\0".as_slice())
 }
 
-// Whether so many bytes of the input are read, and their zero is eaten; where there is no zero,
-// whether that is said and nothing is eaten.
-fn is_read(alloc: Global, input: &[u8], count: usize) -> bool {
+// Whether the text is read up to its first zero, which is eaten; where there is none, whether that
+// is said and nothing is eaten.
+fn is_read(alloc: Global, input: &[u8], zero: usize) -> bool {
     let mut buf = ParseBuf(input);
     let no_zero = Fault::Invalid(InvalidReason::NoNullTerminator);
-    match told(buf.parse::<RawBytes<'_, NullBytes>>(alloc, ())) {
+    match buf.parse::<RawBytes<'_, NullBytes>>(alloc, ()) {
         Ok(text) => {
-            count < input.len()
-                && text.eq_bytes(between(input, 0, count))
-                && buf.0 == between(input, count.wrapping_add(1), input.len())
+            let is_text = text.eq_bytes(between(input, 0, zero));
+            let left = between(input, zero.saturating_add(1), input.len());
+            (zero < input.len()) & is_text & (buf.0 == left)
         }
-        Err(why) => count == input.len() && why == no_zero && buf.0 == input,
+        Err(error) => (zero == input.len()) & (Fault::of(&error) == no_zero) & (buf.0 == input),
     }
 }
 
-// Whether the text ends after so many bytes.
-fn ends_at(alloc: Global, buf: &mut Vec<u8>, text: &[u8], count: usize) -> bool {
-    is_written(buf, text, count) && is_read(alloc, text, count)
+// Whether the text ends at the zero that a plain loop finds in it, which stands at this place.
+fn ends_at(alloc: Global, buf: &mut Vec<u8>, text: &[u8], place: usize) -> bool {
+    let zero = first_zero(text);
+    (zero == place) & is_written(buf, text, zero) & is_read(alloc, text, zero)
 }
 
 // One zero at each place, and none.

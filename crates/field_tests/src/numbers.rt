@@ -8,12 +8,13 @@ use mysql_wire::misc::raw::int::{
     LeU32UpperHalf, LeU48, LeU56, LeU64, LenEnc, VarLen,
 };
 use refusing::Refusing;
+use std::test::Fail;
 use test_support::answers::Fault;
+use test_support::facts::no_row;
 use test_support::fields::{
     Eaten, MORE, Short, has_size, is_read, is_written, joined, starved, stops,
 };
 use test_support::fixture::Heap;
-use test_support::reference::between;
 
 /// A number, the bytes that it is written as, and the number that is read back from them.
 pub type Row<'a, T> = (
@@ -247,53 +248,33 @@ const VARLEN: &[Row<VarLen>] = &[
     (u32::MAX, b"\xff\xff\xff\xff\x0f", u32::MAX),
 ];
 
-// Fixed widths, without and with a sign.
+// Fixed widths, without and with a sign. Of a wider number the low bytes are written.
 #[test]
-fn unsigned_numbers(rt: HostRuntime) {
-    let heap = Refusing::new(rt.alloc(), 0);
-    assert!(rt; are_numbers::<u8>(&heap, Some(1), Eaten::Nothing, U8));
-    assert!(rt; are_numbers::<LeU16>(&heap, Some(2), Eaten::Nothing, LE_U16));
-    assert!(rt; are_numbers::<LeU32>(&heap, Some(4), Eaten::Nothing, LE_U32));
-    assert!(rt; are_numbers::<LeU64>(&heap, Some(8), Eaten::Nothing, LE_U64));
+fn numbers_of_a_fixed_width(rt: HostRuntime) {
+    let heap = &Refusing::new(rt.alloc(), 0);
+    assert!(rt; are_numbers::<u8>(heap, Some(1), Eaten::Nothing, U8));
+    assert!(rt; are_numbers::<LeU16>(heap, Some(2), Eaten::Nothing, LE_U16));
+    assert!(rt; are_numbers::<LeU24>(heap, Some(3), Eaten::Nothing, LE_U24));
+    assert!(rt; are_numbers::<LeU32>(heap, Some(4), Eaten::Nothing, LE_U32));
+    assert!(rt; are_numbers::<LeU48>(heap, Some(6), Eaten::Nothing, LE_U48));
+    assert!(rt; are_numbers::<LeU56>(heap, Some(7), Eaten::Nothing, LE_U56));
+    assert!(rt; are_numbers::<LeU64>(heap, Some(8), Eaten::Nothing, LE_U64));
+    assert!(rt; are_numbers::<i8>(heap, Some(1), Eaten::Nothing, I8));
+    assert!(rt; are_numbers::<LeI16>(heap, Some(2), Eaten::Nothing, LE_I16));
+    assert!(rt; are_numbers::<LeI24>(heap, Some(3), Eaten::Nothing, LE_I24));
+    assert!(rt; are_numbers::<LeI32>(heap, Some(4), Eaten::Nothing, LE_I32));
+    assert!(rt; are_numbers::<LeI56>(heap, Some(7), Eaten::Nothing, LE_I56));
+    assert!(rt; are_numbers::<LeI64>(heap, Some(8), Eaten::Nothing, LE_I64));
 }
 
+// Halves of a number, and numbers at the ends of their forms.
 #[test]
-fn signed_numbers(rt: HostRuntime) {
-    let heap = Refusing::new(rt.alloc(), 0);
-    assert!(rt; are_numbers::<i8>(&heap, Some(1), Eaten::Nothing, I8));
-    assert!(rt; are_numbers::<LeI16>(&heap, Some(2), Eaten::Nothing, LE_I16));
-    assert!(rt; are_numbers::<LeI32>(&heap, Some(4), Eaten::Nothing, LE_I32));
-    assert!(rt; are_numbers::<LeI64>(&heap, Some(8), Eaten::Nothing, LE_I64));
-}
-
-// Of a wider number the low bytes are written.
-#[test]
-fn unsigned_numbers_are_cut(rt: HostRuntime) {
-    let heap = Refusing::new(rt.alloc(), 0);
-    assert!(rt; are_numbers::<LeU24>(&heap, Some(3), Eaten::Nothing, LE_U24));
-    assert!(rt; are_numbers::<LeU48>(&heap, Some(6), Eaten::Nothing, LE_U48));
-    assert!(rt; are_numbers::<LeU56>(&heap, Some(7), Eaten::Nothing, LE_U56));
-}
-
-#[test]
-fn signed_numbers_are_cut(rt: HostRuntime) {
-    let heap = Refusing::new(rt.alloc(), 0);
-    assert!(rt; are_numbers::<LeI24>(&heap, Some(3), Eaten::Nothing, LE_I24));
-    assert!(rt; are_numbers::<LeI56>(&heap, Some(7), Eaten::Nothing, LE_I56));
-}
-
-#[test]
-fn halves_are_the_low_and_the_high_bits(rt: HostRuntime) {
-    let heap = Refusing::new(rt.alloc(), 0);
-    assert!(rt; are_numbers::<LeU32LowerHalf>(&heap, Some(2), Eaten::Nothing, LOWER_HALVES));
-    assert!(rt; are_numbers::<LeU32UpperHalf>(&heap, Some(2), Eaten::Nothing, UPPER_HALVES));
-}
-
-#[test]
-fn variable_numbers_at_the_ends_of_their_forms(rt: HostRuntime) {
-    let heap = Refusing::new(rt.alloc(), 0);
-    assert!(rt; are_numbers::<LenEnc>(&heap, None, Eaten::First, LENENC));
-    assert!(rt; are_numbers::<VarLen>(&heap, None, Eaten::All, VARLEN));
+fn halves_and_variable_numbers(rt: HostRuntime) {
+    let heap = &Refusing::new(rt.alloc(), 0);
+    assert!(rt; are_numbers::<LeU32LowerHalf>(heap, Some(2), Eaten::Nothing, LOWER_HALVES));
+    assert!(rt; are_numbers::<LeU32UpperHalf>(heap, Some(2), Eaten::Nothing, UPPER_HALVES));
+    assert!(rt; are_numbers::<LenEnc>(heap, None, Eaten::First, LENENC));
+    assert!(rt; are_numbers::<VarLen>(heap, None, Eaten::All, VARLEN));
 }
 
 // Whether this number is read from each of these spellings.
@@ -334,52 +315,40 @@ fn longer_spellings_are_read(rt: HostRuntime) {
     assert!(rt; are_spelled::<VarLen>(&heap, Eaten::All, varlen));
 }
 
-// Whether no number is read for this reason, so many bytes being left.
-fn stops_varlen(heap: &Heap, input: &[u8], why: InvalidReason, left: usize) -> bool {
-    stops::<RawInt<VarLen>, (), _>(starved(heap), (), input, Fault::Invalid(why), left)
-}
+const LARGE: Fault = Fault::Invalid(InvalidReason::VarLenTooLarge);
+
+const LONG: Fault = Fault::Invalid(InvalidReason::VarLenTooLong);
+
+const EOF: Fault = Fault::UnexpectedEof;
+
+// Inputs that begin with no number of variable length, why, and how many bytes are left.
+const NO_VARLEN: &[(&[u8], Fault, usize)] = &[
+    (b"\xff\xff\xff\xff\x1f\xaa", LARGE, 1),
+    (b"\xff\xff\xff\xff\x10\xaa", LARGE, 1),
+    (b"\x80\x80\x80\x80\x10\xaa", LARGE, 1),
+    (b"\x80\x80\x80\x80\x7f\xaa", LARGE, 1),
+    // Whatever the five groups come to.
+    (b"\x80\x80\x80\x80\x80", LONG, 0),
+    (b"\x80\x80\x80\x80\x80\0", LONG, 1),
+    (b"\xff\xff\xff\xff\xff\x01", LONG, 1),
+    (b"\x81\x80\x80\x80\x80\x80\x80", LONG, 2),
+    // One that ends early is eaten.
+    (b"", EOF, 0),
+    (b"\xff", EOF, 0),
+    (b"\xff\x80", EOF, 0),
+    (b"\xff\x80\xff", EOF, 0),
+    (b"\xff\x80\xff\x80", EOF, 0),
+];
 
 #[test]
-fn varlen_above_its_type_is_too_large(rt: HostRuntime) {
-    let heap = Refusing::new(rt.alloc(), 0);
-    let rows: [&[u8]; 4] = [
-        b"\xff\xff\xff\xff\x1f\xaa",
-        b"\xff\xff\xff\xff\x10\xaa",
-        b"\x80\x80\x80\x80\x10\xaa",
-        b"\x80\x80\x80\x80\x7f\xaa",
-    ];
-    let mut all = true;
-    for input in rows {
-        all &= stops_varlen(&heap, input, InvalidReason::VarLenTooLarge, 1);
+fn varlen_that_is_too_large_or_too_long_or_ends_early(rt: HostRuntime) -> Result<(), Fail> {
+    let heap = &Refusing::new(rt.alloc(), 0);
+    let mut wrong = None;
+    for i in 0..NO_VARLEN.len() {
+        let (input, fault, left) = NO_VARLEN[i];
+        if !stops::<RawInt<VarLen>, (), _>(starved(heap), (), input, fault, left) {
+            wrong = Some(i);
+        }
     }
-    assert!(rt; all);
-}
-
-// Whatever the five groups come to.
-#[test]
-fn varlen_of_more_than_five_bytes_is_too_long(rt: HostRuntime) {
-    let heap = Refusing::new(rt.alloc(), 0);
-    let rows: [&[u8]; 4] = [
-        b"\x80\x80\x80\x80\x80",
-        b"\x80\x80\x80\x80\x80\0",
-        b"\xff\xff\xff\xff\xff\x01",
-        b"\x81\x80\x80\x80\x80\x80\x80",
-    ];
-    let mut all = true;
-    for input in rows {
-        let left = input.len().saturating_sub(5);
-        all &= stops_varlen(&heap, input, InvalidReason::VarLenTooLong, left);
-    }
-    assert!(rt; all);
-}
-
-#[test]
-fn varlen_that_ends_early_is_eaten(rt: HostRuntime) {
-    let heap = Refusing::new(rt.alloc(), 0);
-    let mut all = true;
-    for there in 0..5usize {
-        let short = between(b"\xff\x80\xff\x80", 0, there);
-        all &= stops::<RawInt<VarLen>, (), _>(&heap, (), short, Fault::UnexpectedEof, 0);
-    }
-    assert!(rt; all);
+    no_row(wrong)
 }

@@ -38,7 +38,7 @@ fn a_text_of_ones_own(rt: HostRuntime) -> Result<(), Fail> {
     let letters = letters(rt.alloc(), 65536)?;
     let text = letters.as_slice();
     assert!(rt; is_bounded::<U16Bytes>(text, 65535, None));
-    assert!(rt; are_texts::<U16Bytes>(&heap, text, Eaten::Nothing, U16, 65535));
+    assert!(rt; are_texts::<U16Bytes, _>(&heap, &heap, text, Eaten::Nothing, U16, 65535));
     assert!(rt; is_refused_twice::<U16Bytes>(&heap, [b"\0\xc8", &[b'a'; 200], b""]));
     Ok(())
 }

@@ -9,11 +9,11 @@ use mysql_wire::misc::raw::bytes::{
 };
 use mysql_wire::misc::raw::int::VarLen;
 use refusing::Refusing;
-use std::alloc::{AllocError, Global};
+use std::alloc::{AllocError, Allocator, Global};
 use std::test::Fail;
 use test_support::answers::Fault;
 use test_support::fields::{
-    Eaten, MORE, Short, gives, has_size, is_read, is_written, joined, starved, stops,
+    Eaten, MORE, Short, gives, has_size, is_read, is_written, joined, stops,
 };
 use test_support::fixture::Heap;
 use test_support::reference::between;
@@ -30,8 +30,9 @@ pub fn letters(alloc: Global, len: usize) -> Result<Vec<u8>, AllocError> {
 
 // Whether a text is written as the input, but for `MORE` at its end, and `cut` is read back,
 // whatever follows, which takes no memory.
-fn is_text<T: BytesRepr<Ctx = C>, C: Copy>(
+fn is_text<T: BytesRepr<Ctx = C>, C: Copy, A: Allocator + Copy>(
     heap: &Heap,
+    alloc: A,
     ctx: C,
     (text, cut): (&[u8], &[u8]),
     input: &[u8],
@@ -40,8 +41,9 @@ fn is_text<T: BytesRepr<Ctx = C>, C: Copy>(
     let len = input.len().saturating_sub(MORE.len());
     let value = RawBytes::<T>::from(text);
     let is_written = is_written(heap, &value, between(input, 0, len));
-    let back = RawBytes::<T, &Heap>::from(cut);
-    let is_read = is_read(starved(heap), ctx, input, len, &back, short);
+    let back = RawBytes::<T, A>::from(cut);
+    heap.refuse(0);
+    let is_read = is_read(alloc, ctx, input, len, &back, short);
     is_written & is_read & (heap.left() == 0)
 }
 
@@ -81,8 +83,9 @@ pub type Row<'a> = (usize, &'a [u8]);
 
 /// Whether texts of these lengths are written behind their length, `most` bytes of them at most. A
 /// length is eaten, where it is there, and else as `eaten` says.
-pub fn are_texts<T: BytesRepr<Ctx = ()>>(
+pub fn are_texts<T: BytesRepr<Ctx = ()>, A: Allocator + Copy>(
     heap: &Heap,
+    alloc: A,
     letters: &[u8],
     eaten: Eaten,
     rows: &[Row<'_>],
@@ -98,7 +101,7 @@ pub fn are_texts<T: BytesRepr<Ctx = ()>>(
             eaten,
             front: front.len(),
         };
-        all &= is_text::<T, ()>(heap, (), (text, cut), input.as_slice(), short);
+        all &= is_text::<T, (), A>(heap, alloc, (), (text, cut), input.as_slice(), short);
     }
     all
 }
@@ -141,75 +144,84 @@ const VARLEN: &[Row] = &[
 
 #[test]
 fn texts_behind_their_length(rt: HostRuntime) -> Result<(), Fail> {
-    let heap = Refusing::new(rt.alloc(), 0);
+    let heap = &Refusing::new(rt.alloc(), 0);
     let letters = letters(rt.alloc(), 65536)?;
     let text = letters.as_slice();
-    assert!(rt; are_texts::<LenEnc>(&heap, text, Eaten::First, LENENC, usize::MAX));
-    assert!(rt; are_texts::<U8Bytes>(&heap, text, Eaten::Nothing, U8, 255));
-    assert!(rt; are_texts::<U32Bytes>(&heap, text, Eaten::Nothing, U32, usize::MAX));
-    assert!(rt; are_texts::<VarLen>(&heap, text, Eaten::All, VARLEN, usize::MAX));
+    assert!(rt; are_texts::<LenEnc, _>(heap, heap, text, Eaten::First, LENENC, usize::MAX));
+    assert!(rt; are_texts::<U8Bytes, _>(heap, heap, text, Eaten::Nothing, U8, 255));
+    assert!(rt; are_texts::<U32Bytes, _>(heap, heap, text, Eaten::Nothing, U32, usize::MAX));
+    assert!(rt; are_texts::<VarLen, _>(heap, heap, text, Eaten::All, VARLEN, usize::MAX));
     Ok(())
 }
 
-// Whether this text is read from an input, and so many bytes are left.
-fn gives_text<T: BytesRepr<Ctx = C>, C>(
-    heap: &Heap,
-    ctx: C,
-    input: &[u8],
-    text: &[u8],
-    left: usize,
-) -> bool {
-    let wanted = RawBytes::<T, &Heap>::from(text);
-    gives(starved(heap), ctx, input, &wanted, left)
+// A context, an input, the text that is read from it or why none is, and how many bytes are left.
+type Read<'a, C> = (C, &'a [u8], Result<&'a [u8], Fault>, usize);
+
+// Whether each row is read so, which takes no memory.
+fn are_read<'a, T, C, A>(heap: &Heap, alloc: A, rows: &[Read<'a, C>]) -> bool
+where
+    T: BytesRepr<Ctx = C>,
+    C: Copy,
+    A: 'a + Allocator + Copy,
+{
+    let mut all = true;
+    for (ctx, input, wanted, left) in rows {
+        heap.refuse(0);
+        all &= match wanted {
+            Ok(text) => {
+                let wanted = RawBytes::<T, A>::from(*text);
+                gives(alloc, *ctx, *input, &wanted, *left)
+            }
+            Err(why) => stops::<RawBytes<'a, T, A>, C, A>(alloc, *ctx, *input, *why, *left),
+        };
+        all &= heap.left() == 0;
+    }
+    all
 }
 
-// A length is read in each of its spellings.
+const LARGE: Fault = Fault::Invalid(InvalidReason::VarLenTooLarge);
+
+const LONG: Fault = Fault::Invalid(InvalidReason::VarLenTooLong);
+
+const EOF: Fault = Fault::UnexpectedEof;
+
+// A length is read in each of its spellings. A text that isn't there ends early.
+const LENENC_READ: &[Read<()>] = &[
+    ((), b"\xfc\x01\0ab", Ok(b"a"), 1),
+    ((), b"\xfe\x02\0\0\0\0\0\0\0abc", Ok(b"ab"), 1),
+    ((), b"\xfba", Ok(b""), 1),
+    ((), b"\xffa", Ok(b""), 1),
+    ((), b"\xfe\0\0\0\0\x01\0\0\0a", Err(EOF), 1),
+    ((), b"\xfe\xff\xff\xff\xff\xff\xff\xff\xffa", Err(EOF), 1),
+];
+
+const VARLEN_READ: &[Read<()>] = &[
+    ((), b"\x81\x80\0ab", Ok(b"a"), 1),
+    ((), b"\xff\xff\xff\xff\x1fab", Err(LARGE), 2),
+    ((), b"\x80\x80\x80\x80\x80ab", Err(LONG), 2),
+    ((), b"\xff\xff\xff\xff\x0fa", Err(EOF), 1),
+];
+
+const U8_READ: &[Read<()>] = &[((), b"\xffa", Err(EOF), 1)];
+
+const U32_READ: &[Read<()>] = &[((), b"\xff\xff\xff\xffa", Err(EOF), 1)];
+
+// The context alone counts, above the most that is written too.
+const BARE_READ: &[Read<usize>] = &[
+    (0, b"abc", Ok(b""), 3),
+    (3, b"abcd", Ok(b"abc"), 1),
+    (usize::MAX, b"abc", Err(EOF), 3),
+];
+
+// Whatever length is declared, no memory is asked for.
 #[test]
-fn longer_spellings_of_lengths_are_read(rt: HostRuntime) {
-    let heap = Refusing::new(rt.alloc(), 0);
-    let read = [
-        gives_text::<LenEnc, ()>(&heap, (), b"\xfc\x01\0ab", b"a", 1),
-        gives_text::<LenEnc, ()>(&heap, (), b"\xfe\x02\0\0\0\0\0\0\0abc", b"ab", 1),
-        gives_text::<LenEnc, ()>(&heap, (), b"\xfba", b"", 1),
-        gives_text::<LenEnc, ()>(&heap, (), b"\xffa", b"", 1),
-        gives_text::<VarLen, ()>(&heap, (), b"\x81\x80\0ab", b"a", 1),
-    ];
-    assert!(rt; read == [true; 5]);
-}
-
-// Whether no text is read for this reason, and so many bytes are left.
-fn stops_text<T: BytesRepr<Ctx = C>, C>(
-    heap: &Heap,
-    ctx: C,
-    input: &[u8],
-    fault: Fault,
-    left: usize,
-) -> bool {
-    stops::<RawBytes<'_, T, &Heap>, C, _>(starved(heap), ctx, input, fault, left)
-}
-
-#[test]
-fn lengths_that_are_refused(rt: HostRuntime) {
-    let heap = Refusing::new(rt.alloc(), 0);
-    let large = Fault::Invalid(InvalidReason::VarLenTooLarge);
-    assert!(rt; stops_text::<VarLen, ()>(&heap, (), b"\xff\xff\xff\xff\x1fab", large, 2));
-    let long = Fault::Invalid(InvalidReason::VarLenTooLong);
-    assert!(rt; stops_text::<VarLen, ()>(&heap, (), b"\x80\x80\x80\x80\x80ab", long, 2));
-}
-
-// A text that isn't there ends early, and no memory is asked for.
-#[test]
-fn hostile_lengths_ask_for_no_memory(rt: HostRuntime) {
-    let heap = Refusing::new(rt.alloc(), 0);
-    let eof = Fault::UnexpectedEof;
-    let stopped = [
-        stops_text::<LenEnc, ()>(&heap, (), b"\xfe\0\0\0\0\x01\0\0\0a", eof, 1),
-        stops_text::<LenEnc, ()>(&heap, (), b"\xfe\xff\xff\xff\xff\xff\xff\xff\xffa", eof, 1),
-        stops_text::<U8Bytes, ()>(&heap, (), b"\xffa", eof, 1),
-        stops_text::<U32Bytes, ()>(&heap, (), b"\xff\xff\xff\xffa", eof, 1),
-        stops_text::<VarLen, ()>(&heap, (), b"\xff\xff\xff\xff\x0fa", eof, 1),
-    ];
-    assert!(rt; stopped == [true; 5]);
+fn longer_and_hostile_and_refused_lengths(rt: HostRuntime) {
+    let heap = &Refusing::new(rt.alloc(), 0);
+    assert!(rt; are_read::<LenEnc, (), _>(heap, heap, LENENC_READ));
+    assert!(rt; are_read::<VarLen, (), _>(heap, heap, VARLEN_READ));
+    assert!(rt; are_read::<U8Bytes, (), _>(heap, heap, U8_READ));
+    assert!(rt; are_read::<U32Bytes, (), _>(heap, heap, U32_READ));
+    assert!(rt; are_read::<BareBytes<2>, usize, _>(heap, heap, BARE_READ));
 }
 
 // ---- texts that a zero ends
@@ -226,23 +238,23 @@ const NULL: &[(&[u8], &[u8])] = &[
 
 // Whether the first bytes of a text are written and a zero, and read back, whatever follows.
 // Without the zero none are.
-fn is_null(heap: &Heap, text: &[u8], cut: &[u8]) -> bool {
+fn is_null<A: Allocator + Copy>(heap: &Heap, alloc: A, text: &[u8], cut: &[u8]) -> bool {
     let input = joined(heap, &[cut, b"\0", MORE]);
     let short = Short {
         fault: Fault::Invalid(InvalidReason::NoNullTerminator),
         eaten: Eaten::Nothing,
         front: usize::MAX,
     };
-    is_text::<NullBytes, ()>(heap, (), (text, cut), input.as_slice(), short)
+    is_text::<NullBytes, (), A>(heap, alloc, (), (text, cut), input.as_slice(), short)
 }
 
 #[test]
 fn null_texts_end_at_their_first_zero(rt: HostRuntime) -> Result<(), Fail> {
-    let heap = Refusing::new(rt.alloc(), 0);
+    let heap = &Refusing::new(rt.alloc(), 0);
     let long = letters(rt.alloc(), 300)?;
-    let mut all = is_null(&heap, long.as_slice(), long.as_slice());
+    let mut all = is_null(heap, heap, long.as_slice(), long.as_slice());
     for (text, cut) in NULL {
-        all &= is_null(&heap, *text, *cut);
+        all &= is_null(heap, heap, *text, *cut);
     }
     assert!(rt; all);
     Ok(())
@@ -251,18 +263,20 @@ fn null_texts_end_at_their_first_zero(rt: HostRuntime) -> Result<(), Fail> {
 // ---- texts whose end is not in their bytes
 
 // Whether a text is written as it is, and all of an input is read.
-fn is_all(heap: &Heap, text: &[u8]) -> bool {
-    let value = RawBytes::<EofBytes, &Heap>::from(text);
-    is_written(heap, &value, text) & gives_text::<EofBytes, ()>(heap, (), text, text, 0)
+fn is_all<A: Allocator + Copy>(heap: &Heap, alloc: A, text: &[u8]) -> bool {
+    let value = RawBytes::<EofBytes, A>::from(text);
+    let is_put = is_written(heap, &value, text);
+    heap.refuse(0);
+    is_put & gives(alloc, (), text, &value, 0)
 }
 
 #[test]
 fn eof_texts_are_all_the_rest(rt: HostRuntime) -> Result<(), Fail> {
-    let heap = Refusing::new(rt.alloc(), 0);
+    let heap = &Refusing::new(rt.alloc(), 0);
     let letters = letters(rt.alloc(), 65536)?;
-    let mut all = is_all(&heap, b"\0a\0");
+    let mut all = is_all(heap, heap, b"\0a\0");
     for len in [0usize, 1, 250, 251, 300, 65536] {
-        all &= is_all(&heap, between(letters.as_slice(), 0, len));
+        all &= is_all(heap, heap, between(letters.as_slice(), 0, len));
     }
     assert!(rt; all);
     Ok(())
@@ -270,57 +284,48 @@ fn eof_texts_are_all_the_rest(rt: HostRuntime) -> Result<(), Fail> {
 
 // Whether the first bytes of a text are written, N at most, and read back where the context says
 // how many.
-fn is_bare<const N: usize>(heap: &Heap, text: &[u8]) -> bool {
+fn is_bare<const N: usize, A: Allocator + Copy>(heap: &Heap, alloc: A, text: &[u8]) -> bool {
     let cut = between(text, 0, N);
     let input = joined(heap, &[cut, MORE]);
     let short = Short::eats(Eaten::Nothing);
-    is_text::<BareBytes<N>, usize>(heap, cut.len(), (text, cut), input.as_slice(), short)
+    is_text::<BareBytes<N>, usize, A>(heap, alloc, cut.len(), (text, cut), input.as_slice(), short)
 }
 
 #[test]
 fn bare_texts_are_as_long_as_the_context_says(rt: HostRuntime) -> Result<(), Fail> {
-    let heap = Refusing::new(rt.alloc(), 0);
-    let letters = letters(rt.alloc(), 300)?;
-    let mut all = is_bare::<1>(&heap, b"a");
+    let heap = &Refusing::new(rt.alloc(), 0);
+    let letters = letters(rt.alloc(), 65536)?;
+    let text = letters.as_slice();
+    // The length of this one is elsewhere too, and it is not read.
+    let raw = RawBytes::<BareU16Bytes>::from(text);
+    let mut all = is_written(heap, &raw, between(text, 0, 65535));
+    all &= is_bare::<1, _>(heap, heap, b"a");
     for len in [0usize, 1, 2, 3, 254, 255, 256, 300] {
         let text = between(letters.as_slice(), 0, len);
-        all &= is_bare::<0>(&heap, text);
-        all &= is_bare::<2>(&heap, text);
-        all &= is_bare::<255>(&heap, text);
+        all &= is_bare::<0, _>(heap, heap, text);
+        all &= is_bare::<2, _>(heap, heap, text);
+        all &= is_bare::<255, _>(heap, heap, text);
     }
     assert!(rt; all);
     Ok(())
 }
 
-// The context alone counts, above the most that is written too.
-#[test]
-fn bare_texts_of_any_context(rt: HostRuntime) {
-    let heap = Refusing::new(rt.alloc(), 0);
-    let eof = Fault::UnexpectedEof;
-    let read = [
-        gives_text::<BareBytes<2>, usize>(&heap, 0, b"abc", b"", 3),
-        gives_text::<BareBytes<2>, usize>(&heap, 3, b"abcd", b"abc", 1),
-        stops_text::<BareBytes<2>, usize>(&heap, usize::MAX, b"abc", eof, 3),
-    ];
-    assert!(rt; read == [true; 3]);
-}
-
-#[test]
-fn bare_texts_whose_length_is_elsewhere(rt: HostRuntime) -> Result<(), Fail> {
-    let heap = Refusing::new(rt.alloc(), 0);
-    let letters = letters(rt.alloc(), 65536)?;
-    let text = letters.as_slice();
-    let raw = RawBytes::<BareU16Bytes>::from(text);
-    assert!(rt; is_written(&heap, &raw, between(text, 0, 65535)));
-    Ok(())
-}
-
 // Whether a text is written as N bytes, cut or filled with zeros, and they are read back.
-fn is_fixed<const N: usize>(heap: &Heap, text: &[u8], bytes: &[u8]) -> bool {
+fn is_fixed<const N: usize, A>(heap: &Heap, alloc: A, text: &[u8], bytes: &[u8]) -> bool
+where
+    A: Allocator + Copy,
+{
     let input = joined(heap, &[bytes, MORE]);
     let short = Short::eats(Eaten::Nothing);
     let pair = (text, bytes);
-    let is_text = is_text::<FixedLengthText<N>, ()>(heap, (), pair, input.as_slice(), short);
+    let is_text = is_text::<FixedLengthText<N>, (), A>(
+        heap,
+        alloc,
+        (),
+        pair,
+        input.as_slice(),
+        short,
+    );
     is_text & (bytes.len() == N)
 }
 
@@ -335,17 +340,17 @@ const FIXED: &[(&[u8], &[u8])] = &[
 
 #[test]
 fn fixed_texts_are_cut_or_filled_with_zeros(rt: HostRuntime) -> Result<(), Fail> {
-    let heap = Refusing::new(rt.alloc(), 0);
+    let heap = &Refusing::new(rt.alloc(), 0);
     let mut filled = letters(rt.alloc(), 300)?;
     filled.extend_from_slice(b"\0\0")?;
     let long = between(filled.as_slice(), 0, 300);
-    let mut all = is_fixed::<0>(&heap, b"", b"");
-    all &= is_fixed::<0>(&heap, b"abc", b"");
-    all &= is_fixed::<1>(&heap, b"a", b"a");
-    all &= is_fixed::<300>(&heap, long, long);
-    all &= is_fixed::<302>(&heap, long, filled.as_slice());
+    let mut all = is_fixed::<0, _>(heap, heap, b"", b"");
+    all &= is_fixed::<0, _>(heap, heap, b"abc", b"");
+    all &= is_fixed::<1, _>(heap, heap, b"a", b"a");
+    all &= is_fixed::<300, _>(heap, heap, long, long);
+    all &= is_fixed::<302, _>(heap, heap, long, filled.as_slice());
     for (text, bytes) in FIXED {
-        all &= is_fixed::<4>(&heap, *text, *bytes);
+        all &= is_fixed::<4, _>(heap, heap, *text, *bytes);
     }
     assert!(rt; all);
     Ok(())

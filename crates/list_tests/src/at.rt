@@ -1,56 +1,55 @@
-// A value that stands at the front of an input.
+// What is tried of one type, in rows: each call at a type has its price in the proof, and a row
+// more has none.
 
 use mysql_wire::proto::{MyDeserialize, MySerialize};
-use refusing::NEVER;
 use std::alloc::Allocator;
-use test_support::fields::{Eaten, Short, is_read, is_written};
+use test_support::answers::Fault;
+use test_support::fields::{Eaten, Short, is_read, is_written, stops};
 use test_support::fixture::Heap;
 use test_support::reference::between;
 
-/// An input that ends early, of which the first `front` bytes are eaten where they are there, and
-/// none where they aren't.
-pub fn behind(front: usize) -> Short {
+/// A value, its context, the request for memory that is refused while it is read, an input that
+/// begins with it, how many bytes it has there, and how many of them are eaten where its end is
+/// missing: none but those of a front that is there whole.
+pub type Value<'a, 'de, T, C> = (&'a T, C, u64, &'de [u8], usize, usize);
+
+/// A context, the request for memory that is refused, an input that begins with no value, why it
+/// doesn't, and how many bytes are left.
+pub type Refused<'de, C> = (C, u64, &'de [u8], Fault, usize);
+
+/// Of a type of which no front is eaten by itself.
+pub const WHOLE: usize = usize::MAX;
+
+/// Whether a value is written as the first bytes of its input, whichever request for memory is
+/// refused, and read from them, whatever follows; and whether none is read from fewer.
+pub fn is_value<'de, T, C, A>(heap: &Heap, alloc: A, row: &Value<'_, 'de, T, C>) -> bool
+where
+    A: Allocator + Copy,
+    C: Copy,
+    T: PartialEq + MySerialize + MyDeserialize<'de, A, Ctx = C>,
+{
+    let (value, ctx, nth, input, len, front) = *row;
+    let is_put = is_written(heap, value, between(input, 0, len));
     let mut short = Short::eats(Eaten::Nothing);
     short.front = front;
-    short
+    heap.refuse(nth);
+    let is_read = is_read(alloc, ctx, input, len, value, short);
+    is_put & is_read & !heap.has_refused()
 }
 
-/// Whether a value is written as the first bytes of an input, so many, whichever request for memory
-/// is refused, and read from them, whatever follows; and whether none is read from fewer.
-pub fn is_at<'de, T, C, A>(
-    heap: &Heap,
-    alloc: A,
-    ctx: C,
-    value: &T,
-    input: &'de [u8],
-    len: usize,
-    short: Short,
-) -> bool
+/// Whether no value is read from the input of each row, for its reason. Where that isn't want of
+/// memory, no request is refused; and where the first would be, none is made.
+pub fn are_refused<'de, T, C, A>(heap: &Heap, alloc: A, rows: &[Refused<'de, C>]) -> bool
 where
     A: Allocator + Copy,
     C: Copy,
-    T: PartialEq + MySerialize + MyDeserialize<'de, A, Ctx = C>,
+    T: MyDeserialize<'de, A, Ctx = C>,
 {
-    let is_put = is_written(heap, value, between(input, 0, len));
-    heap.refuse(NEVER);
-    is_put & is_read(alloc, ctx, input, len, value, short)
-}
-
-/// The same, where reading asks for no memory.
-pub fn is_lent<'de, T, C, A>(
-    heap: &Heap,
-    alloc: A,
-    ctx: C,
-    value: &T,
-    input: &'de [u8],
-    len: usize,
-    short: Short,
-) -> bool
-where
-    A: Allocator + Copy,
-    C: Copy,
-    T: PartialEq + MySerialize + MyDeserialize<'de, A, Ctx = C>,
-{
-    let is_at = is_at(heap, alloc, ctx, value, input, len, short);
-    is_at & (heap.left() == NEVER)
+    let mut all = true;
+    for (ctx, nth, input, fault, left) in rows {
+        heap.refuse(*nth);
+        all &= stops::<T, C, A>(alloc, *ctx, *input, *fault, *left);
+        all &= heap.has_refused() == (*fault == Fault::OutOfMemory);
+    }
+    all
 }

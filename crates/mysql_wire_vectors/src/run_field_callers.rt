@@ -3,12 +3,15 @@
 use mysql_wire::io::ParseBuf;
 use mysql_wire::misc::raw::bytes::RawBytes;
 use mysql_wire::misc::raw::int::RawInt;
+use mysql_wire::misc::raw::seq::{Seq, Unknown};
 use mysql_wire::proto::MySerialize;
 use mysql_wire_examples::field_callers::{
     EofPacket, put_named, put_schema, read_eof, read_error, read_named, read_ok, write_name,
 };
 use mysql_wire_examples::own_fields::{BeU16, U16Bytes, read_name, read_port};
+use mysql_wire_examples::parameters::{Parameter, put_parameters, read_parameters};
 use std::alloc::Global;
+use std::borrow::CowSlice;
 use std::test::Fail;
 use test_support::facts::ensure;
 
@@ -79,4 +82,44 @@ fn own_fields_are_written_and_read(rt: HostRuntime) -> Result<(), Fail> {
         written && is_own(rt.alloc(), buf.as_slice()),
         "a port and a name",
     )
+}
+
+// A number of two bytes and a name behind its length.
+fn parameter<'a>(type_and_flags: u16, name: &'a [u8]) -> Parameter<'a> {
+    Parameter {
+        type_and_flags: RawInt::new(type_and_flags),
+        name: RawBytes::from(name),
+    }
+}
+
+fn are_read(alloc: Global, bytes: &[u8], parameters: &[Parameter<'_>], left: usize) -> bool {
+    let wanted: Seq<'_, Parameter<'_>, Unknown> = Seq::new(CowSlice::Borrowed(parameters));
+    let mut buf = ParseBuf(bytes);
+    match read_parameters(alloc, parameters.len(), &mut buf) {
+        Ok(list) => list == wanted && buf.len() == left,
+        Err(_) => false,
+    }
+}
+
+// So many aren't there, and so many bytes are left.
+fn are_missing(alloc: Global, bytes: &[u8], count: usize, left: usize) -> bool {
+    let mut buf = ParseBuf(bytes);
+    read_parameters(alloc, count, &mut buf).is_err() && buf.len() == left
+}
+
+#[test]
+fn parameters_are_written_and_read(rt: HostRuntime) -> Result<(), Fail> {
+    let alloc = rt.alloc();
+    let parameters = [parameter(0x8003, b"id"), parameter(0xfd, b"")];
+    let bytes = b"\x03\x80\x02id\xfd\0\0".as_slice();
+    let mut buf = Vec::new(alloc);
+    put_parameters(&parameters, &mut buf)?;
+    let all = buf.as_slice() == bytes
+        && are_read(alloc, bytes, &parameters, 0)
+        && are_read(alloc, b"\x03\x80\x02id\xfd\0\0\xaa", &parameters, 1)
+        && are_read(alloc, b"\xaa", &[], 1)
+        && are_missing(alloc, bytes, 3, 0)
+        && are_missing(alloc, b"\x03\x80\x02i\xaa", 2, 0)
+        && are_missing(alloc, b"\x03", 1, 1);
+    ensure(all, "parameters of a query")
 }

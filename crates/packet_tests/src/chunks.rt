@@ -45,202 +45,200 @@ fn all_go(alloc: Global, rows: &[Row]) -> Result<(), Fail> {
 }
 
 // A row that changes nothing.
-fn unchanged(
-    state: Remembered,
-    src: &'static [u8],
-    held: &'static [u8],
-    limit: usize,
-    told: Told,
-) -> Row {
-    Row {
-        state,
-        src,
-        held,
-        limit,
-        told,
-        new_state: state,
-        left: src,
-        new_held: held,
-    }
+macro_rules! unchanged {
+    ($state:expr, $src:literal, $held:literal, $limit:expr, $told:expr $(,)?) => {
+        Row {
+            state: $state,
+            src: $src,
+            held: $held,
+            limit: $limit,
+            told: $told,
+            new_state: $state,
+            left: $src,
+            new_held: $held,
+        }
+    };
 }
+
+const WITHOUT_A_HEADER: &[Row] = &[
+    unchanged!(None, b"", b"", 9, Told::Waits),
+    unchanged!(None, b"\x01", b"", 9, Told::Waits),
+    unchanged!(None, b"\0\0", b"x", 0, Told::Waits),
+    unchanged!(None, b"\xff\xff\xff", b"", 0, Told::Waits),
+    // Also where a header is remembered, and where fewer bytes than it has stand in front.
+    unchanged!(Some((9, 1)), b"", b"", 9, Told::Waits),
+    unchanged!(Some((9, 1)), b"\x01\0\0", b"xy", 0, Told::Waits),
+];
 
 #[test]
 fn without_a_whole_header_nothing_happens(rt: HostRuntime) -> Result<(), Fail> {
-    let rows = [
-        unchanged(None, b"", b"", 9, Told::Waits),
-        unchanged(None, b"\x01", b"", 9, Told::Waits),
-        unchanged(None, b"\0\0", b"x", 0, Told::Waits),
-        unchanged(None, b"\xff\xff\xff", b"", 0, Told::Waits),
-        // Also where a header is remembered, and where fewer bytes than it has stand in front.
-        unchanged(Some((9, 1)), b"", b"", 9, Told::Waits),
-        unchanged(Some((9, 1)), b"\x01\0\0", b"xy", 0, Told::Waits),
-    ];
-    all_go(rt.alloc(), &rows)
+    all_go(rt.alloc(), WITHOUT_A_HEADER)
 }
 
 // From `Idle`, with everything taken.
-fn taken(
-    src: &'static [u8],
-    held: &'static [u8],
-    limit: usize,
-    told: Told,
-    left: &'static [u8],
-    new_held: &'static [u8],
-) -> Row {
-    Row {
-        state: None,
-        src,
-        held,
-        limit,
-        told,
-        new_state: None,
-        left,
-        new_held,
-    }
+macro_rules! taken {
+    (
+        $src:literal, $held:literal, $limit:expr, $told:expr, $left:literal, $new_held:literal $(,)?
+    ) => {
+        Row {
+            state: None,
+            src: $src,
+            held: $held,
+            limit: $limit,
+            told: $told,
+            new_state: None,
+            left: $left,
+            new_held: $new_held,
+        }
+    };
 }
+
+const EMPTY: &[Row] = &[
+    taken!(b"\0\0\0\0", b"", 0, Told::Last(0), b"", b""),
+    taken!(b"\0\0\0\xff", b"", 0, Told::Last(255), b"", b""),
+    taken!(
+        b"\0\0\0\x05\x01\0",
+        b"xyz",
+        0,
+        Told::Last(5),
+        b"\x01\0",
+        b"xyz",
+    ),
+    taken!(
+        b"\0\0\0\x01\0\0\0\x02",
+        b"xyz",
+        2,
+        Told::Last(1),
+        b"\0\0\0\x02",
+        b"xyz",
+    ),
+];
 
 #[test]
 fn an_empty_chunk_is_a_packets_last_at_any_limit(rt: HostRuntime) -> Result<(), Fail> {
-    let rows = [
-        taken(b"\0\0\0\0", b"", 0, Told::Last(0), b"", b""),
-        taken(b"\0\0\0\xff", b"", 0, Told::Last(255), b"", b""),
-        taken(
-            b"\0\0\0\x05\x01\0",
-            b"xyz",
-            0,
-            Told::Last(5),
-            b"\x01\0",
-            b"xyz",
-        ),
-        taken(
-            b"\0\0\0\x01\0\0\0\x02",
-            b"xyz",
-            2,
-            Told::Last(1),
-            b"\0\0\0\x02",
-            b"xyz",
-        ),
-    ];
-    all_go(rt.alloc(), &rows)
+    all_go(rt.alloc(), EMPTY)
 }
+
+const TOO_LARGE: &[Row] = &[
+    unchanged!(None, b"\x01\0\0\0", b"", 0, Told::TooLarge),
+    unchanged!(None, b"\x01\0\0\0\x61", b"", 0, Told::TooLarge),
+    unchanged!(None, b"\x05\0\0\x07\x61", b"", 4, Told::TooLarge),
+    unchanged!(None, b"\x02\0\0\x07\xaa\xbb", b"xyz", 4, Told::TooLarge),
+    unchanged!(None, b"\xff\xff\xff\xff", b"", 16777214, Told::TooLarge),
+    unchanged!(None, b"\0\0\x01\0", b"", 65535, Told::TooLarge),
+    unchanged!(None, b"\0\x01\0\0", b"", 255, Told::TooLarge),
+    // More is held than the limit allows.
+    unchanged!(None, b"\x01\0\0\0\x61", b"xyz", 2, Told::TooLarge),
+];
 
 #[test]
 fn a_chunk_past_the_limit_is_refused_by_its_header(rt: HostRuntime) -> Result<(), Fail> {
-    let rows = [
-        unchanged(None, b"\x01\0\0\0", b"", 0, Told::TooLarge),
-        unchanged(None, b"\x01\0\0\0\x61", b"", 0, Told::TooLarge),
-        unchanged(None, b"\x05\0\0\x07\x61", b"", 4, Told::TooLarge),
-        unchanged(None, b"\x02\0\0\x07\xaa\xbb", b"xyz", 4, Told::TooLarge),
-        unchanged(None, b"\xff\xff\xff\xff", b"", 16777214, Told::TooLarge),
-        unchanged(None, b"\0\0\x01\0", b"", 65535, Told::TooLarge),
-        unchanged(None, b"\0\x01\0\0", b"", 255, Told::TooLarge),
-        // More is held than the limit allows.
-        unchanged(None, b"\x01\0\0\0\x61", b"xyz", 2, Told::TooLarge),
-    ];
-    all_go(rt.alloc(), &rows)
+    all_go(rt.alloc(), TOO_LARGE)
 }
 
 // From `Idle`, with the header alone taken, into the decoder.
-fn begun(src: &'static [u8], held: &'static [u8], limit: usize, id: u8, needed: usize) -> Row {
-    Row {
-        state: None,
-        src,
-        held,
-        limit,
-        told: Told::Waits,
-        new_state: Some((id, needed)),
-        left: src,
-        new_held: held,
-    }
+macro_rules! begun {
+    ($src:literal, $held:literal, $limit:expr, $id:literal, $needed:literal $(,)?) => {
+        Row {
+            state: None,
+            src: $src,
+            held: $held,
+            limit: $limit,
+            told: Told::Waits,
+            new_state: Some(($id, $needed)),
+            left: $src,
+            new_held: $held,
+        }
+    };
 }
+
+const REMEMBERED: &[Row] = &[
+    begun!(b"\x01\0\0\0", b"", 1, 0, 1),
+    begun!(b"\x05\0\0\x07\x61", b"", 5, 7, 5),
+    begun!(b"\x02\0\0\xff\xaa", b"xyz", 5, 255, 2),
+    begun!(b"\x01\x02\x03\x04\x61", b"", usize::MAX, 4, 197121),
+    begun!(b"\xff\xff\xff\0", b"", 16777215, 0, 16777215),
+];
 
 #[test]
 fn a_chunk_within_the_limit_is_remembered(rt: HostRuntime) -> Result<(), Fail> {
-    let rows = [
-        begun(b"\x01\0\0\0", b"", 1, 0, 1),
-        begun(b"\x05\0\0\x07\x61", b"", 5, 7, 5),
-        begun(b"\x02\0\0\xff\xaa", b"xyz", 5, 255, 2),
-        begun(b"\x01\x02\x03\x04\x61", b"", usize::MAX, 4, 197121),
-        begun(b"\xff\xff\xff\0", b"", 16777215, 0, 16777215),
-    ];
-    all_go(rt.alloc(), &rows)
+    all_go(rt.alloc(), REMEMBERED)
 }
+
+const WHOLE: &[Row] = &[
+    taken!(b"\x01\0\0\0\x61", b"", 1, Told::Last(0), b"", b"a"),
+    taken!(b"\x02\0\0\x07ab\x03", b"", 2, Told::Last(7), b"\x03", b"ab"),
+    taken!(
+        b"\x02\0\0\x07\xaa\xbb",
+        b"xyz",
+        5,
+        Told::Last(7),
+        b"",
+        b"xyz\xaa\xbb",
+    ),
+    taken!(
+        b"\x01\0\0\xff\0\0",
+        b"",
+        usize::MAX,
+        Told::Last(255),
+        b"\0",
+        b"\0",
+    ),
+];
 
 #[test]
 fn a_whole_chunk_is_moved(rt: HostRuntime) -> Result<(), Fail> {
-    let rows = [
-        taken(b"\x01\0\0\0\x61", b"", 1, Told::Last(0), b"", b"a"),
-        taken(b"\x02\0\0\x07ab\x03", b"", 2, Told::Last(7), b"\x03", b"ab"),
-        taken(
-            b"\x02\0\0\x07\xaa\xbb",
-            b"xyz",
-            5,
-            Told::Last(7),
-            b"",
-            b"xyz\xaa\xbb",
-        ),
-        taken(
-            b"\x01\0\0\xff\0\0",
-            b"",
-            usize::MAX,
-            Told::Last(255),
-            b"\0",
-            b"\0",
-        ),
-    ];
-    all_go(rt.alloc(), &rows)
+    all_go(rt.alloc(), WHOLE)
 }
 
 // Whose header is remembered, with everything taken.
-fn finished(
-    id: u8,
-    needed: usize,
-    src: &'static [u8],
-    limit: usize,
-    told: Told,
-    left: &'static [u8],
-    held: &'static [u8],
-) -> Row {
-    Row {
-        state: Some((id, needed)),
-        src,
-        held: b"",
-        limit,
-        told,
-        new_state: None,
-        left,
-        new_held: held,
-    }
+macro_rules! finished {
+    (
+        $id:literal, $needed:literal, $src:literal, $limit:expr, $told:expr, $left:literal,
+        $held:literal $(,)?
+    ) => {
+        Row {
+            state: Some(($id, $needed)),
+            src: $src,
+            held: b"",
+            limit: $limit,
+            told: $told,
+            new_state: None,
+            left: $left,
+            new_held: $held,
+        }
+    };
 }
+
+const COUNTS: &[Row] = &[
+    // Its four bytes are skipped unread, and the limit is not looked at.
+    finished!(9, 1, b"\xff\xff\xff\xff\x61", 0, Told::Last(9), b"", b"a"),
+    finished!(0, 2, b"\0\0\0\0abc", 0, Told::Last(0), b"c", b"ab"),
+    finished!(
+        255,
+        4,
+        b"\x01\0\0\0abcde",
+        1,
+        Told::Last(255),
+        b"e",
+        b"abcd",
+    ),
+    // Bytes are missing, up to all that a machine can count.
+    unchanged!(Some((9, 2)), b"\x01\0\0\0\x61", b"", 0, Told::Waits),
+    unchanged!(Some((9, usize::MAX)), b"\0\0\0\0\x61", b"", 9, Told::Waits),
+    unchanged!(
+        Some((9, usize::MAX - 3)),
+        b"\0\0\0\0\x61",
+        b"x",
+        0,
+        Told::Waits,
+    ),
+    unchanged!(Some((9, usize::MAX - 4)), b"\0\0\0\0", b"", 0, Told::Waits),
+];
 
 #[test]
 fn a_remembered_header_is_what_counts(rt: HostRuntime) -> Result<(), Fail> {
-    let rows = [
-        // Its four bytes are skipped unread, and the limit is not looked at.
-        finished(9, 1, b"\xff\xff\xff\xff\x61", 0, Told::Last(9), b"", b"a"),
-        finished(0, 2, b"\0\0\0\0abc", 0, Told::Last(0), b"c", b"ab"),
-        finished(
-            255,
-            4,
-            b"\x01\0\0\0abcde",
-            1,
-            Told::Last(255),
-            b"e",
-            b"abcd",
-        ),
-        // Bytes are missing, up to all that a machine can count.
-        unchanged(Some((9, 2)), b"\x01\0\0\0\x61", b"", 0, Told::Waits),
-        unchanged(Some((9, usize::MAX)), b"\0\0\0\0\x61", b"", 9, Told::Waits),
-        unchanged(
-            Some((9, usize::MAX - 3)),
-            b"\0\0\0\0\x61",
-            b"x",
-            0,
-            Told::Waits,
-        ),
-        unchanged(Some((9, usize::MAX - 4)), b"\0\0\0\0", b"", 0, Told::Waits),
-    ];
-    all_go(rt.alloc(), &rows)
+    all_go(rt.alloc(), COUNTS)
 }
 
 // A decoder that needs so many bytes, where so many are there and so many held, and its answer.
@@ -279,47 +277,52 @@ impl Long {
     }
 }
 
-fn long_row(needed: usize, there: usize, held: usize, told: Told) -> Long {
-    Long {
-        needed,
-        there,
-        held,
-        told,
-    }
+macro_rules! long_row {
+    ($needed:expr, $there:expr, $held:expr, $told:expr $(,)?) => {
+        Long {
+            needed: $needed,
+            there: $there,
+            held: $held,
+            told: $told,
+        }
+    };
 }
+
+const MIDDLE: Told = Told::Middle(9);
+
+const LAST: Told = Told::Last(9);
+
+const LONG: &[Long] = &[
+    long_row!(MAX_PAYLOAD_LEN, MAX_PAYLOAD_LEN, 0, MIDDLE),
+    long_row!(MAX_PAYLOAD_LEN, MAX_PAYLOAD_LEN + 1, 0, MIDDLE),
+    long_row!(MAX_PAYLOAD_LEN - 1, MAX_PAYLOAD_LEN - 1, 0, LAST),
+    // More than a header can state.
+    long_row!(MAX_PAYLOAD_LEN + 1, MAX_PAYLOAD_LEN + 1, 0, LAST),
+    long_row!(2 * MAX_PAYLOAD_LEN, 2 * MAX_PAYLOAD_LEN, 0, MIDDLE),
+    // What was held counts.
+    long_row!(
+        MAX_PAYLOAD_LEN + 1,
+        MAX_PAYLOAD_LEN + 1,
+        MAX_PAYLOAD_LEN - 1,
+        MIDDLE,
+    ),
+    long_row!(MAX_PAYLOAD_LEN, MAX_PAYLOAD_LEN, 1, LAST),
+    long_row!(MAX_PAYLOAD_LEN, MAX_PAYLOAD_LEN, MAX_PAYLOAD_LEN, MIDDLE),
+    long_row!(1, 1, MAX_PAYLOAD_LEN, LAST),
+    long_row!(1, 1, MAX_PAYLOAD_LEN - 1, MIDDLE),
+    // One byte is missing.
+    long_row!(MAX_PAYLOAD_LEN, MAX_PAYLOAD_LEN - 1, 0, Told::Waits),
+    long_row!(
+        MAX_PAYLOAD_LEN + 1,
+        MAX_PAYLOAD_LEN,
+        MAX_PAYLOAD_LEN - 1,
+        Told::Waits,
+    ),
+];
 
 #[test]
 fn a_packet_goes_on_where_whole_chunks_are_held(rt: HostRuntime) -> Result<(), Fail> {
-    let middle = Told::Middle(9);
-    let last = Told::Last(9);
-    let rows = [
-        long_row(MAX_PAYLOAD_LEN, MAX_PAYLOAD_LEN, 0, middle),
-        long_row(MAX_PAYLOAD_LEN, MAX_PAYLOAD_LEN + 1, 0, middle),
-        long_row(MAX_PAYLOAD_LEN - 1, MAX_PAYLOAD_LEN - 1, 0, last),
-        // More than a header can state.
-        long_row(MAX_PAYLOAD_LEN + 1, MAX_PAYLOAD_LEN + 1, 0, last),
-        long_row(2 * MAX_PAYLOAD_LEN, 2 * MAX_PAYLOAD_LEN, 0, middle),
-        // What was held counts.
-        long_row(
-            MAX_PAYLOAD_LEN + 1,
-            MAX_PAYLOAD_LEN + 1,
-            MAX_PAYLOAD_LEN - 1,
-            middle,
-        ),
-        long_row(MAX_PAYLOAD_LEN, MAX_PAYLOAD_LEN, 1, last),
-        long_row(MAX_PAYLOAD_LEN, MAX_PAYLOAD_LEN, MAX_PAYLOAD_LEN, middle),
-        long_row(1, 1, MAX_PAYLOAD_LEN, last),
-        long_row(1, 1, MAX_PAYLOAD_LEN - 1, middle),
-        // One byte is missing.
-        long_row(MAX_PAYLOAD_LEN, MAX_PAYLOAD_LEN - 1, 0, Told::Waits),
-        long_row(
-            MAX_PAYLOAD_LEN + 1,
-            MAX_PAYLOAD_LEN,
-            MAX_PAYLOAD_LEN - 1,
-            Told::Waits,
-        ),
-    ];
-    for (i, row) in rows.iter().enumerate() {
+    for (i, row) in LONG.iter().enumerate() {
         if let Some(step) = first_fault(rt.alloc(), &row.steps()) {
             return Err(Fail::new(format_args!("row {i}, step {step}")));
         }

@@ -25,10 +25,9 @@ impl Row<'_> {
         let mut receiver = Receiver::<Global>::new(alloc, self.limit);
         let comes = receiver.src.extend_from_slice(self.src).is_ok();
         let run = receiver.deliver_in_two(self.pieces, self.first);
-        comes
-            && run == (self.count, self.told)
-            && receiver.shows(self.packets, self.left, self.held)
-            && receiver.codec.max_allowed_packet == self.limit
+        let mut all = comes & (run == (self.count, self.told));
+        all &= receiver.shows(self.packets, self.left, self.held);
+        all & (receiver.codec.max_allowed_packet == self.limit)
     }
 }
 

@@ -12,34 +12,31 @@ use test_support::generated::{Draws, Stream, pieces_of};
 use test_support::reference::{between, chunk_count, low_byte, put_framing, reading_of};
 use test_support::told::Told;
 
-// The stream, cut behind its byte number i + 1 where bit i of the number is set.
-fn cut_by_bits<'a>(
-    alloc: Global,
-    stream: &'a [u8],
-    bits: u32,
-) -> Result<Vec<&'a [u8]>, AllocError> {
+// The stream, cut behind its byte number i + 1 where bit i of the number is set. A piece that no
+// memory is left for is missing, which no reading agrees with.
+fn cut_by_bits<'a>(alloc: Global, stream: &'a [u8], bits: u32) -> Vec<&'a [u8]> {
     let mut pieces = Vec::new(alloc);
     let mut start = 0usize;
     let mut bits = bits;
     for end in 1..stream.len() {
         if bits % 2 == 1 {
-            pieces.push(between(stream, start, end))?;
+            let _ = pieces.push(between(stream, start, end));
             start = end;
         }
         bits /= 2;
     }
-    pieces.push(between(stream, start, stream.len()))?;
-    Ok(pieces)
+    let _ = pieces.push(between(stream, start, stream.len()));
+    pieces
 }
 
 // Each byte of the stream as a piece, and an empty piece behind it.
-fn single_bytes<'a>(alloc: Global, stream: &'a [u8]) -> Result<Vec<&'a [u8]>, AllocError> {
+fn single_bytes<'a>(alloc: Global, stream: &'a [u8]) -> Vec<&'a [u8]> {
     let mut pieces = Vec::new(alloc);
     for start in 0..stream.len() {
-        pieces.push(between(stream, start, start.wrapping_add(1)))?;
-        pieces.push(between(stream, start, start))?;
+        let _ = pieces.push(between(stream, start, start.wrapping_add(1)));
+        let _ = pieces.push(between(stream, start, start));
     }
-    Ok(pieces)
+    pieces
 }
 
 // How many cuttings into pieces that aren't empty a stream of fewer than 33 bytes has.
@@ -53,14 +50,14 @@ fn cutting_count(stream: &[u8]) -> u32 {
 
 // Whether all cuttings of a stream into pieces that aren't empty are delivered as its reading says,
 // and so are its single bytes with empty pieces between them.
-fn all_cuttings_agree(alloc: Global, case: &Case) -> Result<bool, AllocError> {
-    let pieces = single_bytes(alloc, case.stream)?;
+fn all_cuttings_agree(alloc: Global, case: &Case) -> bool {
+    let pieces = single_bytes(alloc, case.stream);
     let mut agree = case.agrees(alloc, b"", pieces.as_slice(), 0);
     for bits in 0..cutting_count(case.stream) {
-        let pieces = cut_by_bits(alloc, case.stream, bits)?;
-        agree = agree && case.agrees(alloc, b"", pieces.as_slice(), 0);
+        let pieces = cut_by_bits(alloc, case.stream, bits);
+        agree &= case.agrees(alloc, b"", pieces.as_slice(), 0);
     }
-    Ok(agree)
+    agree
 }
 
 // A stream from id 0 on, and what every one of so many cuttings of it must show.
@@ -76,12 +73,10 @@ struct Row<'a> {
 impl Row<'_> {
     fn is_shown(&self, alloc: Global) -> Result<bool, AllocError> {
         let case = Case::new(alloc, 0, self.limit, self.stream)?;
-        Ok(
-            self.wanted.is_read(&case.reading)
-                && case.reading.shown_at == self.shown_at
-                && cutting_count(self.stream) == self.cuttings
-                && all_cuttings_agree(alloc, &case)?,
-        )
+        let mut all = self.wanted.is_read(&case.reading);
+        all &= case.reading.shown_at == self.shown_at;
+        all &= cutting_count(self.stream) == self.cuttings;
+        Ok(all & all_cuttings_agree(alloc, &case))
     }
 }
 
@@ -168,10 +163,11 @@ fn three_pieces_agree(alloc: Global, case: &Case, a: usize, b: usize) -> bool {
     let second = between(stream, a, b);
     let third = between(stream, b, stream.len());
     let all = [first, second, third];
-    case.agrees(alloc, b"", &all, 0)
-        && case.agrees(alloc, first, &all[1..], 0)
-        && case.agrees(alloc, b"", &all, 1)
-        && case.agrees(alloc, first, &all[1..], 1)
+    let rest = [second, third];
+    let mut agree = case.agrees(alloc, b"", &all, 0);
+    agree &= case.agrees(alloc, first, &rest, 0);
+    agree &= case.agrees(alloc, b"", &all, 1);
+    agree & case.agrees(alloc, first, &rest, 1)
 }
 
 // Whether a stream agrees, cut at any two places.
@@ -180,7 +176,7 @@ fn all_three_pieces_agree(alloc: Global, case: &Case) -> bool {
     let mut agree = true;
     for a in 0..=len {
         for b in a..=len {
-            agree = agree && three_pieces_agree(alloc, case, a, b);
+            agree &= three_pieces_agree(alloc, case, a, b);
         }
     }
     agree
@@ -234,43 +230,49 @@ struct Long<'a> {
     held: usize,
 }
 
+// Puts a packet of so many bytes `42` behind a stream.
+fn put_filled(alloc: Global, stream: &mut Vec<u8>, id: u8, len: usize) {
+    if let Ok(payload) = Vec::from_elem(alloc, FILL, len) {
+        let _ = put_framing(stream, id, payload.as_slice());
+    }
+}
+
 impl Long<'_> {
     // The packets one behind another.
-    fn framed(&self, alloc: Global) -> Result<Vec<u8>, AllocError> {
+    fn framed(&self, alloc: Global) -> Vec<u8> {
         let mut stream = Vec::new(alloc);
         let mut id = self.first_id;
         for len in self.lens {
-            let payload = Vec::from_elem(alloc, FILL, *len)?;
-            put_framing(&mut stream, id, payload.as_slice())?;
+            put_filled(alloc, &mut stream, id, *len);
             id = id.wrapping_add(low_byte(chunk_count(*len)));
         }
-        Ok(stream)
+        stream
     }
 
-    fn stream(&self, alloc: Global) -> Result<Vec<u8>, AllocError> {
-        let mut stream = self.framed(alloc)?;
+    fn stream(&self, alloc: Global) -> Vec<u8> {
+        let mut stream = self.framed(alloc);
         if let Some((at, byte)) = self.damage {
-            if let Some(place) = stream.get_mut(at) {
-                *place = byte;
+            if at < stream.len() {
+                stream[at] = byte;
             }
         }
-        Ok(stream)
+        stream
     }
 
     fn is_read(&self, case: &Case) -> bool {
-        case.reading.told == self.told
-            && case.reading.packets.len() == self.packets
-            && case.reading.held.len() == self.held
+        let is_told = case.reading.told == self.told;
+        let is_held = case.reading.held.len() == self.held;
+        is_told & is_held & (case.reading.packets.len() == self.packets)
     }
 
     // Whether it is read as it says, and agrees with its reading when it is cut near the headers.
     fn agrees(&self, alloc: Global) -> Result<bool, AllocError> {
-        let stream = self.stream(alloc)?;
+        let stream = self.stream(alloc);
         let case = Case::new(alloc, self.first_id, self.limit, stream.as_slice())?;
         let mut agree = self.is_read(&case);
         for header in [0, MAX_PAYLOAD_LEN + 4, 2 * MAX_PAYLOAD_LEN + 8] {
             for more in [0usize, 1, 4, 5, 10] {
-                agree = agree && agrees_at(alloc, &case, more.saturating_add(header));
+                agree &= agrees_at(alloc, &case, more.saturating_add(header));
             }
         }
         Ok(agree)
@@ -283,7 +285,7 @@ fn agrees_at(alloc: Global, case: &Case, at: usize) -> bool {
         between(case.stream, 0, at),
         between(case.stream, at, case.stream.len()),
     ];
-    case.agrees(alloc, b"", &pieces, 0) && case.agrees(alloc, b"", &pieces, 1)
+    case.agrees(alloc, b"", &pieces, 0) & case.agrees(alloc, b"", &pieces, 1)
 }
 
 // Where the second chunk's header begins, behind a full chunk.
@@ -426,18 +428,14 @@ fn drawn_stops_agree(alloc: Global, draws: &mut Draws, case: &Case) -> Result<bo
     let pieces = pieces_of(alloc, draws, case.stream)?;
     let nth = draws.below(4) as u64;
     let unlimited = Case::new(alloc, case.first_id, usize::MAX, case.stream)?;
-    Ok(
-        agrees_refused(alloc, case, pieces.as_slice(), nth)
-            && unlimited.agrees_raised(alloc, case.limit, pieces.as_slice()),
-    )
+    let is_refused = agrees_refused(alloc, case, pieces.as_slice(), nth);
+    Ok(is_refused & unlimited.agrees_raised(alloc, case.limit, pieces.as_slice()))
 }
 
 fn all_agree(alloc: Global, draws: &mut Draws, case: &Case) -> Result<bool, AllocError> {
-    Ok(
-        drawn_cutting_agrees(alloc, draws, case)?
-            && drawn_stops_agree(alloc, draws, case)?
-            && fronts_wait(alloc, case)?,
-    )
+    let mut all = drawn_cutting_agrees(alloc, draws, case)?;
+    all &= drawn_stops_agree(alloc, draws, case)?;
+    Ok(all & fronts_wait(alloc, case)?)
 }
 
 // What the generated stream of this seed ends with, if it agrees.

@@ -24,10 +24,9 @@ impl Framed<'_> {
         let mut dst = BytesMut::new(alloc);
         let begins = dst.extend_from_slice(b"ab").is_ok();
         let answer = packet_to_chunks(self.first_id, packet, &mut dst);
-        begins
-            && matches!(answer, Ok(id) if id == self.next_id)
-            && dst.as_slice().strip_prefix(b"ab") == Some(self.bytes)
-            && packet.remaining() == 0
+        let mut all = begins & (packet.remaining() == 0);
+        all &= matches!(answer, Ok(id) if id == self.next_id);
+        all & (dst.as_slice().strip_prefix(b"ab") == Some(self.bytes))
     }
 
     // Whether a payload becomes so, in one piece or cut at this place.
@@ -48,9 +47,9 @@ impl Framed<'_> {
             left: payload,
             step,
         };
-        self.is_made(alloc, &mut front.chain(back))
-            && self.is_made(alloc, &mut empty.chain(front).chain(empty.chain(back)))
-            && self.is_made(alloc, &mut trickle)
+        let mut all = self.is_made(alloc, &mut front.chain(back));
+        all &= self.is_made(alloc, &mut empty.chain(front).chain(empty.chain(back)));
+        all & self.is_made(alloc, &mut trickle)
     }
 }
 
@@ -77,12 +76,13 @@ fn a_payload_stands_behind_its_header(rt: HostRuntime) -> Result<(), Fail> {
 }
 
 // Bytes of which each neighbourhood is another one.
-fn pattern(alloc: Global, len: usize) -> Result<Vec<u8>, AllocError> {
-    let mut bytes = Vec::with_capacity(alloc, len)?;
-    for i in 0..len {
-        bytes.push(low_byte(i / 251 + i))?;
+fn pattern(alloc: Global, len: usize) -> Vec<u8> {
+    let mut bytes = Vec::new(alloc);
+    let _ = bytes.resize(len, 0);
+    for i in 0..bytes.len() {
+        bytes[i] = low_byte((i / 251).wrapping_add(i));
     }
-    Ok(bytes)
+    bytes
 }
 
 // Whether a payload of so many bytes is framed by as many chunks as it needs, with each byte in its
@@ -93,8 +93,8 @@ fn frames_len(
     ids: &[u8],
     at: Option<usize>,
 ) -> Result<bool, AllocError> {
-    let payload = pattern(alloc, len)?;
-    let mut good = true;
+    let payload = pattern(alloc, len);
+    let mut good = payload.len() == len;
     for first_id in ids {
         let mut bytes = Vec::new(alloc);
         put_framing(&mut bytes, *first_id, payload.as_slice())?;
@@ -103,9 +103,8 @@ fn frames_len(
             bytes: bytes.as_slice(),
             next_id: low_byte(chunk_count(len).wrapping_add(*first_id as usize)),
         };
-        good = good
-            && bytes.len() == framed_len(len)
-            && framed.is_cut(alloc, payload.as_slice(), at);
+        good &= bytes.len() == framed_len(len);
+        good &= framed.is_cut(alloc, payload.as_slice(), at);
     }
     Ok(good)
 }
@@ -171,11 +170,12 @@ fn bytes_in_several_pieces_are_framed_as_one(rt: HostRuntime) -> Result<(), Fail
 fn each_kind_of_buffer_is_framed_the_same(rt: HostRuntime) -> Result<(), Fail> {
     let mut grown = BytesMut::new(rt.alloc());
     let grows = grown.extend_from_slice(b"abcdefg").is_ok();
-    let grown = grows && SMALL.is_made(rt.alloc(), &mut grown);
+    let grown = grows & SMALL.is_made(rt.alloc(), &mut grown);
     let mut shared = Bytes::<Global>::from_static(b"abcdefg");
     let shared = SMALL.is_made(rt.alloc(), &mut shared);
     // What lies behind the part that is lent stays.
     let mut part = b"abcdefghi".as_slice().take(7);
-    let lent = SMALL.is_made(rt.alloc(), &mut part) && part.into_inner() == b"hi".as_slice();
-    ensure(grown && shared && lent, "a buffer")
+    let lent = SMALL.is_made(rt.alloc(), &mut part);
+    let is_left = part.into_inner() == b"hi".as_slice();
+    ensure(grown & shared & lent & is_left, "a buffer")
 }

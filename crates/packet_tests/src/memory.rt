@@ -6,7 +6,7 @@ use mysql_wire::constants::MAX_PAYLOAD_LEN;
 use mysql_wire::io::WireError;
 use mysql_wire::proto::codec::{PacketCodec, packet_to_chunks};
 use refusing::{NEVER, Refusing};
-use std::alloc::{AllocError, Global};
+use std::alloc::{Allocator, Global};
 use std::test::Fail;
 use test_support::case::{Case, Wanted};
 use test_support::facts::ensure;
@@ -28,71 +28,78 @@ const GROWTHS: [(usize, bool, u64); 4] = [
     (100000, true, u64::MAX - 1),
 ];
 
-fn is_grown(bytes: &mut Vec<u8, &Heap>, heap: &Heap, growth: (usize, bool, u64)) -> bool {
+fn is_grown<A: Allocator>(heap: &Heap, bytes: &mut Vec<u8, A>, growth: (usize, bool, u64)) -> bool {
     let (room, given, left) = growth;
-    bytes.reserve(room).is_ok() == given && heap.left() == left
+    let is_given = bytes.reserve(room).is_ok() == given;
+    let is_refused = heap.has_refused() == (heap.left() > NEVER);
+    is_given & is_refused & (heap.left() == left)
+}
+
+// Whether a vector grows so, and keeps its byte.
+fn are_grown<A: Allocator>(heap: &Heap, alloc: A) -> bool {
+    let mut bytes = Vec::new(alloc);
+    let mut good = bytes.push(b'a').is_ok();
+    for growth in GROWTHS {
+        good &= is_grown(heap, &mut bytes, growth);
+    }
+    heap.refuse(0);
+    good &= bytes.reserve(1000000).is_err() & heap.has_refused();
+    good & (bytes.as_slice() == b"a".as_slice())
 }
 
 #[test]
 fn the_request_of_this_number_is_refused(rt: HostRuntime) -> Result<(), Fail> {
     let heap = Refusing::new(rt.alloc(), 3);
-    let mut bytes = Vec::from_slice(&heap, b"a")?;
-    let mut good = true;
-    for growth in GROWTHS {
-        good = good && is_grown(&mut bytes, &heap, growth);
-        good = good && heap.has_refused() == (heap.left() > NEVER);
-    }
-    heap.refuse(0);
-    good = good && bytes.reserve(1000000).is_err() && heap.has_refused();
-    ensure(good && bytes.as_slice() == b"a".as_slice(), "the requests")
+    ensure(are_grown(&heap, &heap), "the requests")
 }
 
 // Frames five bytes in two pieces behind two, with request number `nth` refused. Says whether it
 // was, if the call leaves what it must.
-fn framing_refused(alloc: Global, nth: u64) -> Option<bool> {
-    let heap = Refusing::new(alloc, NEVER);
-    let mut dst = BytesMut::new(&heap);
+fn framing_refused<A: Allocator + Copy>(heap: &Heap, alloc: A, nth: u64) -> Option<bool> {
+    heap.refuse(NEVER);
+    let mut dst = BytesMut::new(alloc);
     let begins = dst.extend_from_slice(b"ab").is_ok();
     let mut packet = b"123".as_slice().chain(b"45".as_slice());
     heap.refuse(nth);
     let next_id = packet_to_chunks(255, &mut packet, &mut dst).ok();
     let is_left = is_left(next_id, dst.as_slice(), packet.chunk(), packet.remaining());
-    if begins && is_left && heap.has_refused() == next_id.is_none() {
-        Some(next_id.is_none())
-    } else {
-        None
-    }
+    let is_refused = next_id.is_none();
+    (begins & is_left & (heap.has_refused() == is_refused)).then_some(is_refused)
 }
 
 // Whether the buffer, and the front and the length of the packet, are what a call leaves that gave
 // this id, or else was refused.
 fn is_left(next_id: Option<u8>, dst: &[u8], front: &[u8], len: usize) -> bool {
-    match next_id {
-        Some(id) => id == 0 && dst == b"ab\x05\0\0\xff12345".as_slice() && len == 0,
-        None => dst == b"ab".as_slice() && front == b"123".as_slice() && len == 5,
+    if next_id.is_none() {
+        (dst == b"ab".as_slice()) & (front == b"123".as_slice()) & (len == 5)
+    } else {
+        (next_id == Some(0)) & (dst == b"ab\x05\0\0\xff12345".as_slice()) & (len == 0)
     }
 }
 
 #[test]
 fn packet_to_chunks_refused_changes_nothing(rt: HostRuntime) -> Result<(), Fail> {
-    let refused = framing_refused(rt.alloc(), 0) == Some(true);
-    let given = framing_refused(rt.alloc(), 1) == Some(false);
-    ensure(refused && given, "its one request")
+    let heap = &Refusing::new(rt.alloc(), NEVER);
+    let refused = framing_refused(heap, heap, 0) == Some(true);
+    let given = framing_refused(heap, heap, 1) == Some(false);
+    ensure(refused & given, "its one request")
 }
 
 // A packet of ten bytes, and a byte behind it.
 const PACKET: &[u8] = b"\x0a\0\0\x000123456789\xff";
 
 // Whether a payload whose framing no machine can hold is refused, and nothing is changed.
-fn huge_refused(alloc: Global, len: usize) -> Result<bool, AllocError> {
-    let mut dst = BytesMut::copy_from_slice(alloc, b"ab")?;
+fn huge_refused(alloc: Global, len: usize) -> bool {
+    let mut dst = BytesMut::new(alloc);
+    let begins = dst.extend_from_slice(b"ab").is_ok();
     let mut packet = Zeros { left: len };
     let mut codec = PacketCodec::default();
     codec.max_allowed_packet = usize::MAX;
     let framed = packet_to_chunks(0, &mut packet, &mut dst);
     let encoded = Told::of_encode(codec.encode(&mut packet, &mut dst));
-    let unchanged = packet.left == len && dst.as_slice() == b"ab".as_slice();
-    Ok(matches!(framed, Err(WireError::OutOfMemory)) && encoded == Told::OutOfMemory && unchanged)
+    let unchanged = (packet.left == len) & (dst.as_slice() == b"ab".as_slice());
+    let is_framed = matches!(framed, Err(WireError::OutOfMemory));
+    begins & is_framed & (encoded == Told::OutOfMemory) & unchanged
 }
 
 #[test]
@@ -100,7 +107,7 @@ fn a_payload_that_no_machine_can_frame_is_refused(rt: HostRuntime) -> Result<(),
     // The bytes and the headers are more than a machine counts, or just as many, or fewer.
     let most = usize::MAX - 4398045724676;
     for len in [usize::MAX, most + 1, most, usize::MAX / 2, usize::MAX / 4] {
-        if !huge_refused(rt.alloc(), len)? {
+        if !huge_refused(rt.alloc(), len) {
             return Err(Fail::new(format_args!("{len} bytes")));
         }
     }
@@ -274,9 +281,13 @@ fn what_was_put_before_a_refusal_is_held(rt: HostRuntime) -> Result<(), Fail> {
 // As `first_fault`, over an allocator that refuses, with the targets that take its memory.
 fn refused_fault(alloc: Global, steps: &[Step]) -> Option<usize> {
     let heap = Refusing::new(alloc, NEVER);
-    let vec = Fixture::new(&heap, Some(&heap), Vec::new(&heap)).fault(steps);
+    fault_over(&heap, &heap, steps)
+}
+
+fn fault_over<A: Allocator + Copy>(heap: &Heap, alloc: A, steps: &[Step]) -> Option<usize> {
+    let vec = Fixture::new(alloc, Some(heap), Vec::new(alloc)).fault(steps);
     heap.refuse(NEVER);
-    let bytes = Fixture::new(&heap, Some(&heap), BytesMut::new(&heap)).fault(steps);
+    let bytes = Fixture::new(alloc, Some(heap), BytesMut::new(alloc)).fault(steps);
     vec.or(bytes)
 }
 
@@ -288,37 +299,27 @@ fn a_refused_call_goes_on(rt: HostRuntime) -> Result<(), Fail> {
     Ok(())
 }
 
-// How much is refused in one run.
-#[derive(Clone, Copy, PartialEq, Eq)]
-enum Refusals {
-    // One request.
-    One,
-    // One in each call: each time a later one.
-    Many,
-}
-
 // Delivers these pieces, and goes on with those that were not appended until no request is refused.
-// Says what all runs together did, and how many were refused, if just those ran out of memory.
-fn deliver_on(
-    receiver: &mut Receiver<&Heap>,
+// One request is refused, or `many`: one in each call, each time a later one. Says what all runs
+// together did, and how many were refused, if just those ran out of memory.
+fn deliver_on<A: Allocator + Copy>(
+    heap: &Heap,
+    receiver: &mut Receiver<A>,
     pieces: &[&[u8]],
-    refusals: Refusals,
+    many: bool,
 ) -> Option<(usize, Told, u64)> {
     let mut count = 0usize;
     for refused in 0..MOST {
         let (more, told) = receiver.deliver(pieces_from(pieces, count));
         count = count.wrapping_add(more);
         let again = told == Told::OutOfMemory;
-        if receiver.alloc.has_refused() != again {
+        if heap.has_refused() != again {
             return None;
         }
         if !again {
             return Some((count, told, refused));
         }
-        let later = refusals == Refusals::Many;
-        receiver
-            .alloc
-            .refuse(if later { refused + 1 } else { NEVER });
+        heap.refuse(if many { refused + 1 } else { NEVER });
     }
     None
 }
@@ -330,18 +331,26 @@ fn deliver_refused(
     case: &Case,
     pieces: &[&[u8]],
     nth: u64,
-    refusals: Refusals,
+    many: bool,
 ) -> Option<u64> {
     let heap = Refusing::new(alloc, NEVER);
-    let mut receiver = case.receiver(&heap);
+    deliver_over(&heap, &heap, case, pieces, (nth, many))
+}
+
+fn deliver_over<A: Allocator + Copy>(
+    heap: &Heap,
+    alloc: A,
+    case: &Case,
+    pieces: &[&[u8]],
+    (nth, many): (u64, bool),
+) -> Option<u64> {
+    let mut receiver = case.receiver(alloc);
     heap.refuse(nth);
-    let (count, told, refused) = deliver_on(&mut receiver, pieces, refusals)?;
+    let ended = deliver_on(heap, &mut receiver, pieces, many);
     heap.refuse(NEVER);
-    if case.is_ended(&mut receiver, 0, pieces, (count, told)) {
-        Some(refused)
-    } else {
-        None
-    }
+    let (count, told, refused) = ended?;
+    let is_ended = case.is_ended(&mut receiver, 0, pieces, (count, told));
+    is_ended.then_some(refused)
 }
 
 // Two packets and the front of a third.
@@ -359,7 +368,7 @@ const TWO_READ: Wanted<'static> = Wanted {
 // How many requests of a delivery can be refused, each in a run of its own.
 fn refusal_count(alloc: Global, case: &Case, pieces: &[&[u8]]) -> Option<u64> {
     for nth in 0..MOST {
-        if deliver_refused(alloc, case, pieces, nth, Refusals::One)? == 0 {
+        if deliver_refused(alloc, case, pieces, nth, false)? == 0 {
             return Some(nth);
         }
     }
@@ -371,17 +380,18 @@ fn deliver_refused_goes_on(rt: HostRuntime) -> Result<(), Fail> {
     let case = Case::new(rt.alloc(), 0, 4194304, TWO)?;
     let read = TWO_READ.is_read(&case.reading);
     let one = refusal_count(rt.alloc(), &case, &TWO_PIECES);
-    let many = deliver_refused(rt.alloc(), &case, &TWO_PIECES, 0, Refusals::Many);
+    let many = deliver_refused(rt.alloc(), &case, &TWO_PIECES, 0, true);
     // Several requests are refused, each in a run of its own and all in one.
-    let several = one.unwrap_or(0) > 3 && many.unwrap_or(0) > 2;
-    ensure(read && several, "the delivery")
+    let several = (one > Some(3)) & (many > Some(2));
+    ensure(read & several, "the delivery")
 }
 
 /// Whether a stream in pieces is delivered as it is read, with request number `nth` refused, and
 /// with later ones too.
 pub fn agrees_refused(alloc: Global, case: &Case, pieces: &[&[u8]], nth: u64) -> bool {
-    deliver_refused(alloc, case, pieces, nth, Refusals::One).is_some()
-        && deliver_refused(alloc, case, pieces, nth, Refusals::Many).is_some()
+    let one = deliver_refused(alloc, case, pieces, nth, false);
+    let many = deliver_refused(alloc, case, pieces, nth, true);
+    one.is_some() & many.is_some()
 }
 
 // What is to be read, a limit, and what `decode` answers where it takes no payload byte.

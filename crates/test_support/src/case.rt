@@ -30,18 +30,14 @@ fn least_count(shown_at: usize, there: usize, pieces: &[&[u8]]) -> usize {
 
 // Whether two lists, each with an allocator of its own, have the same packets.
 fn are_same<A: Allocator>(packets: &[Vec<u8, A>], wanted: &[Vec<u8>]) -> bool {
-    let mut same = packets.len() == wanted.len();
-    for (i, packet) in packets.iter().enumerate() {
-        same = same && is_at(wanted, i, packet.as_slice());
+    if packets.len() != wanted.len() {
+        return false;
+    }
+    let mut same = true;
+    for i in 0..packets.len() {
+        same &= packets[i].as_slice() == wanted[i].as_slice();
     }
     same
-}
-
-fn is_at(packets: &[Vec<u8>], i: usize, packet: &[u8]) -> bool {
-    match packets.get(i) {
-        Some(there) => there.as_slice() == packet,
-        None => false,
-    }
 }
 
 // Whether the pieces one after another are these bytes.

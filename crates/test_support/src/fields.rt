@@ -5,6 +5,7 @@ use crate::answers::{Fault, told};
 use crate::fixture::Heap;
 use crate::reference::between;
 use mysql_wire::io::ParseBuf;
+use mysql_wire::proto::codec::parse_packet_in;
 use mysql_wire::proto::{MyDeserialize, MySerialize};
 use refusing::NEVER;
 use std::alloc::{Allocator, Global};
@@ -156,12 +157,10 @@ where
     A: Allocator + Copy,
     T: PartialEq + MyDeserialize<'de, A, Ctx = C>,
 {
-    let mut buf = ParseBuf(input);
-    let is_wanted = match buf.parse_in::<T, A>(alloc, ctx) {
-        Ok(value) => value == *wanted,
+    match parse_packet_in::<T, A>(alloc, ctx, input) {
+        Ok((value, rest)) => (value == *wanted) & (rest.0 == last(input, left)),
         Err(_) => false,
-    };
-    is_wanted & (buf.0 == last(input, left))
+    }
 }
 
 /// Whether no value is read for this reason, and so many bytes are left.
@@ -171,9 +170,9 @@ where
     T: MyDeserialize<'de, A, Ctx = C>,
 {
     let mut buf = ParseBuf(input);
-    let is_fault = match told(buf.parse_in::<T, A>(alloc, ctx)) {
+    let is_fault = match buf.parse_in::<T, A>(alloc, ctx) {
         Ok(_) => false,
-        Err(why) => why == fault,
+        Err(error) => Fault::of(&error) == fault,
     };
     is_fault & (buf.0 == last(input, left))
 }

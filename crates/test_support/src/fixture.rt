@@ -30,7 +30,11 @@ pub fn decoder_of(remembered: Remembered) -> ChunkDecoder {
 
 /// Whether these are so many bytes `42`.
 pub fn is_filled(bytes: &[u8], len: usize) -> bool {
-    bytes.len() == len && bytes.iter().all(|byte| *byte == FILL)
+    let mut all = bytes.len() == len;
+    for byte in bytes {
+        all &= *byte == FILL;
+    }
+    all
 }
 
 /// The codec's next id becomes this one, counted from 0.

@@ -67,8 +67,8 @@ impl Stream {
     }
 
     fn set(&mut self, at: usize, byte: u8) {
-        if let Some(place) = self.bytes.get_mut(at) {
-            *place = byte;
+        if at < self.bytes.len() {
+            self.bytes[at] = byte;
         }
     }
 

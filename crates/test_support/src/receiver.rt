@@ -103,9 +103,12 @@ pub fn pieces_from<'a, 'b>(pieces: &'a [&'b [u8]], count: usize) -> &'a [&'b [u8
 
 /// Whether these are the packets that are wanted.
 pub fn are_packets<A: Allocator>(packets: &[Vec<u8, A>], wanted: &[&[u8]]) -> bool {
-    let mut same = packets.len() == wanted.len();
-    for (i, packet) in packets.iter().enumerate() {
-        same = same && wanted.get(i) == Some(&packet.as_slice());
+    if packets.len() != wanted.len() {
+        return false;
+    }
+    let mut same = true;
+    for i in 0..packets.len() {
+        same &= packets[i].as_slice() == wanted[i];
     }
     same
 }

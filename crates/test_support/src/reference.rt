@@ -16,6 +16,16 @@ pub fn between(bytes: &[u8], start: usize, end: usize) -> &[u8] {
     &bytes[start..end]
 }
 
+/// Where the first zero stands, or how many bytes there are where none does.
+pub fn first_zero(bytes: &[u8]) -> usize {
+    for i in 0..bytes.len() {
+        if bytes[i] == 0 {
+            return i;
+        }
+    }
+    bytes.len()
+}
+
 /// The lowest byte of a number.
 pub fn low_byte(n: usize) -> u8 {
     (n % 256) as u8
@@ -78,13 +88,12 @@ impl Place {
 
 // The length and the id that the header at this place states, if it is there whole.
 fn header_at(stream: &[u8], at: usize) -> Option<(usize, u8)> {
-    match between(stream, at, at.saturating_add(4)) {
-        [low, middle, high, id] => {
-            let len = *low as usize + 256 * *middle as usize + 65536 * *high as usize;
-            Some((len, *id))
-        }
-        _ => None,
+    let header = between(stream, at, at.saturating_add(4));
+    if header.len() < 4 {
+        return None;
     }
+    let len = header[0] as usize + 256 * header[1] as usize + 65536 * header[2] as usize;
+    Some((len, header[3]))
 }
 
 // The chunk whose header stands at this place, if it is there whole.
