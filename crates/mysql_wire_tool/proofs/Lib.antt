@@ -1,3 +1,0 @@
-pub mod InputLemmas
-pub mod UnframeLemmas
-pub mod WordLemmas

@@ -1,6 +1,0 @@
-use Rattle.std.proofs.Common.{rules}
-use Rattle.mysql_wire.specs.Framing.{max_payload_is}
-use Rattle.mysql_wire_tool.proofs.unframe.Run.bytes_left.Goals as goal
-
-pub returns : goal.returns
-returns g c = rw max_payload_is (search rules)
