@@ -6,6 +6,8 @@ unsafe extern "C" {
     fn mw_append(ptr: *const u8, len: usize, piece: u64, reps: u64) -> u64;
     fn mw_decode(ptr: *const u8, len: usize, piece: u64, limit: u64, reps: u64) -> u64;
     fn mw_decode_fresh(ptr: *const u8, len: usize, piece: u64, limit: u64, reps: u64) -> u64;
+    fn mw_read(ptr: *const u8, len: usize, limit: u64, reps: u64) -> u64;
+    fn mw_write(ptr: *const u8, len: usize, count: u64, reps: u64) -> u64;
     fn mw_row(ptr: *const u8, len: usize, cols: u64, form: u64, reps: u64) -> u64;
     fn mw_row_copy(ptr: *const u8, len: usize, form: u64, reps: u64) -> u64;
     fn mw_null(ptr: *const u8, len: usize, form: u64, reps: u64) -> u64;
@@ -34,6 +36,16 @@ pub fn decode(bytes: &[u8], piece: u64, limit: u64, fresh: bool, reps: u64) -> u
     } else {
         unsafe { mw_decode(bytes.as_ptr(), bytes.len(), piece, limit, reps) }
     }
+}
+
+/// A stream of whole packets read by `PacketReader::next_packet`.
+pub fn read(bytes: &[u8], limit: u64, reps: u64) -> u64 {
+    unsafe { mw_read(bytes.as_ptr(), bytes.len(), limit, reps) }
+}
+
+/// A payload queued `count` times by a `PacketWriter`, and written at once.
+pub fn write(bytes: &[u8], count: u64, reps: u64) -> u64 {
+    unsafe { mw_write(bytes.as_ptr(), bytes.len(), count, reps) }
 }
 
 /// Rows of length-encoded texts read: form 0 by `checked_eat_lenenc_str`, form 1 by `parse` as

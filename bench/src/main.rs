@@ -14,6 +14,7 @@ mod inputs;
 mod library;
 mod memory;
 mod packets;
+mod streams;
 mod timing;
 
 use std::env;
@@ -41,6 +42,7 @@ fn measure_rows(word: &str) -> bool {
     );
     let mut rows = Vec::new();
     packets::rows(&mut rows);
+    streams::rows(&mut rows);
     fields::rows(&mut rows);
     columns::rows(&mut rows);
     let mut passed = true;

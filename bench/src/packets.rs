@@ -9,8 +9,8 @@ use std::hint::black_box;
 /// The forms of framing, by their numbers.
 const WRITERS: [&str; 2] = ["packet_to_chunks", "encode"];
 
-// How many packets of a size make about a quarter of a megabyte, at least one.
-fn count_for(size: usize) -> usize {
+/// How many packets of a size make about a quarter of a megabyte, at least one.
+pub fn count_for(size: usize) -> usize {
     (1 << 18) / size.max(16) + 1
 }
 

@@ -7,3 +7,4 @@ mod check;
 mod columns;
 mod fields;
 mod packets;
+mod streams;

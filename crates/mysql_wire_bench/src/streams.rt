@@ -1,0 +1,119 @@
+//! Packets over a reader and a writer.
+
+use crate::check::{REFUSED, summary};
+use mysql_wire::proto::codec::PacketCodec;
+use mysql_wire::proto::packet_io::{PacketIoError, PacketReader, PacketWriter};
+use std::alloc::Global;
+use std::io;
+use std::io::{ErrorKind, Read, Write};
+
+// The same bytes again and again, with an end of input behind them each time.
+#[derive(Drop)]
+struct Again<'a> {
+    bytes: &'a [u8],
+    left: &'a [u8],
+}
+
+impl Read for Again<'_> {
+    fn read(&mut self, buf: &mut [u8]) -> io::Result<usize> {
+        let mut left = self.left;
+        let count = left.read(buf)?;
+        self.left = if count == 0 { self.bytes } else { left };
+        Ok(count)
+    }
+}
+
+// The packets up to the next end of the input.
+fn read(
+    reader: &mut PacketReader<Again<'_>>,
+    codec: &mut PacketCodec,
+) -> Result<u64, PacketIoError> {
+    let mut sum = 0u64;
+    codec.reset_seq_id();
+    'packets: for _ in 0..u64::MAX {
+        if !reader.fits(codec) {
+            return Err(PacketIoError::PacketsOutOfSync);
+        }
+        match reader.next_packet(codec)? {
+            Some(packet) => sum = sum.wrapping_add(summary(packet.as_slice())),
+            None => return Ok(sum),
+        }
+    }
+    Ok(sum)
+}
+
+/// A stream of whole packets, whose ids begin with 0, read by `next_packet` under `limit`.
+#[unsafe(no_mangle)]
+pub extern "C" fn mw_read(alloc: Global, bytes: &[u8], limit: u64, reps: u64) -> u64 {
+    let input = Again { bytes, left: bytes };
+    let Ok(mut reader) = PacketReader::new(alloc, input) else {
+        return REFUSED;
+    };
+    let mut codec = PacketCodec::default();
+    codec.max_allowed_packet = limit as usize;
+    let mut sum = 0u64;
+    for _ in 0..reps {
+        match read(&mut reader, &mut codec) {
+            Ok(value) => sum = sum.wrapping_add(value),
+            Err(_) => return REFUSED,
+        }
+    }
+    sum
+}
+
+// Keeps the bytes of the last write.
+#[derive(Drop)]
+struct Last {
+    bytes: Vec<u8>,
+    sum: u64,
+}
+
+impl Write for Last {
+    fn write(&mut self, buf: &[u8]) -> io::Result<usize> {
+        self.bytes.clear();
+        if self.bytes.extend_from_slice(buf).is_err() {
+            return Err(io::Error::from(ErrorKind::OutOfMemory));
+        }
+        self.sum = self.sum.wrapping_add(summary(self.bytes.as_slice()));
+        Ok(buf.len())
+    }
+
+    fn flush(&mut self) -> io::Result<()> {
+        Ok(())
+    }
+}
+
+// The payload queued `count` times, and written at once.
+fn write(
+    writer: &mut PacketWriter<Last>,
+    codec: &mut PacketCodec,
+    payload: &[u8],
+    count: u64,
+) -> Result<(), PacketIoError> {
+    codec.reset_seq_id();
+    for _ in 0..count {
+        let mut packet = payload;
+        writer.queue(codec, &mut packet)?;
+    }
+    writer.write_pending()
+}
+
+/// `bytes` queued `count` times a repetition, and written at once into a vector.
+#[unsafe(no_mangle)]
+pub extern "C" fn mw_write(alloc: Global, bytes: &[u8], count: u64, reps: u64) -> u64 {
+    let output = Last {
+        bytes: Vec::new(alloc),
+        sum: 0,
+    };
+    let Ok(mut writer) = PacketWriter::new(alloc, output) else {
+        return REFUSED;
+    };
+    let mut codec = PacketCodec::default();
+    codec.max_allowed_packet = bytes.len();
+    for _ in 0..reps {
+        if write(&mut writer, &mut codec, bytes, count).is_err() {
+            return REFUSED;
+        }
+    }
+    writer.into_inner().sum
+}
