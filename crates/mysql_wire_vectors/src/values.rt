@@ -60,6 +60,27 @@ fn a_row_comes_back_borrowed(rt: HostRuntime) -> Result<(), Fail> {
 }
 
 #[test]
+fn a_number_and_a_text_are_one_packet(rt: HostRuntime) -> Result<(), Fail> {
+    let mut codec = PacketCodec::default();
+    let mut wire = BytesMut::new(rt.alloc());
+    let pair: Both<RawInt<LeU16>, RawBytes<'_, EofBytes>> = Both(
+        RawInt::new(258),
+        RawBytes::new(CowSlice::Borrowed(b"hi")),
+    );
+    let mut all = encode_value(&mut codec, &pair, &mut wire).is_ok();
+    all &= wire.as_slice() == b"\x04\0\0\0\x02\x01hi".as_slice();
+    let Ok((back, rest)) = parse_packet::<Both<RawInt<LeU16>, RawBytes<'_, EofBytes>>>(
+        rt.alloc(),
+        ((), ()),
+        last(wire.as_slice(), 4),
+    ) else {
+        return Err(Fail::new("a number and a text"));
+    };
+    all &= (back.0.0 == 258) & is_borrowed(&back.1, b"hi") & rest.is_empty();
+    ensure(all, "a number and a text")
+}
+
+#[test]
 fn what_follows_a_value_is_left(rt: HostRuntime) -> Result<(), Fail> {
     let payload = b"\x07\x01a\xff".as_slice();
     let Ok((back, rest)) = parse_packet::<Both<RawInt<u8>, RawBytes<'_, U8Bytes>>>(
