@@ -91,18 +91,26 @@ fn decode_name(size: usize, piece: usize, fresh: bool) -> String {
     format!("decode {} by {step}{kind}", size_name(size))
 }
 
-// Packets of a size, decoded from pieces.
-fn decode_row(rows: &mut Vec<Row>, size: usize, piece: usize, fresh: bool) {
-    let mut numbers = Numbers::new(size as u64 * 3 + piece as u64);
-    let count = count_for(size);
+/// A stream of packets of a size, and the sum of their check values.
+pub fn stream_of(seed: u64, size: usize) -> (Vec<u8>, u64) {
+    let mut numbers = Numbers::new(seed);
     let mut stream = Vec::new();
-    let mut lens = Vec::new();
-    let mut want = 0u64;
+    let mut sum = 0u64;
     let mut id = 0;
-    for _ in 0..count {
+    for _ in 0..count_for(size) {
         let payload = numbers.bytes(size);
         id = framing(id, &payload, &mut stream);
-        want = want.wrapping_add(summary(&payload));
+        sum = sum.wrapping_add(summary(&payload));
+    }
+    (stream, sum)
+}
+
+// Packets of a size, decoded from pieces.
+fn decode_row(rows: &mut Vec<Row>, size: usize, piece: usize, fresh: bool) {
+    let count = count_for(size);
+    let (stream, want) = stream_of(size as u64 * 3 + piece as u64, size);
+    let mut lens = Vec::new();
+    for _ in 0..count {
         lens.extend(chunk_lens(size).map(|len| (len, len < MAX_PAYLOAD_LEN)));
     }
     let limit = size.max(1) as u64;

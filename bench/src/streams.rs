@@ -3,7 +3,7 @@
 use crate::check::summary;
 use crate::inputs::{Numbers, framing, size_name};
 use crate::library;
-use crate::packets::count_for;
+use crate::packets::{count_for, stream_of};
 use crate::timing::Row;
 use std::hint::black_box;
 
@@ -11,16 +11,8 @@ const SIZES: [usize; 4] = [16, 4 << 10, 1 << 20, 20 << 20];
 
 // Packets of a size read from a slice, beside `decode` of the same bytes appended to a buffer.
 fn read_row(rows: &mut Vec<Row>, size: usize) {
-    let mut numbers = Numbers::new(size as u64 * 5);
     let count = count_for(size);
-    let mut stream = Vec::new();
-    let mut want = 0u64;
-    let mut id = 0;
-    for _ in 0..count {
-        let payload = numbers.bytes(size);
-        id = framing(id, &payload, &mut stream);
-        want = want.wrapping_add(summary(&payload));
-    }
+    let (stream, want) = stream_of(size as u64 * 5, size);
     let copied = stream.clone();
     let limit = size as u64;
     rows.push(Row {
