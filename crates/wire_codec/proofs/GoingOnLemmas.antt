@@ -329,3 +329,12 @@ goes_on_start limit id (Some h) src held pieces aligned = record {
       let apart : unread_place 0 held + i ≡ unread_place 0 held + 3 → ⊥ = λ e. absurd (omega arith) in
       ap₂ (λ (s t : Bool). if s then None else Some (if t then limit else piece_limit limit pieces (unread_place 0 held + i - length (front (open_id id held) held ++ src)))) (ne_eqb _ _ apart) (lt-ltb _ _ inside);
 }
+
+-- nothing has come yet
+pub empty_goes_on_is : (limits : Limits) (place id limit : ℕ) → GoesOnAt limits place place limit None [] []
+unfolding max_payload
+empty_goes_on_is limits place id limit = record {
+  aligned = (refl, tt);
+  marked = omega arith;
+  same = λ i low high. absurd (omega arith);
+}

@@ -1,5 +1,5 @@
 -- Runs of decodes under limits, joined.
-use Rattle.std.proofs.Common.{◌≡◌, ℕ, ◌+◌, ◌-◌, ◌/◌, ◌<◌, ◌≤◌, List, [], ◌∷◌, ◌++◌, length, take, drop, refl, sym, ap, ap₂, ◌∙◌, subst, arith, append_assoc, append-nil, length-append, length-drop, inl, inr, slice_index, Option, Some, None, IsSome, Result, Ok, Err, Bool, false, suc, zero, rules, if◌then◌else◌, ne_eqb, get_or, Bor}
+use Rattle.std.proofs.Common.{◌≡◌, ℕ, ◌+◌, ◌-◌, ◌/◌, ◌<◌, ◌≤◌, List, [], ◌∷◌, ◌++◌, length, take, drop, refl, sym, ap, ap₂, ◌∙◌, subst, arith, append_assoc, append-nil, length-append, length-drop, take_all, drop_of_length-le, inl, inr, ◌⊎◌, slice_index, Option, Some, None, IsSome, Result, Ok, Err, Bool, false, suc, zero, rules, if◌then◌else◌, ne_eqb, get_or, Bor}
 use Rattle.std.proofs.lemmas.List.{take-append-le, drop-append-le, take_more, flat_map_more, take-append-drop}
 use Rattle.std.proofs.lemmas.Bool.{cases_lt, lt-ltb, le-ltb}
 use Rattle.wire_codec.specs.declared.codec.error.PacketCodecError.{PacketCodecError}
@@ -9,12 +9,12 @@ use Rattle.wire_codec.specs.Delivery.{chunk_len, id_at, Ending, Waiting, TooLarg
 use Rattle.wire_codec.specs.Codec.{open_id}
 use Rattle.wire_codec.specs.Limited.{Limits, Allows, bound, framed_size, place_after, limit_at, ContinuesUnder, SplitsUnder, rest_limit, DeliversUnder}
 use Rattle.wire_codec.specs.LimitedRuns.{AlignedAt, unread_place, RunsUnder, LeavesUnder, WasAllowed, run_limits, piece_limit, limited_bytes, last_limit, RemembersLimited}
-use Rattle.wire_codec.specs.GoingOn.{GoesOnAt, DecodesOn, Remembers}
+use Rattle.wire_codec.specs.GoingOn.{GoesOnAt, DecodesOn, HavePieceLimits, Remembers}
 use Rattle.wire_codec.proofs.ChunkLemmas.{length-framing}
 use Rattle.wire_codec.proofs.DeliveryLemmas.{stream-append, id_after-append}
 use Rattle.wire_codec.proofs.CodecLemmas.{open_at_id}
 use Rattle.wire_codec.proofs.RunLemmas.{front-nil, nothing_whole, id_after_small, chunk_len_append, id_append, open_waiting}
-use Rattle.wire_codec.proofs.LimitedLemmas.{bound_allows, under_append, place_after-append, splits_join_under, delivers_join_under, length-front_under, length-splits_under}
+use Rattle.wire_codec.proofs.LimitedLemmas.{begins_long, bound_allows, under_append, place_after-append, splits_join_under, delivers_join_under, length-front_under, length-splits_under}
 use Rattle.wire_codec.proofs.GoingOnLemmas.{aligned_without, start_mark, start_mark_some}
 
 -- a run goes on to another
@@ -91,6 +91,35 @@ was_allowed limits mark place limit (Some h) src held g = g.marked.0
 pub remembers_on : (limits : Limits) (mark place limit : ℕ) (header : Option (ℕ × ℕ)) (src held : List ℕ) → GoesOnAt limits mark place limit header src held → Remembers mark place header src held
 remembers_on limits mark place limit None src held g long before = let m = g.marked in absurd (omega (arith, m, before))
 remembers_on limits mark place limit (Some h) src held g long before = search rules
+
+none_some : IsSome {T = ℕ × ℕ} None → ⊥
+none_some s = cc
+
+unread_up : (place : ℕ) (q dst : List ℕ) → length q ≤ length dst → unread_place place q ≤ unread_place place dst
+unfolding max_payload
+unread_up place q dst h = omega arith
+
+-- a decode that was refused memory goes on where it stands
+pub stays_on : (error : PacketCodecError) (limits : Limits) (mark place limit s : ℕ) (h : Option (ℕ × ℕ)) (q W : List ℕ) (id : ℕ) (header : Option (ℕ × ℕ)) (src dst : List ℕ)
+    → GoesOnAt limits mark place limit h W q → DecodesOn limits mark place s (front s q ++ W) q (Err error) id header src dst → error ≡ OutOfMemory
+    → GoesOnAt limits mark place limit header src dst
+stays_on PacketTooLarge limits mark place limit s h q W id header src dst g t is = absurd cc
+stays_on PacketsOutOfSync limits mark place limit s h q W id header src dst g t is = absurd cc
+stays_on (Io e) limits mark place limit s h q W id header src dst g t is = absurd t.0
+stays_on OutOfMemory limits mark place limit s h q W id None src dst g t is = absurd (none_some t.0.4)
+stays_on OutOfMemory limits mark place limit s h q W id (Some header) src dst g t is =
+    let e = length-splits_under limits place q (front s q ++ W) s [] dst src t.0.0 in
+    let f = length-append (front s q) W in
+    let l = length-front_under s q in
+    let up = unread_up place q dst (begins_long q dst t.0.0.within.begins) in
+    let behind = t.1 refl in
+    record {
+      aligned = t.0.2;
+      marked = (t.0.3, let a = t.0.2.1.2 in omega (arith, a, behind));
+      same = λ i low high.
+          let there : unread_place place dst + i ≡ unread_place place q + (unread_place place dst + i - unread_place place q) = omega arith in
+          ap limits there ∙ g.same (unread_place place dst + i - unread_place place q) (omega arith) (omega arith);
+    }
 
 -- a run stops as its last decode does
 pub runs_stop_under : (error : PacketCodecError) (limits : Limits) (mark place : ℕ) (d S : List ℕ) (s : ℕ) (ps : List (List ℕ)) (q W : List ℕ) (id : ℕ) (header : Option (ℕ × ℕ)) (src dst : List ℕ)
@@ -185,35 +214,48 @@ runs_over_under OutOfMemory limits place d S s ps id header src x dst r = splits
 runs_over_under (Io e) limits place d S s ps id header src x dst r = absurd r
 
 -- the limits of pieces
-piece_limit_at : (last : ℕ) (pieces : List (ℕ × Bor (List ℕ))) (k off : ℕ) (d : ℕ × Bor (List ℕ)) → k < length pieces
-    → length (limited_bytes (take k pieces)) ≤ off → off < length (limited_bytes (take k pieces)) + length (get_or pieces k d).1.now
-    → piece_limit last pieces off ≡ (get_or pieces k d).0
-piece_limit_at last [] k off d h low high = absurd (omega arith)
-piece_limit_at last (piece ∷ pieces) zero off d h low high =
-    ap (λ (t : Bool). if t then piece.0 else piece_limit piece.0 pieces (off - length piece.1.now)) (lt-ltb off (length piece.1.now) (omega arith))
-piece_limit_at last (piece ∷ pieces) (suc k) off d h low high =
+have_from : (limits : Limits) (start last : ℕ) (pieces : List (ℕ × Bor (List ℕ)))
+    → ((i : ℕ) → limits (start + i) ≡ Some (piece_limit last pieces i)) → HavePieceLimits limits start pieces
+have_from limits start last [] known = tt
+have_from limits start last (piece ∷ pieces) known =
+    let n : ℕ = length piece.1.now in (
+      λ i inside. known i ∙ ap (λ (t : Bool). Some (if t then piece.0 else piece_limit piece.0 pieces (i - n))) (lt-ltb i n inside),
+      have_from limits (start + n) piece.0 pieces (λ i.
+          let there : start + n + i ≡ start + (n + i) = omega arith in
+          let back : n + i - n ≡ i = omega arith in
+          ap limits there ∙ known (n + i) ∙ ap (λ (t : Bool). Some (if t then piece.0 else piece_limit piece.0 pieces (n + i - n))) (le-ltb (n + i) n (omega arith))
+          ∙ ap (λ (m : ℕ). Some (piece_limit piece.0 pieces m)) back),
+    )
+
+have_at : (limits : Limits) (start : ℕ) (pieces : List (ℕ × Bor (List ℕ))) (k i : ℕ) (d : ℕ × Bor (List ℕ)) → HavePieceLimits limits start pieces → k < length pieces
+    → i < length (get_or pieces k d).1.now → limits (start + length (limited_bytes (take k pieces)) + i) ≡ Some (get_or pieces k d).0
+have_at limits start [] k i d known h inside = absurd (omega arith)
+have_at limits start (piece ∷ pieces) zero i d known h inside = ap limits (omega arith) ∙ known.0 i inside
+have_at limits start (piece ∷ pieces) (suc k) i d known h inside =
     let e = length-append piece.1.now (limited_bytes (take k pieces)) in
-    ap (λ (t : Bool). if t then piece.0 else piece_limit piece.0 pieces (off - length piece.1.now)) (le-ltb off (length piece.1.now) (omega arith))
-    ∙ piece_limit_at piece.0 pieces k (off - length piece.1.now) d (omega arith) (omega arith) (omega arith)
+    ap limits (omega arith) ∙ have_at limits (start + length piece.1.now) pieces k i d known.1 (omega arith) inside
 
 length-input_at : (first : ℕ) (src held : List ℕ) → length (front first held ++ src) ≡ unread_place 0 held + length src
 length-input_at first src held = length-append (front first held) src ∙ ap (λ (n : ℕ). n + length src) (length-front_under first held) ∙ omega arith
 
-limits_at : (limit id : ℕ) (header : Option (ℕ × ℕ)) (src held : List ℕ) (pieces : List (ℕ × Bor (List ℕ))) (k x : ℕ) (d : ℕ × Bor (List ℕ))
-    → AlignedAt header src held → k < length pieces
-    → length (front (open_id id held) held ++ src) + length (limited_bytes (take k pieces)) ≤ x
-    → x < length (front (open_id id held) held ++ src) + length (limited_bytes (take k pieces)) + length (get_or pieces k d).1.now
-    → run_limits (record { limit = limit; id = id; header = header; unread = src; held = held }) pieces x ≡ Some (get_or pieces k d).0
-limits_at limit id None src held pieces k x d aligned h low high =
+-- the limits of a run
+pub run_limits_have : (limit id : ℕ) (header : Option (ℕ × ℕ)) (src held : List ℕ) (pieces : List (ℕ × Bor (List ℕ))) → AlignedAt header src held
+    → HavePieceLimits (run_limits (record { limit = limit; id = id; header = header; unread = src; held = held }) pieces) (0 + length (front (open_id id held) held ++ src)) pieces
+run_limits_have limit id None src held pieces aligned =
     let n : ℕ = length (front (open_id id held) held ++ src) in
-    ap (λ (t : Bool). Some (if t then limit else piece_limit limit pieces (x - n))) (le-ltb x n (omega arith))
-    ∙ ap (λ (m : ℕ). Some m) (piece_limit_at limit pieces k (x - n) d h (omega arith) (omega arith))
-limits_at limit id (Some (i, l)) src held pieces k x d aligned h low high =
+    have_from (run_limits (record { limit = limit; id = id; header = None; unread = src; held = held }) pieces) (0 + n) limit pieces (λ i.
+    ap (run_limits (record { limit = limit; id = id; header = None; unread = src; held = held }) pieces) (omega arith)
+    ∙ ap (λ (t : Bool). Some (if t then limit else piece_limit limit pieces (n + i - n))) (le-ltb (n + i) n (omega arith))
+    ∙ ap (λ (m : ℕ). Some (piece_limit limit pieces m)) (omega arith))
+run_limits_have limit id (Some (j, l)) src held pieces aligned =
     let n : ℕ = length (front (open_id id held) held ++ src) in
     let long : 4 ≤ length src = aligned.1.0 in
-    let apart : x ≡ unread_place 0 held + 3 → ⊥ = λ e. absurd (let f = length-input_at (open_id id held) src held in omega arith) in
-    ap₂ (λ (s t : Bool). if s then None else Some (if t then limit else piece_limit limit pieces (x - n))) (ne_eqb _ _ apart) (le-ltb x n (omega arith))
-    ∙ ap (λ (m : ℕ). Some m) (piece_limit_at limit pieces k (x - n) d h (omega arith) (omega arith))
+    let f = length-input_at (open_id id held) src held in
+    have_from (run_limits (record { limit = limit; id = id; header = Some (j, l); unread = src; held = held }) pieces) (0 + n) limit pieces (λ i.
+    let apart : n + i ≡ unread_place 0 held + 3 → ⊥ = λ e. absurd (omega arith) in
+    ap (run_limits (record { limit = limit; id = id; header = Some (j, l); unread = src; held = held }) pieces) (omega arith)
+    ∙ ap₂ (λ (s t : Bool). if s then None else Some (if t then limit else piece_limit limit pieces (n + i - n))) (ne_eqb _ _ apart) (le-ltb (n + i) n (omega arith))
+    ∙ ap (λ (m : ℕ). Some (piece_limit limit pieces m)) (omega arith))
 
 -- more bytes behind change nothing of what is there
 pub aligned_append : (header : Option (ℕ × ℕ)) (src x held : List ℕ) → AlignedAt header src held → AlignedAt header (src ++ x) held
@@ -222,50 +264,54 @@ aligned_append (Some h) src x held s =
     let t = s.1 in
     (s.0, (rw length-append (omega (arith, t.0)), id_append src x t.0 ∙ t.1, chunk_len_append src x t.0 ∙ t.2, t.3))
 
-none_some : IsSome {T = ℕ × ℕ} None → ⊥
-none_some s = cc
-
 -- a run that waited goes on under the next piece's limit
-marked_next : (limits : Limits) (first : ℕ) (S held : List ℕ) (gained : List (List ℕ)) (id : ℕ) (header : Option (ℕ × ℕ)) (src dst piece : List ℕ) (limit : ℕ)
-    → RunsUnder limits 0 first S held (Ok tt) gained id header src dst
-    → ((x : ℕ) → length S ≤ x → x < length S + length piece → limits x ≡ Some limit)
-    → GoesOnAt limits (length S) (place_after 0 gained) limit header (src ++ piece) dst
-marked_next limits first S held gained id None src dst piece limit r under =
-    let e = length-splits_under limits 0 held S first gained dst src r.0.splits in
+marked_next : (limits : Limits) (place first : ℕ) (S held : List ℕ) (gained : List (List ℕ)) (id : ℕ) (header : Option (ℕ × ℕ)) (src dst piece : List ℕ) (limit : ℕ)
+    → RunsUnder limits place first S held (Ok tt) gained id header src dst
+    → ((i : ℕ) → i < length piece → limits (place + length S + i) ≡ Some limit)
+    → GoesOnAt limits (place + length S) (place_after place gained) limit header (src ++ piece) dst
+marked_next limits place first S held gained id None src dst piece limit r under =
+    let e = length-splits_under limits place held S first gained dst src r.0.splits in
+    let f = length-append src piece in
     let short : length src < 4 = elim (cases_lt (length src) 4) [ inl less ↦ less | inr long ↦ absurd (none_some (r.3.1 long)) ] in
     record {
       aligned = aligned_append None src piece dst r.2;
       marked = omega arith;
-      same = λ i low high. under (unread_place (place_after 0 gained) dst + i) low (let f = length-append src piece in omega arith);
+      same = λ i low high. ap limits (omega arith) ∙ under (i - length src) (omega arith);
     }
-marked_next limits first S held gained id (Some h) src dst piece limit r under =
-    let e = length-splits_under limits 0 held S first gained dst src r.0.splits in
+marked_next limits place first S held gained id (Some h) src dst piece limit r under =
+    let e = length-splits_under limits place held S first gained dst src r.0.splits in
+    let f = length-append src piece in
     let long : 4 ≤ length src = r.2.1.0 in
     let l : chunk_len src ≡ h.1 = r.2.1.2 in
     let k : ℕ = length dst / max_payload in
-    let waits : (0 < chunk_len src) × (length dst + chunk_len src ≤ rest_limit limits (place_after 0 gained) dst src) × (length src < 4 + chunk_len src) =
+    let waits : (0 < chunk_len src) × (length dst + chunk_len src ≤ rest_limit limits (place_after place gained) dst src) × (length src < 4 + chunk_len src) =
     elim r.0.ends [ inl less ↦ absurd (omega arith) | inr waits ↦ waits ] in
     let less = waits.2 in
-    let allowed : Allows (limit_at limits (place_after 0 gained) k) (length dst + h.1) =
-    subst (λ (n : ℕ). Allows (limit_at limits (place_after 0 gained) k) (length dst + n)) l (bound_allows (limit_at limits (place_after 0 gained) k) (length dst + chunk_len src) waits.1) in
+    let allowed : Allows (limit_at limits (place_after place gained) k) (length dst + h.1) =
+    subst (λ (n : ℕ). Allows (limit_at limits (place_after place gained) k) (length dst + n)) l (bound_allows (limit_at limits (place_after place gained) k) (length dst + chunk_len src) waits.1) in
     record {
       aligned = aligned_append (Some h) src piece dst r.2;
       marked = (allowed, omega arith);
-      same = λ i low high. under (unread_place (place_after 0 gained) dst + i) low (let f = length-append src piece in omega arith);
+      same = λ i low high. ap limits (omega arith) ∙ under (i - length src) (omega arith);
     }
 
-pub goes_on_next : (limit id : ℕ) (header : Option (ℕ × ℕ)) (src held : List ℕ) (pieces : List (ℕ × Bor (List ℕ))) (k : ℕ) (d : ℕ × Bor (List ℕ))
-    (gained : List (List ℕ)) (id' : ℕ) (header' : Option (ℕ × ℕ)) (src' dst' : List ℕ)
-    → AlignedAt header src held → k < length pieces
-    → RunsUnder (run_limits (record { limit = limit; id = id; header = header; unread = src; held = held }) pieces) 0 (open_id id held)
-    ((front (open_id id held) held ++ src) ++ limited_bytes (take k pieces)) held (Ok tt) gained id' header' src' dst'
-    → GoesOnAt (run_limits (record { limit = limit; id = id; header = header; unread = src; held = held }) pieces)
-    (length ((front (open_id id held) held ++ src) ++ limited_bytes (take k pieces))) (place_after 0 gained) (get_or pieces k d).0 header' (src' ++ (get_or pieces k d).1.now) dst'
-goes_on_next limit id header src held pieces k d gained id' header' src' dst' aligned h r =
-    let input : List ℕ = front (open_id id held) held ++ src in
+-- and where no piece comes
+pub marked_on : (limits : Limits) (place first : ℕ) (S held : List ℕ) (gained : List (List ℕ)) (id : ℕ) (header : Option (ℕ × ℕ)) (src dst : List ℕ) (limit : ℕ)
+    → RunsUnder limits place first S held (Ok tt) gained id header src dst
+    → GoesOnAt limits (place + length S) (place_after place gained) limit header src dst
+marked_on limits place first S held gained id header src dst limit r =
+    subst (λ (z : List ℕ). GoesOnAt limits (place + length S) (place_after place gained) limit header z dst) (append-nil src)
+    (marked_next limits place first S held gained id header src dst [] limit r (λ i inside. absurd (omega arith)))
+
+pub goes_on_next : (limits : Limits) (place first : ℕ) (input held : List ℕ) (pieces : List (ℕ × Bor (List ℕ))) (k : ℕ) (d : ℕ × Bor (List ℕ))
+    (gained : List (List ℕ)) (id : ℕ) (header : Option (ℕ × ℕ)) (src dst : List ℕ)
+    → HavePieceLimits limits (place + length input) pieces → k < length pieces
+    → RunsUnder limits place first (input ++ limited_bytes (take k pieces)) held (Ok tt) gained id header src dst
+    → GoesOnAt limits (place + length (input ++ limited_bytes (take k pieces))) (place_after place gained) (get_or pieces k d).0 header (src ++ (get_or pieces k d).1.now) dst
+goes_on_next limits place first input held pieces k d gained id header src dst known h r =
     let e = length-append input (limited_bytes (take k pieces)) in
-    marked_next (run_limits (record { limit = limit; id = id; header = header; unread = src; held = held }) pieces) (open_id id held) (input ++ limited_bytes (take k pieces)) held gained id' header' src' dst' (get_or pieces k d).1.now (get_or pieces k d).0 r
-    (λ x low high. limits_at limit id header src held pieces k x d aligned h (omega arith) (omega arith))
+    marked_next limits place first (input ++ limited_bytes (take k pieces)) held gained id header src dst (get_or pieces k d).1.now (get_or pieces k d).0 r
+    (λ i inside. ap limits (omega arith) ∙ have_at limits (place + length input) pieces k i d known h inside)
 
 last_limit-append : (limit : ℕ) (pieces : List (ℕ × Bor (List ℕ))) (piece : ℕ × Bor (List ℕ)) → last_limit limit (pieces ++ piece ∷ []) ≡ piece.0
 last_limit-append limit [] piece = refl
@@ -341,7 +387,7 @@ start_before (Some h) held n some e = (let f = start_mark_some h held in omega a
 
 pub remembers_limited : (limit id : ℕ) (header : Option (ℕ × ℕ)) (src held : List ℕ) (pieces : List (ℕ × Bor (List ℕ))) (index count place : ℕ) (gained : List (List ℕ)) (header' : Option (ℕ × ℕ)) (src' dst' : List ℕ)
     → AlignedAt header src held → count ≡ index + 1 → place ≡ place_after 0 gained
-    → Remembers (length ((front (open_id id held) held ++ src) ++ limited_bytes (take index pieces))) place header' src' dst'
+    → Remembers (0 + length ((front (open_id id held) held ++ src) ++ limited_bytes (take index pieces))) place header' src' dst'
     → RemembersLimited (record { limit = limit; id = id; header = header; unread = src; held = held }) pieces count gained header' src' dst'
 remembers_limited limit id None src held pieces index count place gained header' src' dst' aligned is at r long (inl start) = absurd (none_some start.0)
 remembers_limited limit id (Some h) src held pieces index count place gained header' src' dst' aligned is at r long (inl start) =
@@ -355,7 +401,9 @@ remembers_limited limit id header src held pieces index count place gained heade
     let input : List ℕ = front (open_id id held) held ++ src in
     let before : unread_place (place_after 0 gained) dst' + 3 < length (input ++ limited_bytes (take index pieces)) =
     subst (λ (n : ℕ). unread_place (place_after 0 gained) dst' + 3 < length (input ++ limited_bytes (take n pieces))) (omega arith) later.1 in
-    r long (subst (λ (n : ℕ). unread_place n dst' + 3 < length (input ++ limited_bytes (take index pieces))) (sym at) before)
+    let there : unread_place place dst' + 3 < length (input ++ limited_bytes (take index pieces)) =
+    subst (λ (n : ℕ). unread_place n dst' + 3 < length (input ++ limited_bytes (take index pieces))) (sym at) before in
+    r long (omega arith)
 
 -- one piece more: what the run makes of it
 pub goes_on_with : (limits : Limits) (mark place limit limit' : ℕ) (header header' : Option (ℕ × ℕ)) (src src' held : List ℕ) → limit' ≡ limit → header' ≡ header → src' ≡ src
@@ -364,3 +412,75 @@ goes_on_with limits mark place limit limit' header header' src src' held l h e g
     subst (λ (z : ℕ). GoesOnAt limits mark place z header' src' held) (sym l)
     (subst (λ (z : Option (ℕ × ℕ)). GoesOnAt limits mark place limit z src' held) (sym h)
     (subst (λ (z : List ℕ). GoesOnAt limits mark place limit header z held) (sym e) g))
+
+-- a run that decodes until it waits, in any place of a stream
+abbrev pub Drains : ℕ → ℕ → Option (ℕ × ℕ) → List ℕ → List ℕ → List (List ℕ) → Result (Unit {0}) PacketCodecError → List (List ℕ) → ℕ → ℕ → Option (ℕ × ℕ) → List ℕ → List ℕ → Type 0
+Drains limit id header src held out answer out' limit' id' header' src' dst' =
+    (limits : Limits) (mark place : ℕ) → GoesOnAt limits mark place limit header src held
+    → (gained : List (List ℕ)) × (out' ≡ out ++ gained)
+    × RunsUnder limits place (open_id id held) (front (open_id id held) held ++ src) held answer gained id' header' src' dst'
+    × (answer ≡ Err OutOfMemory → GoesOnAt limits mark (place_after place gained) limit' header' src' dst')
+
+-- what a run over so many pieces, and then over one more, makes of them
+pub one_more : (answer : Result (Unit {0}) PacketCodecError) (limits : Limits) (place first : ℕ) (input held : List ℕ) (pieces : List (ℕ × Bor (List ℕ))) (i : ℕ) (d : ℕ × Bor (List ℕ))
+    (gained : List (List ℕ)) (id : ℕ) (header : Option (ℕ × ℕ)) (src dst : List ℕ)
+    (limit id' : ℕ) (header' : Option (ℕ × ℕ)) (src' : List ℕ) (start out out' : List (List ℕ)) (limit'' id'' : ℕ) (header'' : Option (ℕ × ℕ)) (src'' dst'' : List ℕ)
+    → HavePieceLimits limits (place + length input) pieces → i < length pieces → first < 256
+    → RunsUnder limits place first (input ++ limited_bytes (take i pieces)) held (Ok tt) gained id header src dst → out ≡ start ++ gained
+    → limit ≡ (get_or pieces i d).0 → id' ≡ id → header' ≡ header → src' ≡ src ++ (get_or pieces i d).1.now
+    → Drains limit id' header' src' dst out answer out' limit'' id'' header'' src'' dst''
+    → (all : List (List ℕ)) × (out' ≡ start ++ all)
+    × RunsUnder limits place first (input ++ limited_bytes (take (i + 1) pieces)) held answer all id'' header'' src'' dst''
+    × (answer ≡ Err OutOfMemory → GoesOnAt limits (place + length (input ++ limited_bytes (take i pieces))) (place_after place all) limit'' header'' src'' dst'')
+one_more answer limits place first input held pieces i d gained id header src dst limit id' header' src' start out out' limit'' id'' header'' src'' dst'' known inside small run is set same_id same_header came drains =
+    let piece : ℕ × Bor (List ℕ) = get_or pieces i d in
+    let S : List ℕ = input ++ limited_bytes (take i pieces) in
+    let at = goes_on_with limits (place + length S) (place_after place gained) piece.0 limit header header' (src ++ piece.1.now) src' dst set same_header came
+    (goes_on_next limits place first input held pieces i d gained id header src dst known inside run) in
+    let more = drains limits (place + length S) (place_after place gained) at in
+    let opened : open_id id' dst ≡ id_after first gained = ap (λ (n : ℕ). open_id n dst) same_id ∙ open_waiting first gained id dst small run.1 in
+    let next = shifted_under answer limits (place_after place gained) (open_id id' dst) (id_after first gained) dst src' (src ++ piece.1.now) more.0 id'' header'' src'' dst'' opened came more.2 in
+    let ends : place_after (place_after place gained) more.0 ≡ place_after place (gained ++ more.0) = sym (place_after-append place gained more.0) in (
+      gained ++ more.0,
+      more.1 ∙ ap (λ (z : List (List ℕ)). z ++ more.0) is ∙ append_assoc start gained more.0,
+      subst (λ (z : List ℕ). RunsUnder limits place first z held answer (gained ++ more.0) id'' header'' src'' dst'') (limited_more input pieces i d inside)
+          (runs_join_under answer limits place held S first gained dst src piece.1.now more.0 id'' header'' src'' dst'' run.0.splits next),
+      λ e. subst (λ (n : ℕ). GoesOnAt limits (place + length S) n limit'' header'' src'' dst'') ends (more.3 e),
+    )
+
+-- what a run over pieces leaves, where it stopped
+pub stopped_leaves : (error : PacketCodecError) (limits : Limits) (place first : ℕ) (input held : List ℕ) (pieces : List (ℕ × Bor (List ℕ))) (count : ℕ) (gained : List (List ℕ))
+    (id : ℕ) (header : Option (ℕ × ℕ)) (src dst : List ℕ) → RunsUnder limits place first (input ++ limited_bytes (take count pieces)) held (Err error) gained id header src dst
+    → LeavesUnder limits place first (input ++ limited_bytes pieces) held (Err error) gained src (limited_bytes (drop count pieces)) dst
+stopped_leaves error limits place first input held pieces count gained id header src dst run =
+    subst (λ (z : List ℕ). LeavesUnder limits place first z held (Err error) gained src (limited_bytes (drop count pieces)) dst) (limited_rest input pieces count)
+    (runs_over_under error limits place held (input ++ limited_bytes (take count pieces)) first gained id header src (limited_bytes (drop count pieces)) dst run)
+
+-- where it was refused memory it goes on, and where it stopped otherwise nothing is said
+pub goes_on_stopped : (error : PacketCodecError) (answer : Result (Unit {0}) PacketCodecError) (limits : Limits) (mark place limit : ℕ) (header : Option (ℕ × ℕ)) (src held : List ℕ)
+    → answer ≡ Err error → (answer ≡ Err OutOfMemory → GoesOnAt limits mark place limit header src held)
+    → (answer ≡ Ok tt) ⊎ (answer ≡ Err OutOfMemory) → (mark : ℕ) × GoesOnAt limits mark place limit header src held
+goes_on_stopped error answer limits mark place limit header src held is on (inl e) = absurd cc
+goes_on_stopped error answer limits mark place limit header src held is on (inr e) = (mark, on e)
+
+-- the answer of a run that waits
+abbrev waiting : Result (Unit {0}) PacketCodecError
+waiting = Ok tt
+
+-- what a caller of a run over pieces is told, where it waits
+pub waited_on : (limits : Limits) (place first : ℕ) (input held : List ℕ) (pieces : List (ℕ × Bor (List ℕ))) (count : ℕ) (gained : List (List ℕ))
+    (limit id : ℕ) (header : Option (ℕ × ℕ)) (src dst : List ℕ) → count ≡ length pieces
+    → RunsUnder limits place first (input ++ limited_bytes (take count pieces)) held (Ok tt) gained id header src dst
+    → RunsUnder limits place first (input ++ limited_bytes (take count pieces)) held (Ok tt) gained id header src dst
+    × LeavesUnder limits place first (input ++ limited_bytes pieces) held (Ok tt) gained src (limited_bytes (drop count pieces)) dst
+    × ((waiting ≡ Ok tt) ⊎ (waiting ≡ Err OutOfMemory) → (mark : ℕ) × GoesOnAt limits mark (place_after place gained) limit header src dst)
+waited_on limits place first input held pieces count gained limit id header src dst whole run =
+    let all : take count pieces ≡ pieces = take_all count pieces (omega arith) in
+    let none : drop count pieces ≡ [] = drop_of_length-le pieces {i = count} (omega arith) in
+    let left : src ≡ src ++ limited_bytes (drop count pieces) =
+    sym (append-nil src) ∙ ap (λ (z : List (ℕ × Bor (List ℕ))). src ++ limited_bytes z) (sym none) in (
+      run,
+      subst (λ (z : List ℕ). DeliversUnder limits place held (input ++ limited_bytes pieces) first gained Waiting dst z) left
+          (subst (λ (z : List (ℕ × Bor (List ℕ))). DeliversUnder limits place held (input ++ limited_bytes z) first gained Waiting dst src) all run.0),
+      λ _. (place + length (input ++ limited_bytes (take count pieces)), marked_on limits place first (input ++ limited_bytes (take count pieces)) held gained id header src dst limit run),
+    )

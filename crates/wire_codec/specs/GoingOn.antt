@@ -1,5 +1,6 @@
 -- A codec in the middle of a run under limits: what one call makes of it.
-use Rattle.std.specs.Prelude.{◌≡◌, ℕ, ◌+◌, ◌/◌, ◌<◌, ◌≤◌, List, [], length, Option, Some, MatchOption, IsSome, Result, Ok, Err, Bool, true, false, ⊤}
+use Rattle.std.specs.Prelude.{◌≡◌, ℕ, ◌+◌, ◌/◌, ◌<◌, ◌≤◌, ◌⊎◌, List, [], ◌∷◌, ◌++◌, length, take, drop, Option, Some, MatchOption, IsSome, Result, Ok, Err, Bool, true, false, ⊤}
+use Rattle.std.specs.Borrow.{Bor}
 use Rattle.wire_codec.specs.declared.codec.error.PacketCodecError.{PacketCodecError}
 use Rattle.wire_codec.specs.declared.codec.error.PacketCodecError.TheVariants.{OutOfMemory}
 use Rattle.wire_codec.specs.declared.codec.packet.Progress.{Progress}
@@ -7,8 +8,8 @@ use Rattle.wire_codec.specs.declared.codec.packet.Progress.TheVariants.{Whole, S
 use Rattle.wire_codec.specs.Framing.{max_payload}
 use Rattle.wire_codec.specs.Delivery.{chunk_len, id_at}
 use Rattle.wire_codec.specs.Codec.{CodecState, first_id, input_of}
-use Rattle.wire_codec.specs.Limited.{Limits, Allows, framed_size, limit_at, SplitsUnder}
-use Rattle.wire_codec.specs.LimitedRuns.{AlignedAt, unread_place, DecodesUnder}
+use Rattle.wire_codec.specs.Limited.{Limits, Allows, framed_size, limit_at, place_after, SplitsUnder}
+use Rattle.wire_codec.specs.LimitedRuns.{AlignedAt, unread_place, limited_bytes, DecodesUnder, RunsUnder, LeavesUnder}
 
 -- the codec goes on here with the packet that is framed from this place on: the bytes from the mark
 -- on came under its own limit; before the mark there is no header that isn't remembered, and no
@@ -68,3 +69,24 @@ Decodes before answer after = (limits : Limits) (mark place : ℕ) → GoesOn li
 abbrev pub Remembers : ℕ → ℕ → Option (ℕ × ℕ) → List ℕ → List ℕ → Type 0
 Remembers mark place header src dst = 4 ≤ length src → unread_place place dst + 3 < mark
     → IsSome header
+
+-- from this place on stand the bytes of these pieces, each under its piece's limit
+abbrev pub HavePieceLimits : Limits → ℕ → List (ℕ × Bor (List ℕ)) → Type 0
+HavePieceLimits limits place [] = ⊤
+HavePieceLimits limits place (piece ∷ pieces) =
+    ((i : ℕ) → i < length piece.1.now → limits (place + i) ≡ Some piece.0)
+    × HavePieceLimits limits (place + length piece.1.now) pieces
+
+-- a run over all these pieces, of which the first `count` were appended, by a codec whose packet is
+-- framed from this place on; where it waits or was refused memory, the next run goes on from it
+abbrev pub RunsOn : Limits → ℕ → CodecState → List (ℕ × Bor (List ℕ)) → ℕ
+    → Result (Unit {0}) PacketCodecError → List (List ℕ) → CodecState → Type 0
+RunsOn limits place before pieces count answer gained after =
+    RunsUnder limits place (first_id before) (input_of before
+    ++ limited_bytes (take count pieces)) before.held
+    answer gained after.id after.header after.unread after.held
+    × LeavesUnder limits place (first_id before) (input_of before
+    ++ limited_bytes pieces) before.held
+    answer gained after.unread (limited_bytes (drop count pieces)) after.held
+    × ((answer ≡ Ok tt) ⊎ (answer ≡ Err OutOfMemory)
+    → (mark : ℕ) × GoesOn limits mark (place_after place gained) after)

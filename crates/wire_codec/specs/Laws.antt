@@ -1,13 +1,14 @@
 -- Laws over the definitions alone, which the functions of `laws` carry.
-use Rattle.std.specs.Prelude.{◌≡◌, ℕ, List, [], ◌++◌, length, ◌/◌, ◌%◌, ◌+◌, ◌*◌, ◌<◌, ◌≤◌, ◌⊎◌, ◌↔◌, All, None, Result, Ok, Err}
+use Rattle.std.specs.Prelude.{◌≡◌, ◌≢◌, ℕ, List, [], ◌++◌, length, ◌/◌, ◌%◌, ◌+◌, ◌*◌, ◌<◌, ◌≤◌, ◌⊎◌, ◌↔◌, All, None, Result, Ok, Err}
 use Rattle.std.specs.Borrow.{Bor}
 use Rattle.wire_codec.specs.Framing.{framing, front, id_after, max_payload, stream}
 use Rattle.wire_codec.specs.Delivery.{Ending, Splits, Delivers}
 use Rattle.wire_codec.specs.Counted.{Call, Follows, chunk_count}
-use Rattle.wire_codec.specs.Limited.{Limits, DeliversUnder}
+use Rattle.wire_codec.specs.Limited.{Limits, place_after, SplitsUnder, DeliversUnder}
 use Rattle.wire_codec.specs.LimitedRuns.{run_limits}
+use Rattle.wire_codec.specs.GoingOn.{GoesOn}
 use Rattle.wire_codec.specs.Codec.{CodecState, Stands, first_id, input_of}
-use Rattle.wire_codec.specs.Runs.{RunsTo}
+use Rattle.wire_codec.specs.Runs.{RunsTo, RunsOver}
 use Rattle.wire_codec.specs.declared.codec.error.PacketCodecError.{PacketCodecError}
 use Rattle.wire_codec.specs.declared.codec.error.PacketCodecError.TheVariants.{OutOfMemory}
 
@@ -36,6 +37,20 @@ OneLimitedDelivery =
     → DeliversUnder limits place held input open_id payloads ending unfinished rest
     → DeliversUnder limits place held input open_id others other another more
     → (payloads ≡ others) × (ending ≡ other) × (unfinished ≡ another) × (rest ≡ more)
+
+-- two runs from one state over the same bytes, none of which was refused memory, hand out the same,
+-- end in the same way and leave the same, whether packets are handed out or visited, and however
+-- much of the bytes each has appended
+abbrev pub OneRun : Type 0
+OneRun =
+    (before after other_after : CodecState) (more : List ℕ)
+    (answer other : Result (Unit {0}) PacketCodecError) (gained others : List (List ℕ))
+    (left other_left : List ℕ)
+    → answer ≢ Err OutOfMemory → other ≢ Err OutOfMemory
+    → RunsOver before more answer gained after left
+    → RunsOver before more other others other_after other_left
+    → (gained ≡ others) × (answer ≡ other) × (after.held ≡ other_after.held)
+    × (after.unread ++ left ≡ other_after.unread ++ other_left)
 
 -- where the codec stands and all limits are its own, what a stream delivers under them is what it
 -- delivers
@@ -69,6 +84,20 @@ JoinedSplits =
     → Splits unfinished (front (id_after open_id payloads) unfinished
     ++ (rest ++ more)) (id_after open_id payloads) limit others another left
     → Splits held (input ++ more) open_id limit (payloads ++ others) another left
+
+-- the same where each byte has its limit: the second run begins at the place behind the payloads of
+-- the first
+abbrev pub JoinedLimitedRuns : Type 0
+JoinedLimitedRuns =
+    (limits : Limits) (place : ℕ) (held input : List ℕ) (open_id : ℕ) (payloads : List (List ℕ))
+    (unfinished rest more : List ℕ)
+    (others : List (List ℕ)) (ending : Ending) (another left : List ℕ)
+    → SplitsUnder limits place held input open_id payloads unfinished rest
+    → DeliversUnder limits (place_after place payloads) unfinished
+    (front (id_after open_id payloads) unfinished ++ (rest ++ more))
+    (id_after open_id payloads) others ending another left
+    → DeliversUnder limits place held (input ++ more) open_id (payloads ++ others) ending another
+    left
 
 -- the same of what `deliver` says: a run that waits, or was refused memory, and the run that goes
 -- on from it are one run
@@ -148,6 +177,11 @@ BetweenPackets =
 abbrev pub NothingRead : Type 0
 NothingRead =
     (id limit : ℕ) → id < 256 → RunsTo (empty_state id limit) [] (Ok tt) [] (empty_state id limit)
+
+-- a codec with empty buffers goes on in a stream under any limits, from any place
+abbrev pub EmptyGoesOn : Type 0
+EmptyGoesOn =
+    (limits : Limits) (place id limit : ℕ) → GoesOn limits place place (empty_state id limit)
 
 -- the id that a codec expects is the number of chunks encoded and accepted since the last reset,
 -- modulo 256

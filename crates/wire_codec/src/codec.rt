@@ -1,9 +1,10 @@
 //! Packets and chunks.
 mod chunk;
 mod delivery;
+mod each;
 pub mod error;
 mod framing;
-mod header;
+pub(crate) mod header;
 mod limited;
 mod packet;
 mod room;
@@ -11,6 +12,7 @@ mod value;
 
 pub use chunk::{ChunkDecoder, ChunkInfo, PacketDst};
 pub use delivery::deliver;
+pub use each::{Visit, deliver_each};
 pub use framing::packet_to_chunks;
 pub use limited::deliver_limited;
 pub use packet::PacketCodec;

@@ -1,7 +1,7 @@
 //! Laws over the definitions that the contracts cite. Each function takes and answers nothing: its
 //! contract is the law, and a caller has it by calling.
 
-ghost use Rattle.wire_codec.specs.Laws.{AppendedRun, BetweenPackets, ChunksCounted, EncodedFirst, EqualLimits, FramedLength, IdAfterAppend, JoinedRuns, JoinedSplits, NothingRead, OneDelivery, OneLimitedDelivery, RunGoesOn, StreamAppend, UniqueFraming};
+ghost use Rattle.wire_codec.specs.Laws.{AppendedRun, BetweenPackets, ChunksCounted, EmptyGoesOn, EncodedFirst, EqualLimits, FramedLength, IdAfterAppend, JoinedLimitedRuns, JoinedRuns, JoinedSplits, NothingRead, OneDelivery, OneLimitedDelivery, OneRun, RunGoesOn, StreamAppend, UniqueFraming};
 
 /// A stream delivers one list of payloads, one unfinished payload, one rest and one ending.
 pub fn one_delivery()
@@ -11,6 +11,12 @@ pub fn one_delivery()
 /// The same where each byte has its limit.
 pub fn one_limited_delivery()
     ensures { OneLimitedDelivery }
+{}
+
+/// Runs from one state over the same bytes hand out the same packets, end in the same way and leave
+/// the same: `deliver` and `deliver_each` do, each with enough memory.
+pub fn one_run()
+    ensures { OneRun }
 {}
 
 /// Where the codec stands and all limits are its own, what a stream delivers under them is what it
@@ -24,7 +30,12 @@ pub fn joined_runs()
     ensures { JoinedRuns }
 {}
 
-/// The same of runs that need not have ended.
+/// The same where each byte has its limit.
+pub fn joined_limited_runs()
+    ensures { JoinedLimitedRuns }
+{}
+
+/// The same as `joined_runs` of runs that need not have ended.
 pub fn joined_splits()
     ensures { JoinedSplits }
 {}
@@ -71,6 +82,11 @@ pub fn between_packets()
 /// A run over no bytes, from empty buffers, waits and changes nothing.
 pub fn nothing_read()
     ensures { NothingRead }
+{}
+
+/// A codec with empty buffers goes on in a stream under any limits, from any place.
+pub fn empty_goes_on()
+    ensures { EmptyGoesOn }
 {}
 
 /// Over any list of `encode`, `decode` and `reset_seq_id` on a new codec, the id expected is the

@@ -1,9 +1,9 @@
 //! Packets from a stream whose pieces each have a limit.
 
-ghost use Rattle.std.specs.Prelude.{◌≡◌, ◌≢◌, ℕ, ◌<◌, ◌≤◌, List, ◌++◌, length, take, Err, OnOk, OnErr, IfErr};
+ghost use Rattle.std.specs.Prelude.{◌≡◌, ◌≢◌, ℕ, ◌+◌, ◌<◌, ◌≤◌, List, ◌++◌, length, take, Err, OnOk, OnErr, IfErr};
 ghost use Rattle.wire_codec.specs.Limited.{Limits, place_after};
 ghost use Rattle.wire_codec.specs.LimitedRuns.{Aligned, RunsUnder, RunsLimited, WaitsLimited, last_limit};
-ghost use Rattle.wire_codec.specs.GoingOn.{GoesOn, Remembers};
+ghost use Rattle.wire_codec.specs.GoingOn.{GoesOn, HavePieceLimits, RunsOn};
 ghost use Rattle.wire_codec.specs.Codec.{codec_state, expected_id, first_id, header_of, input_of};
 ghost use Rattle.wire_codec.specs.Runs.{payloads};
 
@@ -27,7 +27,7 @@ fn drain_on<A: Allocator + Copy>(
         × RunsUnder limits place (first_id before) (input_of before) before.held result gained
         after.id after.header after.unread after.held
         × (result ≡ Err PacketCodecError.OutOfMemory
-        → Remembers mark (place_after place gained) after.header after.unread after.held) }
+        → GoesOn limits mark (place_after place gained) after) }
     ensures limit { codec.new.max_allowed_packet ≡ codec.old.max_allowed_packet }
 {
     'packets: loop {
@@ -84,6 +84,14 @@ pub fn deliver_limited<A: Allocator + Copy>(
         let after = codec_state codec.new src.new.items dst.new.items in
         (gained : List (List ℕ)) × (payloads out.new.items ≡ payloads out.old.items ++ gained)
         × RunsLimited before pieces.now result.0 result.1 gained after }
+
+    // The same in the middle of a stream, of which each byte has its limit.
+    ensures on { let before = codec_state codec.old src.old.items dst.old.items in
+        let after = codec_state codec.new src.new.items dst.new.items in
+        (limits : Limits) (mark place : ℕ) → GoesOn limits mark place before
+        → HavePieceLimits limits (place + length (input_of before)) pieces.now
+        → (gained : List (List ℕ)) × (payloads out.new.items ≡ payloads out.old.items ++ gained)
+        × RunsOn limits place before pieces.now result.0 result.1 gained after }
 
     // So many pieces were appended, and with fewer of them the run only waits.
     ensures count { result.0 ≤ length pieces.now }

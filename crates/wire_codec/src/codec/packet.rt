@@ -93,6 +93,7 @@ impl PacketCodec {
     /// left in `src`. `PacketsOutOfSync`: the chunk in front bore another id. It was taken, and its
     /// bytes stand in `dst`. `OutOfMemory`: `dst` could not grow. Nothing is lost, and the call may
     /// be made again.
+    #[inline(always)]
     pub fn decode<T: PacketDst>(
         &mut self,
         src: &mut BytesMut<impl Allocator + Copy>,
@@ -197,6 +198,7 @@ impl PacketCodec {
     ghost use Rattle.wire_codec.specs.OneChunk.{DecodesChunk};
 
     // Takes one chunk.
+    #[inline(always)]
     fn take_chunk<T: PacketDst>(
         &mut self,
         src: &mut BytesMut<impl Allocator + Copy>,
@@ -243,6 +245,7 @@ impl PacketCodec {
 
     // Takes room in `dst` for all bytes that one call takes. Where there is none, the chunk in
     // front is remembered.
+    #[inline(always)]
     fn make_room<T: PacketDst>(
         &mut self,
         src: &BytesMut<impl Allocator + Copy>,
@@ -284,6 +287,7 @@ impl PacketCodec {
     }
 
     // `decode`, and what it makes of a run whose bytes came under different limits.
+    #[inline(always)]
     pub(crate) fn decode_on<T: PacketDst>(
         &mut self,
         src: &mut BytesMut<impl Allocator + Copy>,
@@ -308,6 +312,7 @@ impl PacketCodec {
     }
 
     // The chunks of one call, one after another.
+    #[inline(always)]
     fn take_chunks<T: PacketDst>(
         &mut self,
         src: &mut BytesMut<impl Allocator + Copy>,

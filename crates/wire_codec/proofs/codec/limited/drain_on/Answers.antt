@@ -9,7 +9,7 @@ use Rattle.wire_codec.proofs.CodecLemmas.{open_small}
 use Rattle.wire_codec.proofs.RunLemmas.{next_open}
 use Rattle.wire_codec.proofs.LimitedLemmas.{place_after-append}
 use Rattle.wire_codec.proofs.GoingOnLemmas.{splits_here_under}
-use Rattle.wire_codec.proofs.LimitedRunLemmas.{splits_push_under, goes_on_pushed, was_allowed, remembers_on, runs_stop_under, runs_wait_under}
+use Rattle.wire_codec.proofs.LimitedRunLemmas.{splits_push_under, goes_on_pushed, was_allowed, stays_on, runs_stop_under, runs_wait_under}
 use Rattle.wire_codec.proofs.codec.limited.drain_on.Goals as goal
 
 -- what a decode does, under the run's open id
@@ -39,7 +39,7 @@ returns-then-is_err-clause-on g c limits mark place at =
       inv.0,
       ap payloads c.reserve.ensures.items ∙ inv.1,
       (inv.2, inv.4, inv.3.aligned, was_allowed limits mark (place_after place inv.0) _ (header_of c.packets.codec) c.packets.src.items c.packets.dst.items inv.3),
-      λ e. remembers_on limits mark (place_after place inv.0) _ (header_of c.packets.codec) c.packets.src.items c.packets.dst.items inv.3,
+      λ e. subst (λ (z : ℕ). GoesOnAt limits mark (place_after place inv.0) z (header_of c.packets.codec) c.packets.src.items c.packets.dst.items) (sym c.packets.invariant.same) inv.3,
     )
 
 pub packets-preserved : goal.packets-preserved
@@ -122,5 +122,6 @@ returns-in-Err-clause-on g c limits mark place at =
       gained,
       ap payloads c.reserve.ensures.items ∙ inv.1,
       stop.0,
-      λ e. stop.1 cc,
+      λ e. subst (λ (z : ℕ). GoesOnAt limits mark (place_after place gained) z header rest packet) (sym c.decode_on.ensures.limit)
+          (stays_on c.in-Err.error limits mark (place_after place gained) c.packets.codec.max_allowed_packet (id_after first gained) (header_of c.packets.codec) held src id header rest packet here known cc),
     )

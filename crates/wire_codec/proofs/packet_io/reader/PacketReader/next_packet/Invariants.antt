@@ -1,4 +1,4 @@
-use Rattle.std.proofs.Common.{◌≡◌, ℕ, ◌+◌, ◌-◌, ◌*◌, ◌/◌, ◌<◌, ◌≤◌, List, [], ◌++◌, length, take, All, false}
+use Rattle.std.proofs.Common.{◌≡◌, ℕ, ◌+◌, ◌-◌, ◌*◌, ◌/◌, ◌<◌, ◌≤◌, List, [], ◌++◌, length, take, All, IsNone, false}
 use Rattle.std.specs.Io.KnownBytes.{Consumes}
 use Rattle.wire_codec.specs.Framing.{max_payload}
 use Rattle.wire_codec.specs.Delivery.{Splits}
@@ -13,6 +13,7 @@ invariant-reads g l =
     record {
       same : l.codec.max_allowed_packet ≡ limit;
       found : l.self.lost ≡ false;
+      collected : IsNone l.self.collected;
       so_far : (reads : List (List ℕ)) × Consumes (g.R.Read.remaining l.fn.self.reader) (g.R.Read.remaining l.self.reader) (joined_reads reads)
           × Splits before.held (input_of before ++ joined_reads reads) (first_id before) limit [] l.self.dst.items l.self.src.items
           × StandsAt limit (header_of l.codec) l.self.src.items l.self.dst.items

@@ -1,0 +1,80 @@
+-- Packets that are visited, one after another.
+use Rattle.std.proofs.Common.{◌≡◌, ℕ, List, [], ◌∷◌, ◌++◌, ◌+◌, ◌≢◌, take, drop, refl, sym, ap, ap₂, ◌∙◌, subst, Result, Ok, Err, Bool, Option}
+use Rattle.std.specs.List.{FoldsTo}
+use Rattle.wire_codec.specs.declared.codec.error.PacketCodecError.{PacketCodecError}
+use Rattle.wire_codec.specs.declared.codec.error.PacketCodecError.TheVariants.{PacketTooLarge, PacketsOutOfSync, OutOfMemory, Io}
+use Rattle.wire_codec.specs.Framing.{front}
+use Rattle.wire_codec.specs.Delivery.{chunk_len, Ending, Waiting, TooLarge, OutOfSync, Delivers}
+use Rattle.wire_codec.specs.Runs.{LeavesFrom, RunsOver}
+use Rattle.wire_codec.proofs.DeliveryLemmas.{one_delivery_is}
+use Rattle.wire_codec.specs.Codec.{CodecState, first_id, input_of, DecodesFrom}
+use Rattle.wire_codec.specs.Visits.{VisitsPacket}
+
+-- steps, and more steps
+pub FoldsTo-append : {P A : Type 0} (R : P → A → P → Type 0) (p : P) (xs : List A) (q : P) (ys : List A) (r : P) → FoldsTo R p xs q → FoldsTo R q ys r
+    → FoldsTo R p (xs ++ ys) r
+FoldsTo-append R p [] q ys r e more = subst (λ z. FoldsTo R z ys r) (sym e) more
+FoldsTo-append R p (x ∷ xs) q ys r (j, step, rest) more = (j, step, FoldsTo-append R j xs q ys r rest more)
+
+-- what a decode does, under the run's open id and limit
+pub moved : (answer : Result Bool PacketCodecError) (opened first now limit : ℕ) (held src : List ℕ) (id : ℕ) (header : Option (ℕ × ℕ)) (rest dst : List ℕ)
+    → opened ≡ first → now ≡ limit
+    → DecodesFrom opened (front opened held ++ src) held now answer id header rest dst
+    → DecodesFrom first (front first held ++ src) held limit answer id header rest dst
+moved answer opened first now limit held src id header rest dst o n t =
+    subst (λ (z : ℕ). DecodesFrom first (front first held ++ src) held z answer id header rest dst) n
+    (subst (λ (z : ℕ). DecodesFrom z (front z held ++ src) held now answer id header rest dst) o t)
+
+-- what a visit does, by its answer
+pub visited : {V : Type 0} (sees : V → List ℕ → V → Type 0) (answer other : Bool) (old new : V) (before after : CodecState) → answer ≡ other
+    → VisitsPacket sees before (Ok answer) old new after → VisitsPacket sees before (Ok other) old new after
+visited sees answer other old new before after same t = subst (λ (b : Bool). VisitsPacket sees before (Ok b) old new after) same t
+
+-- how a run ends, and what it leaves, by how its delivery ends
+abbrev answer_of : Ending → Result (Unit {0}) PacketCodecError
+answer_of Waiting = Ok tt
+answer_of TooLarge = Err PacketTooLarge
+answer_of OutOfSync = Err PacketsOutOfSync
+
+abbrev held_of : Ending → List ℕ → List ℕ → List ℕ
+held_of Waiting unfinished rest = unfinished
+held_of TooLarge unfinished rest = unfinished
+held_of OutOfSync unfinished rest = unfinished ++ take (chunk_len rest) (drop 4 rest)
+
+abbrev left_of : Ending → List ℕ → List ℕ
+left_of Waiting rest = rest
+left_of TooLarge rest = rest
+left_of OutOfSync rest = drop (4 + chunk_len rest) rest
+
+record Delivered (held input : List ℕ) (first limit : ℕ) (answer : Result (Unit {0}) PacketCodecError) (gained : List (List ℕ)) (dst left : List ℕ) : Type 0 where
+  ending : Ending
+  unfinished : List ℕ
+  rest : List ℕ
+  delivers : Delivers held input first limit gained ending unfinished rest
+  answered : answer ≡ answer_of ending
+  kept : dst ≡ held_of ending unfinished rest
+  goes : left ≡ left_of ending rest
+
+delivered : (answer : Result (Unit {0}) PacketCodecError) (held input : List ℕ) (first limit : ℕ) (gained : List (List ℕ)) (src left dst : List ℕ) → answer ≢ Err OutOfMemory
+    → LeavesFrom first input held limit answer gained src left dst → Delivered held input first limit answer gained dst (src ++ left)
+delivered (Ok tt) held input first limit gained src left dst some d = record { ending = Waiting; unfinished = dst; rest = src ++ left; delivers = d; answered = refl; kept = refl; goes = refl }
+delivered (Err PacketTooLarge) held input first limit gained src left dst some d = record { ending = TooLarge; unfinished = dst; rest = src ++ left; delivers = d; answered = refl; kept = refl; goes = refl }
+delivered (Err PacketsOutOfSync) held input first limit gained src left dst some (unfinished, rest, d, kept, goes) =
+    record { ending = OutOfSync; unfinished = unfinished; rest = rest; delivers = d; answered = refl; kept = kept; goes = goes }
+delivered (Err OutOfMemory) held input first limit gained src left dst some d = absurd (some refl)
+delivered (Err (Io error)) held input first limit gained src left dst some d = absurd d
+
+-- runs from one state over the same bytes are one run
+pub one_run_is : (before after other_after : CodecState) (more : List ℕ) (answer other : Result (Unit {0}) PacketCodecError) (gained others : List (List ℕ)) (left other_left : List ℕ)
+    → answer ≢ Err OutOfMemory → other ≢ Err OutOfMemory
+    → RunsOver before more answer gained after left → RunsOver before more other others other_after other_left
+    → (gained ≡ others) × (answer ≡ other) × (after.held ≡ other_after.held) × (after.unread ++ left ≡ other_after.unread ++ other_left)
+one_run_is before after other_after more answer other gained others left other_left some some_other run other_run =
+    let a = delivered answer before.held (input_of before ++ more) (first_id before) before.limit gained after.unread left after.held some run in
+    let b = delivered other before.held (input_of before ++ more) (first_id before) before.limit others other_after.unread other_left other_after.held some_other other_run in
+    let one = one_delivery_is before.held (input_of before ++ more) (first_id before) before.limit gained others a.ending b.ending a.unfinished b.unfinished a.rest b.rest a.delivers b.delivers in (
+      one.0,
+      a.answered ∙ ap (λ z. answer_of z) one.1 ∙ sym b.answered,
+      a.kept ∙ ap (λ z. held_of z a.unfinished a.rest) one.1 ∙ ap₂ (λ u v. held_of b.ending u v) one.2 one.3 ∙ sym b.kept,
+      a.goes ∙ ap (λ z. left_of z a.rest) one.1 ∙ ap (λ z. left_of b.ending z) one.3 ∙ sym b.goes,
+    )

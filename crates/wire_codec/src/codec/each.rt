@@ -1,0 +1,125 @@
+//! Packets from a stream that comes in pieces, each visited where it lies.
+
+ghost use Rattle.std.specs.Prelude.{◌≡◌, ◌≢◌, ℕ, ◌<◌, ◌≤◌, List, length, take, drop, Ok, Err, OnOk, true};
+ghost use Rattle.std.specs.List.{FoldsTo};
+ghost use Rattle.wire_codec.specs.Codec.{codec_state, first_id, input_of, Stands};
+ghost use Rattle.wire_codec.specs.Runs.{joined, RunsFrom, RunsTo, RunsOver, Waits};
+ghost use Rattle.wire_codec.specs.Visits.{VisitsPacket};
+
+use crate::codec::error::PacketCodecError;
+use crate::codec::packet::PacketCodec;
+use bytes::BytesMut;
+use std::alloc::Allocator;
+
+/// What is done with each packet.
+pub trait Visit {
+    // What a visit of these bytes makes of the visitor.
+    ghost sees: { Self → List ℕ → Self → Type 0 };
+
+    /// Visits a packet.
+    fn visit(&mut self, packet: &[u8])
+        ensures { sees self.old packet.now self.new };
+}
+
+// Visits the next packet, where it lies or else in `dst`. False where more bytes are needed.
+fn visit_packet<A: Allocator + Copy, V: Visit>(
+    codec: &mut PacketCodec,
+    src: &mut BytesMut<A>,
+    dst: &mut Vec<u8, A>,
+    visitor: &mut V,
+) -> Result<bool, PacketCodecError>
+    requires { Stands (codec_state codec.old src.old.items dst.old.items) }
+    ensures visits { VisitsPacket V.sees (codec_state codec.old src.old.items dst.old.items)
+        result visitor.old visitor.new (codec_state codec.new src.new.items dst.new.items) }
+    ensures shorter { result ≡ Ok true → length src.new.items < length src.old.items }
+    ensures limit { codec.new.max_allowed_packet ≡ codec.old.max_allowed_packet }
+{
+    if let Some(packet) = codec.front_packet(src, dst.as_slice()) {
+        visitor.visit(packet);
+        codec.take_front(src);
+        return Ok(true);
+    }
+    match codec.decode(src, dst) {
+        Ok(true) => {
+            visitor.visit(dst.as_slice());
+            dst.clear();
+            Ok(true)
+        }
+        other => other,
+    }
+}
+
+// Visits packets until more bytes are needed.
+fn visit_all<A: Allocator + Copy, V: Visit>(
+    codec: &mut PacketCodec,
+    src: &mut BytesMut<A>,
+    dst: &mut Vec<u8, A>,
+    visitor: &mut V,
+) -> Result<(), PacketCodecError>
+    requires { Stands (codec_state codec.old src.old.items dst.old.items) }
+    ensures runs { let before = codec_state codec.old src.old.items dst.old.items in
+        let after = codec_state codec.new src.new.items dst.new.items in
+        (gained : List (List ℕ)) × FoldsTo V.sees visitor.old gained visitor.new
+        × RunsFrom (first_id before) (input_of before) before.held before.limit result gained
+        after.id after.header after.unread after.held }
+    ensures limit { codec.new.max_allowed_packet ≡ codec.old.max_allowed_packet }
+{
+    'packets: loop {
+        match visit_packet(codec, src, dst, visitor) {
+            Ok(true) => {}
+            Ok(false) => return Ok(()),
+            Err(error) => return Err(error),
+        }
+    }
+}
+
+/// As `deliver`, and each packet is visited in place of being handed out: where it lies in `src`,
+/// without a copy, where it has come whole in one chunk, and in `dst` where it hasn't. The answers
+/// and what stands afterwards are those of `deliver`; what was visited is what `deliver` hands out.
+///
+/// It asks that the codec stands at the buffers; `stands_at` is the test. Memory is asked for where
+/// a piece is appended to `src`, and for a packet of several chunks.
+pub fn deliver_each<A: Allocator + Copy, V: Visit>(
+    codec: &mut PacketCodec,
+    src: &mut BytesMut<A>,
+    dst: &mut Vec<u8, A>,
+    pieces: &[&[u8]],
+    visitor: &mut V,
+) -> (usize, Result<(), PacketCodecError>)
+    requires { Stands (codec_state codec.old src.old.items dst.old.items) }
+    // One visit after another, of the packets of the delivery.
+    ensures runs { let before = codec_state codec.old src.old.items dst.old.items in
+        let after = codec_state codec.new src.new.items dst.new.items in
+        (gained : List (List ℕ)) × FoldsTo V.sees visitor.old gained visitor.new
+        × RunsTo before (joined (take result.0 pieces.now)) result.1 gained after
+        × RunsOver before (joined pieces.now) result.1 gained after
+        (joined (drop result.0 pieces.now)) }
+
+    // So many pieces were appended, and with fewer of them the run only waits.
+    ensures count { result.0 ≤ length pieces.now }
+    ensures least { let before = codec_state codec.old src.old.items dst.old.items in
+        (j : ℕ) → j < result.0 → Waits before (joined (take j pieces.now)) }
+    ensures all { OnOk result.1 (result.0 ≡ length pieces.now) }
+
+    ensures stands { result.1 ≢ Err PacketCodecError.PacketsOutOfSync
+        → Stands (codec_state codec.new src.new.items dst.new.items) }
+    ensures limit { codec.new.max_allowed_packet ≡ codec.old.max_allowed_packet }
+{
+    match visit_all(codec, src, dst, visitor) {
+        Ok(()) => {}
+        Err(error) => return (0, Err(error)),
+    }
+    let mut count = 0;
+    for piece in pieces {
+        match src.extend_from_slice(piece) {
+            Ok(()) => {}
+            Err(_) => return (count, Err(PacketCodecError::OutOfMemory)),
+        }
+        count += 1;
+        match visit_all(codec, src, dst, visitor) {
+            Ok(()) => {}
+            Err(error) => return (count, Err(error)),
+        }
+    }
+    (count, Ok(()))
+}
