@@ -6,7 +6,7 @@ set -u
 folder=$(cd "$(dirname "$0")/.." && pwd)/crates/mysql_wire_tool
 program=$folder/out/mysql_wire_tool
 [ -x "$program" ] || (cd "$folder" && rt run -- chunk < /dev/null > /dev/null 2>&1)
-usage='usage: mysql_wire_tool frame ID | chunk | unframe STEP LIMIT | reframe LIMIT'
+usage='usage: mysql_wire_tool frame ID | chunk | unframe STEP LIMIT [LATER AT] | reframe LIMIT'
 passed=0
 failed=0
 errors=$(mktemp)
@@ -39,11 +39,14 @@ want 1 '' "$usage" '123' frame
 want 1 '' "$usage" '123' frame 256
 want 1 '' "$usage" '123' chunk chunk
 want 1 '' "$usage" '123' unframe 0 1
+want 1 '' "$usage" '123' unframe 1 1 1
 want 1 '' "$usage" '123' reframe
 want 3 "none${line}rest 3${line}" '' '\2\0\0' chunk
 want 3 "1 61${line}rest 2${line}" '' '\1\0\0\0a\2\0' unframe 3 10
 want 4 "too large${line}" '' '\1\0\0\0' unframe 9 0
 want 5 "1 61${line}out of sync${line}" '' '\1\0\0\0a\1\0\0\5b' unframe 1 10
+want 0 "1 61${line}2 6263${line}rest 0${line}" '' '\1\0\0\0a\2\0\0\1bc' unframe 3 1 5 8
+want 4 "1 61${line}too large${line}" '' '\1\0\0\0a\2\0\0\1bc' unframe 3 1 5 9
 
 # A full device, and an input that is a folder or closed.
 judge 2 '' 'input or output failed' "$("$program" frame 0 2> "$errors" < /dev/null > /dev/full; echo "status $?")" 'frame 0 > /dev/full'

@@ -10,17 +10,18 @@ use std::test::Fail;
 use test_support::facts::no_row;
 use test_support::fixture::Heap;
 
-// Gives one byte a read, and fails at the read of this number, counted from 0.
+// Gives one byte a read, and fails so at the read of this number, counted from 0.
 #[derive(Drop)]
 struct OneByOne<'a> {
     bytes: &'a [u8],
     until_fault: usize,
+    kind: ErrorKind,
 }
 
 impl Read for OneByOne<'_> {
     fn read(&mut self, buf: &mut [u8]) -> io::Result<usize> {
         if self.until_fault == 0 {
-            return Err(io::Error::from(ErrorKind::Other));
+            return Err(io::Error::from(self.kind));
         }
         self.until_fault -= 1;
         if buf.is_empty() {
@@ -37,16 +38,35 @@ impl Read for OneByOne<'_> {
     }
 }
 
-// Takes this many bytes in all, and then none. A flush succeeds or fails as told.
-#[derive(Drop)]
+// Takes so many bytes a write, and this many in all; then it takes none, or fails. The first write
+// may be interrupted. A flush succeeds or fails as told.
+#[derive(Clone, Copy)]
 struct Narrow {
+    at_once: usize,
     room: usize,
+    fails: bool,
+    interrupts: bool,
     flushes: bool,
 }
 
+const WIDE: Narrow = Narrow {
+    at_once: 99,
+    room: 99,
+    fails: false,
+    interrupts: false,
+    flushes: true,
+};
+
 impl Write for Narrow {
     fn write(&mut self, buf: &[u8]) -> io::Result<usize> {
-        let count = buf.len().min(self.room);
+        if self.interrupts {
+            self.interrupts = false;
+            return Err(io::Error::from(ErrorKind::Interrupted));
+        }
+        if self.fails & (self.room == 0) {
+            return Err(io::Error::from(ErrorKind::Other));
+        }
+        let count = buf.len().min(self.at_once).min(self.room);
         self.room -= count;
         Ok(count)
     }
@@ -60,19 +80,26 @@ impl Write for Narrow {
     }
 }
 
-// Gives what a read asks for, and notes the least and the most that was asked for.
+// Gives what a read asks for, and notes the least and the most that was asked for, and whether a
+// read from before a place was asked for bytes behind it.
 #[derive(Drop)]
 struct Noting<'a> {
     bytes: &'a [u8],
     least: usize,
     most: usize,
+    // How many bytes are left up to that place.
+    ahead: usize,
+    passed: bool,
 }
 
 impl Read for Noting<'_> {
     fn read(&mut self, buf: &mut [u8]) -> io::Result<usize> {
         self.least = self.least.min(buf.len());
         self.most = self.most.max(buf.len());
-        self.bytes.read(buf)
+        self.passed |= (self.ahead > 0) & (buf.len() > self.ahead);
+        let count = self.bytes.read(buf)?;
+        self.ahead = self.ahead.saturating_sub(count);
+        Ok(count)
     }
 }
 
@@ -115,6 +142,20 @@ const FAULTS: &[Reads] = &[
         4,
         b"1 61\ntoo large\n",
     ),
+    (
+        &["unframe", "1", "1", "5", "9"],
+        b"\x01\0\0\0a\x02\0\0\x01",
+        9,
+        4,
+        b"1 61\ntoo large\n",
+    ),
+    (
+        &["unframe", "9", "1", "5", "8"],
+        b"\x01\0\0\0a\x02\0\0\x01bc",
+        12,
+        0,
+        b"1 61\n2 6263\nrest 0\n",
+    ),
 ];
 
 // Each packet is written as soon as it is whole.
@@ -133,7 +174,17 @@ const PACKETS: &[Reads] = &[
 // text, and as long as `most` at most.
 fn is_read(alloc: Global, heap: &Heap, row: &Reads<'_>, until_fault: usize, most: usize) -> bool {
     let (words, bytes, reads, wanted, text) = *row;
-    let mut input = OneByOne { bytes, until_fault };
+    // An interrupted read is a failed one.
+    let kind = if until_fault % 2 == 0 {
+        ErrorKind::Other
+    } else {
+        ErrorKind::Interrupted
+    };
+    let mut input = OneByOne {
+        bytes,
+        until_fault,
+        kind,
+    };
     let mut output = Vec::new(alloc);
     let status = run(heap, NEVER, words, &mut input, &mut output);
     let is_front = text.starts_with(output.as_slice());
@@ -180,27 +231,59 @@ const WRITES: &[Writes] = &[
     (&["frame", "0"], b"\x03\0\0\0123", 11),
     (&["chunk"], b"\x03\0\0\0123", 23),
     (&["unframe", "2", "3"], b"\x03\0\0\0123", 16),
+    (&["unframe", "2", "0", "3", "3"], b"\x03\0\0\0123", 16),
     (&["frame", "0"], b"123", 7),
     (&["chunk"], b"", 12),
     (&["reframe", "3"], b"\x03\0\0\0123", 7),
 ];
 
-fn status_in(heap: &Heap, row: &Writes<'_>, room: usize, flushes: bool) -> u8 {
+fn status_in(heap: &Heap, row: &Writes<'_>, output: Narrow) -> u8 {
     let (words, input, _) = *row;
     let mut input = input;
-    let mut output = Narrow { room, flushes };
+    let mut output = output;
     run(heap, NEVER, words, &mut input, &mut output)
+}
+
+// Whether a row's writes fail where there is too little room, however few bytes a write takes.
+fn fill(heap: &Heap, row: &Writes<'_>, at_once: usize, fails: bool) -> bool {
+    let mut all = true;
+    for room in 0..30usize {
+        let wanted = if room < row.2 { 2 } else { 0 };
+        let output = Narrow {
+            at_once,
+            room,
+            fails,
+            ..WIDE
+        };
+        all &= status_in(heap, row, output) == wanted;
+    }
+    all
+}
+
+// Whether a write that is interrupted is made again, but by `reframe`, and a flush that fails is a
+// fault.
+fn is_flushed(heap: &Heap, row: &Writes<'_>) -> bool {
+    let mut output = WIDE;
+    output.flushes = false;
+    let fails = status_in(heap, row, output) == 2;
+    output = WIDE;
+    output.interrupts = true;
+    let wanted = if row.0.first() == Some(&"reframe") {
+        2
+    } else {
+        0
+    };
+    fails & (status_in(heap, row, output) == wanted)
 }
 
 #[test]
 fn each_write_and_the_flush_fail_in_turn(rt: HostRuntime) -> Result<(), Fail> {
     let heap = Refusing::new(rt.alloc(), NEVER);
     let mut wrong = None;
-    for i in 0..WRITES.len() {
-        let mut is_right = status_in(&heap, &WRITES[i], 99, false) == 2;
-        for room in 0..30usize {
-            let wanted = if room < WRITES[i].2 { 2 } else { 0 };
-            is_right &= status_in(&heap, &WRITES[i], room, true) == wanted;
+    for (i, row) in WRITES.iter().enumerate() {
+        let mut is_right = is_flushed(&heap, row);
+        for (at_once, fails) in [(99, false), (99, true), (1, false), (1, true)] {
+            is_right &= fill(&heap, row, at_once, fails);
         }
         if !is_right {
             wrong = Some(i);
@@ -217,6 +300,7 @@ const REQUESTS: &[(&[&str], u64)] = &[
     (&["chunk"], 3),
     // The pieces, what is unread, each packet, the list of packets, and each text.
     (&["unframe", "2", "3"], 6),
+    (&["unframe", "2", "0", "3", "3"], 6),
     // Room for a read, the packet, and its framing.
     (&["reframe", "3"], 3),
 ];
@@ -267,6 +351,8 @@ fn asked(alloc: Global, heap: &Heap, step: &str) -> (usize, usize, u8) {
         bytes: b"\x03\0\0\0123\0\0\0\x01",
         least: usize::MAX,
         most: 0,
+        ahead: 0,
+        passed: false,
     };
     let mut output: Vec<u8> = Vec::new(alloc);
     let status = run(
@@ -287,6 +373,51 @@ fn unframe_asks_each_read_for_its_step(rt: HostRuntime) -> Result<(), Fail> {
         let (word, step) = STEPS[i];
         if asked(rt.alloc(), &heap, word) != (step, step, 0) {
             wrong = Some(i);
+        }
+    }
+    no_row(wrong)
+}
+
+// The words for places in the input and behind it, and these places.
+const PLACES: &[(&str, usize)] = &[
+    ("0", 0),
+    ("1", 1),
+    ("5", 5),
+    ("8", 8),
+    ("11", 11),
+    ("12", 12),
+    ("4294967295", 4294967295),
+];
+
+// Whether no read from before this place is asked for bytes behind it, and the others for the step.
+fn stops_at(alloc: Global, heap: &Heap, place: &(&str, usize), step: &(&str, usize)) -> bool {
+    let mut input = Noting {
+        bytes: b"\x03\0\0\0123\0\0\0\x01",
+        least: usize::MAX,
+        most: 0,
+        ahead: place.1,
+        passed: false,
+    };
+    let mut output: Vec<u8> = Vec::new(alloc);
+    let words = ["unframe", step.0, "9", "9", place.0];
+    let status = run(heap, NEVER, &words, &mut input, &mut output);
+    let most = if place.1 > 11 {
+        place.1.min(step.1)
+    } else {
+        step.1
+    };
+    (status == 0) & !input.passed & (input.most == most)
+}
+
+#[test]
+fn no_read_passes_the_place_where_the_limit_changes(rt: HostRuntime) -> Result<(), Fail> {
+    let heap = Refusing::new(rt.alloc(), NEVER);
+    let mut wrong = None;
+    for i in 0..PLACES.len() {
+        for j in 0..STEPS.len() {
+            if !stops_at(rt.alloc(), &heap, &PLACES[i], &STEPS[j]) {
+                wrong = Some(i);
+            }
         }
     }
     no_row(wrong)

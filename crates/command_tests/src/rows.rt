@@ -3,7 +3,7 @@
 ghost use Rattle.std.specs.Prelude.{◌<◌};
 
 use crate::run::run;
-use mysql_wire_commands::unframe::run_unframe;
+use mysql_wire_commands::unframe::{run_unframe, run_unframe_limited};
 use refusing::{NEVER, Refusing};
 use std::alloc::Global;
 use std::test::Fail;
@@ -61,6 +61,36 @@ const UNFRAME: &[Row] = &[
     ),
     (&["unframe", "65536", "4294967295"], b"", 0, b"rest 0\n"),
     (&["unframe", "3", "1"], b"\x01\0\0\0a", 0, b"1 61\nrest 0\n"),
+    (
+        &["unframe", "3", "1", "5", "8"],
+        b"\x01\0\0\0a\x02\0\0\x01bc",
+        0,
+        b"1 61\n2 6263\nrest 0\n",
+    ),
+    (
+        &["unframe", "3", "1", "5", "9"],
+        b"\x01\0\0\0a\x02\0\0\x01bc",
+        4,
+        b"1 61\ntoo large\n",
+    ),
+    (
+        &["unframe", "1", "5", "0", "4"],
+        b"\x02\0\0\0ab\0\0\0\x01\x01\0\0\x02c",
+        4,
+        b"2 6162\n0 -\ntoo large\n",
+    ),
+    (
+        &["unframe", "65536", "0", "4294967295", "0"],
+        b"\x01\0\0\0a",
+        0,
+        b"1 61\nrest 0\n",
+    ),
+    (
+        &["unframe", "1", "1", "0", "4294967295"],
+        b"\x01\0\0\0a",
+        0,
+        b"1 61\nrest 0\n",
+    ),
 ];
 
 const REFRAME: &[Row] = &[
@@ -105,6 +135,14 @@ const OTHER_WORDS: &[&[&str]] = &[
     &["unframe", "1", "-1"],
     &["unframe", "1"],
     &["unframe", "1", "1", "1"],
+    &["unframe", "0", "1", "1", "1"],
+    &["unframe", "65537", "1", "1", "1"],
+    &["unframe", "1", "4294967296", "1", "1"],
+    &["unframe", "1", "1", "4294967296", "1"],
+    &["unframe", "1", "1", "1", "4294967296"],
+    &["unframe", "1", "1", "-1", "1"],
+    &["unframe", "1", "1", "1", "x"],
+    &["unframe", "1", "1", "1", "1", "1"],
     &["reframe"],
     &["reframe", "4294967296"],
     &["reframe", "1", "1"],
@@ -198,6 +236,68 @@ fn unframe_writes_the_same_however_it_reads(rt: HostRuntime) -> Result<(), Fail>
     for i in 0..STREAMS.len() {
         for step in 1..16usize {
             if !is_same(rt.alloc(), &STREAMS[i], step) {
+                wrong = Some(i);
+            }
+        }
+    }
+    no_row(wrong)
+}
+
+// The limit, the later limit and the place from which on it holds, the input, and the status and
+// the text, whatever the step is.
+type Changing<'a> = (usize, usize, usize, &'a [u8], u8, &'a [u8]);
+
+// One chunk of two bytes, and behind it one of one byte.
+const TWO: &[u8] = b"\x02\0\0\0ab\x01\0\0\x01c";
+
+const CHANGING: &[Changing] = &[
+    // From the first byte on, and from one behind the end.
+    (0, 2, 0, TWO, 0, b"2 6162\n1 63\nrest 0\n"),
+    (2, 0, 11, TWO, 0, b"2 6162\n1 63\nrest 0\n"),
+    (2, 0, 4294967295, TWO, 0, b"2 6162\n1 63\nrest 0\n"),
+    // From the fourth byte of a header on, and from the byte behind it.
+    (0, 2, 3, TWO, 0, b"2 6162\n1 63\nrest 0\n"),
+    (0, 2, 4, TWO, 4, b"too large\n"),
+    (2, 0, 3, TWO, 4, b"too large\n"),
+    (2, 0, 4, TWO, 4, b"2 6162\ntoo large\n"),
+    (2, 0, 9, TWO, 4, b"2 6162\ntoo large\n"),
+    (2, 0, 10, TWO, 0, b"2 6162\n1 63\nrest 0\n"),
+    // The ends behind a change.
+    (
+        2,
+        1,
+        6,
+        b"\x02\0\0\0ab\x01\0\0\x05c",
+        5,
+        b"2 6162\nout of sync\n",
+    ),
+    (2, 1, 6, b"\x02\0\0\0ab\x01\0\0\x01", 3, b"2 6162\nrest 4\n"),
+    (
+        2,
+        1,
+        6,
+        b"\x02\0\0\0ab\x02\0\0\x01",
+        4,
+        b"2 6162\ntoo large\n",
+    ),
+];
+
+fn is_same_changing(alloc: Global, row: &Changing<'_>, step: usize) -> bool
+    requires { 0 < step }
+{
+    let (limit, later, at, input, wanted, text) = *row;
+    let mut input = input;
+    let mut output = Vec::new(alloc);
+    let status = run_unframe_limited(alloc, step, limit, later, at, &mut input, &mut output);
+    (status == wanted) & (output.as_slice() == text)
+}
+
+#[test]
+fn a_limit_changes_at_its_place_however_unframe_reads(rt: HostRuntime) -> Result<(), Fail> {
+    let mut wrong = None;
+    for i in 0..CHANGING.len() {
+        for step in 1..16usize {
+            if !is_same_changing(rt.alloc(), &CHANGING[i], step) {
                 wrong = Some(i);
             }
         }

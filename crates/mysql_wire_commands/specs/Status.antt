@@ -9,10 +9,15 @@ exit_status_of (Ok status) = status
 exit_status_of (Err Io) = 2
 exit_status_of (Err Memory) = 6
 
+-- the commands, in one line
+abbrev pub usage : List ℕ
+usage = codes
+    "usage: mysql_wire_tool frame ID | chunk | unframe STEP LIMIT [LATER AT] | reframe LIMIT"
+
 -- the words on standard error
 abbrev pub fault_line : ℕ → List ℕ
 fault_line status =
-    if status == 1 then codes "usage: mysql_wire_tool frame ID | chunk | unframe STEP LIMIT | reframe LIMIT"
+    if status == 1 then usage
     else if status == 2 then codes "input or output failed"
     else if status == 6 then codes "out of memory"
     else []

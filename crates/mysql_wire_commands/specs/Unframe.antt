@@ -1,12 +1,13 @@
 -- What `unframe` writes.
 use Rattle.std.specs.Io.KnownBytes.{Appends, Consumes, IsAtEnd}
 use Rattle.std.specs.List.{flat_map}
-use Rattle.std.specs.Prelude.{◌≡◌, ◌==◌, ◌⊎◌, ◌+◌, ◌*◌, ◌/◌, ℕ, List, [], ◌++◌, length, if◌then◌else◌, codes, Option, None, Ok, Err}
-use Rattle.mysql_wire.specs.PacketCodecError.TheVariants.{PacketTooLarge, PacketsOutOfSync}
+use Rattle.std.specs.Prelude.{◌≡◌, ◌==◌, ◌⊎◌, ◌+◌, ◌*◌, ◌/◌, ◌<◌, ◌≤◌, nat_lt, ℕ, List, [], ◌++◌, length, take, if◌then◌else◌, codes, Option, Some, None}
 use Rattle.mysql_wire.specs.Framing.{front, id_after, max_payload}
-use Rattle.mysql_wire.specs.Delivery.{Ending, Waiting, TooLarge, OutOfSync, Delivers}
-use Rattle.mysql_wire.specs.Codec.{CodecState, codec_state, expected_id, first_id, header_of, Stands}
-use Rattle.mysql_wire.specs.Runs.{RunsTo, RunsOver}
+use Rattle.mysql_wire.specs.Delivery.{Ending, Waiting, TooLarge, OutOfSync, Delivers, id_at}
+use Rattle.mysql_wire.specs.Codec.{CodecState, codec_state, expected_id, first_id, header_of, input_of}
+use Rattle.mysql_wire.specs.Limited.{Limits, place_after, DeliversUnder}
+use Rattle.mysql_wire.specs.LimitedRuns.{WaitsUnder}
+use Rattle.mysql_wire.specs.GoingOn.{GoesOn}
 use Rattle.mysql_wire_commands.specs.declared.unframe.Verdict.{Verdict}
 use Rattle.mysql_wire_commands.specs.declared.unframe.Verdict.TheVariants as verdict
 use Rattle.mysql_wire_commands.specs.declared.unframe.Run.{Run}
@@ -49,22 +50,84 @@ pub record UnframeEnds (limit status : ℕ) (unread left written now : Option (L
       × Unframed limit input status text × Appends written now text
   pub all_read : (status ≡ 0) ⊎ (status ≡ 3) → IsAtEnd left
 
+-- the limit of each byte of an input: one up to a place, counted from 0, and another from there on
+abbrev pub place_limits : ℕ → ℕ → ℕ → Limits
+place_limits limit later at place = Some (if nat_lt place at then limit else later)
+
+-- the same where each byte has its limit
+pub record UnframedUnder (limits : Limits) (input : List ℕ) (status : ℕ) (text : List ℕ) : Type 0
+  where
+    pub payloads : List (List ℕ)
+    pub ending : Ending
+    pub unfinished : List ℕ
+    pub rest : List ℕ
+    pub delivered : DeliversUnder limits 0 [] input 0 payloads ending unfinished rest
+    pub is : text ≡ packet_lines payloads
+        ++ ending_line ending (length (front (id_after 0 payloads) unfinished ++ rest))
+    pub ends : status ≡ ending_status ending (length (front (id_after 0 payloads) unfinished
+        ++ rest))
+
+-- as no read goes past this place from before it, bytes behind it were read only where those before
+-- it need more
+abbrev pub StopsAt : Limits → ℕ → List ℕ → Type 0
+StopsAt limits at input = (length input ≤ at) ⊎ WaitsUnder limits 0 (take at input) []
+
+-- `unframe` ended with this status, under limits that change at this place
+pub record UnframeUnderEnds (limits : Limits) (at status : ℕ)
+    (unread left written now : Option (List ℕ)) : Type 0 where
+  pub cases : (status ≡ 0) ⊎ (status ≡ 2) ⊎ (status ≡ 3) ⊎ (status ≡ 4) ⊎ (status ≡ 5)
+      ⊎ (status ≡ 6)
+  pub text : (status ≡ 0) ⊎ (status ≡ 3) ⊎ (status ≡ 4) ⊎ (status ≡ 5)
+      → (input : List ℕ) × (text : List ℕ) × Consumes unread left input
+      × UnframedUnder limits input status text × Appends written now text
+      × StopsAt limits at input
+  pub all_read : (status ≡ 0) ⊎ (status ≡ 3) → IsAtEnd left
+
+-- `unframe` ended so under one limit up to this place, and another from there on
+abbrev pub UnframeLimitedEnds : ℕ → ℕ → ℕ → ℕ → Option (List ℕ) → Option (List ℕ)
+    → Option (List ℕ) → Option (List ℕ) → Type 0
+UnframeLimitedEnds limit later at status unread left written now =
+    UnframeUnderEnds (place_limits limit later at) at status unread left written now
+
+-- and so under all limits that are the same byte by byte
+abbrev pub UnframeEndsOver : ℕ → ℕ → ℕ → ℕ → Option (List ℕ) → Option (List ℕ)
+    → Option (List ℕ) → Option (List ℕ) → Type 0
+UnframeEndsOver limit later at status unread left written now =
+    (limits : Limits) → ((place : ℕ) → limits place ≡ place_limits limit later at place)
+    → UnframeUnderEnds limits at status unread left written now
+
 -- so far these bytes were read and this text was written, and the codec waits for more
-pub record Unframing (limit : ℕ) (state : CodecState) (input text : List ℕ) : Type 0 where
+pub record Unframing (limits : Limits) (at : ℕ) (state : CodecState) (input text : List ℕ) :
+    Type 0 where
   pub payloads : List (List ℕ)
-  pub delivered : Delivers [] input 0 limit payloads Waiting state.held state.unread
-  pub goes_on : first_id state ≡ id_after 0 payloads
-  pub stands : Stands state
-  pub same_limit : state.limit ≡ limit
+  pub delivered : DeliversUnder limits 0 [] input 0 payloads Waiting state.held state.unread
+  pub first : first_id state ≡ id_after 0 payloads
+  pub mark : ℕ
+  pub goes_on : GoesOn limits mark (place_after 0 payloads) state
+  pub apart : StopsAt limits at input
   pub is : text ≡ packet_lines payloads
 
--- what one piece makes of it
-abbrev pub TakesPiece : CodecState → List ℕ → Verdict → List (List ℕ) → CodecState → Type 0
-TakesPiece before piece verdict.Waits gained after = RunsTo before piece (Ok tt) gained after
-TakesPiece before piece verdict.TooLarge gained after =
-    (left : List ℕ) × RunsOver before piece (Err PacketTooLarge) gained after left
-TakesPiece before piece verdict.OutOfSync gained after =
-    (left : List ℕ) × RunsOver before piece (Err PacketsOutOfSync) gained after left
+-- what one piece makes of it: the codec waits, or packets stop
+abbrev pub TakesUnder : Limits → ℕ → CodecState → List ℕ → Verdict → List (List ℕ) → CodecState
+    → Type 0
+TakesUnder limits place before piece verdict.Waits gained after =
+    DeliversUnder limits place before.held (input_of before ++ piece) (first_id before) gained
+    Waiting after.held after.unread
+    × (after.id ≡ id_at (id_after (first_id before) gained) after.held)
+    × (mark : ℕ) × GoesOn limits mark (place_after place gained) after
+TakesUnder limits place before piece verdict.TooLarge gained after =
+    (unfinished : List ℕ) × (rest : List ℕ) × DeliversUnder limits place before.held
+    (input_of before ++ piece) (first_id before) gained TooLarge unfinished rest
+TakesUnder limits place before piece verdict.OutOfSync gained after =
+    (unfinished : List ℕ) × (rest : List ℕ) × DeliversUnder limits place before.held
+    (input_of before ++ piece) (first_id before) gained OutOfSync unfinished rest
+
+-- what a piece under this limit makes of it, in every place of a stream
+abbrev pub TakesPiece : CodecState → ℕ → List ℕ → Verdict → List (List ℕ) → CodecState → Type 0
+TakesPiece before limit piece verdict gained after =
+    (limits : Limits) (mark place : ℕ) → GoesOn limits mark place before
+    → ((i : ℕ) → i < length piece → limits (place + length (input_of before) + i) ≡ Some limit)
+    → TakesUnder limits place before piece verdict gained after
 
 -- the lines for it
 abbrev pub verdict_line : Verdict → List ℕ
@@ -82,10 +145,16 @@ abbrev pub bytes_left : CodecState → ℕ
 bytes_left state =
     length state.held + 4 * (length state.held / max_payload) + length state.unread
 
+-- the limit of the next bytes
+abbrev pub next_limit : {A : Type 0} → Run A → ℕ
+next_limit run = if nat_lt 0 run.ahead then run.limit else run.later
+
 -- a run at the start of a stream
-pub record StartsRun (limit : ℕ) {A : Type 0} (run : Run A) : Type 0 where
+pub record StartsRun (limit later at : ℕ) {A : Type 0} (run : Run A) : Type 0 where
   pub id : expected_id run.codec ≡ 0
   pub header : header_of run.codec ≡ None
-  pub limited : run.codec.max_allowed_packet ≡ limit
   pub nothing_unread : run.src.items ≡ []
   pub nothing_held : run.dst.items ≡ []
+  pub limit_is : run.limit ≡ limit
+  pub later_is : run.later ≡ later
+  pub ahead_is : run.ahead ≡ at

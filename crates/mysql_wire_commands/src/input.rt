@@ -31,14 +31,20 @@ pub fn read_whole<A: Allocator + Copy, R: Read>(
     Err(Stop::Io)
 }
 
-/// One read to the front of `piece`: how many bytes came, none at the end of the input.
-pub fn read_piece<A: Allocator, R: Read>(input: &mut R, piece: &mut Vec<u8, A>) -> io::Result<usize>
-    requires { 0 < vec_len piece.old }
+/// One read of at most `most` bytes to the front of `piece`: how many came, none at the end of the
+/// input.
+pub fn read_piece<A: Allocator, R: Read>(
+    input: &mut R,
+    piece: &mut Vec<u8, A>,
+    most: usize,
+) -> io::Result<usize>
+    requires some { 0 < most }
+    requires room { most ≤ vec_len piece.old }
     ensures len { vec_len piece.new ≡ vec_len piece.old }
-    ensures count { IfOk result (λ n. n ≤ vec_len piece.new) }
+    ensures count { IfOk result (λ n. n ≤ most) }
     ensures bytes { IfOk result
         (λ n. Consumes (R.remaining input.old) (R.remaining input.new) (take n piece.new.items)) }
     ensures end { IfOk result (λ n. n ≡ 0 → IsAtEnd (R.remaining input.new)) }
 {
-    input.read(piece.as_mut_slice())
+    input.read(&mut piece.as_mut_slice()[0..most])
 }

@@ -1,6 +1,6 @@
 //! `reframe LIMIT`: whole packets from input to output.
 
-ghost use Rattle.std.specs.Prelude.{◌≡◌, ◌≤◌, ◌++◌, [], length, None, OnOk, IfOk};
+ghost use Rattle.std.specs.Prelude.{◌≡◌, ◌≤◌, ◌++◌, [], length, None, IsNone, OnOk, IfOk};
 ghost use Rattle.std.specs.Io.KnownBytes.{Appends};
 ghost use Rattle.mysql_wire.specs.Codec.{expected_id, header_of};
 ghost use Rattle.mysql_wire.specs.Framing.{framing, next_id};
@@ -58,6 +58,7 @@ fn copy_packets<A: Allocator + Copy, R: Read, W: Write>(
     to: &mut PacketWriter<W, A>,
 ) -> Result<u8, Stop>
     requires reader { StartsReading from.old.src.items from.old.dst.items from.old.lost }
+    requires collected { IsNone from.old.collected }
     requires writer { to.old.pending.items ≡ [] }
     ensures { IfOk result (λ status. ReframeEnds limit status
         (R.remaining from.old.reader) (R.remaining from.new.reader)

@@ -46,13 +46,17 @@ pub fn exit_status(ended: Result<u8, Stop>) -> u8
     }
 }
 
+// The commands, in one line.
+const USAGE: &str =
+    "usage: mysql_wire_tool frame ID | chunk | unframe STEP LIMIT [LATER AT] | reframe LIMIT";
+
 /// What standard error says at this exit status, without the end of the line. It is empty where the
 /// status needs no word.
 pub fn fault_text(status: u8) -> &'static str
     ensures { result.now ≡ fault_line status }
 {
     match status {
-        1 => "usage: mysql_wire_tool frame ID | chunk | unframe STEP LIMIT | reframe LIMIT",
+        1 => USAGE,
         2 => "input or output failed",
         6 => "out of memory",
         _ => "",

@@ -1,7 +1,7 @@
-//! `unframe STEP LIMIT`: the packets of the input, as they come.
+//! `unframe STEP LIMIT [LATER AT]`: the packets of the input, as they come.
 
-ghost use Rattle.std.specs.Prelude.{◌≡◌, ◌<◌, ◌++◌, ℕ, List, OnOk, IfOk, string_bytes};
-ghost use Rattle.mysql_wire.specs.Codec.{Stands};
+ghost use Rattle.std.specs.Prelude.{◌≡◌, ◌<◌, ◌≤◌, ◌-◌, ◌++◌, ℕ, List, length, OnOk, IfOk, string_bytes};
+ghost use Rattle.mysql_wire_commands.specs.declared.unframe.Verdict.TheVariants.{Waits};
 ghost use Rattle.mysql_wire.specs.Runs.{payloads};
 
 use crate::input::read_piece;
@@ -12,7 +12,7 @@ use bytes::BytesMut;
 use mysql_wire::constants::MAX_PAYLOAD_LEN;
 use mysql_wire::laws;
 use mysql_wire::proto::codec::error::PacketCodecError;
-use mysql_wire::proto::codec::{PacketCodec, deliver};
+use mysql_wire::proto::codec::{PacketCodec, deliver_limited};
 use std::alloc::{AllocError, Allocator};
 use std::io::{Read, Write};
 
@@ -27,42 +27,78 @@ pub enum Verdict {
     OutOfSync,
 }
 
-// A codec and its buffers, and the packets of the last piece.
+// A codec and its buffers, the packets of the last piece, and the limits of what is still to come.
 #[derive(Drop)]
 struct Run<A: Allocator + Copy> {
     codec: PacketCodec,
     src: BytesMut<A>,
     dst: Vec<u8, A>,
     packets: Vec<Vec<u8, A>, A>,
+    // The limit of so many bytes more, and that of those behind them.
+    limit: usize,
+    ahead: usize,
+    later: usize,
 }
 
 impl<A: Allocator + Copy> Run<A> {
-    ghost use Rattle.mysql_wire_commands.specs.Unframe.{StartsRun, TakesPiece, bytes_left, run_state};
-    ghost use Rattle.mysql_wire.specs.Codec.{Stands};
+    ghost use Rattle.mysql_wire_commands.specs.Unframe.{StartsRun, TakesPiece, bytes_left, next_limit, run_state};
+    ghost use Rattle.mysql_wire.specs.LimitedRuns.{Aligned};
 
-    fn new(alloc: A, limit: usize) -> Self
-        ensures { StartsRun limit result }
+    fn new(alloc: A, limit: usize, later: usize, at: usize) -> Self
+        ensures { StartsRun limit later at result }
     {
-        let mut codec = PacketCodec::default();
-        codec.max_allowed_packet = limit;
         Run {
-            codec,
+            codec: PacketCodec::default(),
             src: BytesMut::new(alloc),
             dst: Vec::new(alloc),
             packets: Vec::new(alloc),
+            limit,
+            ahead: at,
+            later,
         }
     }
 
-    // Takes the packets of one more piece.
-    fn take(&mut self, piece: &[u8]) -> Result<Verdict, Stop>
-        requires { Stands (run_state self.old) }
-        ensures takes { IfOk result (λ verdict. TakesPiece (run_state self.old) piece.now verdict
-            (payloads self.new.packets.items) (run_state self.new)) }
-        ensures limit { self.new.codec.max_allowed_packet ≡ self.old.codec.max_allowed_packet }
+    // How many bytes the next read is asked for: as many as a step has, but none past the place
+    // where the limit changes, from before it.
+    fn next_read(&self, step: usize) -> usize
+        requires { 0 < step }
+        ensures some { 0 < result }
+        ensures step { result ≤ step }
+        ensures apart { 0 < self.now.ahead → result ≤ self.now.ahead }
     {
+        if self.ahead > 0 {
+            step.min(self.ahead)
+        } else {
+            step
+        }
+    }
+
+    // The limit of the next read's bytes.
+    fn next_limit(&self) -> usize
+        ensures { result ≡ next_limit self.now }
+    {
+        if self.ahead > 0 {
+            self.limit
+        } else {
+            self.later
+        }
+    }
+
+    // Takes the packets of one more piece, which comes under one limit.
+    fn take(&mut self, piece: &[u8]) -> Result<Verdict, Stop>
+        requires { Aligned (run_state self.old) }
+        ensures takes { IfOk result
+            (λ verdict. TakesPiece (run_state self.old) (next_limit self.old) piece.now verdict
+            (payloads self.new.packets.items) (run_state self.new)) }
+        ensures aligned { IfOk result (λ verdict. verdict ≡ Waits → Aligned (run_state self.new)) }
+        ensures passed { self.new.ahead ≡ self.old.ahead - length piece.now }
+        ensures limit { self.new.limit ≡ self.old.limit }
+        ensures later { self.new.later ≡ self.old.later }
+    {
+        let pieces = [(self.next_limit(), piece)];
+        self.ahead = self.ahead.saturating_sub(piece.len());
         self.packets.clear();
-        let pieces = [piece];
-        let (_, result) = deliver(
+        let (_, result) = deliver_limited(
             &mut self.codec,
             &mut self.src,
             &mut self.dst,
@@ -131,23 +167,28 @@ fn piece_text<A: Allocator + Copy>(
     Ok(text)
 }
 
-ghost use Rattle.mysql_wire_commands.specs.Unframe.{TakesPiece, UnframeEnds, bytes_left, ending_line, ending_status, run_state};
+ghost use Rattle.mysql_wire_commands.specs.Unframe.{TakesPiece, UnframeEnds, UnframeEndsOver, UnframeLimitedEnds, bytes_left, ending_line, ending_status, next_limit, run_state};
 ghost use Rattle.std.specs.Io.KnownBytes.{Appends};
 ghost use Rattle.mysql_wire.specs.Delivery.{Waiting};
+ghost use Rattle.mysql_wire.specs.LimitedRuns.{Aligned};
 
-// Takes the packets of one more piece, and writes their lines.
+// Takes the packets of one more piece, which comes under one limit, and writes their lines.
 fn take_piece<A: Allocator + Copy, W: Write>(
     alloc: A,
     run: &mut Run<A>,
     piece: &[u8],
     output: &mut W,
 ) -> Result<Verdict, Stop>
-    requires { Stands (run_state run.old) }
+    requires { Aligned (run_state run.old) }
     ensures takes { IfOk result (λ verdict. (gained : List (List ℕ))
-        × TakesPiece (run_state run.old) piece.now verdict gained (run_state run.new)
+        × TakesPiece (run_state run.old) (next_limit run.old) piece.now verdict gained
+        (run_state run.new)
         × Appends (W.contents output.old) (W.contents output.new)
         (packet_lines gained ++ verdict_line verdict)) }
-    ensures limit { run.new.codec.max_allowed_packet ≡ run.old.codec.max_allowed_packet }
+    ensures aligned { IfOk result (λ verdict. verdict ≡ Waits → Aligned (run_state run.new)) }
+    ensures passed { run.new.ahead ≡ run.old.ahead - length piece.now }
+    ensures limit { run.new.limit ≡ run.old.limit }
+    ensures later { run.new.later ≡ run.old.later }
 {
     let verdict = run.take(piece)?;
     let text = piece_text(alloc, run.packets.as_slice(), verdict)?;
@@ -188,7 +229,29 @@ pub fn run_unframe<A: Allocator + Copy, R: Read, W: Write>(
     ensures { UnframeEnds limit result (R.remaining input.old) (R.remaining input.new)
         (W.contents output.old) (W.contents output.new) }
 {
-    exit_status(unframe(alloc, step, limit, input, output))
+    laws::nothing_read();
+    laws::equal_limits();
+    exit_status(unframe(alloc, step, limit, limit, 0, input, output))
+}
+
+/// The same under a limit that changes: bytes of the input from place `at` on, counted from 0, come
+/// under `later`, and those before it under `limit`. A chunk is judged by the limit of the fourth
+/// byte of its header. A read before that place is asked for no byte past it.
+pub fn run_unframe_limited<A: Allocator + Copy, R: Read, W: Write>(
+    alloc: A,
+    step: usize,
+    limit: usize,
+    later: usize,
+    at: usize,
+    input: &mut R,
+    output: &mut W,
+) -> u8
+    requires { 0 < step }
+    ensures { UnframeLimitedEnds limit later at result
+        (R.remaining input.old) (R.remaining input.new)
+        (W.contents output.old) (W.contents output.new) }
+{
+    exit_status(unframe(alloc, step, limit, later, at, input, output))
 }
 
 // The same, with the exit status or why it gave up.
@@ -196,21 +259,23 @@ fn unframe<A: Allocator + Copy, R: Read, W: Write>(
     alloc: A,
     step: usize,
     limit: usize,
+    later: usize,
+    at: usize,
     input: &mut R,
     output: &mut W,
 ) -> Result<u8, Stop>
     requires { 0 < step }
-    ensures { IfOk result (λ status. UnframeEnds limit status
+    ensures { IfOk result (λ status. UnframeEndsOver limit later at status
         (R.remaining input.old) (R.remaining input.new)
         (W.contents output.old) (W.contents output.new)) }
 {
-    laws::nothing_read();
-    laws::joined_runs();
+    laws::empty_goes_on();
+    laws::joined_limited_runs();
     laws::framed_length();
     let mut piece = Vec::from_elem(alloc, 0u8, step)?;
-    let mut run = Run::new(alloc, limit);
+    let mut run = Run::new(alloc, limit, later, at);
     'reads: for _ in 0..u64::MAX {
-        let count = read_piece(input, &mut piece)?;
+        let count = read_piece(input, &mut piece, run.next_read(step))?;
         if count == 0 {
             let status = write_rest(alloc, &run, output)?;
             return Ok(status);

@@ -4,12 +4,12 @@ ghost use Rattle.std.specs.Prelude.{◌≡◌, ◌↔◌, map, string_bytes, IfS
 ghost use Rattle.std.specs.Io.KnownBytes.{Keeps};
 ghost use Rattle.std.specs.Option.{SomeIff};
 ghost use Rattle.std.specs.Str.Parse.{digits_value};
-ghost use Rattle.mysql_wire_commands.specs.Numbers.{IsNumber};
+ghost use Rattle.mysql_wire_commands.specs.Numbers.{IsNumber, IsStep};
 
 use crate::chunk::run_chunk;
 use crate::frame::run_frame;
 use crate::reframe::run_reframe;
-use crate::unframe::run_unframe;
+use crate::unframe::{run_unframe, run_unframe_limited};
 use std::alloc::Allocator;
 use std::io::{Read, Write};
 
@@ -21,10 +21,23 @@ pub enum Request {
     /// `chunk`
     Chunk,
     /// `unframe STEP LIMIT`: so many bytes asked of a read, and at most so many a packet.
-    Unframe { step: usize, limit: usize },
+    Unframe {
+        step: usize,
+        limit: usize,
+    },
+    /// `unframe STEP LIMIT LATER AT`: the same, with another limit for bytes from a place on.
+    UnframeLimited {
+        step: usize,
+        limit: usize,
+        later: usize,
+        at: usize,
+    },
     /// `reframe LIMIT`: at most so many bytes a packet.
     Reframe(usize),
 }
+
+// The most that a limit may be, or a place in the input.
+const MOST: u64 = 4294967295;
 
 // The number that one to ten digits write, where it is at most `most`.
 fn number(word: &str, most: u64) -> Option<u64>
@@ -35,6 +48,16 @@ fn number(word: &str, most: u64) -> Option<u64>
     }
     match word.parse::<u64>() {
         Ok(number) if number <= most => Some(number),
+        _ => None,
+    }
+}
+
+// The number of a step, which is at least 1.
+fn step_number(word: &str) -> Option<u64>
+    ensures { SomeIff result (IsStep word.now) (digits_value 10 word.now) }
+{
+    match number(word, 65536) {
+        Some(step) if step > 0 => Some(step),
         _ => None,
     }
 }
@@ -53,18 +76,19 @@ impl Request {
                 Some(Request::Frame(number(id.as_str(), 255)? as u8))
             }
             [name, most] if name.as_str() == "reframe" => {
-                Some(Request::Reframe(number(most.as_str(), 4294967295)? as usize))
+                Some(Request::Reframe(number(most.as_str(), MOST)? as usize))
             }
             [name] if name.as_str() == "chunk" => Some(Request::Chunk),
-            [name, step, limit] if name.as_str() == "unframe" => {
-                let step = number(step.as_str(), 65536)?;
-                let limit = number(limit.as_str(), 4294967295)?;
-                if step == 0 {
-                    return None;
-                }
-                Some(Request::Unframe {
-                    step: step as usize,
-                    limit: limit as usize,
+            [name, step, limit] if name.as_str() == "unframe" => Some(Request::Unframe {
+                step: step_number(step.as_str())? as usize,
+                limit: number(limit.as_str(), MOST)? as usize,
+            }),
+            [name, step, limit, later, at] if name.as_str() == "unframe" => {
+                Some(Request::UnframeLimited {
+                    step: step_number(step.as_str())? as usize,
+                    limit: number(limit.as_str(), MOST)? as usize,
+                    later: number(later.as_str(), MOST)? as usize,
+                    at: number(at.as_str(), MOST)? as usize,
                 })
             }
             _ => None,
@@ -98,6 +122,14 @@ pub fn run_words<A: Allocator + Copy, R: Read, W: Write>(
         Some(Request::Unframe { step, limit }) => {
             run_unframe(alloc, step, limit, &mut input, &mut output)
         }
+        Some(
+            Request::UnframeLimited {
+                step,
+                limit,
+                later,
+                at,
+            },
+        ) => run_unframe_limited(alloc, step, limit, later, at, &mut input, &mut output),
         Some(Request::Reframe(limit)) => return run_reframe(alloc, limit, input, output),
     };
     (status, input, output)

@@ -13,6 +13,7 @@ packets-init g c =
     let reader = c.requires.reader in
     record {
       found = reader.2;
+      collected = c.requires.collected;
       idle = c.requires.writer;
       encoder = encoder.limit;
       so_far = (
@@ -30,7 +31,7 @@ packets-preserved g c =
     let old = c.packets.invariant.so_far in
     let before = codec_state c.packets.decoder c.packets.from.src.items c.packets.from.dst.items in
     let after = codec_state c.next_packet.new.codec c.next_packet.new.self.src.items c.next_packet.new.self.dst.items in
-    let came = (rw c.in-Ok-Some.field-0-is at c.in-Ok-Some.ensures.next) c.packets.invariant.found in
+    let came = (rw c.in-Ok-Some.field-0-is at c.in-Ok-Some.ensures.next) c.packets.invariant.found c.packets.invariant.collected in
     let more : List ℕ = joined_reads came.reads in
     let packet : List ℕ = c.in-Ok-Some.packet.items in
     let put = c.in_ok-send.ensures in
@@ -40,6 +41,7 @@ packets-preserved g c =
     let next = rw shown at put.next in
     record {
       found = search rules;
+      collected = c.next_packet.ensures.collected c.packets.invariant.found;
       idle = put.idle;
       encoder = put.limit ∙ c.packets.invariant.encoder;
       so_far = (
@@ -57,7 +59,7 @@ returns-in-Ok-None g c =
     let old = c.packets.invariant.so_far in
     let before = codec_state c.packets.decoder c.packets.from.src.items c.packets.from.dst.items in
     let after = codec_state c.next_packet.new.codec c.next_packet.new.self.src.items c.next_packet.new.self.dst.items in
-    let came = (rw c.in-Ok-None.field-0-is at c.in-Ok-None.ensures.next) c.packets.invariant.found in
+    let came = (rw c.in-Ok-None.field-0-is at c.in-Ok-None.ensures.next) c.packets.invariant.found c.packets.invariant.collected in
     let more : List ℕ = joined_reads came.reads in
     record {
       cases = search rules;
@@ -76,7 +78,7 @@ returns-in-Err-UnexpectedEnd g c =
     let old = c.packets.invariant.so_far in
     let before = codec_state c.packets.decoder c.packets.from.src.items c.packets.from.dst.items in
     let after = codec_state c.next_packet.new.codec c.next_packet.new.self.src.items c.next_packet.new.self.dst.items in
-    let came = (rw c.in-Err-UnexpectedEnd.field-0-is at c.in-Err-UnexpectedEnd.ensures.next) c.packets.invariant.found in
+    let came = (rw c.in-Err-UnexpectedEnd.field-0-is at c.in-Err-UnexpectedEnd.ensures.next) c.packets.invariant.found c.packets.invariant.collected in
     let more : List ℕ = joined_reads came.reads in
     record {
       cases = search rules;
@@ -94,7 +96,7 @@ pub returns-in-Err-PacketTooLarge : goal.returns-in-Err-PacketTooLarge
 returns-in-Err-PacketTooLarge g c =
     let old = c.packets.invariant.so_far in
     let before = codec_state c.packets.decoder c.packets.from.src.items c.packets.from.dst.items in
-    let came = (rw c.in-Err-PacketTooLarge.field-0-is at c.in-Err-PacketTooLarge.ensures.next) c.packets.invariant.found in
+    let came = (rw c.in-Err-PacketTooLarge.field-0-is at c.in-Err-PacketTooLarge.ensures.next) c.packets.invariant.found c.packets.invariant.collected in
     let more : List ℕ = joined_reads came.reads in
     record {
       cases = search rules;
@@ -112,7 +114,7 @@ pub returns-in-Err-PacketsOutOfSync : goal.returns-in-Err-PacketsOutOfSync
 returns-in-Err-PacketsOutOfSync g c =
     let old = c.packets.invariant.so_far in
     let before = codec_state c.packets.decoder c.packets.from.src.items c.packets.from.dst.items in
-    let came = (rw c.in-Err-PacketsOutOfSync.field-0-is at c.in-Err-PacketsOutOfSync.ensures.next) c.packets.invariant.found in
+    let came = (rw c.in-Err-PacketsOutOfSync.field-0-is at c.in-Err-PacketsOutOfSync.ensures.next) c.packets.invariant.found c.packets.invariant.collected in
     let more : List ℕ = joined_reads came.reads in
     record {
       cases = search rules;

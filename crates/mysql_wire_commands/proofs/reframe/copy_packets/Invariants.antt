@@ -1,4 +1,4 @@
-use Rattle.std.proofs.Common.{◌≡◌, ℕ, List, [], ◌-◌, ◌^◌, false}
+use Rattle.std.proofs.Common.{◌≡◌, ℕ, List, [], ◌-◌, ◌^◌, IsNone, false}
 use Rattle.std.specs.Io.KnownBytes.{Appends, Consumes}
 use Rattle.mysql_wire.specs.Codec.{codec_state, expected_id}
 use Rattle.mysql_wire_commands.specs.Reframe.{Reframing}
@@ -7,6 +7,7 @@ use Rattle.mysql_wire_commands.proofs.reframe.copy_packets.Given as goal
 abbrev pub invariant-packets : goal.invariant-packets
 invariant-packets g l = record {
   found : l.from.lost ≡ false;
+  collected : IsNone l.from.collected;
   idle : l.to.pending.items ≡ [];
   encoder : l.encoder.max_allowed_packet ≡ l.fn.limit;
   so_far : (input : List ℕ) × (text : List ℕ)

@@ -1,12 +1,19 @@
-use Rattle.std.proofs.Common.{◌≡◌, ℕ, List, vec_len}
+use Rattle.std.proofs.Common.{◌≡◌, ◌-◌, ℕ, List, length, vec_len}
 use Rattle.std.specs.Io.KnownBytes.{Appends, Consumes}
-use Rattle.mysql_wire_commands.specs.Unframe.{Unframing, run_state}
+use Rattle.mysql_wire.specs.Limited.{Limits}
+use Rattle.mysql_wire.specs.LimitedRuns.{Aligned}
+use Rattle.mysql_wire_commands.specs.Unframe.{Unframing, place_limits, run_state}
 use Rattle.mysql_wire_commands.proofs.unframe.unframe.Given as goal
 
 abbrev pub invariant-reads : goal.invariant-reads
 invariant-reads g l = record {
   piece_len : vec_len l.piece ≡ l.fn.step;
-  so_far : (input : List ℕ) × (text : List ℕ) × Unframing l.fn.limit (run_state l.run) input text
+  limit : l.run.limit ≡ l.fn.limit;
+  later : l.run.later ≡ l.fn.later;
+  aligned : Aligned (run_state l.run);
+  so_far : (input : List ℕ) × (text : List ℕ)
+      × ((limits : Limits) → ((place : ℕ) → limits place ≡ place_limits l.fn.limit l.fn.later l.fn.at place) → Unframing limits l.fn.at (run_state l.run) input text)
+      × (l.run.ahead ≡ l.fn.at - length input)
       × Consumes (g.R.Read.remaining l.fn.input) (g.R.Read.remaining l.input) input
       × Appends (g.W.Write.contents l.fn.output) (g.W.Write.contents l.output) text;
 }
