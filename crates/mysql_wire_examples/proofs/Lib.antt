@@ -1,3 +1,4 @@
 pub mod CallerLemmas
 pub mod ValueLemmas
 pub mod ConnectionLemmas
+pub mod TallyLemmas

@@ -1,5 +1,5 @@
 -- Values and the packets that they are written as.
-use Rattle.std.proofs.Common.{◌≡◌, ℕ, List, [], ◌∷◌, ◌++◌, length, map, get_or, refl, ap, ◌∙◌, ◌<◌, subst, sym, arith, Vec, Option, None, Some, append-nil}
+use Rattle.std.proofs.Common.{◌≡◌, ℕ, List, [], ◌∷◌, ◌++◌, length, map, get_or, refl, ap, ◌∙◌, ◌<◌, sym, arith, Vec, Option, None, Some, append-nil}
 use Rattle.std.proofs.lemmas.List.{get_or-map, length-map}
 use Rattle.std.proofs.lemmas.List.{length-append}
 use Rattle.mysql_wire.specs.Delivery.{Delivers, Ending}

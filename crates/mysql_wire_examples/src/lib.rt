@@ -1,11 +1,13 @@
 //! The callers that CALLING.md shows, proved. The tests of `mysql_wire_vectors` run them.
 #![tactic(auto)]
 
+pub mod again;
 pub mod callers;
 pub mod commands;
 pub mod connection;
 pub mod constant_calls;
 pub mod field_callers;
+pub mod in_place;
 pub mod login;
 pub mod own_fields;
 pub mod parameters;

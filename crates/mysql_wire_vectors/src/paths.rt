@@ -15,9 +15,10 @@ pub use mysql_wire::io::{
     WriteMysqlExt,
 };
 pub use mysql_wire::laws::{
-    appended_run, between_packets, chunks_counted, encoded_first, equal_limits, framed_length,
-    id_after_append, joined_runs, joined_splits, nothing_read, one_delivery, one_limited_delivery,
-    packet_back, run_goes_on, stream_append, unique_framing, values_come_back,
+    appended_run, between_packets, chunks_counted, empty_goes_on, encoded_first, equal_limits,
+    framed_length, id_after_append, joined_limited_runs, joined_runs, joined_splits, nothing_read,
+    one_delivery, one_limited_delivery, packet_back, run_goes_on, stream_append, unique_framing,
+    values_come_back,
 };
 pub use mysql_wire::misc::raw::{
     Both, Const, Either, RawBytes, RawConst, RawFlags, RawInt, RawSeq, Skip, Slice,
@@ -28,8 +29,8 @@ pub use mysql_wire::misc::{
 };
 pub use mysql_wire::proto::codec::error::PacketCodecError;
 pub use mysql_wire::proto::codec::{
-    ChunkDecoder, ChunkInfo, PacketCodec, PacketDst, deliver, deliver_limited, encode_value,
-    packet_to_chunks, parse_packet, parse_packet_in,
+    ChunkDecoder, ChunkInfo, PacketCodec, PacketDst, Visit, deliver, deliver_each, deliver_limited,
+    encode_value, packet_to_chunks, parse_packet, parse_packet_in,
 };
 pub use mysql_wire::proto::packet_io::{PacketIoError, PacketReader, PacketWriter};
 pub use mysql_wire::proto::{Binary, MyDeserialize, MySerialize, Text, Wire};

@@ -2,13 +2,17 @@
 
 use bytes::BytesMut;
 use mysql_wire::proto::codec::error::PacketCodecError;
+use mysql_wire_examples::again::deliver_again;
 use mysql_wire_examples::callers::{exchange, read_packets};
 use mysql_wire_examples::connection::Connection;
-use std::alloc::Global;
+use refusing::Refusing;
+use std::alloc::{Allocator, Global};
 use std::io;
 use std::io::Read;
 use std::test::Fail;
-use test_support::receiver::are_packets;
+use test_support::facts::ensure;
+use test_support::receiver::{Receiver, Run, are_packets};
+use test_support::told::Told;
 
 // What a caller handed out, or why it stopped.
 type Answer = Result<Vec<Vec<u8>>, PacketCodecError>;
@@ -187,4 +191,43 @@ fn packets_are_read_to_the_end(rt: HostRuntime) -> Result<(), Fail> {
         }
     }
     Ok(())
+}
+
+// Two packets and the front of a third.
+const TWO: [&[u8]; 3] = [b"\x03", b"\0\0\x001", b"23\x01\0\0\x01\xff\0"];
+
+fn deliver_two<A: Allocator + Copy>(to: &mut Receiver<A>, again: usize) -> Option<Run> {
+    if !to.codec.stands_at(&to.src, to.dst.as_slice()) {
+        return None;
+    }
+    let (codec, src) = (&mut to.codec, &mut to.src);
+    let (count, answer) = deliver_again(codec, src, &mut to.dst, &TWO, &mut to.out, again);
+    Some((count, Told::of_deliver(answer)))
+}
+
+// Whether all is delivered where this request for memory is refused, and may be again; and whether
+// it was refused. None where the run stops though it may go on.
+fn is_delivered(alloc: Global, nth: u64, again: usize) -> Option<bool> {
+    let heap = Refusing::new(alloc, nth);
+    let mut to = Receiver::new(&heap, 9);
+    let (count, told) = deliver_two(&mut to, again)?;
+    let is_whole = (count == 3) & (told == Told::Waits) & to.shows(&[b"123", b"\xff"], b"\0", b"");
+    let is_stopped = (again == 0) & (told == Told::OutOfMemory) & to.stands();
+    (is_whole | (is_stopped & heap.has_refused())).then_some(heap.has_refused())
+}
+
+#[test]
+fn a_refused_run_goes_on(rt: HostRuntime) -> Result<(), Fail> {
+    let mut all = true;
+    for nth in 0..4 {
+        all &= is_delivered(rt.alloc(), nth, 1) == Some(true);
+        all &= is_delivered(rt.alloc(), nth, 0) == Some(true);
+    }
+    for nth in 4..20 {
+        all &= is_delivered(rt.alloc(), nth, 1).is_some();
+    }
+    ensure(
+        all & (is_delivered(rt.alloc(), 20, 0) == Some(false)),
+        "a run",
+    )
 }

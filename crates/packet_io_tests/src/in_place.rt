@@ -1,11 +1,15 @@
 //! Packets lent where they lie, beside the same stream decoded.
 
+ghost use Rattle.std.specs.Prelude.{◌≡◌, List, [], ◌∷◌, ◌++◌, IsFalse, OnOk};
+ghost use Rattle.mysql_wire.specs.Runs.{payloads};
+
+use mysql_wire::proto::codec::{Visit, deliver_each};
 use refusing::Refusing;
 use std::alloc::{AllocError, Allocator, Global};
 use std::test::Fail;
 use test_support::facts::ensure;
 use test_support::generated::{Draws, Stream, pieces_of};
-use test_support::receiver::Receiver;
+use test_support::receiver::{Receiver, Run, pieces_from};
 use test_support::told::Told;
 
 // Takes the packet in front where it lies, if it can be lent.
@@ -47,6 +51,77 @@ fn take_all(to: &mut Receiver<Global>) -> Result<Told, AllocError> {
     Ok(Told::Whole)
 }
 
+// Keeps each packet, while memory lasts.
+#[derive(Drop)]
+struct Kept {
+    packets: Vec<Vec<u8>>,
+    refused: bool,
+}
+
+impl Kept {
+    fn keep(&mut self, packet: &[u8]) -> Result<(), AllocError>
+        ensures kept { OnOk result (payloads self.new.packets.items
+            ≡ payloads self.old.packets.items ++ (packet.now ∷ [])) }
+        ensures refused { self.new.refused ≡ self.old.refused }
+    {
+        let alloc = *self.packets.allocator();
+        let copy = Vec::from_slice(alloc, packet)?;
+        self.packets.push(copy)?;
+        Ok(())
+    }
+}
+
+impl Visit for Kept {
+    ghost sees = { λ old packet new. IsFalse new.refused
+        → payloads new.packets.items ≡ payloads old.packets.items ++ (packet ∷ []) };
+
+    fn visit(&mut self, packet: &[u8]) {
+        if self.keep(packet).is_err() {
+            self.refused = true;
+        }
+    }
+}
+
+// Whether these pieces are visited as they are handed out, with the same answer and rest.
+fn is_visited<A: Allocator + Copy>(
+    alloc: A,
+    limit: usize,
+    pieces: &[&[u8]],
+    decoded: &Receiver<Global>,
+    wanted: Run,
+) -> bool {
+    let mut to = Receiver::new(alloc, limit);
+    let mut kept = Kept {
+        packets: Vec::new(decoded.alloc),
+        refused: false,
+    };
+    let mut told = (0, Told::OutOfMemory);
+    for _ in 0..2 {
+        if (told.1 == Told::OutOfMemory) & to.stands() {
+            told = visit_more(&mut to, pieces, told.0, &mut kept);
+        }
+    }
+    let mut same = (told == wanted) & !kept.refused;
+    same &= are_same(decoded.out.as_slice(), kept.packets.as_slice());
+    same &= decoded.src.as_slice() == to.src.as_slice();
+    same & (decoded.dst.as_slice() == to.dst.as_slice())
+}
+
+// Visits the pieces behind those that were appended.
+fn visit_more<A: Allocator + Copy>(
+    to: &mut Receiver<A>,
+    pieces: &[&[u8]],
+    before: usize,
+    kept: &mut Kept,
+) -> Run {
+    if !to.codec.stands_at(&to.src, to.dst.as_slice()) {
+        return (before, Told::Fallen);
+    }
+    let more = pieces_from(pieces, before);
+    let (count, answer) = deliver_each(&mut to.codec, &mut to.src, &mut to.dst, more, kept);
+    (before.wrapping_add(count), Told::of_deliver(answer))
+}
+
 fn are_same(some: &[Vec<u8>], others: &[Vec<u8>]) -> bool {
     let mut same = some.len() == others.len();
     for (i, packet) in some.iter().enumerate() {
@@ -58,7 +133,12 @@ fn are_same(some: &[Vec<u8>], others: &[Vec<u8>]) -> bool {
 // Whether both ways hand out the same packets of these pieces, say the same, and leave the same.
 fn agree(alloc: Global, limit: usize, pieces: &[&[u8]]) -> Result<bool, AllocError> {
     let mut decoded = Receiver::new(alloc, limit);
-    let (_, wanted) = decoded.deliver(pieces);
+    let run = decoded.deliver(pieces);
+    let (_, wanted) = run;
+    let mut visited = is_visited(alloc, limit, pieces, &decoded, run);
+    for nth in 0..3 {
+        visited &= is_visited(&Refusing::new(alloc, nth), limit, pieces, &decoded, run);
+    }
     let mut lent = Receiver::new(alloc, limit);
     let mut told = Told::Waits;
     for piece in pieces {
@@ -67,7 +147,7 @@ fn agree(alloc: Global, limit: usize, pieces: &[&[u8]]) -> Result<bool, AllocErr
             told = take_all(&mut lent)?;
         }
     }
-    let mut same = told == wanted;
+    let mut same = visited & (told == wanted);
     same &= are_same(decoded.out.as_slice(), lent.out.as_slice());
     same &= decoded.src.as_slice() == lent.src.as_slice();
     same &= decoded.dst.as_slice() == lent.dst.as_slice();

@@ -4,11 +4,14 @@ use bytes::BytesMut;
 use mysql_wire::proto::codec::PacketCodec;
 use mysql_wire::proto::packet_io::{PacketIoError, PacketReader, PacketWriter};
 use refusing::{NEVER, Refusing};
-use std::alloc::{Allocator, Global};
+use std::alloc::{AllocError, Allocator, Global};
 use std::io;
 use std::io::{ErrorKind, Read};
 use std::test::Fail;
 use test_support::facts::ensure;
+use test_support::generated::{Draws, Stream};
+use test_support::reference::{put_framing, reading_of};
+use test_support::told::Told;
 
 /// What a call answered, in a form that tests compare.
 #[derive(Clone, Copy, PartialEq, Eq)]
@@ -22,10 +25,10 @@ enum Said {
     OutOfMemory,
 }
 
-fn said_by<A: Allocator>(answer: &Result<Option<Vec<u8, A>>, PacketIoError>) -> Said {
+fn said_by(answer: &Result<bool, PacketIoError>) -> Said {
     match answer {
-        Ok(Some(_)) => Said::Packet,
-        Ok(None) => Said::End,
+        Ok(true) => Said::Packet,
+        Ok(false) => Said::End,
         Err(PacketIoError::Io(_)) => Said::Io,
         Err(PacketIoError::UnexpectedEnd) => Said::UnexpectedEnd,
         Err(PacketIoError::PacketTooLarge) => Said::TooLarge,
@@ -33,6 +36,19 @@ fn said_by<A: Allocator>(answer: &Result<Option<Vec<u8, A>>, PacketIoError>) -> 
         Err(_) => Said::OutOfMemory,
     }
 }
+
+/// How packets are taken.
+#[derive(Clone, Copy, PartialEq, Eq)]
+enum Way {
+    // By `next_packet`.
+    HandedOut,
+    // By `fill_packet`, `packet` and `take_packet`.
+    Lent,
+    // By `fill_packet`, twice, and then `next_packet`.
+    LentAndHandedOut,
+}
+
+const WAYS: [Way; 3] = [Way::HandedOut, Way::Lent, Way::LentAndHandedOut];
 
 // Gives so many bytes a read, and fails once, at the read of this number.
 #[derive(Drop)]
@@ -165,9 +181,85 @@ const ROWS: [Row; 10] = [
     },
 ];
 
+// Puts a packet behind the others.
+fn put(packets: &mut BytesMut<Global>, packet: &[u8]) -> Result<bool, PacketIoError> {
+    match packets.extend_from_slice(packet) {
+        Ok(()) => Ok(true),
+        Err(_) => Err(PacketIoError::WriteZero),
+    }
+}
+
+// Takes a packet by `next_packet`, behind the others.
+fn is_handed_out<A: Allocator + Copy>(
+    codec: &mut PacketCodec,
+    reader: &mut PacketReader<Slow<'_>, A>,
+    packets: &mut BytesMut<Global>,
+) -> Result<bool, PacketIoError> {
+    if !reader.fits(codec) {
+        return Err(PacketIoError::WriteZero);
+    }
+    match reader.next_packet(codec)? {
+        Some(packet) => put(packets, packet.as_slice()),
+        None => Ok(false),
+    }
+}
+
+// Takes a packet that is lent, behind the others.
+fn is_lent<A: Allocator + Copy>(
+    codec: &mut PacketCodec,
+    reader: &mut PacketReader<Slow<'_>, A>,
+    packets: &mut BytesMut<Global>,
+) -> Result<bool, PacketIoError> {
+    if !reader.fits(codec) {
+        return Err(PacketIoError::WriteZero);
+    }
+    let is_there = reader.fill_packet(codec)?;
+    if is_there {
+        put(packets, reader.packet())?;
+        reader.take_packet(codec);
+    }
+    Ok(is_there)
+}
+
+// Looks at the packet twice, which reads once, and then takes it as it would have been handed out.
+fn is_seen_twice<A: Allocator + Copy>(
+    codec: &mut PacketCodec,
+    reader: &mut PacketReader<Slow<'_>, A>,
+    packets: &mut BytesMut<Global>,
+) -> Result<bool, PacketIoError> {
+    if !reader.fits(codec) {
+        return Err(PacketIoError::WriteZero);
+    }
+    if !reader.fill_packet(codec)? {
+        return Ok(false);
+    }
+    let reads = reader.reads();
+    let again = reader.fill_packet(codec)?;
+    if !again | (reader.reads() != reads) {
+        return Err(PacketIoError::WriteZero);
+    }
+    is_handed_out(codec, reader, packets)
+}
+
+// One call.
+fn reader_says<A: Allocator + Copy>(
+    way: Way,
+    codec: &mut PacketCodec,
+    reader: &mut PacketReader<Slow<'_>, A>,
+    packets: &mut BytesMut<Global>,
+) -> Said {
+    let answer = match way {
+        Way::HandedOut => is_handed_out(codec, reader, packets),
+        Way::Lent => is_lent(codec, reader, packets),
+        Way::LentAndHandedOut => is_seen_twice(codec, reader, packets),
+    };
+    said_by(&answer)
+}
+
 // Calls until the reader has said all this, and once more after each refusal of memory. The packets
 // are put one behind the other.
 fn goes<A: Allocator + Copy>(
+    way: Way,
     row: &Row,
     codec: &mut PacketCodec,
     reader: &mut PacketReader<Slow<'_>, A>,
@@ -175,67 +267,76 @@ fn goes<A: Allocator + Copy>(
 ) -> bool {
     let mut all = true;
     for wanted in row.said {
-        let mut answer = reader_says(codec, reader, packets);
-        if answer == Some(Said::OutOfMemory) {
-            answer = reader_says(codec, reader, packets);
+        let mut answer = reader_says(way, codec, reader, packets);
+        if answer == Said::OutOfMemory {
+            answer = reader_says(way, codec, reader, packets);
         }
-        all &= answer == Some(*wanted);
+        all &= answer == *wanted;
     }
     all
 }
 
-// One call. None where the codec doesn't fit.
-fn reader_says<A: Allocator + Copy>(
-    codec: &mut PacketCodec,
-    reader: &mut PacketReader<Slow<'_>, A>,
-    packets: &mut BytesMut<Global>,
-) -> Option<Said> {
-    if !reader.fits(codec) {
-        return None;
-    }
-    let answer = reader.next_packet(codec);
-    if let Ok(Some(packet)) = &answer {
-        packets.extend_from_slice(packet.as_slice()).ok()?;
-    }
-    Some(said_by(&answer))
-}
+// What came of a row: whether it went so, how many packet bytes, what is unread, the reads, and
+// whether memory was refused.
+type Came = (bool, bool, u64, bool);
 
-// Whether a reader goes as the row says, where this request for memory is refused, and whether it
-// was.
-fn is_read(alloc: Global, row: &Row, nth: u64) -> (bool, bool) {
+// How a reader goes by a row, so many bytes a read, where this request for memory is refused.
+fn read_row(alloc: Global, way: Way, row: &Row, at_once: usize, nth: u64) -> Option<Came> {
     let heap = Refusing::new(alloc, nth);
     let input = Slow {
         bytes: row.bytes,
-        at_once: row.at_once,
+        at_once,
         until_fault: row.until_fault,
     };
-    let Ok(mut reader) = PacketReader::new(&heap, input) else {
-        return (false, false);
-    };
+    let mut reader = PacketReader::new(&heap, input).ok()?;
     let mut codec = PacketCodec::default();
     codec.max_allowed_packet = row.limit;
     let mut packets = BytesMut::new(alloc);
-    let mut all = goes(row, &mut codec, &mut reader, &mut packets);
-    all &= packets.as_slice() == row.packets;
-    all &= reader.unread() == row.unread;
-    all &= reader.reads() == row.reads;
-    (all, heap.has_refused())
+    let goes = goes(way, row, &mut codec, &mut reader, &mut packets);
+    let came = (packets.as_slice() == row.packets) & (reader.unread() == row.unread);
+    Some((goes, came, reader.reads(), heap.has_refused()))
+}
+
+// Whether a reader goes as the row says by each way, whatever request for memory is refused.
+fn is_read(alloc: Global, row: &Row) -> bool {
+    let mut all = true;
+    for way in WAYS {
+        let calm = Some((true, true, row.reads, false));
+        all &= read_row(alloc, way, row, row.at_once, NEVER) == calm;
+        for nth in 0..8 {
+            match read_row(alloc, way, row, row.at_once, nth) {
+                Some((goes, came, reads, _)) => all &= goes & came & (reads == row.reads),
+                None => all = false,
+            }
+        }
+        all &= read_row(alloc, way, row, row.at_once, 8) == calm;
+    }
+    all
+}
+
+// Whether all ways go alike over each cutting.
+fn is_read_alike(alloc: Global, row: &Row) -> bool {
+    let mut all = true;
+    for at_once in 1..12 {
+        let wanted = read_row(alloc, Way::HandedOut, row, at_once, NEVER);
+        all &= wanted.is_some();
+        all &= read_row(alloc, Way::Lent, row, at_once, NEVER) == wanted;
+        all &= read_row(alloc, Way::LentAndHandedOut, row, at_once, NEVER) == wanted;
+    }
+    all
 }
 
 #[test]
 fn each_reader_goes_as_it_says(rt: HostRuntime) -> Result<(), Fail> {
     for row in &ROWS {
-        let mut all = is_read(rt.alloc(), row, NEVER) == (true, false);
-        for nth in 0..8 {
-            all &= is_read(rt.alloc(), row, nth).0;
-        }
-        ensure(all & !is_read(rt.alloc(), row, 8).1, row.name)?;
+        let all = is_read(rt.alloc(), row) & is_read_alike(rt.alloc(), row);
+        ensure(all, row.name)?;
     }
     Ok(())
 }
 
 // Whether two packets are read where the read of this number fails, and the call is made again.
-fn goes_on_after(alloc: Global, until_fault: usize) -> bool {
+fn goes_on_after(alloc: Global, way: Way, until_fault: usize) -> bool {
     let input = Slow {
         bytes: b"\x01\0\0\0a\x02\0\0\x01bc",
         at_once: 2,
@@ -249,9 +350,9 @@ fn goes_on_after(alloc: Global, until_fault: usize) -> bool {
     let mut faults = 0u8;
     let mut count = 0u8;
     for _ in 0..4 {
-        match reader_says(&mut codec, &mut reader, &mut packets) {
-            Some(Said::Packet) => count = count.wrapping_add(1),
-            Some(Said::Io) => faults = faults.wrapping_add(1),
+        match reader_says(way, &mut codec, &mut reader, &mut packets) {
+            Said::Packet => count = count.wrapping_add(1),
+            Said::Io => faults = faults.wrapping_add(1),
             _ => {}
         }
     }
@@ -261,10 +362,133 @@ fn goes_on_after(alloc: Global, until_fault: usize) -> bool {
 #[test]
 fn each_read_fails_in_turn(rt: HostRuntime) -> Result<(), Fail> {
     let mut all = true;
-    for until_fault in 0..7 {
-        all &= goes_on_after(rt.alloc(), until_fault);
+    for way in WAYS {
+        for until_fault in 0..7 {
+            all &= goes_on_after(rt.alloc(), way, until_fault);
+        }
     }
     ensure(all, "a read that fails")
+}
+
+// What a reader hands out of a stream, one behind the other; what it said last; and its reads.
+type Heard = (Vec<u8>, Said, u64);
+
+// A stream read to its end, or to its fault.
+fn heard(alloc: Global, way: Way, bytes: &[u8], at_once: usize, limit: usize) -> Option<Heard> {
+    let input = Slow {
+        bytes,
+        at_once,
+        until_fault: usize::MAX,
+    };
+    let mut reader = PacketReader::new(alloc, input).ok()?;
+    let mut codec = PacketCodec::default();
+    codec.max_allowed_packet = limit;
+    let mut packets = BytesMut::new(alloc);
+    let mut said = Said::Packet;
+    for _ in 0..20u8 {
+        if said == Said::Packet {
+            said = reader_says(way, &mut codec, &mut reader, &mut packets);
+        }
+    }
+    let packets = Vec::from_slice(alloc, packets.as_slice()).ok()?;
+    Some((packets, said, reader.reads()))
+}
+
+// Whether a reader ends as the plain reading of its stream does.
+fn ends_as(said: Said, told: Told) -> bool {
+    match told {
+        Told::TooLarge => said == Said::TooLarge,
+        Told::OutOfSync => said == Said::OutOfSync,
+        _ => (said == Said::End) | (said == Said::UnexpectedEnd),
+    }
+}
+
+// Whether each way reads what the plain reading of the stream has.
+fn is_heard(alloc: Global, bytes: &[u8], at_once: usize, limit: usize) -> Result<bool, AllocError> {
+    let reading = reading_of(alloc, 0, limit, bytes)?;
+    let mut wanted = Vec::new(alloc);
+    for packet in &reading.packets {
+        wanted.extend_from_slice(packet.as_slice())?;
+    }
+    let handed_out = heard(alloc, Way::HandedOut, bytes, at_once, limit);
+    let mut all = match &handed_out {
+        Some((packets, said, _)) => (*packets == wanted) & ends_as(*said, reading.told),
+        None => false,
+    };
+    all &= heard(alloc, Way::Lent, bytes, at_once, limit) == handed_out;
+    all &= heard(alloc, Way::LentAndHandedOut, bytes, at_once, limit) == handed_out;
+    Ok(all)
+}
+
+#[test]
+fn generated_streams_are_read_alike(rt: HostRuntime) -> Result<(), Fail> {
+    for seed in 0..500 {
+        let mut draws = Draws::new(seed);
+        let stream = Stream::damaged(rt.alloc(), &mut draws, 0)?;
+        let limit = stream.limit(&mut draws);
+        let at_once = draws.below(9).max(1);
+        if !is_heard(rt.alloc(), stream.bytes.as_slice(), at_once, limit)? {
+            return Err(Fail::new(format_args!("seed {seed}")));
+        }
+    }
+    Ok(())
+}
+
+// A payload of so many zeros, framed from id 0 on.
+fn framed_zeros(alloc: Global, len: usize) -> Result<Vec<u8>, AllocError> {
+    let mut bytes = Vec::new(alloc);
+    let payload = Vec::from_elem(alloc, 0u8, len)?;
+    put_framing(&mut bytes, 0, payload.as_slice())?;
+    Ok(bytes)
+}
+
+// Whether a packet of this length is read by each way, and nothing is left.
+fn is_long_read(alloc: Global, len: usize, way: Way) -> Result<bool, AllocError> {
+    let bytes = framed_zeros(alloc, len)?;
+    let input = Slow {
+        bytes: bytes.as_slice(),
+        at_once: 8192,
+        until_fault: usize::MAX,
+    };
+    let Ok(mut reader) = PacketReader::new(alloc, input) else {
+        return Ok(false);
+    };
+    let mut codec = PacketCodec::default();
+    codec.max_allowed_packet = len;
+    let mut packets = BytesMut::new(alloc);
+    let mut all = reader_says(way, &mut codec, &mut reader, &mut packets) == Said::Packet;
+    all &= packets.len() == len;
+    all &= reader_says(way, &mut codec, &mut reader, &mut packets) == Said::End;
+    Ok(all)
+}
+
+#[test]
+fn a_packet_of_two_chunks_is_collected(rt: HostRuntime) -> Result<(), Fail> {
+    let mut all = true;
+    for way in WAYS {
+        for len in [16777215, 16777220] {
+            all &= is_long_read(rt.alloc(), len, way)?;
+        }
+    }
+    ensure(all, "a packet of two chunks")
+}
+
+#[test]
+fn a_lent_packet_is_taken_without_memory(rt: HostRuntime) -> Result<(), Fail> {
+    let heap = Refusing::new(rt.alloc(), NEVER);
+    let Ok(mut reader) = PacketReader::new(&heap, b"\x02\0\0\0ab".as_slice()) else {
+        return Err(Fail::new("a reader"));
+    };
+    let mut codec = PacketCodec::default();
+    let mut all = false;
+    if reader.fits(&codec) && reader.fill_packet(&mut codec).is_ok() {
+        heap.refuse(0);
+        all = reader.is_ready(&codec) & (reader.packet() == b"ab".as_slice());
+        if reader.is_ready(&codec) {
+            reader.take_packet(&mut codec);
+        }
+    }
+    ensure(all & !heap.has_refused(), "a packet that is lent")
 }
 
 #[test]

@@ -1,6 +1,6 @@
 use Rattle.std.proofs.Common.{◌≡◌, ℕ, List, Ok}
 use Rattle.std.specs.Io.KnownBytes.{Consumes}
-use Rattle.mysql_wire.specs.Codec.{Stands, codec_state}
+use Rattle.mysql_wire.specs.Codec.{codec_state}
 use Rattle.mysql_wire.specs.Laws.{empty_state}
 use Rattle.mysql_wire.specs.Runs.{payloads, RunsTo}
 use Rattle.mysql_wire_examples.proofs.callers.read_packets.Given as goal

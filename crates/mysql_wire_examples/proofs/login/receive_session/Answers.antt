@@ -1,4 +1,4 @@
-use Rattle.std.proofs.Common.{rules, ◌≡◌, ◌∷◌, [], ap, ◌∙◌}
+use Rattle.std.proofs.Common.{rules, ◌∷◌, [], ap}
 use Rattle.mysql_wire.specs.Codec.{CodecState, codec_state, header_of}
 use Rattle.mysql_wire.specs.Laws.{empty_state}
 use Rattle.mysql_wire.specs.Runs.{payloads}

@@ -1,4 +1,4 @@
-use Rattle.std.proofs.Common.{rules, ◌≡◌, ◌<◌, ◌≤◌, ◌+◌, List, [], ◌∷◌, ◌++◌, length, map, take, get_or, ap, sym, subst, ◌∙◌, arith, take_all}
+use Rattle.std.proofs.Common.{rules, ◌<◌, ◌≤◌, ◌+◌, [], length, take, get_or, sym, subst, ◌∙◌, arith, take_all}
 use Rattle.std.specs.List.{AllZip}
 use Rattle.std.proofs.lemmas.List.Elements.{all_zip_more}
 use Rattle.std.proofs.lemmas.List.{get_or_default}

@@ -1,8 +1,7 @@
 use Rattle.std.proofs.Common.{ℕ, ◌≡◌, List, [], ◌∷◌, ◌++◌, Bool, true, Result, Ok, ap, ◌∙◌, sym, rules}
-use Rattle.mysql_wire.specs.Codec.{input_of}
 use Rattle.mysql_wire.specs.Framing.{framing, next_id}
 use Rattle.mysql_wire.specs.PacketCodecError.{PacketCodecError}
-use Rattle.mysql_wire_examples.specs.Connection.{answer_to, state_of}
+use Rattle.mysql_wire_examples.specs.Connection.{answer_to}
 use Rattle.mysql_wire_examples.proofs.ConnectionLemmas.{flat_map-on, flat_map-out}
 use Rattle.mysql_wire_examples.proofs.connection.Connection.serve.Goals as goal
 

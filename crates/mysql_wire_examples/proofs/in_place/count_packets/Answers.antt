@@ -1,0 +1,11 @@
+use Rattle.std.proofs.Common.{rules, ℕ, List, ◌++◌, drop}
+use Rattle.mysql_wire.specs.Runs.{joined}
+use Rattle.mysql_wire_examples.proofs.TallyLemmas.{tally_packets}
+use Rattle.mysql_wire_examples.proofs.in_place.count_packets.Goals as goal
+
+pub returns : goal.returns
+returns g c =
+    let call = c.deliver_each-result in
+    let runs = call.ensures.runs in
+    let left : List ℕ = call.new.src.items ++ joined (drop call.result.0 c.args.answer.now) in
+    (runs.0, call.new.dst.items, left, tally_packets runs.0 call.new.visitor runs.1, search rules)

@@ -1,0 +1,141 @@
+//! Rows read where they lie in the buffer that the socket filled.
+
+ghost use Rattle.std.specs.Prelude.{◌≡◌, ◌+◌, ◌-◌, ◌^◌, ℕ, List, [], drop, length, min, IfOk, IfSome, IsNone, IsSome, IsTrue, Some, true};
+ghost use Rattle.mysql_wire.specs.Codec.{codec_state};
+ghost use Rattle.mysql_wire.specs.Delivery.{chunk_len, Delivers, Waiting};
+ghost use Rattle.mysql_wire.specs.InPlace.{front_payload};
+ghost use Rattle.mysql_wire.specs.Lenenc.{IsLenencOrMark};
+ghost use Rattle.mysql_wire.specs.PacketIo.{FitsAt};
+ghost use Rattle.mysql_wire.specs.Runs.{joined};
+ghost use Rattle.mysql_wire.specs.Spelling.{EatsText};
+
+use bytes::BytesMut;
+use mysql_wire::io::ParseBuf;
+use mysql_wire::proto::codec::error::PacketCodecError;
+use mysql_wire::proto::codec::{PacketCodec, Visit, deliver_each};
+use mysql_wire::proto::packet_io::{PacketIoError, PacketReader};
+use std::alloc::Allocator;
+use std::io::Read;
+
+/// The two columns of a row, as texts that lie in the row's packet.
+#[derive(Clone, Copy, Debug)]
+pub struct Account<'a> {
+    pub name: &'a [u8],
+    pub mail: &'a [u8],
+}
+
+/// Reads both columns of a row of texts, where they lie.
+pub fn read_account<'a>(row: &'a [u8]) -> Option<Account<'a>>
+    ensures { IfSome result (λ account. (mid : List ℕ) × (rest : List ℕ)
+        × EatsText IsLenencOrMark row.entry.now account.name.now mid
+        × EatsText IsLenencOrMark mid account.mail.now rest) }
+{
+    let mut columns = ParseBuf(row);
+    let name = columns.checked_eat_lenenc_str()?;
+    let mail = columns.checked_eat_lenenc_str()?;
+    Some(Account { name, mail })
+}
+
+// Whether a row's mail is this one.
+fn is_mail(row: &[u8], mail: &[u8]) -> bool
+    ensures { IsTrue result → (name : List ℕ) × (mid : List ℕ) × (rest : List ℕ)
+        × EatsText IsLenencOrMark row.now name mid × EatsText IsLenencOrMark mid mail.now rest }
+{
+    match read_account(row) {
+        Some(account) => account.mail == mail,
+        None => false,
+    }
+}
+
+/// Takes the row in front of `src` without a copy and without memory, and says whether its mail is
+/// `mail`. `None`: no whole row lies there; call `decode`.
+pub fn has_mail<A: Allocator + Copy>(
+    codec: &mut PacketCodec,
+    src: &mut BytesMut<A>,
+    mail: &[u8],
+) -> Option<bool>
+    ensures kept { IsNone result → (codec.new ≡ codec.old) × (src.new ≡ src.old) }
+    ensures has { result ≡ Some true → (name : List ℕ) × (mid : List ℕ) × (rest : List ℕ)
+        × EatsText IsLenencOrMark (front_payload src.old.items) name mid
+        × EatsText IsLenencOrMark mid mail.now rest }
+    ensures taken { IsSome result
+        → src.new.items ≡ drop (4 + chunk_len src.old.items) src.old.items }
+{
+    let row = codec.front_packet(src, &[])?;
+    let has = is_mail(row, mail);
+    // The last use of the row and its columns stands above: they are borrowed from `src`.
+    codec.take_front(src);
+    Some(has)
+}
+
+/// How many rows come before the packet that ends them. Each is looked at in the reader's buffer.
+pub fn count_rows<R: Read, A: Allocator + Copy>(
+    codec: &mut PacketCodec,
+    input: &mut PacketReader<R, A>,
+) -> Result<u64, PacketIoError>
+    requires { FitsAt input.old.lost
+        (codec_state codec.old input.old.src.items input.old.dst.items) }
+    ensures fits { FitsAt input.new.lost
+        (codec_state codec.new input.new.src.items input.new.dst.items) }
+{
+    let mut count = 0;
+    'rows: for _ in 0..u64::MAX {
+        if !input.fill_packet(codec)? {
+            return Err(PacketIoError::UnexpectedEnd);
+        }
+        let is_last = ends_rows(input.packet());
+        input.take_packet(codec);
+        if is_last {
+            return Ok(count);
+        }
+        count += 1;
+    }
+    Ok(count)
+}
+
+// Whether this packet ends the rows: an `EOF_Packet` begins with `fe`, and is shorter than a row
+// that begins so.
+fn ends_rows(packet: &[u8]) -> bool {
+    packet.len() < 9 && packet.first() == Some(&0xfe)
+}
+
+/// Counts packets, and their bytes.
+#[derive(Clone, Copy, Debug)]
+pub struct Tally {
+    pub packets: u64,
+    pub bytes: u64,
+}
+
+impl Visit for Tally {
+    // Both counts stay at the end of their range.
+    ghost sees = { λ old packet new. (new.packets ≡ min (old.packets + 1) (2 ^ 64 - 1))
+        × (new.bytes ≡ min (old.bytes + length packet) (2 ^ 64 - 1)) };
+
+    fn visit(&mut self, packet: &[u8]) {
+        self.packets = self.packets.saturating_add(1);
+        self.bytes = self.bytes.saturating_add(packet.len() as u64);
+    }
+}
+
+/// Counts the packets of an answer, from the pieces that have come. None is copied where it lies
+/// whole.
+pub fn count_packets<A: Allocator + Copy>(
+    alloc: A,
+    answer: &[&[u8]],
+) -> Result<Tally, PacketCodecError>
+    ensures { IfOk result (λ tally. (packets : List (List ℕ)) × (unfinished : List ℕ)
+        × (rest : List ℕ)
+        × (tally.packets ≡ min (length packets) (2 ^ 64 - 1))
+        × Delivers [] (joined answer.now) 0 4194304 packets Waiting unfinished rest) }
+{
+    let mut codec = PacketCodec::default();
+    let mut src = BytesMut::new(alloc);
+    let mut dst = Vec::new(alloc);
+    let mut tally = Tally {
+        packets: 0,
+        bytes: 0,
+    };
+    let (_, result) = deliver_each(&mut codec, &mut src, &mut dst, answer, &mut tally);
+    result?;
+    Ok(tally)
+}
