@@ -7,44 +7,48 @@ use mysql_wire::io::{BufMutExt, ReadMysqlExt, WriteMysqlExt};
 use mysql_wire::misc::lenenc_str_len;
 use refusing::Refusing;
 use std::alloc::{Allocator, Global};
-use std::io::{self, Read, Write};
+use std::io::{self, ErrorKind, Read, Write};
 use std::test::Fail;
 use test_support::answers::{Fault, told};
 use test_support::fields::{MORE, last};
 use test_support::reference::between;
 
-// Gives at most 100 bytes a read, and fails at the read of this number.
+// Gives so many bytes a read at most, and fails once, at the read of this number.
 #[derive(Drop)]
 struct FailingReader<'a> {
     bytes: &'a [u8],
-    reads_left: u64,
+    at_once: usize,
+    until_fault: usize,
+    kind: ErrorKind,
 }
 
 impl Read for FailingReader<'_> {
     fn read(&mut self, buf: &mut [u8]) -> io::Result<usize> {
-        if self.reads_left == 0 {
-            return Err(io::Error::other("no more reads"));
+        self.until_fault = self.until_fault.wrapping_sub(1);
+        if self.until_fault == usize::MAX {
+            return Err(io::Error::from(self.kind));
         }
-        self.reads_left -= 1;
-        let room = buf.len().min(100);
+        let room = buf.len().min(self.at_once);
         self.bytes.read(&mut buf[..room])
     }
 }
 
-// Takes at most 100 bytes a write, and fails at the write of this number.
+// Takes so many bytes a write at most, and fails once, at the write of this number.
 #[derive(Drop)]
 struct FailingWriter {
     bytes: Vec<u8>,
-    writes_left: u64,
+    at_once: usize,
+    until_fault: usize,
+    kind: ErrorKind,
 }
 
 impl Write for FailingWriter {
     fn write(&mut self, buf: &[u8]) -> io::Result<usize> {
-        if self.writes_left == 0 {
-            return Err(io::Error::other("no more writes"));
+        self.until_fault = self.until_fault.wrapping_sub(1);
+        if self.until_fault == usize::MAX {
+            return Err(io::Error::from(self.kind));
         }
-        self.writes_left -= 1;
-        let room = buf.len().min(100);
+        let room = buf.len().min(self.at_once);
         self.bytes.write(&buf[..room])
     }
 
@@ -169,21 +173,47 @@ fn each_call_succeeds_on_a_good_stream(rt: HostRuntime) {
     assert!(rt; comes_back(rt.alloc(), &[b'a'; 100_000]));
 }
 
+// How a fault of this kind ends: an interrupted call is made again.
+fn ends(is_met: bool, kind: ErrorKind) -> Result<u64, Fault> {
+    if is_met & (kind != ErrorKind::Interrupted) {
+        Err(Fault::Io)
+    } else {
+        Ok(303)
+    }
+}
+
+// Whether 300 bytes are written so where the write of this number fails. None takes no bytes.
+fn is_text_written(alloc: Global, at_once: usize, until_fault: usize, kind: ErrorKind) -> bool {
+    let mut writer = FailingWriter {
+        bytes: Vec::new(alloc),
+        at_once,
+        until_fault,
+        kind,
+    };
+    let written = told(writer.write_lenenc_str(&[b'a'; 300]));
+    let is_met = writer.until_fault > until_fault;
+    (written == ends(is_met, kind)) & (writer.bytes.len() == 303 || written.is_err())
+}
+
+// How many bytes go at once, and how many calls that makes of a text of 300.
+const CALLS: [(usize, usize); 3] = [(100, 4), (300, 2), (1, 303)];
+
 #[test]
 fn a_writer_fails_at_each_write(rt: HostRuntime) {
-    let text = [b'a'; 300];
     let mut all = true;
-    for writes in 0..5u64 {
-        let mut writer = FailingWriter {
-            bytes: Vec::new(rt.alloc()),
-            writes_left: writes,
-        };
-        let written = told(writer.write_lenenc_str(&text));
-        let wanted = if writes < 4 { Err(Fault::Io) } else { Ok(303) };
-        all &= written == wanted;
-        all &= writes < 4 || writer.bytes.len() == 303;
+    for (at_once, writes) in CALLS {
+        for nth in 0..writes + 1 {
+            all &= is_text_written(rt.alloc(), at_once, nth, ErrorKind::Other);
+            all &= is_text_written(rt.alloc(), at_once, nth, ErrorKind::Interrupted);
+        }
     }
-    assert!(rt; all);
+    let mut nothing = FailingWriter {
+        bytes: Vec::new(rt.alloc()),
+        at_once: 0,
+        until_fault: usize::MAX,
+        kind: ErrorKind::Other,
+    };
+    assert!(rt; all & (told(nothing.write_lenenc_str(&[b'a'; 300])) == Err(Fault::Io)));
 }
 
 // The spelling of a text of 300 bytes.
@@ -193,19 +223,33 @@ fn spelling(alloc: Global) -> Vec<u8> {
     bytes
 }
 
+// Whether these 300 bytes are read so where the read of this number fails.
+fn is_text_read(alloc: Global, mut reader: FailingReader<'_>) -> bool {
+    let (until_fault, kind) = (reader.until_fault, reader.kind);
+    let read = told(reader.read_lenenc_str(alloc));
+    let is_met = reader.until_fault > until_fault;
+    match read {
+        Ok(text) => ends(is_met, kind).is_ok() & (text.as_slice() == [b'a'; 300].as_slice()),
+        Err(why) => Err(why) == ends(is_met, kind),
+    }
+}
+
 #[test]
 fn a_reader_fails_at_each_read(rt: HostRuntime) {
     let bytes = spelling(rt.alloc());
     let mut all = true;
-    for reads in 0..6u64 {
-        let mut reader = FailingReader {
-            bytes: bytes.as_slice(),
-            reads_left: reads,
-        };
-        all &= match told(reader.read_lenenc_str(rt.alloc())) {
-            Ok(text) => (reads == 5) & (text.as_slice() == [b'a'; 300].as_slice()),
-            Err(why) => (reads < 5) & (why == Fault::Io),
-        };
+    for (at_once, reads) in CALLS {
+        for until_fault in 0..reads + 2 {
+            for kind in [ErrorKind::Other, ErrorKind::Interrupted] {
+                let reader = FailingReader {
+                    bytes: bytes.as_slice(),
+                    at_once,
+                    until_fault,
+                    kind,
+                };
+                all &= is_text_read(rt.alloc(), reader);
+            }
+        }
     }
     assert!(rt; all);
 }

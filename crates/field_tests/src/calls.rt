@@ -1,4 +1,4 @@
-// The calls of a text in hand.
+// The calls of a text in hand. `memory_tests` has its copies.
 
 use mysql_wire::io::{ParseBuf, WireError};
 use mysql_wire::misc::raw::RawBytes;
@@ -6,11 +6,8 @@ use mysql_wire::misc::raw::bytes::{
     BareBytes, BytesRepr, EofBytes, FixedLengthText, LenEnc, NullBytes, U8Bytes, U32Bytes,
 };
 use mysql_wire::misc::raw::int::VarLen;
-use refusing::{NEVER, Refusing};
-use std::alloc::{Allocator, Global};
+use std::alloc::Global;
 use std::borrow::CowSlice;
-use test_support::answers::{Fault, told};
-use test_support::fields::is_written;
 
 // Whether a text shows these bytes of all that it holds, and this string.
 fn is_shown<T: BytesRepr>(alloc: Global, whole: &[u8], bytes: &[u8], string: &str) -> bool {
@@ -39,9 +36,6 @@ fn a_text_shows_what_is_written_of_it(rt: HostRuntime) {
         is_shown::<EofBytes>(alloc, b"a\xffb", b"a\xffb", "a\u{fffd}b"),
     ];
     assert!(rt; shown == [true; 5]);
-    let heap = Refusing::new(alloc, 0);
-    let text = RawBytes::<EofBytes>::from(b"a\xff".as_slice());
-    assert!(rt; told(text.as_str(&heap)) == Err(Fault::OutOfMemory));
 }
 
 fn is_borrowed<T: BytesRepr>(text: &RawBytes<'_, T>) -> bool {
@@ -67,47 +61,4 @@ fn what_is_read_is_borrowed(rt: HostRuntime) {
         borrows(ParseBuf(b"a").parse::<RawBytes<'_, BareBytes<1>>>(alloc, 1)),
     ];
     assert!(rt; borrowed == [true; 8]);
-}
-
-#[test]
-fn slices_are_borrowed_and_the_empty_text_is_default(rt: HostRuntime) {
-    let text = RawBytes::<EofBytes>::from(b"ab".as_slice());
-    assert!(rt; is_borrowed(&text) & text.eq_bytes(b"ab"));
-    let text = RawBytes::<U8Bytes>::default();
-    assert!(rt; text.is_empty() & text.eq_bytes(b""));
-    assert!(rt; is_written(&Refusing::new(rt.alloc(), 0), &text, b"\0"));
-}
-
-// Whether a text becomes owned, and this one, or why it doesn't.
-fn owns<A: Allocator>(
-    alloc: A,
-    text: RawBytes<'_, EofBytes, A>,
-    bytes: &[u8],
-) -> Result<bool, Fault> {
-    match told(text.into_owned(alloc)) {
-        Ok(text) => Ok(matches!(text.0, CowSlice::Owned(_)) & text.eq_bytes(bytes)),
-        Err(why) => Err(why),
-    }
-}
-
-#[test]
-fn a_borrowed_text_becomes_owned_by_one_request(rt: HostRuntime) {
-    let heap = Refusing::new(rt.alloc(), 0);
-    let owned = owns(&heap, RawBytes::from(b"abc".as_slice()), b"abc");
-    assert!(rt; owned == Err(Fault::OutOfMemory));
-    heap.refuse(1);
-    let owned = owns(&heap, RawBytes::from(b"abc".as_slice()), b"abc");
-    assert!(rt; owned == Ok(true));
-    assert!(rt; heap.left() == 0);
-}
-
-#[test]
-fn an_owned_text_stays_without_a_request(rt: HostRuntime) {
-    let heap = Refusing::new(rt.alloc(), NEVER);
-    let mut bytes = Vec::new(&heap);
-    assert!(rt; bytes.extend_from_slice(b"abc").is_ok());
-    heap.refuse(0);
-    let owned = owns(&heap, RawBytes::from(bytes), b"abc");
-    assert!(rt; owned == Ok(true));
-    assert!(rt; heap.left() == 0);
 }

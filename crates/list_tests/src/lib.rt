@@ -6,8 +6,6 @@ mod at;
 #[cfg(test)]
 mod constants;
 #[cfg(test)]
-mod copies;
-#[cfg(test)]
 mod entry;
 #[cfg(test)]
 mod lists;

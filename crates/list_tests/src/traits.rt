@@ -3,7 +3,7 @@
 use mysql_wire::constants::{CapabilityFlags, ColumnType, CursorType, StatusFlags};
 use mysql_wire::misc::raw::int::{LeU16, LeU24, LeU32, LeU32LowerHalf};
 use mysql_wire::misc::raw::seq::{Seq, Unknown};
-use mysql_wire::misc::raw::{Both, Const, Either, RawConst, RawFlags, RawInt, RawSeq, Slice};
+use mysql_wire::misc::raw::{Both, Const, Either, RawConst, RawFlags, RawInt, RawSeq, Skip, Slice};
 use std::fmt::Debug;
 use std::hash::Hash;
 use test_support::answers::shows_debug;
@@ -16,10 +16,15 @@ fn is_list<T: Debug + Ord + Hash>() {}
 
 fn is_made<T: Default>() {}
 
+fn is_copied<T: Copy>() {}
+
 fn is_kept<T: Clone + Debug + Eq>() {}
 
 #[test]
 fn traits_of_fields(_: HostRuntime) {
+    // Two fields are copied where both are.
+    is_copied::<Both<RawInt<LeU16>, Skip<2>>>();
+    is_copied::<Either<RawInt<LeU16>, RawInt<u8>>>();
     is_ordered::<RawConst<LeU16, ColumnType>>();
     is_ordered::<RawFlags<StatusFlags, LeU16>>();
     is_ordered::<Const<u8, u8>>();

@@ -1,7 +1,7 @@
 //! What a call leaves when its first, second, third request for memory is refused, and so on, and
-//! how it goes on; and the calls that ask for none.
+//! how it goes on. `memory_tests` has a row for each call.
 
-use bytes::{Buf, BytesMut};
+use bytes::BytesMut;
 use mysql_wire::constants::MAX_PAYLOAD_LEN;
 use mysql_wire::io::WireError;
 use mysql_wire::proto::codec::{PacketCodec, packet_to_chunks};
@@ -51,38 +51,6 @@ fn are_grown<A: Allocator>(heap: &Heap, alloc: A) -> bool {
 fn the_request_of_this_number_is_refused(rt: HostRuntime) -> Result<(), Fail> {
     let heap = Refusing::new(rt.alloc(), 3);
     ensure(are_grown(&heap, &heap), "the requests")
-}
-
-// Frames five bytes in two pieces behind two, with request number `nth` refused. Says whether it
-// was, if the call leaves what it must.
-fn framing_refused<A: Allocator + Copy>(heap: &Heap, alloc: A, nth: u64) -> Option<bool> {
-    heap.refuse(NEVER);
-    let mut dst = BytesMut::new(alloc);
-    let begins = dst.extend_from_slice(b"ab").is_ok();
-    let mut packet = b"123".as_slice().chain(b"45".as_slice());
-    heap.refuse(nth);
-    let next_id = packet_to_chunks(255, &mut packet, &mut dst).ok();
-    let is_left = is_left(next_id, dst.as_slice(), packet.chunk(), packet.remaining());
-    let is_refused = next_id.is_none();
-    (begins & is_left & (heap.has_refused() == is_refused)).then_some(is_refused)
-}
-
-// Whether the buffer, and the front and the length of the packet, are what a call leaves that gave
-// this id, or else was refused.
-fn is_left(next_id: Option<u8>, dst: &[u8], front: &[u8], len: usize) -> bool {
-    if next_id.is_none() {
-        (dst == b"ab".as_slice()) & (front == b"123".as_slice()) & (len == 5)
-    } else {
-        (next_id == Some(0)) & (dst == b"ab\x05\0\0\xff12345".as_slice()) & (len == 0)
-    }
-}
-
-#[test]
-fn packet_to_chunks_refused_changes_nothing(rt: HostRuntime) -> Result<(), Fail> {
-    let heap = &Refusing::new(rt.alloc(), NEVER);
-    let refused = framing_refused(heap, heap, 0) == Some(true);
-    let given = framing_refused(heap, heap, 1) == Some(false);
-    ensure(refused & given, "its one request")
 }
 
 // A packet of ten bytes, and a byte behind it.
@@ -392,50 +360,4 @@ pub fn agrees_refused(alloc: Global, case: &Case, pieces: &[&[u8]], nth: u64) ->
     let one = deliver_refused(alloc, case, pieces, nth, false);
     let many = deliver_refused(alloc, case, pieces, nth, true);
     one.is_some() & many.is_some()
-}
-
-// What is to be read, a limit, and what `decode` answers where it takes no payload byte.
-type Row = (&'static [u8], usize, Told);
-
-const TAKING_NOTHING: [Row; 9] = [
-    (b"", 9, Told::Waits),
-    (b"\x01\0\0", 9, Told::Waits),
-    (b"\x02\0\0\0\x61", 9, Told::Waits),
-    (b"\xff\xff\xff\x07\x61", usize::MAX, Told::Waits),
-    (b"\0\0\0\0\x61", 0, Told::Whole),
-    (b"\0\0\0\x05", 0, Told::OutOfSync),
-    (b"\x09\0\0\0", 8, Told::TooLarge),
-    (b"\x01\0\0\x05\x61", 0, Told::TooLarge),
-    (b"\xff\xff\xff\0abc", 16777214, Told::TooLarge),
-];
-
-fn taking_nothing(row: &Row) -> [Step; 9] {
-    let (src, limit, told) = *row;
-    // Where its header is remembered, a second call asks for none either.
-    let again = if told == Told::Waits {
-        Step::Decode(Told::Waits)
-    } else {
-        Step::Sync
-    };
-    [
-        Step::Limit(limit),
-        Step::Src(src),
-        Step::Refuse(0),
-        Step::Decode(told),
-        again,
-        Step::Stands(true),
-        Step::Sync,
-        Step::Reset,
-        Step::Unasked(0),
-    ]
-}
-
-#[test]
-fn calls_that_take_nothing_ask_for_no_memory(rt: HostRuntime) -> Result<(), Fail> {
-    for (i, row) in TAKING_NOTHING.iter().enumerate() {
-        if let Some(step) = refused_fault(rt.alloc(), &taking_nothing(row)) {
-            return Err(Fail::new(format_args!("row {i}, step {step}")));
-        }
-    }
-    Ok(())
 }
