@@ -1,0 +1,213 @@
+/*
+ * mysql_wire: the packet layer of MySQL's client/server protocol.
+ *
+ * A `mysql_wire_connection` is one side of one connection: the bytes that came and aren't taken
+ * yet, the packet that is being put together, the number (sequence id) of the next packet, the
+ * bytes that wait to be sent. It does no input and no output: bytes are fed to it as they come,
+ * and the bytes to send are taken from it.
+ *
+ *     mysql_wire_connection connection = NULL;
+ *     mysql_wire_open(1 << 24, &connection);
+ *     for (;;) {
+ *         int32_t code;
+ *         mysql_wire_view packet;
+ *         while ((code = mysql_wire_peek(&connection, &packet)) == MYSQL_WIRE_PACKET) {
+ *             use(packet.at, packet.len);
+ *             mysql_wire_take(&connection);
+ *         }
+ *         if (code != MYSQL_WIRE_WAITS) break;
+ *         ssize_t count = read(socket, room, sizeof room);
+ *         if (count <= 0) break;
+ *         if (mysql_wire_feed(&connection, room, count) != MYSQL_WIRE_OK) break;
+ *     }
+ *     mysql_wire_close(&connection);
+ *
+ * What a caller upholds, since C can't:
+ *   - a `mysql_wire_connection` starts as NULL, and is never copied: pass its address. It is closed
+ *     in the end, or its memory is lost;
+ *   - one call at a time on one connection, and all of them on the thread that opened it;
+ *   - addresses are valid for the lengths given with them, not NULL even where a length is 0, and
+ *     don't overlap each other or the connection's memory: a lent view may be read, not written,
+ *     and not handed to a call on the connection that lent it;
+ *   - a view lent by a call is read only until the next call on that connection, and not after
+ *     `mysql_wire_close`;
+ *   - malloc, realloc and free are those of one allocator; no call is made from a signal handler.
+ * All else is checked and proved: no call writes outside of what it was given, whatever bytes come.
+ *
+ * Link with -lmysql_wire_c and the kit's -llibc_c.
+ *
+ * The protocol: https://dev.mysql.com/doc/dev/mysql-server/latest/page_protocol_basic_packets.html
+ */
+#ifndef MYSQL_WIRE_H
+#define MYSQL_WIRE_H
+#include <stddef.h>
+#include <stdint.h>
+
+#ifdef __cplusplus
+extern "C" {
+#endif
+
+/* One side of a connection; NULL where it is closed. */
+typedef struct mysql_wire_connection_state *mysql_wire_connection;
+
+/* Bytes that are lent. `at` is never NULL after a call that sets it; `len` may be 0. */
+typedef struct mysql_wire_view {
+    const uint8_t *at;
+    size_t len;
+} mysql_wire_view;
+
+/* Where a text stands in the bytes that were read: from `at` on, `len` bytes. */
+typedef struct mysql_wire_span {
+    size_t at;
+    size_t len;
+} mysql_wire_span;
+
+/*
+ * The answers. Below 0 is a refusal; at each call stands which ones it has, and what they leave.
+ * Every call at NULL (a closed connection) answers MYSQL_WIRE_CLOSED, or 0 where it answers a
+ * count, and does nothing.
+ */
+enum {
+    MYSQL_WIRE_OK = 0,
+    MYSQL_WIRE_WAITS = 0,           /* no packet is whole: feed more bytes */
+    MYSQL_WIRE_PACKET = 1,          /* a packet stands whole */
+    MYSQL_WIRE_TOO_LARGE = -1,      /* the packet is above the limit */
+    MYSQL_WIRE_OUT_OF_SYNC = -2,    /* a packet bears another number than the expected one */
+    MYSQL_WIRE_NO_MEMORY = -3,      /* memory was refused: the same call may be made again */
+    MYSQL_WIRE_ROOM_TOO_SMALL = -4, /* the caller's room is too small */
+    MYSQL_WIRE_CLOSED = -5,         /* the connection is NULL */
+    MYSQL_WIRE_IS_OPEN = -6,        /* the connection to open isn't NULL */
+    MYSQL_WIRE_PACKET_WAITS = -7,   /* a packet must be taken first */
+    MYSQL_WIRE_NO_PACKET = -8,      /* there is no packet to take */
+    MYSQL_WIRE_MISSING_BYTES = -9,  /* the bytes end inside a field */
+    MYSQL_WIRE_NOT_A_NUMBER = -10   /* fb or ff where a length-encoded integer has to stand, or a
+                                       width that isn't 1 to 8 */
+};
+
+/*
+ * A connection of packets of at most `limit` bytes each, the next of them numbered 0. It goes where
+ * `connection` points, which has to be NULL there.
+ * OK; IS_OPEN and NO_MEMORY change nothing.
+ */
+int32_t mysql_wire_open(size_t limit, mysql_wire_connection *connection);
+
+/* Frees all, and leaves NULL; at NULL does nothing. */
+void mysql_wire_close(mysql_wire_connection *connection);
+
+/* --- what comes --- */
+
+/*
+ * Takes `len` bytes that came from the other side; they are copied.
+ * OK; NO_MEMORY: none were taken; OUT_OF_SYNC: the stream is lost, and none were taken.
+ */
+int32_t mysql_wire_feed(mysql_wire_connection *connection, const uint8_t *bytes, size_t len);
+
+/*
+ * Lends the next packet's payload, where it stands whole. The same packet is lent again until it is
+ * taken. A packet of less than 16777215 bytes is lent where it came, and costs no copy.
+ * PACKET: `packet` is the payload. WAITS: feed more bytes. TOO_LARGE: the header stays, and under a
+ * larger limit the next call goes on. NO_MEMORY: nothing is lost. OUT_OF_SYNC: the stream is lost;
+ * each later peek, next, feed, set_limit and sequence_id answers the same and changes nothing. Each
+ * but PACKET leaves an empty `packet`.
+ */
+int32_t mysql_wire_peek(mysql_wire_connection *connection, mysql_wire_view *packet);
+
+/* Takes the packet that is lent. OK; NO_PACKET: none is, and nothing changes. */
+int32_t mysql_wire_take(mysql_wire_connection *connection);
+
+/*
+ * Copies the next packet's payload to `room`, and takes it; `len` is how many bytes it has.
+ * PACKET; ROOM_TOO_SMALL: `len` says how many bytes are needed, the packet is lent and stays, and a
+ * call with more room goes on. All others as `mysql_wire_peek`, with a `len` of 0.
+ */
+int32_t mysql_wire_next(mysql_wire_connection *connection, uint8_t *room, size_t room_len,
+                        size_t *len);
+
+/*
+ * Sets the most bytes of a packet. A chunk's header is judged once, by the limit in force when its
+ * fourth byte was fed; so the new limit holds for what is fed from now on. Where the packet in
+ * front is too large, it holds for that header and all that is unread behind it. It also holds for
+ * `mysql_wire_encode`.
+ * OK. PACKET_WAITS: a packet stands whole; it is lent, as by `mysql_wire_peek`, and has to be taken
+ * first. NO_MEMORY; OUT_OF_SYNC: as `mysql_wire_peek`. All but OK leave the limit as it was.
+ */
+int32_t mysql_wire_set_limit(mysql_wire_connection *connection, size_t limit);
+
+/*
+ * How many bytes came of which no packet was made yet; headers of full chunks (of 16777215 bytes)
+ * that were put together aren't counted. Where no packet is whole and this is 0, the input stands
+ * between two packets.
+ */
+size_t mysql_wire_unread(mysql_wire_connection *connection);
+
+/* --- what goes --- */
+
+/*
+ * Frames a payload behind the bytes that wait to be sent, in as many chunks as it needs. Its number
+ * follows that of the last packet, sent, taken or lent.
+ * OK; TOO_LARGE: it is above the limit; NO_MEMORY. Both refusals change nothing.
+ */
+int32_t mysql_wire_encode(mysql_wire_connection *connection, const uint8_t *payload, size_t len);
+
+/* Moves bytes that wait to `room`, as many as fit, and answers how many. */
+size_t mysql_wire_output(mysql_wire_connection *connection, uint8_t *room, size_t room_len);
+
+/* Lends all bytes that wait to be sent. */
+void mysql_wire_pending(mysql_wire_connection *connection, mysql_wire_view *bytes);
+
+/* Drops the first `count` bytes that wait, or all where there are fewer, and answers how many. */
+size_t mysql_wire_sent(mysql_wire_connection *connection, size_t count);
+
+/* --- numbers of packets --- */
+
+/*
+ * Numbers the next packet 0, as at the start of a command.
+ * OK; NO_MEMORY (only where a packet is lent): nothing changes.
+ */
+int32_t mysql_wire_reset(mysql_wire_connection *connection);
+
+/* The number of the next packet: 0 to 255. CLOSED; OUT_OF_SYNC: the stream is lost. */
+int32_t mysql_wire_sequence_id(mysql_wire_connection *connection);
+
+/* A text for a code, ended by a zero that isn't counted in `len`. It is there for good. */
+void mysql_wire_message(int32_t code, mysql_wire_view *text);
+
+/*
+ * --- fields ---
+ * `at` is where to read or write next. It moves past the field where the answer is OK; any other
+ * answer changes nothing.
+ */
+
+/* `width` bytes, 1 to 8, the least significant first. OK, MISSING_BYTES, NOT_A_NUMBER. */
+int32_t mysql_wire_read_int(const uint8_t *bytes, size_t len, size_t *at, size_t width,
+                            uint64_t *value);
+
+/* int<lenenc>. OK, MISSING_BYTES, NOT_A_NUMBER. */
+int32_t mysql_wire_read_lenenc_int(const uint8_t *bytes, size_t len, size_t *at, uint64_t *value);
+
+/* string<lenenc>: where its text stands. OK, MISSING_BYTES, NOT_A_NUMBER. */
+int32_t mysql_wire_read_lenenc_bytes(const uint8_t *bytes, size_t len, size_t *at,
+                                     mysql_wire_span *text);
+
+/* string<NUL>: where the text before the zero stands. OK, MISSING_BYTES. */
+int32_t mysql_wire_read_null_bytes(const uint8_t *bytes, size_t len, size_t *at,
+                                   mysql_wire_span *text);
+
+/* The low `width` bytes of a number, 1 to 8. OK, ROOM_TOO_SMALL, NOT_A_NUMBER. */
+int32_t mysql_wire_write_int(uint8_t *room, size_t len, size_t *at, size_t width, uint64_t value);
+
+/* int<lenenc>, in as few bytes as hold the number. OK, ROOM_TOO_SMALL. */
+int32_t mysql_wire_write_lenenc_int(uint8_t *room, size_t len, size_t *at, uint64_t value);
+
+/* string<lenenc>. OK, ROOM_TOO_SMALL. */
+int32_t mysql_wire_write_lenenc_bytes(uint8_t *room, size_t len, size_t *at, const uint8_t *text,
+                                      size_t text_len);
+
+/* string<NUL>: the text, which should have no zero, and a zero. OK, ROOM_TOO_SMALL. */
+int32_t mysql_wire_write_null_bytes(uint8_t *room, size_t len, size_t *at, const uint8_t *text,
+                                    size_t text_len);
+
+#ifdef __cplusplus
+}
+#endif
+#endif

@@ -1,0 +1,3 @@
+pub mod AsBox
+pub mod SideLemmas
+pub mod FieldLemmas

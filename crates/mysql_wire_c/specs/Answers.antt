@@ -1,0 +1,43 @@
+-- What the calls of a connection do to its side.
+use Rattle.std.specs.Prelude.{◌≡◌, ℕ, ◌⊎◌, List, [], None, MatchOption, Ok, Err, true, false}
+use Rattle.mysql_wire.specs.PacketCodecError.{PacketCodecError}
+use Rattle.mysql_wire.specs.PacketCodecError.TheVariants.{PacketsOutOfSync}
+use Rattle.mysql_wire.specs.Codec.{CodecState}
+use Rattle.mysql_wire.specs.LimitedRuns.{DecodesAligned}
+use Rattle.mysql_wire.specs.Laws.{empty_state}
+use Rattle.mysql_wire_c.specs.Side.{Side}
+
+-- a connection to which nothing has come, with this limit
+abbrev pub new_side : ℕ → Side
+new_side limit =
+    record { is_lost = false; lent = None; state = empty_state 0 limit; pending = [] }
+
+-- a state with this packet held
+abbrev pub holding : List ℕ → CodecState → CodecState
+holding packet state = record state { held = packet }
+
+-- the packet is the one that was lent, or else the next one, as one call of the codec's `decode`
+-- has it; and this stands behind it
+abbrev pub HandsOut : Side → List ℕ → CodecState → Type 0
+HandsOut before packet behind =
+    MatchOption before.lent (DecodesAligned before.state (Ok true) (holding packet behind))
+    (λ lent. (packet ≡ lent) × (behind ≡ before.state))
+
+-- no packet was lent, and none is; one call of `decode` asks for more bytes, and leaves this
+abbrev pub Waits : Side → Side → Type 0
+Waits before after =
+    (before.lent ≡ None) × (after.lent ≡ None) × (after.is_lost ≡ false)
+    × DecodesAligned before.state (Ok false) after.state
+
+-- the same, and the call answers this error
+abbrev pub Stops : Side → PacketCodecError → Side → Type 0
+Stops before error after =
+    (before.lent ≡ None) × (after.lent ≡ None) × (after.is_lost ≡ false)
+    × DecodesAligned before.state (Err error) after.state
+
+-- the connection was lost before, and nothing changes, or it is lost by this call
+abbrev pub LosesSync : Side → Side → Type 0
+LosesSync before after =
+    (after.is_lost ≡ true) × (((before.is_lost ≡ true) × (after ≡ before))
+    ⊎ ((before.lent ≡ None) × (after.lent ≡ None)
+    × DecodesAligned before.state (Err PacketsOutOfSync) after.state))

@@ -1,0 +1,102 @@
+-- What each call of a connection does, by its answer. Each answer but these is none that it gives.
+use Rattle.std.specs.Prelude.{◌≡◌, ℕ, ℤ, pos, ◌+◌, ◌^◌, ◌-◌, ◌<◌, ◌≤◌, ◌⊎◌, List, ◌++◌, length, take, drop, min, Option, None, IsSome, IfSome, true, false}
+use Rattle.mysql_wire.specs.PacketCodecError.TheVariants.{OutOfMemory, PacketTooLarge}
+use Rattle.mysql_wire.specs.Framing.{framing, next_id}
+use Rattle.mysql_wire.specs.Laws.{appended}
+use Rattle.mysql_wire_c.specs.declared.codes.TheConstants.{OK, WAITS, PACKET, TOO_LARGE, OUT_OF_SYNC, NO_MEMORY, ROOM_TOO_SMALL, PACKET_WAITS, NO_PACKET}
+use Rattle.mysql_wire_c.specs.Side.{Side}
+use Rattle.mysql_wire_c.specs.Answers.{HandsOut, Waits, Stops, LosesSync}
+
+-- this holds of two connections, where both are open
+abbrev pub Both : Option Side → Option Side → (Side → Side → Type 0) → Type 0
+Both old new holds = IfSome old (λ before. IfSome new (λ after. holds before after))
+
+pub record Feeds (bytes : List ℕ) (answer : ℤ) (before after : Side) : Type 0 where
+  pub fed : answer ≡ OK → (before.is_lost ≡ false)
+      × (after ≡ record before { state = appended before.state bytes })
+  pub refused : (answer ≡ OK) ⊎ (after ≡ before)
+  pub lost : answer ≡ OUT_OF_SYNC → before.is_lost ≡ true
+  pub stays_lost : before.is_lost ≡ true → answer ≡ OUT_OF_SYNC
+  pub answers : (answer ≡ OK) ⊎ (answer ≡ OUT_OF_SYNC) ⊎ (answer ≡ NO_MEMORY)
+
+pub record Peeks (answer : ℤ) (before after : Side) : Type 0 where
+  pub packet : answer ≡ PACKET → IfSome after.lent (λ packet. HandsOut before packet after.state)
+  pub lent : answer ≡ PACKET → IsSome after.lent × (after.is_lost ≡ false)
+  pub waits : answer ≡ WAITS → Waits before after
+  pub too_large : answer ≡ TOO_LARGE → Stops before PacketTooLarge after
+  pub memory : answer ≡ NO_MEMORY → Stops before OutOfMemory after
+  pub lost : answer ≡ OUT_OF_SYNC → LosesSync before after
+  pub lends_again : IsSome before.lent → answer ≡ PACKET
+  pub stays_lost : before.is_lost ≡ true → answer ≡ OUT_OF_SYNC
+  pub answers : (answer ≡ PACKET) ⊎ (answer ≡ WAITS) ⊎ (answer ≡ TOO_LARGE)
+      ⊎ (answer ≡ NO_MEMORY) ⊎ (answer ≡ OUT_OF_SYNC)
+  pub limit : after.state.limit ≡ before.state.limit
+  pub pending : after.pending ≡ before.pending
+
+pub record Takes (answer : ℤ) (before after : Side) : Type 0 where
+  pub taken : answer ≡ OK → IsSome before.lent × (after ≡ record before { lent = None })
+  pub none : answer ≡ NO_PACKET → (before.lent ≡ None) × (after ≡ before)
+  pub answers : (answer ≡ OK) ⊎ (answer ≡ NO_PACKET)
+
+-- the packet is copied to the front of the room, which has so many bytes of it then
+pub record CopiesNext (old_room room : List ℕ) (len : ℕ) (answer : ℤ) (before after : Side)
+    : Type 0 where
+  pub packet : answer ≡ PACKET → (after.lent ≡ None) × (len ≤ length room)
+      × HandsOut before (take len room) after.state
+  pub small : answer ≡ ROOM_TOO_SMALL → IfSome after.lent (λ packet.
+      HandsOut before packet after.state × (len ≡ length packet) × (length old_room < len))
+  pub lent : answer ≡ ROOM_TOO_SMALL → IsSome after.lent
+  pub waits : answer ≡ WAITS → Waits before after
+  pub too_large : answer ≡ TOO_LARGE → Stops before PacketTooLarge after
+  pub memory : answer ≡ NO_MEMORY → Stops before OutOfMemory after
+  pub lost : answer ≡ OUT_OF_SYNC → LosesSync before after
+  pub answers : (answer ≡ PACKET) ⊎ (answer ≡ ROOM_TOO_SMALL) ⊎ (answer ≡ WAITS)
+      ⊎ (answer ≡ TOO_LARGE) ⊎ (answer ≡ NO_MEMORY) ⊎ (answer ≡ OUT_OF_SYNC)
+  pub limit : after.state.limit ≡ before.state.limit
+  pub pending : after.pending ≡ before.pending
+  pub same_room : (answer ≡ PACKET) ⊎ (room ≡ old_room)
+  pub rest_of_room : answer ≡ PACKET → drop len room ≡ drop len old_room
+
+-- the limit is set where all headers that came were judged under the old one
+pub record SetsLimit (limit : ℕ) (answer : ℤ) (before after : Side) : Type 0 where
+  pub set : answer ≡ OK → (between : Side)
+      × (Waits before between ⊎ Stops before PacketTooLarge between)
+      × (after ≡ record between { state = record between.state { limit = limit } })
+  pub packet : answer ≡ PACKET_WAITS
+      → IfSome after.lent (λ packet. HandsOut before packet after.state)
+  pub lent : answer ≡ PACKET_WAITS → IsSome after.lent
+  pub memory : answer ≡ NO_MEMORY → Stops before OutOfMemory after
+  pub lost : answer ≡ OUT_OF_SYNC → LosesSync before after
+  pub answers : (answer ≡ OK) ⊎ (answer ≡ PACKET_WAITS) ⊎ (answer ≡ NO_MEMORY)
+      ⊎ (answer ≡ OUT_OF_SYNC)
+  pub refused : (answer ≡ OK) ⊎ (after.state.limit ≡ before.state.limit)
+  pub pending : after.pending ≡ before.pending
+
+abbrev pub unread_count : Side → ℕ
+unread_count side = min (length side.state.unread + length side.state.held) (2 ^ 64 - 1)
+
+pub record Encodes (payload : List ℕ) (answer : ℤ) (before after : Side) : Type 0 where
+  pub encoded : answer ≡ OK → after ≡ record before {
+    state = record before.state { id = next_id before.state.id payload };
+    pending = before.pending ++ framing before.state.id payload;
+  }
+  pub within : answer ≡ OK → length payload ≤ before.state.limit
+  pub too_large : answer ≡ TOO_LARGE → before.state.limit < length payload
+  pub refused : (answer ≡ OK) ⊎ (after ≡ before)
+  pub answers : (answer ≡ OK) ⊎ (answer ≡ TOO_LARGE) ⊎ (answer ≡ NO_MEMORY)
+
+-- so many of the bytes that wait go
+pub record Sends (count : ℕ) (before after : Side) : Type 0 where
+  pub bound : count ≤ length before.pending
+  pub rest : after ≡ record before { pending = drop count before.pending }
+
+pub record Resets (answer : ℤ) (before after : Side) : Type 0 where
+  pub reset : answer ≡ OK → after ≡ record before { state = record before.state { id = 0 } }
+  pub refused : (answer ≡ OK) ⊎ (after ≡ before)
+  pub answers : (answer ≡ OK) ⊎ (answer ≡ NO_MEMORY)
+
+-- the number of the next packet
+abbrev pub Numbers : ℤ → Side → Type 0
+Numbers answer side =
+    (side.is_lost ≡ false → answer ≡ pos side.state.id)
+    × (side.is_lost ≡ true → answer ≡ OUT_OF_SYNC)

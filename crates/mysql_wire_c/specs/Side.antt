@@ -1,0 +1,60 @@
+-- One side of a connection, as contracts see it.
+use Rattle.std.specs.Prelude.{◌≡◌, ℕ, List, [], Option, Some, None, Bool, true, false, ⊤}
+use Rattle.mysql_wire.specs.PacketCodec.{PacketCodec}
+use Rattle.mysql_wire.specs.Codec.{CodecState, expected_id}
+use Rattle.mysql_wire.specs.LimitedRuns.{Aligned}
+use Rattle.mysql_wire.specs.InPlace.{HasFront, front_payload, behind_front}
+use Rattle.mysql_wire_c.specs.declared.connection.Front.{Front}
+use Rattle.mysql_wire_c.specs.declared.connection.Front.TheVariants.{Unfinished, InPlace, Copied, Lost}
+
+pub record Side : Type 0 where
+  -- a packet came with another number than the expected one, and the stream is lost
+  pub is_lost : Bool
+  -- the packet that is lent, and not taken yet
+  pub lent : Option (List ℕ)
+  -- the codec, and what is to be read, behind the packet that is lent
+  pub state : CodecState
+  -- the bytes that wait to be sent
+  pub pending : List ℕ
+
+-- a state in which nothing is held
+abbrev pub emptied : CodecState → CodecState
+emptied state = record state { held = [] }
+
+abbrev pub is_lost_at : Front → Bool
+is_lost_at Lost = true
+is_lost_at other = false
+
+-- the packet that is lent lies in front of the bytes to be read, or is what is held
+abbrev pub lent_at : Front → CodecState → Option (List ℕ)
+lent_at Unfinished state = None
+lent_at InPlace state = Some (front_payload state.unread)
+lent_at Copied state = Some state.held
+lent_at Lost state = None
+
+-- what stands behind it
+abbrev pub behind_lent : Front → CodecState → CodecState
+behind_lent Unfinished state = state
+behind_lent InPlace state = emptied (behind_front state)
+behind_lent Copied state = emptied state
+behind_lent Lost state = state
+
+abbrev pub side_of : Front → CodecState → List ℕ → Side
+side_of front state pending = record {
+  is_lost = is_lost_at front;
+  lent = lent_at front state;
+  state = behind_lent front state;
+  pending = pending;
+}
+
+-- a connection goes on at its buffers, or is lost
+abbrev pub IsReady : Front → CodecState → Type 0
+IsReady Unfinished state = Aligned state
+IsReady InPlace state = HasFront state
+IsReady Copied state = Aligned (emptied state)
+IsReady Lost state = ⊤
+
+-- this is the number that the codec expects; where the connection is lost, nothing is known
+abbrev pub IsNumbered : Front → ℕ → PacketCodec → Type 0
+IsNumbered Lost id codec = ⊤
+IsNumbered other id codec = id ≡ expected_id codec

@@ -1,0 +1,64 @@
+//! What the calls answer.
+
+ghost use Rattle.std.specs.Prelude.{◌≡◌, ◌<◌, ◌-◌, length, slice_index};
+
+/// Done.
+pub const OK: i32 = 0;
+
+/// No packet is whole: more bytes are needed.
+pub const WAITS: i32 = 0;
+
+/// A packet stands whole.
+pub const PACKET: i32 = 1;
+
+/// The packet is above the limit.
+pub const TOO_LARGE: i32 = -1;
+
+/// A packet bears another number than the expected one. The stream is lost.
+pub const OUT_OF_SYNC: i32 = -2;
+
+/// Memory was refused. The same call may be made again.
+pub const NO_MEMORY: i32 = -3;
+
+/// The caller's room is too small.
+pub const ROOM_TOO_SMALL: i32 = -4;
+
+/// The connection is closed.
+pub const CLOSED: i32 = -5;
+
+/// The connection that is to be opened is open.
+pub const IS_OPEN: i32 = -6;
+
+/// A packet is to be taken first.
+pub const PACKET_WAITS: i32 = -7;
+
+/// There is no packet to be taken.
+pub const NO_PACKET: i32 = -8;
+
+/// The bytes end inside a field.
+pub const MISSING_BYTES: i32 = -9;
+
+/// No number begins here, or no number has this width.
+pub const NOT_A_NUMBER: i32 = -10;
+
+/// A text for a code. It ends with a zero.
+pub fn text(code: i32) -> &'static [u8]
+    ensures some { 1 < length result.now }
+    ensures zero { slice_index result.now (length result.now - 1) ≡ 0 }
+{
+    match code {
+        OK => b"done, or more bytes are needed\0",
+        PACKET => b"a packet stands whole\0",
+        TOO_LARGE => b"the packet is above the limit\0",
+        OUT_OF_SYNC => b"a packet bears another number than the expected one\0",
+        NO_MEMORY => b"out of memory\0",
+        ROOM_TOO_SMALL => b"the room is too small\0",
+        CLOSED => b"the connection is closed\0",
+        IS_OPEN => b"the connection is open already\0",
+        PACKET_WAITS => b"a packet is to be taken first\0",
+        NO_PACKET => b"there is no packet to take\0",
+        MISSING_BYTES => b"the bytes end inside a field\0",
+        NOT_A_NUMBER => b"no number begins here, or no number has this width\0",
+        _ => b"unknown code\0",
+    }
+}

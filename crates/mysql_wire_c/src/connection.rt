@@ -1,0 +1,413 @@
+//! One side of a connection: a codec with its buffers.
+
+ghost use Rattle.std.specs.Prelude.{◌≡◌, ◌≢◌, ◌⊎◌, ◌+◌, ◌-◌, ◌/◌, ◌%◌, ◌++◌, length, take, drop, min, Ok, Err, true, false, IfSome, IsSome, OnOk};
+ghost use Rattle.mysql_wire.specs.PacketCodecError.TheVariants.{OutOfMemory, PacketTooLarge, PacketsOutOfSync};
+ghost use Rattle.mysql_wire.specs.Codec.{codec_state};
+ghost use Rattle.mysql_wire.specs.Framing.{max_payload};
+ghost use Rattle.mysql_wire.specs.LimitedRuns.{DecodesAligned};
+ghost use Rattle.mysql_wire_c.specs.Side.{IsReady, IsNumbered, is_lost_at, lent_at, behind_lent};
+ghost use Rattle.mysql_wire_c.specs.Answers.{new_side, holding};
+ghost use Rattle.mysql_wire_c.specs.Calls.{Feeds, Peeks, Takes, CopiesNext, SetsLimit, unread_count, Encodes, Sends, Resets, Numbers};
+
+use crate::codes::{
+    NO_MEMORY, NO_PACKET, OK, OUT_OF_SYNC, PACKET, PACKET_WAITS, ROOM_TOO_SMALL, TOO_LARGE, WAITS,
+};
+use bytes::{Buf, BytesMut};
+use mysql_wire::constants::MAX_PAYLOAD_LEN;
+use mysql_wire::proto::codec::PacketCodec;
+use mysql_wire::proto::codec::error::PacketCodecError;
+use std::alloc::{AllocError, Global};
+use std::marker::Model;
+
+// The bytes of a chunk's header.
+const HEADER_LEN: usize = 4;
+
+// What stands in front.
+#[derive(Clone, Copy, Drop)]
+enum Front {
+    // No packet is lent.
+    Unfinished,
+    // The packet that is lent lies at the front of the unread bytes.
+    InPlace,
+    // The packet that is lent was put together apart.
+    Copied,
+    // A packet came with another number than the expected one.
+    Lost,
+}
+
+/// One side of a connection: the bytes that came and aren't taken, the packet that is put together,
+/// the numbers of packets, and the bytes that wait to be sent.
+///
+/// Contracts see it as a `Side`: whether it is lost, the packet that is lent, the codec behind it,
+/// and the bytes that wait.
+#[derive(Drop)]
+pub struct Connection {
+    codec: PacketCodec,
+    // The number that the codec expects, unless the connection is lost.
+    id: u8,
+    src: BytesMut<Global>,
+    dst: Vec<u8, Global>,
+    front: Front,
+    output: BytesMut<Global>,
+}
+
+impl Model for Connection {
+    ghost use Rattle.mysql_wire.specs.Codec.{codec_state};
+    ghost use Rattle.mysql_wire_c.specs.Side.{Side, side_of, IsReady, IsNumbered};
+
+    ghost Value = { Side };
+
+    ghost view = { λ c. side_of c.front (codec_state c.codec c.src.items c.dst.items)
+        c.output.items };
+
+    ghost invariant = { λ c. IsReady c.front (codec_state c.codec c.src.items c.dst.items)
+        × IsNumbered c.front c.id c.codec };
+}
+
+impl Connection {
+    /// A connection to which nothing has come, of packets of at most `limit` bytes.
+    pub fn new(alloc: Global, limit: usize) -> Connection
+        ensures { result ≡ new_side limit }
+    {
+        let mut codec = PacketCodec::default();
+        codec.max_allowed_packet = limit;
+        Connection {
+            codec,
+            id: 0,
+            src: BytesMut::new(alloc),
+            dst: Vec::new(alloc),
+            front: Front::Unfinished,
+            output: BytesMut::new(alloc),
+        }
+    }
+}
+
+// What comes.
+impl Connection {
+    /// Takes bytes that came, behind those that are unread. `OUT_OF_SYNC` where the connection is
+    /// lost, `NO_MEMORY` where memory was refused: then nothing is taken.
+    pub fn feed(&mut self, bytes: &[u8]) -> i32
+        ensures { Feeds bytes.now result self.old self.new }
+    {
+        if let Front::Lost = self.front {
+            return OUT_OF_SYNC;
+        }
+        match self.src.extend_from_slice(bytes) {
+            Ok(()) => OK,
+            Err(_) => NO_MEMORY,
+        }
+    }
+
+    /// Lends the next packet, where it stands whole; one that is lent already is lent again.
+    pub fn peek(&mut self) -> i32
+        ensures { Peeks result self.old self.new }
+    {
+        match self.front {
+            Front::InPlace | Front::Copied => PACKET,
+            Front::Lost => OUT_OF_SYNC,
+            Front::Unfinished => find(
+                &mut self.codec,
+                &mut self.id,
+                &mut self.src,
+                &mut self.dst,
+                &mut self.front,
+            ),
+        }
+    }
+
+    /// The packet that is lent; no bytes where none is.
+    pub fn packet(&self) -> &[u8]
+        ensures { IfSome self.now.lent (λ packet. result.now ≡ packet) }
+    {
+        match self.front {
+            Front::InPlace => match self.codec.front_packet(&self.src, self.dst.as_slice()) {
+                Some(packet) => packet,
+                None => &[],
+            },
+            Front::Copied => self.dst.as_slice(),
+            Front::Unfinished | Front::Lost => &[],
+        }
+    }
+
+    /// Takes the packet that is lent. `NO_PACKET` where none is.
+    pub fn take(&mut self) -> i32
+        ensures { Takes result self.old self.new }
+    {
+        match self.front {
+            Front::InPlace => {
+                self.codec.take_front(&mut self.src);
+                self.id = self.id.wrapping_add(1);
+            }
+            Front::Copied => self.dst.clear(),
+            Front::Unfinished | Front::Lost => return NO_PACKET,
+        }
+        self.front = Front::Unfinished;
+        OK
+    }
+}
+
+// The number of the next chunk, where so many bytes of a packet were held when this was its number,
+// and so many are now.
+#[tactic(auto, using(crate::proofs::SideLemmas::full_chunk))]
+fn number_at(id: u8, held: usize, now: usize) -> u8
+    ensures { result ≡ ((id + 256 - held / max_payload % 256) % 256 + now / max_payload) % 256 }
+{
+    let opened = (id as usize + 256 - held / MAX_PAYLOAD_LEN % 256) % 256;
+    ((opened + now / MAX_PAYLOAD_LEN) % 256) as u8
+}
+
+// The number behind a packet of so many bytes that begins with this one.
+#[tactic(auto, using(crate::proofs::SideLemmas::full_chunk))]
+fn number_behind(id: u8, len: usize) -> u8
+    ensures { result ≡ (id + len / max_payload + 1) % 256 }
+{
+    ((id as usize + len / MAX_PAYLOAD_LEN + 1) % 256) as u8
+}
+
+// Looks for a packet that stands whole.
+fn find(
+    codec: &mut PacketCodec,
+    id: &mut u8,
+    src: &mut BytesMut<Global>,
+    dst: &mut Vec<u8, Global>,
+    front: &mut Front,
+) -> i32
+    requires ready { IsReady front.old (codec_state codec.old src.old.items dst.old.items) }
+    requires numbered { IsNumbered front.old id.old codec.old }
+    requires found { front.old ≡ Front.Unfinished }
+    ensures ready { IsReady front.new (codec_state codec.new src.new.items dst.new.items) }
+    ensures numbered { IsNumbered front.new id.new codec.new }
+
+    ensures packet { let after = codec_state codec.new src.new.items dst.new.items in
+        result ≡ PACKET → IfSome (lent_at front.new after) (λ packet. DecodesAligned
+        (codec_state codec.old src.old.items dst.old.items) (Ok true)
+        (holding packet (behind_lent front.new after))) }
+    ensures lent { let after = codec_state codec.new src.new.items dst.new.items in
+        result ≡ PACKET → IsSome (lent_at front.new after) }
+    ensures waits { let after = codec_state codec.new src.new.items dst.new.items in
+        result ≡ WAITS → (front.new ≡ Front.Unfinished) × DecodesAligned
+        (codec_state codec.old src.old.items dst.old.items) (Ok false) after }
+    ensures too_large { let after = codec_state codec.new src.new.items dst.new.items in
+        result ≡ TOO_LARGE → (front.new ≡ Front.Unfinished) × DecodesAligned
+        (codec_state codec.old src.old.items dst.old.items) (Err PacketTooLarge) after }
+    ensures memory { let after = codec_state codec.new src.new.items dst.new.items in
+        result ≡ NO_MEMORY → (front.new ≡ Front.Unfinished) × DecodesAligned
+        (codec_state codec.old src.old.items dst.old.items) (Err OutOfMemory) after }
+    ensures lost { let after = codec_state codec.new src.new.items dst.new.items in
+        result ≡ OUT_OF_SYNC → (front.new ≡ Front.Lost) × DecodesAligned
+        (codec_state codec.old src.old.items dst.old.items) (Err PacketsOutOfSync) after }
+    ensures answers { (result ≡ PACKET) ⊎ (result ≡ WAITS) ⊎ (result ≡ TOO_LARGE)
+        ⊎ (result ≡ NO_MEMORY) ⊎ (result ≡ OUT_OF_SYNC) }
+    ensures limit { codec.new.max_allowed_packet ≡ codec.old.max_allowed_packet }
+{
+    if codec.stands_at(src, dst) && codec.front_packet(src, dst).is_some() {
+        *front = Front::InPlace;
+        return PACKET;
+    }
+    let held = dst.len();
+    let answer = codec.decode(src, dst);
+    *id = number_at(*id, held, dst.len());
+    match answer {
+        Ok(true) => {
+            *id = id.wrapping_add(1);
+            *front = Front::Copied;
+            PACKET
+        }
+        Ok(false) => WAITS,
+        Err(PacketCodecError::PacketTooLarge) => TOO_LARGE,
+        Err(PacketCodecError::PacketsOutOfSync) => {
+            *front = Front::Lost;
+            OUT_OF_SYNC
+        }
+        Err(_) => NO_MEMORY,
+    }
+}
+
+impl Connection {
+    /// Copies the next packet to `room`, and takes it. `len` is how many bytes it has, and 0 where
+    /// there is none. `ROOM_TOO_SMALL`: it is lent, and stays.
+    pub fn next(&mut self, room: &mut [u8], len: &mut usize) -> i32
+        ensures { CopiesNext room.old room.new len.new result self.old self.new }
+    {
+        *len = 0;
+        let code = self.peek();
+        if code != PACKET {
+            return code;
+        }
+        let packet = self.packet();
+        let count = packet.len();
+        *len = count;
+        if room.len() < count {
+            return ROOM_TOO_SMALL;
+        }
+        room[..count].copy_from_slice(packet);
+        self.take();
+        PACKET
+    }
+
+    /// Sets the most bytes of a packet, for the headers that end in bytes that are fed from now on;
+    /// where the packet in front is too large, for all that is unread. `PACKET_WAITS`: a packet
+    /// stands whole, and is lent; it is to be taken first. Every answer but `OK` leaves the limit.
+    pub fn set_limit(&mut self, limit: usize) -> i32
+        ensures { SetsLimit limit result self.old self.new }
+    {
+        match self.peek() {
+            WAITS | TOO_LARGE => {
+                self.codec.max_allowed_packet = limit;
+                OK
+            }
+            PACKET => PACKET_WAITS,
+            code => code,
+        }
+    }
+
+    /// How many bytes came of which no packet was made; the headers of full chunks that are put
+    /// together aren't counted.
+    pub fn unread(&self) -> usize
+        ensures { result ≡ unread_count self.now }
+    {
+        match self.front {
+            Front::InPlace => {
+                let skipped = HEADER_LEN + self.packet().len();
+                self.src.len() - skipped
+            }
+            Front::Copied => self.src.len(),
+            Front::Unfinished | Front::Lost => self.src.len().saturating_add(self.dst.len()),
+        }
+    }
+}
+
+// What goes, and the numbers of packets.
+impl Connection {
+    /// Frames a payload behind the bytes that wait to be sent, numbered on from the packet that was
+    /// lent or sent last. `TOO_LARGE` and `NO_MEMORY` change nothing.
+    pub fn encode(&mut self, payload: &[u8]) -> i32
+        ensures { Encodes payload.now result self.old self.new }
+    {
+        match set_aside(
+            &mut self.codec,
+            &mut self.id,
+            &mut self.src,
+            &mut self.dst,
+            &mut self.front,
+        ) {
+            Ok(()) => {}
+            Err(_) => return NO_MEMORY,
+        }
+        let len = payload.len();
+        let mut payload = payload;
+        match self.codec.encode(&mut payload, &mut self.output) {
+            Ok(()) => {
+                self.id = number_behind(self.id, len);
+                OK
+            }
+            Err(PacketCodecError::PacketTooLarge) => TOO_LARGE,
+            Err(_) => NO_MEMORY,
+        }
+    }
+
+    /// Moves bytes that wait to be sent to `room`, as many as it has place for. The answer is how
+    /// many.
+    pub fn output(&mut self, room: &mut [u8]) -> usize
+        ensures count { result ≡ min (length self.old.pending) (length room.old) }
+        ensures moved { room.new ≡ take result self.old.pending ++ drop result room.old }
+        ensures sends { Sends result self.old self.new }
+    {
+        let bytes = self.output.as_slice();
+        let count = bytes.len().min(room.len());
+        room[..count].copy_from_slice(&bytes[..count]);
+        self.output.advance(count);
+        count
+    }
+
+    /// The bytes that wait to be sent.
+    pub fn pending(&self) -> &[u8]
+        ensures { result.now ≡ self.now.pending }
+    {
+        self.output.as_slice()
+    }
+
+    /// Drops so many of the bytes that wait to be sent, or all where there are fewer. The answer is
+    /// how many.
+    pub fn sent(&mut self, count: usize) -> usize
+        ensures count { result ≡ min count (length self.old.pending) }
+        ensures sends { Sends result self.old self.new }
+    {
+        let count = count.min(self.output.len());
+        self.output.advance(count);
+        count
+    }
+
+    /// Numbers the next packet 0, as at the start of a command. `NO_MEMORY` changes nothing.
+    pub fn reset(&mut self) -> i32
+        ensures { Resets result self.old self.new }
+    {
+        match set_aside(
+            &mut self.codec,
+            &mut self.id,
+            &mut self.src,
+            &mut self.dst,
+            &mut self.front,
+        ) {
+            Ok(()) => {
+                self.codec.reset_seq_id();
+                self.id = 0;
+                OK
+            }
+            Err(_) => NO_MEMORY,
+        }
+    }
+}
+
+impl Connection {
+    /// The number of the next packet, sent or received. `OUT_OF_SYNC` where the connection is lost.
+    pub fn sequence_id(&self) -> i32
+        ensures { Numbers result self.now }
+    {
+        match self.front {
+            Front::InPlace => self.id.wrapping_add(1) as i32,
+            Front::Unfinished | Front::Copied => self.id as i32,
+            Front::Lost => OUT_OF_SYNC,
+        }
+    }
+}
+
+// Puts a packet that is lent where it lies apart, so that the codec goes on behind it.
+fn set_aside(
+    codec: &mut PacketCodec,
+    id: &mut u8,
+    src: &mut BytesMut<Global>,
+    dst: &mut Vec<u8, Global>,
+    front: &mut Front,
+) -> Result<(), AllocError>
+    requires ready { IsReady front.old (codec_state codec.old src.old.items dst.old.items) }
+    requires numbered { IsNumbered front.old id.old codec.old }
+    ensures ready { IsReady front.new (codec_state codec.new src.new.items dst.new.items) }
+    ensures numbered { IsNumbered front.new id.new codec.new }
+    ensures apart { OnOk result (front.new ≢ Front.InPlace) }
+    ensures lost { is_lost_at front.new ≡ is_lost_at front.old }
+    ensures lent { lent_at front.new (codec_state codec.new src.new.items dst.new.items)
+        ≡ lent_at front.old (codec_state codec.old src.old.items dst.old.items) }
+    ensures behind { behind_lent front.new (codec_state codec.new src.new.items dst.new.items)
+        ≡ behind_lent front.old (codec_state codec.old src.old.items dst.old.items) }
+{
+    if let Front::InPlace = *front {
+        if let Some(packet) = codec.front_packet(src, dst) {
+            dst.extend_from_slice(packet)?;
+        }
+        codec.take_front(src);
+        *id = id.wrapping_add(1);
+        *front = Front::Copied;
+    }
+    Ok(())
+}
+
+/// A connection on the heap.
+pub fn boxed(alloc: Global, limit: usize) -> Option<Box<Connection, Global>>
+    ensures { IfSome result (λ connection. connection.value ≡ new_side limit) }
+{
+    match Box::new(alloc, Connection::new(alloc, limit)) {
+        Ok(connection) => Some(connection),
+        Err(_) => None,
+    }
+}

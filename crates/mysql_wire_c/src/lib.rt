@@ -1,0 +1,385 @@
+//! The packet layer for C: one side of a connection behind a handle, and fields in bytes.
+//!
+//! `include/mysql_wire.h` has the same calls for C.
+#![tactic(auto)]
+
+ghost use Rattle.std.specs.Prelude.{◌≡◌, ◌≢◌, ◌⊎◌, ◌+◌, ◌≤◌, ◌<◌, [], ◌∷◌, ◌++◌, IsSome, IfSome, MatchOption, Some, None, is_some, length, take, drop, min};
+ghost use Rattle.std.specs.List.{before_first};
+ghost use Rattle.mysql_wire.specs.Numbers.{le_bytes, le_number};
+ghost use Rattle.mysql_wire.specs.NullText.{is_zero};
+ghost use Rattle.mysql_wire.specs.Spelling.{SpellsNothing};
+ghost use Rattle.mysql_wire.specs.Lenenc.{IsLenenc, IsLenencOrMark, lenenc_bytes};
+ghost use Rattle.mysql_wire_c.specs.declared.codes.TheConstants.{MISSING_BYTES, NOT_A_NUMBER, ROOM_TOO_SMALL};
+ghost use Rattle.mysql_wire_c.specs.Answers.{new_side};
+ghost use Rattle.mysql_wire_c.specs.Calls.{Both, Feeds, Peeks, Takes, CopiesNext, SetsLimit, unread_count, Encodes, Sends, Resets, Numbers};
+ghost use Rattle.mysql_wire_c.specs.Fields.{IsCutShort, IsMark, ReadsAt, WritesAt, text_at};
+
+pub mod codes;
+pub mod connection;
+pub mod fields;
+pub mod handle;
+pub mod view;
+
+use crate::codes::{CLOSED, IS_OPEN, NO_MEMORY, OK, PACKET};
+use crate::connection::boxed;
+use crate::fields::Span;
+use crate::handle::Handle;
+use crate::view::View;
+use std::alloc::Global;
+use std::mem;
+
+/// Puts a connection with a limit on packets into a handle of nothing.
+#[unsafe(no_mangle)]
+pub extern "C" fn mysql_wire_open(alloc: Global, limit: usize, handle: &mut Handle) -> i32
+    ensures opened { result ≡ OK → (handle.old.connection ≡ None)
+        × (handle.new.connection ≡ Some (new_side limit)) }
+    ensures refused { (result ≡ OK) ⊎ (handle.new ≡ handle.old) }
+    ensures answers { (result ≡ OK) ⊎ (result ≡ IS_OPEN) ⊎ (result ≡ NO_MEMORY) }
+    ensures is_open { result ≡ IS_OPEN → IsSome handle.old.connection }
+{
+    if !handle.is_closed() {
+        return IS_OPEN;
+    }
+    match boxed(alloc, limit) {
+        Some(connection) => {
+            *handle = Handle::of(connection);
+            OK
+        }
+        None => NO_MEMORY,
+    }
+}
+
+/// Frees the connection, where there is one, and leaves the handle closed.
+#[unsafe(no_mangle)]
+pub extern "C" fn mysql_wire_close(alloc: Global, handle: &mut Handle)
+    ensures { handle.new.connection ≡ None }
+{
+    if handle.is_closed() {
+        return;
+    }
+    let old = mem::replace(handle, Handle::closed(alloc));
+    drop(old.into_box())
+}
+
+/// Takes bytes that came from the other side.
+#[unsafe(no_mangle)]
+pub extern "C" fn mysql_wire_feed(handle: &mut Handle, bytes: &[u8]) -> i32
+    ensures open { is_some handle.new.connection ≡ is_some handle.old.connection }
+    ensures closed { handle.old.connection ≡ None → result ≡ CLOSED }
+    ensures feeds { Both handle.old.connection handle.new.connection
+        (Feeds bytes.now result) }
+{
+    if handle.is_closed() {
+        return CLOSED;
+    }
+    handle.connection().feed(bytes)
+}
+
+/// Lends the next packet.
+#[unsafe(no_mangle)]
+pub extern "C" fn mysql_wire_peek(handle: &mut Handle, packet: &mut View) -> i32
+    ensures open { is_some handle.new.connection ≡ is_some handle.old.connection }
+    ensures closed { handle.old.connection ≡ None → result ≡ CLOSED }
+    ensures peeks { Both handle.old.connection handle.new.connection (Peeks result) }
+    ensures len { result ≡ PACKET → IfSome handle.new.connection (λ after.
+        IfSome after.lent (λ lent. packet.new.len ≡ length lent)) }
+    ensures empty { (result ≡ PACKET) ⊎ (packet.new.len ≡ 0) }
+{
+    packet.show(&[]);
+    if handle.is_closed() {
+        return CLOSED;
+    }
+    let connection = handle.connection();
+    let code = connection.peek();
+    if code == PACKET {
+        packet.show(connection.packet());
+    }
+    code
+}
+
+/// Takes the packet that is lent.
+#[unsafe(no_mangle)]
+pub extern "C" fn mysql_wire_take(handle: &mut Handle) -> i32
+    ensures open { is_some handle.new.connection ≡ is_some handle.old.connection }
+    ensures closed { handle.old.connection ≡ None → result ≡ CLOSED }
+    ensures takes { Both handle.old.connection handle.new.connection
+        (Takes result) }
+{
+    if handle.is_closed() {
+        return CLOSED;
+    }
+    handle.connection().take()
+}
+
+/// Copies the next packet to `room`, and takes it.
+#[unsafe(no_mangle)]
+pub extern "C" fn mysql_wire_next(handle: &mut Handle, room: &mut [u8], len: &mut usize) -> i32
+    ensures open { is_some handle.new.connection ≡ is_some handle.old.connection }
+    ensures closed { handle.old.connection ≡ None → result ≡ CLOSED }
+    ensures copies { Both handle.old.connection handle.new.connection
+        (CopiesNext room.old room.new len.new result) }
+{
+    *len = 0;
+    if handle.is_closed() {
+        return CLOSED;
+    }
+    handle.connection().next(room, len)
+}
+
+/// Sets the most bytes of a packet.
+#[unsafe(no_mangle)]
+pub extern "C" fn mysql_wire_set_limit(handle: &mut Handle, limit: usize) -> i32
+    ensures open { is_some handle.new.connection ≡ is_some handle.old.connection }
+    ensures closed { handle.old.connection ≡ None → result ≡ CLOSED }
+    ensures sets { Both handle.old.connection handle.new.connection
+        (SetsLimit limit result) }
+{
+    if handle.is_closed() {
+        return CLOSED;
+    }
+    handle.connection().set_limit(limit)
+}
+
+/// How many bytes came of which no packet was made.
+#[unsafe(no_mangle)]
+pub extern "C" fn mysql_wire_unread(handle: &mut Handle) -> usize
+    ensures same { handle.new.connection ≡ handle.old.connection }
+    ensures count { MatchOption handle.old.connection (result ≡ 0)
+        (λ side. result ≡ unread_count side) }
+{
+    if handle.is_closed() {
+        return 0;
+    }
+    handle.connection().unread()
+}
+
+/// Frames a payload behind the bytes that wait to be sent.
+#[unsafe(no_mangle)]
+pub extern "C" fn mysql_wire_encode(handle: &mut Handle, payload: &[u8]) -> i32
+    ensures open { is_some handle.new.connection ≡ is_some handle.old.connection }
+    ensures closed { handle.old.connection ≡ None → result ≡ CLOSED }
+    ensures encodes { Both handle.old.connection handle.new.connection
+        (Encodes payload.now result) }
+{
+    if handle.is_closed() {
+        return CLOSED;
+    }
+    handle.connection().encode(payload)
+}
+
+/// Moves bytes that wait to be sent to `room`.
+#[unsafe(no_mangle)]
+pub extern "C" fn mysql_wire_output(handle: &mut Handle, room: &mut [u8]) -> usize
+    ensures open { is_some handle.new.connection ≡ is_some handle.old.connection }
+    ensures closed { handle.old.connection ≡ None → result ≡ 0 }
+    ensures moves { Both handle.old.connection handle.new.connection (λ before after.
+        (result ≡ min (length before.pending) (length room.old))
+        × (room.new ≡ take result before.pending ++ drop result room.old)
+        × Sends result before after) }
+{
+    if handle.is_closed() {
+        return 0;
+    }
+    handle.connection().output(room)
+}
+
+/// Lends the bytes that wait to be sent.
+#[unsafe(no_mangle)]
+pub extern "C" fn mysql_wire_pending(handle: &mut Handle, bytes: &mut View)
+    ensures same { handle.new.connection ≡ handle.old.connection }
+    ensures len { MatchOption handle.old.connection (bytes.new.len ≡ 0)
+        (λ side. bytes.new.len ≡ length side.pending) }
+{
+    bytes.show(&[]);
+    if handle.is_closed() {
+        return;
+    }
+    let connection = handle.connection();
+    bytes.show(connection.pending());
+}
+
+/// Drops bytes that were sent.
+#[unsafe(no_mangle)]
+pub extern "C" fn mysql_wire_sent(handle: &mut Handle, count: usize) -> usize
+    ensures open { is_some handle.new.connection ≡ is_some handle.old.connection }
+    ensures closed { handle.old.connection ≡ None → result ≡ 0 }
+    ensures sends { Both handle.old.connection handle.new.connection (λ before after.
+        (result ≡ min count (length before.pending)) × Sends result before after) }
+{
+    if handle.is_closed() {
+        return 0;
+    }
+    handle.connection().sent(count)
+}
+
+/// Numbers the next packet 0.
+#[unsafe(no_mangle)]
+pub extern "C" fn mysql_wire_reset(handle: &mut Handle) -> i32
+    ensures open { is_some handle.new.connection ≡ is_some handle.old.connection }
+    ensures closed { handle.old.connection ≡ None → result ≡ CLOSED }
+    ensures resets { Both handle.old.connection handle.new.connection
+        (Resets result) }
+{
+    if handle.is_closed() {
+        return CLOSED;
+    }
+    handle.connection().reset()
+}
+
+/// The number of the next packet.
+#[unsafe(no_mangle)]
+pub extern "C" fn mysql_wire_sequence_id(handle: &mut Handle) -> i32
+    ensures same { handle.new.connection ≡ handle.old.connection }
+    ensures number { MatchOption handle.old.connection (result ≡ CLOSED)
+        (λ side. Numbers result side) }
+{
+    if handle.is_closed() {
+        return CLOSED;
+    }
+    handle.connection().sequence_id()
+}
+
+/// A text for a code, ended by a zero that isn't counted.
+#[unsafe(no_mangle)]
+pub extern "C" fn mysql_wire_message(code: i32, text: &mut View)
+    ensures { 0 < text.new.len }
+{
+    text.show(codes::text(code));
+    text.len = text.len.saturating_sub(1);
+}
+
+/// Reads a number of `width` bytes, 1 to 8, the least significant first. `NOT_A_NUMBER`: another
+/// width. `MISSING_BYTES`: there are fewer.
+///
+/// <https://dev.mysql.com/doc/dev/mysql-server/latest/page_protocol_basic_dt_integers.html>
+#[unsafe(no_mangle)]
+pub extern "C" fn mysql_wire_read_int(
+    bytes: &[u8],
+    at: &mut usize,
+    width: usize,
+    value: &mut u64,
+) -> i32
+    ensures read { result ≡ OK → (value.new ≡ le_number (take width (drop at.old bytes.now)))
+        × (at.new ≡ at.old + width) × (at.new ≤ length bytes.now) }
+    ensures missing { result ≡ MISSING_BYTES → length bytes.now < at.old + width }
+    ensures width { (1 ≤ width) × (width ≤ 8) → result ≢ NOT_A_NUMBER }
+    ensures refused { (result ≡ OK) ⊎ ((at.new ≡ at.old) × (value.new ≡ value.old)) }
+    ensures answers { (result ≡ OK) ⊎ (result ≡ MISSING_BYTES) ⊎ (result ≡ NOT_A_NUMBER) }
+{
+    fields::read_int(bytes, at, width, value)
+}
+
+/// Reads an `int<lenenc>`. `NOT_A_NUMBER`: its first byte is `fb` or `ff`. `MISSING_BYTES`: it is
+/// cut short.
+///
+/// <https://dev.mysql.com/doc/dev/mysql-server/latest/page_protocol_basic_dt_integers.html>
+#[unsafe(no_mangle)]
+pub extern "C" fn mysql_wire_read_lenenc_int(bytes: &[u8], at: &mut usize, value: &mut u64) -> i32
+    ensures read { result ≡ OK → ReadsAt IsLenenc bytes.now at.old value.new at.new }
+    ensures missing { result ≡ MISSING_BYTES
+        → SpellsNothing IsLenencOrMark (drop at.old bytes.now) }
+    ensures mark { result ≡ NOT_A_NUMBER → IsMark (drop at.old bytes.now) }
+    ensures refused { (result ≡ OK) ⊎ ((at.new ≡ at.old) × (value.new ≡ value.old)) }
+    ensures answers { (result ≡ OK) ⊎ (result ≡ MISSING_BYTES) ⊎ (result ≡ NOT_A_NUMBER) }
+{
+    fields::read_lenenc_int(bytes, at, value)
+}
+
+/// Reads a `string<lenenc>`: where the text behind an `int<lenenc>` stands. It answers as
+/// `read_lenenc_int`, and `MISSING_BYTES` where the text is cut short.
+///
+/// <https://dev.mysql.com/doc/dev/mysql-server/latest/page_protocol_basic_dt_strings.html>
+#[unsafe(no_mangle)]
+pub extern "C" fn mysql_wire_read_lenenc_bytes(bytes: &[u8], at: &mut usize, text: &mut Span) -> i32
+    ensures read { result ≡ OK → ReadsAt IsLenenc bytes.now at.old text.new.len text.new.at
+        × (at.new ≡ text.new.at + text.new.len) × (at.new ≤ length bytes.now) }
+    ensures missing { result ≡ MISSING_BYTES → IsCutShort bytes.now at.old }
+    ensures mark { result ≡ NOT_A_NUMBER → IsMark (drop at.old bytes.now) }
+    ensures refused { (result ≡ OK) ⊎ ((at.new ≡ at.old) × (text.new ≡ text.old)) }
+    ensures answers { (result ≡ OK) ⊎ (result ≡ MISSING_BYTES) ⊎ (result ≡ NOT_A_NUMBER) }
+{
+    fields::read_lenenc_bytes(bytes, at, text)
+}
+
+/// Reads a `string<NUL>`: where the text before the next zero stands. `MISSING_BYTES`: there is no
+/// zero.
+///
+/// <https://dev.mysql.com/doc/dev/mysql-server/latest/page_protocol_basic_dt_strings.html>
+#[unsafe(no_mangle)]
+pub extern "C" fn mysql_wire_read_null_bytes(bytes: &[u8], at: &mut usize, text: &mut Span) -> i32
+    ensures read { result ≡ OK → (text.new.at ≡ at.old)
+        × (text_at text.new bytes.now ≡ before_first is_zero (drop at.old bytes.now))
+        × (at.new ≡ at.old + text.new.len + 1) × (at.new ≤ length bytes.now) }
+    ensures missing { result ≡ MISSING_BYTES
+        → before_first is_zero (drop at.old bytes.now) ≡ drop at.old bytes.now }
+    ensures refused { (result ≡ OK) ⊎ ((at.new ≡ at.old) × (text.new ≡ text.old)) }
+    ensures answers { (result ≡ OK) ⊎ (result ≡ MISSING_BYTES) }
+{
+    fields::read_null_bytes(bytes, at, text)
+}
+
+/// Writes the low `width` bytes of a number, 1 to 8, the least significant first. `NOT_A_NUMBER`:
+/// another width. `ROOM_TOO_SMALL`: there is less room.
+///
+/// <https://dev.mysql.com/doc/dev/mysql-server/latest/page_protocol_basic_dt_integers.html>
+#[unsafe(no_mangle)]
+pub extern "C" fn mysql_wire_write_int(
+    room: &mut [u8],
+    at: &mut usize,
+    width: usize,
+    value: u64,
+) -> i32
+    ensures written { result ≡ OK
+        → WritesAt room.old at.old (le_bytes width value) room.new at.new }
+    ensures small { result ≡ ROOM_TOO_SMALL → length room.old < at.old + width }
+    ensures width { (1 ≤ width) × (width ≤ 8) → result ≢ NOT_A_NUMBER }
+    ensures refused { (result ≡ OK) ⊎ ((at.new ≡ at.old) × (room.new ≡ room.old)) }
+    ensures answers { (result ≡ OK) ⊎ (result ≡ ROOM_TOO_SMALL) ⊎ (result ≡ NOT_A_NUMBER) }
+{
+    fields::write_int(room, at, width, value)
+}
+
+/// Writes an `int<lenenc>`, in as few bytes as hold it. `ROOM_TOO_SMALL`: there is less room.
+///
+/// <https://dev.mysql.com/doc/dev/mysql-server/latest/page_protocol_basic_dt_integers.html>
+#[unsafe(no_mangle)]
+pub extern "C" fn mysql_wire_write_lenenc_int(room: &mut [u8], at: &mut usize, value: u64) -> i32
+    ensures written { result ≡ OK → WritesAt room.old at.old (lenenc_bytes value) room.new at.new }
+    ensures small { result ≡ ROOM_TOO_SMALL
+        → length room.old < at.old + length (lenenc_bytes value) }
+    ensures refused { (result ≡ OK) ⊎ ((at.new ≡ at.old) × (room.new ≡ room.old)) }
+    ensures answers { (result ≡ OK) ⊎ (result ≡ ROOM_TOO_SMALL) }
+{
+    fields::write_lenenc_int(room, at, value)
+}
+
+/// Writes a `string<lenenc>`: the text behind its length as an `int<lenenc>`. `ROOM_TOO_SMALL`:
+/// there is less room, and nothing is written.
+///
+/// <https://dev.mysql.com/doc/dev/mysql-server/latest/page_protocol_basic_dt_strings.html>
+#[unsafe(no_mangle)]
+pub extern "C" fn mysql_wire_write_lenenc_bytes(room: &mut [u8], at: &mut usize, text: &[u8]) -> i32
+    ensures written { result ≡ OK → WritesAt room.old at.old
+        (lenenc_bytes (length text.now) ++ text.now) room.new at.new }
+    ensures small { result ≡ ROOM_TOO_SMALL
+        → length room.old < at.old + length (lenenc_bytes (length text.now) ++ text.now) }
+    ensures refused { (result ≡ OK) ⊎ ((at.new ≡ at.old) × (room.new ≡ room.old)) }
+    ensures answers { (result ≡ OK) ⊎ (result ≡ ROOM_TOO_SMALL) }
+{
+    fields::write_lenenc_bytes(room, at, text)
+}
+
+/// Writes a `string<NUL>`: the text, and a zero. `ROOM_TOO_SMALL`: there is less room, and nothing
+/// is written.
+///
+/// <https://dev.mysql.com/doc/dev/mysql-server/latest/page_protocol_basic_dt_strings.html>
+#[unsafe(no_mangle)]
+pub extern "C" fn mysql_wire_write_null_bytes(room: &mut [u8], at: &mut usize, text: &[u8]) -> i32
+    ensures written { result ≡ OK → WritesAt room.old at.old (text.now ++ 0 ∷ []) room.new at.new }
+    ensures small { result ≡ ROOM_TOO_SMALL
+        → length room.old < at.old + length (text.now ++ 0 ∷ []) }
+    ensures refused { (result ≡ OK) ⊎ ((at.new ≡ at.old) × (room.new ≡ room.old)) }
+    ensures answers { (result ≡ OK) ⊎ (result ≡ ROOM_TOO_SMALL) }
+{
+    fields::write_null_bytes(room, at, text)
+}

@@ -1,0 +1,264 @@
+/* Each call and each code of a connection. */
+#include "tests.h"
+
+static const uint8_t ONE_TWO_THREE[] = {3, 0, 0, 0, '1', '2', '3'};
+
+/* Whether the view has these bytes. */
+static bool shows(mysql_wire_view view, const void *bytes, size_t len) {
+    return view.at != NULL && view.len == len && memcmp(view.at, bytes, len) == 0;
+}
+
+static mysql_wire_connection opened(size_t limit) {
+    mysql_wire_connection connection = NULL;
+    if (mysql_wire_open(limit, &connection) != MYSQL_WIRE_OK) abort();
+    return connection;
+}
+
+static bool a_closed_connection_answers_so(void) {
+    mysql_wire_connection none = NULL;
+    uint8_t room[4] = {0};
+    size_t len = 7;
+    mysql_wire_view view = {room, 3};
+    CHECK(mysql_wire_feed(&none, room, 4) == MYSQL_WIRE_CLOSED);
+    CHECK(mysql_wire_peek(&none, &view) == MYSQL_WIRE_CLOSED && view.len == 0);
+    CHECK(mysql_wire_take(&none) == MYSQL_WIRE_CLOSED);
+    CHECK(mysql_wire_next(&none, room, 4, &len) == MYSQL_WIRE_CLOSED && len == 0);
+    CHECK(mysql_wire_set_limit(&none, 1) == MYSQL_WIRE_CLOSED);
+    CHECK(mysql_wire_unread(&none) == 0);
+    CHECK(mysql_wire_encode(&none, room, 4) == MYSQL_WIRE_CLOSED);
+    CHECK(mysql_wire_output(&none, room, 4) == 0);
+    view.len = 3;
+    mysql_wire_pending(&none, &view);
+    CHECK(view.len == 0);
+    CHECK(mysql_wire_sent(&none, 4) == 0);
+    CHECK(mysql_wire_reset(&none) == MYSQL_WIRE_CLOSED);
+    CHECK(mysql_wire_sequence_id(&none) == MYSQL_WIRE_CLOSED);
+    mysql_wire_close(&none);
+    CHECK(none == NULL);
+    return true;
+}
+
+static bool an_open_connection_is_not_opened_again(void) {
+    mysql_wire_connection one = opened(16), same = one;
+    CHECK(mysql_wire_open(16, &one) == MYSQL_WIRE_IS_OPEN && one == same);
+    mysql_wire_close(&one);
+    CHECK(one == NULL);
+    CHECK(mysql_wire_open(16, &one) == MYSQL_WIRE_OK && one != NULL);
+    mysql_wire_close(&one);
+    mysql_wire_close(&one);
+    return true;
+}
+
+static bool a_packet_is_lent_until_it_is_taken(void) {
+    mysql_wire_connection one = opened(16);
+    mysql_wire_view view;
+    CHECK(mysql_wire_peek(&one, &view) == MYSQL_WIRE_WAITS && view.len == 0);
+    CHECK(mysql_wire_feed(&one, ONE_TWO_THREE, 5) == MYSQL_WIRE_OK);
+    CHECK(mysql_wire_peek(&one, &view) == MYSQL_WIRE_WAITS && view.len == 0);
+    CHECK(mysql_wire_take(&one) == MYSQL_WIRE_NO_PACKET);
+    CHECK(mysql_wire_unread(&one) == 5);
+    CHECK(mysql_wire_feed(&one, ONE_TWO_THREE + 5, 2) == MYSQL_WIRE_OK);
+    CHECK(mysql_wire_take(&one) == MYSQL_WIRE_NO_PACKET);
+    CHECK(mysql_wire_unread(&one) == 7);
+    for (int again = 0; again < 3; again++) {
+        CHECK(mysql_wire_peek(&one, &view) == MYSQL_WIRE_PACKET && shows(view, "123", 3));
+        CHECK(mysql_wire_unread(&one) == (size_t)again);
+        CHECK(mysql_wire_feed(&one, ONE_TWO_THREE, 1) == MYSQL_WIRE_OK);
+    }
+    CHECK(mysql_wire_sequence_id(&one) == 1);
+    CHECK(mysql_wire_take(&one) == MYSQL_WIRE_OK);
+    CHECK(mysql_wire_take(&one) == MYSQL_WIRE_NO_PACKET);
+    CHECK(mysql_wire_sequence_id(&one) == 1 && mysql_wire_unread(&one) == 3);
+    CHECK(mysql_wire_peek(&one, &view) == MYSQL_WIRE_WAITS);
+    mysql_wire_close(&one);
+    return true;
+}
+
+static bool an_empty_packet_is_a_packet(void) {
+    static const uint8_t empty[] = {0, 0, 0, 0};
+    mysql_wire_connection one = opened(0);
+    mysql_wire_view view;
+    CHECK(mysql_wire_feed(&one, empty, 4) == MYSQL_WIRE_OK);
+    CHECK(mysql_wire_peek(&one, &view) == MYSQL_WIRE_PACKET && view.at != NULL && view.len == 0);
+    CHECK(mysql_wire_take(&one) == MYSQL_WIRE_OK && mysql_wire_unread(&one) == 0);
+    mysql_wire_close(&one);
+    return true;
+}
+
+static bool too_little_room_leaves_the_packet(void) {
+    mysql_wire_connection one = opened(16);
+    uint8_t room[5] = "....";
+    size_t len = 9;
+    CHECK(mysql_wire_next(&one, room, 4, &len) == MYSQL_WIRE_WAITS && len == 0);
+    CHECK(mysql_wire_feed(&one, ONE_TWO_THREE, 7) == MYSQL_WIRE_OK);
+    CHECK(mysql_wire_next(&one, room, 2, &len) == MYSQL_WIRE_ROOM_TOO_SMALL && len == 3);
+    CHECK(memcmp(room, "....", 4) == 0);
+    CHECK(mysql_wire_next(&one, room, 0, &len) == MYSQL_WIRE_ROOM_TOO_SMALL && len == 3);
+    CHECK(mysql_wire_next(&one, room, 4, &len) == MYSQL_WIRE_PACKET && len == 3);
+    CHECK(memcmp(room, "123.", 4) == 0);
+    CHECK(mysql_wire_next(&one, room, 4, &len) == MYSQL_WIRE_WAITS && len == 0);
+    mysql_wire_close(&one);
+    return true;
+}
+
+static bool a_larger_limit_goes_on(void) {
+    mysql_wire_connection one = opened(2);
+    mysql_wire_view view;
+    uint8_t room[4];
+    size_t len = 1;
+    CHECK(mysql_wire_feed(&one, ONE_TWO_THREE, 4) == MYSQL_WIRE_OK);
+    CHECK(mysql_wire_peek(&one, &view) == MYSQL_WIRE_TOO_LARGE && view.len == 0);
+    CHECK(mysql_wire_next(&one, room, 4, &len) == MYSQL_WIRE_TOO_LARGE && len == 0);
+    CHECK(mysql_wire_unread(&one) == 4);
+    CHECK(mysql_wire_set_limit(&one, 1) == MYSQL_WIRE_OK);
+    CHECK(mysql_wire_peek(&one, &view) == MYSQL_WIRE_TOO_LARGE);
+    CHECK(mysql_wire_set_limit(&one, 3) == MYSQL_WIRE_OK);
+    CHECK(mysql_wire_peek(&one, &view) == MYSQL_WIRE_WAITS);
+    CHECK(mysql_wire_feed(&one, ONE_TWO_THREE + 4, 3) == MYSQL_WIRE_OK);
+    CHECK(mysql_wire_peek(&one, &view) == MYSQL_WIRE_PACKET && shows(view, "123", 3));
+    mysql_wire_close(&one);
+    return true;
+}
+
+static bool a_header_is_judged_once(void) {
+    static const uint8_t second[] = {3, 0, 0, 1, 'a', 'b', 'c'};
+    mysql_wire_connection one = opened(3);
+    mysql_wire_view view;
+    /* The fourth byte came under the limit of 3. */
+    CHECK(mysql_wire_feed(&one, ONE_TWO_THREE, 4) == MYSQL_WIRE_OK);
+    CHECK(mysql_wire_set_limit(&one, 2) == MYSQL_WIRE_OK);
+    CHECK(mysql_wire_feed(&one, ONE_TWO_THREE + 4, 3) == MYSQL_WIRE_OK);
+    CHECK(mysql_wire_peek(&one, &view) == MYSQL_WIRE_PACKET && shows(view, "123", 3));
+    /* No limit is set while it stands. */
+    CHECK(mysql_wire_set_limit(&one, 3) == MYSQL_WIRE_PACKET_WAITS);
+    CHECK(mysql_wire_take(&one) == MYSQL_WIRE_OK);
+    /* Three bytes came under the limit of 3, and the fourth under that of 2. */
+    CHECK(mysql_wire_set_limit(&one, 3) == MYSQL_WIRE_OK);
+    CHECK(mysql_wire_feed(&one, second, 3) == MYSQL_WIRE_OK);
+    CHECK(mysql_wire_set_limit(&one, 2) == MYSQL_WIRE_OK);
+    CHECK(mysql_wire_feed(&one, second + 3, 4) == MYSQL_WIRE_OK);
+    CHECK(mysql_wire_peek(&one, &view) == MYSQL_WIRE_TOO_LARGE);
+    mysql_wire_close(&one);
+    return true;
+}
+
+static bool a_whole_packet_keeps_the_limit(void) {
+    mysql_wire_connection one = opened(3);
+    mysql_wire_view view;
+    CHECK(mysql_wire_feed(&one, ONE_TWO_THREE, 7) == MYSQL_WIRE_OK);
+    CHECK(mysql_wire_set_limit(&one, 8) == MYSQL_WIRE_PACKET_WAITS);
+    CHECK(mysql_wire_encode(&one, (const uint8_t *)"four", 4) == MYSQL_WIRE_TOO_LARGE);
+    CHECK(mysql_wire_peek(&one, &view) == MYSQL_WIRE_PACKET && shows(view, "123", 3));
+    CHECK(mysql_wire_take(&one) == MYSQL_WIRE_OK);
+    CHECK(mysql_wire_set_limit(&one, 8) == MYSQL_WIRE_OK);
+    CHECK(mysql_wire_encode(&one, (const uint8_t *)"four", 4) == MYSQL_WIRE_OK);
+    mysql_wire_close(&one);
+    return true;
+}
+
+static bool a_lost_connection_stays_lost(void) {
+    static const uint8_t other[] = {1, 0, 0, 5, 'x', 0, 0, 0, 0};
+    mysql_wire_connection one = opened(16);
+    mysql_wire_view view = {other, 1};
+    uint8_t room[16];
+    size_t len = 1;
+    CHECK(mysql_wire_feed(&one, other, 9) == MYSQL_WIRE_OK);
+    CHECK(mysql_wire_peek(&one, &view) == MYSQL_WIRE_OUT_OF_SYNC && view.len == 0);
+    size_t unread = mysql_wire_unread(&one);
+    for (int again = 0; again < 3; again++) {
+        CHECK(mysql_wire_peek(&one, &view) == MYSQL_WIRE_OUT_OF_SYNC && view.len == 0);
+        CHECK(mysql_wire_next(&one, room, 16, &len) == MYSQL_WIRE_OUT_OF_SYNC && len == 0);
+        CHECK(mysql_wire_feed(&one, other, 9) == MYSQL_WIRE_OUT_OF_SYNC);
+        CHECK(mysql_wire_take(&one) == MYSQL_WIRE_NO_PACKET);
+        CHECK(mysql_wire_set_limit(&one, 3) == MYSQL_WIRE_OUT_OF_SYNC);
+        CHECK(mysql_wire_sequence_id(&one) == MYSQL_WIRE_OUT_OF_SYNC);
+        CHECK(mysql_wire_unread(&one) == unread);
+    }
+    CHECK(mysql_wire_reset(&one) == MYSQL_WIRE_OK);
+    CHECK(mysql_wire_encode(&one, other, 1) == MYSQL_WIRE_OK);
+    CHECK(mysql_wire_output(&one, room, 16) == 5 && memcmp(room, "\1\0\0\0\1", 5) == 0);
+    mysql_wire_close(&one);
+    return true;
+}
+
+static bool what_is_encoded_goes_out_in_parts(void) {
+    mysql_wire_connection one = opened(3);
+    mysql_wire_view view;
+    uint8_t room[8];
+    CHECK(mysql_wire_encode(&one, (const uint8_t *)"ab", 2) == MYSQL_WIRE_OK);
+    CHECK(mysql_wire_encode(&one, (const uint8_t *)"abcd", 4) == MYSQL_WIRE_TOO_LARGE);
+    CHECK(mysql_wire_encode(&one, (const uint8_t *)"", 0) == MYSQL_WIRE_OK);
+    CHECK(mysql_wire_sequence_id(&one) == 2);
+    mysql_wire_pending(&one, &view);
+    CHECK(shows(view, "\2\0\0\0ab\0\0\0\1", 10));
+    CHECK(mysql_wire_output(&one, room, 0) == 0);
+    CHECK(mysql_wire_output(&one, room, 5) == 5 && memcmp(room, "\2\0\0\0a", 5) == 0);
+    CHECK(mysql_wire_sent(&one, 2) == 2);
+    mysql_wire_pending(&one, &view);
+    CHECK(shows(view, "\0\0\1", 3));
+    CHECK(mysql_wire_sent(&one, 100) == 3 && mysql_wire_sent(&one, 1) == 0);
+    mysql_wire_pending(&one, &view);
+    CHECK(view.len == 0 && mysql_wire_output(&one, room, 8) == 0);
+    CHECK(mysql_wire_reset(&one) == MYSQL_WIRE_OK && mysql_wire_sequence_id(&one) == 0);
+    mysql_wire_close(&one);
+    return true;
+}
+
+static bool numbers_go_on_behind_a_packet_that_is_lent(void) {
+    mysql_wire_connection one = opened(3);
+    mysql_wire_view view;
+    uint8_t room[8];
+    CHECK(mysql_wire_feed(&one, ONE_TWO_THREE, 7) == MYSQL_WIRE_OK);
+    CHECK(mysql_wire_peek(&one, &view) == MYSQL_WIRE_PACKET);
+    CHECK(mysql_wire_sequence_id(&one) == 1);
+    CHECK(mysql_wire_encode(&one, (const uint8_t *)"a", 1) == MYSQL_WIRE_OK);
+    CHECK(mysql_wire_output(&one, room, 8) == 5 && memcmp(room, "\1\0\0\1a", 5) == 0);
+    CHECK(mysql_wire_reset(&one) == MYSQL_WIRE_OK && mysql_wire_sequence_id(&one) == 0);
+    CHECK(mysql_wire_peek(&one, &view) == MYSQL_WIRE_PACKET && shows(view, "123", 3));
+    CHECK(mysql_wire_take(&one) == MYSQL_WIRE_OK && mysql_wire_sequence_id(&one) == 0);
+    CHECK(mysql_wire_unread(&one) == 0);
+    mysql_wire_close(&one);
+    return true;
+}
+
+static bool the_numbers_are_those_of_the_chunks(void) {
+    mysql_wire_connection one = opened(16);
+    for (int packets = 0; packets < 600; packets++) {
+        CHECK(mysql_wire_sequence_id(&one) == packets % 256);
+        CHECK(mysql_wire_encode(&one, ONE_TWO_THREE, (size_t)packets % 3) == MYSQL_WIRE_OK);
+    }
+    mysql_wire_close(&one);
+    return true;
+}
+
+static bool each_code_has_a_text(void) {
+    const uint8_t *seen[13];
+    size_t count = 0;
+    for (int32_t code = MYSQL_WIRE_NOT_A_NUMBER; code <= MYSQL_WIRE_PACKET + 1; code++) {
+        mysql_wire_view text;
+        mysql_wire_message(code, &text);
+        CHECK(text.len > 5 && text.at[text.len] == 0 && strlen((const char *)text.at) == text.len);
+        for (size_t other = 0; other < count; other++)
+            CHECK(strcmp((const char *)seen[other], (const char *)text.at) != 0);
+        seen[count++] = text.at;
+    }
+    CHECK(count == LENGTH(seen));
+    return true;
+}
+
+const test call_tests[] = {
+    {"a closed connection answers so", a_closed_connection_answers_so},
+    {"an open connection is not opened again", an_open_connection_is_not_opened_again},
+    {"a packet is lent until it is taken", a_packet_is_lent_until_it_is_taken},
+    {"an empty packet is a packet", an_empty_packet_is_a_packet},
+    {"too little room leaves the packet", too_little_room_leaves_the_packet},
+    {"a larger limit goes on", a_larger_limit_goes_on},
+    {"a header is judged once", a_header_is_judged_once},
+    {"a whole packet keeps the limit", a_whole_packet_keeps_the_limit},
+    {"a lost connection stays lost", a_lost_connection_stays_lost},
+    {"what is encoded goes out in parts", what_is_encoded_goes_out_in_parts},
+    {"numbers go on behind a packet that is lent", numbers_go_on_behind_a_packet_that_is_lent},
+    {"the numbers are those of the chunks", the_numbers_are_those_of_the_chunks},
+    {"each code has a text", each_code_has_a_text},
+    {NULL, NULL},
+};

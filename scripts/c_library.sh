@@ -1,0 +1,102 @@
+#!/usr/bin/env bash
+# Builds the C library where it isn't there, and compiles and runs its tests with each C compiler
+# that there is, plainly and under the address and undefined behaviour sanitizers. It prints a line
+# for each check. The last line is 'N passed, M failed'.
+set -u
+folder=$(cd "$(dirname "$0")/.." && pwd)/crates/mysql_wire_c
+archive=$folder/out/libmysql_wire_c.a
+kit=$(dirname "$(rt doc)")
+passed=0
+failed=0
+work=$(mktemp -d)
+trap 'rm -rf "$work"' EXIT
+
+# pass NAME, fail NAME: a check, and how it went.
+pass() {
+    passed=$((passed + 1))
+    echo "ok $1"
+}
+
+fail() {
+    failed=$((failed + 1))
+    echo "FAILED $1"
+}
+
+finish() {
+    echo "$passed passed, $failed failed"
+    [ "$failed" -eq 0 ]
+    exit
+}
+
+# run COMPILER MODE OPTIONS..: compiles the tests and runs them, each test a check.
+run() {
+    local compiler=$1 name="$1, $2" line status
+    shift 2
+    if ! "$compiler" -Wall -Wextra -Werror -std=c11 -O1 -g "$@" -I"$folder/include" \
+        "$folder"/tests/*.c -Wl,--wrap=malloc,--wrap=realloc -o "$work/tests" \
+        "$archive" "$kit/c/liblibc_c.a"; then
+        fail "$name: the tests compile"
+        return
+    fi
+    (ulimit -c 0; "$work/tests" > "$work/lines" 2> "$work/errors")
+    status=$?
+    while read -r line; do
+        case $line in
+            "ok "*) pass "$name: ${line#ok }" ;;
+            *) fail "$name: ${line#FAILED }" ;;
+        esac
+    done < "$work/lines"
+    if [ "$status" -eq 0 ] && [ ! -s "$work/errors" ]; then
+        pass "$name: the program ends well"
+    else
+        fail "$name: the program ends with status $status"
+        cat "$work/errors"
+    fi
+}
+
+# sanitizes COMPILER: whether it has both sanitizers here.
+sanitizes() {
+    echo 'int main(void) { return 0; }' > "$work/empty.c"
+    "$1" -fsanitize=address,undefined -o "$work/empty" "$work/empty.c" 2> "$work/errors" &&
+        "$work/empty" 2> "$work/errors"
+}
+
+# header COMPILER: the header is one of C++.
+header() {
+    if "$1" -Wall -Wextra -Werror -std=c++11 -I"$folder/include" "$folder/tests/header.cpp" \
+        -o "$work/header" "$archive" "$kit/c/liblibc_c.a" && "$work/header"; then
+        pass "$1: the header in C++"
+    else
+        fail "$1: the header in C++"
+    fi
+}
+
+compilers=()
+for compiler in gcc clang; do
+    command -v "$compiler" > /dev/null && compilers+=("$compiler")
+done
+if [ "${#compilers[@]}" -eq 0 ]; then
+    echo 'there is no C compiler (gcc or clang) here'
+    finish
+fi
+
+if [ ! -f "$archive" ] || [ -n "$(find "$folder/src" -newer "$archive")" ]; then
+    if ! (cd "$folder" && rt lib) > "$work/log" 2>&1; then
+        tail "$work/log"
+        fail 'the library is built'
+        finish
+    fi
+fi
+
+for compiler in "${compilers[@]}"; do
+    run "$compiler" plain
+    if sanitizes "$compiler"; then
+        run "$compiler" sanitized -fsanitize=address,undefined -fno-sanitize-recover=all
+    else
+        echo "$compiler has no sanitizers here"
+    fi
+done
+for compiler in g++ clang++; do
+    command -v "$compiler" > /dev/null && header "$compiler"
+done
+finish
