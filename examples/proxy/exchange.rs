@@ -1,0 +1,245 @@
+//! What the packets of a connection mean: whose turn it is, and what there is to log.
+//!
+//! The pages "Connection Phase", "Command Phase" and "Text Resultset" of MySQL's documentation have
+//! the packets.
+
+use crate::answer::{self, After, ERR, Next, OK};
+use crate::log::{Log, front};
+use crate::wire::{Fields, Refusal};
+use std::borrow::Cow;
+use std::fmt;
+
+// The first byte of a greeting.
+const HANDSHAKE_V10: u8 = 0x0a;
+
+// Capabilities, as both sides announce them.
+const COMPRESS: u64 = 1 << 5;
+const PROTOCOL_41: u64 = 1 << 9;
+const SSL: u64 = 1 << 11;
+const DEPRECATE_EOF: u64 = 1 << 24;
+const OPTIONAL_METADATA: u64 = 1 << 25;
+const ZSTD: u64 = 1 << 26;
+const QUERY_ATTRIBUTES: u64 = 1 << 27;
+// MariaDB's own, in four bytes that MySQL leaves 0.
+const MARIADB_CACHE_METADATA: u64 = 1 << 4;
+
+// What the relay keeps a server from offering. What passes stays plain and can be looked at, and
+// each number of columns is followed by all definitions.
+const NOT_OFFERED: u64 = SSL | COMPRESS | ZSTD | OPTIONAL_METADATA;
+const NOT_OFFERED_MARIADB: u64 = MARIADB_CACHE_METADATA;
+
+/// Where a connection stands.
+#[derive(Clone, Copy)]
+enum Phase {
+    /// The server speaks first.
+    Greeting,
+    /// Both speak, until the server says OK.
+    Login,
+    /// The client's turn.
+    Command,
+    /// The server's turn.
+    Answer(Next),
+    /// The client sends a file, and an empty packet behind it.
+    File,
+}
+
+// Each command with what comes behind it. Where that is still the client's turn, it has no answer.
+const COMMANDS: [(u8, &str, Phase); 26] = [
+    (0x01, "COM_QUIT", Phase::Command),
+    (0x02, "COM_INIT_DB", Phase::Answer(Next::Only)),
+    (0x03, "COM_QUERY", Phase::Answer(Next::ResultSet)),
+    (0x04, "COM_FIELD_LIST", Phase::Answer(Next::FieldList(0))),
+    (0x05, "COM_CREATE_DB", Phase::Answer(Next::Only)),
+    (0x06, "COM_DROP_DB", Phase::Answer(Next::Only)),
+    (0x07, "COM_REFRESH", Phase::Answer(Next::Only)),
+    (0x08, "COM_SHUTDOWN", Phase::Answer(Next::Only)),
+    (0x09, "COM_STATISTICS", Phase::Answer(Next::Text)),
+    (0x0a, "COM_PROCESS_INFO", Phase::Answer(Next::ResultSet)),
+    (0x0c, "COM_PROCESS_KILL", Phase::Answer(Next::Only)),
+    (0x0d, "COM_DEBUG", Phase::Answer(Next::Only)),
+    (0x0e, "COM_PING", Phase::Answer(Next::Only)),
+    (0x11, "COM_CHANGE_USER", Phase::Login),
+    (0x12, "COM_BINLOG_DUMP", Phase::Answer(Next::Rows(0))),
+    (0x15, "COM_REGISTER_SLAVE", Phase::Answer(Next::Only)),
+    (0x16, "COM_STMT_PREPARE", Phase::Answer(Next::Prepared)),
+    (0x17, "COM_STMT_EXECUTE", Phase::Answer(Next::ResultSet)),
+    (0x18, "COM_STMT_SEND_LONG_DATA", Phase::Command),
+    (0x19, "COM_STMT_CLOSE", Phase::Command),
+    (0x1a, "COM_STMT_RESET", Phase::Answer(Next::Only)),
+    (0x1b, "COM_SET_OPTION", Phase::Answer(Next::Only)),
+    (0x1c, "COM_STMT_FETCH", Phase::Answer(Next::Rows(0))),
+    (0x1e, "COM_BINLOG_DUMP_GTID", Phase::Answer(Next::Rows(0))),
+    (0x1f, "COM_RESET_CONNECTION", Phase::Answer(Next::Only)),
+    (0xfa, "COM_STMT_BULK_EXECUTE", Phase::Answer(Next::ResultSet)),
+];
+
+/// Why a packet isn't one that can stand where it does.
+pub enum Misread {
+    Field(Refusal),
+    OldProtocol,
+}
+
+impl From<Refusal> for Misread {
+    fn from(refusal: Refusal) -> Misread {
+        Misread::Field(refusal)
+    }
+}
+
+impl fmt::Display for Misread {
+    fn fmt(&self, f: &mut fmt::Formatter<'_>) -> fmt::Result {
+        match self {
+            Misread::Field(refusal) => write!(f, "a malformed packet: {refusal}"),
+            Misread::OldProtocol => f.write_str("a protocol older than 4.1"),
+        }
+    }
+}
+
+/// Follows the packets of one connection.
+pub struct Exchange {
+    log: Log,
+    phase: Phase,
+    offered: u64,
+    agreed: u64,
+    logged_in: bool,
+}
+
+impl Exchange {
+    /// A connection on which nothing was said yet.
+    pub fn new(log: Log) -> Exchange {
+        Exchange { log, phase: Phase::Greeting, offered: 0, agreed: 0, logged_in: false }
+    }
+
+    /// Whether the next packet of the client may be looked at. What a client sends before that
+    /// waits, such as a command behind another one that isn't answered yet.
+    pub fn client_speaks(&self) -> bool {
+        matches!(self.phase, Phase::Login | Phase::Command | Phase::File)
+    }
+
+    /// Whether the next packet of the server may be looked at. Between two commands it may have a
+    /// last word, such as that the client was idle for too long.
+    pub fn server_speaks(&self) -> bool {
+        !matches!(self.phase, Phase::File)
+    }
+
+    /// Whether the next packet is a command.
+    pub fn is_between_commands(&self) -> bool {
+        matches!(self.phase, Phase::Command)
+    }
+
+    /// Whether the server said OK to a login.
+    pub fn is_logged_in(&self) -> bool {
+        self.logged_in
+    }
+
+    /// Goes past a packet of the client.
+    pub fn hear_client(&mut self, packet: &[u8]) -> Result<(), Misread> {
+        match self.phase {
+            Phase::Command => self.hear_command(packet),
+            Phase::File if packet.is_empty() => self.phase = Phase::Answer(Next::ResultSet),
+            Phase::Login if self.agreed == 0 => self.hear_login(packet)?,
+            _ => {}
+        }
+        Ok(())
+    }
+
+    fn hear_login(&mut self, packet: &[u8]) -> Result<(), Misread> {
+        let mut fields = Fields::of(packet, 0);
+        self.agreed = self.offered & fields.int(4)?;
+        if self.agreed & PROTOCOL_41 == 0 {
+            return Err(Misread::OldProtocol);
+        }
+        fields.skip(28);
+        let user = fields.null_bytes()?;
+        self.log.say(format_args!("login of {}", front(user)));
+        Ok(())
+    }
+
+    fn hear_command(&mut self, packet: &[u8]) {
+        let Some((&number, text)) = packet.split_first() else {
+            self.log.say(format_args!("a command without a number"));
+            self.phase = Phase::Answer(Next::Only);
+            return;
+        };
+        let known = COMMANDS.iter().find(|command| command.0 == number);
+        let (name, phase) = match known {
+            Some(&(_, name, phase)) => (name, phase),
+            None => ("command", Phase::Answer(Next::Only)),
+        };
+        let detail = match name {
+            "COM_QUERY" => self.statement(packet),
+            "COM_STMT_PREPARE" | "COM_INIT_DB" => front(text),
+            _ if known.is_none() => format!("{number:#04x}"),
+            _ => String::new(),
+        };
+        self.log.say(format_args!("{}", format!("{name} {detail}").trim_end()));
+        self.phase = phase;
+    }
+
+    /// The front of a `COM_QUERY`'s statement. Attributes of a query stand in front of it.
+    fn statement(&self, packet: &[u8]) -> String {
+        let mut fields = Fields::of(packet, 1);
+        if self.agreed & QUERY_ATTRIBUTES != 0 {
+            match (fields.lenenc_int(), fields.lenenc_int()) {
+                (Ok(0), Ok(_)) => {}
+                _ => return String::from("(with attributes)"),
+            }
+        }
+        front(fields.rest())
+    }
+
+    /// Goes past a packet of the server, and says what the client gets in its place.
+    pub fn hear_server<'a>(&mut self, packet: &'a [u8]) -> Result<Cow<'a, [u8]>, Misread> {
+        let first = packet.first().copied();
+        match self.phase {
+            Phase::Greeting if first == Some(HANDSHAKE_V10) => {
+                self.phase = Phase::Login;
+                return Ok(Cow::Owned(self.hear_greeting(packet)?));
+            }
+            Phase::Login if first == Some(OK) => {
+                self.logged_in = true;
+                self.phase = Phase::Command;
+                self.log.say(format_args!("  logged in"));
+            }
+            Phase::Login if first == Some(ERR) && self.logged_in => {
+                answer::hear_error(packet, &self.log)?;
+                self.phase = Phase::Command;
+            }
+            Phase::Answer(next) => {
+                let ends_by_ok = self.agreed & DEPRECATE_EOF != 0;
+                self.phase = match answer::hear(next, packet, ends_by_ok, &self.log)? {
+                    After::Comes(next) => Phase::Answer(next),
+                    After::FileComes => Phase::File,
+                    After::Done => Phase::Command,
+                };
+            }
+            _ if first == Some(ERR) => answer::hear_error(packet, &self.log)?,
+            _ => {}
+        }
+        Ok(Cow::Borrowed(packet))
+    }
+
+    /// The greeting with fewer capabilities.
+    fn hear_greeting(&mut self, packet: &[u8]) -> Result<Vec<u8>, Misread> {
+        let mut fields = Fields::of(packet, 1);
+        let version = fields.null_bytes()?;
+        self.log.say(format_args!("server {}", front(version)));
+        fields.skip(13);
+        let low_at = fields.at();
+        let low = fields.int(2)?;
+        fields.skip(3);
+        let high_at = fields.at();
+        let high = fields.int(2)?;
+        fields.skip(7);
+        let mariadb_at = fields.at();
+        let mariadb = fields.int(4)?;
+
+        self.offered = (low | high << 16) & !NOT_OFFERED;
+        let [low0, low1, high0, high1, ..] = self.offered.to_le_bytes();
+        let mariadb = (mariadb & !NOT_OFFERED_MARIADB) as u32;
+        let mut greeting = packet.to_vec();
+        greeting[low_at..low_at + 2].copy_from_slice(&[low0, low1]);
+        greeting[high_at..high_at + 2].copy_from_slice(&[high0, high1]);
+        greeting[mariadb_at..mariadb_at + 4].copy_from_slice(&mariadb.to_le_bytes());
+        Ok(greeting)
+    }
+}

@@ -1,0 +1,295 @@
+#!/usr/bin/env bash
+# Runs the proxy between MariaDB's or MySQL's own client and server, and compares what the client
+# prints with what it prints without the proxy. It prints a line for each check, and ends
+# 'N passed, M failed'.
+#
+# It installs nothing. On Debian, mariadb-server and mariadb-client bring both programs. The server
+# runs in a folder of its own, which is removed in the end, and listens on a free loopback port.
+# KEEP_LOG=FILE keeps the proxy's log.
+set -u
+PATH=$PATH:/usr/sbin
+top=$(cd "$(dirname "$0")/../.." && pwd)
+work=$(mktemp -d)
+passed=0
+failed=0
+started=()
+
+finish() {
+    for id in "${started[@]}"; do
+        kill "$id" 2> "$work/errors" && wait "$id" 2> "$work/errors"
+    done
+    rm -rf "$work"
+    echo "$passed passed, $failed failed"
+    [ "$failed" -eq 0 ]
+    exit
+}
+
+# check NAME COMMAND..: a check, which passes where the command does.
+check() {
+    local name=$1
+    shift
+    if "$@"; then
+        passed=$((passed + 1))
+        echo "ok $name"
+    else
+        failed=$((failed + 1))
+        echo "FAILED $name"
+    fi
+}
+
+# first_of NAME..: the first of these programs that is there.
+first_of() {
+    local name
+    for name in "$@"; do
+        command -v "$name" && return
+    done
+}
+
+# until_it COMMAND..: tries a command for at most 20 seconds.
+until_it() {
+    local tries
+    for tries in {1..200}; do
+        "$@" > "$work/until" 2>&1 && return
+        sleep 0.1
+    done
+    return 1
+}
+
+# free_port: a port of 127.0.0.1 at which nobody listens.
+free_port() {
+    local port
+    while port=$((20000 + RANDOM % 30000)); (: < "/dev/tcp/127.0.0.1/$port") 2> "$work/errors"; do
+        :
+    done
+    echo "$port"
+}
+
+# start_server: makes a data folder, and starts a server in it.
+start_server() {
+    local user setup
+    user=$(id -un)
+    if [ "$user" = root ]; then
+        user=nobody
+        chown nobody "$work"
+    fi
+    setup=$(first_of mariadb-install-db mysql_install_db)
+    if [ -n "$setup" ]; then
+        "$setup" --no-defaults --datadir="$work/data" --user="$user" \
+            --auth-root-authentication-method=normal > "$work/setup.log" 2>&1
+    else
+        "$server" --no-defaults --datadir="$work/data" --user="$user" \
+            --initialize-insecure > "$work/setup.log" 2>&1
+    fi
+    server_port=$(free_port)
+    "$server" --no-defaults --datadir="$work/data" --user="$user" --socket="$work/socket" \
+        --pid-file="$work/pid" --bind-address=127.0.0.1 --port="$server_port" \
+        --skip-networking=0 --max-allowed-packet=64M --local-infile=1 \
+        > "$work/server.log" 2>&1 &
+    started+=($!)
+    until_it as_root 'SELECT 1'
+}
+
+as_root() {
+    "$client" --no-defaults --socket="$work/socket" --user=root --batch --execute="$1"
+}
+
+# start_proxy NAME LIMIT: starts a proxy in front of the server. Its log is NAME.log, and NAME_port
+# its port.
+start_proxy() {
+    "$work/proxy" 127.0.0.1:0 "127.0.0.1:$server_port" "$2" > "$work/$1.log" &
+    started+=($!)
+    until_it grep -q 'listens on' "$work/$1.log"
+    printf -v "$1_port" '%s' "$(sed -n 's/.*listens on .*:\([0-9]*\)$/\1/p' "$work/$1.log")"
+}
+
+# ask PORT OPTIONS..: runs the client's program, with its statements on standard input.
+ask() {
+    local port=$1
+    shift
+    "$client" --no-defaults --protocol=tcp --host=127.0.0.1 --port="$port" --user=probe \
+        --password=sesame --database=probe --max-allowed-packet=64M --local-infile=1 --batch \
+        --skip-column-names "$@"
+}
+
+# same OPTIONS..: the statements on standard input print the same with the proxy and without.
+same() {
+    cat > "$work/statements"
+    ask "$server_port" "$@" < "$work/statements" > "$work/direct" 2>&1
+    ask "$proxy_port" "$@" < "$work/statements" > "$work/relayed" 2>&1
+    [ -s "$work/direct" ] && cmp "$work/direct" "$work/relayed"
+}
+
+# logged LOG PATTERN: the proxy wrote such a line, soon.
+logged() {
+    until_it grep -q -- "$2" "$work/$1.log"
+}
+
+# says PORT PATTERN: the statements on standard input make the client print such a line.
+says() {
+    ask "$1" > "$work/said" 2>&1
+    grep -q -- "$2" "$work/said"
+}
+
+# side_by_side: a quick client is done before a slow one, and both get their rows.
+side_by_side() {
+    ask "$proxy_port" <<< "SELECT SLEEP(2), 'slow'" > "$work/slow" &
+    local slow=$!
+    until_it grep -q 'COM_QUERY SELECT SLEEP' "$work/proxy.log"
+    ask "$proxy_port" <<< "SELECT 'quick'" > "$work/quick"
+    [ "$(< "$work/quick")" = quick ] && [ ! -s "$work/slow" ] && wait "$slow" &&
+        [ "$(< "$work/slow")" = $'0\tslow' ]
+}
+
+# goes_away: a client that sends seven bytes of a longer packet. The server's side is closed.
+goes_away() {
+    exec 3<> "/dev/tcp/127.0.0.1/$proxy_port"
+    until_it grep -q "server.*" "$work/proxy.log"
+    printf '\x20\x00\x00\x01abc' >&3
+    sleep 0.2
+    exec 3>&-
+    logged proxy 'client went away inside a packet, 7 bytes' && until_it alone
+}
+
+# refused_early: a packet above 64 KiB is refused before a login.
+refused_early() {
+    exec 3<> "/dev/tcp/127.0.0.1/$proxy_port"
+    printf '\x01\x00\x01\x01' >&3
+    timeout 10 grep -q -a "08S01Got a packet bigger than 'max_allowed_packet' bytes" <&3
+    local status=$?
+    exec 3>&-
+    return "$status"
+}
+
+# same_statements OPTIONS..: the client in Python prints the same with the proxy and without.
+same_statements() {
+    local statements=$top/examples/python/statements.py library=$work/libmysql_wire.so
+    python3 -B "$statements" "$library" "$server_port" plain probe "$@" > "$work/direct" 2>&1
+    python3 -B "$statements" "$library" "$proxy_port" plain probe "$@" > "$work/relayed" 2>&1
+    tail -n 1 "$work/direct" | grep -q '^    ' && diff "$work/direct" "$work/relayed"
+}
+
+# same_load: mariadb-slap's clients get all their answers.
+same_load() {
+    "$slap" --no-defaults --protocol=tcp --host=127.0.0.1 --port="$proxy_port" --user=probe \
+        --password=sesame --auto-generate-sql --concurrency=8 --number-of-queries=800 \
+        > "$work/slap.log" 2>&1
+}
+
+# leaves_early: a client that is killed while it waits for its rows. The server's side is closed.
+leaves_early() {
+    "$client" --no-defaults --protocol=tcp --host=127.0.0.1 --port="$narrow_port" --user=probe \
+        --password=sesame --execute="SELECT SLEEP(8)" > "$work/killed" 2>&1 &
+    local waits=$! number
+    logged narrow 'COM_QUERY SELECT SLEEP'
+    number=$(sed -n 's/^\([0-9]*\) COM_QUERY SELECT SLEEP.*/\1/p' "$work/narrow.log")
+    kill -9 "$waits"
+    wait "$waits" 2> "$work/errors"
+    logged narrow "^$number the client hung up"
+}
+
+# alone: no other client is connected to the server.
+alone() {
+    [ "$(as_root "SELECT COUNT(*) FROM information_schema.processlist WHERE Command != 'Daemon'" |
+        tail -n 1)" = 1 ]
+}
+
+server=$(first_of mariadbd mysqld)
+client=$(first_of mariadb mysql)
+if [ -z "$server" ] || [ -z "$client" ]; then
+    echo 'there is no MariaDB or MySQL server and client here'
+    finish
+fi
+kit=$(dirname "$(rt doc)")
+if ! rustc --edition 2021 -O -D warnings -o "$work/proxy" "$top/examples/proxy/main.rs" \
+    -L "$top/crates/mysql_wire_c/out" -l static=mysql_wire_c -L "$kit/c" -l static=libc_c; then
+    check 'the proxy is built' false
+    finish
+fi
+if ! start_server; then
+    tail "$work/setup.log" "$work/server.log"
+    check 'the server starts' false
+    finish
+fi
+as_root "CREATE DATABASE probe; CREATE USER probe@'127.0.0.1' IDENTIFIED BY 'sesame';
+    GRANT ALL ON *.* TO probe@'127.0.0.1'; CREATE USER plain@'127.0.0.1';
+    GRANT ALL ON probe.* TO plain@'127.0.0.1';"
+start_proxy proxy $((32 << 20))
+start_proxy narrow $((1 << 20))
+
+check 'a login with a password' same <<< 'SELECT USER()'
+check 'a login with a wrong password' same --password=wrong <<< 'SELECT 1'
+check 'rows of every type' same << 'END'
+CREATE OR REPLACE TABLE kinds (i INT, u BIGINT UNSIGNED, d DECIMAL(20, 5), f DOUBLE, b BIT(9),
+    day DATE, at DATETIME(6), t TIME, y YEAR, c CHAR(9), v VARCHAR(300), x BLOB, e ENUM('a', 'b'),
+    s SET('a', 'b'), p POINT);
+INSERT INTO kinds VALUES (-1, 18446744073709551615, 1.5, 1e300, 257, '2024-02-29',
+    '2024-02-29 12:00:00.5', '-838:59:59', 2024, 'c', REPEAT('v', 300), x'00ff', 'b', 'a,b',
+    POINT(1, 2));
+INSERT INTO kinds (i) VALUES (NULL), (7);
+SELECT i, u, d, f, b + 0, day, at, t, y, c, v, HEX(x), e, s, ST_AsText(p) FROM kinds;
+SELECT * FROM kinds WHERE i = 8;
+SELECT '', NULL, REPEAT('a', 250), REPEAT('b', 251), REPEAT('c', 70000);
+END
+check 'many rows' same <<< "WITH RECURSIVE n AS (SELECT 1 AS i UNION ALL SELECT i + 1 FROM n
+    WHERE i < 900) SELECT a.i, b.i FROM n AS a, n AS b WHERE b.i < 100"
+check 'statements prepared by SQL' same << 'END'
+PREPARE add_up FROM 'SELECT ? + ?, ?';
+SET @a = 1, @b = 2, @c = 'text';
+EXECUTE add_up USING @a, @b, @c;
+EXECUTE add_up USING @b, @b, @a;
+DEALLOCATE PREPARE add_up;
+END
+check 'several results of one command' same --delimiter=// << 'END'
+CREATE OR REPLACE PROCEDURE two() BEGIN SELECT 1; SELECT 2, 3; INSERT INTO kinds (i) VALUES (8);
+END//
+CALL two()//
+SELECT 4; SELECT 5; DO 1; SELECT 6//
+END
+seq 1 20000 > "$work/numbers"
+check 'a file of the client' same << END
+CREATE OR REPLACE TABLE numbers (n INT);
+LOAD DATA LOCAL INFILE '$work/numbers' INTO TABLE numbers;
+SELECT COUNT(*), SUM(n) FROM numbers;
+LOAD DATA LOCAL INFILE '$work/missing' INTO TABLE numbers;
+END
+check 'statements that fail' same --force << 'END'
+SELEC 1;
+SELECT 1;
+SELECT * FROM missing;
+SELECT 2;
+END
+check 'a result of 17000000 bytes' same <<< "SELECT REPEAT('a', 17000000)"
+check 'results of 16777210 to 16777216 bytes' same << 'END'
+SELECT REPEAT('a', 16777210);
+SELECT REPEAT('a', 16777211);
+SELECT REPEAT('a', 16777212);
+SELECT REPEAT('a', 16777216);
+END
+printf "SELECT LENGTH('%0*d')" 17000000 0 > "$work/long"
+check 'a statement of 17000000 bytes' same < "$work/long"
+check 'several clients side by side' side_by_side
+slap=$(first_of mariadb-slap mysqlslap)
+[ -n "$slap" ] && check 'eight clients with 800 statements' same_load
+if command -v python3 > "$work/errors" && command -v gcc > "$work/errors"; then
+    check 'the shared library is built' gcc -shared -o "$work/libmysql_wire.so" \
+        -Wl,--whole-archive "$top/crates/mysql_wire_c/out/libmysql_wire_c.a" \
+        -Wl,--no-whole-archive -L"$kit/c" -llibc_c
+    check 'prepared statements, cursors, commands without answers' same_statements
+    check 'the same under CLIENT_DEPRECATE_EOF' same_statements deprecate-eof
+fi
+check 'a client that goes away inside a packet' goes_away
+printf "SELECT LENGTH('%0*d')" 2000000 0 > "$work/long"
+check 'a long packet before the login' refused_early
+check 'a statement above the limit' says "$narrow_port" 'ERROR 1153.*bigger' < "$work/long"
+check 'a result above the limit' says "$narrow_port" 'ERROR 1153' <<< "SELECT REPEAT('a', 2000000)"
+check 'the next client after these' says "$narrow_port" '^7$' <<< 'SELECT 7'
+check 'a client that goes away while it waits' leaves_early
+check 'the server is left by all' until_it alone
+
+check 'the log has the statements' logged proxy 'COM_QUERY PREPARE add_up FROM'
+check 'the log has the rows' logged proxy '  89100 rows'
+check 'the log has the prepared statements' logged proxy '  statement .*: 2 parameters, 2 columns'
+check 'the log has the errors' logged proxy '  error 1064'
+check 'the log has what was too large' logged narrow 'client: .*limit'
+[ -n "${KEEP_LOG:-}" ] && cat "$work/proxy.log" > "$KEEP_LOG"
+finish
