@@ -6,7 +6,16 @@ unsafe extern "C" {
     fn mw_append(ptr: *const u8, len: usize, piece: u64, reps: u64) -> u64;
     fn mw_decode(ptr: *const u8, len: usize, piece: u64, limit: u64, reps: u64) -> u64;
     fn mw_decode_fresh(ptr: *const u8, len: usize, piece: u64, limit: u64, reps: u64) -> u64;
-    fn mw_read(ptr: *const u8, len: usize, limit: u64, reps: u64) -> u64;
+    fn mw_place(ptr: *const u8, len: usize, piece: u64, limit: u64, reps: u64) -> u64;
+    fn mw_place_row(
+        ptr: *const u8,
+        len: usize,
+        cols: u64,
+        row: u64,
+        form: u64,
+        reps: u64,
+    ) -> u64;
+    fn mw_read(ptr: *const u8, len: usize, limit: u64, form: u64, reps: u64) -> u64;
     fn mw_write(ptr: *const u8, len: usize, count: u64, reps: u64) -> u64;
     fn mw_row(ptr: *const u8, len: usize, cols: u64, form: u64, reps: u64) -> u64;
     fn mw_row_copy(ptr: *const u8, len: usize, form: u64, reps: u64) -> u64;
@@ -38,9 +47,20 @@ pub fn decode(bytes: &[u8], piece: u64, limit: u64, fresh: bool, reps: u64) -> u
     }
 }
 
-/// A stream of whole packets read by `PacketReader::next_packet`.
-pub fn read(bytes: &[u8], limit: u64, reps: u64) -> u64 {
-    unsafe { mw_read(bytes.as_ptr(), bytes.len(), limit, reps) }
+/// A stream of whole packets in pieces, each taken where it lies.
+pub fn place(bytes: &[u8], piece: u64, limit: u64, reps: u64) -> u64 {
+    unsafe { mw_place(bytes.as_ptr(), bytes.len(), piece, limit, reps) }
+}
+
+/// A stream of rows of texts appended to a buffer: form 0 read where they lie, form 1 not read,
+/// form 2 read of payloads whose length is known, without a codec.
+pub fn place_row(bytes: &[u8], cols: u64, row: usize, form: u64, reps: u64) -> u64 {
+    unsafe { mw_place_row(bytes.as_ptr(), bytes.len(), cols, row as u64, form, reps) }
+}
+
+/// A stream of whole packets read by `PacketReader`: form 0 by `next_packet`, form 1 lent.
+pub fn read(bytes: &[u8], limit: u64, form: u64, reps: u64) -> u64 {
+    unsafe { mw_read(bytes.as_ptr(), bytes.len(), limit, form, reps) }
 }
 
 /// A payload queued `count` times by a `PacketWriter`, and written at once.

@@ -9,11 +9,13 @@
 
 mod check;
 mod columns;
+mod connections;
 mod fields;
 mod inputs;
 mod library;
 mod memory;
 mod packets;
+mod place;
 mod streams;
 mod timing;
 
@@ -42,9 +44,11 @@ fn measure_rows(word: &str) -> bool {
     );
     let mut rows = Vec::new();
     packets::rows(&mut rows);
+    place::rows(&mut rows);
     streams::rows(&mut rows);
     fields::rows(&mut rows);
     columns::rows(&mut rows);
+    connections::rows(&mut rows);
     let mut passed = true;
     for row in rows.iter_mut().filter(|row| row.name.contains(word)) {
         match timing::measure(row) {

@@ -6,5 +6,6 @@
 mod check;
 mod columns;
 mod fields;
+mod in_place;
 mod packets;
 mod streams;

@@ -42,9 +42,30 @@ fn read(
     Ok(sum)
 }
 
-/// A stream of whole packets, whose ids begin with 0, read by `next_packet` under `limit`.
+// The same, each lent by the reader.
+fn read_lent(
+    reader: &mut PacketReader<Again<'_>>,
+    codec: &mut PacketCodec,
+) -> Result<u64, PacketIoError> {
+    let mut sum = 0u64;
+    codec.reset_seq_id();
+    'packets: for _ in 0..u64::MAX {
+        if !reader.fits(codec) {
+            return Err(PacketIoError::PacketsOutOfSync);
+        }
+        if !reader.fill_packet(codec)? {
+            return Ok(sum);
+        }
+        sum = sum.wrapping_add(summary(reader.packet()));
+        reader.take_packet(codec);
+    }
+    Ok(sum)
+}
+
+/// A stream of whole packets, whose ids begin with 0, read under `limit`: form 0 by `next_packet`,
+/// form 1 by `fill_packet`, `packet` and `take_packet`.
 #[unsafe(no_mangle)]
-pub extern "C" fn mw_read(alloc: Global, bytes: &[u8], limit: u64, reps: u64) -> u64 {
+pub extern "C" fn mw_read(alloc: Global, bytes: &[u8], limit: u64, form: u64, reps: u64) -> u64 {
     let input = Again { bytes, left: bytes };
     let Ok(mut reader) = PacketReader::new(alloc, input) else {
         return REFUSED;
@@ -53,7 +74,12 @@ pub extern "C" fn mw_read(alloc: Global, bytes: &[u8], limit: u64, reps: u64) ->
     codec.max_allowed_packet = limit as usize;
     let mut sum = 0u64;
     for _ in 0..reps {
-        match read(&mut reader, &mut codec) {
+        let summed = if form == 0 {
+            read(&mut reader, &mut codec)
+        } else {
+            read_lent(&mut reader, &mut codec)
+        };
+        match summed {
             Ok(value) => sum = sum.wrapping_add(value),
             Err(_) => return REFUSED,
         }
