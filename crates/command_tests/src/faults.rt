@@ -1,5 +1,4 @@
-// The commands with each read, each write and each request for memory failing in turn, and what
-// they ask of a reader.
+// The commands with each read, each write and each request for memory failing in turn.
 
 use crate::run::run;
 use refusing::{NEVER, Refusing};
@@ -80,29 +79,6 @@ impl Write for Narrow {
     }
 }
 
-// Gives what a read asks for, and notes the least and the most that was asked for, and whether a
-// read from before a place was asked for bytes behind it.
-#[derive(Drop)]
-struct Noting<'a> {
-    bytes: &'a [u8],
-    least: usize,
-    most: usize,
-    // How many bytes are left up to that place.
-    ahead: usize,
-    passed: bool,
-}
-
-impl Read for Noting<'_> {
-    fn read(&mut self, buf: &mut [u8]) -> io::Result<usize> {
-        self.least = self.least.min(buf.len());
-        self.most = self.most.max(buf.len());
-        self.passed |= (self.ahead > 0) & (buf.len() > self.ahead);
-        let count = self.bytes.read(buf)?;
-        self.ahead = self.ahead.saturating_sub(count);
-        Ok(count)
-    }
-}
-
 // The words, the input, how many reads they make of one byte each, and the status and the text
 // that they end with.
 type Reads<'a> = (&'a [&'a str], &'a [u8], usize, u8, &'a [u8]);
@@ -170,16 +146,17 @@ const PACKETS: &[Reads] = &[
     ),
 ];
 
-// Whether a row ends so where this read fails. Where it is made, what was written is a front of the
-// text, and as long as `most` at most.
-fn is_read(alloc: Global, heap: &Heap, row: &Reads<'_>, until_fault: usize, most: usize) -> bool {
+// Whether a row ends so where the read of this number fails so. Where it is made, what was written
+// is a front of the text, and as long as `most` at most.
+fn is_read(
+    alloc: Global,
+    heap: &Heap,
+    row: &Reads<'_>,
+    fault: (usize, ErrorKind),
+    most: usize,
+) -> bool {
     let (words, bytes, reads, wanted, text) = *row;
-    // An interrupted read is a failed one.
-    let kind = if until_fault % 2 == 0 {
-        ErrorKind::Other
-    } else {
-        ErrorKind::Interrupted
-    };
+    let (until_fault, kind) = fault;
     let mut input = OneByOne {
         bytes,
         until_fault,
@@ -201,7 +178,12 @@ fn wrong_read(alloc: Global, rows: &[Reads], most: usize) -> Option<usize> {
     let mut wrong = None;
     for i in 0..rows.len() {
         for until_fault in 0..=rows[i].2 {
-            if !is_read(alloc, &heap, &rows[i], until_fault, most) {
+            // An interrupted read is a failed one.
+            let other = (until_fault, ErrorKind::Other);
+            let interrupted = (until_fault, ErrorKind::Interrupted);
+            let both = is_read(alloc, &heap, &rows[i], other, most)
+                & is_read(alloc, &heap, &rows[i], interrupted, most);
+            if !both {
                 wrong = Some(i);
             }
         }
@@ -338,86 +320,6 @@ fn each_request_for_memory_is_refused_in_turn(rt: HostRuntime) -> Result<(), Fai
         let (words, least) = REQUESTS[i];
         if refusals(rt.alloc(), &heap, words) < Some(least) {
             wrong = Some(i);
-        }
-    }
-    no_row(wrong)
-}
-
-const STEPS: &[(&str, usize)] = &[("1", 1), ("2", 2), ("9", 9), ("65536", 65536)];
-
-// The least and the most that a read was asked for, and the status.
-fn asked(alloc: Global, heap: &Heap, step: &str) -> (usize, usize, u8) {
-    let mut input = Noting {
-        bytes: b"\x03\0\0\0123\0\0\0\x01",
-        least: usize::MAX,
-        most: 0,
-        ahead: 0,
-        passed: false,
-    };
-    let mut output: Vec<u8> = Vec::new(alloc);
-    let status = run(
-        heap,
-        NEVER,
-        &["unframe", step, "9"],
-        &mut input,
-        &mut output,
-    );
-    (input.least, input.most, status)
-}
-
-#[test]
-fn unframe_asks_each_read_for_its_step(rt: HostRuntime) -> Result<(), Fail> {
-    let heap = Refusing::new(rt.alloc(), NEVER);
-    let mut wrong = None;
-    for i in 0..STEPS.len() {
-        let (word, step) = STEPS[i];
-        if asked(rt.alloc(), &heap, word) != (step, step, 0) {
-            wrong = Some(i);
-        }
-    }
-    no_row(wrong)
-}
-
-// The words for places in the input and behind it, and these places.
-const PLACES: &[(&str, usize)] = &[
-    ("0", 0),
-    ("1", 1),
-    ("5", 5),
-    ("8", 8),
-    ("11", 11),
-    ("12", 12),
-    ("4294967295", 4294967295),
-];
-
-// Whether no read from before this place is asked for bytes behind it, and the others for the step.
-fn stops_at(alloc: Global, heap: &Heap, place: &(&str, usize), step: &(&str, usize)) -> bool {
-    let mut input = Noting {
-        bytes: b"\x03\0\0\0123\0\0\0\x01",
-        least: usize::MAX,
-        most: 0,
-        ahead: place.1,
-        passed: false,
-    };
-    let mut output: Vec<u8> = Vec::new(alloc);
-    let words = ["unframe", step.0, "9", "9", place.0];
-    let status = run(heap, NEVER, &words, &mut input, &mut output);
-    let most = if place.1 > 11 {
-        place.1.min(step.1)
-    } else {
-        step.1
-    };
-    (status == 0) & !input.passed & (input.most == most)
-}
-
-#[test]
-fn no_read_passes_the_place_where_the_limit_changes(rt: HostRuntime) -> Result<(), Fail> {
-    let heap = Refusing::new(rt.alloc(), NEVER);
-    let mut wrong = None;
-    for i in 0..PLACES.len() {
-        for j in 0..STEPS.len() {
-            if !stops_at(rt.alloc(), &heap, &PLACES[i], &STEPS[j]) {
-                wrong = Some(i);
-            }
         }
     }
     no_row(wrong)

@@ -3,6 +3,7 @@
 ghost use Rattle.std.specs.Prelude.{◌<◌};
 
 use crate::run::run;
+use mysql_wire_commands::noted::Unnoted;
 use mysql_wire_commands::unframe::{run_unframe, run_unframe_limited};
 use refusing::{NEVER, Refusing};
 use std::alloc::Global;
@@ -224,7 +225,7 @@ fn is_same(alloc: Global, row: &Stream<'_>, step: usize) -> bool
     requires { 0 < step }
 {
     let (limit, input, wanted, text) = *row;
-    let mut input = input;
+    let mut input = Unnoted(input);
     let mut output = Vec::new(alloc);
     let status = run_unframe(alloc, step, limit, &mut input, &mut output);
     (status == wanted) & (output.as_slice() == text)
@@ -286,7 +287,7 @@ fn is_same_changing(alloc: Global, row: &Changing<'_>, step: usize) -> bool
     requires { 0 < step }
 {
     let (limit, later, at, input, wanted, text) = *row;
-    let mut input = input;
+    let mut input = Unnoted(input);
     let mut output = Vec::new(alloc);
     let status = run_unframe_limited(alloc, step, limit, later, at, &mut input, &mut output);
     (status == wanted) & (output.as_slice() == text)

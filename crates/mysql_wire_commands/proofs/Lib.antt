@@ -1,4 +1,5 @@
 pub mod InputLemmas
+pub mod ReadLemmas
 pub mod UnframeLemmas
 pub mod WordLemmas
 pub mod ReframeLemmas

@@ -12,7 +12,7 @@ use Rattle.mysql_wire.specs.Delivery.{id_at, IsWholeChunks, Ending, Waiting, Too
 use Rattle.mysql_wire.specs.Codec.{CodecState, open_id, first_id, input_of}
 use Rattle.mysql_wire.specs.Limited.{Limits, framed_size, place_after, DeliversUnder}
 use Rattle.mysql_wire.specs.LimitedRuns.{run_limits, limited_bytes, WaitsUnder}
-use Rattle.mysql_wire.specs.GoingOn.{GoesOn, GoesOnAt, RunsOn}
+use Rattle.mysql_wire.specs.GoingOn.{GoesOn, RunsOn}
 use Rattle.mysql_wire.specs.Runs.{RunsTo}
 use Rattle.mysql_wire.specs.Laws.{JoinedLimitedRuns, EmptyGoesOn, EqualLimits, FramedLength, NothingRead, empty_state}
 use Rattle.mysql_wire_commands.specs.Texts.{payload_line}

@@ -1,4 +1,5 @@
 pub mod Numbers
+pub mod Reads
 pub mod Reframe
 pub mod Status
 pub mod Texts

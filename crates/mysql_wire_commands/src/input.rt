@@ -1,8 +1,11 @@
 //! Reading.
 
-ghost use Rattle.std.specs.Prelude.{◌≡◌, ◌<◌, ◌≤◌, IfOk, OnOk, take, vec_len};
+ghost use Rattle.std.specs.Prelude.{◌≡◌, ◌<◌, ◌≤◌, [], ◌∷◌, IfOk, OnOk, take, vec_len};
 ghost use Rattle.std.specs.Io.KnownBytes.{Consumes, IsAtEnd};
+ghost use Rattle.std.specs.Result.{result_unwrap_or};
+ghost use Rattle.mysql_wire_commands.specs.Reads.{Makes};
 
+use crate::noted::NotedRead;
 use crate::status::Stop;
 use bytes::BytesMut;
 use std::alloc::Allocator;
@@ -33,7 +36,7 @@ pub fn read_whole<A: Allocator + Copy, R: Read>(
 
 /// One read of at most `most` bytes to the front of `piece`: how many came, none at the end of the
 /// input.
-pub fn read_piece<A: Allocator, R: Read>(
+pub fn read_piece<A: Allocator, R: NotedRead>(
     input: &mut R,
     piece: &mut Vec<u8, A>,
     most: usize,
@@ -45,6 +48,8 @@ pub fn read_piece<A: Allocator, R: Read>(
     ensures bytes { IfOk result
         (λ n. Consumes (R.remaining input.old) (R.remaining input.new) (take n piece.new.items)) }
     ensures end { IfOk result (λ n. n ≡ 0 → IsAtEnd (R.remaining input.new)) }
+    ensures noted { Makes (R.reads input.old) (R.reads input.new)
+        (record { asked = most; came = result_unwrap_or result 0 } ∷ []) }
 {
-    input.read(&mut piece.as_mut_slice()[0..most])
+    input.read_noted(&mut piece.as_mut_slice()[0..most])
 }

@@ -5,6 +5,7 @@ pub mod chunk;
 pub mod frame;
 mod input;
 mod lines;
+pub mod noted;
 mod output;
 pub mod reframe;
 pub mod status;

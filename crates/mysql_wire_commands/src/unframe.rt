@@ -1,11 +1,12 @@
 //! `unframe STEP LIMIT [LATER AT]`: the packets of the input, as they come.
 
-ghost use Rattle.std.specs.Prelude.{◌≡◌, ◌<◌, ◌≤◌, ◌-◌, ◌++◌, ℕ, List, length, OnOk, IfOk, string_bytes};
+ghost use Rattle.std.specs.Prelude.{◌≡◌, ◌<◌, ◌≤◌, ◌⊎◌, ◌-◌, ◌++◌, ℕ, List, length, OnOk, IfOk, string_bytes};
 ghost use Rattle.mysql_wire_commands.specs.declared.unframe.Verdict.TheVariants.{Waits};
 ghost use Rattle.mysql_wire.specs.Runs.{payloads};
 
 use crate::input::read_piece;
 use crate::lines::{push_payload, push_rest};
+use crate::noted::NotedRead;
 use crate::output::write_whole;
 use crate::status::{Stop, exit_status};
 use bytes::BytesMut;
@@ -14,7 +15,7 @@ use mysql_wire::laws;
 use mysql_wire::proto::codec::error::PacketCodecError;
 use mysql_wire::proto::codec::{PacketCodec, deliver_limited};
 use std::alloc::{AllocError, Allocator};
-use std::io::{Read, Write};
+use std::io::Write;
 
 /// Why no more packets come from the bytes read so far.
 #[derive(Debug, Clone, Copy, PartialEq, Eq)]
@@ -65,6 +66,7 @@ impl<A: Allocator + Copy> Run<A> {
         ensures some { 0 < result }
         ensures step { result ≤ step }
         ensures apart { 0 < self.now.ahead → result ≤ self.now.ahead }
+        ensures no_less { (result ≡ step) ⊎ (result ≡ self.now.ahead) }
     {
         if self.ahead > 0 {
             step.min(self.ahead)
@@ -168,6 +170,7 @@ fn piece_text<A: Allocator + Copy>(
 }
 
 ghost use Rattle.mysql_wire_commands.specs.Unframe.{TakesPiece, UnframeEnds, UnframeEndsOver, UnframeLimitedEnds, bytes_left, ending_line, ending_status, next_limit, run_state};
+ghost use Rattle.mysql_wire_commands.specs.Reads.{AsksStep, AsksUpTo};
 ghost use Rattle.std.specs.Io.KnownBytes.{Appends};
 ghost use Rattle.mysql_wire.specs.Delivery.{Waiting};
 ghost use Rattle.mysql_wire.specs.LimitedRuns.{Aligned};
@@ -218,7 +221,7 @@ fn write_rest<A: Allocator + Copy, W: Write>(
 /// completes, under a limit of `limit` payload bytes a packet. The answer is the exit status: 0
 /// where the input ended between two packets, 3 where it ended inside one, 4 at a packet past the
 /// limit, 5 at a chunk of another id, 2 where a read or a write failed, 6 where memory was refused.
-pub fn run_unframe<A: Allocator + Copy, R: Read, W: Write>(
+pub fn run_unframe<A: Allocator + Copy, R: NotedRead, W: Write>(
     alloc: A,
     step: usize,
     limit: usize,
@@ -226,8 +229,9 @@ pub fn run_unframe<A: Allocator + Copy, R: Read, W: Write>(
     output: &mut W,
 ) -> u8
     requires { 0 < step }
-    ensures { UnframeEnds limit result (R.remaining input.old) (R.remaining input.new)
+    ensures ended { UnframeEnds limit result (R.remaining input.old) (R.remaining input.new)
         (W.contents output.old) (W.contents output.new) }
+    ensures asked { AsksStep step (R.reads input.old) (R.reads input.new) }
 {
     laws::nothing_read();
     laws::equal_limits();
@@ -237,7 +241,7 @@ pub fn run_unframe<A: Allocator + Copy, R: Read, W: Write>(
 /// The same under a limit that changes: bytes of the input from place `at` on, counted from 0, come
 /// under `later`, and those before it under `limit`. A chunk is judged by the limit of the fourth
 /// byte of its header. A read before that place is asked for no byte past it.
-pub fn run_unframe_limited<A: Allocator + Copy, R: Read, W: Write>(
+pub fn run_unframe_limited<A: Allocator + Copy, R: NotedRead, W: Write>(
     alloc: A,
     step: usize,
     limit: usize,
@@ -247,15 +251,16 @@ pub fn run_unframe_limited<A: Allocator + Copy, R: Read, W: Write>(
     output: &mut W,
 ) -> u8
     requires { 0 < step }
-    ensures { UnframeLimitedEnds limit later at result
+    ensures ended { UnframeLimitedEnds limit later at result
         (R.remaining input.old) (R.remaining input.new)
         (W.contents output.old) (W.contents output.new) }
+    ensures asked { AsksUpTo step at (R.reads input.old) (R.reads input.new) }
 {
     exit_status(unframe(alloc, step, limit, later, at, input, output))
 }
 
 // The same, with the exit status or why it gave up.
-fn unframe<A: Allocator + Copy, R: Read, W: Write>(
+fn unframe<A: Allocator + Copy, R: NotedRead, W: Write>(
     alloc: A,
     step: usize,
     limit: usize,
@@ -265,9 +270,10 @@ fn unframe<A: Allocator + Copy, R: Read, W: Write>(
     output: &mut W,
 ) -> Result<u8, Stop>
     requires { 0 < step }
-    ensures { IfOk result (λ status. UnframeEndsOver limit later at status
+    ensures ended { IfOk result (λ status. UnframeEndsOver limit later at status
         (R.remaining input.old) (R.remaining input.new)
         (W.contents output.old) (W.contents output.new)) }
+    ensures asked { AsksUpTo step at (R.reads input.old) (R.reads input.new) }
 {
     laws::empty_goes_on();
     laws::joined_limited_runs();

@@ -8,6 +8,7 @@ ghost use Rattle.mysql_wire_commands.specs.Numbers.{IsNumber, IsStep};
 
 use crate::chunk::run_chunk;
 use crate::frame::run_frame;
+use crate::noted::Unnoted;
 use crate::reframe::run_reframe;
 use crate::unframe::{run_unframe, run_unframe_limited};
 use std::alloc::Allocator;
@@ -104,7 +105,7 @@ ghost use Rattle.mysql_wire_commands.specs.Words.{Asks, RequestEnds};
 pub fn run_words<A: Allocator + Copy, R: Read, W: Write>(
     alloc: A,
     words: &[String<A>],
-    mut input: R,
+    input: R,
     mut output: W,
 ) -> (u8, R, W)
     ensures ran { (request : Request) → Asks (map string_bytes words.now) request
@@ -115,6 +116,7 @@ pub fn run_words<A: Allocator + Copy, R: Read, W: Write>(
     ensures untouched { result.0 ≡ 1 → Keeps (R.remaining input) (R.remaining result.1)
         × Keeps (W.contents output) (W.contents result.2) }
 {
+    let mut input = Unnoted(input);
     let status = match Request::of(words) {
         None => 1,
         Some(Request::Frame(id)) => run_frame(alloc, id, &mut input, &mut output),
@@ -130,7 +132,11 @@ pub fn run_words<A: Allocator + Copy, R: Read, W: Write>(
                 at,
             },
         ) => run_unframe_limited(alloc, step, limit, later, at, &mut input, &mut output),
-        Some(Request::Reframe(limit)) => return run_reframe(alloc, limit, input, output),
+        Some(Request::Reframe(limit)) => {
+            let (status, Unnoted(input), output) = run_reframe(alloc, limit, input, output);
+            return (status, input, output);
+        }
     };
+    let Unnoted(input) = input;
     (status, input, output)
 }

@@ -1,9 +1,10 @@
-use Rattle.std.proofs.Common.{rules, ◌≡◌, ℕ, ◌<◌, ◌≤◌, List, [], ◌++◌, take, length, length-take, sym, ap₂, ◌∙◌, arith, append-nil, length-append, subst, if◌then◌else◌, nat_lt}
+use Rattle.std.proofs.Common.{rules, ◌+◌, ◌≡◌, ℕ, ◌<◌, ◌≤◌, List, [], ◌++◌, take, length, length-take, sym, ap₂, ◌∙◌, arith, append-nil, length-append, subst, if◌then◌else◌, nat_lt}
 use Rattle.std.proofs.KnownBytes.{Appends-nil, Appends-trans, Consumes-nil, Consumes-trans}
 use Rattle.std.specs.Io.KnownBytes.{Consumes}
 use Rattle.mysql_wire.specs.Delivery.{Waiting}
 use Rattle.mysql_wire.specs.Limited.{place_after}
 use Rattle.mysql_wire_commands.specs.Unframe.{place_limits, run_state, next_limit, packet_lines, bytes_left, ending_line, UnframedUnder}
+use Rattle.mysql_wire_commands.proofs.ReadLemmas.{Asking, asking_start, asking_more, asked_more}
 use Rattle.mysql_wire_commands.proofs.UnframeLemmas.{unframing_start, limits_here, unframing_more, unframing_ended, unframing_too_large, unframing_out_of_sync, rest_cases}
 use Rattle.mysql_wire_commands.proofs.unframe.unframe.Goals as goal
 
@@ -22,6 +23,7 @@ reads-init g c =
         new.ahead_is ∙ omega arith,
         Consumes-nil _,
         Appends-nil _,
+        asking_start c.args.step c.args.at _,
       );
     }
 
@@ -38,6 +40,11 @@ reads-preserved g c =
     let here : next_limit c.reads.run ≡ (if nat_lt 0 ahead then c.args.limit else c.args.later) =
     ap₂ (λ (a b : ℕ). if nat_lt 0 ahead then a else b) c.reads.invariant.limit c.reads.invariant.later in
     let lines = rw (append-nil (packet_lines takes.0)) at takes.2 in
+    let asks = c.next_read.ensures in
+    let asking = asking_more c.args.step c.args.at (length old.0) ahead _ _ (g.R.NotedRead.reads c.read_piece.new.input) (record { asked = c.next_read.result; came = c.in_ok-count.count })
+    old.6 old.3 asks.some asks.step asks.apart asks.no_less c.in_ok-count.ensures.noted in
+    let came : length old.0 + c.in_ok-count.count ≡ length (old.0 ++ piece) =
+    let len = length-append old.0 piece in let part = length-take c.in_ok-count.count c.deref.result.now in omega (arith, len, part, c.in_ok-count.ensures.count) in
     record {
       piece_len = search rules;
       limit = c.take_piece.ensures.limit ∙ c.reads.invariant.limit;
@@ -54,11 +61,12 @@ reads-preserved g c =
         (let len = length-append old.0 piece in omega (arith, len, c.take_piece.ensures.passed, old.3)),
         Consumes-trans _ _ _ old.0 piece old.4 read,
         Appends-trans _ _ _ old.1 (packet_lines takes.0) old.5 lines,
+        subst (λ (n : ℕ). Asking c.args.step c.args.at n (g.R.NotedRead.reads c.args.input.now) (g.R.NotedRead.reads c.read_piece.new.input)) came asking,
       );
     }
 
-pub returns-in-TooLarge : goal.returns-in-TooLarge
-returns-in-TooLarge g c limits known =
+pub returns-in-TooLarge-clause-ended : goal.returns-in-TooLarge-clause-ended
+returns-in-TooLarge-clause-ended g c limits known =
     let old = c.reads.invariant.so_far in
     let ahead = c.reads.run.ahead in
     let before = run_state c.reads.run in
@@ -86,8 +94,8 @@ returns-in-TooLarge g c limits known =
       all_read = search rules;
     }
 
-pub returns-in-OutOfSync : goal.returns-in-OutOfSync
-returns-in-OutOfSync g c limits known =
+pub returns-in-OutOfSync-clause-ended : goal.returns-in-OutOfSync-clause-ended
+returns-in-OutOfSync-clause-ended g c limits known =
     let old = c.reads.invariant.so_far in
     let ahead = c.reads.run.ahead in
     let before = run_state c.reads.run in
@@ -115,8 +123,8 @@ returns-in-OutOfSync g c limits known =
       all_read = search rules;
     }
 
-pub returns-then-count-eq0 : goal.returns-then-count-eq0
-returns-then-count-eq0 g c limits known =
+pub returns-then-count-eq0-clause-ended : goal.returns-then-count-eq0-clause-ended
+returns-then-count-eq0-clause-ended g c limits known =
     let old = c.reads.invariant.so_far in
     let u = old.2 limits known in
     let read = subst (λ (n : ℕ). Consumes (g.R.Read.remaining c.reads.input) (g.R.Read.remaining c.read_piece.new.input) (take n c.read_piece.new.piece.items))
@@ -137,3 +145,39 @@ returns-then-count-eq0 g c limits known =
       );
       all_read = search rules;
     }
+
+pub returns-in_err-count-clause-asked : goal.returns-in_err-count-clause-asked
+returns-in_err-count-clause-asked g c =
+    let old = c.reads.invariant.so_far in
+    let asks = c.next_read.ensures in
+    asked_more _ _ _ _ _ _ _ (record { asked = c.next_read.result; came = 0 }) old.6 old.3 asks.some asks.step asks.apart asks.no_less c.in_err-count.ensures.noted
+
+pub returns-in_err-status-clause-asked : goal.returns-in_err-status-clause-asked
+returns-in_err-status-clause-asked g c =
+    let old = c.reads.invariant.so_far in
+    let asks = c.next_read.ensures in
+    asked_more _ _ _ _ _ _ _ (record { asked = c.next_read.result; came = c.in_ok-count.count }) old.6 old.3 asks.some asks.step asks.apart asks.no_less c.in_ok-count.ensures.noted
+
+pub returns-then-count-eq0-clause-asked : goal.returns-then-count-eq0-clause-asked
+returns-then-count-eq0-clause-asked g c =
+    let old = c.reads.invariant.so_far in
+    let asks = c.next_read.ensures in
+    asked_more _ _ _ _ _ _ _ (record { asked = c.next_read.result; came = c.in_ok-count.count }) old.6 old.3 asks.some asks.step asks.apart asks.no_less c.in_ok-count.ensures.noted
+
+pub returns-in_err-take_piece-clause-asked : goal.returns-in_err-take_piece-clause-asked
+returns-in_err-take_piece-clause-asked g c =
+    let old = c.reads.invariant.so_far in
+    let asks = c.next_read.ensures in
+    asked_more _ _ _ _ _ _ _ (record { asked = c.next_read.result; came = c.in_ok-count.count }) old.6 old.3 asks.some asks.step asks.apart asks.no_less c.in_ok-count.ensures.noted
+
+pub returns-in-TooLarge-clause-asked : goal.returns-in-TooLarge-clause-asked
+returns-in-TooLarge-clause-asked g c =
+    let old = c.reads.invariant.so_far in
+    let asks = c.next_read.ensures in
+    asked_more _ _ _ _ _ _ _ (record { asked = c.next_read.result; came = c.in_ok-count.count }) old.6 old.3 asks.some asks.step asks.apart asks.no_less c.in_ok-count.ensures.noted
+
+pub returns-in-OutOfSync-clause-asked : goal.returns-in-OutOfSync-clause-asked
+returns-in-OutOfSync-clause-asked g c =
+    let old = c.reads.invariant.so_far in
+    let asks = c.next_read.ensures in
+    asked_more _ _ _ _ _ _ _ (record { asked = c.next_read.result; came = c.in_ok-count.count }) old.6 old.3 asks.some asks.step asks.apart asks.no_less c.in_ok-count.ensures.noted

@@ -3,6 +3,7 @@ use Rattle.std.specs.Io.KnownBytes.{Appends, Consumes}
 use Rattle.mysql_wire.specs.Limited.{Limits}
 use Rattle.mysql_wire.specs.LimitedRuns.{Aligned}
 use Rattle.mysql_wire_commands.specs.Unframe.{Unframing, place_limits, run_state}
+use Rattle.mysql_wire_commands.proofs.ReadLemmas.{Asking}
 use Rattle.mysql_wire_commands.proofs.unframe.unframe.Given as goal
 
 abbrev pub invariant-reads : goal.invariant-reads
@@ -15,5 +16,6 @@ invariant-reads g l = record {
       × ((limits : Limits) → ((place : ℕ) → limits place ≡ place_limits l.fn.limit l.fn.later l.fn.at place) → Unframing limits l.fn.at (run_state l.run) input text)
       × (l.run.ahead ≡ l.fn.at - length input)
       × Consumes (g.R.Read.remaining l.fn.input) (g.R.Read.remaining l.input) input
-      × Appends (g.W.Write.contents l.fn.output) (g.W.Write.contents l.output) text;
+      × Appends (g.W.Write.contents l.fn.output) (g.W.Write.contents l.output) text
+      × Asking l.fn.step l.fn.at (length input) (g.R.NotedRead.reads l.fn.input) (g.R.NotedRead.reads l.input);
 }

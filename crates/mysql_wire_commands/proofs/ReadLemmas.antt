@@ -1,0 +1,92 @@
+-- One read after another.
+use Rattle.std.proofs.Common.{◌≡◌, ◌⊎◌, ◌+◌, ◌-◌, ◌<◌, ◌≤◌, ℕ, List, [], ◌∷◌, ◌++◌, ◌∙◌, All, Option, Some, None, refl, sym, ap, subst, arith, inl, inr, append_assoc, append-nil}
+use Rattle.std.proofs.lemmas.List.Elements.{All-nil, All-cons}
+use Rattle.mysql_wire_commands.specs.declared.noted.OneRead.{OneRead}
+use Rattle.mysql_wire_commands.specs.Reads.{Makes, AskedFor, EachAskedFor, AsksUpTo, AsksStep}
+
+-- how many bytes came
+abbrev pub came : List OneRead → ℕ
+came [] = 0
+came (read ∷ reads) = read.came + came reads
+
+-- so far so many bytes came
+pub record Asking (step at place : ℕ) (old new : Option (List OneRead)) : Type 0 where
+  pub made : List OneRead
+  pub makes : Makes old new made
+  pub each : EachAskedFor step at 0 made
+  pub place_is : came made ≡ place
+
+makes_nothing : (old : Option (List OneRead)) → Makes old old []
+makes_nothing None = tt
+makes_nothing (Some all) = (all, refl, sym (append-nil all))
+
+makes_more : (old new later : Option (List OneRead)) (made more : List OneRead) → Makes old new made → Makes new later more → Makes old later (made ++ more)
+makes_more old new None made more first second = tt
+makes_more old None (Some all) made more first (before, is, split) = absurd cc
+makes_more old (Some middle) (Some all) made more (before, is, split) (between, same, last) = (before, is, (let e : middle ≡ between = cc in last ∙ ap (λ (z : List OneRead). z ++ more) (sym e ∙ split) ∙ append_assoc before made more))
+
+each_more : (step at place : ℕ) (made : List OneRead) (read : OneRead) → EachAskedFor step at place made → AskedFor step at (place + came made) read.asked
+    → EachAskedFor step at place (made ++ read ∷ [])
+each_more step at place [] read each one = (subst (λ (n : ℕ). AskedFor step at n read.asked) (omega arith) one, tt)
+each_more step at place (first ∷ made) read each one =
+    (each.0, each_more step at (place + first.came) made read each.1 (subst (λ (n : ℕ). AskedFor step at n read.asked) (omega arith) one))
+
+came_more : (made : List OneRead) (read : OneRead) → came (made ++ read ∷ []) ≡ came made + read.came
+came_more [] read = omega arith
+came_more (first ∷ made) read = let rest = came_more made read in omega arith
+
+-- no read yet
+pub asking_start : (step at : ℕ) (old : Option (List OneRead)) → Asking step at 0 old old
+asking_start step at old = record {
+  made = [];
+  makes = makes_nothing old;
+  each = tt;
+  place_is = refl;
+}
+
+-- a read more, of what is asked for with so many bytes left up to the place `at`
+pub asking_more : (step at place ahead : ℕ) (old new later : Option (List OneRead)) (read : OneRead) → Asking step at place old new → ahead ≡ at - place
+    → 0 < read.asked → read.asked ≤ step → (0 < ahead → read.asked ≤ ahead) → (read.asked ≡ step) ⊎ (read.asked ≡ ahead)
+    → Makes new later (read ∷ []) → Asking step at (place + read.came) old later
+asking_more step at place ahead old new later read so_far left some at_most apart no_less makes = record {
+  made = so_far.made ++ read ∷ [];
+  makes = makes_more old new later so_far.made (read ∷ []) so_far.makes makes;
+  each = each_more step at 0 so_far.made read so_far.each (record {
+    some = some;
+    at_most = at_most;
+    apart = λ before. (let e = so_far.place_is in let h = apart (omega arith) in omega arith);
+    no_less = (let e = so_far.place_is in elim no_less [
+      | inl whole ↦ inl whole
+      | inr less ↦ inr (omega arith)
+    ]);
+  });
+  place_is = came_more so_far.made read ∙ ap (λ (n : ℕ). n + read.came) so_far.place_is;
+}
+
+pub asked_more : (step at place ahead : ℕ) (old new later : Option (List OneRead)) (read : OneRead) → Asking step at place old new → ahead ≡ at - place
+    → 0 < read.asked → read.asked ≤ step → (0 < ahead → read.asked ≤ ahead) → (read.asked ≡ step) ⊎ (read.asked ≡ ahead)
+    → Makes new later (read ∷ []) → AsksUpTo step at old later
+asked_more step at place ahead old new later read so_far left some at_most apart no_less makes =
+    let here = asking_more step at place ahead old new later read so_far left some at_most apart no_less makes in
+    record {
+      made = here.made;
+      makes = here.makes;
+      each = here.each;
+    }
+
+-- from the place on, each read is asked for a step
+each_step : (step place : ℕ) (made : List OneRead) → EachAskedFor step 0 place made → All (λ (read : OneRead). read.asked ≡ step) made
+each_step step place [] each = All-nil (λ (read : OneRead). read.asked ≡ step)
+each_step step place (read ∷ made) each =
+    let whole : read.asked ≡ step = elim each.0.no_less [
+      | inl same ↦ same
+      | inr less ↦ (let some = each.0.some in absurd (omega arith))
+    ] in
+    All-cons (λ (read : OneRead). read.asked ≡ step) read made whole (each_step step (place + read.came) made each.1)
+
+pub asked_step : (step : ℕ) (old new : Option (List OneRead)) → AsksUpTo step 0 old new → AsksStep step old new
+asked_step step old new asked = record {
+  made = asked.made;
+  makes = asked.makes;
+  each = each_step step 0 asked.made asked.each;
+}
