@@ -1,114 +1,104 @@
 #!/usr/bin/env bash
-# Compares the public functions that have an allocator within reach with the tables of the crate
-# memory_tests: each of them stands in a table of those that take memory, or in the one of those
-# that take none, and each name there is such a function. The last line is 'N passed, M failed'.
+# Compares the public functions of the layers with the lists of the crate memory_tests, in both
+# directions. Each function stands in the lists of its kind, and in no list of another:
 #
-# Within reach: the signature, or the head of the impl or trait, names an allocator, a vector or a
-# buffer. Left out are functions of `Global` alone, which no test can refuse (each is a call of one
-# that takes any allocator), laws, whose bodies are empty, and what the facade doesn't name.
+# - An allocator is within its reach: in a table of memory_tests that is run. That is one of the
+#   functions that take memory (each request refused in turn), the one of those that ask for none,
+#   or both where it depends on what the function is called with.
+# - It names `Global`, which no test can refuse: in global.txt, with the call that is its whole
+#   body. That call is in a table that is run, or is in global.txt itself, and its own call is.
+# - It names neither, so that it can't ask: in no_allocator.txt. Its signature, its body and the
+#   head of its impl or trait are free of allocators and of types that own memory, or its body is
+#   empty. (An allocator is a value that a caller hands in; there is no other way to memory.)
+#
+# A public function is a `pub fn` of an impl; one that stands by itself, where a user can name it
+# (each module above it is public, or a `pub use` names it); a method of a public trait, by the
+# trait's name, in each impl of it; a method that an impl of ours writes by hand for a trait from
+# elsewhere, by its type; and a copy that a derive makes. What a caller's own reader, writer,
+# visitor or field asks for is the caller's.
+#
+# scripts/public_functions.py finds them. The last line is 'N passed, M failed'.
 set -u
+export LC_ALL=C
 cd "$(dirname "$0")/.." || exit 1
 layers=(wire_const wire_buf wire_ext wire_repr wire_field wire_codec mysql_wire)
-
-# Prints the name of each public function that has an allocator within reach.
-within_reach() {
-    local sources
-    mapfile -t sources < <(for layer in "${layers[@]}"; do
-        find "crates/$layer/src" -name '*.rt'
-    done | sort)
-    awk '
-        # The head of an impl or a trait, up to its brace: its text, and the name in front of "::".
-        function enter(text) {
-            head = text
-            owner = text
-            is_open = (text ~ /^pub trait/)
-            sub(/ where.*| \{.*/, "", owner)
-            if (owner ~ /^pub (unsafe )?trait/) {
-                sub(/^pub (unsafe )?trait /, "", owner)
-            } else {
-                is_std = (owner ~ /(Default|From<.*>) for /)
-                is_other = (owner ~ / for /) && !is_std
-                sub(/.* for /, "", owner)
-                sub(/^impl(<.*>)? /, "", owner)
-            }
-            sub(/[<:].*/, "", owner)
-        }
-        function close_signature() {
-            name = signature
-            sub(/^.*fn /, "", name)
-            sub(/[<(].*/, "", name)
-            text = signature " " head
-            # A law.
-            if (name ~ /_comes?_back$|^known$/) return
-            if (owner == "" && !(name in named) && FILENAME !~ /laws/) return
-            if (signature ~ /alloc: Global/) return
-            if (text ~ /Allocator|alloc: A|Vec<|BytesMut|BufMut|PacketDst/) {
-                print (owner == "" ? name : owner "::" name)
-            }
-        }
-        FILENAME ~ /mysql_wire\/src\/lib/ {
-            gsub(/[^A-Za-z0-9_]+/, " ")
-            split($0, words, " ")
-            for (i in words) named[words[i]] = 1
-            next
-        }
-        FNR == 1 { owner = ""; head = ""; is_open = is_std = is_other = reading = heading = 0 }
-        # A copy that a derive makes.
-        /^#\[derive_where\(Clone; A/ { is_cloned = 1 }
-        is_cloned && /^pub struct/ {
-            name = $0
-            sub(/^pub struct /, "", name)
-            sub(/[<({].*/, "", name)
-            print name "::clone"
-            is_cloned = 0
-        }
-        /^(unsafe )?impl|^pub (unsafe )?trait/ { heading = 1; text = ""; is_open = is_std = is_other = 0 }
-        heading {
-            text = text " " $0
-            if ($0 ~ /\{/) { heading = 0; sub(/^ +/, "", text); enter(text) }
-            next
-        }
-        /^}/ { owner = ""; head = ""; is_open = is_std = is_other = 0 }
-        !reading && (/^ *pub (const |unsafe |final )*fn / || ((is_open || is_std) && /^    (unsafe |final )*fn /)) {
-            reading = !is_other
-            signature = ""
-        }
-        reading {
-            signature = signature " " $0
-            if ($0 ~ /\)( ->.*)?( \{)?$|\) (where|->)/) { reading = 0; close_signature() }
-        }
-    ' crates/mysql_wire/src/lib.rt "${sources[@]}" | sort -u
-}
+tests=crates/memory_tests
 
 # Prints the names in the tables of these modules of memory_tests.
-listed() {
+in_tables() {
     for module in "$@"; do
-        sed -n '/^const ROWS/,/^];/p' "crates/memory_tests/src/$module.rt"
-    done | grep -oE '(^|[^b])"([A-Z][A-Za-z]*::)?[a-z_0-9]+"' | grep -oE '[A-Za-z_0-9:]+"$' | tr -d '"' | sort -u
+        sed -n '/^const ROWS/,/^];/p' "$tests/src/$module.rt"
+    done | grep -oE '(^|[^b])"([A-Z][A-Za-z0-9]*::)?[a-z_0-9]+(\([^"]*\))?"' |
+        sed -E 's/^[^"]*"(.*)"$/\1/' | sort -u
 }
 
 passed=0
 failed=0
-# Prints a line for each name that the first list has and the second lacks.
-all_in() {
-    local lacking
-    lacking=$(comm -23 "$1" "$2")
-    if [ -z "$lacking" ]; then
+
+# Counts a check, which holds where its input has no lines; they are printed with what is wrong.
+holds_for_none() {
+    local wrong
+    wrong=$(cat)
+    if [ -z "$wrong" ]; then
         passed=$((passed + 1))
     else
         failed=$((failed + 1))
-        while read -r name; do
-            echo "$name: $3"
-        done <<<"$lacking"
+        while read -r line; do
+            echo "$line: $1"
+        done <<<"$wrong"
     fi
+}
+
+# Prints the lines of global.txt whose call, or the one that this passes its work to, isn't run.
+not_run() {
+    awk -F ': ' '
+        FILENAME ~ /tables$/ { is_run[$1] = 1; next }
+        { call[$1] = $2 }
+        END {
+            for (name in call) {
+                at = call[name]
+                for (steps = 0; at in call && steps < 9; steps++) at = call[at]
+                if (!(at in is_run)) print name ": " call[name]
+            }
+        }
+    ' "$work/tables" "$work/global.list"
 }
 
 work=$(mktemp -d)
 trap 'rm -rf "$work"' EXIT
-within_reach >"$work/functions"
-listed writers copies codec silent >"$work/listed"
-all_in "$work/functions" "$work/listed" 'in no table of memory_tests'
-all_in "$work/listed" "$work/functions" 'no public function with an allocator within reach'
-echo "memory lists: $(wc -l <"$work/functions") functions within reach of an allocator"
+mapfile -t sources < <(cd crates && find "${layers[@]/%//src}" -name '*.rt' | sort)
+(cd crates && ../scripts/public_functions.py "${sources[@]}") >"$work/functions" || exit 1
+for kind in within global none twice unread; do
+    sed -n "s/^$kind //p" "$work/functions" | sort >"$work/$kind"
+done
+in_tables writers copies codec silent >"$work/tables"
+for list in global no_allocator; do
+    sort "$tests/$list.txt" >"$work/$list.list"
+done
+sed 's/: .*//' "$work/global.list" >"$work/global_names"
+
+holds_for_none 'a name of two functions' <"$work/twice"
+holds_for_none 'a function that public_functions.py cannot read' <"$work/unread"
+holds_for_none 'an allocator is within reach, and no table of memory_tests has it' \
+    < <(comm -23 "$work/within" "$work/tables")
+holds_for_none 'in a table of memory_tests, and no function with an allocator within reach' \
+    < <(comm -13 "$work/within" "$work/tables")
+holds_for_none 'names Global, and global.txt has no such line' \
+    < <(comm -23 "$work/global" "$work/global.list")
+holds_for_none 'in global.txt, and no function of Global alone, or not by this call' \
+    < <(comm -13 "$work/global" "$work/global.list")
+holds_for_none 'passes its work to what no table of memory_tests has' < <(not_run)
+holds_for_none 'names no allocator, and no_allocator.txt lacks it' \
+    < <(comm -23 "$work/none" "$work/no_allocator.list")
+holds_for_none 'in no_allocator.txt, and no function without an allocator within reach' \
+    < <(comm -13 "$work/none" "$work/no_allocator.list")
+holds_for_none 'in lists of two kinds, or twice in one' \
+    < <(sort "$work/tables" "$work/global_names" "$work/no_allocator.list" | uniq -d)
+holds_for_none 'not sorted by bytes' \
+    < <(for list in global no_allocator; do
+        cmp -s "$tests/$list.txt" "$work/$list.list" || echo "$list.txt"
+    done)
+echo "public functions: $(wc -l <"$work/within") within reach of an allocator," \
+    "$(wc -l <"$work/global") of Global alone, $(wc -l <"$work/none") that name none"
 echo "$passed passed, $failed failed"
 [ "$failed" -eq 0 ]

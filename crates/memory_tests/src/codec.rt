@@ -2,22 +2,20 @@
 //! then does what it does where none comes.
 
 use bytes::BytesMut;
-use mysql_wire::misc::raw::RawBytes;
-use mysql_wire::misc::raw::bytes::EofBytes;
-use mysql_wire::proto::codec::{
-    PacketCodec, PacketDst, Visit, deliver_each, deliver_limited, encode_value, packet_to_chunks,
-};
-use mysql_wire::proto::packet_io::{PacketReader, PacketWriter};
+use memory_support::packets::{Outlet, Source};
+use mysql_wire::proto::codec::PacketDst;
 use refusing::{NEVER, Refusing};
 use std::alloc::Allocator;
 use std::test::Fail;
+use test_support::facts::are_parts;
 use test_support::fixture::{Fixture, Heap};
-use test_support::receiver::{Receiver, Run, pieces_from};
+use test_support::receiver::{Receiver, Run, Tally, frames, pieces_from};
 use test_support::told::Told;
 
 #[derive(Clone, Copy)]
 enum Taking {
     PacketToChunks,
+    PiecesToChunks,
     Encode,
     EncodeValue,
     Queue,
@@ -25,27 +23,38 @@ enum Taking {
     Decode,
     Reserve,
     PutSlice,
-    Deliver,
-    DeliverEach,
-    DeliverLimited,
+    Deliver(Runner),
     NextPacket,
     FillPacket,
 }
 
-const ROWS: [(&str, Taking); 13] = [
-    ("packet_to_chunks", Taking::PacketToChunks),
-    ("PacketCodec::encode", Taking::Encode),
-    ("encode_value", Taking::EncodeValue),
-    ("PacketWriter::queue", Taking::Queue),
-    ("ChunkDecoder::decode", Taking::ChunkDecode),
-    ("PacketCodec::decode", Taking::Decode),
-    ("PacketDst::reserve", Taking::Reserve),
-    ("PacketDst::put_slice", Taking::PutSlice),
-    ("deliver", Taking::Deliver),
-    ("deliver_each", Taking::DeliverEach),
-    ("deliver_limited", Taking::DeliverLimited),
-    ("PacketReader::next_packet", Taking::NextPacket),
-    ("PacketReader::fill_packet", Taking::FillPacket),
+#[derive(Clone, Copy)]
+enum Runner {
+    Deliver,
+    DeliverEach,
+    DeliverLimited,
+}
+
+// A function by its name, and how often it asks for memory where none is refused.
+const ROWS: [(&str, Taking, u64); 14] = [
+    ("packet_to_chunks", Taking::PacketToChunks, 1),
+    ("packet_to_chunks", Taking::PiecesToChunks, 1),
+    ("PacketCodec::encode", Taking::Encode, 1),
+    ("encode_value", Taking::EncodeValue, 2),
+    ("PacketWriter::queue", Taking::Queue, 1),
+    ("ChunkDecoder::decode", Taking::ChunkDecode, 1),
+    ("PacketCodec::decode", Taking::Decode, 1),
+    ("PacketDst::reserve", Taking::Reserve, 1),
+    ("PacketDst::put_slice", Taking::PutSlice, 1),
+    ("deliver", Taking::Deliver(Runner::Deliver), 6),
+    ("deliver_each", Taking::Deliver(Runner::DeliverEach), 3),
+    (
+        "deliver_limited",
+        Taking::Deliver(Runner::DeliverLimited),
+        6,
+    ),
+    ("PacketReader::next_packet", Taking::NextPacket, 2),
+    ("PacketReader::fill_packet", Taking::FillPacket, 1),
 ];
 
 // More than a buffer has room for that holds a few bytes.
@@ -55,79 +64,62 @@ const TEXT: &[u8] = &[b'a'; LEN];
 
 const HEADER: &[u8] = b"\xc8\0\0\0";
 
-// A codec whose unread bytes are these, with little room behind them.
-fn holding<A: Allocator + Copy>(heap: &Heap, alloc: A, parts: [&[u8]; 2]) -> Receiver<A> {
-    heap.refuse(NEVER);
-    let mut to = Receiver::new(alloc, LEN);
-    for part in parts {
-        let _ = to.src.extend_from_slice(part);
-    }
-    to
-}
+// Two bytes and, behind them, a header and the two pieces of a packet.
+const FRAMED: [&[u8]; 3] = [b"ab\xc8\0\0\0", TEXT, b""];
+
+const FRAMED_FROM_255: [&[u8]; 3] = [b"ab\x05\0\0\xff", b"123", b"45"];
 
 // ---- framing
 
-// Whether this is the text's framing from the id 0, behind two bytes.
-fn is_framed(bytes: &[u8]) -> bool {
-    (bytes.len() == LEN + 6) & bytes.starts_with(b"ab\xc8\0\0\0aaa")
+// A receiver whose `src` holds two bytes, with little room behind them.
+fn begun<A: Allocator + Copy>(heap: &Heap, alloc: A) -> Receiver<A> {
+    heap.refuse(NEVER);
+    Receiver::holding(alloc, LEN, b"ab")
 }
 
-fn frame_once<A: Allocator + Copy>(to: &mut Receiver<A>, packet: &mut &[u8], raw: bool) -> Told {
-    if raw {
-        match packet_to_chunks(0, packet, &mut to.src) {
-            Ok(_) => Told::Done,
-            Err(_) => Told::OutOfMemory,
-        }
+fn encode_once<A>(to: &mut Receiver<A>, packet: &mut &[u8], as_value: bool) -> Told
+where
+    A: Allocator + Copy,
+{
+    if as_value {
+        to.encode_text(TEXT)
     } else {
-        Told::of_encode(to.codec.encode(packet, &mut to.src))
+        to.encode(packet)
     }
 }
 
-// Whether the request was refused, and nothing changed; the packet is then framed.
-fn frames<A: Allocator + Copy>(heap: &Heap, alloc: A, raw: bool, nth: u64) -> Option<bool> {
-    let mut to = holding(heap, alloc, [b"ab", b""]);
+// Whether a packet, or a value, was refused, and neither it nor the buffer is changed; it is then
+// framed from the id 0.
+fn encodes<A: Allocator + Copy>(heap: &Heap, alloc: A, as_value: bool, nth: u64) -> Option<bool> {
+    let mut to = begun(heap, alloc);
     let mut packet = TEXT;
     heap.refuse(nth);
-    let mut told = frame_once(&mut to, &mut packet, raw);
+    let mut told = encode_once(&mut to, &mut packet, as_value);
     let refused = told == Told::OutOfMemory;
     let mut all = true;
     if refused {
         all &= (to.src.as_slice() == b"ab".as_slice()) & (packet.len() == LEN);
-        told = frame_once(&mut to, &mut packet, raw);
+        told = encode_once(&mut to, &mut packet, as_value);
     }
-    all &= (told == Told::Done) & packet.is_empty() & is_framed(to.src.as_slice());
-    all.then_some(refused)
-}
-
-fn encodes_value<A: Allocator + Copy>(heap: &Heap, alloc: A, nth: u64) -> Option<bool> {
-    let mut to = holding(heap, alloc, [b"ab", b""]);
-    let value = RawBytes::<EofBytes>::from(TEXT);
-    heap.refuse(nth);
-    let mut told = Told::of_encode(encode_value(&mut to.codec, &value, &mut to.src));
-    let refused = told == Told::OutOfMemory;
-    let mut all = true;
-    if refused {
-        all &= to.src.as_slice() == b"ab".as_slice();
-        told = Told::of_encode(encode_value(&mut to.codec, &value, &mut to.src));
-    }
-    all &= (told == Told::Done) & is_framed(to.src.as_slice());
+    all &= (told == Told::Done) & (packet.is_empty() != as_value);
+    all &= are_parts(to.src.as_slice(), FRAMED);
     all.then_some(refused)
 }
 
 fn queues<A: Allocator + Copy>(heap: &Heap, alloc: A, nth: u64) -> Option<bool> {
     heap.refuse(NEVER);
-    let mut writer = PacketWriter::new(alloc, Vec::new(alloc)).ok()?;
-    let mut codec = PacketCodec::default();
+    let mut to = Outlet::new(alloc)?;
     let mut packet = TEXT;
     heap.refuse(nth);
-    let refused = writer.queue(&mut codec, &mut packet).is_err();
+    let mut told = to.queue(&mut packet);
+    let refused = told == Told::OutOfMemory;
     let mut all = true;
     if refused {
-        all &= writer.pending().is_empty() & (packet.len() == LEN);
-        all &= writer.queue(&mut codec, &mut packet).is_ok();
+        all &= to.writer.pending().is_empty() & (packet.len() == LEN);
+        told = to.queue(&mut packet);
     }
-    all &= packet.is_empty() & (writer.pending().len() == LEN + 4);
-    all &= writer.pending().starts_with(HEADER);
+    all &= (told == Told::Done) & packet.is_empty();
+    all &= are_parts(to.writer.pending(), [HEADER, TEXT, b""]);
     all.then_some(refused)
 }
 
@@ -145,8 +137,8 @@ fn decode_once<A: Allocator + Copy>(to: &mut Fixture<'_, A, Vec<u8, A>>, one: bo
 fn decodes<A: Allocator + Copy>(heap: &Heap, alloc: A, one: bool, nth: u64) -> Option<bool> {
     heap.refuse(NEVER);
     let mut to = Fixture::new(alloc, None, Vec::new(alloc));
-    let mut all = to.src.extend_from_slice(HEADER).is_ok();
-    all &= to.src.extend_from_slice(TEXT).is_ok();
+    let mut all = to.encode(TEXT) == Told::Done;
+    to.codec.reset_seq_id();
     heap.refuse(nth);
     let mut told = decode_once(&mut to, one);
     let refused = told == Told::OutOfMemory;
@@ -191,130 +183,98 @@ fn both_put<A: Allocator + Copy>(heap: &Heap, alloc: A, is_put: bool, nth: u64) 
 
 const PIECES: [&[u8]; 3] = [b"\x03", b"\0\0\x001", b"23\x01\0\0\x01\xff\0"];
 
-fn deliver_once<A: Allocator + Copy>(to: &mut Receiver<A>, from: usize, limited: bool) -> Run {
-    if !limited {
-        return to.deliver(pieces_from(&PIECES, from));
+const LIMITED: [(usize, &[u8]); 3] = [
+    (9, b"\x03"),
+    (9, b"\0\0\x001"),
+    (9, b"23\x01\0\0\x01\xff\0"),
+];
+
+fn run_once<A>(to: &mut Receiver<A>, runner: Runner, from: usize, tally: &mut Tally) -> Run
+where
+    A: Allocator + Copy,
+{
+    match runner {
+        Runner::Deliver => to.deliver(pieces_from(&PIECES, from)),
+        Runner::DeliverEach => to.visit(pieces_from(&PIECES, from), tally),
+        Runner::DeliverLimited => to.deliver_limited(&LIMITED[from.min(3)..]),
     }
-    let [first, second, third] = PIECES;
-    let pieces = [(9, first), (9, second), (9, third)];
-    if !to.codec.aligned_at(&to.src, to.dst.as_slice()) {
-        return (0, Told::Fallen);
+}
+
+// Whether the packets were handed out, or visited, and this is left.
+fn is_run<A: Allocator + Copy>(to: &Receiver<A>, runner: Runner, tally: &Tally) -> bool {
+    if matches!(runner, Runner::DeliverEach) {
+        (tally.bytes == 4) & to.shows(&[], b"\0", b"")
+    } else {
+        to.shows(&[b"123", b"\xff"], b"\0", b"")
     }
-    let (count, answer) = deliver_limited(
-        &mut to.codec,
-        &mut to.src,
-        &mut to.dst,
-        &pieces[from.min(3)..],
-        &mut to.out,
-    );
-    (count, Told::of_deliver(answer))
 }
 
 // Whether the request was refused; the run that goes on with the pieces that were not appended then
 // ends as one without a refusal does.
-fn delivers<A: Allocator + Copy>(heap: &Heap, alloc: A, limited: bool, nth: u64) -> Option<bool> {
-    let mut to = holding(heap, alloc, [b"", b""]);
-    heap.refuse(nth);
-    let (mut count, mut told) = deliver_once(&mut to, 0, limited);
-    let refused = told == Told::OutOfMemory;
-    if refused {
-        let (more, again) = deliver_once(&mut to, count, limited);
-        count = count.wrapping_add(more);
-        told = again;
-    }
-    let mut all = (count == 3) & (told == Told::Waits);
-    all &= to.shows(&[b"123", b"\xff"], b"\0", b"");
-    all.then_some(refused)
-}
-
-// Counts the bytes of packets.
-#[derive(Drop)]
-struct Tally {
-    bytes: usize,
-}
-
-impl Visit for Tally {
-    ghost sees = { λ _ _ _. Unit {0} };
-
-    fn visit(&mut self, packet: &[u8]) {
-        self.bytes = self.bytes.wrapping_add(packet.len());
-    }
-}
-
-// The same of a run that visits the packets, of which none is handed out.
-fn visits<A: Allocator + Copy>(heap: &Heap, alloc: A, nth: u64) -> Option<bool> {
-    let mut to = holding(heap, alloc, [b"", b""]);
+fn delivers<A>(heap: &Heap, alloc: A, runner: Runner, nth: u64) -> Option<bool>
+where
+    A: Allocator + Copy,
+{
+    heap.refuse(NEVER);
+    let mut to = Receiver::new(alloc, LEN);
     let mut tally = Tally { bytes: 0 };
     heap.refuse(nth);
-    let (mut count, mut told) = visit_once(&mut to, 0, &mut tally)?;
+    let (mut count, mut told) = run_once(&mut to, runner, 0, &mut tally);
     let refused = told == Told::OutOfMemory;
     if refused {
-        let (more, again) = visit_once(&mut to, count, &mut tally)?;
+        let (more, again) = run_once(&mut to, runner, count, &mut tally);
         count = count.wrapping_add(more);
         told = again;
     }
-    let mut all = (count == 3) & (told == Told::Waits) & (tally.bytes == 4);
-    all &= to.shows(&[], b"\0", b"");
+    let all = (count == 3) & (told == Told::Waits) & is_run(&to, runner, &tally);
     all.then_some(refused)
 }
 
-fn visit_once<A: Allocator + Copy>(
-    to: &mut Receiver<A>,
-    from: usize,
-    tally: &mut Tally,
-) -> Option<Run> {
-    if !to.codec.stands_at(&to.src, to.dst.as_slice()) {
-        return None;
-    }
-    let pieces = pieces_from(&PIECES, from);
-    let (count, answer) = deliver_each(&mut to.codec, &mut to.src, &mut to.dst, pieces, tally);
-    Some((count, Told::of_deliver(answer)))
-}
+// ---- readers
 
-// The packet is taken where it stands.
-fn fills_packet<A: Allocator + Copy>(heap: &Heap, alloc: A, nth: u64) -> Option<bool> {
-    heap.refuse(NEVER);
-    let mut reader = PacketReader::new(alloc, b"\x03\0\0\x00123".as_slice()).ok()?;
-    let mut codec = PacketCodec::default();
-    heap.refuse(nth);
-    let mut answer = reader.fill_packet(&mut codec);
-    let refused = answer.is_err();
-    if refused {
-        answer = reader.fill_packet(&mut codec);
-    }
-    let is_there = matches!(answer, Ok(true)) & (reader.packet() == b"123".as_slice());
-    is_there.then_some(refused)
-}
+const PACKET: &[u8] = b"\x03\0\0\x00123";
 
 fn reads_packet<A: Allocator + Copy>(heap: &Heap, alloc: A, nth: u64) -> Option<bool> {
     heap.refuse(NEVER);
-    let mut reader = PacketReader::new(alloc, b"\x03\0\0\x00123".as_slice()).ok()?;
-    let mut codec = PacketCodec::default();
+    let mut from = Source::new(alloc, PACKET)?;
     heap.refuse(nth);
-    let mut answer = reader.next_packet(&mut codec);
-    let refused = answer.is_err();
+    let mut answer = from.next_packet();
+    let refused = matches!(answer, Err(Told::OutOfMemory));
     if refused {
-        answer = reader.next_packet(&mut codec);
+        answer = from.next_packet();
     }
     let packet = answer.ok()??;
     (packet.as_slice() == b"123".as_slice()).then_some(refused)
 }
 
+// The packet is taken where it stands.
+fn fills_packet<A: Allocator + Copy>(heap: &Heap, alloc: A, nth: u64) -> Option<bool> {
+    heap.refuse(NEVER);
+    let mut from = Source::new(alloc, PACKET)?;
+    heap.refuse(nth);
+    let mut answer = from.fill();
+    let refused = answer == Err(Told::OutOfMemory);
+    if refused {
+        answer = from.fill();
+    }
+    ((answer == Ok(true)) & from.lends(b"123")).then_some(refused)
+}
+
 // ---- all
 
+// Whether the request was refused, and what stands then is right.
 fn tries<A: Allocator + Copy>(heap: &Heap, alloc: A, call: Taking, nth: u64) -> Option<bool> {
     match call {
-        Taking::PacketToChunks => frames(heap, alloc, true, nth),
-        Taking::Encode => frames(heap, alloc, false, nth),
-        Taking::EncodeValue => encodes_value(heap, alloc, nth),
+        Taking::PacketToChunks => frames(heap, alloc, 0, FRAMED, nth),
+        Taking::PiecesToChunks => frames(heap, alloc, 255, FRAMED_FROM_255, nth),
+        Taking::Encode => encodes(heap, alloc, false, nth),
+        Taking::EncodeValue => encodes(heap, alloc, true, nth),
         Taking::Queue => queues(heap, alloc, nth),
         Taking::ChunkDecode => decodes(heap, alloc, true, nth),
         Taking::Decode => decodes(heap, alloc, false, nth),
         Taking::Reserve => both_put(heap, alloc, false, nth),
         Taking::PutSlice => both_put(heap, alloc, true, nth),
-        Taking::Deliver => delivers(heap, alloc, false, nth),
-        Taking::DeliverLimited => delivers(heap, alloc, true, nth),
-        Taking::DeliverEach => visits(heap, alloc, nth),
+        Taking::Deliver(runner) => delivers(heap, alloc, runner, nth),
         Taking::NextPacket => reads_packet(heap, alloc, nth),
         Taking::FillPacket => fills_packet(heap, alloc, nth),
     }
@@ -338,10 +298,9 @@ fn refusals<A: Allocator + Copy>(heap: &Heap, alloc: A, call: Taking) -> Option<
 }
 
 fn first_wrong<A: Allocator + Copy>(heap: &Heap, alloc: A) -> Option<&'static str> {
-    for (name, call) in ROWS {
-        match refusals(heap, alloc, call) {
-            None | Some(0) => return Some(name),
-            Some(_) => {}
+    for (name, call, wanted) in ROWS {
+        if refusals(heap, alloc, call) != Some(wanted) {
+            return Some(name);
         }
     }
     None

@@ -1,49 +1,26 @@
 //! The functions that write behind what a vector holds.
 
-use mysql_wire::io::{BufMutExt, WireError};
-use mysql_wire::misc::raw::RawInt;
-use mysql_wire::misc::raw::bytes::{BytesRepr, U8Bytes};
-use mysql_wire::misc::raw::int::{IntRepr, LeU16, LeU32};
-use mysql_wire::misc::raw::seq::SeqRepr;
-use mysql_wire::misc::write_varlen_uint;
-use mysql_wire::proto::MySerialize;
+use memory_support::writing::{Writing, write};
 use refusing::{NEVER, Refusing};
 use std::alloc::Allocator;
 use std::test::Fail;
-use test_support::answers::{Fault, told};
+use test_support::answers::Fault;
+use test_support::facts::are_parts;
+use test_support::fields::full;
 use test_support::fixture::Heap;
 
-// What is written.
-#[derive(Clone, Copy)]
-enum Writing {
-    Value,
-    Number,
-    Text,
-    List,
-    LenencInt,
-    LenencStr,
-    U8Str,
-    U32Str,
-    U24,
-    I24,
-    U48,
-    U56,
-    I56,
-    VarlenUint,
-}
-
 // A function by its name, and what stands behind the byte `aa` after its first request is refused,
-// after its second, and so on, and in the end.
+// after its second, and so on, and in the end. The same call made after a refusal puts the last of
+// these behind what stands.
 type Row = (&'static str, Writing, &'static [&'static [u8]]);
 
-const TEXT: &[u8] = b"0123456789012345678901234567890123456789";
-
-const ROWS: [Row; 14] = [
+const ROWS: [Row; 16] = [
     (
         "MySerialize::serialize",
         Writing::Value,
         &[b"", b"\x01\x02"],
     ),
+    ("MySerialize::serialize", Writing::EmptyText, &[b"", b"\0"]),
     ("IntRepr::serialize", Writing::Number, &[b"", b"\x01\x02"]),
     (
         "BytesRepr::serialize",
@@ -112,71 +89,44 @@ const ROWS: [Row; 14] = [
         Writing::I56,
         &[b"", b"\xff\xff\xff\xff\xff\xff\xff"],
     ),
-    ("write_varlen_uint", Writing::VarlenUint, &[b"", b"\x0a"]),
+    ("write_varlen_uint", Writing::VarlenUint(5), &[b"", b"\x0a"]),
+    (
+        "write_varlen_uint",
+        Writing::VarlenUint(1 << 60),
+        &[b"", b"\xff\0\0\0\0\0\0\0\x10"],
+    ),
 ];
 
-fn put<A: Allocator>(writing: Writing, buf: &mut Vec<u8, A>) -> Result<(), WireError> {
-    match writing {
-        Writing::LenencInt => buf.put_lenenc_int(0x1_02_03),
-        Writing::LenencStr => buf.put_lenenc_str(TEXT),
-        Writing::U8Str => buf.put_u8_str(TEXT),
-        Writing::U32Str => buf.put_u32_str(TEXT),
-        Writing::U24 => buf.put_u24_le(0x1_02_03),
-        Writing::I24 => buf.put_i24_le(-1),
-        Writing::U48 => buf.put_u48_le(0x1_02_03),
-        Writing::U56 => buf.put_u56_le(0x1_02_03),
-        _ => buf.put_i56_le(-1),
-    }
-}
-
-fn write<A: Allocator>(writing: Writing, buf: &mut Vec<u8, A>) -> Result<(), WireError> {
-    match writing {
-        Writing::Value => RawInt::<LeU16>::new(0x201).serialize(buf),
-        Writing::Number => <LeU16 as IntRepr>::serialize(0x201, buf),
-        Writing::Text => <U8Bytes as BytesRepr>::serialize(TEXT, buf),
-        Writing::List => <LeU32 as SeqRepr>::serialize(&[RawInt::<LeU16>::new(0x201)], buf),
-        Writing::VarlenUint => write_varlen_uint(buf, 5),
-        other => put(other, buf),
-    }
-}
-
-// A vector that holds the byte `aa`, and has no room for more.
-fn full<A: Allocator>(heap: &Heap, alloc: A) -> Vec<u8, A> {
-    heap.refuse(NEVER);
-    let mut buf = Vec::new(alloc);
-    if buf.reserve_exact(1).is_ok() {
-        let _ = buf.push(0xaa);
-    }
-    buf
-}
-
-// Whether these bytes stand behind the byte that was there.
-fn is_behind(buf: &[u8], bytes: &[u8]) -> bool {
-    match buf {
-        [first, rest @ ..] => (*first == 0xaa) & (rest == bytes),
-        [] => false,
-    }
-}
-
-// Whether request number `nth` is met and refused, or none is, and this stands then.
-fn leaves<A: Allocator>(heap: &Heap, alloc: A, row: &Row, nth: u64, left: &[u8]) -> bool {
+// Whether request number `nth` is refused, if just this stands then, and the same call then writes
+// all.
+fn leaves<A: Allocator>(
+    heap: &Heap,
+    alloc: A,
+    row: &Row,
+    nth: u64,
+    left: &'static [u8],
+) -> Option<bool> {
     let mut buf = full(heap, alloc);
     heap.refuse(nth);
-    let answer = told(write(row.1, &mut buf));
-    let wanted = if heap.has_refused() {
-        Err(Fault::OutOfMemory)
+    let answer = write(row.1, &mut buf);
+    let refused = heap.has_refused();
+    let mut all = are_parts(buf.as_slice(), [b"\xaa", left, b""]);
+    if refused {
+        all &= answer == Err(Fault::OutOfMemory);
+        all &= write(row.1, &mut buf) == Ok(());
+        all &= are_parts(buf.as_slice(), [b"\xaa", left, *row.2.last()?]);
     } else {
-        Ok(())
-    };
-    (answer == wanted) & is_behind(buf.as_slice(), left)
+        all &= answer == Ok(());
+    }
+    all.then_some(refused)
 }
 
 // Whether just these requests are met, and leave what the row says.
 fn is_as_said<A: Allocator + Copy>(heap: &Heap, alloc: A, row: &Row) -> bool {
     let mut all = true;
     for (nth, left) in row.2.iter().enumerate() {
-        all &= leaves(heap, alloc, row, nth as u64, *left);
-        all &= heap.has_refused() == (nth + 1 < row.2.len());
+        let refused = leaves(heap, alloc, row, nth as u64, *left);
+        all &= refused == Some(nth + 1 < row.2.len());
     }
     all
 }

@@ -7,10 +7,30 @@ pub fn ensure(holds: bool, words: &str) -> Result<(), Fail> {
     if holds { Ok(()) } else { Err(Fail::new(words)) }
 }
 
+/// Whether the bytes are these parts, one behind the other.
+pub fn are_parts(bytes: &[u8], parts: [&[u8]; 3]) -> bool {
+    let [first, second, third] = parts;
+    let (front, rest) = bytes.split_at(first.len().min(bytes.len()));
+    let (middle, end) = rest.split_at(second.len().min(rest.len()));
+    (front == first) & (middle == second) & (end == third)
+}
+
 /// Fails the test with the number of the row that goes otherwise, counted from 0, if there is one.
 pub fn no_row(wrong: Option<usize>) -> Result<(), Fail> {
     match wrong {
         None => Ok(()),
         Some(row) => Err(Fail::new(format_args!("row {row} goes otherwise"))),
     }
+}
+
+/// Fails the test with the number of the first fact that doesn't hold, counted from 0, if there is
+/// one.
+pub fn all_hold(facts: &[bool]) -> Result<(), Fail> {
+    let mut wrong = None;
+    for i in 0..facts.len() {
+        if !facts[i] && wrong.is_none() {
+            wrong = Some(i);
+        }
+    }
+    no_row(wrong)
 }

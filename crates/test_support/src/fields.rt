@@ -38,10 +38,10 @@ pub fn has_size<'de, T: MyDeserialize<'de, Global>>(size: Option<usize>) -> bool
 
 // ---- writing
 
-// A buffer with no room, which holds the byte `aa`.
-fn full(heap: &Heap) -> Vec<u8, &Heap> {
+/// A vector that holds the byte `aa`, and has no room for more.
+pub fn full<A: Allocator>(heap: &Heap, alloc: A) -> Vec<u8, A> {
     heap.refuse(NEVER);
-    let mut buf = Vec::new(heap);
+    let mut buf = Vec::new(alloc);
     if buf.reserve_exact(1).is_ok() {
         let _ = buf.push(0xaa);
     }
@@ -59,7 +59,7 @@ fn is_behind(buf: &[u8], bytes: &[u8]) -> bool {
 // Whether a value is refused where request number `nth` is. None where something else is written
 // than these bytes, by the first call or, where that is refused, by the next.
 fn is_refused<T: MySerialize>(heap: &Heap, value: &T, bytes: &[u8], nth: u64) -> Option<bool> {
-    let mut buf = full(heap);
+    let mut buf = full(heap, heap);
     heap.refuse(nth);
     let answer = told(value.serialize(&mut buf));
     let refused = heap.has_refused();

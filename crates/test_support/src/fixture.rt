@@ -136,6 +136,10 @@ impl<'h, A: Allocator + Copy, T: Target> Fixture<'h, A, T> {
         self.codec.stands_at(&self.src, self.dst.as_ref())
     }
 
+    pub fn is_aligned(&self) -> bool {
+        self.codec.aligned_at(&self.src, self.dst.as_ref())
+    }
+
     /// Whether the codec stands at another `src` and `dst`.
     pub fn stands_at(&self, src: &[u8], dst: &[u8]) -> bool {
         let mut other = BytesMut::new(self.alloc);

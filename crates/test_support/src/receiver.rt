@@ -1,9 +1,31 @@
 //! A codec to which a stream is given in pieces.
 
+use crate::answers::{Fault, told};
+use crate::facts::are_parts;
+use crate::fixture::Heap;
 use crate::told::Told;
-use bytes::BytesMut;
-use mysql_wire::proto::codec::{PacketCodec, deliver};
+use bytes::{Buf, BytesMut};
+use mysql_wire::misc::raw::RawBytes;
+use mysql_wire::misc::raw::bytes::EofBytes;
+use mysql_wire::proto::codec::{
+    PacketCodec, Visit, deliver, deliver_each, deliver_limited, encode_value, packet_to_chunks,
+};
+use refusing::NEVER;
 use std::alloc::Allocator;
+
+/// Counts the bytes of packets.
+#[derive(Drop)]
+pub struct Tally {
+    pub bytes: usize,
+}
+
+impl Visit for Tally {
+    ghost sees = { λ _ _ _. Unit {0} };
+
+    fn visit(&mut self, packet: &[u8]) {
+        self.bytes = self.bytes.wrapping_add(packet.len());
+    }
+}
 
 /// A codec with its buffers, and what it delivered.
 #[derive(Drop)]
@@ -31,6 +53,28 @@ impl<A: Allocator + Copy> Receiver<A> {
         }
     }
 
+    /// With these bytes in `src`, and little room behind them.
+    pub fn holding(alloc: A, limit: usize, bytes: &[u8]) -> Self {
+        let mut to = Receiver::new(alloc, limit);
+        let _ = to.src.extend_from_slice(bytes);
+        to
+    }
+
+    /// Puts a packet behind `src` as chunks from this id, and tells the next.
+    pub fn frame<T: Buf>(&mut self, id: u8, packet: &mut T) -> Result<u8, Fault> {
+        told(packet_to_chunks(id, packet, &mut self.src))
+    }
+
+    pub fn encode(&mut self, packet: &mut &[u8]) -> Told {
+        Told::of_encode(self.codec.encode(packet, &mut self.src))
+    }
+
+    /// Encodes a text as a value.
+    pub fn encode_text(&mut self, text: &[u8]) -> Told {
+        let value = RawBytes::<EofBytes>::from(text);
+        Told::of_encode(encode_value(&mut self.codec, &value, &mut self.src))
+    }
+
     /// The id that the codec gives the next chunk. It is raised by this.
     pub fn next_id(&mut self) -> Option<u8> {
         let mut other = BytesMut::new(self.alloc);
@@ -45,6 +89,20 @@ impl<A: Allocator + Copy> Receiver<A> {
         self.codec.stands_at(&self.src, self.dst.as_slice())
     }
 
+    /// Whether this packet stands whole in front.
+    pub fn lends(&self, packet: &[u8]) -> bool {
+        self.codec.front_packet(&self.src, &[]) == Some(packet)
+    }
+
+    /// Takes the packet in front, if one stands there whole.
+    pub fn take_front(&mut self) -> bool {
+        let is_there = self.codec.front_packet(&self.src, &[]).is_some();
+        if is_there {
+            self.codec.take_front(&mut self.src);
+        }
+        is_there
+    }
+
     /// One run over these pieces. Where the codec doesn't stand, nothing is called.
     pub fn deliver(&mut self, pieces: &[&[u8]]) -> Run {
         if !self.codec.stands_at(&self.src, self.dst.as_slice()) {
@@ -56,6 +114,36 @@ impl<A: Allocator + Copy> Receiver<A> {
             &mut self.dst,
             pieces,
             &mut self.out,
+        );
+        (count, Told::of_deliver(answer))
+    }
+
+    /// As `deliver`, over pieces with their limits.
+    pub fn deliver_limited(&mut self, pieces: &[(usize, &[u8])]) -> Run {
+        if !self.codec.aligned_at(&self.src, self.dst.as_slice()) {
+            return (0, Told::Fallen);
+        }
+        let (count, answer) = deliver_limited(
+            &mut self.codec,
+            &mut self.src,
+            &mut self.dst,
+            pieces,
+            &mut self.out,
+        );
+        (count, Told::of_deliver(answer))
+    }
+
+    /// As `deliver`, where a visitor sees the packets.
+    pub fn visit(&mut self, pieces: &[&[u8]], tally: &mut Tally) -> Run {
+        if !self.codec.stands_at(&self.src, self.dst.as_slice()) {
+            return (0, Told::Fallen);
+        }
+        let (count, answer) = deliver_each(
+            &mut self.codec,
+            &mut self.src,
+            &mut self.dst,
+            pieces,
+            tally,
         );
         (count, Told::of_deliver(answer))
     }
@@ -111,4 +199,33 @@ pub fn are_packets<A: Allocator>(packets: &[Vec<u8, A>], wanted: &[&[u8]]) -> bo
         same &= packets[i].as_slice() == wanted[i];
     }
     same
+}
+
+/// Whether a packet of two pieces was refused, and neither it nor the buffer, which holds `ab`, is
+/// changed; it is then framed from this id by one chunk. The parts are `ab` with the header, and the
+/// pieces.
+pub fn frames<A: Allocator + Copy>(
+    heap: &Heap,
+    alloc: A,
+    id: u8,
+    parts: [&'static [u8]; 3],
+    nth: u64,
+) -> Option<bool> {
+    heap.refuse(NEVER);
+    let mut to = Receiver::holding(alloc, 0, b"ab");
+    let [_, first, second] = parts;
+    let mut packet = first.chain(second);
+    let len = packet.remaining();
+    heap.refuse(nth);
+    let mut next_id = to.frame(id, &mut packet);
+    let refused = next_id == Err(Fault::OutOfMemory);
+    let mut all = true;
+    if refused {
+        all &= to.src.as_slice() == b"ab".as_slice();
+        all &= (packet.chunk() == first) & (packet.remaining() == len);
+        next_id = to.frame(id, &mut packet);
+    }
+    all &= (next_id == Ok(id.wrapping_add(1))) & (packet.remaining() == 0);
+    all &= are_parts(to.src.as_slice(), parts);
+    all.then_some(refused)
 }

@@ -1,0 +1,331 @@
+//! Texts, numbers and lists: how they are read and copied, lent or owned, where a request for
+//! memory may be refused (whether it was, if what stands then is right), and their other calls.
+
+use crate::reading::{Reading, knows, read};
+use mysql_wire::io::{ParseBuf, ReadMysqlExt, WireError};
+use mysql_wire::misc::raw::bytes::{BytesRepr, LenEnc};
+use mysql_wire::misc::raw::int::{LeU16, LeU32};
+use mysql_wire::misc::raw::seq::{RawSeq, Seq, SeqRepr};
+use mysql_wire::misc::raw::{Both, Const, Either, RawBytes, RawInt};
+use refusing::NEVER;
+use std::alloc::Allocator;
+use std::borrow::CowSlice;
+use test_support::answers::Fault;
+use test_support::fields::is_written;
+use test_support::fixture::Heap;
+
+/// What is copied.
+#[derive(Clone, Copy)]
+pub enum Holding {
+    Text,
+    Numbers,
+    List,
+}
+
+/// What is copied is lent or owned, and that by `clone` or by `into_owned`.
+#[derive(Clone, Copy)]
+pub enum Copying {
+    CloneLent,
+    CloneOwned,
+    OwnLent,
+    OwnOwned,
+}
+
+/// What is made of owned texts.
+#[derive(Clone, Copy)]
+pub enum Owner {
+    Both,
+    Either,
+    Const,
+}
+
+/// A text.
+pub type Text<'a, A> = RawBytes<'a, LenEnc, A>;
+
+/// Numbers of a byte.
+pub type Numbers<'a, A> = RawSeq<'a, u8, (), A>;
+
+/// A list of numbers.
+pub type List<'a, A> = Seq<'a, RawInt<LeU16>, LeU32, A>;
+
+// A list of 1 and 2, and a byte behind it.
+const LIST: &[u8] = b"\x02\0\0\0\x01\0\x02\0\x02";
+
+fn is_refused(error: &WireError) -> bool {
+    Fault::of(error) == Fault::OutOfMemory
+}
+
+// ---- what is copied
+
+// A value that may be lent or owned.
+trait Held<'a, A: Allocator + Copy>: Sized + Drop {
+    // The value that lends; a list lends these, which are `two`.
+    fn lent(numbers: &'a [RawInt<LeU16>]) -> Self;
+
+    fn copied(&self, alloc: A) -> Result<Self, WireError>;
+
+    fn owned(self, alloc: A) -> Result<Self, WireError>;
+
+    // Whether it is the one that `lent` gives, and owned or not.
+    fn is_there(&self, is_owned: bool) -> bool;
+}
+
+impl<'a, A: Allocator + Copy> Held<'a, A> for Text<'a, A> {
+    fn lent(_: &'a [RawInt<LeU16>]) -> Self {
+        RawBytes::from(b"abc".as_slice())
+    }
+
+    fn copied(&self, _: A) -> Result<Self, WireError> {
+        Ok(self.clone()?)
+    }
+
+    fn owned(self, alloc: A) -> Result<Self, WireError> {
+        self.into_owned(alloc)
+    }
+
+    fn is_there(&self, is_owned: bool) -> bool {
+        self.eq_bytes(b"abc") & (matches!(self.0, CowSlice::Owned(_)) == is_owned)
+    }
+}
+
+impl<'a, A: Allocator + Copy> Held<'a, A> for Numbers<'a, A> {
+    fn lent(_: &'a [RawInt<LeU16>]) -> Self {
+        RawSeq::new(CowSlice::Borrowed(b"ab"))
+    }
+
+    fn copied(&self, _: A) -> Result<Self, WireError> {
+        Ok(self.clone()?)
+    }
+
+    fn owned(self, alloc: A) -> Result<Self, WireError> {
+        self.into_owned(alloc)
+    }
+
+    fn is_there(&self, is_owned: bool) -> bool {
+        (self.0.as_slice() == b"ab".as_slice()) & (matches!(self.0, CowSlice::Owned(_)) == is_owned)
+    }
+}
+
+fn two() -> [RawInt<LeU16>; 2] {
+    [RawInt::new(1), RawInt::new(2)]
+}
+
+impl<'a, A: Allocator + Copy> Held<'a, A> for List<'a, A> {
+    fn lent(numbers: &'a [RawInt<LeU16>]) -> Self {
+        Seq::new(CowSlice::Borrowed(numbers))
+    }
+
+    fn copied(&self, alloc: A) -> Result<Self, WireError> {
+        self.clone(alloc)
+    }
+
+    fn owned(self, alloc: A) -> Result<Self, WireError> {
+        self.into_owned(alloc)
+    }
+
+    fn is_there(&self, is_owned: bool) -> bool {
+        (self.as_slice() == two().as_slice()) & (matches!(self.0, CowSlice::Owned(_)) == is_owned)
+    }
+}
+
+// Whether a copy was refused, or is the value, and owned or lent as it must be.
+fn copies<'a, T: Held<'a, A>, A>(
+    heap: &Heap,
+    alloc: A,
+    lent: &'a [RawInt<LeU16>],
+    copying: Copying,
+    nth: u64,
+) -> Option<bool>
+where
+    A: Allocator + Copy,
+{
+    heap.refuse(NEVER);
+    let mut value = T::lent(lent);
+    let (of_owned, by_clone) = match copying {
+        Copying::CloneLent => (false, true),
+        Copying::CloneOwned => (true, true),
+        Copying::OwnLent => (false, false),
+        Copying::OwnOwned => (true, false),
+    };
+    if of_owned {
+        value = value.owned(alloc).ok()?;
+    }
+    heap.refuse(nth);
+    let copy = if by_clone {
+        value.copied(alloc)
+    } else {
+        value.owned(alloc)
+    };
+    match copy {
+        Ok(copy) => copy.is_there(of_owned | !by_clone).then_some(false),
+        Err(error) => is_refused(&error).then_some(true),
+    }
+}
+
+// Whether a copy that a derive makes was refused, or is equal.
+fn clones<T: Clone + PartialEq>(heap: &Heap, value: &T, nth: u64) -> Option<bool> {
+    heap.refuse(nth);
+    match value.clone() {
+        Ok(copy) => (copy == *value).then_some(false),
+        Err(_) => Some(true),
+    }
+}
+
+/// Whether a copy of what is made of owned texts was refused, or is equal.
+pub fn clones_owner<A>(heap: &Heap, alloc: A, owner: Owner, nth: u64) -> Option<bool>
+where
+    A: Allocator + Copy,
+{
+    heap.refuse(NEVER);
+    let first = Text::lent(&[]).owned(alloc).ok()?;
+    let second = Text::lent(&[]).owned(alloc).ok()?;
+    match owner {
+        Owner::Both => clones(heap, &Both(first, second), nth),
+        Owner::Either => {
+            let side: Either<Text<'_, A>, RawInt<u8>> = Either::Left(first);
+            clones(heap, &side, nth)
+        }
+        Owner::Const => {
+            let constant: Const<Text<'_, A>, u8> = Const::new(first);
+            clones(heap, &constant, nth)
+        }
+    }
+}
+
+// ---- reading
+
+/// Whether the text `abc` is read, and how many bytes are left.
+pub fn reads_text<A: Allocator + Copy>(alloc: A, reading: Reading, input: &[u8]) -> (bool, usize) {
+    let (text, left) = read::<Text<'_, A>, A>(alloc, reading, input);
+    match text {
+        Ok(text) => (text.is_there(false), left),
+        Err(_) => (false, left),
+    }
+}
+
+/// Whether a list was refused, so many bytes being left then; else it is the list, and owned, and
+/// so many are left.
+pub fn reads_list<A>(alloc: A, reading: Reading, if_refused: usize, left: usize) -> Option<bool>
+where
+    A: Allocator + Copy,
+{
+    let (list, there) = read::<List<'_, A>, A>(alloc, reading, LIST);
+    match list {
+        Ok(list) => (list.is_there(true) & (there == left)).then_some(false),
+        Err(fault) => ((fault == Fault::OutOfMemory) & (there == if_refused)).then_some(true),
+    }
+}
+
+/// The same of the elements behind the count.
+pub fn reads_elements<U: SeqRepr<Ctx = ()>, A: Allocator + Copy>(alloc: A) -> Option<bool> {
+    let mut buf = ParseBuf(LIST);
+    match U::deserialize::<RawInt<LeU16>, A>(alloc, (), &mut buf) {
+        Ok(items) => ((items.as_slice() == two().as_slice()) & (buf.len() == 1)).then_some(false),
+        Err(error) => (is_refused(&error) & (buf.len() == 5)).then_some(true),
+    }
+}
+
+/// Whether a push behind two values that are lent was refused, and the list is as it was; else it
+/// has three.
+pub fn pushes<A: Allocator + Copy>(heap: &Heap, alloc: A) -> Option<bool> {
+    let lent = two();
+    let mut list = List::<'_, A>::lent(&lent);
+    let pushed = list.push(alloc, RawInt::new(3));
+    let is_refused = match pushed {
+        Ok(()) => false,
+        Err(error) => is_refused(&error),
+    };
+    let left = heap.left();
+    let bytes = if is_refused {
+        b"\x02\0\0\0\x01\0\x02\0".as_slice()
+    } else {
+        b"\x03\0\0\0\x01\0\x02\0\x03\0"
+    };
+    let is_there = is_written(heap, &list, bytes) & ((list.len() == 2) == is_refused);
+    heap.refuse(left);
+    (is_there & !list.is_empty()).then_some(is_refused)
+}
+
+/// Whether a copy was refused, or is the value, and owned or lent as it must be.
+pub fn copies_held<A>(
+    heap: &Heap,
+    alloc: A,
+    holding: Holding,
+    copying: Copying,
+    nth: u64,
+) -> Option<bool>
+where
+    A: Allocator + Copy,
+{
+    let lent = two();
+    match holding {
+        Holding::Text => copies::<Text<'_, A>, A>(heap, alloc, &lent, copying, nth),
+        Holding::Numbers => copies::<Numbers<'_, A>, A>(heap, alloc, &lent, copying, nth),
+        Holding::List => copies::<List<'_, A>, A>(heap, alloc, &lent, copying, nth),
+    }
+}
+
+/// Whether the text behind its length was refused where it is read from a stream, or is there.
+pub fn reads_stream<A: Allocator>(alloc: A) -> Option<bool> {
+    let mut reader = b"\x03abc".as_slice();
+    match reader.read_lenenc_str(alloc) {
+        Ok(text) => (text.as_slice() == b"abc".as_slice()).then_some(false),
+        Err(error) => is_refused(&error).then_some(true),
+    }
+}
+
+/// Whether the string that a text is shown as was refused, or is this one.
+pub fn shows_text<A: Allocator + Copy>(alloc: A, bytes: &[u8], string: &str) -> Option<bool> {
+    let text: Text<'_, A> = RawBytes::from(bytes);
+    match text.as_str(alloc) {
+        Ok(shown) => (shown.as_str() == string).then_some(false),
+        Err(error) => is_refused(&error).then_some(true),
+    }
+}
+
+// ---- what asks for no memory
+
+/// Whether the text `abc` is read by its representation from the front of the input, and a byte is
+/// left.
+pub fn reads_by_representation<A: Allocator + Copy>(input: &[u8]) -> bool {
+    let mut buf = ParseBuf(input);
+    match <LenEnc as BytesRepr>::deserialize::<A>((), &mut buf) {
+        Ok(text) => Text::<'_, A>::new(text).is_there(false) & (buf.len() == 1),
+        Err(_) => false,
+    }
+}
+
+/// Calls the laws of a text, which do nothing.
+pub fn know_text<A: Allocator + Copy>() {
+    let text: Text<'_, A> = RawBytes::from(b"abc".as_slice());
+    knows::<Text<'_, A>, A>(&text);
+}
+
+/// Whether the calls of a text in hand give what they must, the next request being refused.
+pub fn texts_work<A: Allocator + Copy>(heap: &Heap, alloc: A) -> bool {
+    let lent: Text<'_, A> = RawBytes::from(b"abc".as_slice());
+    let mut all = (lent.len() == 3) & !lent.is_empty() & (lent.as_bytes() == b"abc".as_slice());
+    all &= lent.is_there(false);
+    let empty = Text::<'_, A>::default();
+    all &= empty.is_empty() & empty.eq_bytes(b"");
+    heap.refuse(NEVER);
+    let mut bytes = Vec::new(alloc);
+    all &= bytes.extend_from_slice(b"abc").is_ok();
+    heap.refuse(0);
+    let owned: Text<'_, A> = RawBytes::from(bytes);
+    all & owned.is_there(true)
+}
+
+/// The same of a list.
+pub fn lists_work<A: Allocator>() -> bool {
+    let one = [RawInt::new(1)];
+    let lent: List<'_, A> = Seq::new(CowSlice::Borrowed(&one));
+    let all = (lent.len() == 1) & !lent.is_empty() & (lent.as_slice() == one.as_slice());
+    all & List::<'_, A>::empty().is_empty() & List::<'_, A>::default().is_empty()
+}
+
+/// The same of numbers.
+pub fn numbers_work<A: Allocator>() -> bool {
+    let lent: Numbers<'_, A> = RawSeq::new(CowSlice::Borrowed(b"ab"));
+    (lent.len() == 2) & !lent.is_empty() & lent.get(1).is_some()
+}

@@ -1,0 +1,109 @@
+//! A reader and a writer of packets, each with its codec, whose answers can be compared.
+
+use mysql_wire::proto::codec::PacketCodec;
+use mysql_wire::proto::packet_io::{PacketIoError, PacketReader, PacketWriter};
+use std::alloc::Allocator;
+use std::io::{self, Sink};
+use test_support::told::Told;
+
+fn told(error: &PacketIoError) -> Told {
+    match error {
+        PacketIoError::PacketTooLarge => Told::TooLarge,
+        PacketIoError::PacketsOutOfSync => Told::OutOfSync,
+        PacketIoError::OutOfMemory => Told::OutOfMemory,
+        _ => Told::Io,
+    }
+}
+
+/// A reader over these bytes.
+#[derive(Drop)]
+pub struct Source<'a, A: Allocator + Copy> {
+    pub reader: PacketReader<&'a [u8], A>,
+    pub codec: PacketCodec,
+}
+
+impl<'a, A: Allocator + Copy> Source<'a, A> {
+    pub fn new(alloc: A, bytes: &'a [u8]) -> Option<Self> {
+        Some(Source {
+            reader: PacketReader::new(alloc, bytes).ok()?,
+            codec: PacketCodec::default(),
+        })
+    }
+
+    /// The next packet, if there is one.
+    pub fn next_packet(&mut self) -> Result<Option<Vec<u8, A>>, Told> {
+        if !self.reader.fits(&self.codec) {
+            return Err(Told::Fallen);
+        }
+        match self.reader.next_packet(&mut self.codec) {
+            Ok(packet) => Ok(packet),
+            Err(error) => Err(told(&error)),
+        }
+    }
+
+    /// Whether a packet stands ready now, or there is none.
+    pub fn fill(&mut self) -> Result<bool, Told> {
+        if !self.reader.fits(&self.codec) {
+            return Err(Told::Fallen);
+        }
+        match self.reader.fill_packet(&mut self.codec) {
+            Ok(is_there) => Ok(is_there),
+            Err(error) => Err(told(&error)),
+        }
+    }
+
+    /// Whether this packet stands ready.
+    pub fn lends(&self, packet: &[u8]) -> bool {
+        self.reader.is_ready(&self.codec) && self.reader.packet() == packet
+    }
+
+    /// Takes the packet that stands ready, if one does.
+    pub fn take(&mut self) -> bool {
+        let is_ready = self.reader.is_ready(&self.codec);
+        if is_ready {
+            self.reader.take_packet(&mut self.codec);
+        }
+        is_ready
+    }
+
+    /// What isn't read.
+    pub fn into_inner(self) -> &'a [u8] {
+        self.reader.into_inner()
+    }
+}
+
+/// A writer to nowhere.
+#[derive(Drop)]
+pub struct Outlet<A: Allocator + Copy> {
+    pub writer: PacketWriter<Sink, A>,
+    pub codec: PacketCodec,
+}
+
+impl<A: Allocator + Copy> Outlet<A> {
+    pub fn new(alloc: A) -> Option<Self> {
+        Some(Outlet {
+            writer: PacketWriter::new(alloc, io::sink()).ok()?,
+            codec: PacketCodec::default(),
+        })
+    }
+
+    pub fn queue(&mut self, packet: &mut &[u8]) -> Told {
+        match self.writer.queue(&mut self.codec, packet) {
+            Ok(()) => Told::Done,
+            Err(error) => told(&error),
+        }
+    }
+
+    /// Writes all that is pending.
+    pub fn write(&mut self) -> Told {
+        match self.writer.write_pending() {
+            Ok(()) => Told::Done,
+            Err(error) => told(&error),
+        }
+    }
+
+    /// The writer's end.
+    pub fn end(self) {
+        let _ = self.writer.into_inner();
+    }
+}

@@ -1,0 +1,60 @@
+//! What is put behind what a vector holds, by each function that puts something there.
+
+use mysql_wire::io::{BufMutExt, WireError};
+use mysql_wire::misc::raw::bytes::{BytesRepr, U8Bytes};
+use mysql_wire::misc::raw::int::{IntRepr, LeU16, LeU32};
+use mysql_wire::misc::raw::seq::SeqRepr;
+use mysql_wire::misc::raw::{RawBytes, RawInt};
+use mysql_wire::misc::write_varlen_uint;
+use mysql_wire::proto::MySerialize;
+use std::alloc::Allocator;
+use test_support::answers::{Fault, told};
+
+/// What is written.
+#[derive(Clone, Copy)]
+pub enum Writing {
+    Value,
+    EmptyText,
+    Number,
+    Text,
+    List,
+    LenencInt,
+    LenencStr,
+    U8Str,
+    U32Str,
+    U24,
+    I24,
+    U48,
+    U56,
+    I56,
+    VarlenUint(u64),
+}
+
+const TEXT: &[u8] = b"0123456789012345678901234567890123456789";
+
+fn put<A: Allocator>(writing: Writing, buf: &mut Vec<u8, A>) -> Result<(), WireError> {
+    match writing {
+        Writing::LenencInt => buf.put_lenenc_int(0x1_02_03),
+        Writing::LenencStr => buf.put_lenenc_str(TEXT),
+        Writing::U8Str => buf.put_u8_str(TEXT),
+        Writing::U32Str => buf.put_u32_str(TEXT),
+        Writing::U24 => buf.put_u24_le(0x1_02_03),
+        Writing::I24 => buf.put_i24_le(-1),
+        Writing::U48 => buf.put_u48_le(0x1_02_03),
+        Writing::U56 => buf.put_u56_le(0x1_02_03),
+        _ => buf.put_i56_le(-1),
+    }
+}
+
+/// Writes it behind what the vector holds.
+pub fn write<A: Allocator>(writing: Writing, buf: &mut Vec<u8, A>) -> Result<(), Fault> {
+    told(match writing {
+        Writing::Value => RawInt::<LeU16>::new(0x201).serialize(buf),
+        Writing::Number => <LeU16 as IntRepr>::serialize(0x201, buf),
+        Writing::Text => <U8Bytes as BytesRepr>::serialize(TEXT, buf),
+        Writing::List => <LeU32 as SeqRepr>::serialize(&[RawInt::<LeU16>::new(0x201)], buf),
+        Writing::EmptyText => RawBytes::<U8Bytes>::default().serialize(buf),
+        Writing::VarlenUint(number) => write_varlen_uint(buf, number),
+        other => put(other, buf),
+    })
+}
