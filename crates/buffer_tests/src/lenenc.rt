@@ -6,7 +6,9 @@ use bytes::{BufMut, BytesMut};
 use mysql_wire::io::{BufMutExt, ParseBuf, WriteMysqlExt};
 use mysql_wire::misc::{lenenc_int_len, lenenc_str_len};
 use std::alloc::Global;
+use std::test::Fail;
 use test_support::answers::{Fault, told};
+use test_support::facts::no_row;
 use test_support::reference::between;
 
 // ---- length-encoded integers
@@ -58,9 +60,9 @@ pub const WRITTEN: &[Row<u64>] = &[
 const MARKS: &[Row<u64>] = &[(1, b"\xfb", 0), (1, b"\xfb\x01", 0), (1, b"\xff\x01", 0)];
 
 #[test]
-fn lenenc_ints_are_eaten(rt: HostRuntime) {
-    assert!(rt; wrong_row::<Lenenc>(WRITTEN) == None);
-    assert!(rt; wrong_row::<Lenenc>(MARKS) == None);
+fn lenenc_ints_are_eaten(_: HostRuntime) -> Result<(), Fail> {
+    no_row(wrong_row::<Lenenc>(WRITTEN))?;
+    no_row(wrong_row::<Lenenc>(MARKS))
 }
 
 // Whether the row's number is put as its bytes.
@@ -113,8 +115,7 @@ fn low_bytes_are_put(rt: HostRuntime) {
         \x01\0\0\0\0\0\
         \x01\0\0\0\0\0\0\
         \xfe\xff\xff\xff\xff\xff\xff";
-    assert!(rt; put == [true; 6]);
-    assert!(rt; buf.as_slice() == bytes.as_slice());
+    assert!(rt; (put == [true; 6]) & (buf.as_slice() == bytes.as_slice()));
 }
 
 #[test]
@@ -126,10 +127,10 @@ fn texts_are_put_behind_their_length(rt: HostRuntime) {
         buf.put_u32_str(b"c").is_ok(),
         buf.put_u8_str(&[b'd'; 256]).is_ok(),
     ];
-    assert!(rt; put == [true; 4]);
     let text = buf.as_slice();
-    assert!(rt; between(text, 0, 10) == b"\x01a\x01b\x01\0\0\0c\xff".as_slice());
-    assert!(rt; between(text, 10, usize::MAX) == [b'd'; 255].as_slice());
+    let is_front = between(text, 0, 10) == b"\x01a\x01b\x01\0\0\0c\xff".as_slice();
+    let is_rest = between(text, 10, usize::MAX) == [b'd'; 255].as_slice();
+    assert!(rt; (put == [true; 4]) & is_front & is_rest);
 }
 
 // What the length of a text is.
@@ -258,14 +259,10 @@ fn texts_in_too_little_room(rt: HostRuntime) {
             all &= is_left(&put, left.as_slice(), room, front, whole.as_slice());
         }
     }
-    assert!(rt; all);
-}
-
-#[test]
-fn the_length_of_a_refused_text_is_left(rt: HostRuntime) {
+    // The length of a refused text is left.
     let (put, left) = put_text(rt.alloc(), b"abc", 2);
-    assert!(rt; put == Err(Fault::OutOfMemory));
-    assert!(rt; left.as_slice() == b"\x03".as_slice());
+    all &= put == Err(Fault::OutOfMemory);
+    assert!(rt; all & (left.as_slice() == b"\x03".as_slice()));
 }
 
 #[test]

@@ -2,6 +2,9 @@
 // more.
 
 use mysql_wire::io::ParseBuf;
+use std::test::Fail;
+use test_support::facts::no_row;
+use test_support::fields::last;
 use test_support::reference::between;
 
 /// Readers of numbers, by the width of the number in bytes.
@@ -183,11 +186,6 @@ impl Readers for SignedBe {
 /// A width, bytes that begin with a number of that width, and the number.
 pub type Row<'a, N> = (usize, &'a [u8], N);
 
-// The last bytes, so many.
-fn last(bytes: &[u8], count: usize) -> &[u8] {
-    between(bytes, bytes.len().saturating_sub(count), bytes.len())
-}
-
 // Whether both forms answer this, and leave so many bytes. Where there is no number, the plain form
 // isn't called.
 fn answers<R: Readers>(width: usize, input: &[u8], wanted: Option<R::Number>, left: usize) -> bool {
@@ -220,12 +218,13 @@ pub fn is_read<R: Readers>(row: &Row<'_, R::Number>) -> bool {
 
 /// The first row whose number isn't read.
 pub fn wrong_row<R: Readers>(rows: &[Row<'_, R::Number>]) -> Option<usize> {
-    for (i, row) in rows.iter().enumerate() {
-        if !is_read::<R>(row) {
-            return Some(i);
+    let mut wrong = None;
+    for i in 0..rows.len() {
+        if !is_read::<R>(&rows[i]) && wrong.is_none() {
+            wrong = Some(i);
         }
     }
-    None
+    wrong
 }
 
 const UNSIGNED_LE: &[Row<u128>] = &[
@@ -387,9 +386,13 @@ const SIGNED_BE: &[Row<i128>] = &[
 ];
 
 #[test]
-fn numbers_are_read(rt: HostRuntime) {
-    assert!(rt; wrong_row::<UnsignedLe>(UNSIGNED_LE) == None);
-    assert!(rt; wrong_row::<SignedLe>(SIGNED_LE) == None);
-    assert!(rt; wrong_row::<UnsignedBe>(UNSIGNED_BE) == None);
-    assert!(rt; wrong_row::<SignedBe>(SIGNED_BE) == None);
+fn unsigned_numbers_are_read(_: HostRuntime) -> Result<(), Fail> {
+    no_row(wrong_row::<UnsignedLe>(UNSIGNED_LE))?;
+    no_row(wrong_row::<UnsignedBe>(UNSIGNED_BE))
+}
+
+#[test]
+fn signed_numbers_are_read(_: HostRuntime) -> Result<(), Fail> {
+    no_row(wrong_row::<SignedLe>(SIGNED_LE))?;
+    no_row(wrong_row::<SignedBe>(SIGNED_BE))
 }

@@ -9,37 +9,34 @@ use std::alloc::{Allocator, Global};
 use std::fmt::Debug;
 use std::hash::Hash;
 use std::io::Read;
+use std::test::Fail;
 use test_support::answers::{Fault, told};
+use test_support::facts::all_hold;
 use test_support::reference::{between, first_zero};
 
 #[test]
 fn checked_slices_are_the_eaten_part(rt: HostRuntime) {
     let mut buf = ParseBuf(b"abcdefgh");
-    let eaten = [
-        buf.checked_eat(0),
-        buf.checked_eat(3),
-        buf.checked_eat(6),
-        buf.checked_eat_buf(6).map(|eaten| eaten.0),
-        buf.checked_eat_buf(1).map(|eaten| eaten.0),
-    ];
-    assert!(rt; eaten == [Some(b"".as_slice()), Some(b"abc"), None, None, Some(b"d")]);
+    let eaten = [buf.checked_eat(0), buf.checked_eat(3), buf.checked_eat(6)];
+    let bufs = [buf.checked_eat_buf(6), buf.checked_eat_buf(1)];
     let skipped = [buf.checked_skip(5), buf.checked_skip(1)];
-    assert!(rt; skipped == [false, true]);
-    assert!(rt; buf.0 == b"fgh".as_slice());
+    let mut all = eaten == [Some(b"".as_slice()), Some(b"abc"), None];
+    all &= bufs == [None, Some(ParseBuf(b"d"))];
+    all &= skipped == [false, true];
+    assert!(rt; all & (buf.0 == b"fgh".as_slice()));
 }
 
 #[test]
 fn slices_are_the_eaten_part(rt: HostRuntime) {
     let mut buf = ParseBuf(b"abcdef");
     let lens = [buf.len(), buf.eat(1).len(), buf.len()];
-    assert!(rt; lens == [6, 1, 5]);
     let eaten = [buf.eat(1), buf.eat_buf(1).0];
     buf.skip(1);
     let rest = [buf.eat_all(), buf.eat_all()];
-    assert!(rt; eaten == [b"b".as_slice(), b"c"]);
-    assert!(rt; rest == [b"ef".as_slice(), b""]);
-    assert!(rt; buf.is_empty());
-    assert!(rt; !ParseBuf(b"a").is_empty());
+    let mut all = lens == [6, 1, 5];
+    all &= eaten == [b"b".as_slice(), b"c"];
+    all &= rest == [b"ef".as_slice(), b""];
+    assert!(rt; all & buf.is_empty() & !ParseBuf(b"a").is_empty());
 }
 
 // Whether this text is eaten up to its zero, and this is left.
@@ -50,10 +47,10 @@ fn eats_null_str(input: &[u8], text: &[u8], left: &[u8]) -> bool {
 
 #[test]
 fn null_str_ends_at_a_zero(rt: HostRuntime) {
-    assert!(rt; eats_null_str(b"a\0b", b"a", b"b"));
-    assert!(rt; eats_null_str(b"b", b"b", b""));
-    assert!(rt; eats_null_str(b"", b"", b""));
-    assert!(rt; eats_null_str(b"\0", b"", b""));
+    let mut all = eats_null_str(b"a\0b", b"a", b"b");
+    all &= eats_null_str(b"b", b"b", b"");
+    all &= eats_null_str(b"", b"", b"");
+    assert!(rt; all & eats_null_str(b"\0", b"", b""));
 }
 
 // Whether a text is eaten up to the zero that a plain loop finds in it, which stands at this place.
@@ -161,31 +158,25 @@ fn parses<'de, T: PartialEq + MyDeserialize<'de, Global>>(
 
 // What is looked at is two bytes, and what is eaten is the size, where it is there.
 #[test]
-fn parse_eats_the_size(rt: HostRuntime) {
+fn parse_eats_the_size(rt: HostRuntime) -> Result<(), Fail> {
     let alloc = rt.alloc();
     let refused = Fault::Invalid(InvalidReason::UnknownValue);
-    let bytes = b"\x01\x02\x03\x04\x05".as_slice();
-    assert!(rt; parses::<Hasty>(alloc, (), bytes, Ok(Hasty(0x0201)), b"\x05"));
-    assert!(rt; parses::<Hasty>(alloc, (), b"abc", Err(Fault::UnexpectedEof), b"abc"));
-    assert!(rt; parses::<Refused>(alloc, (), bytes, Err(refused), b"\x05"));
-}
-
-#[test]
-fn parse_unchecked_eats_what_is_looked_at(rt: HostRuntime) {
-    let mut buf = ParseBuf(b"\x01\x02\x03\x04\x05");
-    let read = told(buf.parse_unchecked::<Hasty>(rt.alloc(), ()));
-    assert!(rt; read == Ok(Hasty(0x0201)));
-    assert!(rt; buf.len() == 3);
-}
-
-#[test]
-fn buffers_and_arrays_are_read(rt: HostRuntime) {
-    let alloc = rt.alloc();
     let eof = Fault::UnexpectedEof;
-    assert!(rt; parses(alloc, 2, b"abc", Ok(ParseBuf(b"ab")), b"c"));
-    assert!(rt; parses::<ParseBuf<'_>>(alloc, 2, b"a", Err(eof), b"a"));
-    assert!(rt; parses(alloc, (), b"abcd", Ok(*b"abc"), b"d"));
-    assert!(rt; parses::<[u8; 3]>(alloc, (), b"ab", Err(eof), b"ab"));
+    let bytes = b"\x01\x02\x03\x04\x05".as_slice();
+    let mut buf = ParseBuf(bytes);
+    let unchecked = told(buf.parse_unchecked::<Hasty>(alloc, ()));
+    all_hold(&[
+        parses::<Hasty>(alloc, (), bytes, Ok(Hasty(0x0201)), b"\x05"),
+        parses::<Hasty>(alloc, (), b"abc", Err(eof), b"abc"),
+        parses::<Refused>(alloc, (), bytes, Err(refused), b"\x05"),
+        // Without a check what is looked at is eaten.
+        (unchecked == Ok(Hasty(0x0201))) & (buf.len() == 3),
+        // Buffers, and arrays.
+        parses(alloc, 2, b"abc", Ok(ParseBuf(b"ab")), b"c"),
+        parses::<ParseBuf<'_>>(alloc, 2, b"a", Err(eof), b"a"),
+        parses(alloc, (), b"abcd", Ok(*b"abc"), b"d"),
+        parses::<[u8; 3]>(alloc, (), b"ab", Err(eof), b"ab"),
+    ])
 }
 
 // Whether a value is read with this memory.
@@ -197,13 +188,18 @@ where
     ParseBuf(input).parse_in::<T, A>(alloc, ctx).is_ok()
 }
 
+fn are_read<A: Allocator + Copy>(alloc: A) -> [bool; 3] {
+    [
+        is_read::<ParseBuf<'_>, A>(alloc, 2, b"ab"),
+        is_read::<[u8; 3], A>(alloc, (), b"abc"),
+        is_read::<Hasty, A>(alloc, (), b"abcd"),
+    ]
+}
+
 #[test]
 fn parse_asks_for_no_memory(rt: HostRuntime) {
     let heap = Refusing::new(rt.alloc(), 0);
-    assert!(rt; is_read::<ParseBuf<'_>, _>(&heap, 2, b"ab"));
-    assert!(rt; is_read::<[u8; 3], _>(&heap, (), b"abc"));
-    assert!(rt; is_read::<Hasty, _>(&heap, (), b"abcd"));
-    assert!(rt; heap.left() == 0);
+    assert!(rt; (are_read(&heap) == [true; 3]) & (heap.left() == 0));
 }
 
 // Copied and compared.
@@ -214,6 +210,5 @@ fn is_value<T: Copy + Eq + Hash + Debug>(marker: T) -> bool {
 
 #[test]
 fn markers_are_values(rt: HostRuntime) {
-    assert!(rt; is_value(Text));
-    assert!(rt; is_value(Binary));
+    assert!(rt; is_value(Text) & is_value(Binary));
 }

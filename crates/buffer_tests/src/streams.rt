@@ -10,6 +10,7 @@ use std::alloc::{Allocator, Global};
 use std::io::{self, ErrorKind, Read, Write};
 use std::test::Fail;
 use test_support::answers::{Fault, told};
+use test_support::facts::all_hold;
 use test_support::fields::{MORE, last};
 use test_support::reference::between;
 
@@ -111,23 +112,14 @@ fn overlong_lenenc_ints_are_read(rt: HostRuntime) {
 
 // ---- texts
 
-// Whether a stream answers so where a text is wanted.
-fn refuses<A: Allocator>(alloc: A, bytes: &[u8], fault: Fault) -> bool {
+// What a stream answers where a text is wanted, and none is there, and what is left of it.
+fn refused<A: Allocator>(alloc: A, bytes: &[u8]) -> (Option<Fault>, &[u8]) {
     let mut reader = bytes;
-    match told(reader.read_lenenc_str(alloc)) {
-        Ok(_) => false,
-        Err(why) => why == fault,
-    }
-}
-
-// Whether a text behind a mark is refused, and what stands behind the mark is left.
-fn refuses_mark(alloc: Global, bytes: &[u8]) -> bool {
-    let mut reader = bytes;
-    let is_refused = match reader.read_lenenc_str(alloc) {
-        Ok(_) => false,
-        Err(error) => Fault::of(&error) == Fault::NoInteger,
+    let fault = match reader.read_lenenc_str(alloc) {
+        Ok(_) => None,
+        Err(error) => Some(Fault::of(&error)),
     };
-    is_refused & (reader == last(bytes, bytes.len().saturating_sub(1)))
+    (fault, reader)
 }
 
 const MARKS: &[&[u8]] = &[b"\xfb\x01", b"\xff\x01", b"\xfb\x01\x02\x03", b"\xff\xfb\0"];
@@ -136,8 +128,10 @@ const MARKS: &[&[u8]] = &[b"\xfb\x01", b"\xff\x01", b"\xfb\x01\x02\x03", b"\xff\
 fn marks_are_refused(rt: HostRuntime) {
     let mut all = true;
     for bytes in MARKS {
-        all &= gives(*bytes, Err(Fault::NoInteger), bytes.len().saturating_sub(1));
-        all &= refuses_mark(rt.alloc(), *bytes);
+        let behind = bytes.len().saturating_sub(1);
+        all &= gives(*bytes, Err(Fault::NoInteger), behind);
+        let (fault, left) = refused(rt.alloc(), *bytes);
+        all &= (fault == Some(Fault::NoInteger)) & (left == last(*bytes, behind));
     }
     assert!(rt; all);
 }
@@ -168,9 +162,9 @@ fn comes_back(alloc: Global, text: &[u8]) -> bool {
 // Of a long text the room is asked for piece by piece.
 #[test]
 fn each_call_succeeds_on_a_good_stream(rt: HostRuntime) {
-    assert!(rt; comes_back(rt.alloc(), b""));
-    assert!(rt; comes_back(rt.alloc(), &[b'a'; 251]));
-    assert!(rt; comes_back(rt.alloc(), &[b'a'; 100_000]));
+    let mut all = comes_back(rt.alloc(), b"");
+    all &= comes_back(rt.alloc(), &[b'a'; 251]);
+    assert!(rt; all & comes_back(rt.alloc(), &[b'a'; 100_000]));
 }
 
 // How a fault of this kind ends: an interrupted call is made again.
@@ -259,7 +253,8 @@ fn a_text_ends_at_each_byte(rt: HostRuntime) {
     let bytes = spelling(rt.alloc());
     let mut all = true;
     for len in 0..bytes.len() {
-        all &= refuses(rt.alloc(), between(bytes.as_slice(), 0, len), Fault::Io);
+        let (fault, _) = refused(rt.alloc(), between(bytes.as_slice(), 0, len));
+        all &= fault == Some(Fault::Io);
     }
     assert!(rt; all);
 }
@@ -270,8 +265,9 @@ fn a_hostile_length_takes_little_memory(rt: HostRuntime) -> Result<(), Fail> {
     let heap = LocalHeap::new(rt.alloc(), 65536)?;
     let none = Refusing::new(rt.alloc(), 0);
     let most = b"\xfe\xff\xff\xff\xff\xff\xff\xff\xffa";
-    assert!(rt; refuses(&heap, b"\xfe\0\0\0\0\x01\0\0\0abc", Fault::Io));
-    assert!(rt; refuses(&heap, most, Fault::Io));
-    assert!(rt; refuses(&none, most, Fault::OutOfMemory));
-    Ok(())
+    let (four_gib, _) = refused(&heap, b"\xfe\0\0\0\0\x01\0\0\0abc");
+    let (all, _) = refused(&heap, most);
+    let (unread, _) = refused(&none, most);
+    let faults = [four_gib, all, unread];
+    all_hold(&[faults == [Some(Fault::Io), Some(Fault::Io), Some(Fault::OutOfMemory)]])
 }

@@ -29,11 +29,11 @@ const VERSIONS: &[(&[u8], Version)] = &[
 
 #[test]
 fn versions_are_split(rt: HostRuntime) {
-    assert!(rt;
-        VERSIONS
-            .iter()
-            .all(|(text, version)| split_version(*text) == *version)
-    );
+    let mut all = true;
+    for (text, version) in VERSIONS {
+        all &= split_version(*text) == *version;
+    }
+    assert!(rt; all);
 }
 
 // Whether a text with this front, 300 digits, and this end is split so.

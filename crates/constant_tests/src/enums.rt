@@ -1,5 +1,8 @@
-// Enums: each number, and the kinds of column types.
+// Enums: each number, the errors' texts, and the kinds of column types.
 
+use crate::texts::shows;
+use std::alloc::Global;
+use std::fmt::Display;
 use wire_const::{
     ColumnType, Command, GeometryType, ItemResult, MariadbBulkIndicator, SessionStateType,
     UnknownColumnType, UnknownGeometryType, UnknownItemResultType, UnknownMariadbBulkIndicator,
@@ -31,7 +34,7 @@ fn wrong_number<R, T, U>(rows: &[Row<R, T>], unknown: U) -> Option<i16>
 where
     R: Copy + PartialEq + TryFrom<i16, Error: Drop>,
     T: Copy + PartialEq + TryFrom<R, Error: Copy + PartialEq>,
-    U: Fn(R) -> T::Error,
+    U: Copy + FnOnce(R) -> T::Error,
     requires { U.IsAlwaysCallable unknown }
 {
     for n in -128..256i16 {
@@ -47,13 +50,20 @@ where
 
 // Whether each value's number by `as` is the listed one.
 fn are_cast<R: Copy + PartialEq, T>(rows: &[Row<R, T>]) -> bool {
-    rows.iter().all(|(number, _, cast)| number == cast)
+    let mut all = true;
+    for (number, _, cast) in rows {
+        all &= number == cast;
+    }
+    all
 }
 
 // Whether each value gives its number.
 fn are_given<R: Copy + PartialEq + From<T>, T: Copy>(rows: &[Row<R, T>]) -> bool {
-    rows.iter()
-        .all(|(number, value, _)| R::from(*value) == *number)
+    let mut all = true;
+    for (number, value, _) in rows {
+        all &= R::from(*value) == *number;
+    }
+    all
 }
 
 const MARIADB_BULK_INDICATORS: [Row<u8, MariadbBulkIndicator>; 4] = rows! {
@@ -172,42 +182,60 @@ const COMMANDS: [Row<u8, Command>; 34] = rows! {
     250 => COM_STMT_BULK_EXECUTE,
 };
 
-#[test]
-fn each_number_is_converted_or_refused(rt: HostRuntime) {
-    let wrong = [
-        wrong_number(&MARIADB_BULK_INDICATORS, UnknownMariadbBulkIndicator),
-        wrong_number(&SESSION_STATE_TYPES, UnknownSessionStateType),
-        wrong_number(&GEOMETRY_TYPES, UnknownGeometryType),
-        wrong_number(&COLUMN_TYPES, UnknownColumnType),
-        wrong_number(&ITEM_RESULTS, UnknownItemResultType),
-    ];
-    assert!(rt; wrong == [None; 5]);
+// Whether each number converts as the rows say, each value's number by `as` is the listed one, and
+// the error of the enum shows a number so.
+fn is_enum<R, T, U>(alloc: Global, rows: &[Row<R, T>], unknown: U, row: (R, &str)) -> bool
+where
+    R: Copy + PartialEq + TryFrom<i16, Error: Drop>,
+    T: Copy + PartialEq + TryFrom<R, Error: Copy + PartialEq + Display>,
+    U: Copy + FnOnce(R) -> T::Error,
+    requires { U.IsAlwaysCallable unknown }
+{
+    let (number, text) = row;
+    let is_shown = shows(alloc, unknown(number), text);
+    is_shown & are_cast(rows) & (wrong_number::<R, T, U>(rows, unknown) == None)
 }
 
 #[test]
-fn each_value_gives_its_number(rt: HostRuntime) {
-    let cast = [
-        are_cast(&MARIADB_BULK_INDICATORS),
-        are_cast(&SESSION_STATE_TYPES),
-        are_cast(&GEOMETRY_TYPES),
-        are_cast(&COLUMN_TYPES),
-        are_cast(&ITEM_RESULTS),
+fn each_enum_is_converted_by_its_numbers(rt: HostRuntime) {
+    let alloc = rt.alloc();
+    let indicator = "Unknown MariaDB bulk execute parameter value indicator 4";
+    let state = "Unknown session state type 6";
+    let geometry = "Unknown geometry type 8";
+    let column = "Unknown column type 244";
+    let item = "Unknown item result type -2";
+    let enums = [
+        is_enum(
+            alloc,
+            &MARIADB_BULK_INDICATORS,
+            UnknownMariadbBulkIndicator,
+            (4, indicator),
+        ),
+        is_enum(
+            alloc,
+            &SESSION_STATE_TYPES,
+            UnknownSessionStateType,
+            (6, state),
+        ),
+        is_enum(alloc, &GEOMETRY_TYPES, UnknownGeometryType, (8, geometry)),
+        is_enum(alloc, &COLUMN_TYPES, UnknownColumnType, (244, column)),
+        is_enum(alloc, &ITEM_RESULTS, UnknownItemResultType, (-2, item)),
         are_cast(&COMMANDS),
     ];
-    assert!(rt; cast == [true; 6]);
+    assert!(rt; enums == [true; 6]);
+}
+
+#[test]
+fn values_and_errors_give_their_numbers(rt: HostRuntime) {
     let given = [
         are_given(&MARIADB_BULK_INDICATORS),
         are_given(&SESSION_STATE_TYPES),
         are_given(&COLUMN_TYPES),
+        u8::from(UnknownGeometryType(99)) == 99,
+        u8::from(UnknownColumnType(99)) == 99,
+        i8::from(UnknownItemResultType(99)) == 99,
     ];
-    assert!(rt; given == [true; 3]);
-}
-
-#[test]
-fn errors_give_the_number_that_they_hold(rt: HostRuntime) {
-    assert!(rt; u8::from(UnknownGeometryType(99)) == 99);
-    assert!(rt; u8::from(UnknownColumnType(99)) == 99);
-    assert!(rt; i8::from(UnknownItemResultType(99)) == 99);
+    assert!(rt; given == [true; 6]);
 }
 
 // The seven tests of a type, by its number.
@@ -243,5 +271,9 @@ fn has_its_kinds(row: &Row<u8, ColumnType>) -> bool {
 
 #[test]
 fn kinds_of_column_types(rt: HostRuntime) {
-    assert!(rt; COLUMN_TYPES.iter().all(has_its_kinds));
+    let mut all = true;
+    for row in &COLUMN_TYPES {
+        all &= has_its_kinds(row);
+    }
+    assert!(rt; all);
 }

@@ -3,6 +3,7 @@
 use std::error::Error;
 use std::fmt::Debug;
 use std::hash::Hash;
+use std::marker::PhantomData;
 use wire_const::{
     CapabilityFlags, ColumnFlags, ColumnType, Command, CursorType, DEFAULT_MAX_ALLOWED_PACKET,
     Flags, Flags2, GeometryType, ItemResult, MAX_PAYLOAD_LEN, MIN_COMPRESS_LENGTH,
@@ -17,55 +18,55 @@ use wire_const::{
 
 #[test]
 fn lengths_and_collations(rt: HostRuntime) {
-    assert!(rt; MAX_PAYLOAD_LEN == 16_777_215);
-    assert!(rt; DEFAULT_MAX_ALLOWED_PACKET == 4_194_304);
-    assert!(rt; MIN_COMPRESS_LENGTH == 50);
-    assert!(rt; UTF8_GENERAL_CI == 33);
-    assert!(rt; UTF8MB4_GENERAL_CI == 45);
+    let mut all = MAX_PAYLOAD_LEN == 16_777_215;
+    all &= DEFAULT_MAX_ALLOWED_PACKET == 4_194_304;
+    all &= MIN_COMPRESS_LENGTH == 50;
+    all &= UTF8_GENERAL_CI == 33;
+    all &= UTF8MB4_GENERAL_CI == 45;
+    assert!(rt; all);
 }
 
-// These do nothing: that they are called at a type shows that the type has the traits.
-fn is_set<T: Copy + Debug + Eq + Hash + Default + Flags>() {}
+// A type that stands in one of these has its traits: with one that has not, this doesn't compile.
+pub struct IsSet<T: Copy + Debug + Eq + Hash + Default + Flags>(PhantomData<T>);
 
-fn is_hashed<T: Copy + Debug + Eq + Hash>() {}
+pub struct IsHashed<T: Copy + Debug + Eq + Hash>(PhantomData<T>);
 
-fn is_compared<T: Copy + Debug + Eq>() {}
+pub struct IsCompared<T: Copy + Debug + Eq>(PhantomData<T>);
 
-fn is_error<T: Copy + Eq + Error>() {}
+pub struct IsError<T: Copy + Eq + Error>(PhantomData<T>);
 
-fn is_hashed_error<T: Copy + Eq + Hash + Error>() {}
+pub struct IsHashedError<T: Copy + Eq + Hash + Error>(PhantomData<T>);
 
-#[test]
-fn traits(_: HostRuntime) {
-    is_set::<StatusFlags>();
-    is_set::<CapabilityFlags>();
-    is_set::<MariadbCapabilities>();
-    is_set::<CursorType>();
-    is_set::<StmtExecuteParamsFlags>();
-    is_set::<StmtExecuteParamFlags>();
-    is_set::<StmtBulkExecuteFlags>();
-    is_set::<ColumnFlags>();
-    is_set::<Flags2>();
-    is_set::<SqlMode>();
-    is_hashed_error::<UnknownStatusFlags>();
-    is_hashed_error::<UnknownCapabilityFlags>();
-    is_hashed_error::<UnknownMariadbCapabilityFlags>();
-    is_hashed_error::<UnknownCursorType>();
-    is_hashed_error::<UnknownStmtExecuteParamsFlags>();
-    is_hashed_error::<UnknownStmtExecuteParamFlags>();
-    is_hashed_error::<UnknownStmtBulkExecuteParamsFlags>();
-    is_hashed_error::<UnknownColumnFlags>();
-    is_hashed_error::<UnknownFlags2>();
-    is_hashed_error::<UnknownSqlMode>();
-    is_hashed::<GeometryType>();
-    is_hashed::<ColumnType>();
-    is_hashed::<ItemResult>();
-    is_compared::<Command>();
-    is_compared::<MariadbBulkIndicator>();
-    is_compared::<SessionStateType>();
-    is_error::<UnknownMariadbBulkIndicator>();
-    is_error::<UnknownSessionStateType>();
-    is_error::<UnknownGeometryType>();
-    is_hashed_error::<UnknownColumnType>();
-    is_hashed_error::<UnknownItemResultType>();
-}
+pub struct OfConstants(
+    IsSet<StatusFlags>,
+    IsSet<CapabilityFlags>,
+    IsSet<MariadbCapabilities>,
+    IsSet<CursorType>,
+    IsSet<StmtExecuteParamsFlags>,
+    IsSet<StmtExecuteParamFlags>,
+    IsSet<StmtBulkExecuteFlags>,
+    IsSet<ColumnFlags>,
+    IsSet<Flags2>,
+    IsSet<SqlMode>,
+    IsHashedError<UnknownStatusFlags>,
+    IsHashedError<UnknownCapabilityFlags>,
+    IsHashedError<UnknownMariadbCapabilityFlags>,
+    IsHashedError<UnknownCursorType>,
+    IsHashedError<UnknownStmtExecuteParamsFlags>,
+    IsHashedError<UnknownStmtExecuteParamFlags>,
+    IsHashedError<UnknownStmtBulkExecuteParamsFlags>,
+    IsHashedError<UnknownColumnFlags>,
+    IsHashedError<UnknownFlags2>,
+    IsHashedError<UnknownSqlMode>,
+    IsHashed<GeometryType>,
+    IsHashed<ColumnType>,
+    IsHashed<ItemResult>,
+    IsCompared<Command>,
+    IsCompared<MariadbBulkIndicator>,
+    IsCompared<SessionStateType>,
+    IsError<UnknownMariadbBulkIndicator>,
+    IsError<UnknownSessionStateType>,
+    IsError<UnknownGeometryType>,
+    IsHashedError<UnknownColumnType>,
+    IsHashedError<UnknownItemResultType>,
+);

@@ -1,6 +1,6 @@
 // The calls of a text in hand. `memory_tests` has its copies.
 
-use mysql_wire::io::{ParseBuf, WireError};
+use mysql_wire::io::ParseBuf;
 use mysql_wire::misc::raw::RawBytes;
 use mysql_wire::misc::raw::bytes::{
     BareBytes, BytesRepr, EofBytes, FixedLengthText, LenEnc, NullBytes, U8Bytes, U32Bytes,
@@ -8,6 +8,8 @@ use mysql_wire::misc::raw::bytes::{
 use mysql_wire::misc::raw::int::VarLen;
 use std::alloc::Global;
 use std::borrow::CowSlice;
+use std::test::Fail;
+use test_support::facts::all_hold;
 
 // Whether a text shows these bytes of all that it holds, and this string.
 fn is_shown<T: BytesRepr>(alloc: Global, whole: &[u8], bytes: &[u8], string: &str) -> bool {
@@ -38,27 +40,29 @@ fn a_text_shows_what_is_written_of_it(rt: HostRuntime) {
     assert!(rt; shown == [true; 5]);
 }
 
-fn is_borrowed<T: BytesRepr>(text: &RawBytes<'_, T>) -> bool {
-    matches!(text.0, CowSlice::Borrowed(_))
-}
-
-// Whether a text was read, and borrows from the input.
-fn borrows<T: BytesRepr>(read: Result<RawBytes<'_, T>, WireError>) -> bool {
-    matches!(&read, Ok(text) if is_borrowed(text))
+// Whether a text is read, and borrows from the input.
+fn borrows<'de, T, C>(alloc: Global, ctx: C, input: &'de [u8]) -> bool
+where
+    T: 'de + BytesRepr<Ctx = C>,
+{
+    let mut buf = ParseBuf(input);
+    match buf.parse::<RawBytes<'de, T>>(alloc, ctx) {
+        Ok(text) => matches!(text.0, CowSlice::Borrowed(_)),
+        Err(_) => false,
+    }
 }
 
 #[test]
-fn what_is_read_is_borrowed(rt: HostRuntime) {
+fn what_is_read_is_borrowed(rt: HostRuntime) -> Result<(), Fail> {
     let alloc = rt.alloc();
-    let borrowed = [
-        borrows(ParseBuf(b"\x01a").parse::<RawBytes<'_, LenEnc>>(alloc, ())),
-        borrows(ParseBuf(b"\x01a").parse::<RawBytes<'_, U8Bytes>>(alloc, ())),
-        borrows(ParseBuf(b"\x01\0\0\0a").parse::<RawBytes<'_, U32Bytes>>(alloc, ())),
-        borrows(ParseBuf(b"a\0").parse::<RawBytes<'_, NullBytes>>(alloc, ())),
-        borrows(ParseBuf(b"a").parse::<RawBytes<'_, EofBytes>>(alloc, ())),
-        borrows(ParseBuf(b"a").parse::<RawBytes<'_, FixedLengthText<1>>>(alloc, ())),
-        borrows(ParseBuf(b"\x01a").parse::<RawBytes<'_, VarLen>>(alloc, ())),
-        borrows(ParseBuf(b"a").parse::<RawBytes<'_, BareBytes<1>>>(alloc, 1)),
-    ];
-    assert!(rt; borrowed == [true; 8]);
+    all_hold(&[
+        borrows::<LenEnc, ()>(alloc, (), b"\x01a"),
+        borrows::<U8Bytes, ()>(alloc, (), b"\x01a"),
+        borrows::<U32Bytes, ()>(alloc, (), b"\x01\0\0\0a"),
+        borrows::<NullBytes, ()>(alloc, (), b"a\0"),
+        borrows::<EofBytes, ()>(alloc, (), b"a"),
+        borrows::<FixedLengthText<1>, ()>(alloc, (), b"a"),
+        borrows::<VarLen, ()>(alloc, (), b"\x01a"),
+        borrows::<BareBytes<1>, usize>(alloc, 1, b"a"),
+    ])
 }

@@ -5,6 +5,8 @@ use mysql_wire::misc::raw::RawBytes;
 use mysql_wire::misc::raw::bytes::{BytesRepr, FixedLengthText, NullBytes, U8Bytes, U32Bytes};
 use mysql_wire::misc::raw::int::{LenEnc, VarLen};
 use refusing::Refusing;
+use std::test::Fail;
+use test_support::facts::all_hold;
 use test_support::fields::{joined, refusals};
 use test_support::fixture::Heap;
 
@@ -17,29 +19,21 @@ pub fn is_refused_twice<T: BytesRepr>(heap: &Heap, parts: [&[u8]; 3]) -> bool {
     refusals(heap, &value, bytes.as_slice()) > Some(1)
 }
 
-#[test]
-fn texts_of_two_puts_are_refused_at_each(rt: HostRuntime) {
-    let heap = Refusing::new(rt.alloc(), 0);
-    let text = [b'a'; 200].as_slice();
-    let refused = [
-        is_refused_twice::<LenEnc>(&heap, [b"\xc8", text, b""]),
-        is_refused_twice::<U8Bytes>(&heap, [b"\xc8", text, b""]),
-        is_refused_twice::<U32Bytes>(&heap, [b"\xc8\0\0\0", text, b""]),
-        is_refused_twice::<VarLen>(&heap, [b"\xc8\x01", text, b""]),
-        is_refused_twice::<NullBytes>(&heap, [b"", text, b"\0"]),
-        is_refused_twice::<FixedLengthText<203>>(&heap, [b"", text, b"\0\0\0"]),
-    ];
-    assert!(rt; refused == [true; 6]);
-}
-
 // An owned text is written like a borrowed one, and its own memory is another's.
 #[test]
-fn owned_texts_are_refused_at_each_put(rt: HostRuntime) {
-    let heap = Refusing::new(rt.alloc(), 0);
-    let mut text = Vec::new(rt.alloc());
-    assert!(rt; text.extend_from_slice(&[b'a'; 200]).is_ok());
-    let value = RawBytes::<LenEnc>::from(text);
+fn texts_of_two_puts_are_refused_at_each(rt: HostRuntime) -> Result<(), Fail> {
+    let text = [b'a'; 200].as_slice();
+    let owned = RawBytes::<LenEnc>::from(Vec::from_slice(rt.alloc(), text)?);
+    let heap = &Refusing::new(rt.alloc(), 0);
     let mut bytes = [b'a'; 201];
     bytes[0] = 0xc8;
-    assert!(rt; refusals(&heap, &value, &bytes) > Some(1));
+    all_hold(&[
+        is_refused_twice::<LenEnc>(heap, [b"\xc8", text, b""]),
+        is_refused_twice::<U8Bytes>(heap, [b"\xc8", text, b""]),
+        is_refused_twice::<U32Bytes>(heap, [b"\xc8\0\0\0", text, b""]),
+        is_refused_twice::<VarLen>(heap, [b"\xc8\x01", text, b""]),
+        is_refused_twice::<NullBytes>(heap, [b"", text, b"\0"]),
+        is_refused_twice::<FixedLengthText<203>>(heap, [b"", text, b"\0\0\0"]),
+        refusals(heap, &owned, &bytes) > Some(1),
+    ])
 }

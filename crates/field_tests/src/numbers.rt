@@ -8,12 +8,11 @@ use mysql_wire::misc::raw::int::{
     LeU32UpperHalf, LeU48, LeU56, LeU64, LenEnc, VarLen,
 };
 use refusing::Refusing;
+use std::alloc::Allocator;
 use std::test::Fail;
 use test_support::answers::Fault;
-use test_support::facts::no_row;
-use test_support::fields::{
-    Eaten, MORE, Short, has_size, is_read, is_written, joined, starved, stops,
-};
+use test_support::facts::all_hold;
+use test_support::fields::{Eaten, MORE, Short, has_size, is_read, is_written, joined, stops};
 use test_support::fixture::Heap;
 
 /// A number, the bytes that it is written as, and the number that is read back from them.
@@ -23,36 +22,71 @@ pub type Row<'a, T> = (
     <T as IntRepr>::Primitive,
 );
 
+/// How many bytes a number has of an input that begins with it, the input, and the number.
+pub type Spelled<'a, T> = (usize, &'a [u8], <T as IntRepr>::Primitive);
+
+/// An input that begins with no number, why, and how many bytes are left.
+pub type Refused<'a> = (&'a [u8], Fault, usize);
+
 // Whether the number is written and read back as the row says, which takes no memory.
-fn is_number<T: IntRepr>(heap: &Heap, eaten: Eaten, row: &Row<'_, T>) -> bool {
+fn is_number<T: IntRepr, A: Allocator + Copy>(
+    heap: &Heap,
+    alloc: A,
+    eaten: Eaten,
+    row: &Row<'_, T>,
+) -> bool {
     let (number, bytes, back) = *row;
-    let value = RawInt::<T>::new(number);
-    let back = RawInt::<T>::new(back);
+    let is_written = is_written(heap, &RawInt::<T>::new(number), bytes);
     let input = joined(heap, &[bytes, MORE]);
-    let is_written = is_written(heap, &value, bytes);
-    let short = Short::eats(eaten);
-    let is_read = is_read(
-        starved(heap),
-        (),
-        input.as_slice(),
-        bytes.len(),
-        &back,
-        short,
-    );
-    is_written & is_read & (heap.left() == 0)
+    is_written & is_spelled::<T, A>(heap, alloc, eaten, &(bytes.len(), input.as_slice(), back))
+}
+
+// Whether the number is read from this spelling, which takes no memory.
+fn is_spelled<T: IntRepr, A: Allocator + Copy>(
+    heap: &Heap,
+    alloc: A,
+    eaten: Eaten,
+    row: &Spelled<'_, T>,
+) -> bool {
+    let (len, input, number) = *row;
+    let wanted = RawInt::<T>::new(number);
+    heap.refuse(0);
+    let is_read = is_read(alloc, (), input, len, &wanted, Short::eats(eaten));
+    is_read & (heap.left() == 0)
 }
 
 /// Whether a representation has this size, and each row is as it has it, where so much is eaten of
 /// a number cut short.
-pub fn are_numbers<T: IntRepr>(
+pub fn are_numbers<T: IntRepr, A: Allocator + Copy>(
     heap: &Heap,
+    alloc: A,
     size: Option<usize>,
     eaten: Eaten,
     rows: &[Row<'_, T>],
 ) -> bool {
     let mut all = has_size::<RawInt<T>>(size);
     for row in rows {
-        all &= is_number::<T>(heap, eaten, row);
+        all &= is_number::<T, A>(heap, alloc, eaten, row);
+    }
+    all
+}
+
+// Whether this number is read from each of these spellings, and none from these inputs.
+fn are_spelled<T: IntRepr, A: Allocator + Copy>(
+    heap: &Heap,
+    alloc: A,
+    eaten: Eaten,
+    rows: &[Spelled<'_, T>],
+    refused: &[Refused<'_>],
+) -> bool {
+    let mut all = true;
+    for row in rows {
+        all &= is_spelled::<T, A>(heap, alloc, eaten, row);
+    }
+    for (input, fault, left) in refused {
+        heap.refuse(0);
+        all &= stops::<RawInt<T>, (), A>(alloc, (), *input, *fault, *left);
+        all &= heap.left() == 0;
     }
     all
 }
@@ -248,72 +282,55 @@ const VARLEN: &[Row<VarLen>] = &[
     (u32::MAX, b"\xff\xff\xff\xff\x0f", u32::MAX),
 ];
 
-// Fixed widths, without and with a sign. Of a wider number the low bytes are written.
+// Fixed widths, without and with a sign: of a wider number the low bytes are written. Halves of a
+// number, and numbers at the ends of their forms.
+fn are_each<A: Allocator + Copy>(heap: &Heap, alloc: A) -> [bool; 17] {
+    let none = Eaten::Nothing;
+    [
+        are_numbers::<u8, A>(heap, alloc, Some(1), none, U8),
+        are_numbers::<LeU16, A>(heap, alloc, Some(2), none, LE_U16),
+        are_numbers::<LeU24, A>(heap, alloc, Some(3), none, LE_U24),
+        are_numbers::<LeU32, A>(heap, alloc, Some(4), none, LE_U32),
+        are_numbers::<LeU48, A>(heap, alloc, Some(6), none, LE_U48),
+        are_numbers::<LeU56, A>(heap, alloc, Some(7), none, LE_U56),
+        are_numbers::<LeU64, A>(heap, alloc, Some(8), none, LE_U64),
+        are_numbers::<i8, A>(heap, alloc, Some(1), none, I8),
+        are_numbers::<LeI16, A>(heap, alloc, Some(2), none, LE_I16),
+        are_numbers::<LeI24, A>(heap, alloc, Some(3), none, LE_I24),
+        are_numbers::<LeI32, A>(heap, alloc, Some(4), none, LE_I32),
+        are_numbers::<LeI56, A>(heap, alloc, Some(7), none, LE_I56),
+        are_numbers::<LeI64, A>(heap, alloc, Some(8), none, LE_I64),
+        are_numbers::<LeU32LowerHalf, A>(heap, alloc, Some(2), none, LOWER_HALVES),
+        are_numbers::<LeU32UpperHalf, A>(heap, alloc, Some(2), none, UPPER_HALVES),
+        are_numbers::<LenEnc, A>(heap, alloc, None, Eaten::First, LENENC),
+        are_numbers::<VarLen, A>(heap, alloc, None, Eaten::All, VARLEN),
+    ]
+}
+
 #[test]
-fn numbers_of_a_fixed_width(rt: HostRuntime) {
+fn numbers_are_written_and_read(rt: HostRuntime) -> Result<(), Fail> {
     let heap = &Refusing::new(rt.alloc(), 0);
-    assert!(rt; are_numbers::<u8>(heap, Some(1), Eaten::Nothing, U8));
-    assert!(rt; are_numbers::<LeU16>(heap, Some(2), Eaten::Nothing, LE_U16));
-    assert!(rt; are_numbers::<LeU24>(heap, Some(3), Eaten::Nothing, LE_U24));
-    assert!(rt; are_numbers::<LeU32>(heap, Some(4), Eaten::Nothing, LE_U32));
-    assert!(rt; are_numbers::<LeU48>(heap, Some(6), Eaten::Nothing, LE_U48));
-    assert!(rt; are_numbers::<LeU56>(heap, Some(7), Eaten::Nothing, LE_U56));
-    assert!(rt; are_numbers::<LeU64>(heap, Some(8), Eaten::Nothing, LE_U64));
-    assert!(rt; are_numbers::<i8>(heap, Some(1), Eaten::Nothing, I8));
-    assert!(rt; are_numbers::<LeI16>(heap, Some(2), Eaten::Nothing, LE_I16));
-    assert!(rt; are_numbers::<LeI24>(heap, Some(3), Eaten::Nothing, LE_I24));
-    assert!(rt; are_numbers::<LeI32>(heap, Some(4), Eaten::Nothing, LE_I32));
-    assert!(rt; are_numbers::<LeI56>(heap, Some(7), Eaten::Nothing, LE_I56));
-    assert!(rt; are_numbers::<LeI64>(heap, Some(8), Eaten::Nothing, LE_I64));
+    all_hold(&are_each(heap, heap))
 }
 
-// Halves of a number, and numbers at the ends of their forms.
-#[test]
-fn halves_and_variable_numbers(rt: HostRuntime) {
-    let heap = &Refusing::new(rt.alloc(), 0);
-    assert!(rt; are_numbers::<LeU32LowerHalf>(heap, Some(2), Eaten::Nothing, LOWER_HALVES));
-    assert!(rt; are_numbers::<LeU32UpperHalf>(heap, Some(2), Eaten::Nothing, UPPER_HALVES));
-    assert!(rt; are_numbers::<LenEnc>(heap, None, Eaten::First, LENENC));
-    assert!(rt; are_numbers::<VarLen>(heap, None, Eaten::All, VARLEN));
-}
+// The marks are read as zero.
+const LONGER_LENENC: &[Spelled<LenEnc>] = &[
+    (1, b"\x05", 5),
+    (3, b"\xfc\x05\0", 5),
+    (4, b"\xfd\x05\0\0", 5),
+    (9, b"\xfe\x05\0\0\0\0\0\0\0", 5),
+    (1, b"\xfb", 0),
+    (1, b"\xfb\x01", 0),
+    (1, b"\xff\xff\xff", 0),
+];
 
-// Whether this number is read from each of these spellings.
-fn are_spelled<T: IntRepr>(
-    heap: &Heap,
-    eaten: Eaten,
-    rows: &[(usize, &[u8], T::Primitive)],
-) -> bool {
-    let mut all = true;
-    for (len, input, number) in rows {
-        let wanted = RawInt::<T>::new(*number);
-        all &= is_read(starved(heap), (), *input, *len, &wanted, Short::eats(eaten));
-    }
-    all
-}
-
-// Of length-encoded integers, with the marks, which are read as zero.
-#[test]
-fn longer_spellings_are_read(rt: HostRuntime) {
-    let heap = Refusing::new(rt.alloc(), 0);
-    let lenenc: &[(usize, &[u8], u64)] = &[
-        (1, b"\x05", 5),
-        (3, b"\xfc\x05\0", 5),
-        (4, b"\xfd\x05\0\0", 5),
-        (9, b"\xfe\x05\0\0\0\0\0\0\0", 5),
-        (1, b"\xfb", 0),
-        (1, b"\xfb\x01", 0),
-        (1, b"\xff\xff\xff", 0),
-    ];
-    assert!(rt; are_spelled::<LenEnc>(&heap, Eaten::First, lenenc));
-    let varlen: &[(usize, &[u8], u32)] = &[
-        (2, b"\x80\0", 0),
-        (3, b"\x85\x80\0", 5),
-        (4, b"\x85\x80\x80\0", 5),
-        (5, b"\x80\x80\x80\x80\0", 0),
-        (5, b"\xff\xff\xff\xff\0", 268435455),
-    ];
-    assert!(rt; are_spelled::<VarLen>(&heap, Eaten::All, varlen));
-}
+const LONGER_VARLEN: &[Spelled<VarLen>] = &[
+    (2, b"\x80\0", 0),
+    (3, b"\x85\x80\0", 5),
+    (4, b"\x85\x80\x80\0", 5),
+    (5, b"\x80\x80\x80\x80\0", 0),
+    (5, b"\xff\xff\xff\xff\0", 268435455),
+];
 
 const LARGE: Fault = Fault::Invalid(InvalidReason::VarLenTooLarge);
 
@@ -321,8 +338,7 @@ const LONG: Fault = Fault::Invalid(InvalidReason::VarLenTooLong);
 
 const EOF: Fault = Fault::UnexpectedEof;
 
-// Inputs that begin with no number of variable length, why, and how many bytes are left.
-const NO_VARLEN: &[(&[u8], Fault, usize)] = &[
+const NO_VARLEN: &[Refused] = &[
     (b"\xff\xff\xff\xff\x1f\xaa", LARGE, 1),
     (b"\xff\xff\xff\xff\x10\xaa", LARGE, 1),
     (b"\x80\x80\x80\x80\x10\xaa", LARGE, 1),
@@ -340,15 +356,15 @@ const NO_VARLEN: &[(&[u8], Fault, usize)] = &[
     (b"\xff\x80\xff\x80", EOF, 0),
 ];
 
+fn are_longer_or_none<A: Allocator + Copy>(heap: &Heap, alloc: A) -> [bool; 2] {
+    [
+        are_spelled::<LenEnc, A>(heap, alloc, Eaten::First, LONGER_LENENC, &[]),
+        are_spelled::<VarLen, A>(heap, alloc, Eaten::All, LONGER_VARLEN, NO_VARLEN),
+    ]
+}
+
 #[test]
-fn varlen_that_is_too_large_or_too_long_or_ends_early(rt: HostRuntime) -> Result<(), Fail> {
+fn longer_spellings_are_read_or_too_long(rt: HostRuntime) -> Result<(), Fail> {
     let heap = &Refusing::new(rt.alloc(), 0);
-    let mut wrong = None;
-    for i in 0..NO_VARLEN.len() {
-        let (input, fault, left) = NO_VARLEN[i];
-        if !stops::<RawInt<VarLen>, (), _>(starved(heap), (), input, fault, left) {
-            wrong = Some(i);
-        }
-    }
-    no_row(wrong)
+    all_hold(&are_longer_or_none(heap, heap))
 }

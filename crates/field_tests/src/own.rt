@@ -5,8 +5,11 @@ use crate::numbers::{self, are_numbers};
 use crate::texts::{self, are_texts, is_bounded, letters};
 use mysql_wire_examples::own_fields::{BeU16, U16Bytes};
 use refusing::Refusing;
+use std::alloc::Allocator;
 use std::test::Fail;
+use test_support::facts::all_hold;
 use test_support::fields::Eaten;
+use test_support::fixture::Heap;
 
 const BE_U16: &[numbers::Row<BeU16>] = &[
     (0, b"\0\0", 0),
@@ -15,12 +18,6 @@ const BE_U16: &[numbers::Row<BeU16>] = &[
     (0x0102, b"\x01\x02", 0x0102),
     (65535, b"\xff\xff", 65535),
 ];
-
-#[test]
-fn a_number_of_ones_own(rt: HostRuntime) {
-    let heap = Refusing::new(rt.alloc(), 0);
-    assert!(rt; are_numbers::<BeU16>(&heap, Some(2), Eaten::Nothing, BE_U16));
-}
 
 const U16: &[texts::Row] = &[
     (0, b"\0\0"),
@@ -32,13 +29,18 @@ const U16: &[texts::Row] = &[
     (65536, b"\xff\xff"),
 ];
 
+fn are_own<A: Allocator + Copy>(heap: &Heap, alloc: A, text: &[u8]) -> [bool; 4] {
+    [
+        are_numbers::<BeU16, A>(heap, alloc, Some(2), Eaten::Nothing, BE_U16),
+        is_bounded::<U16Bytes>(text, 65535, None),
+        are_texts::<U16Bytes, A>(heap, alloc, text, Eaten::Nothing, U16, 65535),
+        is_refused_twice::<U16Bytes>(heap, [b"\0\xc8", &[b'a'; 200], b""]),
+    ]
+}
+
 #[test]
-fn a_text_of_ones_own(rt: HostRuntime) -> Result<(), Fail> {
-    let heap = Refusing::new(rt.alloc(), 0);
+fn a_number_and_a_text_of_ones_own(rt: HostRuntime) -> Result<(), Fail> {
     let letters = letters(rt.alloc(), 65536)?;
-    let text = letters.as_slice();
-    assert!(rt; is_bounded::<U16Bytes>(text, 65535, None));
-    assert!(rt; are_texts::<U16Bytes, _>(&heap, &heap, text, Eaten::Nothing, U16, 65535));
-    assert!(rt; is_refused_twice::<U16Bytes>(&heap, [b"\0\xc8", &[b'a'; 200], b""]));
-    Ok(())
+    let heap = &Refusing::new(rt.alloc(), 0);
+    all_hold(&are_own(heap, heap, letters.as_slice()))
 }

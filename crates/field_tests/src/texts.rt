@@ -12,6 +12,7 @@ use refusing::Refusing;
 use std::alloc::{AllocError, Allocator, Global};
 use std::test::Fail;
 use test_support::answers::Fault;
+use test_support::facts::all_hold;
 use test_support::fields::{
     Eaten, MORE, Short, gives, has_size, is_read, is_written, joined, stops,
 };
@@ -47,19 +48,14 @@ fn is_text<T: BytesRepr<Ctx = C>, C: Copy, A: Allocator + Copy>(
     is_written & is_read & (heap.left() == 0)
 }
 
-// ---- sizes
-
 /// Whether at most so many bytes of a text are written, and it has this size.
 pub fn is_bounded<T: BytesRepr>(text: &[u8], most: usize, size: Option<usize>) -> bool {
     let is_cut = RawBytes::<T>::from(text).len() == text.len().min(most);
     is_cut & (T::MAX_LEN == most) & has_size::<RawBytes<'_, T>>(size)
 }
 
-#[test]
-fn sizes_of_texts(rt: HostRuntime) -> Result<(), Fail> {
-    let letters = letters(rt.alloc(), 65537)?;
-    let text = letters.as_slice();
-    let bounded = [
+fn are_bounded(text: &[u8]) -> [bool; 11] {
+    [
         is_bounded::<LenEnc>(text, usize::MAX, None),
         is_bounded::<U8Bytes>(text, 255, None),
         is_bounded::<U32Bytes>(text, 4294967295, None),
@@ -71,9 +67,7 @@ fn sizes_of_texts(rt: HostRuntime) -> Result<(), Fail> {
         is_bounded::<BareU16Bytes>(text, 65535, None),
         is_bounded::<FixedLengthText<4>>(text, 4, Some(4)),
         is_bounded::<FixedLengthText<0>>(text, 0, Some(0)),
-    ];
-    assert!(rt; bounded == [true; 11]);
-    Ok(())
+    ]
 }
 
 // ---- texts behind their length
@@ -142,18 +136,6 @@ const VARLEN: &[Row] = &[
     (16384, b"\x80\x80\x01"),
 ];
 
-#[test]
-fn texts_behind_their_length(rt: HostRuntime) -> Result<(), Fail> {
-    let heap = &Refusing::new(rt.alloc(), 0);
-    let letters = letters(rt.alloc(), 65536)?;
-    let text = letters.as_slice();
-    assert!(rt; are_texts::<LenEnc, _>(heap, heap, text, Eaten::First, LENENC, usize::MAX));
-    assert!(rt; are_texts::<U8Bytes, _>(heap, heap, text, Eaten::Nothing, U8, 255));
-    assert!(rt; are_texts::<U32Bytes, _>(heap, heap, text, Eaten::Nothing, U32, usize::MAX));
-    assert!(rt; are_texts::<VarLen, _>(heap, heap, text, Eaten::All, VARLEN, usize::MAX));
-    Ok(())
-}
-
 // A context, an input, the text that is read from it or why none is, and how many bytes are left.
 type Read<'a, C> = (C, &'a [u8], Result<&'a [u8], Fault>, usize);
 
@@ -213,15 +195,30 @@ const BARE_READ: &[Read<usize>] = &[
     (usize::MAX, b"abc", Err(EOF), 3),
 ];
 
-// Whatever length is declared, no memory is asked for.
-#[test]
-fn longer_and_hostile_and_refused_lengths(rt: HostRuntime) {
-    let heap = &Refusing::new(rt.alloc(), 0);
-    assert!(rt; are_read::<LenEnc, (), _>(heap, heap, LENENC_READ));
-    assert!(rt; are_read::<VarLen, (), _>(heap, heap, VARLEN_READ));
-    assert!(rt; are_read::<U8Bytes, (), _>(heap, heap, U8_READ));
-    assert!(rt; are_read::<U32Bytes, (), _>(heap, heap, U32_READ));
-    assert!(rt; are_read::<BareBytes<2>, usize, _>(heap, heap, BARE_READ));
+fn are_behind<A: Allocator + Copy>(heap: &Heap, alloc: A, text: &[u8]) -> [bool; 4] {
+    let most = usize::MAX;
+    [
+        are_texts::<LenEnc, A>(heap, alloc, text, Eaten::First, LENENC, most),
+        are_texts::<U8Bytes, A>(heap, alloc, text, Eaten::Nothing, U8, 255),
+        are_texts::<U32Bytes, A>(heap, alloc, text, Eaten::Nothing, U32, most),
+        are_texts::<VarLen, A>(heap, alloc, text, Eaten::All, VARLEN, most),
+    ]
+}
+
+// Longer, hostile and refused lengths. Whatever length is declared, no memory is asked for.
+fn are_lengths<'a, A: 'a + Allocator + Copy>(heap: &Heap, alloc: A) -> [bool; 5] {
+    let lenenc: &[Read<'a, ()>] = LENENC_READ;
+    let varlen: &[Read<'a, ()>] = VARLEN_READ;
+    let one_byte: &[Read<'a, ()>] = U8_READ;
+    let four_bytes: &[Read<'a, ()>] = U32_READ;
+    let bare: &[Read<'a, usize>] = BARE_READ;
+    [
+        are_read::<LenEnc, (), A>(heap, alloc, lenenc),
+        are_read::<VarLen, (), A>(heap, alloc, varlen),
+        are_read::<U8Bytes, (), A>(heap, alloc, one_byte),
+        are_read::<U32Bytes, (), A>(heap, alloc, four_bytes),
+        are_read::<BareBytes<2>, usize, A>(heap, alloc, bare),
+    ]
 }
 
 // ---- texts that a zero ends
@@ -248,16 +245,12 @@ fn is_null<A: Allocator + Copy>(heap: &Heap, alloc: A, text: &[u8], cut: &[u8]) 
     is_text::<NullBytes, (), A>(heap, alloc, (), (text, cut), input.as_slice(), short)
 }
 
-#[test]
-fn null_texts_end_at_their_first_zero(rt: HostRuntime) -> Result<(), Fail> {
-    let heap = &Refusing::new(rt.alloc(), 0);
-    let long = letters(rt.alloc(), 300)?;
-    let mut all = is_null(heap, heap, long.as_slice(), long.as_slice());
+fn are_null<A: Allocator + Copy>(heap: &Heap, alloc: A, long: &[u8]) -> bool {
+    let mut all = is_null(heap, alloc, long, long);
     for (text, cut) in NULL {
-        all &= is_null(heap, heap, *text, *cut);
+        all &= is_null(heap, alloc, *text, *cut);
     }
-    assert!(rt; all);
-    Ok(())
+    all
 }
 
 // ---- texts whose end is not in their bytes
@@ -266,20 +259,15 @@ fn null_texts_end_at_their_first_zero(rt: HostRuntime) -> Result<(), Fail> {
 fn is_all<A: Allocator + Copy>(heap: &Heap, alloc: A, text: &[u8]) -> bool {
     let value = RawBytes::<EofBytes, A>::from(text);
     let is_put = is_written(heap, &value, text);
-    heap.refuse(0);
-    is_put & gives(alloc, (), text, &value, 0)
+    is_put & are_read::<EofBytes, (), A>(heap, alloc, &[((), text, Ok(text), 0)])
 }
 
-#[test]
-fn eof_texts_are_all_the_rest(rt: HostRuntime) -> Result<(), Fail> {
-    let heap = &Refusing::new(rt.alloc(), 0);
-    let letters = letters(rt.alloc(), 65536)?;
-    let mut all = is_all(heap, heap, b"\0a\0");
+fn are_all<A: Allocator + Copy>(heap: &Heap, alloc: A, letters: &[u8]) -> bool {
+    let mut all = is_all(heap, alloc, b"\0a\0");
     for len in [0usize, 1, 250, 251, 300, 65536] {
-        all &= is_all(heap, heap, between(letters.as_slice(), 0, len));
+        all &= is_all(heap, alloc, between(letters, 0, len));
     }
-    assert!(rt; all);
-    Ok(())
+    all
 }
 
 // Whether the first bytes of a text are written, N at most, and read back where the context says
@@ -291,23 +279,18 @@ fn is_bare<const N: usize, A: Allocator + Copy>(heap: &Heap, alloc: A, text: &[u
     is_text::<BareBytes<N>, usize, A>(heap, alloc, cut.len(), (text, cut), input.as_slice(), short)
 }
 
-#[test]
-fn bare_texts_are_as_long_as_the_context_says(rt: HostRuntime) -> Result<(), Fail> {
-    let heap = &Refusing::new(rt.alloc(), 0);
-    let letters = letters(rt.alloc(), 65536)?;
-    let text = letters.as_slice();
+fn are_bare<A: Allocator + Copy>(heap: &Heap, alloc: A, letters: &[u8]) -> bool {
     // The length of this one is elsewhere too, and it is not read.
-    let raw = RawBytes::<BareU16Bytes>::from(text);
-    let mut all = is_written(heap, &raw, between(text, 0, 65535));
-    all &= is_bare::<1, _>(heap, heap, b"a");
+    let raw = RawBytes::<BareU16Bytes>::from(letters);
+    let mut all = is_written(heap, &raw, between(letters, 0, 65535));
+    all &= is_bare::<1, A>(heap, alloc, b"a");
     for len in [0usize, 1, 2, 3, 254, 255, 256, 300] {
-        let text = between(letters.as_slice(), 0, len);
-        all &= is_bare::<0, _>(heap, heap, text);
-        all &= is_bare::<2, _>(heap, heap, text);
-        all &= is_bare::<255, _>(heap, heap, text);
+        let text = between(letters, 0, len);
+        all &= is_bare::<0, A>(heap, alloc, text);
+        all &= is_bare::<2, A>(heap, alloc, text);
+        all &= is_bare::<255, A>(heap, alloc, text);
     }
-    assert!(rt; all);
-    Ok(())
+    all
 }
 
 // Whether a text is written as N bytes, cut or filled with zeros, and they are read back.
@@ -338,20 +321,48 @@ const FIXED: &[(&[u8], &[u8])] = &[
     (b"\0b", b"\0b\0\0"),
 ];
 
-#[test]
-fn fixed_texts_are_cut_or_filled_with_zeros(rt: HostRuntime) -> Result<(), Fail> {
-    let heap = &Refusing::new(rt.alloc(), 0);
-    let mut filled = letters(rt.alloc(), 300)?;
-    filled.extend_from_slice(b"\0\0")?;
-    let long = between(filled.as_slice(), 0, 300);
-    let mut all = is_fixed::<0, _>(heap, heap, b"", b"");
-    all &= is_fixed::<0, _>(heap, heap, b"abc", b"");
-    all &= is_fixed::<1, _>(heap, heap, b"a", b"a");
-    all &= is_fixed::<300, _>(heap, heap, long, long);
-    all &= is_fixed::<302, _>(heap, heap, long, filled.as_slice());
+fn are_fixed<A: Allocator + Copy>(heap: &Heap, alloc: A, filled: &[u8]) -> bool {
+    let long = between(filled, 0, 300);
+    let mut all = is_fixed::<0, A>(heap, alloc, b"", b"");
+    all &= is_fixed::<0, A>(heap, alloc, b"abc", b"");
+    all &= is_fixed::<1, A>(heap, alloc, b"a", b"a");
+    all &= is_fixed::<300, A>(heap, alloc, long, long);
+    all &= is_fixed::<302, A>(heap, alloc, long, filled);
     for (text, bytes) in FIXED {
-        all &= is_fixed::<4, _>(heap, heap, *text, *bytes);
+        all &= is_fixed::<4, A>(heap, alloc, *text, *bytes);
     }
-    assert!(rt; all);
-    Ok(())
+    all
+}
+
+// Of 65536 letters, and of 300 with two zeros behind them.
+fn are_ended<A: Allocator + Copy>(
+    heap: &Heap,
+    alloc: A,
+    letters: &[u8],
+    filled: &[u8],
+) -> [bool; 4] {
+    [
+        are_null(heap, alloc, between(letters, 0, 300)),
+        are_all(heap, alloc, letters),
+        are_bare(heap, alloc, letters),
+        are_fixed(heap, alloc, filled),
+    ]
+}
+
+// Each way out lets go all that a function holds, and is proved: this one holds nothing.
+fn all_texts(heap: &Heap, letters: &[u8], filled: &[u8]) -> Result<(), Fail> {
+    let text = between(letters, 0, 65536);
+    all_hold(&are_bounded(letters))?;
+    all_hold(&are_behind(heap, heap, text))?;
+    all_hold(&are_lengths(heap, heap))?;
+    all_hold(&are_ended(heap, heap, text, filled))
+}
+
+#[test]
+fn texts_are_written_and_read(rt: HostRuntime) -> Result<(), Fail> {
+    let letters = letters(rt.alloc(), 65537)?;
+    let mut filled = Vec::from_slice(rt.alloc(), between(letters.as_slice(), 0, 300))?;
+    filled.extend_from_slice(b"\0\0")?;
+    let heap = &Refusing::new(rt.alloc(), 0);
+    all_texts(heap, letters.as_slice(), filled.as_slice())
 }

@@ -14,66 +14,55 @@ use mysql_wire::misc::raw::{RawBytes, RawInt, Skip};
 use std::cmp::Ordering;
 use std::fmt::Debug;
 use std::hash::{DefaultHasher, Hash, Hasher};
+use std::marker::PhantomData;
+use std::test::Fail;
 use test_support::answers::shows_debug;
+use test_support::facts::all_hold;
 
-// These do nothing: that they are called at a type shows that the type has the traits.
-fn is_plain<T: Copy + Debug + Eq + Hash>() {}
+// A type that stands in one of these has its traits: with one that has not, this doesn't compile.
+pub struct IsPlain<T: Copy + Debug + Eq + Hash>(PhantomData<T>);
 
-fn is_made<T: Copy + Debug + Eq + Hash + Default>() {}
+pub struct IsMade<T: Copy + Debug + Eq + Hash + Default>(PhantomData<T>);
 
-pub fn is_ordered<T: Copy + Debug + Ord + Hash + Default>() {}
+pub struct IsOrdered<T: Copy + Debug + Ord + Hash + Default>(PhantomData<T>);
 
-fn is_text<T: Clone + Debug + Ord + Hash + Default>() {}
+pub struct IsText<T: Clone + Debug + Ord + Hash + Default>(PhantomData<T>);
 
-#[test]
-fn traits_of_representations(_: HostRuntime) {
-    is_ordered::<LeU16>();
-    is_ordered::<LeU24>();
-    is_ordered::<LeU32>();
-    is_ordered::<LeU48>();
-    is_ordered::<LeU56>();
-    is_ordered::<LeU64>();
-    is_ordered::<LeI16>();
-    is_ordered::<LeI24>();
-    is_ordered::<LeI32>();
-    is_ordered::<LeI56>();
-    is_ordered::<LeI64>();
-    is_ordered::<LeU32LowerHalf>();
-    is_ordered::<LeU32UpperHalf>();
-    is_ordered::<LenEnc>();
-    is_ordered::<VarLen>();
-    is_made::<U8Bytes>();
-    is_made::<U32Bytes>();
-    is_made::<NullBytes>();
-    is_made::<EofBytes>();
-    is_made::<FixedLengthText<4>>();
-    is_plain::<BareBytes<4>>();
-    is_plain::<BareU8Bytes>();
-    is_plain::<BareU16Bytes>();
-}
+pub struct OfRepresentations(
+    IsOrdered<LeU16>,
+    IsOrdered<LeU24>,
+    IsOrdered<LeU32>,
+    IsOrdered<LeU48>,
+    IsOrdered<LeU56>,
+    IsOrdered<LeU64>,
+    IsOrdered<LeI16>,
+    IsOrdered<LeI24>,
+    IsOrdered<LeI32>,
+    IsOrdered<LeI56>,
+    IsOrdered<LeI64>,
+    IsOrdered<LeU32LowerHalf>,
+    IsOrdered<LeU32UpperHalf>,
+    IsOrdered<LenEnc>,
+    IsOrdered<VarLen>,
+    IsMade<U8Bytes>,
+    IsMade<U32Bytes>,
+    IsMade<NullBytes>,
+    IsMade<EofBytes>,
+    IsMade<FixedLengthText<4>>,
+    IsPlain<BareBytes<4>>,
+    IsPlain<BareU8Bytes>,
+    IsPlain<BareU16Bytes>,
+);
 
-#[test]
-fn traits_of_constants(_: HostRuntime) {
-    is_made::<ConstU8<(), 7>>();
-    is_made::<ConstU32<(), 7>>();
-    is_made::<ConstBytes<Magic, 4>>();
-    is_ordered::<Skip<4>>();
-}
+pub struct OfConstants(
+    IsMade<ConstU8<(), 7>>,
+    IsMade<ConstU32<(), 7>>,
+    IsMade<ConstBytes<Magic, 4>>,
+    IsOrdered<Skip<4>>,
+);
 
 // Of each number and text in whatever representation.
-fn numbers_are_ordered<T: IntRepr>() {
-    is_ordered::<RawInt<T>>();
-}
-
-fn texts_are_ordered<T: BytesRepr>() {
-    is_text::<RawBytes<'_, T>>();
-}
-
-#[test]
-fn traits_of_numbers_and_texts(_: HostRuntime) {
-    numbers_are_ordered::<VarLen>();
-    texts_are_ordered::<U8Bytes>();
-}
+pub struct OfFields<'a, T: IntRepr, U: BytesRepr>(IsOrdered<RawInt<T>>, IsText<RawBytes<'a, U>>);
 
 // What a value is hashed to.
 fn hash_of<T: Hash>(value: &T) -> u64 {
@@ -94,36 +83,35 @@ fn is_less<T: Ord + Hash>(one: &T, other: &T) -> bool {
 
 // Two numbers that are written alike are yet two.
 #[test]
-fn numbers_are_compared_by_their_field(rt: HostRuntime) {
+fn numbers_are_compared_by_their_field(rt: HostRuntime) -> Result<(), Fail> {
     let one = RawInt::<LeI16>::new(1);
     let less = RawInt::<LeI16>::new(-1);
-    assert!(rt; are_same(&one, &RawInt::new(1)));
-    assert!(rt; is_less(&less, &one));
-    assert!(rt; are_same(&RawInt::<LeI16>::default(), &RawInt::new(0)));
-    assert!(rt; is_less(&RawInt::<LeU24>::new(0), &RawInt::new(1 << 24)));
-    assert!(rt; shows_debug(rt.alloc(), &less, "RawInt(-1, PhantomData<_>)"));
+    let (zero, wide) = (RawInt::<LeU24>::new(0), RawInt::<LeU24>::new(1 << 24));
+    all_hold(&[
+        are_same(&one, &RawInt::new(1)),
+        is_less(&less, &one),
+        are_same(&RawInt::<LeI16>::default(), &RawInt::new(0)),
+        is_less(&zero, &wide),
+        shows_debug(rt.alloc(), &less, "RawInt(-1, PhantomData<_>)"),
+    ])
 }
 
-// Two texts that are written alike are yet two.
+// Two texts that are written alike are yet two, and an owned text is compared and shown as a
+// borrowed one.
 #[test]
-fn texts_are_compared_by_their_field(rt: HostRuntime) {
+fn texts_are_compared_by_their_field(rt: HostRuntime) -> Result<(), Fail> {
+    let owned = RawBytes::<U8Bytes>::from(Vec::from_slice(rt.alloc(), b"ab")?);
     let text = RawBytes::<U8Bytes>::from(b"ab".as_slice());
     let next = RawBytes::<U8Bytes>::from(b"b".as_slice());
-    assert!(rt; is_less(&text, &next));
-    assert!(rt; is_less(&RawBytes::default(), &text));
     let short = RawBytes::<FixedLengthText<1>>::from(b"a".as_slice());
-    assert!(rt; short != RawBytes::from(b"ab".as_slice()));
-    assert!(rt; shows_debug(rt.alloc(), &next, "RawBytes([98], PhantomData<_>)"));
-}
-
-// An owned text is compared and shown as a borrowed one.
-#[test]
-fn owned_texts_are_those_that_are_borrowed(rt: HostRuntime) {
-    let mut owned = Vec::new(rt.alloc());
-    assert!(rt; owned.extend_from_slice(b"ab").is_ok());
-    let owned = RawBytes::<U8Bytes>::from(owned);
-    let text = RawBytes::<U8Bytes>::from(b"ab".as_slice());
-    assert!(rt; are_same(&text, &owned));
-    assert!(rt; shows_debug(rt.alloc(), &owned, "RawBytes([97, 98], PhantomData<_>)"));
-    assert!(rt; matches!(owned.clone(), Ok(copy) if copy == text));
+    let is_copied = matches!(owned.clone(), Ok(copy) if copy == text);
+    all_hold(&[
+        is_less(&text, &next),
+        is_less(&RawBytes::default(), &text),
+        short != RawBytes::from(b"ab".as_slice()),
+        shows_debug(rt.alloc(), &next, "RawBytes([98], PhantomData<_>)"),
+        are_same(&text, &owned),
+        shows_debug(rt.alloc(), &owned, "RawBytes([97, 98], PhantomData<_>)"),
+        is_copied,
+    ])
 }

@@ -4,7 +4,7 @@
 use mysql_wire::proto::{MyDeserialize, MySerialize};
 use std::alloc::Allocator;
 use test_support::answers::Fault;
-use test_support::fields::{Eaten, Short, is_read, is_written, stops};
+use test_support::fields::{Eaten, Short, gives, is_read, is_written, stops};
 use test_support::fixture::Heap;
 use test_support::reference::between;
 
@@ -20,9 +20,12 @@ pub type Refused<'de, C> = (C, u64, &'de [u8], Fault, usize);
 /// Of a type of which no front is eaten by itself.
 pub const WHOLE: usize = usize::MAX;
 
-/// Whether a value is written as the first bytes of its input, whichever request for memory is
-/// refused, and read from them, whatever follows; and whether none is read from fewer.
-pub fn is_value<'de, T, C, A>(heap: &Heap, alloc: A, row: &Value<'_, 'de, T, C>) -> bool
+/// Of a value whose end is not cut away here.
+pub const UNCUT: usize = usize::MAX - 1;
+
+// Whether a value is written as the first bytes of its input, whichever request for memory is
+// refused, and read from them, whatever follows; and whether none is read from fewer.
+fn is_value<'de, T, C, A>(heap: &Heap, alloc: A, row: &Value<'_, 'de, T, C>) -> bool
 where
     A: Allocator + Copy,
     C: Copy,
@@ -33,23 +36,51 @@ where
     let mut short = Short::eats(Eaten::Nothing);
     short.front = front;
     heap.refuse(nth);
-    let is_read = is_read(alloc, ctx, input, len, value, short);
-    is_put & is_read & !heap.has_refused()
+    let is_back = if front == UNCUT {
+        gives(alloc, ctx, input, value, input.len().saturating_sub(len))
+    } else {
+        is_read(alloc, ctx, input, len, value, short)
+    };
+    is_put & is_back & !heap.has_refused()
 }
 
-/// Whether no value is read from the input of each row, for its reason. Where that isn't want of
-/// memory, no request is refused; and where the first would be, none is made.
-pub fn are_refused<'de, T, C, A>(heap: &Heap, alloc: A, rows: &[Refused<'de, C>]) -> bool
+/// Whether a type has this size, and no value is read from the input of each row, for its reason.
+/// Where that isn't want of memory, no request is refused; and where the first would be, none is
+/// made.
+pub fn are_refused<'de, T, C, A>(
+    heap: &Heap,
+    alloc: A,
+    size: Option<usize>,
+    rows: &[Refused<'de, C>],
+) -> bool
 where
     A: Allocator + Copy,
     C: Copy,
     T: MyDeserialize<'de, A, Ctx = C>,
 {
-    let mut all = true;
+    let mut all = T::SIZE == size;
     for (ctx, nth, input, fault, left) in rows {
         heap.refuse(*nth);
         all &= stops::<T, C, A>(alloc, *ctx, *input, *fault, *left);
         all &= heap.has_refused() == (*fault == Fault::OutOfMemory);
     }
     all
+}
+
+/// Whether a type has this size, its value is written and read so, and no value is read from the
+/// input of each row.
+pub fn is_field<'de, T, C, A>(
+    heap: &Heap,
+    alloc: A,
+    size: Option<usize>,
+    value: &Value<'_, 'de, T, C>,
+    refused: &[Refused<'de, C>],
+) -> bool
+where
+    A: Allocator + Copy,
+    C: Copy,
+    T: PartialEq + MySerialize + MyDeserialize<'de, A, Ctx = C>,
+{
+    let is_value = is_value(heap, alloc, value);
+    is_value & are_refused::<T, C, A>(heap, alloc, size, refused)
 }

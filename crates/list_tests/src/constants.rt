@@ -1,43 +1,86 @@
 // Constants and sets of flags by their numbers.
 
-use crate::at::{Refused, WHOLE, are_refused, is_value};
+use crate::at::{Refused, WHOLE, are_refused, is_field};
 use mysql_wire::constants::{
     CapabilityFlags, ColumnType, CursorType, Flags, GeometryType, ItemResult, StatusFlags,
     UnknownColumnType,
 };
 use mysql_wire::io::InvalidReason;
-use mysql_wire::misc::raw::int::{LeU16, LeU32, LeU32LowerHalf};
+use mysql_wire::misc::raw::int::{IntRepr, LeU16, LeU24, LeU32, LeU32LowerHalf};
 use mysql_wire::misc::raw::{Const, RawConst, RawFlags};
 use refusing::Refusing;
 use std::alloc::Allocator;
+use std::test::Fail;
 use test_support::answers::Fault;
+use test_support::facts::{all_hold, no_row};
 use test_support::fields::{gives, is_written};
 use test_support::fixture::Heap;
 
 const UNKNOWN: Fault = Fault::Invalid(InvalidReason::UnknownValue);
 
-// Numbers that are not looked at, which takes no memory.
-fn are_raw_numbers<A: Allocator + Copy>(heap: &Heap, alloc: A) -> bool {
-    let byte = RawConst::<u8, ColumnType>::new(244);
-    let two = RawConst::<LeU16, ()>::new(0x0102);
-    let status = RawFlags::<StatusFlags, LeU16>::new(7);
-    let cursor = RawFlags::<CursorType, u8>::new(7);
-    let whole = RawFlags::<CapabilityFlags, LeU32>::new(0x10002);
-    let lower = RawFlags::<CapabilityFlags, LeU32LowerHalf>::new(2);
+// Whether a number that isn't looked at is written and read as the first bytes of its input, so
+// many, which takes no memory.
+fn is_raw_const<T, U, A>(
+    heap: &Heap,
+    alloc: A,
+    size: usize,
+    number: T::Primitive,
+    input: &[u8],
+) -> bool
+where
+    A: Allocator + Copy,
+    T: IntRepr,
+{
+    let raw = RawConst::<T, U>::new(number);
+    is_field(
+        heap,
+        alloc,
+        Some(size),
+        &(&raw, (), 0, input, size, WHOLE),
+        &[],
+    )
+}
+
+fn are_raw_flags<F, T, A>(
+    heap: &Heap,
+    alloc: A,
+    size: usize,
+    number: T::Primitive,
+    input: &[u8],
+) -> bool
+where
+    A: Allocator + Copy,
+    F: Flags<Bits = T::Primitive>,
+    T: IntRepr,
+{
+    let raw = RawFlags::<F, T>::new(number);
+    is_field(
+        heap,
+        alloc,
+        Some(size),
+        &(&raw, (), 0, input, size, WHOLE),
+        &[],
+    )
+}
+
+fn are_raw_numbers<A: Allocator + Copy>(heap: &Heap, alloc: A) -> [bool; 8] {
     let more = RawFlags::<CapabilityFlags, LeU32LowerHalf>::new(0x10002);
-    let mut all = is_value(heap, alloc, &(&byte, (), 0, b"\xf4\x01", 1, WHOLE));
-    all &= is_value(heap, alloc, &(&two, (), 0, b"\x02\x01\0", 2, WHOLE));
-    all &= is_value(heap, alloc, &(&status, (), 0, b"\x07\0\xff", 2, WHOLE));
-    all &= is_value(heap, alloc, &(&cursor, (), 0, b"\x07", 1, WHOLE));
-    all &= is_value(heap, alloc, &(&whole, (), 0, b"\x02\0\x01\0", 4, WHOLE));
-    all &= is_value(heap, alloc, &(&lower, (), 0, b"\x02\0\x01", 2, WHOLE));
-    all & is_written(heap, &more, b"\x02\0")
+    [
+        is_raw_const::<u8, ColumnType, A>(heap, alloc, 1, 244, b"\xf4\x01"),
+        is_raw_const::<LeU16, (), A>(heap, alloc, 2, 0x0102, b"\x02\x01\0"),
+        is_raw_const::<LeU24, ColumnType, A>(heap, alloc, 3, 0x010203, b"\x03\x02\x01\0"),
+        are_raw_flags::<StatusFlags, LeU16, A>(heap, alloc, 2, 7, b"\x07\0\xff"),
+        are_raw_flags::<CursorType, u8, A>(heap, alloc, 1, 7, b"\x07"),
+        are_raw_flags::<CapabilityFlags, LeU32, A>(heap, alloc, 4, 0x10002, b"\x02\0\x01\0"),
+        are_raw_flags::<CapabilityFlags, LeU32LowerHalf, A>(heap, alloc, 2, 2, b"\x02\0\x01"),
+        is_written(heap, &more, b"\x02\0"),
+    ]
 }
 
 #[test]
-fn raw_numbers_are_written_and_read(rt: HostRuntime) {
+fn raw_numbers_are_written_and_read(rt: HostRuntime) -> Result<(), Fail> {
     let heap = &Refusing::new(rt.alloc(), 0);
-    assert!(rt; are_raw_numbers(heap, heap));
+    all_hold(&are_raw_numbers(heap, heap))
 }
 
 #[test]
@@ -54,41 +97,55 @@ fn raw_numbers_show_what_they_stand_for(rt: HostRuntime) {
 // Whether a byte is the type that it stands for, or is refused, and is eaten.
 fn is_column_type<A: Allocator + Copy>(heap: &Heap, alloc: A, number: u8) -> bool {
     let input = [number, 1];
+    let one = Some(1);
     match ColumnType::try_from(number) {
         Ok(value) => {
             let value = Const::<ColumnType, u8>::new(value);
-            is_value(heap, alloc, &(&value, (), 0, &input, 1, WHOLE))
+            is_field(heap, alloc, one, &(&value, (), 0, &input, 1, WHOLE), &[])
         }
         Err(_) => {
             let refused: [Refused<'_, ()>; 1] = [((), 0, &input, UNKNOWN, 1)];
-            are_refused::<Const<ColumnType, u8>, (), A>(heap, alloc, &refused)
+            are_refused::<Const<ColumnType, u8>, (), A>(heap, alloc, one, &refused)
         }
     }
 }
 
 #[test]
-fn each_number_of_a_column_type_is_written_and_read_or_refused(rt: HostRuntime) {
+fn each_number_of_a_column_type_is_written_and_read_or_refused(
+    rt: HostRuntime,
+) -> Result<(), Fail> {
     let heap = &Refusing::new(rt.alloc(), 0);
     let mut wrong = None;
     for number in 0..=255u8 {
         if !is_column_type(heap, heap, number) {
-            wrong = Some(number);
+            wrong = Some(usize::from(number));
         }
     }
-    assert!(rt; wrong == None);
+    no_row(wrong)
 }
 
-// Numbers of constants that are read and not written, and numbers that stand for none.
-fn are_constants<A: Allocator + Copy>(heap: &Heap, alloc: A) -> bool {
-    let cursor = Const::<CursorType, u8>::new(CursorType::CURSOR_TYPE_READ_ONLY);
-    let point = Const::<GeometryType, u8>::new(GeometryType::GEOM_POINT);
-    let invalid = Const::<ItemResult, i8>::new(ItemResult::INVALID_RESULT);
-    let mut all = is_value(heap, alloc, &(&cursor, (), 0, b"\x01\xff", 1, WHOLE));
-    all &= are_refused::<Const<CursorType, u8>, (), A>(heap, alloc, NO_CURSOR);
-    all &= are_refused::<Const<ItemResult, i8>, (), A>(heap, alloc, NO_RESULT);
-    all &= are_refused::<Const<StatusFlags, LeU16>, (), A>(heap, alloc, NO_STATUS);
-    all &= gives(alloc, (), b"\x01", &point, 0);
-    all & gives(alloc, (), b"\xff\x01", &invalid, 1)
+// Whether a constant is read from the first bytes of an input, so many, and no constant from those
+// that are refused.
+fn is_constant<'de, C, T, A>(
+    heap: &Heap,
+    alloc: A,
+    size: usize,
+    read: Option<(C, &'de [u8])>,
+    refused: &[Refused<'de, ()>],
+) -> bool
+where
+    A: Allocator + Copy,
+    C: Copy + PartialEq + TryFrom<T::Primitive, Error: Drop>,
+    T: IntRepr,
+{
+    let mut all = true;
+    heap.refuse(0);
+    if let Some((value, input)) = read {
+        let value = Const::<C, T>::new(value);
+        all &= gives(alloc, (), input, &value, input.len().saturating_sub(size));
+    }
+    all &= heap.left() == 0;
+    all & are_refused::<Const<C, T>, (), A>(heap, alloc, Some(size), refused)
 }
 
 const NO_CURSOR: &[Refused<()>] = &[((), 0, b"\x08", UNKNOWN, 0)];
@@ -97,8 +154,22 @@ const NO_RESULT: &[Refused<()>] = &[((), 0, b"\xfe\x01", UNKNOWN, 1)];
 
 const NO_STATUS: &[Refused<()>] = &[((), 0, b"\x04\0\0", UNKNOWN, 1)];
 
+// Numbers of constants that are read and not written, and numbers that stand for none.
+fn are_constants<A: Allocator + Copy>(heap: &Heap, alloc: A) -> [bool; 4] {
+    let cursor = Const::<CursorType, u8>::new(CursorType::CURSOR_TYPE_READ_ONLY);
+    let point: Option<(GeometryType, &[u8])> = Some((GeometryType::GEOM_POINT, b"\x01"));
+    let invalid: Option<(ItemResult, &[u8])> = Some((ItemResult::INVALID_RESULT, b"\xff\x01"));
+    let is_cursor = (&cursor, (), 0, b"\x01\xff".as_slice(), 1, WHOLE);
+    [
+        is_field(heap, alloc, Some(1), &is_cursor, NO_CURSOR),
+        is_constant::<ItemResult, i8, A>(heap, alloc, 1, invalid, NO_RESULT),
+        is_constant::<StatusFlags, LeU16, A>(heap, alloc, 2, None, NO_STATUS),
+        is_constant::<GeometryType, u8, A>(heap, alloc, 1, point, &[]),
+    ]
+}
+
 #[test]
-fn numbers_that_stand_for_none_are_refused(rt: HostRuntime) {
+fn numbers_that_stand_for_none_are_refused(rt: HostRuntime) -> Result<(), Fail> {
     let heap = &Refusing::new(rt.alloc(), 0);
-    assert!(rt; are_constants(heap, heap) & (heap.left() == 0));
+    all_hold(&are_constants(heap, heap))
 }

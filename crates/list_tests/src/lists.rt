@@ -1,7 +1,7 @@
 // Lists: written and read by each representation of their count, counts that promise too much,
 // elements that are refused, and memory that is.
 
-use crate::at::{Refused, WHOLE, are_refused, is_value};
+use crate::at::{Refused, UNCUT, WHOLE, are_refused, is_field};
 use crate::entry::Entry;
 use mysql_wire::constants::ColumnType;
 use mysql_wire::io::{InvalidReason, ParseBuf};
@@ -9,11 +9,13 @@ use mysql_wire::misc::raw::bytes::U8Bytes;
 use mysql_wire::misc::raw::int::{IntRepr, LeU16, LeU32, LeU64, VarLen};
 use mysql_wire::misc::raw::seq::{Seq, SeqRepr, Unknown};
 use mysql_wire::misc::raw::{Const, RawBytes, RawInt, Skip};
+use mysql_wire::proto::{MyDeserialize, MySerialize};
 use refusing::{NEVER, Refusing};
 use std::alloc::Allocator;
 use std::borrow::CowSlice;
+use std::test::Fail;
 use test_support::answers::Fault;
-use test_support::fields::{gives, is_written, last};
+use test_support::facts::all_hold;
 use test_support::fixture::Heap;
 
 const EOF: Fault = Fault::UnexpectedEof;
@@ -22,35 +24,40 @@ const UNKNOWN: Fault = Fault::Invalid(InvalidReason::UnknownValue);
 
 const OUT_OF_MEMORY: Fault = Fault::OutOfMemory;
 
-// ---- lists of numbers
+// Values, an input that begins with them as a list, how many bytes it has there, and how many bytes
+// of them its count has.
+type List<'a, T> = (&'a [T], &'a [u8], usize, usize);
 
-// Whether these numbers are written and read as a list, where the count has so many bytes in front.
+// Whether these are written and read as a list, and no list is read from the rows that are refused.
 fn is_list<'de, T, U, A>(
     heap: &Heap,
     alloc: A,
     ctx: U::Ctx,
-    numbers: &'de [RawInt<T>],
-    input: &'de [u8],
-    (len, front): (usize, usize),
+    list: List<'de, T>,
+    refused: &[Refused<'de, U::Ctx>],
 ) -> bool
 where
-    T: 'de + IntRepr,
+    T: 'de + Clone + Drop + PartialEq + MySerialize + MyDeserialize<'de, A, Ctx = ()>,
     U: 'de + SeqRepr<Ctx: Copy>,
     A: 'de + Allocator + Copy,
 {
-    let list: Seq<'de, RawInt<T>, U, A> = Seq::new(CowSlice::Borrowed(numbers));
-    is_value(heap, alloc, &(&list, ctx, NEVER, input, len, front))
+    let (values, input, len, front) = list;
+    let list: Seq<'de, T, U, A> = Seq::new(CowSlice::Borrowed(values));
+    let value = (&list, ctx, NEVER, input, len, front);
+    is_field::<Seq<'de, T, U, A>, U::Ctx, A>(heap, alloc, None, &value, refused)
 }
 
-// Whether no list of numbers is read from these.
+// Whether no list is read from these.
 fn are_no_lists<'de, T, U, A>(heap: &Heap, alloc: A, rows: &[Refused<'de, U::Ctx>]) -> bool
 where
-    T: 'de + IntRepr,
+    T: 'de + Clone + Drop + MyDeserialize<'de, A, Ctx = ()>,
     U: 'de + SeqRepr<Ctx: Copy>,
     A: 'de + Allocator + Copy,
 {
-    are_refused::<Seq<'de, RawInt<T>, U, A>, U::Ctx, A>(heap, alloc, rows)
+    are_refused::<Seq<'de, T, U, A>, U::Ctx, A>(heap, alloc, None, rows)
 }
+
+// ---- lists of numbers
 
 // A count whose values aren't there is an end of input at once, and no memory is asked for. Where
 // they are there, the count is eaten before the first request.
@@ -79,73 +86,123 @@ const VARYING: &[Refused<()>] = &[
     ((), 0, b"\x02\0\0\0\x01\x02", OUT_OF_MEMORY, 2),
 ];
 
+// The same of numbers, in whatever representation.
+fn is_list_of_numbers<'de, T, U, A>(
+    heap: &Heap,
+    alloc: A,
+    ctx: U::Ctx,
+    list: List<'de, RawInt<T>>,
+    refused: &[Refused<'de, U::Ctx>],
+) -> bool
+where
+    T: 'de + IntRepr,
+    U: 'de + SeqRepr<Ctx: Copy>,
+    A: 'de + Allocator + Copy,
+{
+    is_list::<RawInt<T>, U, A>(heap, alloc, ctx, list, refused)
+}
+
+fn are_no_numbers<'de, T, U, A>(heap: &Heap, alloc: A, rows: &[Refused<'de, U::Ctx>]) -> bool
+where
+    T: 'de + IntRepr,
+    U: 'de + SeqRepr<Ctx: Copy>,
+    A: 'de + Allocator + Copy,
+{
+    are_no_lists::<RawInt<T>, U, A>(heap, alloc, rows)
+}
+
 // Each count, with its numbers and without. What is called once for each type is generic in the
 // allocator, since each call at a type proves anew that it is one.
-fn are_lists<'de, A>(heap: &Heap, alloc: A, two: &'de [RawInt<LeU16>]) -> bool
+fn are_numbers<'de, A>(heap: &Heap, alloc: A, two: &'de [RawInt<LeU16>]) -> [bool; 6]
 where
     A: 'de + Allocator + Copy,
 {
-    let four: &'de [u8] = b"\x02\0\0\0\x01\0\x02\0\xff";
-    let eight: &'de [u8] = b"\x02\0\0\0\0\0\0\0\x01\0\x02\0\xff";
-    let bare: &'de [u8] = b"\x01\0\x02\0\xff";
-    let none: &'de [u8] = b"\0\0\0\0\xff";
-    let mut all = is_list::<LeU16, LeU32, A>(heap, alloc, (), two, four, (8, 4));
-    all &= is_list::<LeU16, LeU32, A>(heap, alloc, (), &[], none, (4, WHOLE));
-    all &= is_list::<LeU16, LeU64, A>(heap, alloc, (), two, eight, (12, 8));
-    all & is_list::<LeU16, Unknown, A>(heap, alloc, 2, two, bare, (4, WHOLE))
+    let four: List<'de, RawInt<LeU16>> = (two, b"\x02\0\0\0\x01\0\x02\0\xff", 8, 4);
+    let none: List<'de, RawInt<LeU16>> = (&[], b"\0\0\0\0\xff", 4, WHOLE);
+    let eight: List<'de, RawInt<LeU16>> = (two, b"\x02\0\0\0\0\0\0\0\x01\0\x02\0\xff", 12, 8);
+    let bare: List<'de, RawInt<LeU16>> = (two, b"\x01\0\x02\0\xff", 4, WHOLE);
+    let no_four: &[Refused<'de, ()>] = FOUR;
+    let no_eight: &[Refused<'de, ()>] = EIGHT;
+    let no_bare: &[Refused<'de, usize>] = BARE;
+    let no_bytes: &[Refused<'de, ()>] = BYTES;
+    let no_varying: &[Refused<'de, ()>] = VARYING;
+    let nothing: &[Refused<'de, ()>] = &[];
+    [
+        is_list_of_numbers::<LeU16, LeU32, A>(heap, alloc, (), four, no_four),
+        is_list_of_numbers::<LeU16, LeU32, A>(heap, alloc, (), none, nothing),
+        is_list_of_numbers::<LeU16, LeU64, A>(heap, alloc, (), eight, no_eight),
+        is_list_of_numbers::<LeU16, Unknown, A>(heap, alloc, 2, bare, no_bare),
+        are_no_numbers::<u8, LeU64, A>(heap, alloc, no_bytes),
+        are_no_numbers::<VarLen, LeU32, A>(heap, alloc, no_varying),
+    ]
 }
 
 #[test]
-fn lists_of_numbers(rt: HostRuntime) {
+fn lists_of_numbers_that_are_there_or_not(rt: HostRuntime) -> Result<(), Fail> {
     let heap = &Refusing::new(rt.alloc(), 0);
     let two = [RawInt::<LeU16>::new(1), RawInt::<LeU16>::new(2)];
-    assert!(rt; are_lists(heap, heap, &two));
-}
-
-fn are_hostile<'de, A>(heap: &Heap, alloc: A, bytes: &[Refused<'de, ()>]) -> bool
-where
-    A: 'de + Allocator + Copy,
-{
-    let four: &[Refused<'de, ()>] = FOUR;
-    let eight: &[Refused<'de, ()>] = EIGHT;
-    let bare: &[Refused<'de, usize>] = BARE;
-    let varying: &[Refused<'de, ()>] = VARYING;
-    let mut all = are_no_lists::<LeU16, LeU32, A>(heap, alloc, four);
-    all &= are_no_lists::<LeU16, LeU64, A>(heap, alloc, eight);
-    all &= are_no_lists::<LeU16, Unknown, A>(heap, alloc, bare);
-    all &= are_no_lists::<u8, LeU64, A>(heap, alloc, bytes);
-    all & are_no_lists::<VarLen, LeU32, A>(heap, alloc, varying)
-}
-
-#[test]
-fn lists_of_numbers_that_are_not_there(rt: HostRuntime) {
-    let heap = &Refusing::new(rt.alloc(), 0);
-    assert!(rt; are_hostile(heap, heap, BYTES));
+    all_hold(&are_numbers(heap, heap, &two))
 }
 
 // ---- lists of other elements
 
 const NO_ARRAYS: &[Refused<()>] = &[
     ((), 0, MOST, EOF, 2),
+    ((), 0, b"\xff\xff\xff\xff\xff\xff\xff\xff\x01", EOF, 1),
     ((), 0, b"\0\0\0\0\0\0\0\x10", EOF, 0),
 ];
 
-// Whether no list of arrays is read from these.
-fn are_no_arrays<'de, A>(heap: &Heap, alloc: A, rows: &[Refused<'de, ()>]) -> bool
+// The block of elements of a size is eaten, whichever is refused.
+const NO_TYPES: &[Refused<()>] = &[
+    ((), NEVER, b"\x02\0\0\0\xf4\0\xaa", UNKNOWN, 1),
+    ((), NEVER, b"\x02\0\0\0\0\xf4\xaa", UNKNOWN, 1),
+];
+
+const NO_TEXTS: &[Refused<()>] = &[
+    ((), NEVER, b"\x02\0\0\0\x01a", EOF, 0),
+    ((), NEVER, b"\x02\0\0\0\x01", EOF, 0),
+];
+
+type Pair = Entry<RawInt<u8>, RawInt<LeU16>>;
+
+// Arrays that aren't there, elements of no bytes, constants, and records of a type of one's own.
+fn are_others<'de, A>(
+    heap: &Heap,
+    alloc: A,
+    types: &'de [Const<ColumnType, u8>],
+    pairs: &'de [Pair],
+) -> [bool; 4]
 where
     A: 'de + Allocator + Copy,
 {
-    are_refused::<Seq<'de, [u8; 16], LeU64, A>, (), A>(heap, alloc, rows)
+    let none: List<'de, Skip<0>> = (&[Skip, Skip, Skip], b"\x03\0\0\0", 4, WHOLE);
+    let types: List<'de, Const<ColumnType, u8>> = (types, b"\x01\0\0\0\xf5\0", 5, 4);
+    let pairs: List<'de, Pair> = (pairs, b"\x02\0\0\0\x01\x02\0\x03\x05\x04", 10, UNCUT);
+    let no_arrays: &[Refused<'de, ()>] = NO_ARRAYS;
+    let no_types: &[Refused<'de, ()>] = NO_TYPES;
+    let nothing: &[Refused<'de, ()>] = &[];
+    [
+        are_no_lists::<[u8; 16], LeU64, A>(heap, alloc, no_arrays),
+        is_list::<Skip<0>, LeU32, A>(heap, alloc, (), none, nothing),
+        is_list::<Const<ColumnType, u8>, LeU32, A>(heap, alloc, (), types, no_types),
+        is_list::<Pair, LeU32, A>(heap, alloc, (), pairs, nothing),
+    ]
+}
+
+// Two texts, with one byte behind them.
+fn are_texts<'de, A>(heap: &Heap, alloc: A, texts: &'de [RawBytes<'de, U8Bytes, A>]) -> bool
+where
+    A: 'de + Allocator + Copy,
+{
+    let texts: List<'de, RawBytes<'de, U8Bytes, A>> = (texts, b"\x02\0\0\0\x01a\0\xff", 7, UNCUT);
+    is_list::<RawBytes<'de, U8Bytes, A>, LeU32, A>(heap, alloc, (), texts, NO_TEXTS)
 }
 
 #[test]
-fn lists_of_arrays_that_are_not_there(rt: HostRuntime) {
+fn lists_of_other_elements(rt: HostRuntime) -> Result<(), Fail> {
     let heap = &Refusing::new(rt.alloc(), 0);
-    assert!(rt; are_no_arrays(heap, heap, NO_ARRAYS));
-}
-
-fn are_entries<A: Allocator + Copy>(heap: &Heap, alloc: A, input: &[u8]) -> bool {
-    let entries = [
+    let types = [Const::<ColumnType, u8>::new(ColumnType::MYSQL_TYPE_JSON)];
+    let pairs = [
         Entry {
             key: RawInt::<u8>::new(1),
             value: RawInt::<LeU16>::new(2),
@@ -155,96 +212,15 @@ fn are_entries<A: Allocator + Copy>(heap: &Heap, alloc: A, input: &[u8]) -> bool
             value: RawInt::<LeU16>::new(0x0405),
         },
     ];
-    let list: Seq<'_, Entry<RawInt<u8>, RawInt<LeU16>>, LeU32, A> = Seq::new(CowSlice::Borrowed(
-        &entries,
-    ));
-    let is_put = is_written(heap, &list, input);
-    heap.refuse(NEVER);
-    is_put & gives(alloc, (), input, &list, 0)
+    all_hold(&are_others(heap, heap, &types, &pairs))
 }
 
 #[test]
-fn lists_of_a_type_of_ones_own(rt: HostRuntime) {
-    let heap = &Refusing::new(rt.alloc(), 0);
-    assert!(rt; are_entries(heap, heap, b"\x02\0\0\0\x01\x02\0\x03\x05\x04"));
-}
-
-// Elements of no bytes.
-fn are_nothing<A: Allocator + Copy>(heap: &Heap, alloc: A, input: &[u8]) -> bool {
-    let list: Seq<'_, Skip<0>, LeU32, A> = Seq::new(CowSlice::Borrowed(&[Skip, Skip, Skip]));
-    is_value(heap, alloc, &(&list, (), NEVER, input, 4, WHOLE))
-}
-
-// The block of elements of a size is eaten, whichever is refused.
-const NO_TYPES: &[Refused<()>] = &[
-    ((), NEVER, b"\x02\0\0\0\xf4\0\xaa", UNKNOWN, 1),
-    ((), NEVER, b"\x02\0\0\0\0\xf4\xaa", UNKNOWN, 1),
-];
-
-fn are_types<A: Allocator + Copy>(heap: &Heap, alloc: A, input: &[u8]) -> bool {
-    let types = [Const::<ColumnType, u8>::new(ColumnType::MYSQL_TYPE_JSON)];
-    let list: Seq<'_, Const<ColumnType, u8>, LeU32, A> = Seq::new(CowSlice::Borrowed(&types));
-    is_value(heap, alloc, &(&list, (), NEVER, input, 5, 4))
-}
-
-fn are_no_types<'de, A>(heap: &Heap, alloc: A, rows: &[Refused<'de, ()>]) -> bool
-where
-    A: 'de + Allocator + Copy,
-{
-    are_refused::<Seq<'de, Const<ColumnType, u8>, LeU32, A>, (), A>(heap, alloc, rows)
-}
-
-#[test]
-fn lists_of_constants_and_of_nothing(rt: HostRuntime) {
-    let heap = &Refusing::new(rt.alloc(), 0);
-    assert!(rt; are_nothing(heap, heap, b"\x03\0\0\0"));
-    assert!(rt; are_types(heap, heap, b"\x01\0\0\0\xf5\0"));
-    assert!(rt; are_no_types(heap, heap, NO_TYPES));
-}
-
-// Whether two texts are read from an input, and one byte is left.
-fn are_texts<'de, A>(alloc: A, input: &'de [u8]) -> bool
-where
-    A: 'de + Allocator + Copy,
-{
-    let mut buf = ParseBuf(input);
-    match buf.parse_in::<Seq<'de, RawBytes<'de, U8Bytes, A>, LeU32, A>, A>(alloc, ()) {
-        Ok(texts) => (texts.len() == 2) & (buf.0 == last(input, 1)),
-        Err(_) => false,
-    }
-}
-
-// Whether no list of texts is read from these.
-fn are_no_texts<'de, A>(heap: &Heap, alloc: A, rows: &[Refused<'de, ()>]) -> bool
-where
-    A: 'de + Allocator + Copy,
-{
-    are_refused::<Seq<'de, RawBytes<'de, U8Bytes, A>, LeU32, A>, (), A>(heap, alloc, rows)
-}
-
-const TEXTS: &[Refused<()>] = &[
-    ((), NEVER, b"\x02\0\0\0\x01a", EOF, 0),
-    ((), NEVER, b"\x02\0\0\0\x01", EOF, 0),
-];
-
-// Whether a list of these texts is written as these bytes.
-fn are_texts_put<A>(heap: &Heap, texts: &[RawBytes<'_, U8Bytes, A>], bytes: &[u8]) -> bool
-where
-    A: Allocator + Copy,
-{
-    let list: Seq<'_, RawBytes<'_, U8Bytes, A>, LeU32, A> = Seq::new(CowSlice::Borrowed(texts));
-    is_written(heap, &list, bytes)
-}
-
-#[test]
-fn lists_of_texts(rt: HostRuntime) {
+fn lists_of_texts(rt: HostRuntime) -> Result<(), Fail> {
     let heap = &Refusing::new(rt.alloc(), 0);
     let texts = [
-        RawBytes::<U8Bytes>::from(b"a".as_slice()),
-        RawBytes::<U8Bytes>::from(b"".as_slice()),
+        RawBytes::<U8Bytes, &Heap>::from(b"a".as_slice()),
+        RawBytes::<U8Bytes, &Heap>::from(b"".as_slice()),
     ];
-    assert!(rt; are_texts_put(heap, &texts, b"\x02\0\0\0\x01a\0"));
-    heap.refuse(NEVER);
-    assert!(rt; are_texts(heap, b"\x02\0\0\0\x01a\0\xff"));
-    assert!(rt; are_no_texts(heap, heap, TEXTS));
+    all_hold(&[are_texts(heap, heap, &texts)])
 }

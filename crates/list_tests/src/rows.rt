@@ -1,36 +1,62 @@
 // Bytes, numbers in a row, one of two values, and two values one after the other.
 
-use crate::at::{Refused, WHOLE, are_refused, is_value};
-use mysql_wire::constants::SessionStateType;
+use crate::at::{Refused, UNCUT, WHOLE, is_field};
+use mysql_wire::constants::{ColumnType, SessionStateType};
 use mysql_wire::io::ParseBuf;
-use mysql_wire::misc::raw::bytes::{EofBytes, U8Bytes};
+use mysql_wire::misc::raw::bytes::EofBytes;
 use mysql_wire::misc::raw::int::{LeU16, LeU32};
 use mysql_wire::misc::raw::{Both, Either, RawBytes, RawInt, RawSeq, Slice};
-use refusing::Refusing;
+use refusing::{NEVER, Refusing};
 use std::alloc::Allocator;
 use std::borrow::CowSlice;
+use std::test::Fail;
 use test_support::answers::Fault;
-use test_support::fields::{gives, is_written, refusals, stops};
+use test_support::facts::all_hold;
+use test_support::fields::is_written;
 use test_support::fixture::Heap;
+use test_support::reference::between;
 
 const NO_BYTES: &[Refused<usize>] = &[(usize::MAX, 0, b"ab", Fault::UnexpectedEof, 2)];
 
-fn are_bytes<A: Allocator + Copy>(heap: &Heap, alloc: A) -> bool {
-    let states: RawSeq<'_, u8, SessionStateType, A> = RawSeq::new(CowSlice::Borrowed(
-        b"\0\x05\x09",
-    ));
-    let none: RawSeq<'_, u8, (), A> = RawSeq::new(CowSlice::Borrowed(b""));
-    let mut all = is_value(heap, alloc, &(&Slice(b"ab"), 2, 0, b"ab\xff", 2, WHOLE));
-    all &= is_value(heap, alloc, &(&Slice(b""), 0, 0, b"ab", 0, WHOLE));
-    all &= are_refused::<Slice<'_>, usize, A>(heap, alloc, NO_BYTES);
-    all &= is_value(heap, alloc, &(&states, 3, 0, b"\0\x05\x09\xff", 3, WHOLE));
-    all & is_value(heap, alloc, &(&none, 0, 0, b"\xff", 0, WHOLE))
+// Whether numbers of one byte in a row are written and read, and one byte is left.
+fn is_row_of<U, A: Allocator + Copy>(heap: &Heap, alloc: A, input: &[u8]) -> bool {
+    let len = input.len().saturating_sub(1);
+    let numbers: RawSeq<'_, u8, U, A> = RawSeq::new(CowSlice::Borrowed(between(input, 0, len)));
+    is_field(
+        heap,
+        alloc,
+        None,
+        &(&numbers, len, 0, input, len, WHOLE),
+        &[],
+    )
+}
+
+fn are_bytes<A: Allocator + Copy>(heap: &Heap, alloc: A) -> [bool; 5] {
+    [
+        is_field(
+            heap,
+            alloc,
+            None,
+            &(&Slice(b"ab"), 2, 0, b"ab\xff", 2, WHOLE),
+            NO_BYTES,
+        ),
+        is_field(
+            heap,
+            alloc,
+            None,
+            &(&Slice(b""), 0, 0, b"ab", 0, WHOLE),
+            &[],
+        ),
+        is_row_of::<SessionStateType, A>(heap, alloc, b"\0\x05\x09\xff"),
+        is_row_of::<ColumnType, A>(heap, alloc, b"\xf4\xff"),
+        is_row_of::<(), A>(heap, alloc, b"\xff"),
+    ]
 }
 
 #[test]
-fn bytes_and_numbers_in_a_row(rt: HostRuntime) {
+fn bytes_and_numbers_in_a_row(rt: HostRuntime) -> Result<(), Fail> {
     let heap = &Refusing::new(rt.alloc(), 0);
-    assert!(rt; are_bytes(heap, heap));
+    all_hold(&are_bytes(heap, heap))
 }
 
 // Numbers that name changes of a session's state.
@@ -69,25 +95,24 @@ fn numbers_in_a_row_are_shown_and_owned(rt: HostRuntime) {
 // One number of four bytes or of one.
 type Number = Either<RawInt<LeU32>, RawInt<u8>>;
 
-fn is_either<A: Allocator + Copy>(heap: &Heap, alloc: A, left: &Number, right: &Number) -> bool {
-    let eof = Fault::UnexpectedEof;
-    let inputs = b"\x01\0\0\0\x02".as_slice();
-    let mut all = is_written(heap, left, b"\x01\0\0\0");
-    all &= is_written(heap, right, b"\x01");
-    all &= gives(alloc, Either::Left(()), inputs, left, 1);
-    all &= gives(alloc, Either::Right(()), inputs, right, 4);
-    all &= stops::<Number, Either<(), ()>, A>(alloc, Either::Left(()), b"\x01\x02", eof, 2);
-    all & stops::<Number, Either<(), ()>, A>(alloc, Either::Right(()), b"", eof, 0)
-}
+// The context says which is read.
+const NO_NUMBER: &[Refused<Either<(), ()>>] = &[
+    (
+        Either::Left(()),
+        NEVER,
+        b"\x01\x02",
+        Fault::UnexpectedEof,
+        2,
+    ),
+    (Either::Right(()), NEVER, b"", Fault::UnexpectedEof, 0),
+];
 
-#[test]
-fn one_of_two_values(rt: HostRuntime) {
-    let heap = &Refusing::new(rt.alloc(), 0);
-    let left: Number = Either::Left(RawInt::new(1));
-    let right: Number = Either::Right(RawInt::new(1));
-    assert!(rt; is_either(heap, heap, &left, &right));
-    assert!(rt; left.unwrap_left() == RawInt::new(1));
-    assert!(rt; right.unwrap_right() == RawInt::new(1));
+fn is_either<A: Allocator + Copy>(heap: &Heap, alloc: A, left: &Number, right: &Number) -> bool {
+    let input = b"\x01\0\0\0\x02".as_slice();
+    let four = (left, Either::Left(()), NEVER, input, 4, UNCUT);
+    let one = (right, Either::Right(()), NEVER, input, 1, UNCUT);
+    let is_left = is_field(heap, alloc, None, &four, NO_NUMBER);
+    is_left & is_field(heap, alloc, None, &one, &[])
 }
 
 // Whether a number is read, and behind it the rest as a text, which is borrowed.
@@ -110,36 +135,25 @@ where
 
 fn are_numbers<A: Allocator + Copy>(heap: &Heap, alloc: A) -> bool {
     let numbers = Both(RawInt::<LeU16>::new(258), RawInt::<u8>::new(3));
-    is_value(
-        heap,
-        alloc,
-        &(&numbers, ((), ()), 0, b"\x02\x01\x03\xff", 3, 2),
-    )
+    let value = (&numbers, ((), ()), 0, b"\x02\x01\x03\xff".as_slice(), 3, 2);
+    is_field(heap, alloc, None, &value, &[])
 }
 
 #[test]
-fn two_values_in_a_row(rt: HostRuntime) {
+fn one_of_two_values_and_both(rt: HostRuntime) -> Result<(), Fail> {
     let heap = &Refusing::new(rt.alloc(), 0);
-    assert!(rt; are_numbers(heap, heap));
+    let left: Number = Either::Left(RawInt::new(1));
+    let right: Number = Either::Right(RawInt::new(1));
     let row = Both(
         RawInt::<LeU16>::new(258),
         RawBytes::<EofBytes>::from(b"hi".as_slice()),
     );
-    assert!(rt; is_written(heap, &row, b"\x02\x01hi"));
-    assert!(rt; is_row(heap, heap, b"\x02\x01hi", 258, b"hi"));
-}
-
-#[test]
-fn two_texts_in_a_row_are_refused_at_each(rt: HostRuntime) {
-    let heap = Refusing::new(rt.alloc(), 0);
-    let texts = Both(
-        RawBytes::<U8Bytes>::from([b'a'; 40].as_slice()),
-        RawBytes::<U8Bytes>::from([b'b'; 2].as_slice()),
-    );
-    let mut bytes = [b'a'; 44];
-    bytes[0] = 40;
-    bytes[41] = 2;
-    bytes[42] = b'b';
-    bytes[43] = b'b';
-    assert!(rt; refusals(&heap, &texts, &bytes) > Some(1));
+    all_hold(&[
+        is_either(heap, heap, &left, &right),
+        left.unwrap_left() == RawInt::new(1),
+        right.unwrap_right() == RawInt::new(1),
+        are_numbers(heap, heap),
+        is_written(heap, &row, b"\x02\x01hi"),
+        is_row(heap, heap, b"\x02\x01hi", 258, b"hi"),
+    ])
 }

@@ -16,7 +16,7 @@ use wire_buf::io::{ParseBuf, parse_packet_in};
 pub use wire_codec::laws::{
     appended_run, between_packets, chunks_counted, empty_goes_on, encoded_first, equal_limits,
     framed_length, id_after_append, joined_limited_runs, joined_runs, joined_splits, nothing_read,
-    one_delivery, one_limited_delivery, run_goes_on, stream_append, unique_framing,
+    one_delivery, one_limited_delivery, one_run, run_goes_on, stream_append, unique_framing,
 };
 use wire_repr::wire::Wire;
 

@@ -17,8 +17,8 @@ pub use mysql_wire::io::{
 pub use mysql_wire::laws::{
     appended_run, between_packets, chunks_counted, empty_goes_on, encoded_first, equal_limits,
     framed_length, id_after_append, joined_limited_runs, joined_runs, joined_splits, nothing_read,
-    one_delivery, one_limited_delivery, packet_back, run_goes_on, stream_append, unique_framing,
-    values_come_back,
+    one_delivery, one_limited_delivery, one_run, packet_back, run_goes_on, stream_append,
+    unique_framing, values_come_back,
 };
 pub use mysql_wire::misc::raw::{
     Both, Const, Either, RawBytes, RawConst, RawFlags, RawInt, RawSeq, Skip, Slice,

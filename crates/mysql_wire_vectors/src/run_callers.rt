@@ -5,12 +5,13 @@ use mysql_wire::proto::codec::error::PacketCodecError;
 use mysql_wire_examples::again::deliver_again;
 use mysql_wire_examples::callers::{exchange, read_packets};
 use mysql_wire_examples::connection::Connection;
-use refusing::Refusing;
+use refusing::{NEVER, Refusing};
 use std::alloc::{Allocator, Global};
 use std::io;
 use std::io::Read;
 use std::test::Fail;
-use test_support::facts::ensure;
+use test_support::facts::{ensure, no_row};
+use test_support::fixture::Heap;
 use test_support::receiver::{Receiver, Run, are_packets};
 use test_support::told::Told;
 
@@ -59,12 +60,14 @@ fn is_exchanged(alloc: Global, answer: &[&[u8]], wanted: Wanted) -> bool {
 
 #[test]
 fn a_command_is_answered(rt: HostRuntime) -> Result<(), Fail> {
-    for (i, (answer, wanted)) in EXCHANGES.iter().enumerate() {
-        if !is_exchanged(rt.alloc(), answer, *wanted) {
-            return Err(Fail::new(format_args!("exchange {i}")));
+    let mut wrong = None;
+    for i in 0..EXCHANGES.len() {
+        let (answer, wanted) = EXCHANGES[i];
+        if !is_exchanged(rt.alloc(), answer, wanted) {
+            wrong = Some(i);
         }
     }
-    Ok(())
+    no_row(wrong)
 }
 
 // What a server answers to these bytes under a limit of 9, in front of a fault if there is one.
@@ -178,19 +181,22 @@ const STREAMS: [(&[u8], bool, Wanted); 6] = [
     (b"\x02\0\0\0ab", true, Wanted::Io),
 ];
 
+fn is_read(alloc: Global, bytes: &'static [u8], fails: bool, wanted: Wanted) -> bool {
+    let mut reader = Bytewise { left: bytes, fails };
+    let answer = read_packets(alloc, 2, &mut reader);
+    is_wanted(&answer, wanted)
+}
+
 #[test]
 fn packets_are_read_to_the_end(rt: HostRuntime) -> Result<(), Fail> {
-    for (i, (bytes, fails, wanted)) in STREAMS.iter().enumerate() {
-        let mut reader = Bytewise {
-            left: bytes,
-            fails: *fails,
-        };
-        let answer = read_packets(rt.alloc(), 2, &mut reader);
-        if !is_wanted(&answer, *wanted) {
-            return Err(Fail::new(format_args!("stream {i}")));
+    let mut wrong = None;
+    for i in 0..STREAMS.len() {
+        let (bytes, fails, wanted) = STREAMS[i];
+        if !is_read(rt.alloc(), bytes, fails, wanted) {
+            wrong = Some(i);
         }
     }
-    Ok(())
+    no_row(wrong)
 }
 
 // Two packets and the front of a third.
@@ -207,27 +213,34 @@ fn deliver_two<A: Allocator + Copy>(to: &mut Receiver<A>, again: usize) -> Optio
 
 // Whether all is delivered where this request for memory is refused, and may be again; and whether
 // it was refused. None where the run stops though it may go on.
-fn is_delivered(alloc: Global, nth: u64, again: usize) -> Option<bool> {
-    let heap = Refusing::new(alloc, nth);
-    let mut to = Receiver::new(&heap, 9);
+fn is_delivered<A: Allocator + Copy>(
+    heap: &Heap,
+    alloc: A,
+    nth: u64,
+    again: usize,
+) -> Option<bool> {
+    heap.refuse(nth);
+    let mut to = Receiver::new(alloc, 9);
     let (count, told) = deliver_two(&mut to, again)?;
     let is_whole = (count == 3) & (told == Told::Waits) & to.shows(&[b"123", b"\xff"], b"\0", b"");
     let is_stopped = (again == 0) & (told == Told::OutOfMemory) & to.stands();
     (is_whole | (is_stopped & heap.has_refused())).then_some(heap.has_refused())
 }
 
-#[test]
-fn a_refused_run_goes_on(rt: HostRuntime) -> Result<(), Fail> {
-    let mut all = true;
+fn goes_on<A: Allocator + Copy>(heap: &Heap, alloc: A) -> bool {
+    let mut all = is_delivered(heap, alloc, 20, 0) == Some(false);
     for nth in 0..4 {
-        all &= is_delivered(rt.alloc(), nth, 1) == Some(true);
-        all &= is_delivered(rt.alloc(), nth, 0) == Some(true);
+        all &= is_delivered(heap, alloc, nth, 1) == Some(true);
+        all &= is_delivered(heap, alloc, nth, 0) == Some(true);
     }
     for nth in 4..20 {
-        all &= is_delivered(rt.alloc(), nth, 1).is_some();
+        all &= is_delivered(heap, alloc, nth, 1).is_some();
     }
-    ensure(
-        all & (is_delivered(rt.alloc(), 20, 0) == Some(false)),
-        "a run",
-    )
+    all
+}
+
+#[test]
+fn a_refused_run_goes_on(rt: HostRuntime) -> Result<(), Fail> {
+    let heap = &Refusing::new(rt.alloc(), NEVER);
+    ensure(goes_on(heap, heap), "a run")
 }

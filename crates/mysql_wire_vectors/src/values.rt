@@ -3,16 +3,17 @@
 use bytes::BytesMut;
 use mysql_wire::misc::raw::Both;
 use mysql_wire::misc::raw::bytes::{BytesRepr, EofBytes, RawBytes, U8Bytes};
-use mysql_wire::misc::raw::int::{LeU16, LenEnc, RawInt};
+use mysql_wire::misc::raw::int::{IntRepr, LeU16, LenEnc, RawInt};
 use mysql_wire::proto::codec::error::PacketCodecError;
 use mysql_wire::proto::codec::{PacketCodec, encode_value, parse_packet};
 use mysql_wire_examples::values::{TransferError, send_and_read};
 use refusing::{NEVER, Refusing};
-use std::alloc::Global;
+use std::alloc::{Allocator, Global};
 use std::borrow::CowSlice;
 use std::test::Fail;
-use test_support::facts::ensure;
+use test_support::facts::{all_hold, ensure};
 use test_support::fields::last;
+use test_support::fixture::Heap;
 
 // A number, a text behind its length, and a text that takes the rest.
 type Row<'a> = Both<RawInt<LeU16>, Both<RawBytes<'a, LenEnc>, RawBytes<'a, EofBytes>>>;
@@ -34,6 +35,35 @@ fn is_borrowed<T: BytesRepr>(text: &RawBytes<'_, T>, bytes: &[u8]) -> bool {
     matches!(text.0, CowSlice::Borrowed(_)) & (text.0.as_slice() == bytes)
 }
 
+// Whether a row is read from its payload, and borrows from it, and nothing is left.
+fn is_row(alloc: Global, payload: &[u8], number: u16, first: &[u8], second: &[u8]) -> bool {
+    match parse_packet::<Row<'_>>(alloc, ((), ((), ())), payload) {
+        Ok((back, rest)) => {
+            let all = (back.0.0 == number) & rest.is_empty();
+            all & is_borrowed(&back.1.0, first) & is_borrowed(&back.1.1, second)
+        }
+        Err(_) => false,
+    }
+}
+
+// The same of a number and a text, with these bytes left.
+fn is_pair<'de, T, U>(
+    alloc: Global,
+    payload: &'de [u8],
+    number: T::Primitive,
+    text: &[u8],
+    left: &[u8],
+) -> bool
+where
+    T: 'de + IntRepr<Primitive: PartialEq>,
+    U: 'de + BytesRepr<Ctx = ()>,
+{
+    match parse_packet::<Both<RawInt<T>, RawBytes<'de, U>>>(alloc, ((), ()), payload) {
+        Ok((back, rest)) => { (back.0.0 == number) & is_borrowed(&back.1, text) & (rest.0 == left) }
+        Err(_) => false,
+    }
+}
+
 #[test]
 fn a_row_comes_back_borrowed(rt: HostRuntime) -> Result<(), Fail> {
     let mut codec = PacketCodec::default();
@@ -47,15 +77,7 @@ fn a_row_comes_back_borrowed(rt: HostRuntime) -> Result<(), Fail> {
     );
     let mut all = encode_value(&mut codec, &row, &mut wire).is_ok();
     all &= wire.as_slice() == b"\x05\0\0\0\x01\0\x01ab".as_slice();
-    let Ok((back, rest)) = parse_packet::<Row<'_>>(
-        rt.alloc(),
-        ((), ((), ())),
-        last(wire.as_slice(), 5),
-    ) else {
-        return Err(Fail::new("a row"));
-    };
-    all &= (back.0.0 == 1) & rest.is_empty();
-    all &= is_borrowed(&back.1.0, b"a") & is_borrowed(&back.1.1, b"b");
+    all &= is_row(rt.alloc(), last(wire.as_slice(), 5), 1, b"a", b"b");
     ensure(all, "a row")
 }
 
@@ -67,44 +89,26 @@ fn a_number_and_a_text_are_one_packet(rt: HostRuntime) -> Result<(), Fail> {
         RawInt::new(258),
         RawBytes::new(CowSlice::Borrowed(b"hi")),
     );
-    let mut all = encode_value(&mut codec, &pair, &mut wire).is_ok();
-    all &= wire.as_slice() == b"\x04\0\0\0\x02\x01hi".as_slice();
-    let Ok((back, rest)) = parse_packet::<Both<RawInt<LeU16>, RawBytes<'_, EofBytes>>>(
-        rt.alloc(),
-        ((), ()),
-        last(wire.as_slice(), 4),
-    ) else {
-        return Err(Fail::new("a number and a text"));
-    };
-    all &= (back.0.0 == 258) & is_borrowed(&back.1, b"hi") & rest.is_empty();
-    ensure(all, "a number and a text")
-}
-
-#[test]
-fn what_follows_a_value_is_left(rt: HostRuntime) -> Result<(), Fail> {
-    let payload = b"\x07\x01a\xff".as_slice();
-    let Ok((back, rest)) = parse_packet::<Both<RawInt<u8>, RawBytes<'_, U8Bytes>>>(
-        rt.alloc(),
-        ((), ()),
-        payload,
-    ) else {
-        return Err(Fail::new("a number and a text"));
-    };
-    let all = (back.0.0 == 7) & is_borrowed(&back.1, b"a") & (rest.0 == b"\xff".as_slice());
-    ensure(all, "a number and a text")
+    let is_put = encode_value(&mut codec, &pair, &mut wire).is_ok();
+    all_hold(&[
+        is_put & (wire.as_slice() == b"\x04\0\0\0\x02\x01hi".as_slice()),
+        is_pair::<LeU16, EofBytes>(rt.alloc(), last(wire.as_slice(), 4), 258, b"hi", b""),
+        // What follows a value is left.
+        is_pair::<u8, U8Bytes>(rt.alloc(), b"\x07\x01a\xff", 7, b"a", b"\xff"),
+    ])
 }
 
 // Whether two bytes are refused under a limit of one, or where request number `nth` is, and the
 // buffer and the id stay.
-fn is_unchanged(alloc: Global, limit: usize, nth: u64) -> bool {
-    let heap = Refusing::new(alloc, NEVER);
+fn is_unchanged<A: Allocator + Copy>(heap: &Heap, alloc: A, limit: usize, nth: u64) -> bool {
+    heap.refuse(NEVER);
     let mut codec = PacketCodec::default();
-    let mut wire = BytesMut::new(&heap);
+    let mut wire = BytesMut::new(alloc);
+    let value = RawInt::<LeU16>::new(0x0302);
     let mut all = encode_value(&mut codec, &RawInt::<u8>::new(1), &mut wire).is_ok();
     codec.max_allowed_packet = limit;
     heap.refuse(nth);
-    let answer = encode_value(&mut codec, &RawInt::<LeU16>::new(0x0302), &mut wire);
-    all &= match answer {
+    all &= match encode_value(&mut codec, &value, &mut wire) {
         Err(PacketCodecError::PacketTooLarge) => limit == 1,
         Err(PacketCodecError::OutOfMemory) => heap.has_refused(),
         _ => false,
@@ -112,16 +116,23 @@ fn is_unchanged(alloc: Global, limit: usize, nth: u64) -> bool {
     all &= wire.as_slice() == b"\x01\0\0\0\x01".as_slice();
     heap.refuse(NEVER);
     codec.max_allowed_packet = 2;
-    all &= encode_value(&mut codec, &RawInt::<LeU16>::new(0x0302), &mut wire).is_ok();
+    all &= encode_value(&mut codec, &value, &mut wire).is_ok();
     all & (wire.as_slice() == b"\x01\0\0\0\x01\x02\0\0\x01\x02\x03".as_slice())
+}
+
+// Too large, or refused the payload's room, or the buffer's.
+fn are_unchanged<A: Allocator + Copy>(heap: &Heap, alloc: A) -> [bool; 3] {
+    [
+        is_unchanged(heap, alloc, 1, NEVER),
+        is_unchanged(heap, alloc, 2, 0),
+        is_unchanged(heap, alloc, 2, 1),
+    ]
 }
 
 #[test]
 fn a_refused_value_changes_nothing(rt: HostRuntime) -> Result<(), Fail> {
-    let mut all = is_unchanged(rt.alloc(), 1, NEVER);
-    // The payload's room, and the buffer's.
-    all &= is_unchanged(rt.alloc(), 2, 0) & is_unchanged(rt.alloc(), 2, 1);
-    ensure(all, "a value that is refused")
+    let heap = &Refusing::new(rt.alloc(), NEVER);
+    all_hold(&are_unchanged(heap, heap))
 }
 
 // Whether three texts come back over bytes that are cut there.
