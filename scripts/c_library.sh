@@ -3,30 +3,11 @@
 # that there is, plainly and under the address and undefined behaviour sanitizers. It prints a line
 # for each check. The last line is 'N passed, M failed'.
 set -u
-folder=$(cd "$(dirname "$0")/.." && pwd)/crates/mysql_wire_c
-archive=$folder/out/libmysql_wire_c.a
-kit=$(dirname "$(rt doc)")
-passed=0
-failed=0
+top=$(cd "$(dirname "$0")/.." && pwd)
+source "$top/scripts/checks.sh"
+source "$top/scripts/c_archive.sh"
 work=$(mktemp -d)
 trap 'rm -rf "$work"' EXIT
-
-# pass NAME, fail NAME: a check, and how it went.
-pass() {
-    passed=$((passed + 1))
-    echo "ok $1"
-}
-
-fail() {
-    failed=$((failed + 1))
-    echo "FAILED $1"
-}
-
-finish() {
-    echo "$passed passed, $failed failed"
-    [ "$failed" -eq 0 ]
-    exit
-}
 
 # run COMPILER MODE OPTIONS..: compiles the tests and runs them, each test a check.
 run() {
@@ -81,7 +62,7 @@ if [ "${#compilers[@]}" -eq 0 ]; then
 fi
 
 if [ ! -f "$archive" ] || [ -n "$(find "$folder/src" -newer "$archive")" ]; then
-    if ! (cd "$folder" && rt lib) > "$work/log" 2>&1; then
+    if ! (build_archive) > "$work/log" 2>&1; then
         tail "$work/log"
         fail 'the library is built'
         finish

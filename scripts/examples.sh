@@ -3,36 +3,13 @@
 # print of small streams. It prints a line for each check; the last line is 'N passed, M failed'.
 set -u
 top=$(cd "$(dirname "$0")/.." && pwd)
-folder=$top/crates/mysql_wire_c
-archive=$folder/out/libmysql_wire_c.a
-kit=$(dirname "$(rt doc)")
+source "$top/scripts/checks.sh"
+source "$top/scripts/c_archive.sh"
 work=$(mktemp -d)
 trap 'rm -rf "$work"' EXIT
-passed=0
-failed=0
-
-# check NAME COMMAND..: a check, which passes where the command does.
-check() {
-    local name=$1
-    shift
-    if "$@"; then
-        passed=$((passed + 1))
-        echo "ok $name"
-    else
-        failed=$((failed + 1))
-        echo "FAILED $name"
-        return 1
-    fi
-}
-
-finish() {
-    echo "$passed passed, $failed failed"
-    [ "$failed" -eq 0 ]
-    exit
-}
 
 build_library() {
-    (cd "$folder" && rt lib) > "$work/log" 2>&1 || { tail "$work/log"; return 1; }
+    (build_archive) > "$work/log" 2>&1 || { tail "$work/log"; return 1; }
 }
 
 build_dump() {

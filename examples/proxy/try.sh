@@ -10,31 +10,16 @@ set -u
 PATH=$PATH:/usr/sbin
 top=$(cd "$(dirname "$0")/../.." && pwd)
 work=$(mktemp -d)
-passed=0
-failed=0
+source "$top/scripts/checks.sh"
 started=()
 
-finish() {
+# Stops what was started, and ends.
+end() {
     for id in "${started[@]}"; do
         kill "$id" 2> "$work/errors" && wait "$id" 2> "$work/errors"
     done
     rm -rf "$work"
-    echo "$passed passed, $failed failed"
-    [ "$failed" -eq 0 ]
-    exit
-}
-
-# check NAME COMMAND..: a check, which passes where the command does.
-check() {
-    local name=$1
-    shift
-    if "$@"; then
-        passed=$((passed + 1))
-        echo "ok $name"
-    else
-        failed=$((failed + 1))
-        echo "FAILED $name"
-    fi
+    finish
 }
 
 # first_of NAME..: the first of these programs that is there.
@@ -197,18 +182,18 @@ server=$(first_of mariadbd mysqld)
 client=$(first_of mariadb mysql)
 if [ -z "$server" ] || [ -z "$client" ]; then
     echo 'there is no MariaDB or MySQL server and client here'
-    finish
+    end
 fi
 kit=$(dirname "$(rt doc)")
 if ! rustc --edition 2021 -O -D warnings -o "$work/proxy" "$top/examples/proxy/main.rs" \
     -L "$top/crates/mysql_wire_c/out" -l static=mysql_wire_c -L "$kit/c" -l static=libc_c; then
     check 'the proxy is built' false
-    finish
+    end
 fi
 if ! start_server; then
     tail "$work/setup.log" "$work/server.log"
     check 'the server starts' false
-    finish
+    end
 fi
 as_root "CREATE DATABASE probe; CREATE USER probe@'127.0.0.1' IDENTIFIED BY 'sesame';
     GRANT ALL ON *.* TO probe@'127.0.0.1'; CREATE USER plain@'127.0.0.1';
@@ -292,4 +277,4 @@ check 'the log has the prepared statements' logged proxy '  statement .*: 2 para
 check 'the log has the errors' logged proxy '  error 1064'
 check 'the log has what was too large' logged narrow 'client: .*limit'
 [ -n "${KEEP_LOG:-}" ] && cat "$work/proxy.log" > "$KEEP_LOG"
-finish
+end

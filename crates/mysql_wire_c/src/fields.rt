@@ -1,7 +1,7 @@
 //! Numbers and texts at a place in bytes. Each call moves the place past what it read or wrote
 //! where it answers `OK`, and changes nothing where not.
 
-ghost use Rattle.std.specs.Prelude.{◌≡◌, ◌≢◌, ◌⊎◌, ◌+◌, ◌-◌, ◌<◌, ◌≤◌, [], ◌∷◌, ◌++◌, length, take, drop, IsTrue, ◌↔◌, MatchOption};
+ghost use Rattle.std.specs.Prelude.{◌≡◌, ◌⊎◌, ◌+◌, ◌-◌, ◌<◌, ◌≤◌, [], ◌∷◌, ◌++◌, length, take, drop, IsTrue, ◌↔◌, MatchOption};
 ghost use Rattle.std.specs.List.{before_first, after_first};
 ghost use Rattle.mysql_wire.specs.Numbers.{le_bytes, le_number};
 ghost use Rattle.mysql_wire.specs.NullText.{is_zero};
@@ -58,7 +58,7 @@ pub fn read_int(bytes: &[u8], at: &mut usize, width: usize, value: &mut u64) -> 
     ensures read { result ≡ OK → (value.new ≡ le_number (take width (drop at.old bytes.now)))
         × (at.new ≡ at.old + width) × (at.new ≤ length bytes.now) }
     ensures missing { result ≡ MISSING_BYTES → length bytes.now < at.old + width }
-    ensures width { (1 ≤ width) × (width ≤ 8) → result ≢ NOT_A_NUMBER }
+    ensures width { result ≡ NOT_A_NUMBER ↔ (width < 1) ⊎ (8 < width) }
     ensures refused { (result ≡ OK) ⊎ ((at.new ≡ at.old) × (value.new ≡ value.old)) }
     ensures answers { (result ≡ OK) ⊎ (result ≡ MISSING_BYTES) ⊎ (result ≡ NOT_A_NUMBER) }
 {
@@ -209,7 +209,7 @@ pub fn write_int(room: &mut [u8], at: &mut usize, width: usize, value: u64) -> i
     ensures written { result ≡ OK
         → WritesAt room.old at.old (le_bytes width value) room.new at.new }
     ensures small { result ≡ ROOM_TOO_SMALL → length room.old < at.old + width }
-    ensures width { (1 ≤ width) × (width ≤ 8) → result ≢ NOT_A_NUMBER }
+    ensures width { result ≡ NOT_A_NUMBER ↔ (width < 1) ⊎ (8 < width) }
     ensures refused { (result ≡ OK) ⊎ ((at.new ≡ at.old) × (room.new ≡ room.old)) }
     ensures answers { (result ≡ OK) ⊎ (result ≡ ROOM_TOO_SMALL) ⊎ (result ≡ NOT_A_NUMBER) }
 {

@@ -3,7 +3,7 @@
 //! `include/mysql_wire.h` has the same calls for C.
 #![tactic(auto)]
 
-ghost use Rattle.std.specs.Prelude.{◌≡◌, ◌≢◌, ◌⊎◌, ◌+◌, ◌≤◌, ◌<◌, [], ◌∷◌, ◌++◌, IsSome, IfSome, MatchOption, Some, None, is_some, length, take, drop, min};
+ghost use Rattle.std.specs.Prelude.{◌≡◌, ◌↔◌, ◌⊎◌, ◌+◌, ◌≤◌, ◌<◌, [], ◌∷◌, ◌++◌, IsSome, IfSome, MatchOption, Some, None, is_some, length, take, drop, min};
 ghost use Rattle.std.specs.List.{before_first};
 ghost use Rattle.mysql_wire.specs.Numbers.{le_bytes, le_number};
 ghost use Rattle.mysql_wire.specs.NullText.{is_zero};
@@ -262,7 +262,7 @@ pub extern "C" fn mysql_wire_read_int(
     ensures read { result ≡ OK → (value.new ≡ le_number (take width (drop at.old bytes.now)))
         × (at.new ≡ at.old + width) × (at.new ≤ length bytes.now) }
     ensures missing { result ≡ MISSING_BYTES → length bytes.now < at.old + width }
-    ensures width { (1 ≤ width) × (width ≤ 8) → result ≢ NOT_A_NUMBER }
+    ensures width { result ≡ NOT_A_NUMBER ↔ (width < 1) ⊎ (8 < width) }
     ensures refused { (result ≡ OK) ⊎ ((at.new ≡ at.old) × (value.new ≡ value.old)) }
     ensures answers { (result ≡ OK) ⊎ (result ≡ MISSING_BYTES) ⊎ (result ≡ NOT_A_NUMBER) }
 {
@@ -332,7 +332,7 @@ pub extern "C" fn mysql_wire_write_int(
     ensures written { result ≡ OK
         → WritesAt room.old at.old (le_bytes width value) room.new at.new }
     ensures small { result ≡ ROOM_TOO_SMALL → length room.old < at.old + width }
-    ensures width { (1 ≤ width) × (width ≤ 8) → result ≢ NOT_A_NUMBER }
+    ensures width { result ≡ NOT_A_NUMBER ↔ (width < 1) ⊎ (8 < width) }
     ensures refused { (result ≡ OK) ⊎ ((at.new ≡ at.old) × (room.new ≡ room.old)) }
     ensures answers { (result ≡ OK) ⊎ (result ≡ ROOM_TOO_SMALL) ⊎ (result ≡ NOT_A_NUMBER) }
 {
