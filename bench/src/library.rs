@@ -28,7 +28,7 @@ unsafe extern "C" {
 }
 
 /// A payload framed `count` times a repetition: form 0 by `packet_to_chunks`, form 1 by
-/// `PacketCodec::encode`.
+/// `PacketCodec::encode`, form 2 by `encode`, and all copied once into a vector.
 pub fn frame(bytes: &[u8], count: u64, form: u64, reps: u64) -> u64 {
     unsafe { mw_frame(bytes.as_ptr(), bytes.len(), count, form, reps) }
 }

@@ -5,7 +5,6 @@ use crate::inputs::{Numbers, framing, size_name};
 use crate::library;
 use crate::packets::{count_for, stream_of};
 use crate::timing::Row;
-use std::hint::black_box;
 
 const SIZES: [usize; 4] = [16, 4 << 10, 1 << 20, 20 << 20];
 
@@ -33,35 +32,19 @@ fn write_row(rows: &mut Vec<Row>, size: usize) {
     let payload = Numbers::new(size as u64 * 7 + 1).bytes(size);
     let count = count_for(size);
     let mut framed = Vec::new();
-    frame_all(&payload, count, &mut framed);
-    let want = summary(&framed);
-    let (copied, mut out) = (payload.clone(), Vec::with_capacity(framed.len()));
+    let mut id = 0;
+    for _ in 0..count {
+        id = framing(id, &payload, &mut framed);
+    }
+    let copied = payload.clone();
     rows.push(Row {
-        name: format!("queue and write {}, of framing and copy", size_name(size)),
+        name: format!("queue and write {}, of encode and copy", size_name(size)),
         items: count as u64,
         bytes: (size * count) as u64,
         call: Box::new(move |reps| library::write(&payload, count as u64, reps)),
-        want,
-        copy: Box::new(move |reps| {
-            let mut sum = 0u64;
-            for _ in 0..reps {
-                frame_all(&copied, count, &mut framed);
-                out.clear();
-                out.extend_from_slice(black_box(&framed));
-                sum = sum.wrapping_add(out.len() as u64);
-            }
-            sum
-        }),
+        want: summary(&framed),
+        copy: Box::new(move |reps| library::frame(&copied, count as u64, 2, reps)),
     });
-}
-
-// A payload framed so often, from the id 0, by Rust.
-fn frame_all(payload: &[u8], count: usize, framed: &mut Vec<u8>) {
-    framed.clear();
-    let mut id = 0;
-    for _ in 0..count {
-        id = framing(id, payload, framed);
-    }
 }
 
 pub fn rows(rows: &mut Vec<Row>) {

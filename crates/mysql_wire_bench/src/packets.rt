@@ -34,19 +34,34 @@ fn encode(
     Ok(summary(dst.as_slice()))
 }
 
+// The same, and all of it copied once into a vector.
+fn encode_and_copy(
+    codec: &mut PacketCodec,
+    payload: &[u8],
+    count: u64,
+    dst: &mut BytesMut,
+    out: &mut Vec<u8>,
+) -> Result<u64, PacketCodecError> {
+    encode(codec, payload, count, dst)?;
+    out.clear();
+    out.extend_from_slice(dst.as_slice())?;
+    Ok(summary(out.as_slice()))
+}
+
 /// `bytes` framed `count` times a repetition into one buffer: form 0 by `packet_to_chunks`, form 1
-/// by `encode`.
+/// by `encode`, form 2 by `encode`, and all copied once into a vector.
 #[unsafe(no_mangle)]
 pub extern "C" fn mw_frame(alloc: Global, bytes: &[u8], count: u64, form: u64, reps: u64) -> u64 {
     let mut dst = BytesMut::new(alloc);
+    let mut out = Vec::new(alloc);
     let mut codec = PacketCodec::default();
     codec.max_allowed_packet = bytes.len();
     let mut sum = 0u64;
     for _ in 0..reps {
-        let framed = if form == 0 {
-            frame(bytes, count, &mut dst).ok()
-        } else {
-            encode(&mut codec, bytes, count, &mut dst).ok()
+        let framed = match form {
+            0 => frame(bytes, count, &mut dst).ok(),
+            1 => encode(&mut codec, bytes, count, &mut dst).ok(),
+            _ => encode_and_copy(&mut codec, bytes, count, &mut dst, &mut out).ok(),
         };
         match framed {
             Some(value) => sum = sum.wrapping_add(value),
