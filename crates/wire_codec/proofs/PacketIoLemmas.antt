@@ -307,3 +307,10 @@ smaller_left before after more q W src piece run s some is =
     let h = blocks_whole (length before.held) run.0.splits.held_whole in
     let few = waiting_few before.held (input_of before ++ more) (first_id before) before.limit after.held after.unread n run.0 (omega arith) in
     omega arith
+
+-- at the end of the input the codec stands where it did
+pub fits_at_end : (lost : Bool) (limit now id : ℕ) (header : Option (ℕ × ℕ)) (src piece held more kept : List ℕ) → now ≡ limit → more ≡ src ++ piece → kept ≡ held
+    → StandsAt limit header src held → FitsAt lost (record { limit = now; id = id; header = header; unread = more; held = kept })
+fits_at_end lost limit now id header src piece held more kept n m k stands =
+    inr (subst (λ (z : ℕ). StandsAt z header more kept) (sym n) (subst (λ (z : List ℕ). StandsAt limit header z kept) (sym m)
+    (subst (λ (z : List ℕ). StandsAt limit header (src ++ piece) z) (sym k) (stands_append limit header src piece held stands))))

@@ -1,7 +1,7 @@
 -- Runs of decodes, joined.
-use Rattle.std.proofs.Common.{◌≡◌, ℕ, ◌+◌, ◌<◌, ◌≤◌, List, [], ◌∷◌, ◌++◌, length, take, drop, refl, sym, ap, ap₂, ◌∙◌, subst, arith, append_assoc, append-nil, length-append, length-drop, inl, inr, ◌⊎◌, slice_index, Option, Some, None, Result, Ok, Err, false}
+use Rattle.std.proofs.Common.{◌≡◌, ℕ, ◌+◌, ◌<◌, ◌≤◌, List, [], ◌∷◌, ◌++◌, length, take, drop, refl, sym, ap, ap₂, ◌∙◌, subst, arith, append_assoc, append-nil, length-append, length-drop, inl, inr, ◌⊎◌, slice_index, Option, Some, None, Result, Ok, Err, false, ◌≢◌}
 use Rattle.std.proofs.lemmas.List.Elements.{All-nil}
-use Rattle.std.proofs.lemmas.List.{take-append-le, drop-append-le, get_or_append_left, take_more, flat_map_more, take-append-drop}
+use Rattle.std.proofs.lemmas.List.{take-append-le, drop-append-le, get_or_append_left, take_more, flat_map_more, take-append-drop, take_all, drop_all}
 use Rattle.std.proofs.Common.{Bor, get_or}
 use Rattle.wire_buf.specs.Numbers.{le_number}
 use Rattle.wire_codec.specs.declared.codec.error.PacketCodecError.{PacketCodecError}
@@ -12,7 +12,7 @@ use Rattle.wire_codec.specs.Codec.{Stands, StandsAt, CodecState, open_id, first_
 use Rattle.wire_codec.specs.Runs.{RunsFrom, RunsTo, LeavesFrom, joined}
 use Rattle.wire_codec.specs.Laws.{appended, empty_state}
 use Rattle.wire_codec.proofs.DeliveryLemmas.{stream-append, id_after-append, within_append, splits_join, delivers_join}
-use Rattle.wire_codec.proofs.CodecLemmas.{open_at_id, open_small}
+use Rattle.wire_codec.proofs.CodecLemmas.{open_at_id, open_small, stands_without}
 
 -- nothing unfinished
 pub front-nil : (s : ℕ) → front s [] ≡ []
@@ -157,6 +157,24 @@ runs_over PacketsOutOfSync d S s L ps id header src x dst r =
     )
 runs_over OutOfMemory d S s L ps id header src x dst r = splits_extend d S s L ps dst src x r.0
 runs_over (Io e) d S s L ps id header src x dst r = r
+
+-- after everything but a lost sync the codec stands
+pub runs_stand : (answer : Result (Unit {0}) PacketCodecError) (first : ℕ) (input held : List ℕ) (limit now : ℕ) (gained : List (List ℕ)) (id : ℕ) (header : Option (ℕ × ℕ)) (src dst : List ℕ)
+    → now ≡ limit → RunsFrom first input held limit answer gained id header src dst → answer ≢ Err PacketsOutOfSync → StandsAt now header src dst
+runs_stand (Ok u) first input held limit now gained id header src dst n r other = subst (λ (z : ℕ). StandsAt z header src dst) (sym n) r.2
+runs_stand (Err PacketTooLarge) first input held limit now gained id header src dst n r other = stands_without now src dst header r.0.splits.unfinished_whole r.2
+runs_stand (Err PacketsOutOfSync) first input held limit now gained id header src dst n r other = absurd (other refl)
+runs_stand (Err OutOfMemory) first input held limit now gained id header src dst n r other = subst (λ (z : ℕ). StandsAt z header src dst) (sym n) r.2
+runs_stand (Err (Io e)) first input held limit now gained id header src dst n r other = absurd r
+
+-- where all pieces were appended, none are left
+pub runs_all : (held input : List ℕ) (first limit : ℕ) (gained : List (List ℕ)) (src dst : List ℕ) (pieces : List (Bor (List ℕ))) (n : ℕ) → length pieces ≤ n
+    → Delivers held (input ++ joined (take n pieces)) first limit gained Waiting dst src
+    → LeavesFrom first (input ++ joined pieces) held limit (Ok tt) gained src (joined (drop n pieces)) dst
+runs_all held input first limit gained src dst pieces n all d =
+    let none : src ++ joined (drop n pieces) ≡ src = ap (λ (z : List (Bor (List ℕ))). src ++ joined z) (drop_all n pieces all) ∙ append-nil src in
+    subst (λ (z : List (Bor (List ℕ))). Delivers held (input ++ joined z) first limit gained Waiting dst (src ++ joined (drop n pieces))) (take_all n pieces all)
+    (subst (λ (z : List ℕ). Delivers held (input ++ joined (take n pieces)) first limit gained Waiting dst z) (sym none) d)
 
 -- the open id of a codec that waits
 pub open_waiting : (s : ℕ) (ps : List (List ℕ)) (id : ℕ) (dst : List ℕ) → s < 256 → id ≡ id_at (id_after s ps) dst → open_id id dst ≡ id_after s ps

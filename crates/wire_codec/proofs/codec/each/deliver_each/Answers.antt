@@ -1,4 +1,4 @@
-use Rattle.std.proofs.Common.{◌≡◌, ℕ, ◌+◌, List, [], ◌++◌, take, drop, get_or, sym, subst, ap, ◌∙◌, append-nil, Result, Ok, Err, Option, below_more}
+use Rattle.std.proofs.Common.{◌≡◌, ℕ, ◌+◌, List, [], ◌++◌, take, drop, get_or, sym, subst, ap, ◌∙◌, append-nil, Result, Ok, Err, Option, below_more, refl, arith, length, ◌≤◌}
 use Rattle.wire_codec.specs.declared.codec.error.PacketCodecError.{PacketCodecError}
 use Rattle.wire_codec.specs.declared.codec.error.PacketCodecError.TheVariants.{OutOfMemory}
 use Rattle.wire_codec.specs.Framing.{front, id_after}
@@ -6,7 +6,7 @@ use Rattle.wire_codec.specs.Codec.{open_id, header_of, expected_id, StandsAt}
 use Rattle.wire_codec.specs.Runs.{joined, RunsFrom, LeavesFrom}
 use Rattle.wire_codec.proofs.VisitLemmas.{FoldsTo-append}
 use Rattle.wire_codec.proofs.CodecLemmas.{open_small}
-use Rattle.wire_codec.proofs.RunLemmas.{stands_append, runs_join, runs_over, open_waiting, stream_more, stream_rest}
+use Rattle.wire_codec.proofs.RunLemmas.{stands_append, runs_join, runs_over, open_waiting, stream_more, stream_rest, runs_all, runs_stand}
 use Rattle.wire_codec.proofs.codec.each.deliver_each.Goals as goal
 
 -- what a run does, under the whole run's open id, limit and input
@@ -158,3 +158,48 @@ loop-piece-preserved g c =
       waits = below_more _ _ inv.waits (gained, dst0, src0, run.0);
       gained = (gained ++ more.0, out, all);
     }
+
+pub loop-piece-init : goal.loop-piece-init
+loop-piece-init g c =
+    let held = c.args.dst.now.items in
+    let first = open_id (expected_id c.args.codec.now) held in
+    let input = front first held ++ c.args.src.now.items in
+    let limit = c.args.codec.now.max_allowed_packet in
+    let id = expected_id c.visit_all.new.codec in
+    let header = header_of c.visit_all.new.codec in
+    let src = c.visit_all.new.src.items in
+    let dst = c.visit_all.new.dst.items in
+    let run = c.in-Ok.ensures.runs in
+    record {
+      count = refl;
+      same = c.visit_all.ensures.limit;
+      waits = λ j less. absurd (omega arith);
+      gained = (run.0, run.1, subst (λ (z : List ℕ). RunsFrom first z held limit (Ok tt) run.0 id header src dst) (sym (append-nil input)) run.2);
+    }
+
+pub returns-clause-runs : goal.returns-clause-runs
+returns-clause-runs g c =
+    let held = c.args.dst.now.items in
+    let first = open_id (expected_id c.args.codec.now) held in
+    let input = front first held ++ c.args.src.now.items in
+    let limit = c.args.codec.now.max_allowed_packet in
+    let pieces = c.args.pieces.now in
+    let inv = c.loop-piece.invariant in
+    let run = inv.gained.2 in
+    let all : length pieces ≤ c.loop-piece.count = omega arith in
+    (inv.gained.0, inv.gained.1, run, runs_all held input first limit inv.gained.0 c.loop-piece.src.items c.loop-piece.dst.items pieces c.loop-piece.count all run.0)
+
+pub returns-in-Err-clause-stands : goal.returns-in-Err-clause-stands
+returns-in-Err-clause-stands g c other =
+    let run = c.in-Err.ensures.runs in
+    runs_stand (Err c.in-Err.error) _ _ _ _ _ run.0 _ _ _ _ c.visit_all.ensures.limit run.2 other
+
+pub returns-in-Err-visit_all-clause-stands : goal.returns-in-Err-visit_all-clause-stands
+returns-in-Err-visit_all-clause-stands g c other =
+    let run = c.in-Err-visit_all.ensures.runs in
+    runs_stand (Err c.in-Err-visit_all.error) _ _ _ _ _ run.0 _ _ _ _ c.visit_all-in-loop-piece.ensures.limit run.2 other
+
+pub returns-clause-stands : goal.returns-clause-stands
+returns-clause-stands g c other =
+    let inv = c.loop-piece.invariant in
+    runs_stand (Ok tt) _ _ _ _ _ inv.gained.0 _ _ _ _ inv.same inv.gained.2 (λ e. absurd cc)

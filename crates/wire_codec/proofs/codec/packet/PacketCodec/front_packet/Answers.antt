@@ -41,3 +41,8 @@ returns-clause-decodes g c some stands =
     let room : chunk_len src ≤ length src - 4 = let r = c.if-front-header.false in let l = ap (λ (z : List ℕ). length z) same in omega (arith, r, l, len) in
     front_decodes_at limit (expected_id c.args.self.now) header src c.args.dst.now (omega arith) (rw same at c.in-Some.ensures.spelled)
     (front_there limit (expected_id c.args.self.now) header src c.args.dst.now empty long passes' (sym id ∙ c.if-header-self.false) part room) stands
+
+pub returns-then-header-eq-MAX_PAYLOAD_LEN-clause-there : goal.returns-then-header-eq-MAX_PAYLOAD_LEN-clause-there
+returns-then-header-eq-MAX_PAYLOAD_LEN-clause-there g c =
+    let len : c.in-Some.header.len ≡ chunk_len c.args.src.now.items = c.in-Some.ensures.len ∙ ap (λ (z : List ℕ). chunk_len z) c.as_slice-front.ensures in
+    (λ e. absurd cc, λ there. absurd (let part = there.4 in let full = c.if-header-eq-MAX_PAYLOAD_LEN.true in omega (arith, part, full, len, max_payload_is)))

@@ -23,6 +23,32 @@ returns-in-Err-clause-decodes g c stands =
     (expected_id c.take_chunk.new.self) (header_of c.take_chunk.new.self) c.take_chunk.new.src.items (held c.take_chunk.new.dst)
     inv.2 c.chunks.invariant.same inv.0 (c.in-Err.ensures.takes here)
 
+pub returns-in-Ok-Whole-clause-decodes : goal.returns-in-Ok-Whole-clause-decodes
+returns-in-Ok-Whole-clause-decodes g c stands =
+    let held = g.T.PacketDst.held in
+    let first = open_id (expected_id c.args.self.now) (held c.args.dst.now) in
+    let limit = c.args.self.now.max_allowed_packet in
+    let inv = c.chunks.invariant.runs stands in
+    let here : StandsAt c.chunks.self.max_allowed_packet (header_of c.chunks.self) c.chunks.src.items (held c.chunks.dst) =
+    subst (λ (z : ℕ). StandsAt z (header_of c.chunks.self) c.chunks.src.items (held c.chunks.dst)) (sym c.chunks.invariant.same) inv.1 in
+    takes_later (Ok Whole) (open_id (expected_id c.chunks.self) (held c.chunks.dst)) first c.chunks.self.max_allowed_packet limit
+    (held c.args.dst.now) (front first (held c.args.dst.now) ++ c.args.src.now.items) (held c.chunks.dst) c.chunks.src.items
+    (expected_id c.take_chunk.new.self) (header_of c.take_chunk.new.self) c.take_chunk.new.src.items (held c.take_chunk.new.dst)
+    inv.2 c.chunks.invariant.same inv.0 ((rw c.in-Ok-Whole.field-0-is at c.in-Ok-Whole.ensures.takes) here)
+
+pub returns-in-Ok-Starved-clause-decodes : goal.returns-in-Ok-Starved-clause-decodes
+returns-in-Ok-Starved-clause-decodes g c stands =
+    let held = g.T.PacketDst.held in
+    let first = open_id (expected_id c.args.self.now) (held c.args.dst.now) in
+    let limit = c.args.self.now.max_allowed_packet in
+    let inv = c.chunks.invariant.runs stands in
+    let here : StandsAt c.chunks.self.max_allowed_packet (header_of c.chunks.self) c.chunks.src.items (held c.chunks.dst) =
+    subst (λ (z : ℕ). StandsAt z (header_of c.chunks.self) c.chunks.src.items (held c.chunks.dst)) (sym c.chunks.invariant.same) inv.1 in
+    takes_later (Ok Starved) (open_id (expected_id c.chunks.self) (held c.chunks.dst)) first c.chunks.self.max_allowed_packet limit
+    (held c.args.dst.now) (front first (held c.args.dst.now) ++ c.args.src.now.items) (held c.chunks.dst) c.chunks.src.items
+    (expected_id c.take_chunk.new.self) (header_of c.take_chunk.new.self) c.take_chunk.new.src.items (held c.take_chunk.new.dst)
+    inv.2 c.chunks.invariant.same inv.0 ((rw c.in-Ok-Starved.field-0-is at c.in-Ok-Starved.ensures.takes) here)
+
 pub chunks-init : goal.chunks-init
 chunks-init g c =
     let held = g.T.PacketDst.held c.args.dst.now in

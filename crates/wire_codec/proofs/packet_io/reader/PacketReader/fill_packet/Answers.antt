@@ -6,7 +6,7 @@ use Rattle.wire_codec.specs.Framing.{max_payload}
 use Rattle.wire_codec.specs.Codec.{codec_state, first_id, input_of, open_id, StandsAt, Stands}
 use Rattle.wire_codec.specs.Delivery.{Splits}
 use Rattle.wire_codec.specs.PacketIo.{joined_reads, most_reads, CountsUp, NextPacket}
-use Rattle.wire_codec.proofs.PacketIoLemmas.{ran, ran_failed, no_end_seen, Waited, ended, read_failed, start_waits, waited_on, smaller_left, is_standing}
+use Rattle.wire_codec.proofs.PacketIoLemmas.{ran, ran_failed, no_end_seen, Waited, ended, read_failed, start_waits, waited_on, smaller_left, is_standing, fits_at_end}
 use Rattle.wire_codec.proofs.FillingLemmas.{not_collected, found_in_front, stepped, filled}
 use Rattle.wire_codec.specs.Filling.{taken_state, ready_packet, as_next}
 use Rattle.wire_codec.proofs.packet_io.reader.PacketReader.fill_packet.Goals as goal
@@ -199,3 +199,24 @@ returns-in-Ok-true-clause-fits g c =
     let after = codec_state c.find_packet.new.codec c.find_packet.new.self.src.items c.find_packet.new.self.dst.items in
     let takes = stepped c.in-Ok-true.field-0 true mid after c.find_packet.new.self.collected c.find_packet.new.self.lost c.in-Ok-true.field-0-test c.in-Ok-true.ensures.steps in
     inr takes.2
+
+pub returns-in-Ok-eq0-clause-fits : goal.returns-in-Ok-eq0-clause-fits
+returns-in-Ok-eq0-clause-fits g c =
+    let mid = codec_state c.fills.codec c.fills.self.src.items c.fills.self.dst.items in
+    let after = codec_state c.find_packet.new.codec c.find_packet.new.self.src.items c.find_packet.new.self.dst.items in
+    let takes = stepped c.in-Ok-false.field-0 false mid after c.find_packet.new.self.collected c.find_packet.new.self.lost c.in-Ok-false.field-0-test c.in-Ok-false.ensures.steps in
+    let piece = c.in-Ok-eq0.ensures.ok in
+    fits_at_end c.read_more.new.self.lost mid.limit after.limit after.id after.header after.unread piece.0 after.held
+    c.read_more.new.self.src.items c.read_more.new.self.dst.items c.find_packet.ensures.limit piece.2 (ap (λ z. z.items) c.read_more.ensures.dst) takes.0.2
+
+pub returns-in-Ok-true-clause-again : goal.returns-in-Ok-true-clause-again
+returns-in-Ok-true-clause-again g c found there = absurd (let yes = c.is_ready.ensures.ready.1 (found, there) in let no = c.if-is_ready.false in cc)
+
+pub returns-in-Err-clause-again : goal.returns-in-Err-clause-again
+returns-in-Err-clause-again g c found there = absurd (let yes = c.is_ready.ensures.ready.1 (found, there) in let no = c.if-is_ready.false in cc)
+
+pub returns-in-Ok-eq0-clause-again : goal.returns-in-Ok-eq0-clause-again
+returns-in-Ok-eq0-clause-again g c found there = absurd (let yes = c.is_ready.ensures.ready.1 (found, there) in let no = c.if-is_ready.false in cc)
+
+pub returns-in-Err-read_more-clause-again : goal.returns-in-Err-read_more-clause-again
+returns-in-Err-read_more-clause-again g c found there = absurd (let yes = c.is_ready.ensures.ready.1 (found, there) in let no = c.if-is_ready.false in cc)

@@ -6,7 +6,7 @@ use Rattle.wire_codec.specs.Framing.{max_payload}
 use Rattle.wire_codec.specs.Codec.{codec_state, first_id, input_of, open_id, StandsAt, Stands}
 use Rattle.wire_codec.specs.Delivery.{Splits}
 use Rattle.wire_codec.specs.PacketIo.{joined_reads, most_reads, CountsUp, NextPacket}
-use Rattle.wire_codec.proofs.PacketIoLemmas.{ran, ran_failed, no_end_seen, Waited, ended, read_failed, start_waits, waited_on, smaller_left, is_standing}
+use Rattle.wire_codec.proofs.PacketIoLemmas.{ran, ran_failed, no_end_seen, Waited, ended, read_failed, start_waits, waited_on, smaller_left, is_standing, fits_at_end}
 use Rattle.wire_codec.proofs.packet_io.reader.PacketReader.next_packet.Goals as goal
 
 pub reads-init : goal.reads-init
@@ -175,3 +175,11 @@ returns-in-Err-read_more-clause-next g c found none =
     subst (λ (z : List ℕ). NextPacket {A = g.row.A.Denot} before unread last c.args.self.now.reads c.read_more.new.self.reads (Err c.in-Err-read_more.error) (codec_state c.next_decoded.new.codec c.read_more.new.self.src.items z)) (sym same)
     (read_failed g.row.A.Denot c.in-Err-read_more.error before after unread left last c.args.self.now.reads c.next_decoded.new.self.reads c.read_more.new.self.reads c.read_more.new.self.src.items
     waited c.in-Err-read_more.ensures.err c.in-Err-read_more.ensures.kept c.in-Err-read_more.ensures.failed)
+
+pub returns-in-Ok-eq0-clause-fits : goal.returns-in-Ok-eq0-clause-fits
+returns-in-Ok-eq0-clause-fits g c =
+    let after = codec_state c.next_decoded.new.codec c.next_decoded.new.self.src.items c.next_decoded.new.self.dst.items in
+    let takes = rw c.in-Ok-None.field-0-is at c.in-Ok-None.ensures.takes in
+    let piece = c.in-Ok-eq0.ensures.ok in
+    fits_at_end c.read_more.new.self.lost c.reads.codec.max_allowed_packet after.limit after.id after.header after.unread piece.0 after.held
+    c.read_more.new.self.src.items c.read_more.new.self.dst.items c.next_decoded.ensures.limit piece.2 (ap (λ z. z.items) c.read_more.ensures.dst) takes.0.2

@@ -1,4 +1,4 @@
-use Rattle.std.proofs.Common.{◌≡◌, ℕ, List, [], ◌++◌, take, drop, refl, sym, ap, ◌∙◌, append_assoc, take-append-drop}
+use Rattle.std.proofs.Common.{◌≡◌, ℕ, List, [], ◌++◌, take, drop, refl, sym, ap, ◌∙◌, append_assoc, take-append-drop, rules}
 use Rattle.std.proofs.KnownBytes.{Appends-nil, Appends-trans}
 use Rattle.wire_codec.proofs.packet_io.writer.PacketWriter.write_pending.Goals as goal
 
@@ -18,3 +18,6 @@ writes-preserved g c =
     let count = c.in-Ok.count in
     let took = rw c.as_slice.ensures at c.in-Ok.ensures.bytes in
     (inv.0 ++ take count pending, taken_more _ inv.0 pending _ count inv.1 c.advance.ensures.items, Appends-trans _ _ _ inv.0 (take count pending) inv.2 took)
+
+pub returns-in-Err-clause-sent : goal.returns-in-Err-clause-sent
+returns-in-Err-clause-sent g c = search rules

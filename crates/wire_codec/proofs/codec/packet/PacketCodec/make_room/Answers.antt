@@ -1,0 +1,24 @@
+-- Written out, so that a body that breaks one of these is refused at once.
+use Rattle.std.proofs.Common.{rules, Err, sym, arith}
+use Rattle.wire_codec.specs.declared.codec.error.PacketCodecError.TheVariants.{OutOfMemory}
+use Rattle.wire_codec.specs.Codec.{open_id, header_of}
+use Rattle.wire_codec.proofs.CodecLemmas.{id_at_open, outcome_of, chunk_failed}
+use Rattle.wire_codec.proofs.codec.packet.PacketCodec.make_room.Goals as goal
+
+pub returns-in-Err-clause-refused : goal.returns-in-Err-clause-refused
+returns-in-Err-clause-refused g c = search rules
+
+pub returns-in-Err-clause-id : goal.returns-in-Err-clause-id
+returns-in-Err-clause-id g c = search rules
+
+pub returns-in-Err-clause-small : goal.returns-in-Err-clause-small
+returns-in-Err-clause-small g c = search rules
+
+pub returns-in-Err-clause-decodes : goal.returns-in-Err-clause-decodes
+returns-in-Err-clause-decodes g c stands =
+    let held = g.T.PacketDst.held c.args.dst.now in
+    let src = c.args.src.now.items in
+    let limit = c.args.self.now.max_allowed_packet in
+    let id = c.args.self.now.seq_id in
+    let at = sym (id_at_open id held (omega arith)) in
+    chunk_failed OutOfMemory (open_id id held) id limit src held _ src _ stands.0 at (outcome_of (header_of c.args.self.now) limit src held (Err OutOfMemory) _ src _ stands (returns-in-Err-clause-refused g c))
