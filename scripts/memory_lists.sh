@@ -27,7 +27,7 @@ tests=crates/memory_tests
 # Prints the names in the tables of these modules of memory_tests.
 in_tables() {
     for module in "$@"; do
-        sed -n '/^const ROWS/,/^];/p' "$tests/src/$module.rt"
+        sed -n '/^\(pub \)\?const ROWS/,/^];/p' "$tests/src/$module.rt"
     done | grep -oE '(^|[^b])"([A-Z][A-Za-z0-9]*::)?[a-z_0-9]+(\([^"]*\))?"' |
         sed -E 's/^[^"]*"(.*)"$/\1/' | sort -u
 }

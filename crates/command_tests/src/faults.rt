@@ -79,19 +79,22 @@ impl Write for Narrow {
     }
 }
 
-// The words, the input, how many reads they make of one byte each, and the status and the text
-// that they end with.
-type Reads<'a> = (&'a [&'a str], &'a [u8], usize, u8, &'a [u8]);
+// The words, the input, how many reads they make of one byte each, the status and the text that
+// they end with, and how many bytes of that are written at most where a read fails.
+type Reads<'a> = (&'a [&'a str], &'a [u8], usize, u8, &'a [u8], usize);
 
-// All input is read, and its end.
-const WHOLE: &[Reads] = &[
-    (&["frame", "0"], b"123", 4, 0, b"\x03\0\0\0123"),
+const MOST: usize = usize::MAX;
+
+const READS: &[Reads] = &[
+    // All input is read, and its end, before anything is written.
+    (&["frame", "0"], b"123", 4, 0, b"\x03\0\0\0123", 0),
     (
         &["frame", "0"],
         b"\x03\0\0\0123",
         8,
         0,
         b"\x07\0\0\0\x03\0\0\0123",
+        0,
     ),
     (
         &["chunk"],
@@ -99,17 +102,16 @@ const WHOLE: &[Reads] = &[
         8,
         0,
         b"last 0 3 313233\nrest 0\n",
+        0,
     ),
-];
-
-// The fault is known with the last of these bytes; one read more would fail.
-const FAULTS: &[Reads] = &[
+    // The fault is known with the last of these bytes; one read more would fail.
     (
         &["unframe", "1", "10"],
         b"\x01\0\0\0a\x01\0\0\x05b",
         10,
         5,
         b"1 61\nout of sync\n",
+        MOST,
     ),
     (
         &["unframe", "1", "1"],
@@ -117,6 +119,7 @@ const FAULTS: &[Reads] = &[
         9,
         4,
         b"1 61\ntoo large\n",
+        MOST,
     ),
     (
         &["unframe", "1", "1", "5", "9"],
@@ -124,6 +127,7 @@ const FAULTS: &[Reads] = &[
         9,
         4,
         b"1 61\ntoo large\n",
+        MOST,
     ),
     (
         &["unframe", "9", "1", "5", "8"],
@@ -131,32 +135,37 @@ const FAULTS: &[Reads] = &[
         12,
         0,
         b"1 61\n2 6263\nrest 0\n",
+        MOST,
     ),
-];
-
-// Each packet is written as soon as it is whole.
-const PACKETS: &[Reads] = &[
-    (&["reframe", "3"], b"\x03\0\0\0123", 8, 0, b"\x03\0\0\0123"),
+    // Each packet is written as soon as it is whole.
+    (
+        &["reframe", "3"],
+        b"\x03\0\0\0123",
+        8,
+        0,
+        b"\x03\0\0\0123",
+        MOST,
+    ),
     (
         &["reframe", "3"],
         b"\x01\0\0\0a\0\0\0\x05",
         9,
         5,
         b"\x01\0\0\0a",
+        MOST,
     ),
 ];
 
 // Whether a row ends so where the read of this number fails so. Where it is made, what was written
-// is a front of the text, and as long as `most` at most.
+// is a front of the text.
 fn is_read(
     alloc: Global,
     heap: &Heap,
     row: &Reads<'_>,
-    fault: (usize, ErrorKind),
-    most: usize,
+    until_fault: usize,
+    kind: ErrorKind,
 ) -> bool {
-    let (words, bytes, reads, wanted, text) = *row;
-    let (until_fault, kind) = fault;
+    let (words, bytes, reads, wanted, text, most) = *row;
     let mut input = OneByOne {
         bytes,
         until_fault,
@@ -172,38 +181,26 @@ fn is_read(
     }
 }
 
-// The first row that doesn't end so at some read.
-fn wrong_read(alloc: Global, rows: &[Reads], most: usize) -> Option<usize> {
-    let heap = Refusing::new(alloc, NEVER);
-    let mut wrong = None;
-    for i in 0..rows.len() {
-        for until_fault in 0..=rows[i].2 {
-            // An interrupted read is a failed one.
-            let other = (until_fault, ErrorKind::Other);
-            let interrupted = (until_fault, ErrorKind::Interrupted);
-            let both = is_read(alloc, &heap, &rows[i], other, most)
-                & is_read(alloc, &heap, &rows[i], interrupted, most);
-            if !both {
-                wrong = Some(i);
-            }
-        }
+// Whether it ends so at each read. An interrupted read is a failed one.
+fn are_read(alloc: Global, heap: &Heap, row: &Reads<'_>) -> bool {
+    let mut all = true;
+    for until_fault in 0..=row.2 {
+        all &= is_read(alloc, heap, row, until_fault, ErrorKind::Other);
+        all &= is_read(alloc, heap, row, until_fault, ErrorKind::Interrupted);
     }
-    wrong
+    all
 }
 
 #[test]
 fn each_read_fails_in_turn(rt: HostRuntime) -> Result<(), Fail> {
-    no_row(wrong_read(rt.alloc(), WHOLE, 0))
-}
-
-#[test]
-fn unframe_reads_no_further_than_a_fault(rt: HostRuntime) -> Result<(), Fail> {
-    no_row(wrong_read(rt.alloc(), FAULTS, usize::MAX))
-}
-
-#[test]
-fn each_read_of_a_packet_fails_in_turn(rt: HostRuntime) -> Result<(), Fail> {
-    no_row(wrong_read(rt.alloc(), PACKETS, usize::MAX))
+    let heap = Refusing::new(rt.alloc(), NEVER);
+    let mut wrong = None;
+    for i in 0..READS.len() {
+        if !are_read(rt.alloc(), &heap, &READS[i]) {
+            wrong = Some(i);
+        }
+    }
+    no_row(wrong)
 }
 
 // The words, the input, and how long their output is.

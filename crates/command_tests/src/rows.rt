@@ -117,6 +117,36 @@ const REFRAME: &[Row] = &[
     ),
 ];
 
+fn goes(alloc: Global, heap: &Heap, row: &Row<'_>) -> bool {
+    let (words, input, wanted, text) = *row;
+    let mut input = input;
+    let mut output = Vec::new(alloc);
+    let status = run(heap, NEVER, words, &mut input, &mut output);
+    (status == wanted) & (output.as_slice() == text)
+}
+
+// The first row that goes otherwise, where they are counted from this number.
+fn wrong_row(alloc: Global, first: usize, rows: &[Row]) -> Option<usize> {
+    let heap = Refusing::new(alloc, NEVER);
+    for i in 0..rows.len() {
+        if !goes(alloc, &heap, &rows[i]) {
+            return Some(first.wrapping_add(i));
+        }
+    }
+    None
+}
+
+// The rows of each command are counted from a hundred more.
+#[test]
+fn each_command_goes_by_its_rows(rt: HostRuntime) -> Result<(), Fail> {
+    let alloc = rt.alloc();
+    let wrong = wrong_row(alloc, 0, FRAME)
+        .or(wrong_row(alloc, 100, CHUNK))
+        .or(wrong_row(alloc, 200, UNFRAME))
+        .or(wrong_row(alloc, 300, REFRAME));
+    no_row(wrong)
+}
+
 // Words that ask for no command: nothing is read, and nothing is written.
 const OTHER_WORDS: &[&[&str]] = &[
     &[],
@@ -149,44 +179,6 @@ const OTHER_WORDS: &[&[&str]] = &[
     &["reframe", "1", "1"],
 ];
 
-fn goes(alloc: Global, heap: &Heap, row: &Row<'_>) -> bool {
-    let (words, input, wanted, text) = *row;
-    let mut input = input;
-    let mut output = Vec::new(alloc);
-    let status = run(heap, NEVER, words, &mut input, &mut output);
-    (status == wanted) & (output.as_slice() == text)
-}
-
-fn wrong_row(alloc: Global, rows: &[Row]) -> Option<usize> {
-    let heap = Refusing::new(alloc, NEVER);
-    for i in 0..rows.len() {
-        if !goes(alloc, &heap, &rows[i]) {
-            return Some(i);
-        }
-    }
-    None
-}
-
-#[test]
-fn frame_writes_the_framing(rt: HostRuntime) -> Result<(), Fail> {
-    no_row(wrong_row(rt.alloc(), FRAME))
-}
-
-#[test]
-fn chunk_shows_what_stands_in_front(rt: HostRuntime) -> Result<(), Fail> {
-    no_row(wrong_row(rt.alloc(), CHUNK))
-}
-
-#[test]
-fn unframe_shows_each_packet(rt: HostRuntime) -> Result<(), Fail> {
-    no_row(wrong_row(rt.alloc(), UNFRAME))
-}
-
-#[test]
-fn reframe_copies_whole_packets(rt: HostRuntime) -> Result<(), Fail> {
-    no_row(wrong_row(rt.alloc(), REFRAME))
-}
-
 fn is_untouched(alloc: Global, heap: &Heap, words: &[&str]) -> bool {
     let mut input = b"123".as_slice();
     let mut output: Vec<u8> = Vec::new(alloc);
@@ -206,28 +198,83 @@ fn other_words_read_and_write_nothing(rt: HostRuntime) -> Result<(), Fail> {
     no_row(wrong)
 }
 
-// The limit, the input, and the status and the text, whatever the step is.
-type Stream<'a> = (usize, &'a [u8], u8, &'a [u8]);
+// The limit, the later limit and the place from which on it holds, if it changes, the input, and
+// the status and the text, whatever the step is.
+type Stream<'a> = (usize, Option<(usize, usize)>, &'a [u8], u8, &'a [u8]);
+
+// One chunk of two bytes, and behind it one of one byte.
+const TWO: &[u8] = b"\x02\0\0\0ab\x01\0\0\x01c";
 
 const STREAMS: &[Stream] = &[
     (
         1,
+        None,
         b"\x01\0\0\0a\x01\0\0\x01b\0\0\0\x02",
         0,
         b"1 61\n1 62\n0 -\nrest 0\n",
     ),
-    (2, b"\x01\0\0\0a\x03\0\0\x09b", 4, b"1 61\ntoo large\n"),
-    (3, b"\x01\0\0\0a\x03\0\0\x09b", 3, b"1 61\nrest 5\n"),
-    (3, b"\x01\0\0\0a\x03\0\0\x09bcd", 5, b"1 61\nout of sync\n"),
+    (
+        2,
+        None,
+        b"\x01\0\0\0a\x03\0\0\x09b",
+        4,
+        b"1 61\ntoo large\n",
+    ),
+    (3, None, b"\x01\0\0\0a\x03\0\0\x09b", 3, b"1 61\nrest 5\n"),
+    (
+        3,
+        None,
+        b"\x01\0\0\0a\x03\0\0\x09bcd",
+        5,
+        b"1 61\nout of sync\n",
+    ),
+    // From the first byte on, and from one behind the end.
+    (0, Some((2, 0)), TWO, 0, b"2 6162\n1 63\nrest 0\n"),
+    (2, Some((0, 11)), TWO, 0, b"2 6162\n1 63\nrest 0\n"),
+    (2, Some((0, 4294967295)), TWO, 0, b"2 6162\n1 63\nrest 0\n"),
+    // From the fourth byte of a header on, and from the byte behind it.
+    (0, Some((2, 3)), TWO, 0, b"2 6162\n1 63\nrest 0\n"),
+    (0, Some((2, 4)), TWO, 4, b"too large\n"),
+    (2, Some((0, 3)), TWO, 4, b"too large\n"),
+    (2, Some((0, 4)), TWO, 4, b"2 6162\ntoo large\n"),
+    (2, Some((0, 9)), TWO, 4, b"2 6162\ntoo large\n"),
+    (2, Some((0, 10)), TWO, 0, b"2 6162\n1 63\nrest 0\n"),
+    // The ends behind a change.
+    (
+        2,
+        Some((1, 6)),
+        b"\x02\0\0\0ab\x01\0\0\x05c",
+        5,
+        b"2 6162\nout of sync\n",
+    ),
+    (
+        2,
+        Some((1, 6)),
+        b"\x02\0\0\0ab\x01\0\0\x01",
+        3,
+        b"2 6162\nrest 4\n",
+    ),
+    (
+        2,
+        Some((1, 6)),
+        b"\x02\0\0\0ab\x02\0\0\x01",
+        4,
+        b"2 6162\ntoo large\n",
+    ),
 ];
 
 fn is_same(alloc: Global, row: &Stream<'_>, step: usize) -> bool
     requires { 0 < step }
 {
-    let (limit, input, wanted, text) = *row;
+    let (limit, change, input, wanted, text) = *row;
     let mut input = Unnoted(input);
     let mut output = Vec::new(alloc);
-    let status = run_unframe(alloc, step, limit, &mut input, &mut output);
+    let status = match change {
+        Some((later, at)) => {
+            run_unframe_limited(alloc, step, limit, later, at, &mut input, &mut output)
+        }
+        None => run_unframe(alloc, step, limit, &mut input, &mut output),
+    };
     (status == wanted) & (output.as_slice() == text)
 }
 
@@ -244,95 +291,40 @@ fn unframe_writes_the_same_however_it_reads(rt: HostRuntime) -> Result<(), Fail>
     no_row(wrong)
 }
 
-// The limit, the later limit and the place from which on it holds, the input, and the status and
-// the text, whatever the step is.
-type Changing<'a> = (usize, usize, usize, &'a [u8], u8, &'a [u8]);
-
-// One chunk of two bytes, and behind it one of one byte.
-const TWO: &[u8] = b"\x02\0\0\0ab\x01\0\0\x01c";
-
-const CHANGING: &[Changing] = &[
-    // From the first byte on, and from one behind the end.
-    (0, 2, 0, TWO, 0, b"2 6162\n1 63\nrest 0\n"),
-    (2, 0, 11, TWO, 0, b"2 6162\n1 63\nrest 0\n"),
-    (2, 0, 4294967295, TWO, 0, b"2 6162\n1 63\nrest 0\n"),
-    // From the fourth byte of a header on, and from the byte behind it.
-    (0, 2, 3, TWO, 0, b"2 6162\n1 63\nrest 0\n"),
-    (0, 2, 4, TWO, 4, b"too large\n"),
-    (2, 0, 3, TWO, 4, b"too large\n"),
-    (2, 0, 4, TWO, 4, b"2 6162\ntoo large\n"),
-    (2, 0, 9, TWO, 4, b"2 6162\ntoo large\n"),
-    (2, 0, 10, TWO, 0, b"2 6162\n1 63\nrest 0\n"),
-    // The ends behind a change.
-    (
-        2,
-        1,
-        6,
-        b"\x02\0\0\0ab\x01\0\0\x05c",
-        5,
-        b"2 6162\nout of sync\n",
-    ),
-    (2, 1, 6, b"\x02\0\0\0ab\x01\0\0\x01", 3, b"2 6162\nrest 4\n"),
-    (
-        2,
-        1,
-        6,
-        b"\x02\0\0\0ab\x02\0\0\x01",
-        4,
-        b"2 6162\ntoo large\n",
-    ),
-];
-
-fn is_same_changing(alloc: Global, row: &Changing<'_>, step: usize) -> bool
-    requires { 0 < step }
-{
-    let (limit, later, at, input, wanted, text) = *row;
-    let mut input = Unnoted(input);
-    let mut output = Vec::new(alloc);
-    let status = run_unframe_limited(alloc, step, limit, later, at, &mut input, &mut output);
-    (status == wanted) & (output.as_slice() == text)
-}
-
-#[test]
-fn a_limit_changes_at_its_place_however_unframe_reads(rt: HostRuntime) -> Result<(), Fail> {
-    let mut wrong = None;
-    for i in 0..CHANGING.len() {
-        for step in 1..16usize {
-            if !is_same_changing(rt.alloc(), &CHANGING[i], step) {
-                wrong = Some(i);
-            }
-        }
-    }
-    no_row(wrong)
-}
-
 // The header of a chunk of so many bytes, and how its line begins.
 const LENGTHS: &[(&[u8], usize, &[u8])] = &[
     (b"\x0b\0\0\x01", 11, b"last 1 11 4242"),
     (b"\xff\xff\xff\x01", 16777215, b"middle 1 16777215 4242"),
 ];
 
-// Whether a chunk of so many bytes `42` is shown with two digits for each of them.
-fn is_shown(alloc: Global, row: &(&[u8], usize, &[u8])) -> bool {
-    let (header, len, front) = *row;
-    let heap = Refusing::new(alloc, NEVER);
-    let mut whole = Vec::new(alloc);
-    let mut all = whole.extend_from_slice(header).is_ok();
-    all &= whole.resize(header.len().saturating_add(len), FILL).is_ok();
-    let mut input = whole.as_slice();
+// The chunk; where there is no memory for it, it isn't shown so.
+fn chunk_of(alloc: Global, header: &[u8], len: usize) -> Vec<u8> {
+    let mut chunk = Vec::new(alloc);
+    let _ = chunk.extend_from_slice(header);
+    let _ = chunk.resize(header.len().saturating_add(len), FILL);
+    chunk
+}
+
+// Whether a chunk of so many bytes is shown with two digits for each of them.
+fn is_shown(alloc: Global, heap: &Heap, chunk: &[u8], len: usize, front: &[u8]) -> bool {
+    let mut input = chunk;
     let mut output = Vec::new(alloc);
-    all &= run(&heap, NEVER, &["chunk"], &mut input, &mut output) == 0;
-    all &= output.as_slice().starts_with(front);
-    all &= output.as_slice().ends_with(b"42\nrest 0\n");
+    let status = run(heap, NEVER, &["chunk"], &mut input, &mut output);
+    let text = output.as_slice();
+    let is_framed = text.starts_with(front) & text.ends_with(b"42\nrest 0\n");
     let digits = len.saturating_mul(2);
-    all & (output.len() == front.len().saturating_add(digits).saturating_add(4))
+    let text_len = front.len().saturating_add(digits).saturating_add(4);
+    (status == 0) & is_framed & (text.len() == text_len)
 }
 
 #[test]
 fn a_chunk_may_be_as_long_as_a_chunk_can_be(rt: HostRuntime) -> Result<(), Fail> {
+    let heap = Refusing::new(rt.alloc(), NEVER);
     let mut wrong = None;
     for i in 0..LENGTHS.len() {
-        if !is_shown(rt.alloc(), &LENGTHS[i]) {
+        let (header, len, front) = LENGTHS[i];
+        let chunk = chunk_of(rt.alloc(), header, len);
+        if !is_shown(rt.alloc(), &heap, chunk.as_slice(), len, front) {
             wrong = Some(i);
         }
     }

@@ -1,18 +1,29 @@
-//! Tests of `wire_repr`: numbers, texts and constants as fields of packets.
+//! Tests of `wire_repr` and `wire_field`: numbers, texts and constants as fields of packets, fields
+//! in a row, and lists.
 #![tactic(auto)]
 
+#[cfg(test)]
+mod at;
 #[cfg(test)]
 mod calls;
 #[cfg(test)]
 mod constants;
 #[cfg(test)]
+mod entry;
+#[cfg(test)]
+mod lists;
+#[cfg(test)]
 mod memory;
+#[cfg(test)]
+mod named;
 #[cfg(test)]
 mod null;
 #[cfg(test)]
 mod numbers;
 #[cfg(test)]
 mod own;
+#[cfg(test)]
+mod rows;
 #[cfg(test)]
 mod texts;
 #[cfg(test)]

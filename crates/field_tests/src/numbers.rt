@@ -22,11 +22,9 @@ pub type Row<'a, T> = (
     <T as IntRepr>::Primitive,
 );
 
-/// How many bytes a number has of an input that begins with it, the input, and the number.
-pub type Spelled<'a, T> = (usize, &'a [u8], <T as IntRepr>::Primitive);
-
-/// An input that begins with no number, why, and how many bytes are left.
-pub type Refused<'a> = (&'a [u8], Fault, usize);
+/// An input, the number that it begins with or why it begins with none, and how many bytes the
+/// number has, or are left.
+pub type Spelled<'a, T> = (&'a [u8], Result<<T as IntRepr>::Primitive, Fault>, usize);
 
 // Whether the number is written and read back as the row says, which takes no memory.
 fn is_number<T: IntRepr, A: Allocator + Copy>(
@@ -38,21 +36,32 @@ fn is_number<T: IntRepr, A: Allocator + Copy>(
     let (number, bytes, back) = *row;
     let is_written = is_written(heap, &RawInt::<T>::new(number), bytes);
     let input = joined(heap, &[bytes, MORE]);
-    is_written & is_spelled::<T, A>(heap, alloc, eaten, &(bytes.len(), input.as_slice(), back))
+    is_written
+        & is_spelled::<T, A>(
+            heap,
+            alloc,
+            eaten,
+            &(input.as_slice(), Ok(back), bytes.len()),
+        )
 }
 
-// Whether the number is read from this spelling, which takes no memory.
+// Whether the number is read from this spelling or none is, which takes no memory.
 fn is_spelled<T: IntRepr, A: Allocator + Copy>(
     heap: &Heap,
     alloc: A,
     eaten: Eaten,
     row: &Spelled<'_, T>,
 ) -> bool {
-    let (len, input, number) = *row;
-    let wanted = RawInt::<T>::new(number);
+    let (input, wanted, count) = *row;
     heap.refuse(0);
-    let is_read = is_read(alloc, (), input, len, &wanted, Short::eats(eaten));
-    is_read & (heap.left() == 0)
+    let is_so = match wanted {
+        Ok(number) => {
+            let wanted = RawInt::<T>::new(number);
+            is_read(alloc, (), input, count, &wanted, Short::eats(eaten))
+        }
+        Err(fault) => stops::<RawInt<T>, (), A>(alloc, (), input, fault, count),
+    };
+    is_so & (heap.left() == 0)
 }
 
 /// Whether a representation has this size, and each row is as it has it, where so much is eaten of
@@ -71,22 +80,16 @@ pub fn are_numbers<T: IntRepr, A: Allocator + Copy>(
     all
 }
 
-// Whether this number is read from each of these spellings, and none from these inputs.
+// Whether each of these spellings is read so.
 fn are_spelled<T: IntRepr, A: Allocator + Copy>(
     heap: &Heap,
     alloc: A,
     eaten: Eaten,
     rows: &[Spelled<'_, T>],
-    refused: &[Refused<'_>],
 ) -> bool {
     let mut all = true;
     for row in rows {
         all &= is_spelled::<T, A>(heap, alloc, eaten, row);
-    }
-    for (input, fault, left) in refused {
-        heap.refuse(0);
-        all &= stops::<RawInt<T>, (), A>(alloc, (), *input, *fault, *left);
-        all &= heap.left() == 0;
     }
     all
 }
@@ -315,21 +318,13 @@ fn numbers_are_written_and_read(rt: HostRuntime) -> Result<(), Fail> {
 
 // The marks are read as zero.
 const LONGER_LENENC: &[Spelled<LenEnc>] = &[
-    (1, b"\x05", 5),
-    (3, b"\xfc\x05\0", 5),
-    (4, b"\xfd\x05\0\0", 5),
-    (9, b"\xfe\x05\0\0\0\0\0\0\0", 5),
-    (1, b"\xfb", 0),
-    (1, b"\xfb\x01", 0),
-    (1, b"\xff\xff\xff", 0),
-];
-
-const LONGER_VARLEN: &[Spelled<VarLen>] = &[
-    (2, b"\x80\0", 0),
-    (3, b"\x85\x80\0", 5),
-    (4, b"\x85\x80\x80\0", 5),
-    (5, b"\x80\x80\x80\x80\0", 0),
-    (5, b"\xff\xff\xff\xff\0", 268435455),
+    (b"\x05", Ok(5), 1),
+    (b"\xfc\x05\0", Ok(5), 3),
+    (b"\xfd\x05\0\0", Ok(5), 4),
+    (b"\xfe\x05\0\0\0\0\0\0\0", Ok(5), 9),
+    (b"\xfb", Ok(0), 1),
+    (b"\xfb\x01", Ok(0), 1),
+    (b"\xff\xff\xff", Ok(0), 1),
 ];
 
 const LARGE: Fault = Fault::Invalid(InvalidReason::VarLenTooLarge);
@@ -338,28 +333,34 @@ const LONG: Fault = Fault::Invalid(InvalidReason::VarLenTooLong);
 
 const EOF: Fault = Fault::UnexpectedEof;
 
-const NO_VARLEN: &[Refused] = &[
-    (b"\xff\xff\xff\xff\x1f\xaa", LARGE, 1),
-    (b"\xff\xff\xff\xff\x10\xaa", LARGE, 1),
-    (b"\x80\x80\x80\x80\x10\xaa", LARGE, 1),
-    (b"\x80\x80\x80\x80\x7f\xaa", LARGE, 1),
+const LONGER_VARLEN: &[Spelled<VarLen>] = &[
+    (b"\x80\0", Ok(0), 2),
+    (b"\x85\x80\0", Ok(5), 3),
+    (b"\x85\x80\x80\0", Ok(5), 4),
+    (b"\x80\x80\x80\x80\0", Ok(0), 5),
+    (b"\xff\xff\xff\xff\0", Ok(268435455), 5),
+    // Too large.
+    (b"\xff\xff\xff\xff\x1f\xaa", Err(LARGE), 1),
+    (b"\xff\xff\xff\xff\x10\xaa", Err(LARGE), 1),
+    (b"\x80\x80\x80\x80\x10\xaa", Err(LARGE), 1),
+    (b"\x80\x80\x80\x80\x7f\xaa", Err(LARGE), 1),
     // Whatever the five groups come to.
-    (b"\x80\x80\x80\x80\x80", LONG, 0),
-    (b"\x80\x80\x80\x80\x80\0", LONG, 1),
-    (b"\xff\xff\xff\xff\xff\x01", LONG, 1),
-    (b"\x81\x80\x80\x80\x80\x80\x80", LONG, 2),
+    (b"\x80\x80\x80\x80\x80", Err(LONG), 0),
+    (b"\x80\x80\x80\x80\x80\0", Err(LONG), 1),
+    (b"\xff\xff\xff\xff\xff\x01", Err(LONG), 1),
+    (b"\x81\x80\x80\x80\x80\x80\x80", Err(LONG), 2),
     // One that ends early is eaten.
-    (b"", EOF, 0),
-    (b"\xff", EOF, 0),
-    (b"\xff\x80", EOF, 0),
-    (b"\xff\x80\xff", EOF, 0),
-    (b"\xff\x80\xff\x80", EOF, 0),
+    (b"", Err(EOF), 0),
+    (b"\xff", Err(EOF), 0),
+    (b"\xff\x80", Err(EOF), 0),
+    (b"\xff\x80\xff", Err(EOF), 0),
+    (b"\xff\x80\xff\x80", Err(EOF), 0),
 ];
 
 fn are_longer_or_none<A: Allocator + Copy>(heap: &Heap, alloc: A) -> [bool; 2] {
     [
-        are_spelled::<LenEnc, A>(heap, alloc, Eaten::First, LONGER_LENENC, &[]),
-        are_spelled::<VarLen, A>(heap, alloc, Eaten::All, LONGER_VARLEN, NO_VARLEN),
+        are_spelled::<LenEnc, A>(heap, alloc, Eaten::First, LONGER_LENENC),
+        are_spelled::<VarLen, A>(heap, alloc, Eaten::All, LONGER_VARLEN),
     ]
 }
 

@@ -1,8 +1,7 @@
 // A number and a text in representations of one's own, by the same checks as those of the crate.
 
-use crate::memory::is_refused_twice;
 use crate::numbers::{self, are_numbers};
-use crate::texts::{self, are_texts, is_bounded, letters};
+use crate::texts::{self, are_texts, letters};
 use mysql_wire_examples::own_fields::{BeU16, U16Bytes};
 use refusing::Refusing;
 use std::alloc::Allocator;
@@ -29,12 +28,10 @@ const U16: &[texts::Row] = &[
     (65536, b"\xff\xff"),
 ];
 
-fn are_own<A: Allocator + Copy>(heap: &Heap, alloc: A, text: &[u8]) -> [bool; 4] {
+fn are_own<A: Allocator + Copy>(heap: &Heap, alloc: A, text: &[u8]) -> [bool; 2] {
     [
         are_numbers::<BeU16, A>(heap, alloc, Some(2), Eaten::Nothing, BE_U16),
-        is_bounded::<U16Bytes>(text, 65535, None),
         are_texts::<U16Bytes, A>(heap, alloc, text, Eaten::Nothing, U16, 65535),
-        is_refused_twice::<U16Bytes>(heap, [b"\0\xc8", &[b'a'; 200], b""]),
     ]
 }
 

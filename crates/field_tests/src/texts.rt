@@ -1,7 +1,7 @@
 // Each representation of a text: at the ends of its lengths, cut short, with bytes behind, and with
 // each request for memory refused.
 
-use mysql_wire::io::InvalidReason;
+use mysql_wire::io::{InvalidReason, ParseBuf};
 use mysql_wire::misc::raw::RawBytes;
 use mysql_wire::misc::raw::bytes::{
     BareBytes, BareU8Bytes, BareU16Bytes, BytesRepr, EofBytes, FixedLengthText, LenEnc, NullBytes,
@@ -10,11 +10,12 @@ use mysql_wire::misc::raw::bytes::{
 use mysql_wire::misc::raw::int::VarLen;
 use refusing::Refusing;
 use std::alloc::{AllocError, Allocator, Global};
+use std::borrow::CowSlice;
 use std::test::Fail;
 use test_support::answers::Fault;
 use test_support::facts::all_hold;
 use test_support::fields::{
-    Eaten, MORE, Short, gives, has_size, is_read, is_written, joined, stops,
+    Eaten, MORE, Short, gives, has_size, is_read, is_written, joined, refusals, stops,
 };
 use test_support::fixture::Heap;
 use test_support::reference::between;
@@ -29,45 +30,54 @@ pub fn letters(alloc: Global, len: usize) -> Result<Vec<u8>, AllocError> {
     Ok(text)
 }
 
-// Whether a text is written as the input, but for `MORE` at its end, and `cut` is read back,
-// whatever follows, which takes no memory.
+// Whether a text is read, and borrows from the input.
+fn borrows<'de, T, C, A>(alloc: A, ctx: C, input: &'de [u8]) -> bool
+where
+    T: 'de + BytesRepr<Ctx = C>,
+    A: 'de + Allocator + Copy,
+{
+    let mut buf = ParseBuf(input);
+    match buf.parse_in::<RawBytes<'de, T, A>, A>(alloc, ctx) {
+        Ok(text) => matches!(text.0, CowSlice::Borrowed(_)),
+        Err(_) => false,
+    }
+}
+
+// How a text is written: the bytes before it, the text, what is read back of it, the bytes behind
+// it, and how many of the requests for memory that this takes are refused in turn, at least.
+type Text<'a> = (&'a [u8], &'a [u8], &'a [u8], &'a [u8], u64);
+
+// A text of 200 bytes and more is refused at each of the two puts that it has.
+fn puts_of(text: &[u8]) -> u64 {
+    if text.len() < 200 { 0 } else { 2 }
+}
+
+// Whether a text is written so, and what is read back, whatever follows, borrows from the input and
+// takes no memory.
 fn is_text<T: BytesRepr<Ctx = C>, C: Copy, A: Allocator + Copy>(
     heap: &Heap,
     alloc: A,
     ctx: C,
-    (text, cut): (&[u8], &[u8]),
-    input: &[u8],
+    (front, text, cut, end, least): Text<'_>,
     short: Short,
 ) -> bool {
+    let input = joined(heap, &[front, cut, end, MORE]);
+    let input = input.as_slice();
     let len = input.len().saturating_sub(MORE.len());
-    let value = RawBytes::<T>::from(text);
-    let is_written = is_written(heap, &value, between(input, 0, len));
+    let bytes = between(input, 0, len);
+    let asked = refusals(heap, &RawBytes::<T>::from(text), bytes);
+    let is_put = (asked >= Some(least)) & ((asked == Some(0)) == bytes.is_empty());
     let back = RawBytes::<T, A>::from(cut);
     heap.refuse(0);
     let is_read = is_read(alloc, ctx, input, len, &back, short);
-    is_written & is_read & (heap.left() == 0)
+    let is_lent = borrows::<T, C, A>(alloc, ctx, input);
+    is_put & is_read & is_lent & (heap.left() == 0)
 }
 
-/// Whether at most so many bytes of a text are written, and it has this size.
-pub fn is_bounded<T: BytesRepr>(text: &[u8], most: usize, size: Option<usize>) -> bool {
+// Whether at most so many bytes of a text are written, and it has this size.
+fn is_bounded<T: BytesRepr>(text: &[u8], most: usize, size: Option<usize>) -> bool {
     let is_cut = RawBytes::<T>::from(text).len() == text.len().min(most);
     is_cut & (T::MAX_LEN == most) & has_size::<RawBytes<'_, T>>(size)
-}
-
-fn are_bounded(text: &[u8]) -> [bool; 11] {
-    [
-        is_bounded::<LenEnc>(text, usize::MAX, None),
-        is_bounded::<U8Bytes>(text, 255, None),
-        is_bounded::<U32Bytes>(text, 4294967295, None),
-        is_bounded::<VarLen>(text, 4294967295, None),
-        is_bounded::<NullBytes>(text, usize::MAX, None),
-        is_bounded::<EofBytes>(text, usize::MAX, None),
-        is_bounded::<BareBytes<299>>(text, 299, None),
-        is_bounded::<BareU8Bytes>(text, 255, None),
-        is_bounded::<BareU16Bytes>(text, 65535, None),
-        is_bounded::<FixedLengthText<4>>(text, 4, Some(4)),
-        is_bounded::<FixedLengthText<0>>(text, 0, Some(0)),
-    ]
 }
 
 // ---- texts behind their length
@@ -75,8 +85,8 @@ fn are_bounded(text: &[u8]) -> [bool; 11] {
 /// The length of a text, and what is written of that.
 pub type Row<'a> = (usize, &'a [u8]);
 
-/// Whether texts of these lengths are written behind their length, `most` bytes of them at most. A
-/// length is eaten, where it is there, and else as `eaten` says.
+/// Whether texts of these lengths, of some letters, are written behind their length, `most` bytes
+/// of them at most. A length is eaten, where it is there, and else as `eaten` says.
 pub fn are_texts<T: BytesRepr<Ctx = ()>, A: Allocator + Copy>(
     heap: &Heap,
     alloc: A,
@@ -85,17 +95,17 @@ pub fn are_texts<T: BytesRepr<Ctx = ()>, A: Allocator + Copy>(
     rows: &[Row<'_>],
     most: usize,
 ) -> bool {
-    let mut all = true;
+    let mut all = is_bounded::<T>(letters, most, None);
     for (len, front) in rows {
         let text = between(letters, 0, *len);
         let cut = between(text, 0, most);
-        let input = joined(heap, &[*front, cut, MORE]);
         let short = Short {
             fault: Fault::UnexpectedEof,
             eaten,
             front: front.len(),
         };
-        all &= is_text::<T, (), A>(heap, alloc, (), (text, cut), input.as_slice(), short);
+        let text = (*front, text, cut, b"".as_slice(), puts_of(cut));
+        all &= is_text::<T, (), A>(heap, alloc, (), text, short);
     }
     all
 }
@@ -196,12 +206,11 @@ const BARE_READ: &[Read<usize>] = &[
 ];
 
 fn are_behind<A: Allocator + Copy>(heap: &Heap, alloc: A, text: &[u8]) -> [bool; 4] {
-    let most = usize::MAX;
     [
-        are_texts::<LenEnc, A>(heap, alloc, text, Eaten::First, LENENC, most),
+        are_texts::<LenEnc, A>(heap, alloc, text, Eaten::First, LENENC, usize::MAX),
         are_texts::<U8Bytes, A>(heap, alloc, text, Eaten::Nothing, U8, 255),
-        are_texts::<U32Bytes, A>(heap, alloc, text, Eaten::Nothing, U32, most),
-        are_texts::<VarLen, A>(heap, alloc, text, Eaten::All, VARLEN, most),
+        are_texts::<U32Bytes, A>(heap, alloc, text, Eaten::Nothing, U32, 4294967295),
+        are_texts::<VarLen, A>(heap, alloc, text, Eaten::All, VARLEN, 4294967295),
     ]
 }
 
@@ -236,13 +245,14 @@ const NULL: &[(&[u8], &[u8])] = &[
 // Whether the first bytes of a text are written and a zero, and read back, whatever follows.
 // Without the zero none are.
 fn is_null<A: Allocator + Copy>(heap: &Heap, alloc: A, text: &[u8], cut: &[u8]) -> bool {
-    let input = joined(heap, &[cut, b"\0", MORE]);
     let short = Short {
         fault: Fault::Invalid(InvalidReason::NoNullTerminator),
         eaten: Eaten::Nothing,
         front: usize::MAX,
     };
-    is_text::<NullBytes, (), A>(heap, alloc, (), (text, cut), input.as_slice(), short)
+    let is_bounded = is_bounded::<NullBytes>(text, usize::MAX, None);
+    let text = (b"".as_slice(), text, cut, b"\0".as_slice(), puts_of(text));
+    is_bounded & is_text::<NullBytes, (), A>(heap, alloc, (), text, short)
 }
 
 fn are_null<A: Allocator + Copy>(heap: &Heap, alloc: A, long: &[u8]) -> bool {
@@ -258,8 +268,11 @@ fn are_null<A: Allocator + Copy>(heap: &Heap, alloc: A, long: &[u8]) -> bool {
 // Whether a text is written as it is, and all of an input is read.
 fn is_all<A: Allocator + Copy>(heap: &Heap, alloc: A, text: &[u8]) -> bool {
     let value = RawBytes::<EofBytes, A>::from(text);
-    let is_put = is_written(heap, &value, text);
-    is_put & are_read::<EofBytes, (), A>(heap, alloc, &[((), text, Ok(text), 0)])
+    let mut all = is_written(heap, &value, text);
+    all &= is_bounded::<EofBytes>(text, usize::MAX, None);
+    heap.refuse(0);
+    all &= borrows::<EofBytes, (), A>(alloc, (), text) & (heap.left() == 0);
+    all & are_read::<EofBytes, (), A>(heap, alloc, &[((), text, Ok(text), 0)])
 }
 
 fn are_all<A: Allocator + Copy>(heap: &Heap, alloc: A, letters: &[u8]) -> bool {
@@ -274,16 +287,21 @@ fn are_all<A: Allocator + Copy>(heap: &Heap, alloc: A, letters: &[u8]) -> bool {
 // how many.
 fn is_bare<const N: usize, A: Allocator + Copy>(heap: &Heap, alloc: A, text: &[u8]) -> bool {
     let cut = between(text, 0, N);
-    let input = joined(heap, &[cut, MORE]);
+    let is_bounded = is_bounded::<BareBytes<N>>(text, N, None);
+    let ctx = cut.len();
+    let text = (b"".as_slice(), text, cut, b"".as_slice(), 0);
     let short = Short::eats(Eaten::Nothing);
-    is_text::<BareBytes<N>, usize, A>(heap, alloc, cut.len(), (text, cut), input.as_slice(), short)
+    is_bounded & is_text::<BareBytes<N>, usize, A>(heap, alloc, ctx, text, short)
 }
 
 fn are_bare<A: Allocator + Copy>(heap: &Heap, alloc: A, letters: &[u8]) -> bool {
     // The length of this one is elsewhere too, and it is not read.
     let raw = RawBytes::<BareU16Bytes>::from(letters);
     let mut all = is_written(heap, &raw, between(letters, 0, 65535));
+    all &= is_bounded::<BareU16Bytes>(letters, 65535, None);
+    all &= is_bounded::<BareU8Bytes>(letters, 255, None);
     all &= is_bare::<1, A>(heap, alloc, b"a");
+    all &= is_bare::<299, A>(heap, alloc, letters);
     for len in [0usize, 1, 2, 3, 254, 255, 256, 300] {
         let text = between(letters, 0, len);
         all &= is_bare::<0, A>(heap, alloc, text);
@@ -298,18 +316,13 @@ fn is_fixed<const N: usize, A>(heap: &Heap, alloc: A, text: &[u8], bytes: &[u8])
 where
     A: Allocator + Copy,
 {
-    let input = joined(heap, &[bytes, MORE]);
+    let is_bounded = is_bounded::<FixedLengthText<N>>(text, N, Some(N));
+    // Zeros are the second put.
+    let least = if text.len() < N { puts_of(text) } else { 0 };
+    let text = (b"".as_slice(), text, bytes, b"".as_slice(), least);
     let short = Short::eats(Eaten::Nothing);
-    let pair = (text, bytes);
-    let is_text = is_text::<FixedLengthText<N>, (), A>(
-        heap,
-        alloc,
-        (),
-        pair,
-        input.as_slice(),
-        short,
-    );
-    is_text & (bytes.len() == N)
+    let is_text = is_text::<FixedLengthText<N>, (), A>(heap, alloc, (), text, short);
+    is_bounded & is_text & (bytes.len() == N)
 }
 
 const FIXED: &[(&[u8], &[u8])] = &[
@@ -351,16 +364,14 @@ fn are_ended<A: Allocator + Copy>(
 
 // Each way out lets go all that a function holds, and is proved: this one holds nothing.
 fn all_texts(heap: &Heap, letters: &[u8], filled: &[u8]) -> Result<(), Fail> {
-    let text = between(letters, 0, 65536);
-    all_hold(&are_bounded(letters))?;
-    all_hold(&are_behind(heap, heap, text))?;
+    all_hold(&are_behind(heap, heap, letters))?;
     all_hold(&are_lengths(heap, heap))?;
-    all_hold(&are_ended(heap, heap, text, filled))
+    all_hold(&are_ended(heap, heap, letters, filled))
 }
 
 #[test]
 fn texts_are_written_and_read(rt: HostRuntime) -> Result<(), Fail> {
-    let letters = letters(rt.alloc(), 65537)?;
+    let letters = letters(rt.alloc(), 65536)?;
     let mut filled = Vec::from_slice(rt.alloc(), between(letters.as_slice(), 0, 300))?;
     filled.extend_from_slice(b"\0\0")?;
     let heap = &Refusing::new(rt.alloc(), 0);

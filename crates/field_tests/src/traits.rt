@@ -1,7 +1,8 @@
-// The traits and the sizes of the types, and that a wrapper is compared, ordered, hashed and shown
-// by its field.
+// The traits of the types, the sizes of some, and that a wrapper is compared, ordered, hashed and
+// shown by its field.
 
 use crate::constants::Magic;
+use mysql_wire::constants::{ColumnType, StatusFlags};
 use mysql_wire::misc::raw::bytes::{
     BareBytes, BareU8Bytes, BareU16Bytes, BytesRepr, ConstBytes, EofBytes, FixedLengthText,
     NullBytes, U8Bytes, U32Bytes,
@@ -10,7 +11,11 @@ use mysql_wire::misc::raw::int::{
     ConstU8, ConstU32, IntRepr, LeI16, LeI24, LeI32, LeI56, LeI64, LeU16, LeU24, LeU32,
     LeU32LowerHalf, LeU32UpperHalf, LeU48, LeU56, LeU64, LenEnc, VarLen,
 };
-use mysql_wire::misc::raw::{RawBytes, RawInt, Skip};
+use mysql_wire::misc::raw::seq::{Seq, Unknown};
+use mysql_wire::misc::raw::{
+    Both, Const, Either, RawBytes, RawConst, RawFlags, RawInt, RawSeq, Skip, Slice,
+};
+use std::alloc::Global;
 use std::cmp::Ordering;
 use std::fmt::Debug;
 use std::hash::{DefaultHasher, Hash, Hasher};
@@ -18,6 +23,7 @@ use std::marker::PhantomData;
 use std::test::Fail;
 use test_support::answers::shows_debug;
 use test_support::facts::all_hold;
+use test_support::fields::has_size;
 
 // A type that stands in one of these has its traits: with one that has not, this doesn't compile.
 pub struct IsPlain<T: Copy + Debug + Eq + Hash>(PhantomData<T>);
@@ -27,6 +33,16 @@ pub struct IsMade<T: Copy + Debug + Eq + Hash + Default>(PhantomData<T>);
 pub struct IsOrdered<T: Copy + Debug + Ord + Hash + Default>(PhantomData<T>);
 
 pub struct IsText<T: Clone + Debug + Ord + Hash + Default>(PhantomData<T>);
+
+pub struct IsRanked<T: Copy + Debug + Ord + Hash>(PhantomData<T>);
+
+pub struct IsList<T: Debug + Ord + Hash>(PhantomData<T>);
+
+pub struct HasDefault<T: Default>(PhantomData<T>);
+
+pub struct IsCopied<T: Copy>(PhantomData<T>);
+
+pub struct IsKept<T: Clone + Debug + Eq>(PhantomData<T>);
 
 pub struct OfRepresentations(
     IsOrdered<LeU16>,
@@ -64,6 +80,22 @@ pub struct OfConstants(
 // Of each number and text in whatever representation.
 pub struct OfFields<'a, T: IntRepr, U: BytesRepr>(IsOrdered<RawInt<T>>, IsText<RawBytes<'a, U>>);
 
+pub struct OfRows<'a>(
+    // Two fields are copied where both are.
+    IsCopied<Both<RawInt<LeU16>, Skip<2>>>,
+    IsCopied<Either<RawInt<LeU16>, RawInt<u8>>>,
+    IsKept<Both<RawInt<u8>, RawInt<LeU16>>>,
+    IsKept<Either<RawInt<u8>, RawInt<LeU16>>>,
+    IsOrdered<RawConst<LeU16, ColumnType>>,
+    IsOrdered<RawFlags<StatusFlags, LeU16>>,
+    IsOrdered<Const<u8, u8>>,
+    IsRanked<Unknown>,
+    HasDefault<Seq<'a, RawInt<LeU16>, LeU32>>,
+    IsList<Seq<'a, RawInt<LeU16>, LeU32>>,
+    IsList<RawSeq<'a, u8, ColumnType>>,
+    IsKept<Slice<'a>>,
+);
+
 // What a value is hashed to.
 fn hash_of<T: Hash>(value: &T) -> u64 {
     let mut hasher = DefaultHasher::new();
@@ -71,47 +103,74 @@ fn hash_of<T: Hash>(value: &T) -> u64 {
     hasher.finish()
 }
 
-// Whether two values are equal, of one order, and of one hash.
-fn are_same<T: Ord + Hash>(one: &T, other: &T) -> bool {
-    (*one == *other) & (one.cmp(other) == Ordering::Equal) & (hash_of(one) == hash_of(other))
+// Whether two values are equal, of one order, and of one hash. These functions take what they look
+// at, so that they let it go at whatever type.
+fn are_same<T: Ord + Hash + Drop>(one: T, other: T) -> bool {
+    (one == other) & (one.cmp(&other) == Ordering::Equal) & (hash_of(&one) == hash_of(&other))
 }
 
 // Whether the first value is less than the second, and of another hash.
-fn is_less<T: Ord + Hash>(one: &T, other: &T) -> bool {
-    (*one != *other) & (*one < *other) & (hash_of(one) != hash_of(other))
+fn is_less<T: Ord + Hash + Drop>(one: T, other: T) -> bool {
+    (one != other) & (one < other) & (hash_of(&one) != hash_of(&other))
 }
 
-// Two numbers that are written alike are yet two.
+/// Whether a copy of a value is the same.
+pub fn is_copied<T: Clone + PartialEq + Drop>(value: T) -> bool {
+    match value.clone() {
+        Ok(copy) => copy == value,
+        Err(_) => false,
+    }
+}
+
+fn is_shown<T: Debug + Drop>(alloc: Global, value: T, text: &str) -> bool {
+    shows_debug(alloc, &value, text)
+}
+
+// Two numbers that are written alike are yet two. The sizes of the other types are looked at with
+// their values.
 #[test]
 fn numbers_are_compared_by_their_field(rt: HostRuntime) -> Result<(), Fail> {
     let one = RawInt::<LeI16>::new(1);
     let less = RawInt::<LeI16>::new(-1);
     let (zero, wide) = (RawInt::<LeU24>::new(0), RawInt::<LeU24>::new(1 << 24));
+    let raw = RawConst::<u8, ColumnType>::new(7);
     all_hold(&[
-        are_same(&one, &RawInt::new(1)),
-        is_less(&less, &one),
-        are_same(&RawInt::<LeI16>::default(), &RawInt::new(0)),
-        is_less(&zero, &wide),
-        shows_debug(rt.alloc(), &less, "RawInt(-1, PhantomData<_>)"),
+        are_same(one, RawInt::new(1)),
+        is_less(less, one),
+        are_same(RawInt::<LeI16>::default(), RawInt::new(0)),
+        is_less(zero, wide),
+        is_shown(rt.alloc(), less, "RawInt(-1, PhantomData<_>)"),
+        is_shown(rt.alloc(), raw, "RawConst(7, PhantomData<_>)"),
+        has_size::<Both<RawInt<u8>, RawInt<LeU16>>>(None),
+        has_size::<Either<RawInt<u8>, RawInt<LeU16>>>(None),
     ])
+}
+
+fn text(bytes: &[u8]) -> RawBytes<'_, U8Bytes> {
+    RawBytes::from(bytes)
+}
+
+// Where there is no memory, it is another one.
+fn owned(alloc: Global) -> RawBytes<'static, U8Bytes> {
+    match Vec::from_slice(alloc, b"ab") {
+        Ok(bytes) => RawBytes::from(bytes),
+        Err(_) => text(b""),
+    }
 }
 
 // Two texts that are written alike are yet two, and an owned text is compared and shown as a
 // borrowed one.
 #[test]
 fn texts_are_compared_by_their_field(rt: HostRuntime) -> Result<(), Fail> {
-    let owned = RawBytes::<U8Bytes>::from(Vec::from_slice(rt.alloc(), b"ab")?);
-    let text = RawBytes::<U8Bytes>::from(b"ab".as_slice());
-    let next = RawBytes::<U8Bytes>::from(b"b".as_slice());
+    let alloc = rt.alloc();
     let short = RawBytes::<FixedLengthText<1>>::from(b"a".as_slice());
-    let is_copied = matches!(owned.clone(), Ok(copy) if copy == text);
     all_hold(&[
-        is_less(&text, &next),
-        is_less(&RawBytes::default(), &text),
-        short != RawBytes::from(b"ab".as_slice()),
-        shows_debug(rt.alloc(), &next, "RawBytes([98], PhantomData<_>)"),
-        are_same(&text, &owned),
-        shows_debug(rt.alloc(), &owned, "RawBytes([97, 98], PhantomData<_>)"),
-        is_copied,
+        is_less(text(b"ab"), text(b"b")),
+        is_less(RawBytes::default(), text(b"ab")),
+        is_less(short, RawBytes::from(b"ab".as_slice())),
+        is_shown(alloc, text(b"b"), "RawBytes([98], PhantomData<_>)"),
+        are_same(text(b"ab"), owned(alloc)),
+        is_shown(alloc, owned(alloc), "RawBytes([97, 98], PhantomData<_>)"),
+        is_copied(owned(alloc)),
     ])
 }

@@ -217,9 +217,9 @@ where
 }
 
 /// The same of the elements behind the count.
-pub fn reads_elements<U: SeqRepr<Ctx = ()>, A: Allocator + Copy>(alloc: A) -> Option<bool> {
+pub fn reads_elements<A: Allocator + Copy>(alloc: A) -> Option<bool> {
     let mut buf = ParseBuf(LIST);
-    match U::deserialize::<RawInt<LeU16>, A>(alloc, (), &mut buf) {
+    match <LeU32 as SeqRepr>::deserialize::<RawInt<LeU16>, A>(alloc, (), &mut buf) {
         Ok(items) => ((items.as_slice() == two().as_slice()) & (buf.len() == 1)).then_some(false),
         Err(error) => (is_refused(&error) & (buf.len() == 5)).then_some(true),
     }

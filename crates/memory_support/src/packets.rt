@@ -30,6 +30,18 @@ impl<'a, A: Allocator + Copy> Source<'a, A> {
         })
     }
 
+    pub fn fits(&self) -> bool {
+        self.reader.fits(&self.codec)
+    }
+
+    pub fn unread(&self) -> &[u8] {
+        self.reader.unread()
+    }
+
+    pub fn reads(&self) -> u64 {
+        self.reader.reads()
+    }
+
     /// The next packet, if there is one.
     pub fn next_packet(&mut self) -> Result<Option<Vec<u8, A>>, Told> {
         if !self.reader.fits(&self.codec) {
@@ -92,6 +104,10 @@ impl<A: Allocator + Copy> Outlet<A> {
             Ok(()) => Told::Done,
             Err(error) => told(&error),
         }
+    }
+
+    pub fn pending(&self) -> &[u8] {
+        self.writer.pending()
     }
 
     /// Writes all that is pending.

@@ -4,16 +4,16 @@
 use bytes::BytesMut;
 use memory_support::packets::{Outlet, Source};
 use mysql_wire::proto::codec::PacketDst;
-use refusing::{NEVER, Refusing};
+use refusing::NEVER;
 use std::alloc::Allocator;
-use std::test::Fail;
 use test_support::facts::are_parts;
 use test_support::fixture::{Fixture, Heap};
 use test_support::receiver::{Receiver, Run, Tally, frames, pieces_from};
 use test_support::told::Told;
 
+/// A call that takes memory.
 #[derive(Clone, Copy)]
-enum Taking {
+pub enum Taking {
     PacketToChunks,
     PiecesToChunks,
     Encode,
@@ -28,15 +28,16 @@ enum Taking {
     FillPacket,
 }
 
+/// What runs over pieces.
 #[derive(Clone, Copy)]
-enum Runner {
+pub enum Runner {
     Deliver,
     DeliverEach,
     DeliverLimited,
 }
 
-// A function by its name, and how often it asks for memory where none is refused.
-const ROWS: [(&str, Taking, u64); 14] = [
+/// A function by its name, and how often it asks for memory where none is refused.
+pub const ROWS: [(&str, Taking, u64); 14] = [
     ("packet_to_chunks", Taking::PacketToChunks, 1),
     ("packet_to_chunks", Taking::PiecesToChunks, 1),
     ("PacketCodec::encode", Taking::Encode, 1),
@@ -115,11 +116,11 @@ fn queues<A: Allocator + Copy>(heap: &Heap, alloc: A, nth: u64) -> Option<bool> 
     let refused = told == Told::OutOfMemory;
     let mut all = true;
     if refused {
-        all &= to.writer.pending().is_empty() & (packet.len() == LEN);
+        all &= to.pending().is_empty() & (packet.len() == LEN);
         told = to.queue(&mut packet);
     }
     all &= (told == Told::Done) & packet.is_empty();
-    all &= are_parts(to.writer.pending(), [HEADER, TEXT, b""]);
+    all &= are_parts(to.pending(), [HEADER, TEXT, b""]);
     all.then_some(refused)
 }
 
@@ -262,8 +263,8 @@ fn fills_packet<A: Allocator + Copy>(heap: &Heap, alloc: A, nth: u64) -> Option<
 
 // ---- all
 
-// Whether the request was refused, and what stands then is right.
-fn tries<A: Allocator + Copy>(heap: &Heap, alloc: A, call: Taking, nth: u64) -> Option<bool> {
+/// Whether the request was refused, and what stands then is right.
+pub fn tries<A: Allocator + Copy>(heap: &Heap, alloc: A, call: Taking, nth: u64) -> Option<bool> {
     match call {
         Taking::PacketToChunks => frames(heap, alloc, 0, FRAMED, nth),
         Taking::PiecesToChunks => frames(heap, alloc, 255, FRAMED_FROM_255, nth),
@@ -277,40 +278,5 @@ fn tries<A: Allocator + Copy>(heap: &Heap, alloc: A, call: Taking, nth: u64) -> 
         Taking::Deliver(runner) => delivers(heap, alloc, runner, nth),
         Taking::NextPacket => reads_packet(heap, alloc, nth),
         Taking::FillPacket => fills_packet(heap, alloc, nth),
-    }
-}
-
-// No call here asks so often.
-const MOST: u64 = 20;
-
-// How many requests a call makes, each refused in turn. None where one leaves something else.
-fn refusals<A: Allocator + Copy>(heap: &Heap, alloc: A, call: Taking) -> Option<u64> {
-    for nth in 0..MOST {
-        let refused = tries(heap, alloc, call, nth)?;
-        if refused != heap.has_refused() {
-            return None;
-        }
-        if !refused {
-            return Some(nth);
-        }
-    }
-    None
-}
-
-fn first_wrong<A: Allocator + Copy>(heap: &Heap, alloc: A) -> Option<&'static str> {
-    for (name, call, wanted) in ROWS {
-        if refusals(heap, alloc, call) != Some(wanted) {
-            return Some(name);
-        }
-    }
-    None
-}
-
-#[test]
-fn each_call_of_the_codec_goes_on_after_a_refusal(rt: HostRuntime) -> Result<(), Fail> {
-    let heap = &Refusing::new(rt.alloc(), NEVER);
-    match first_wrong(heap, heap) {
-        None => Ok(()),
-        Some(name) => Err(Fail::new(name)),
     }
 }

@@ -6,14 +6,12 @@ use memory_support::copies::{
     reads_stream, shows_text,
 };
 use memory_support::reading::Reading;
-use mysql_wire::misc::raw::int::LeU32;
-use refusing::{NEVER, Refusing};
 use std::alloc::Allocator;
-use std::test::Fail;
 use test_support::fixture::Heap;
 
+/// A call that takes memory.
 #[derive(Clone, Copy)]
-enum Taking {
+pub enum Taking {
     // With so many bytes left where it is refused, and where it isn't.
     Read(Reading, usize, usize),
     Elements,
@@ -24,10 +22,10 @@ enum Taking {
     ReadLenencStr,
 }
 
-// A function by its name, and how often it asks for memory where none is refused.
-type Row = (&'static str, Taking, u64);
+/// A function by its name, and how often it asks for memory where none is refused.
+pub type Row = (&'static str, Taking, u64);
 
-const ROWS: [Row; 28] = [
+pub const ROWS: [Row; 28] = [
     (
         "MyDeserialize::deserialize",
         Taking::Read(Reading::Deserialize, 5, 1),
@@ -123,51 +121,16 @@ const ROWS: [Row; 28] = [
     ("ReadMysqlExt::read_lenenc_str", Taking::ReadLenencStr, 1),
 ];
 
-// Whether the request was refused, and what stands then is right.
-fn tries<A: Allocator + Copy>(heap: &Heap, alloc: A, call: Taking, nth: u64) -> Option<bool> {
+/// Whether the request was refused, and what stands then is right.
+pub fn tries<A: Allocator + Copy>(heap: &Heap, alloc: A, call: Taking, nth: u64) -> Option<bool> {
     heap.refuse(nth);
     match call {
         Taking::Read(reading, if_refused, left) => reads_list(alloc, reading, if_refused, left),
-        Taking::Elements => reads_elements::<LeU32, A>(alloc),
+        Taking::Elements => reads_elements(alloc),
         Taking::Push => pushes(heap, alloc),
         Taking::Copy(holding, copying) => copies_held(heap, alloc, holding, copying, nth),
         Taking::AsStr(bytes, string) => shows_text(alloc, bytes, string),
         Taking::ReadLenencStr => reads_stream(alloc),
         Taking::CloneOwner(owner) => clones_owner(heap, alloc, owner, nth),
-    }
-}
-
-// No call here asks so often.
-const MOST: u64 = 20;
-
-// How many requests a call makes, each refused in turn. None where one leaves something else.
-fn refusals<A: Allocator + Copy>(heap: &Heap, alloc: A, call: Taking) -> Option<u64> {
-    for nth in 0..MOST {
-        let refused = tries(heap, alloc, call, nth)?;
-        if refused != heap.has_refused() {
-            return None;
-        }
-        if !refused {
-            return Some(nth);
-        }
-    }
-    None
-}
-
-fn first_wrong<A: Allocator + Copy>(heap: &Heap, alloc: A) -> Option<&'static str> {
-    for (name, call, wanted) in ROWS {
-        if refusals(heap, alloc, call) != Some(wanted) {
-            return Some(name);
-        }
-    }
-    None
-}
-
-#[test]
-fn each_copy_is_whole_or_refused(rt: HostRuntime) -> Result<(), Fail> {
-    let heap = &Refusing::new(rt.alloc(), NEVER);
-    match first_wrong(heap, heap) {
-        None => Ok(()),
-        Some(name) => Err(Fail::new(name)),
     }
 }

@@ -1,24 +1,22 @@
 //! What the errors say.
 
+use crate::texts;
 use mysql_wire::io::{InvalidLengthEncodedInteger, InvalidReason, WireError};
 use mysql_wire::proto::codec::error::PacketCodecError;
+use mysql_wire::proto::packet_io::PacketIoError;
 use std::alloc::Global;
 use std::fmt::{Debug, Display};
-use std::io;
+use std::io::{self, ErrorKind};
 use std::test::Fail;
-use test_support::facts::{ensure, no_row};
+use test_support::facts::{all_hold, no_row};
 
 // Whether an error shows as this text, and has some text for its programmers.
 fn shows<E: Display + Debug>(alloc: Global, error: &E, text: &str) -> bool {
-    let shown = match format!(in alloc; "{error}") {
-        Ok(shown) => shown.as_str() == text,
-        Err(_) => false,
-    };
-    let debugged = match format!(in alloc; "{error:?}") {
+    let is_debugged = match format!(in alloc; "{error:?}") {
         Ok(debugged) => !debugged.is_empty(),
         Err(_) => false,
     };
-    shown & debugged
+    texts::shows(alloc, error, text) & is_debugged
 }
 
 const REASONS: [(InvalidReason, &str); 5] = [
@@ -57,29 +55,47 @@ fn reasons_show_their_texts(rt: HostRuntime) -> Result<(), Fail> {
 fn wire_errors_show_their_texts(rt: HostRuntime) -> Result<(), Fail> {
     let alloc = rt.alloc();
     let eof = "can't parse: buf doesn't have enough data";
-    let good = shows(alloc, &InvalidLengthEncodedInteger, LENGTH)
-        && shows(
-            alloc,
-            &WireError::Other(InvalidLengthEncodedInteger),
-            LENGTH,
-        )
-        && shows(alloc, &WireError::UnexpectedEof, eof)
-        && shows(alloc, &WireError::OutOfMemory, "Out of memory");
-    let io = WireError::Io(io::Error::other("gone"));
-    ensure(good && shows(alloc, &io, "gone"), "a text")
+    let other = WireError::Other(InvalidLengthEncodedInteger);
+    let gone = WireError::Io(io::Error::other("gone"));
+    all_hold(&[
+        shows(alloc, &InvalidLengthEncodedInteger, LENGTH),
+        shows(alloc, &other, LENGTH),
+        shows(alloc, &WireError::UnexpectedEof, eof),
+        shows(alloc, &WireError::OutOfMemory, MEMORY),
+        shows(alloc, &gone, "gone"),
+    ])
 }
+
+const MEMORY: &str = "Out of memory";
+
+const SYNC: &str = "Packets out of sync";
+
+const TOO_LARGE: &str = "Packet is larger than max_allowed_packet";
 
 #[test]
 fn codec_errors_show_their_texts(rt: HostRuntime) -> Result<(), Fail> {
     let alloc = rt.alloc();
-    let too_large = "Packet is larger than max_allowed_packet";
-    let good = shows(alloc, &PacketCodecError::PacketTooLarge, too_large)
-        && shows(
-            alloc,
-            &PacketCodecError::PacketsOutOfSync,
-            "Packets out of sync",
-        )
-        && shows(alloc, &PacketCodecError::OutOfMemory, "Out of memory");
-    let io = PacketCodecError::Io(io::Error::other("gone"));
-    ensure(good && shows(alloc, &io, "IO error: `gone'"), "a text")
+    let gone = PacketCodecError::Io(io::Error::other("gone"));
+    all_hold(&[
+        shows(alloc, &PacketCodecError::PacketTooLarge, TOO_LARGE),
+        shows(alloc, &PacketCodecError::PacketsOutOfSync, SYNC),
+        shows(alloc, &PacketCodecError::OutOfMemory, MEMORY),
+        shows(alloc, &gone, "IO error: `gone'"),
+    ])
+}
+
+const END: &str = "unexpected end of input inside a packet";
+
+#[test]
+fn errors_of_readers_and_writers_show_their_texts(rt: HostRuntime) -> Result<(), Fail> {
+    let alloc = rt.alloc();
+    let eof = PacketIoError::Io(io::Error::from(ErrorKind::UnexpectedEof));
+    all_hold(&[
+        shows(alloc, &eof, "IO error: `unexpected end of file'"),
+        shows(alloc, &PacketIoError::UnexpectedEnd, END),
+        shows(alloc, &PacketIoError::WriteZero, "write accepted no bytes"),
+        shows(alloc, &PacketIoError::PacketTooLarge, TOO_LARGE),
+        shows(alloc, &PacketIoError::PacketsOutOfSync, SYNC),
+        shows(alloc, &PacketIoError::OutOfMemory, MEMORY),
+    ])
 }

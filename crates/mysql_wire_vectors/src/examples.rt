@@ -3,11 +3,13 @@
 use bytes::BytesMut;
 use mysql_wire::constants::MAX_PAYLOAD_LEN;
 use mysql_wire::proto::codec::packet_to_chunks;
-use std::alloc::{AllocError, Global};
+use std::alloc::Global;
 use std::test::Fail;
-use test_support::facts::ensure;
-use test_support::fixture::{FILL, is_filled};
+use test_support::answers::told;
+use test_support::facts::{all_hold, are_parts};
+use test_support::fixture::FILL;
 use test_support::receiver::Receiver;
+use test_support::reference::low_byte;
 use test_support::script::{Script, Step, play};
 use test_support::told::Told;
 
@@ -123,48 +125,42 @@ fn each_example_succeeds_with_memory(rt: HostRuntime) -> Result<(), Fail> {
 }
 
 // The numbers here are the protocol's own: three bytes of 255 are the most that a header states.
-fn is_full_chunk_framed(alloc: Global) -> Result<bool, AllocError> {
-    let payload = Vec::from_elem(alloc, FILL, 16777215)?;
+fn is_full_chunk_framed(alloc: Global) -> bool {
+    let mut payload = Vec::new(alloc);
+    let _ = payload.resize(16777215, FILL);
     let mut packet = payload.as_slice();
     let mut dst = BytesMut::new(alloc);
-    let answer = packet_to_chunks(255, &mut packet, &mut dst);
-    let Some(chunks) = dst.as_slice().strip_prefix(b"\xff\xff\xff\xff") else {
-        return Ok(false);
-    };
-    let is_first_full = match chunks.strip_suffix(b"\0\0\0\0") {
-        Some(bytes) => is_filled(bytes, 16777215),
-        None => false,
-    };
-    Ok(is_first_full && dst.len() == 16777223 && matches!(answer, Ok(1)))
+    let answer = told(packet_to_chunks(255, &mut packet, &mut dst));
+    let framed = [
+        b"\xff\xff\xff\xff".as_slice(),
+        payload.as_slice(),
+        b"\0\0\0\0",
+    ];
+    (answer == Ok(1)) & are_parts(dst.as_slice(), framed)
 }
 
-#[test]
-fn a_full_chunk_is_followed_by_an_empty_one(rt: HostRuntime) -> Result<(), Fail> {
-    ensure(
-        is_full_chunk_framed(rt.alloc())?,
-        "the empty chunk ends the packet",
-    )
-}
-
-#[test]
-fn five_pieces_are_two_packets_and_a_byte(rt: HostRuntime) -> Result<(), Fail> {
-    let mut receiver = Receiver::<Global>::new(rt.alloc(), 4194304);
+fn are_two_packets_and_a_byte(alloc: Global) -> bool {
+    let mut receiver = Receiver::new(alloc, 4194304);
     let run = receiver.deliver(&[b"\x03", b"\0\0", b"\x001", b"", b"23\x01\0\0\x01\xff\0"]);
-    ensure(run == (5, Told::Waits), "all five are taken")?;
-    ensure(
-        receiver.shows(&[b"123", b"\xff"], b"\0", b""),
-        "what is delivered, and left",
-    )
+    (run == (5, Told::Waits)) & receiver.shows(&[b"123", b"\xff"], b"\0", b"")
+}
+
+// 257 empty packets, and the next id.
+fn ids_go_on_with_0_after_255(alloc: Global) -> bool {
+    let mut stream = Vec::new(alloc);
+    for i in 0..257usize {
+        let _ = stream.extend_from_slice(&[0, 0, 0, low_byte(i)]);
+    }
+    let mut receiver = Receiver::new(alloc, 0);
+    let waits = receiver.deliver(&[stream.as_slice()]) == (1, Told::Waits);
+    waits & (receiver.out.len() == 257) & (receiver.next_id() == Some(1))
 }
 
 #[test]
-fn ids_go_on_with_0_after_255(rt: HostRuntime) -> Result<(), Fail> {
-    let mut stream = Vec::new(rt.alloc());
-    for i in 0..257u32 {
-        stream.extend_from_slice(&[0, 0, 0, (i % 256) as u8])?;
-    }
-    let mut receiver = Receiver::<Global>::new(rt.alloc(), 0);
-    let waits = receiver.deliver(&[stream.as_slice()]) == (1, Told::Waits);
-    ensure(waits && receiver.out.len() == 257, "257 empty packets")?;
-    ensure(receiver.next_id() == Some(1), "the next id")
+fn streams_are_framed_and_delivered(rt: HostRuntime) -> Result<(), Fail> {
+    all_hold(&[
+        is_full_chunk_framed(rt.alloc()),
+        are_two_packets_and_a_byte(rt.alloc()),
+        ids_go_on_with_0_after_255(rt.alloc()),
+    ])
 }

@@ -1,5 +1,6 @@
 //! The callers of the codec, run: each answer that they have.
 
+use crate::values::are_unchanged;
 use bytes::BytesMut;
 use mysql_wire::proto::codec::error::PacketCodecError;
 use mysql_wire_examples::again::deliver_again;
@@ -10,7 +11,7 @@ use std::alloc::{Allocator, Global};
 use std::io;
 use std::io::Read;
 use std::test::Fail;
-use test_support::facts::{ensure, no_row};
+use test_support::facts::{all_hold, no_row};
 use test_support::fixture::Heap;
 use test_support::receiver::{Receiver, Run, are_packets};
 use test_support::told::Told;
@@ -131,14 +132,15 @@ fn is_served(alloc: Global, row: &Row, cut: usize) -> bool {
 
 #[test]
 fn commands_are_served_however_they_are_cut(rt: HostRuntime) -> Result<(), Fail> {
+    let mut wrong = None;
     for (i, row) in COMMANDS.iter().enumerate() {
         for cut in 0..row.0.len() + 1 {
             if !is_served(rt.alloc(), row, cut) {
-                return Err(Fail::new(format_args!("row {i} cut at {cut}")));
+                wrong = Some(i);
             }
         }
     }
-    Ok(())
+    no_row(wrong)
 }
 
 // A reader that gives a byte at a time, and then fails or ends.
@@ -239,8 +241,16 @@ fn goes_on<A: Allocator + Copy>(heap: &Heap, alloc: A) -> bool {
     all
 }
 
+// Both over the same allocator, which is looked at as one once.
+fn bear_refusals<A: Allocator + Copy>(heap: &Heap, alloc: A) -> [bool; 2] {
+    [
+        goes_on(heap, alloc),
+        are_unchanged(heap, alloc) == [true; 3],
+    ]
+}
+
 #[test]
-fn a_refused_run_goes_on(rt: HostRuntime) -> Result<(), Fail> {
+fn a_refused_run_goes_on_and_a_refused_value_changes_nothing(rt: HostRuntime) -> Result<(), Fail> {
     let heap = &Refusing::new(rt.alloc(), NEVER);
-    ensure(goes_on(heap, heap), "a run")
+    all_hold(&bear_refusals(heap, heap))
 }

@@ -1,7 +1,8 @@
 //! The calls on sets of flags and on enums, run: each with a row or two.
 
 use mysql_wire::constants::{
-    ColumnType, Command, GeometryType, ItemResult, UnknownColumnType, UnknownStatusFlags,
+    ColumnType, Command, GeometryType, ItemResult, StatusFlags, UnknownColumnType,
+    UnknownStatusFlags,
 };
 use mysql_wire_examples::constant_calls::{
     all, bits, column_type_back, column_type_of, command_byte, complement, contains, converted,
@@ -21,6 +22,11 @@ fn sets_are_made_and_joined(rt: HostRuntime) {
     let second = from_bits_retain(SECOND);
     let made = [
         bits(first),
+        bits(union(
+            StatusFlags::SERVER_STATUS_IN_TRANS,
+            StatusFlags::SERVER_STATUS_AUTOCOMMIT,
+        )),
+        bits(second),
         bits(empty()),
         bits(default()),
         bits(all()),
@@ -31,9 +37,11 @@ fn sets_are_made_and_joined(rt: HostRuntime) {
         bits(symmetric_difference(first, second)),
         bits(complement(second)),
     ];
-    assert!(rt; made == [3, 0, 0, 0xfffb, 0x000a, 0x000f, 2, 1, 0x000d, 0xfff1]);
-    let known = [from_bits(FIRST).is_some(), from_bits(SECOND).is_some()];
-    assert!(rt; known == [true, false]);
+    let wanted = [
+        3, 3, 0x000e, 0, 0, 0xfffb, 0x000a, 0x000f, 2, 1, 0x000d, 0xfff1,
+    ];
+    let known = [from_bits(FIRST), from_bits(SECOND)];
+    assert!(rt; (made == wanted) & (known == [Some(first), None]));
 }
 
 #[test]
@@ -42,15 +50,19 @@ fn sets_are_tested(rt: HostRuntime) {
     let second = from_bits_retain(SECOND);
     let tested = [
         is_empty(empty()),
-        is_empty(first),
+        !is_empty(first),
+        !is_empty(second),
         is_all(all()),
-        is_all(second),
+        is_all(from_bits_retain(0xffff)),
+        !is_all(from_bits_retain(0x7fff)),
+        !is_all(second),
+        contains(first, StatusFlags::SERVER_STATUS_AUTOCOMMIT),
         contains(first, empty()),
-        contains(first, second),
+        !contains(first, second),
         intersects(first, second),
-        intersects(first, empty()),
+        !intersects(first, empty()),
     ];
-    assert!(rt; tested == [true, false, true, false, true, false, true, false]);
+    assert!(rt; tested == [true; 12]);
 }
 
 #[test]
@@ -60,33 +72,48 @@ fn sets_are_changed(rt: HostRuntime) {
     let mut flags = first;
     insert(&mut flags, second);
     let inserted = bits(flags);
-    remove(&mut flags, first);
+    remove(&mut flags, StatusFlags::SERVER_STATUS_IN_TRANS);
     let removed = bits(flags);
     toggle(&mut flags, first);
     let toggled = bits(flags);
+    set(&mut flags, first, true);
+    let set_first = bits(flags);
     set(&mut flags, second, false);
     let unset = bits(flags);
     set(&mut flags, second, true);
-    let changed = [inserted, removed, toggled, unset, bits(flags)];
-    assert!(rt; changed == [0x000f, 0x000c, 0x000f, 1, 0x000f]);
+    let set_second = bits(flags);
+    remove(&mut flags, first);
+    let less = bits(flags);
+    toggle(&mut flags, first);
+    let changed = [
+        inserted,
+        removed,
+        toggled,
+        set_first,
+        unset,
+        set_second,
+        less,
+        bits(flags),
+    ];
+    assert!(rt; changed == [0x000f, 0x000e, 0x000d, 0x000f, 1, 0x000f, 0x000c, 0x000f]);
 }
 
 #[test]
 fn numbers_are_converted(rt: HostRuntime) {
-    assert!(rt; status_there_and_back(FIRST) == Ok(FIRST));
-    assert!(rt; status_there_and_back(SECOND) == Err(UnknownStatusFlags(SECOND)));
+    let json = ColumnType::MYSQL_TYPE_JSON;
     let bytes = [
         command_byte(Command::COM_QUERY),
         geometry_type_byte(GeometryType::GEOM_POINT),
     ];
-    assert!(rt; bytes == [3, 1]);
-    assert!(rt; item_result_byte(ItemResult::INVALID_RESULT) == -1);
-    let json = ColumnType::MYSQL_TYPE_JSON;
     let types = [
         column_type_of(245),
         converted::<ColumnType>(245),
         column_type_back(json),
+        column_type_of(244),
     ];
-    assert!(rt; types == [Ok(json); 3]);
-    assert!(rt; column_type_of(244) == Err(UnknownColumnType(244)));
+    let wanted = [Ok(json), Ok(json), Ok(json), Err(UnknownColumnType(244))];
+    let sets = [status_there_and_back(FIRST), status_there_and_back(SECOND)];
+    let mut all = sets == [Ok(FIRST), Err(UnknownStatusFlags(SECOND))];
+    all &= (bytes == [3, 1]) & (types == wanted);
+    assert!(rt; all & (item_result_byte(ItemResult::INVALID_RESULT) == -1));
 }

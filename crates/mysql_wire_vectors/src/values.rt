@@ -7,7 +7,7 @@ use mysql_wire::misc::raw::int::{IntRepr, LeU16, LenEnc, RawInt};
 use mysql_wire::proto::codec::error::PacketCodecError;
 use mysql_wire::proto::codec::{PacketCodec, encode_value, parse_packet};
 use mysql_wire_examples::values::{TransferError, send_and_read};
-use refusing::{NEVER, Refusing};
+use refusing::NEVER;
 use std::alloc::{Allocator, Global};
 use std::borrow::CowSlice;
 use std::test::Fail;
@@ -120,19 +120,14 @@ fn is_unchanged<A: Allocator + Copy>(heap: &Heap, alloc: A, limit: usize, nth: u
     all & (wire.as_slice() == b"\x01\0\0\0\x01\x02\0\0\x01\x02\x03".as_slice())
 }
 
-// Too large, or refused the payload's room, or the buffer's.
-fn are_unchanged<A: Allocator + Copy>(heap: &Heap, alloc: A) -> [bool; 3] {
+/// Whether a refused value changes nothing: too large, or refused the payload's room, or the
+/// buffer's.
+pub fn are_unchanged<A: Allocator + Copy>(heap: &Heap, alloc: A) -> [bool; 3] {
     [
         is_unchanged(heap, alloc, 1, NEVER),
         is_unchanged(heap, alloc, 2, 0),
         is_unchanged(heap, alloc, 2, 1),
     ]
-}
-
-#[test]
-fn a_refused_value_changes_nothing(rt: HostRuntime) -> Result<(), Fail> {
-    let heap = &Refusing::new(rt.alloc(), NEVER);
-    all_hold(&are_unchanged(heap, heap))
 }
 
 // Whether three texts come back over bytes that are cut there.

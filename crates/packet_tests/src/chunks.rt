@@ -3,8 +3,9 @@
 use mysql_wire::constants::MAX_PAYLOAD_LEN;
 use std::alloc::Global;
 use std::test::Fail;
+use test_support::facts::no_row;
 use test_support::fixture::Remembered;
-use test_support::script::{Script, Step, first_fault, play};
+use test_support::script::{Step, first_fault};
 use test_support::told::Told;
 
 // A state, what is to be read, what is held and a limit; and the same after the call, with its
@@ -35,15 +36,6 @@ impl Row {
     }
 }
 
-fn all_go(alloc: Global, rows: &[Row]) -> Result<(), Fail> {
-    for (i, row) in rows.iter().enumerate() {
-        if let Some(step) = first_fault(alloc, &row.steps()) {
-            return Err(Fail::new(format_args!("row {i}, step {step}")));
-        }
-    }
-    Ok(())
-}
-
 // A row that changes nothing.
 macro_rules! unchanged {
     ($state:expr, $src:literal, $held:literal, $limit:expr, $told:expr $(,)?) => {
@@ -58,21 +50,6 @@ macro_rules! unchanged {
             new_held: $held,
         }
     };
-}
-
-const WITHOUT_A_HEADER: &[Row] = &[
-    unchanged!(None, b"", b"", 9, Told::Waits),
-    unchanged!(None, b"\x01", b"", 9, Told::Waits),
-    unchanged!(None, b"\0\0", b"x", 0, Told::Waits),
-    unchanged!(None, b"\xff\xff\xff", b"", 0, Told::Waits),
-    // Also where a header is remembered, and where fewer bytes than it has stand in front.
-    unchanged!(Some((9, 1)), b"", b"", 9, Told::Waits),
-    unchanged!(Some((9, 1)), b"\x01\0\0", b"xy", 0, Told::Waits),
-];
-
-#[test]
-fn without_a_whole_header_nothing_happens(rt: HostRuntime) -> Result<(), Fail> {
-    all_go(rt.alloc(), WITHOUT_A_HEADER)
 }
 
 // From `Idle`, with everything taken.
@@ -93,49 +70,6 @@ macro_rules! taken {
     };
 }
 
-const EMPTY: &[Row] = &[
-    taken!(b"\0\0\0\0", b"", 0, Told::Last(0), b"", b""),
-    taken!(b"\0\0\0\xff", b"", 0, Told::Last(255), b"", b""),
-    taken!(
-        b"\0\0\0\x05\x01\0",
-        b"xyz",
-        0,
-        Told::Last(5),
-        b"\x01\0",
-        b"xyz",
-    ),
-    taken!(
-        b"\0\0\0\x01\0\0\0\x02",
-        b"xyz",
-        2,
-        Told::Last(1),
-        b"\0\0\0\x02",
-        b"xyz",
-    ),
-];
-
-#[test]
-fn an_empty_chunk_is_a_packets_last_at_any_limit(rt: HostRuntime) -> Result<(), Fail> {
-    all_go(rt.alloc(), EMPTY)
-}
-
-const TOO_LARGE: &[Row] = &[
-    unchanged!(None, b"\x01\0\0\0", b"", 0, Told::TooLarge),
-    unchanged!(None, b"\x01\0\0\0\x61", b"", 0, Told::TooLarge),
-    unchanged!(None, b"\x05\0\0\x07\x61", b"", 4, Told::TooLarge),
-    unchanged!(None, b"\x02\0\0\x07\xaa\xbb", b"xyz", 4, Told::TooLarge),
-    unchanged!(None, b"\xff\xff\xff\xff", b"", 16777214, Told::TooLarge),
-    unchanged!(None, b"\0\0\x01\0", b"", 65535, Told::TooLarge),
-    unchanged!(None, b"\0\x01\0\0", b"", 255, Told::TooLarge),
-    // More is held than the limit allows.
-    unchanged!(None, b"\x01\0\0\0\x61", b"xyz", 2, Told::TooLarge),
-];
-
-#[test]
-fn a_chunk_past_the_limit_is_refused_by_its_header(rt: HostRuntime) -> Result<(), Fail> {
-    all_go(rt.alloc(), TOO_LARGE)
-}
-
 // From `Idle`, with the header alone taken, into the decoder.
 macro_rules! begun {
     ($src:literal, $held:literal, $limit:expr, $id:literal, $needed:literal $(,)?) => {
@@ -150,45 +84,6 @@ macro_rules! begun {
             new_held: $held,
         }
     };
-}
-
-const REMEMBERED: &[Row] = &[
-    begun!(b"\x01\0\0\0", b"", 1, 0, 1),
-    begun!(b"\x05\0\0\x07\x61", b"", 5, 7, 5),
-    begun!(b"\x02\0\0\xff\xaa", b"xyz", 5, 255, 2),
-    begun!(b"\x01\x02\x03\x04\x61", b"", usize::MAX, 4, 197121),
-    begun!(b"\xff\xff\xff\0", b"", 16777215, 0, 16777215),
-];
-
-#[test]
-fn a_chunk_within_the_limit_is_remembered(rt: HostRuntime) -> Result<(), Fail> {
-    all_go(rt.alloc(), REMEMBERED)
-}
-
-const WHOLE: &[Row] = &[
-    taken!(b"\x01\0\0\0\x61", b"", 1, Told::Last(0), b"", b"a"),
-    taken!(b"\x02\0\0\x07ab\x03", b"", 2, Told::Last(7), b"\x03", b"ab"),
-    taken!(
-        b"\x02\0\0\x07\xaa\xbb",
-        b"xyz",
-        5,
-        Told::Last(7),
-        b"",
-        b"xyz\xaa\xbb",
-    ),
-    taken!(
-        b"\x01\0\0\xff\0\0",
-        b"",
-        usize::MAX,
-        Told::Last(255),
-        b"\0",
-        b"\0",
-    ),
-];
-
-#[test]
-fn a_whole_chunk_is_moved(rt: HostRuntime) -> Result<(), Fail> {
-    all_go(rt.alloc(), WHOLE)
 }
 
 // Whose header is remembered, with everything taken.
@@ -210,6 +105,84 @@ macro_rules! finished {
     };
 }
 
+// Without a whole header nothing happens.
+const WITHOUT_A_HEADER: &[Row] = &[
+    unchanged!(None, b"", b"", 9, Told::Waits),
+    unchanged!(None, b"\x01", b"", 9, Told::Waits),
+    unchanged!(None, b"\0\0", b"x", 0, Told::Waits),
+    unchanged!(None, b"\xff\xff\xff", b"", 0, Told::Waits),
+    // Also where a header is remembered, and where fewer bytes than it has stand in front.
+    unchanged!(Some((9, 1)), b"", b"", 9, Told::Waits),
+    unchanged!(Some((9, 1)), b"\x01\0\0", b"xy", 0, Told::Waits),
+];
+
+// An empty chunk is a packet's last at any limit.
+const EMPTY: &[Row] = &[
+    taken!(b"\0\0\0\0", b"", 0, Told::Last(0), b"", b""),
+    taken!(b"\0\0\0\xff", b"", 0, Told::Last(255), b"", b""),
+    taken!(
+        b"\0\0\0\x05\x01\0",
+        b"xyz",
+        0,
+        Told::Last(5),
+        b"\x01\0",
+        b"xyz",
+    ),
+    taken!(
+        b"\0\0\0\x01\0\0\0\x02",
+        b"xyz",
+        2,
+        Told::Last(1),
+        b"\0\0\0\x02",
+        b"xyz",
+    ),
+];
+
+// A chunk past the limit is refused by its header.
+const TOO_LARGE: &[Row] = &[
+    unchanged!(None, b"\x01\0\0\0", b"", 0, Told::TooLarge),
+    unchanged!(None, b"\x01\0\0\0\x61", b"", 0, Told::TooLarge),
+    unchanged!(None, b"\x05\0\0\x07\x61", b"", 4, Told::TooLarge),
+    unchanged!(None, b"\x02\0\0\x07\xaa\xbb", b"xyz", 4, Told::TooLarge),
+    unchanged!(None, b"\xff\xff\xff\xff", b"", 16777214, Told::TooLarge),
+    unchanged!(None, b"\0\0\x01\0", b"", 65535, Told::TooLarge),
+    unchanged!(None, b"\0\x01\0\0", b"", 255, Told::TooLarge),
+    // More is held than the limit allows.
+    unchanged!(None, b"\x01\0\0\0\x61", b"xyz", 2, Told::TooLarge),
+];
+
+// A chunk within the limit is remembered.
+const REMEMBERED: &[Row] = &[
+    begun!(b"\x01\0\0\0", b"", 1, 0, 1),
+    begun!(b"\x05\0\0\x07\x61", b"", 5, 7, 5),
+    begun!(b"\x02\0\0\xff\xaa", b"xyz", 5, 255, 2),
+    begun!(b"\x01\x02\x03\x04\x61", b"", usize::MAX, 4, 197121),
+    begun!(b"\xff\xff\xff\0", b"", 16777215, 0, 16777215),
+];
+
+// A whole chunk is moved.
+const WHOLE: &[Row] = &[
+    taken!(b"\x01\0\0\0\x61", b"", 1, Told::Last(0), b"", b"a"),
+    taken!(b"\x02\0\0\x07ab\x03", b"", 2, Told::Last(7), b"\x03", b"ab"),
+    taken!(
+        b"\x02\0\0\x07\xaa\xbb",
+        b"xyz",
+        5,
+        Told::Last(7),
+        b"",
+        b"xyz\xaa\xbb",
+    ),
+    taken!(
+        b"\x01\0\0\xff\0\0",
+        b"",
+        usize::MAX,
+        Told::Last(255),
+        b"\0",
+        b"\0",
+    ),
+];
+
+// A remembered header is what counts.
 const COUNTS: &[Row] = &[
     // Its four bytes are skipped unread, and the limit is not looked at.
     finished!(9, 1, b"\xff\xff\xff\xff\x61", 0, Told::Last(9), b"", b"a"),
@@ -236,9 +209,27 @@ const COUNTS: &[Row] = &[
     unchanged!(Some((9, usize::MAX - 4)), b"\0\0\0\0", b"", 0, Told::Waits),
 ];
 
+// The number of the first row that goes otherwise, where they are counted from this one.
+fn wrong_row(alloc: Global, first: usize, rows: &[Row]) -> Option<usize> {
+    for i in 0..rows.len() {
+        if first_fault(alloc, &rows[i].steps()).is_some() {
+            return Some(first.wrapping_add(i));
+        }
+    }
+    None
+}
+
+// The rows of each kind are counted from a hundred more.
 #[test]
-fn a_remembered_header_is_what_counts(rt: HostRuntime) -> Result<(), Fail> {
-    all_go(rt.alloc(), COUNTS)
+fn a_chunk_goes_by_the_state_of_its_decoder(rt: HostRuntime) -> Result<(), Fail> {
+    let alloc = rt.alloc();
+    let wrong = wrong_row(alloc, 0, WITHOUT_A_HEADER)
+        .or(wrong_row(alloc, 100, EMPTY))
+        .or(wrong_row(alloc, 200, TOO_LARGE))
+        .or(wrong_row(alloc, 300, REMEMBERED))
+        .or(wrong_row(alloc, 400, WHOLE))
+        .or(wrong_row(alloc, 500, COUNTS));
+    no_row(wrong)
 }
 
 // A decoder that needs so many bytes, where so many are there and so many held, and its answer.
@@ -322,28 +313,11 @@ const LONG: &[Long] = &[
 
 #[test]
 fn a_packet_goes_on_where_whole_chunks_are_held(rt: HostRuntime) -> Result<(), Fail> {
-    for (i, row) in LONG.iter().enumerate() {
-        if let Some(step) = first_fault(rt.alloc(), &row.steps()) {
-            return Err(Fail::new(format_args!("row {i}, step {step}")));
+    let mut wrong = None;
+    for i in 0..LONG.len() {
+        if first_fault(rt.alloc(), &LONG[i].steps()).is_some() {
+            wrong = Some(i);
         }
     }
-    Ok(())
-}
-
-#[test]
-fn an_empty_chunk_ends_a_packet_of_full_chunks(rt: HostRuntime) -> Result<(), Fail> {
-    play(
-        rt.alloc(),
-        &[Script {
-            name: "the chunk is the last one",
-            steps: &[
-                Step::DstMany(MAX_PAYLOAD_LEN),
-                Step::Src(b"\0\0\0\x01"),
-                Step::Chunk(0, Told::Last(1)),
-                Step::Remembers(None),
-                Step::Left(b""),
-                Step::HeldMany(MAX_PAYLOAD_LEN),
-            ],
-        }],
-    )
+    no_row(wrong)
 }

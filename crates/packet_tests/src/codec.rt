@@ -3,12 +3,13 @@
 use mysql_wire::constants::MAX_PAYLOAD_LEN;
 use std::alloc::Global;
 use std::test::Fail;
+use test_support::facts::no_row;
 use test_support::reference::framed_len;
 use test_support::script::{Script, Step, first_fault, play};
 use test_support::told::Told;
 
 // What each call answers, takes and leaves.
-const CALLS: [Script; 5] = [
+const CALLS: [Script; 6] = [
     Script {
         name: "a header is kept until its bytes come",
         steps: &[
@@ -104,6 +105,17 @@ const CALLS: [Script; 5] = [
             Step::Decode(Told::Whole),
             Step::Held(b"xyz\xaa\xbb"),
             Step::Left(b""),
+        ],
+    },
+    Script {
+        name: "an empty chunk ends a packet of full chunks",
+        steps: &[
+            Step::DstMany(MAX_PAYLOAD_LEN),
+            Step::Src(b"\0\0\0\x01"),
+            Step::Chunk(0, Told::Last(1)),
+            Step::Remembers(None),
+            Step::Left(b""),
+            Step::HeldMany(MAX_PAYLOAD_LEN),
         ],
     },
 ];
@@ -372,6 +384,95 @@ fn a_call_grows_its_target_once(rt: HostRuntime) -> Result<(), Fail> {
     play(rt.alloc(), &GROWTHS)
 }
 
+// A packet of two full chunks and a byte.
+const LONG: usize = 2 * MAX_PAYLOAD_LEN + 1;
+
+// The target refuses to put what it took room for.
+const PUTS: [Script; 4] = [
+    Script {
+        name: "the first put is refused",
+        steps: &[
+            Step::Counting,
+            Step::Limit(LONG),
+            Step::EncodeMany(LONG, Told::Done),
+            Step::Reset,
+            Step::RefusePut(0),
+            Step::Decode(Told::OutOfMemory),
+            Step::HeldMany(0),
+            Step::LeftMany(LONG + 12),
+            Step::Stands(true),
+            // The header is remembered.
+            Step::Limit(0),
+            Step::Stands(false),
+            Step::Limit(LONG),
+            Step::Decode(Told::Whole),
+            Step::HeldMany(LONG),
+            Step::Left(b""),
+        ],
+    },
+    Script {
+        name: "the second put is refused",
+        steps: &[
+            Step::Counting,
+            Step::Limit(LONG),
+            Step::EncodeMany(LONG, Told::Done),
+            Step::Reset,
+            Step::RefusePut(1),
+            Step::Decode(Told::OutOfMemory),
+            // The chunk before it is held, and eaten.
+            Step::HeldMany(MAX_PAYLOAD_LEN),
+            Step::LeftMany(MAX_PAYLOAD_LEN + 9),
+            Step::Stands(true),
+            Step::Limit(0),
+            Step::Stands(false),
+            Step::Limit(LONG),
+            Step::Decode(Told::Whole),
+            Step::HeldMany(LONG),
+            Step::Left(b""),
+        ],
+    },
+    Script {
+        name: "the third put is refused",
+        steps: &[
+            Step::Counting,
+            Step::Limit(LONG),
+            Step::EncodeMany(LONG, Told::Done),
+            Step::Reset,
+            Step::RefusePut(2),
+            Step::Decode(Told::OutOfMemory),
+            Step::HeldMany(2 * MAX_PAYLOAD_LEN),
+            Step::LeftMany(5),
+            Step::Stands(true),
+            Step::Limit(0),
+            Step::Stands(false),
+            Step::Limit(LONG),
+            Step::Decode(Told::Whole),
+            Step::HeldMany(LONG),
+            Step::Left(b""),
+        ],
+    },
+    Script {
+        name: "a single chunk's put is refused",
+        steps: &[
+            Step::Counting,
+            Step::Src(b"\x02\0\0\x07ab"),
+            Step::RefusePut(0),
+            Step::Chunk(2, Told::OutOfMemory),
+            Step::Left(b"\x02\0\0\x07ab"),
+            Step::Held(b""),
+            Step::Remembers(Some((7, 2))),
+            // It is not judged again.
+            Step::Chunk(0, Told::Last(7)),
+            Step::Held(b"ab"),
+        ],
+    },
+];
+
+#[test]
+fn what_was_put_before_a_refusal_is_held(rt: HostRuntime) -> Result<(), Fail> {
+    play(rt.alloc(), &PUTS)
+}
+
 // A packet of so many bytes at this limit, which is not below.
 fn passing(len: usize, limit: usize) -> [Step; 7] {
     [
@@ -385,8 +486,8 @@ fn passing(len: usize, limit: usize) -> [Step; 7] {
     ]
 }
 
-// And at a limit of one byte less: then the chunk with its last byte is refused, so many bytes being
-// held, and so many left.
+// And at a limit of one byte less: then the chunk with its last byte is refused, so many bytes
+// being held, and so many left.
 fn refused(len: usize, held: usize, left: usize) -> [Step; 9] {
     let limit = len.saturating_sub(1);
     [
@@ -411,24 +512,28 @@ fn goes_at_limits(alloc: Global, len: usize, held: usize) -> bool {
     at.or(above).or(below).is_none()
 }
 
+// The lengths of packets, and how many bytes are held where the last chunk is refused.
+const AT_LIMITS: &[(usize, usize)] = &[
+    (1, 0),
+    (2, 0),
+    (MAX_PAYLOAD_LEN - 1, 0),
+    (MAX_PAYLOAD_LEN, 0),
+    (MAX_PAYLOAD_LEN + 1, MAX_PAYLOAD_LEN),
+    (MAX_PAYLOAD_LEN + 2, MAX_PAYLOAD_LEN),
+    (2 * MAX_PAYLOAD_LEN - 1, MAX_PAYLOAD_LEN),
+    (2 * MAX_PAYLOAD_LEN, MAX_PAYLOAD_LEN),
+    (2 * MAX_PAYLOAD_LEN + 1, 2 * MAX_PAYLOAD_LEN),
+    (2 * MAX_PAYLOAD_LEN + 2, 2 * MAX_PAYLOAD_LEN),
+];
+
 #[test]
 fn packets_pass_at_a_limit_of_their_length(rt: HostRuntime) -> Result<(), Fail> {
-    let rows = [
-        (1, 0),
-        (2, 0),
-        (MAX_PAYLOAD_LEN - 1, 0),
-        (MAX_PAYLOAD_LEN, 0),
-        (MAX_PAYLOAD_LEN + 1, MAX_PAYLOAD_LEN),
-        (MAX_PAYLOAD_LEN + 2, MAX_PAYLOAD_LEN),
-        (2 * MAX_PAYLOAD_LEN - 1, MAX_PAYLOAD_LEN),
-        (2 * MAX_PAYLOAD_LEN, MAX_PAYLOAD_LEN),
-        (2 * MAX_PAYLOAD_LEN + 1, 2 * MAX_PAYLOAD_LEN),
-        (2 * MAX_PAYLOAD_LEN + 2, 2 * MAX_PAYLOAD_LEN),
-    ];
-    for (len, held) in rows {
+    let mut wrong = None;
+    for i in 0..AT_LIMITS.len() {
+        let (len, held) = AT_LIMITS[i];
         if !goes_at_limits(rt.alloc(), len, held) {
-            return Err(Fail::new(format_args!("{len} bytes")));
+            wrong = Some(i);
         }
     }
-    Ok(())
+    no_row(wrong)
 }

@@ -3,10 +3,10 @@
 
 use crate::memory::agrees_refused;
 use mysql_wire::constants::MAX_PAYLOAD_LEN;
-use std::alloc::{AllocError, Global};
+use std::alloc::Global;
 use std::test::Fail;
 use test_support::case::{Case, Wanted};
-use test_support::facts::ensure;
+use test_support::facts::{all_hold, no_row};
 use test_support::fixture::FILL;
 use test_support::generated::{Draws, Stream, pieces_of};
 use test_support::reference::{between, chunk_count, low_byte, put_framing, reading_of};
@@ -71,12 +71,16 @@ struct Row<'a> {
 }
 
 impl Row<'_> {
-    fn is_shown(&self, alloc: Global) -> Result<bool, AllocError> {
-        let case = Case::new(alloc, 0, self.limit, self.stream)?;
-        let mut all = self.wanted.is_read(&case.reading);
-        all &= case.reading.shown_at == self.shown_at;
-        all &= cutting_count(self.stream) == self.cuttings;
-        Ok(all & all_cuttings_agree(alloc, &case))
+    fn is_shown(&self, alloc: Global) -> bool {
+        match Case::new(alloc, 0, self.limit, self.stream) {
+            Ok(case) => {
+                let is_read = self.wanted.is_read(&case.reading);
+                let is_at = case.reading.shown_at == self.shown_at;
+                let is_counted = cutting_count(self.stream) == self.cuttings;
+                is_read & is_at & is_counted & all_cuttings_agree(alloc, &case)
+            }
+            Err(_) => false,
+        }
     }
 }
 
@@ -92,7 +96,7 @@ const TOO_LARGE: Wanted<'static> = Wanted {
     left: 5,
 };
 
-const ROWS: [Row; 5] = [
+const ROWS: &[Row] = &[
     Row {
         stream: b"\x01\0\0\0\x61\x01\0\0\x01\x62\0\0\0\x02",
         cuttings: 8192,
@@ -147,12 +151,13 @@ const ROWS: [Row; 5] = [
 
 #[test]
 fn all_cuttings_of_a_stream_agree(rt: HostRuntime) -> Result<(), Fail> {
-    for (i, row) in ROWS.iter().enumerate() {
-        if !row.is_shown(rt.alloc())? {
-            return Err(Fail::new(format_args!("row {i}")));
+    let mut wrong = None;
+    for i in 0..ROWS.len() {
+        if !ROWS[i].is_shown(rt.alloc()) {
+            wrong = Some(i);
         }
     }
-    Ok(())
+    no_row(wrong)
 }
 
 // Whether a stream in three pieces agrees: in one run, with the first piece in `src`, and in two
@@ -182,7 +187,7 @@ fn all_three_pieces_agree(alloc: Global, case: &Case) -> bool {
     agree
 }
 
-const SHORT_STREAMS: [(u8, usize, &[u8]); 8] = [
+const SHORT_STREAMS: &[(u8, usize, &[u8])] = &[
     (0, 9, b"\x03\0\0\x00123\x01\0\0\x01\xff\0"),
     // Empty packets, and one of another id.
     (0, 0, b"\0\0\0\0\0\0\0\x01\0\0\0\x03\0\0\0\x02"),
@@ -206,15 +211,22 @@ const SHORT_STREAMS: [(u8, usize, &[u8]); 8] = [
     (0, 9, b"\x09\0\0\0abcdefghi\x01\0"),
 ];
 
+fn short_agrees(alloc: Global, row: &(u8, usize, &[u8])) -> bool {
+    match Case::new(alloc, row.0, row.1, row.2) {
+        Ok(case) => all_three_pieces_agree(alloc, &case),
+        Err(_) => false,
+    }
+}
+
 #[test]
 fn streams_cut_at_any_two_places_agree(rt: HostRuntime) -> Result<(), Fail> {
-    for (first_id, limit, stream) in SHORT_STREAMS {
-        let case = Case::new(rt.alloc(), first_id, limit, stream)?;
-        if !all_three_pieces_agree(rt.alloc(), &case) {
-            return Err(Fail::new(format_args!("the stream {stream:?}")));
+    let mut wrong = None;
+    for i in 0..SHORT_STREAMS.len() {
+        if !short_agrees(rt.alloc(), &SHORT_STREAMS[i]) {
+            wrong = Some(i);
         }
     }
-    Ok(())
+    no_row(wrong)
 }
 
 // A stream with full chunks: the lengths of its packets, a byte that is another one, and what comes
@@ -266,16 +278,12 @@ impl Long<'_> {
     }
 
     // Whether it is read as it says, and agrees with its reading when it is cut near the headers.
-    fn agrees(&self, alloc: Global) -> Result<bool, AllocError> {
+    fn agrees(&self, alloc: Global) -> bool {
         let stream = self.stream(alloc);
-        let case = Case::new(alloc, self.first_id, self.limit, stream.as_slice())?;
-        let mut agree = self.is_read(&case);
-        for header in [0, MAX_PAYLOAD_LEN + 4, 2 * MAX_PAYLOAD_LEN + 8] {
-            for more in [0usize, 1, 4, 5, 10] {
-                agree &= agrees_at(alloc, &case, more.saturating_add(header));
-            }
+        match Case::new(alloc, self.first_id, self.limit, stream.as_slice()) {
+            Ok(case) => self.is_read(&case) & all_agree_at(alloc, &case),
+            Err(_) => false,
         }
-        Ok(agree)
     }
 }
 
@@ -288,10 +296,37 @@ fn agrees_at(alloc: Global, case: &Case, at: usize) -> bool {
     case.agrees(alloc, b"", &pieces, 0) & case.agrees(alloc, b"", &pieces, 1)
 }
 
+// Near the headers.
+const PLACES: &[usize] = &[
+    0,
+    1,
+    4,
+    5,
+    10,
+    SECOND,
+    SECOND + 1,
+    SECOND + 4,
+    SECOND + 5,
+    SECOND + 10,
+    2 * SECOND,
+    2 * SECOND + 1,
+    2 * SECOND + 4,
+    2 * SECOND + 5,
+    2 * SECOND + 10,
+];
+
+fn all_agree_at(alloc: Global, case: &Case) -> bool {
+    let mut all = true;
+    for at in PLACES {
+        all &= agrees_at(alloc, case, *at);
+    }
+    all
+}
+
 // Where the second chunk's header begins, behind a full chunk.
 const SECOND: usize = MAX_PAYLOAD_LEN + 4;
 
-const LONG: [Long; 10] = [
+const LONG: &[Long] = &[
     Long {
         first_id: 0,
         lens: &[MAX_PAYLOAD_LEN],
@@ -389,64 +424,78 @@ const LONG: [Long; 10] = [
 
 #[test]
 fn long_packets_cut_near_their_headers_agree(rt: HostRuntime) -> Result<(), Fail> {
-    for (i, row) in LONG.iter().enumerate() {
-        if !row.agrees(rt.alloc())? {
-            return Err(Fail::new(format_args!("row {i} goes otherwise")));
+    let mut wrong = None;
+    for i in 0..LONG.len() {
+        if !LONG[i].agrees(rt.alloc()) {
+            wrong = Some(i);
         }
     }
-    Ok(())
+    no_row(wrong)
 }
 
-// Whether this front of the stream waits, if it doesn't show the fault.
-fn front_waits(alloc: Global, case: &Case, end: usize) -> Result<bool, AllocError> {
-    let front = between(case.stream, 0, end);
-    let reading = reading_of(alloc, case.first_id, case.limit, front)?;
-    Ok((reading.told == Told::Waits) == (end < case.reading.shown_at))
-}
-
-fn fronts_wait(alloc: Global, case: &Case) -> Result<bool, AllocError> {
+// Whether each front of the stream waits, if it doesn't show the fault.
+fn fronts_wait(alloc: Global, case: &Case) -> bool {
+    let mut all = true;
     for end in 0..=case.stream.len() {
-        if !front_waits(alloc, case, end)? {
-            return Ok(false);
-        }
+        let front = between(case.stream, 0, end);
+        all &= match reading_of(alloc, case.first_id, case.limit, front) {
+            Ok(reading) => (reading.told == Told::Waits) == (end < case.reading.shown_at),
+            Err(_) => false,
+        };
     }
-    Ok(true)
+    all
 }
 
-// Whether a stream agrees, cut at drawn places, some of it in `src` and some in a run of its own.
-fn drawn_cutting_agrees(alloc: Global, draws: &mut Draws, case: &Case) -> Result<bool, AllocError> {
-    let at = draws.one_of(&[0, 0, 3, 7]);
+// Whether a stream agrees in these pieces, some of it in `src` and some in a run of its own.
+fn cutting_agrees(alloc: Global, draws: &mut Draws, case: &Case, at: usize) -> bool {
     let rest = between(case.stream, at, case.stream.len());
-    let pieces = pieces_of(alloc, draws, rest)?;
-    let first = draws.below(pieces.len());
-    Ok(case.agrees(alloc, between(case.stream, 0, at), pieces.as_slice(), first))
+    match pieces_of(alloc, draws, rest) {
+        Ok(pieces) => {
+            let first = draws.below(pieces.len());
+            case.agrees(alloc, between(case.stream, 0, at), pieces.as_slice(), first)
+        }
+        Err(_) => false,
+    }
 }
 
-// Whether it agrees where requests for memory are refused; and where a run stops at the limit, and
-// goes on without one as if it had begun so.
-fn drawn_stops_agree(alloc: Global, draws: &mut Draws, case: &Case) -> Result<bool, AllocError> {
-    let pieces = pieces_of(alloc, draws, case.stream)?;
-    let nth = draws.below(4) as u64;
-    let unlimited = Case::new(alloc, case.first_id, usize::MAX, case.stream)?;
-    let is_refused = agrees_refused(alloc, case, pieces.as_slice(), nth);
-    Ok(is_refused & unlimited.agrees_raised(alloc, case.limit, pieces.as_slice()))
+// Whether it agrees in these pieces where requests for memory are refused; and where a run stops at
+// the limit, and goes on without one as if it had begun so.
+fn stops_agree(alloc: Global, case: &Case, pieces: &[&[u8]], nth: u64) -> bool {
+    let is_refused = agrees_refused(alloc, case, pieces, nth);
+    match Case::new(alloc, case.first_id, usize::MAX, case.stream) {
+        Ok(unlimited) => is_refused & unlimited.agrees_raised(alloc, case.limit, pieces),
+        Err(_) => false,
+    }
 }
 
-fn all_agree(alloc: Global, draws: &mut Draws, case: &Case) -> Result<bool, AllocError> {
-    let mut all = drawn_cutting_agrees(alloc, draws, case)?;
-    all &= drawn_stops_agree(alloc, draws, case)?;
-    Ok(all & fronts_wait(alloc, case)?)
+fn drawn_stops_agree(alloc: Global, draws: &mut Draws, case: &Case) -> bool {
+    match pieces_of(alloc, draws, case.stream) {
+        Ok(pieces) => stops_agree(alloc, case, pieces.as_slice(), draws.below(4) as u64),
+        Err(_) => false,
+    }
 }
 
-// What the generated stream of this seed ends with, if it agrees.
-fn generated_agrees(alloc: Global, seed: u64) -> Result<Option<Told>, AllocError> {
+// What a stream is told at its end, if it agrees, cut at drawn places.
+fn end_of(alloc: Global, draws: &mut Draws, case: &Case) -> Option<Told> {
+    let at = draws.one_of(&[0, 0, 3, 7]);
+    let mut all = cutting_agrees(alloc, draws, case, at);
+    all &= drawn_stops_agree(alloc, draws, case);
+    all &= fronts_wait(alloc, case);
+    all.then_some(case.reading.told)
+}
+
+// The same of the generated stream of this seed.
+fn generated_agrees(alloc: Global, seed: u64) -> Option<Told> {
     let mut draws = Draws::new(seed);
     let first_id = low_byte(draws.one_of(&[0, 0, 1, 253, 255]));
-    let stream = Stream::damaged(alloc, &mut draws, first_id)?;
+    let Ok(stream) = Stream::damaged(alloc, &mut draws, first_id) else {
+        return None;
+    };
     let limit = stream.limit(&mut draws);
-    let case = Case::new(alloc, first_id, limit, stream.bytes.as_slice())?;
-    let agree = all_agree(alloc, &mut draws, &case)?;
-    Ok(if agree { Some(case.reading.told) } else { None })
+    match Case::new(alloc, first_id, limit, stream.bytes.as_slice()) {
+        Ok(case) => end_of(alloc, &mut draws, &case),
+        Err(_) => None,
+    }
 }
 
 // How often the streams ended so.
@@ -478,14 +527,17 @@ fn generated_streams_agree(rt: HostRuntime) -> Result<(), Fail> {
         too_large: 0,
         out_of_sync: 0,
     };
-    for seed in 0..3000u64 {
-        if !ends.count(generated_agrees(rt.alloc(), seed)?) {
-            return Err(Fail::new(format_args!("the stream of seed {seed}")));
+    let mut wrong = None;
+    for seed in 0..3000usize {
+        if !ends.count(generated_agrees(rt.alloc(), seed as u64)) {
+            wrong = Some(seed);
         }
     }
+    no_row(wrong)?;
     // Each end comes often.
-    ensure(
-        ends.waits > 300 && ends.too_large > 300 && ends.out_of_sync > 300,
-        "the streams are of all kinds",
-    )
+    all_hold(&[
+        ends.waits > 300,
+        ends.too_large > 300,
+        ends.out_of_sync > 300,
+    ])
 }

@@ -3,10 +3,10 @@
 use bytes::{Buf, Bytes, BytesMut};
 use mysql_wire::constants::MAX_PAYLOAD_LEN;
 use mysql_wire::proto::codec::packet_to_chunks;
-use std::alloc::{AllocError, Global};
+use std::alloc::Global;
 use std::num::NonZeroUsize;
 use std::test::Fail;
-use test_support::facts::ensure;
+use test_support::facts::{all_hold, no_row};
 use test_support::reference::{chunk_count, framed_len, low_byte, put_framing};
 use test_support::targets::Trickle;
 
@@ -16,6 +16,16 @@ struct Framed<'a> {
     first_id: u8,
     bytes: &'a [u8],
     next_id: u8,
+}
+
+macro_rules! framed {
+    ($first_id:literal, $bytes:literal, $next_id:literal) => {
+        Framed {
+            first_id: $first_id,
+            bytes: $bytes,
+            next_id: $next_id,
+        }
+    };
 }
 
 impl Framed<'_> {
@@ -53,129 +63,125 @@ impl Framed<'_> {
     }
 }
 
+// Small payloads, and what they become.
+const SMALL: &[(&[u8], Framed)] = &[
+    (b"", framed!(0, b"\0\0\0\0", 1)),
+    (b"123", framed!(0, b"\x03\0\0\x00123", 1)),
+    (b"ab", framed!(7, b"\x02\0\0\x07ab", 8)),
+    (b"a", framed!(254, b"\x01\0\0\xfea", 255)),
+    (b"", framed!(255, b"\0\0\0\xff", 0)),
+    (b"\xff\0", framed!(255, b"\x02\0\0\xff\xff\0", 0)),
+];
+
 #[test]
 fn a_payload_stands_behind_its_header(rt: HostRuntime) -> Result<(), Fail> {
-    let rows: [(u8, &[u8], &[u8], u8); 6] = [
-        (0, b"", b"\0\0\0\0", 1),
-        (0, b"123", b"\x03\0\0\x00123", 1),
-        (7, b"ab", b"\x02\0\0\x07ab", 8),
-        (254, b"a", b"\x01\0\0\xfea", 255),
-        (255, b"", b"\0\0\0\xff", 0),
-        (255, b"\xff\0", b"\x02\0\0\xff\xff\0", 0),
-    ];
-    for (first_id, payload, bytes, next_id) in rows {
-        let framed = Framed {
-            first_id,
-            bytes,
-            next_id,
-        };
-        let mut packet = payload;
-        ensure(framed.is_made(rt.alloc(), &mut packet), "a small payload")?;
+    let mut wrong = None;
+    for i in 0..SMALL.len() {
+        let (payload, framed) = SMALL[i];
+        if !framed.is_cut(rt.alloc(), payload, None) {
+            wrong = Some(i);
+        }
     }
-    Ok(())
+    no_row(wrong)
 }
 
 // Bytes of which each neighbourhood is another one.
 fn pattern(alloc: Global, len: usize) -> Vec<u8> {
     let mut bytes = Vec::new(alloc);
-    let _ = bytes.resize(len, 0);
-    for i in 0..bytes.len() {
-        bytes[i] = low_byte((i / 251).wrapping_add(i));
+    for i in 0..len {
+        let _ = bytes.push(low_byte((i / 251).wrapping_add(i)));
     }
     bytes
 }
 
-// Whether a payload of so many bytes is framed by as many chunks as it needs, with each byte in its
-// place, from each of these ids on; and so are its pieces, cut at this place.
-fn frames_len(
-    alloc: Global,
-    len: usize,
-    ids: &[u8],
-    at: Option<usize>,
-) -> Result<bool, AllocError> {
-    let payload = pattern(alloc, len);
-    let mut good = payload.len() == len;
-    for first_id in ids {
-        let mut bytes = Vec::new(alloc);
-        put_framing(&mut bytes, *first_id, payload.as_slice())?;
-        let framed = Framed {
-            first_id: *first_id,
-            bytes: bytes.as_slice(),
-            next_id: low_byte(chunk_count(len).wrapping_add(*first_id as usize)),
-        };
-        good &= bytes.len() == framed_len(len);
-        good &= framed.is_cut(alloc, payload.as_slice(), at);
-    }
-    Ok(good)
+// The ids that whole payloads are framed from, and those in pieces.
+const WHOLE_FROM: &[u8] = &[0, 253, 254, 255];
+
+const CUT_FROM: &[u8] = &[9];
+
+// Whether a payload is framed from this id on by as many chunks as it needs, with each byte in its
+// place, and so are its pieces, cut at this place. Where there is no memory for the framing, no
+// payload becomes what is there of it.
+fn frames_from(alloc: Global, first_id: u8, payload: &[u8], at: Option<usize>) -> bool {
+    let mut bytes = Vec::new(alloc);
+    let _ = put_framing(&mut bytes, first_id, payload);
+    let count = chunk_count(payload.len());
+    let framed = Framed {
+        first_id,
+        bytes: bytes.as_slice(),
+        next_id: low_byte(count.wrapping_add(first_id as usize)),
+    };
+    (bytes.len() == framed_len(payload.len())) & framed.is_cut(alloc, payload, at)
 }
+
+// The same of a payload of so many bytes from each of these ids.
+fn frames_len(alloc: Global, len: usize, ids: &[u8], at: Option<usize>) -> bool {
+    let payload = pattern(alloc, len);
+    let mut all = payload.len() == len;
+    for first_id in ids {
+        all &= frames_from(alloc, *first_id, payload.as_slice(), at);
+    }
+    all
+}
+
+// Lengths around those of one and two full chunks, and where pieces are cut.
+const LENGTHS: &[(usize, Option<usize>)] = &[
+    (0, None),
+    (1, None),
+    (255, None),
+    (256, None),
+    (65535, None),
+    (65536, None),
+    (MAX_PAYLOAD_LEN - 1, None),
+    (MAX_PAYLOAD_LEN, None),
+    (MAX_PAYLOAD_LEN + 1, None),
+    (2 * MAX_PAYLOAD_LEN - 1, None),
+    (2 * MAX_PAYLOAD_LEN, None),
+    (2 * MAX_PAYLOAD_LEN + 1, None),
+    // Pieces that end inside a chunk.
+    (MAX_PAYLOAD_LEN, Some(65536)),
+    (MAX_PAYLOAD_LEN + 2, Some(MAX_PAYLOAD_LEN - 1)),
+    (MAX_PAYLOAD_LEN + 2, Some(MAX_PAYLOAD_LEN)),
+    (MAX_PAYLOAD_LEN + 2, Some(MAX_PAYLOAD_LEN + 1)),
+    (2 * MAX_PAYLOAD_LEN, Some(10000000)),
+];
 
 #[test]
 fn each_length_has_its_chunks(rt: HostRuntime) -> Result<(), Fail> {
-    let lengths = [
-        0,
-        1,
-        255,
-        256,
-        65535,
-        65536,
-        MAX_PAYLOAD_LEN - 1,
-        MAX_PAYLOAD_LEN,
-        MAX_PAYLOAD_LEN + 1,
-        2 * MAX_PAYLOAD_LEN - 1,
-        2 * MAX_PAYLOAD_LEN,
-        2 * MAX_PAYLOAD_LEN + 1,
-    ];
-    for len in lengths {
-        if !frames_len(rt.alloc(), len, &[0, 253, 254, 255], None)? {
-            return Err(Fail::new(format_args!("{len} bytes")));
+    let mut wrong = None;
+    for i in 0..LENGTHS.len() {
+        let (len, at) = LENGTHS[i];
+        let ids = if at.is_some() { CUT_FROM } else { WHOLE_FROM };
+        if !frames_len(rt.alloc(), len, ids, at) {
+            wrong = Some(i);
         }
     }
-    Ok(())
+    no_row(wrong)
 }
 
-#[test]
-fn pieces_may_end_inside_a_chunk(rt: HostRuntime) -> Result<(), Fail> {
-    let rows = [
-        (MAX_PAYLOAD_LEN, 65536),
-        (MAX_PAYLOAD_LEN + 2, MAX_PAYLOAD_LEN - 1),
-        (MAX_PAYLOAD_LEN + 2, MAX_PAYLOAD_LEN),
-        (MAX_PAYLOAD_LEN + 2, MAX_PAYLOAD_LEN + 1),
-        (2 * MAX_PAYLOAD_LEN, 10000000),
-    ];
-    for (len, at) in rows {
-        if !frames_len(rt.alloc(), len, &[9], Some(at))? {
-            return Err(Fail::new(format_args!("{len} bytes cut at {at}")));
-        }
-    }
-    Ok(())
-}
-
-const SMALL: Framed<'static> = Framed {
-    first_id: 3,
-    bytes: b"\x07\0\0\x03abcdefg",
-    next_id: 4,
-};
+const LETTERS: Framed<'static> = framed!(3, b"\x07\0\0\x03abcdefg", 4);
 
 #[test]
 fn bytes_in_several_pieces_are_framed_as_one(rt: HostRuntime) -> Result<(), Fail> {
+    let mut wrong = None;
     for at in 0..9usize {
-        if !SMALL.is_made_of_pieces(rt.alloc(), b"abcdefg", at) {
-            return Err(Fail::new(format_args!("cut at {at}")));
+        if !LETTERS.is_made_of_pieces(rt.alloc(), b"abcdefg", at) {
+            wrong = Some(at);
         }
     }
-    Ok(())
+    no_row(wrong)
 }
 
 #[test]
 fn each_kind_of_buffer_is_framed_the_same(rt: HostRuntime) -> Result<(), Fail> {
     let mut grown = BytesMut::new(rt.alloc());
-    let grows = grown.extend_from_slice(b"abcdefg").is_ok();
-    let grown = grows & SMALL.is_made(rt.alloc(), &mut grown);
+    let _ = grown.extend_from_slice(b"abcdefg");
+    let grown = LETTERS.is_made(rt.alloc(), &mut grown);
     let mut shared = Bytes::<Global>::from_static(b"abcdefg");
-    let shared = SMALL.is_made(rt.alloc(), &mut shared);
+    let shared = LETTERS.is_made(rt.alloc(), &mut shared);
     // What lies behind the part that is lent stays.
     let mut part = b"abcdefghi".as_slice().take(7);
-    let lent = SMALL.is_made(rt.alloc(), &mut part);
+    let lent = LETTERS.is_made(rt.alloc(), &mut part);
     let is_left = part.into_inner() == b"hi".as_slice();
-    ensure(grown & shared & lent & is_left, "a buffer")
+    all_hold(&[grown, shared, lent, is_left])
 }

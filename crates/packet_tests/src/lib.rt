@@ -1,4 +1,5 @@
-//! Tests of packets: framing, chunks, the codec, delivery, refused memory, and every cutting.
+//! Tests of packets: framing, chunks, the codec, delivery, refused memory, every cutting, and the
+//! packets that connections begin with.
 #![tactic(auto)]
 
 #[cfg(test)]
@@ -13,3 +14,5 @@ mod fragmentation;
 mod framing;
 #[cfg(test)]
 mod memory;
+#[cfg(test)]
+mod server;

@@ -9,10 +9,10 @@ use refusing::{NEVER, Refusing};
 use std::alloc::{Allocator, Global};
 use std::test::Fail;
 use test_support::case::{Case, Wanted};
-use test_support::facts::ensure;
+use test_support::facts::{ensure, no_row};
 use test_support::fixture::{Fixture, Heap};
 use test_support::receiver::{Receiver, pieces_from};
-use test_support::script::{Script, Step, play};
+use test_support::script::{Script, Step};
 use test_support::targets::Zeros;
 use test_support::told::Told;
 
@@ -70,22 +70,30 @@ fn huge_refused(alloc: Global, len: usize) -> bool {
     begins & is_framed & (encoded == Told::OutOfMemory) & unchanged
 }
 
+// So many bytes and their headers are just as many as a machine counts.
+const COUNTED: usize = usize::MAX - 4398045724676;
+
+// They are more than a machine counts, or just as many, or fewer.
+const HUGE: &[usize] = &[
+    usize::MAX,
+    COUNTED + 1,
+    COUNTED,
+    usize::MAX / 2,
+    usize::MAX / 4,
+];
+
 #[test]
 fn a_payload_that_no_machine_can_frame_is_refused(rt: HostRuntime) -> Result<(), Fail> {
-    // The bytes and the headers are more than a machine counts, or just as many, or fewer.
-    let most = usize::MAX - 4398045724676;
-    for len in [usize::MAX, most + 1, most, usize::MAX / 2, usize::MAX / 4] {
-        if !huge_refused(rt.alloc(), len) {
-            return Err(Fail::new(format_args!("{len} bytes")));
+    let mut wrong = None;
+    for i in 0..HUGE.len() {
+        if !huge_refused(rt.alloc(), HUGE[i]) {
+            wrong = Some(i);
         }
     }
-    Ok(())
+    no_row(wrong)
 }
 
-// A packet of two full chunks and a byte.
-const LONG: usize = 2 * MAX_PAYLOAD_LEN + 1;
-
-const REFUSED: [Script; 5] = [
+const REFUSED: &[Script] = &[
     Script {
         name: "the one request of encode is refused",
         steps: &[
@@ -160,92 +168,6 @@ const REFUSED: [Script; 5] = [
     },
 ];
 
-// The target refuses to put what it took room for.
-const PUTS: [Script; 4] = [
-    Script {
-        name: "the first put is refused",
-        steps: &[
-            Step::Counting,
-            Step::Limit(LONG),
-            Step::EncodeMany(LONG, Told::Done),
-            Step::Reset,
-            Step::RefusePut(0),
-            Step::Decode(Told::OutOfMemory),
-            Step::HeldMany(0),
-            Step::LeftMany(LONG + 12),
-            Step::Stands(true),
-            // The header is remembered.
-            Step::Limit(0),
-            Step::Stands(false),
-            Step::Limit(LONG),
-            Step::Decode(Told::Whole),
-            Step::HeldMany(LONG),
-            Step::Left(b""),
-        ],
-    },
-    Script {
-        name: "the second put is refused",
-        steps: &[
-            Step::Counting,
-            Step::Limit(LONG),
-            Step::EncodeMany(LONG, Told::Done),
-            Step::Reset,
-            Step::RefusePut(1),
-            Step::Decode(Told::OutOfMemory),
-            // The chunk before it is held, and eaten.
-            Step::HeldMany(MAX_PAYLOAD_LEN),
-            Step::LeftMany(MAX_PAYLOAD_LEN + 9),
-            Step::Stands(true),
-            Step::Limit(0),
-            Step::Stands(false),
-            Step::Limit(LONG),
-            Step::Decode(Told::Whole),
-            Step::HeldMany(LONG),
-            Step::Left(b""),
-        ],
-    },
-    Script {
-        name: "the third put is refused",
-        steps: &[
-            Step::Counting,
-            Step::Limit(LONG),
-            Step::EncodeMany(LONG, Told::Done),
-            Step::Reset,
-            Step::RefusePut(2),
-            Step::Decode(Told::OutOfMemory),
-            Step::HeldMany(2 * MAX_PAYLOAD_LEN),
-            Step::LeftMany(5),
-            Step::Stands(true),
-            Step::Limit(0),
-            Step::Stands(false),
-            Step::Limit(LONG),
-            Step::Decode(Told::Whole),
-            Step::HeldMany(LONG),
-            Step::Left(b""),
-        ],
-    },
-    Script {
-        name: "a single chunk's put is refused",
-        steps: &[
-            Step::Counting,
-            Step::Src(b"\x02\0\0\x07ab"),
-            Step::RefusePut(0),
-            Step::Chunk(2, Told::OutOfMemory),
-            Step::Left(b"\x02\0\0\x07ab"),
-            Step::Held(b""),
-            Step::Remembers(Some((7, 2))),
-            // It is not judged again.
-            Step::Chunk(0, Told::Last(7)),
-            Step::Held(b"ab"),
-        ],
-    },
-];
-
-#[test]
-fn what_was_put_before_a_refusal_is_held(rt: HostRuntime) -> Result<(), Fail> {
-    play(rt.alloc(), &PUTS)
-}
-
 // As `first_fault`, over an allocator that refuses, with the targets that take its memory.
 fn refused_fault(alloc: Global, steps: &[Step]) -> Option<usize> {
     let heap = Refusing::new(alloc, NEVER);
@@ -261,7 +183,7 @@ fn fault_over<A: Allocator + Copy>(heap: &Heap, alloc: A, steps: &[Step]) -> Opt
 
 #[test]
 fn a_refused_call_goes_on(rt: HostRuntime) -> Result<(), Fail> {
-    for script in &REFUSED {
+    for script in REFUSED {
         script.ends(refused_fault(rt.alloc(), script.steps))?;
     }
     Ok(())
@@ -292,8 +214,8 @@ fn deliver_on<A: Allocator + Copy>(
     None
 }
 
-// Delivers a stream in pieces with request number `nth` refused, and goes on. Says how many requests
-// were refused, if the end is that of the stream's reading.
+// Delivers a stream in pieces with request number `nth` refused, and goes on. Says how many
+// requests were refused, if the end is that of the stream's reading.
 fn deliver_refused(
     alloc: Global,
     case: &Case,

@@ -118,8 +118,8 @@ impl<'a> Case<'a> {
             && receiver.next_id() == Some(self.reading.next_id)
     }
 
-    /// Whether the stream in pieces, the first bytes in `src` and the first pieces in a run of their
-    /// own, is delivered as its reading says.
+    /// Whether the stream in pieces, the first bytes in `src` and the first pieces in a run of
+    /// their own, is delivered as its reading says.
     pub fn agrees(&self, alloc: Global, src: &[u8], pieces: &[&[u8]], first: usize) -> bool {
         let mut receiver = self.receiver(alloc);
         let comes = receiver.src.extend_from_slice(src).is_ok();

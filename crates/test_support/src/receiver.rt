@@ -134,7 +134,7 @@ impl<A: Allocator + Copy> Receiver<A> {
     }
 
     /// As `deliver`, where a visitor sees the packets.
-    pub fn visit(&mut self, pieces: &[&[u8]], tally: &mut Tally) -> Run {
+    pub fn visit<V: Visit>(&mut self, pieces: &[&[u8]], visitor: &mut V) -> Run {
         if !self.codec.stands_at(&self.src, self.dst.as_slice()) {
             return (0, Told::Fallen);
         }
@@ -143,9 +143,37 @@ impl<A: Allocator + Copy> Receiver<A> {
             &mut self.src,
             &mut self.dst,
             pieces,
-            tally,
+            visitor,
         );
         (count, Told::of_deliver(answer))
+    }
+
+    // A copy of the packet that can be lent.
+    fn front(&self) -> Option<Vec<u8, A>> {
+        match self.codec.front_packet(&self.src, &[]) {
+            Some(packet) => Vec::from_slice(self.alloc, packet).ok(),
+            None => None,
+        }
+    }
+
+    /// Hands out the next packet, where it lies if it can be lent, and else by `decode`. One that
+    /// finds no memory is missing in the end.
+    pub fn take_next(&mut self) -> Told {
+        if self.dst.is_empty() {
+            if let Some(packet) = self.front() {
+                let _ = self.out.push(packet);
+                self.take_front();
+                return Told::Whole;
+            }
+        }
+        let told = Told::of_decode(self.codec.decode(&mut self.src, &mut self.dst));
+        if told == Told::Whole {
+            if let Ok(packet) = Vec::from_slice(self.alloc, self.dst.as_slice()) {
+                let _ = self.out.push(packet);
+            }
+            self.dst.clear();
+        }
+        told
     }
 
     // A run more, after one that ended so, over the pieces behind those that it appended.
@@ -202,8 +230,8 @@ pub fn are_packets<A: Allocator>(packets: &[Vec<u8, A>], wanted: &[&[u8]]) -> bo
 }
 
 /// Whether a packet of two pieces was refused, and neither it nor the buffer, which holds `ab`, is
-/// changed; it is then framed from this id by one chunk. The parts are `ab` with the header, and the
-/// pieces.
+/// changed; it is then framed from this id by one chunk. The parts are `ab` with the header, and
+/// the pieces.
 pub fn frames<A: Allocator + Copy>(
     heap: &Heap,
     alloc: A,

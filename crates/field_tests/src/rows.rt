@@ -1,0 +1,158 @@
+// Bytes, numbers in a row, one of two values, and two values one after the other.
+
+use crate::at::{Refused, UNCUT, WHOLE, is_field};
+use crate::traits::is_copied;
+use mysql_wire::constants::{ColumnType, SessionStateType};
+use mysql_wire::io::ParseBuf;
+use mysql_wire::misc::raw::bytes::EofBytes;
+use mysql_wire::misc::raw::int::{LeU16, LeU32};
+use mysql_wire::misc::raw::{Both, Either, RawBytes, RawInt, RawSeq, Slice};
+use refusing::{NEVER, Refusing};
+use std::alloc::Allocator;
+use std::borrow::CowSlice;
+use std::test::Fail;
+use test_support::answers::Fault;
+use test_support::facts::all_hold;
+use test_support::fields::is_written;
+use test_support::fixture::Heap;
+use test_support::reference::between;
+
+const NO_BYTES: &[Refused<usize>] = &[(usize::MAX, 0, b"ab", Fault::UnexpectedEof, 2)];
+
+// Whether numbers of one byte in a row are written and read, and one byte is left.
+fn is_row_of<U, A: Allocator + Copy>(heap: &Heap, alloc: A, input: &[u8]) -> bool {
+    let len = input.len().saturating_sub(1);
+    let numbers: RawSeq<'_, u8, U, A> = RawSeq::new(CowSlice::Borrowed(between(input, 0, len)));
+    is_field(
+        heap,
+        alloc,
+        None,
+        &(&numbers, len, 0, input, len, WHOLE),
+        &[],
+    )
+}
+
+fn are_bytes<A: Allocator + Copy>(heap: &Heap, alloc: A) -> [bool; 5] {
+    [
+        is_field(
+            heap,
+            alloc,
+            None,
+            &(&Slice(b"ab"), 2, 0, b"ab\xff", 2, WHOLE),
+            NO_BYTES,
+        ),
+        is_field(
+            heap,
+            alloc,
+            None,
+            &(&Slice(b""), 0, 0, b"ab", 0, WHOLE),
+            &[],
+        ),
+        is_row_of::<SessionStateType, A>(heap, alloc, b"\0\x05\x09\xff"),
+        is_row_of::<ColumnType, A>(heap, alloc, b"\xf4\xff"),
+        is_row_of::<(), A>(heap, alloc, b"\xff"),
+    ]
+}
+
+#[test]
+fn bytes_and_numbers_in_a_row(rt: HostRuntime) -> Result<(), Fail> {
+    let heap = &Refusing::new(rt.alloc(), 0);
+    all_hold(&are_bytes(heap, heap))
+}
+
+// Numbers that name changes of a session's state.
+type States<'a, A> = RawSeq<'a, u8, SessionStateType, A>;
+
+fn is_owned<A: Allocator + Copy>(alloc: A, states: States<'_, A>, bytes: &[u8]) -> bool {
+    match states.into_owned(alloc) {
+        Ok(owned) => owned.0.as_slice() == bytes,
+        Err(_) => false,
+    }
+}
+
+fn are_shown<A: Allocator + Copy>(heap: &Heap, alloc: A, bytes: &[u8]) -> bool {
+    let states: States<'_, A> = RawSeq::new(CowSlice::Borrowed(bytes));
+    let mut all = (states.len() == 3) & !states.is_empty();
+    all &= matches!(states.get(2), Some(raw) if raw.0 == 9);
+    all &= states.get(3).is_none();
+    let again: States<'_, A> = RawSeq::new(CowSlice::Borrowed(bytes));
+    all &= is_copied(again) & (heap.left() == 0);
+    heap.refuse(1);
+    all & is_owned(alloc, states, bytes) & (heap.left() == 0)
+}
+
+#[test]
+fn numbers_in_a_row_are_shown_and_owned(rt: HostRuntime) {
+    let heap = &Refusing::new(rt.alloc(), 0);
+    assert!(rt; are_shown(heap, heap, b"\0\x05\x09"));
+}
+
+// One number of four bytes or of one.
+type Number = Either<RawInt<LeU32>, RawInt<u8>>;
+
+// The context says which is read.
+const NO_NUMBER: &[Refused<Either<(), ()>>] = &[
+    (
+        Either::Left(()),
+        NEVER,
+        b"\x01\x02",
+        Fault::UnexpectedEof,
+        2,
+    ),
+    (Either::Right(()), NEVER, b"", Fault::UnexpectedEof, 0),
+];
+
+fn is_either<A: Allocator + Copy>(heap: &Heap, alloc: A, left: &Number, right: &Number) -> bool {
+    let input = b"\x01\0\0\0\x02".as_slice();
+    let four = (left, Either::Left(()), NEVER, input, 4, UNCUT);
+    let one = (right, Either::Right(()), NEVER, input, 1, UNCUT);
+    let is_left = is_field(heap, alloc, None, &four, NO_NUMBER);
+    is_left & is_field(heap, alloc, None, &one, &[])
+}
+
+// A number, and behind it the rest as a text.
+type Row<'a, A> = Both<RawInt<LeU16>, RawBytes<'a, EofBytes, A>>;
+
+fn is_lent<A: Allocator + Copy>(row: &Row<'_, A>, number: u16, text: &[u8]) -> bool {
+    let is_borrowed = matches!(row.1.0, CowSlice::Borrowed(_));
+    (row.0.0 == number) & row.1.eq_bytes(text) & is_borrowed
+}
+
+// Whether a row is read, whose text is borrowed.
+fn is_row<'de, A>(heap: &Heap, alloc: A, input: &'de [u8], number: u16, text: &[u8]) -> bool
+where
+    A: 'de + Allocator + Copy,
+{
+    let mut buf = ParseBuf(input);
+    heap.refuse(0);
+    let is_read = match buf.parse_in::<Row<'de, A>, A>(alloc, ((), ())) {
+        Ok(row) => is_lent(&row, number, text),
+        Err(_) => false,
+    };
+    is_read & buf.0.is_empty() & (heap.left() == 0)
+}
+
+fn are_numbers<A: Allocator + Copy>(heap: &Heap, alloc: A) -> bool {
+    let numbers = Both(RawInt::<LeU16>::new(258), RawInt::<u8>::new(3));
+    let value = (&numbers, ((), ()), 0, b"\x02\x01\x03\xff".as_slice(), 3, 2);
+    is_field(heap, alloc, None, &value, &[])
+}
+
+#[test]
+fn one_of_two_values_and_both(rt: HostRuntime) -> Result<(), Fail> {
+    let heap = &Refusing::new(rt.alloc(), 0);
+    let left: Number = Either::Left(RawInt::new(1));
+    let right: Number = Either::Right(RawInt::new(1));
+    let row = Both(
+        RawInt::<LeU16>::new(258),
+        RawBytes::<EofBytes>::from(b"hi".as_slice()),
+    );
+    all_hold(&[
+        is_either(heap, heap, &left, &right),
+        left.unwrap_left() == RawInt::new(1),
+        right.unwrap_right() == RawInt::new(1),
+        are_numbers(heap, heap),
+        is_written(heap, &row, b"\x02\x01hi"),
+        is_row(heap, heap, b"\x02\x01hi", 258, b"hi"),
+    ])
+}

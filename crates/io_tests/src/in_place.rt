@@ -1,0 +1,159 @@
+//! Packets lent where they lie, beside the same stream decoded.
+
+ghost use Rattle.std.specs.Prelude.{◌≡◌, List, [], ◌∷◌, ◌++◌, IsFalse, OnOk};
+ghost use Rattle.mysql_wire.specs.Runs.{payloads};
+
+use mysql_wire::proto::codec::Visit;
+use refusing::{NEVER, Refusing};
+use std::alloc::{AllocError, Allocator, Global};
+use std::test::Fail;
+use test_support::facts::{ensure, no_row};
+use test_support::generated::{Draws, Stream, pieces_of};
+use test_support::receiver::{Receiver, Run, pieces_from};
+use test_support::told::Told;
+
+// Takes all packets of the pieces, one piece after another.
+fn take_all(to: &mut Receiver<Global>, pieces: &[&[u8]]) -> Told {
+    let mut told = Told::Waits;
+    for piece in pieces {
+        if told == Told::Waits {
+            let _ = to.src.extend_from_slice(*piece);
+            told = to.take_next();
+        }
+        for _ in 0..1000 {
+            if told == Told::Whole {
+                told = to.take_next();
+            }
+        }
+    }
+    told
+}
+
+// Keeps each packet, while memory lasts.
+#[derive(Drop)]
+struct Kept {
+    packets: Vec<Vec<u8>>,
+    refused: bool,
+}
+
+impl Kept {
+    fn keep(&mut self, packet: &[u8]) -> Result<(), AllocError>
+        ensures kept { OnOk result (payloads self.new.packets.items
+            ≡ payloads self.old.packets.items ++ (packet.now ∷ [])) }
+        ensures refused { self.new.refused ≡ self.old.refused }
+    {
+        let alloc = *self.packets.allocator();
+        let copy = Vec::from_slice(alloc, packet)?;
+        self.packets.push(copy)?;
+        Ok(())
+    }
+}
+
+impl Visit for Kept {
+    ghost sees = { λ old packet new. IsFalse new.refused
+        → payloads new.packets.items ≡ payloads old.packets.items ++ (packet ∷ []) };
+
+    fn visit(&mut self, packet: &[u8]) {
+        if self.keep(packet).is_err() {
+            self.refused = true;
+        }
+    }
+}
+
+// Whether the second receiver stands as the first.
+fn left_alike<A: Allocator>(decoded: &Receiver<Global>, other: &Receiver<A>) -> bool {
+    (decoded.src.as_slice() == other.src.as_slice())
+        & (decoded.dst.as_slice() == other.dst.as_slice())
+}
+
+// Whether these pieces are visited as they are handed out, with the same answer and rest.
+fn is_visited<A: Allocator + Copy>(
+    alloc: A,
+    limit: usize,
+    pieces: &[&[u8]],
+    decoded: &Receiver<Global>,
+    wanted: Run,
+) -> bool {
+    let mut to = Receiver::new(alloc, limit);
+    let mut kept = Kept {
+        packets: Vec::new(decoded.alloc),
+        refused: false,
+    };
+    let mut told = (0, Told::OutOfMemory);
+    for _ in 0..2 {
+        if (told.1 == Told::OutOfMemory) & to.stands() {
+            let (more, again) = to.visit(pieces_from(pieces, told.0), &mut kept);
+            told = (told.0.wrapping_add(more), again);
+        }
+    }
+    let same = (told == wanted) & !kept.refused & left_alike(decoded, &to);
+    same & are_same(decoded.out.as_slice(), kept.packets.as_slice())
+}
+
+fn are_same(some: &[Vec<u8>], others: &[Vec<u8>]) -> bool {
+    let mut same = some.len() == others.len();
+    for (i, packet) in some.iter().enumerate() {
+        same &= others.get(i) == Some(packet);
+    }
+    same
+}
+
+// Whether all ways hand out the same packets of these pieces, say the same, and leave the same.
+fn agree(alloc: Global, limit: usize, pieces: &[&[u8]]) -> bool {
+    let mut decoded = Receiver::new(alloc, limit);
+    let run = decoded.deliver(pieces);
+    let mut same = true;
+    for nth in [0, 1, 2, NEVER] {
+        same &= is_visited(&Refusing::new(alloc, nth), limit, pieces, &decoded, run);
+    }
+    let mut lent = Receiver::new(alloc, limit);
+    same &= take_all(&mut lent, pieces) == run.1;
+    same &= are_same(decoded.out.as_slice(), lent.out.as_slice()) & left_alike(&decoded, &lent);
+    same & (decoded.next_id() == lent.next_id())
+}
+
+// Whether it is so of the stream of this seed.
+fn agree_at(alloc: Global, seed: u64) -> Result<bool, AllocError> {
+    let mut draws = Draws::new(seed);
+    let stream = Stream::damaged(alloc, &mut draws, 0)?;
+    let limit = stream.limit(&mut draws);
+    let pieces = pieces_of(alloc, &mut draws, stream.bytes.as_slice())?;
+    Ok(agree(alloc, limit, pieces.as_slice()))
+}
+
+#[test]
+fn packets_in_place_are_those_that_are_decoded(rt: HostRuntime) -> Result<(), Fail> {
+    let mut wrong = None;
+    for seed in 0..500usize {
+        if agree_at(rt.alloc(), seed as u64) != Ok(true) {
+            wrong = Some(seed);
+        }
+    }
+    no_row(wrong)
+}
+
+// Whether a packet is lent of these bytes under this limit, and which.
+fn is_lent(alloc: Global, bytes: &[u8], limit: usize, wanted: Option<&[u8]>) -> bool {
+    let mut to = Receiver::holding(alloc, limit, bytes);
+    match wanted {
+        Some(packet) => to.lends(packet),
+        None => !to.take_front(),
+    }
+}
+
+#[test]
+fn a_packet_is_lent_where_it_is_whole(rt: HostRuntime) -> Result<(), Fail> {
+    let mut all = true;
+    for (bytes, limit, wanted) in [
+        (b"\x02\0\0\0ab\xff".as_slice(), 2, Some(b"ab".as_slice())),
+        (b"\0\0\0\0", 0, Some(b"")),
+        (b"\x02\0\0\0ab", 1, None),
+        (b"\x02\0\0\x01ab", 2, None),
+        (b"\x02\0\0\0a", 2, None),
+        (b"\x02\0\0", 2, None),
+        (b"", 2, None),
+    ] {
+        all &= is_lent(rt.alloc(), bytes, limit, wanted);
+    }
+    ensure(all, "what is lent")
+}

@@ -1,0 +1,304 @@
+// Numbers whose length is in their first byte, and texts behind their length: put into buffers, and
+// read from buffers.
+
+use crate::numbers::{Readers, Row, wrong_row};
+use bytes::{BufMut, BytesMut};
+use mysql_wire::io::{BufMutExt, ParseBuf, WriteMysqlExt};
+use mysql_wire::misc::{lenenc_int_len, lenenc_str_len};
+use std::alloc::Global;
+use std::test::Fail;
+use test_support::answers::{Fault, told};
+use test_support::facts::no_row;
+use test_support::reference::between;
+
+// ---- length-encoded integers
+
+/// The readers of length-encoded integers. Of one that is cut short, the first byte is eaten.
+pub struct Lenenc;
+
+impl Readers for Lenenc {
+    type Number = u64;
+
+    fn checked(_: usize, buf: &mut ParseBuf<'_>) -> Option<u64> {
+        buf.checked_eat_lenenc_int()
+    }
+
+    fn plain(_: usize, buf: &mut ParseBuf<'_>) -> Option<u64> {
+        let mut same = *buf;
+        same.checked_eat_lenenc_int()?;
+        Some(buf.eat_lenenc_int())
+    }
+
+    fn left(len: usize) -> usize {
+        len.saturating_sub(1)
+    }
+}
+
+/// Numbers at the ends of the forms, each as it is written, and a byte behind it.
+pub const WRITTEN: &[Row<u64>] = &[
+    (1, b"\0\xfe", 0),
+    (1, b"\x01\xfe", 1),
+    (1, b"\x02\xfe", 2),
+    (1, b"\x05\xfe", 5),
+    (1, b"\xfa\xfe", 250),
+    (3, b"\xfc\xfb\0\xfe", 251),
+    (3, b"\xfc\xfc\0\xfe", 252),
+    (3, b"\xfc\x2c\x01\xfe", 300),
+    (3, b"\xfc\xff\xff\xfe", 65535),
+    (4, b"\xfd\0\0\x01\xfe", 65536),
+    (4, b"\xfd\x01\0\x01\xfe", 65537),
+    (4, b"\xfd\x70\x11\x01\xfe", 70000),
+    (4, b"\xfd\xff\xff\xff\xfe", 16777215),
+    (9, b"\xfe\0\0\0\x01\0\0\0\0\xfe", 16777216),
+    (9, b"\xfe\x01\0\0\x01\0\0\0\0\xfe", 16777217),
+    (9, b"\xfe\0\0\0\0\0\x01\0\0\xfe", 1 << 40),
+    (9, b"\xfe\xfe\xff\xff\xff\xff\xff\xff\xff\xfe", u64::MAX - 1),
+    (9, b"\xfe\xff\xff\xff\xff\xff\xff\xff\xff\xfe", u64::MAX),
+];
+
+// The marks, which slices take as zero.
+const MARKS: &[Row<u64>] = &[(1, b"\xfb", 0), (1, b"\xfb\x01", 0), (1, b"\xff\x01", 0)];
+
+#[test]
+fn lenenc_ints_are_eaten(_: HostRuntime) -> Result<(), Fail> {
+    no_row(wrong_row::<Lenenc>(WRITTEN))?;
+    no_row(wrong_row::<Lenenc>(MARKS))
+}
+
+// Whether the row's number is put as its bytes.
+fn is_put(alloc: Global, row: &Row<'_, u64>) -> bool {
+    let (width, bytes, number) = *row;
+    let bytes = between(bytes, 0, width);
+    let mut vec = Vec::new(alloc);
+    let mut all = vec.put_lenenc_int(number).is_ok();
+    all &= vec.as_slice() == bytes;
+    let mut room = BytesMut::new(alloc);
+    all &= room.put_lenenc_int(number).is_ok();
+    all & (room.as_slice() == bytes)
+}
+
+// Whether the row's number is written as its bytes, whose length is known beforehand.
+fn is_written(alloc: Global, row: &Row<'_, u64>) -> bool {
+    let (width, bytes, number) = *row;
+    let mut out = Vec::new(alloc);
+    let written = told(out.write_lenenc_int(number));
+    let is_right = out.as_slice() == between(bytes, 0, width);
+    is_right & (written == Ok(width as u64)) & (lenenc_int_len(number) == width as u64)
+}
+
+#[test]
+fn lenenc_ints_are_written(rt: HostRuntime) {
+    let mut all = true;
+    for row in WRITTEN {
+        all &= is_put(rt.alloc(), row);
+        all &= is_written(rt.alloc(), row);
+    }
+    assert!(rt; all);
+}
+
+// ---- numbers of a fixed width, and texts
+
+#[test]
+fn low_bytes_are_put(rt: HostRuntime) {
+    let mut buf = Vec::new(rt.alloc());
+    let put = [
+        buf.put_u24_le(0x01020304).is_ok(),
+        buf.put_i24_le(8388608).is_ok(),
+        buf.put_i24_le(-2).is_ok(),
+        buf.put_u48_le(1).is_ok(),
+        buf.put_u56_le(1).is_ok(),
+        buf.put_i56_le(-2).is_ok(),
+    ];
+    let bytes = b"\x04\x03\x02\
+        \0\0\x80\
+        \xfe\xff\xff\
+        \x01\0\0\0\0\0\
+        \x01\0\0\0\0\0\0\
+        \xfe\xff\xff\xff\xff\xff\xff";
+    assert!(rt; (put == [true; 6]) & (buf.as_slice() == bytes.as_slice()));
+}
+
+#[test]
+fn texts_are_put_behind_their_length(rt: HostRuntime) {
+    let mut buf = Vec::new(rt.alloc());
+    let put = [
+        buf.put_lenenc_str(b"a").is_ok(),
+        buf.put_u8_str(b"b").is_ok(),
+        buf.put_u32_str(b"c").is_ok(),
+        buf.put_u8_str(&[b'd'; 256]).is_ok(),
+    ];
+    let text = buf.as_slice();
+    let is_front = between(text, 0, 10) == b"\x01a\x01b\x01\0\0\0c\xff".as_slice();
+    let is_rest = between(text, 10, usize::MAX) == [b'd'; 255].as_slice();
+    assert!(rt; (put == [true; 4]) & is_front & is_rest);
+}
+
+// What the length of a text is.
+#[derive(Clone, Copy)]
+enum Length {
+    Lenenc,
+    OneByte,
+    FourBytes,
+}
+
+impl Length {
+    // The form that says where bytes are missing.
+    fn checked<'a>(self, buf: &mut ParseBuf<'a>) -> Option<&'a [u8]> {
+        match self {
+            Length::Lenenc => buf.checked_eat_lenenc_str(),
+            Length::OneByte => buf.checked_eat_u8_str(),
+            Length::FourBytes => buf.checked_eat_u32_str(),
+        }
+    }
+}
+
+// The forms that want the text to be there, where it is.
+fn eat_lenenc<'a>(buf: &mut ParseBuf<'a>) -> Option<&'a [u8]> {
+    let mut same = *buf;
+    same.checked_eat_lenenc_str()?;
+    Some(buf.eat_lenenc_str())
+}
+
+fn eat_u8<'a>(buf: &mut ParseBuf<'a>) -> Option<&'a [u8]> {
+    let mut same = *buf;
+    same.checked_eat_u8_str()?;
+    Some(buf.eat_u8_str())
+}
+
+fn eat_u32<'a>(buf: &mut ParseBuf<'a>) -> Option<&'a [u8]> {
+    let mut same = *buf;
+    same.checked_eat_u32_str()?;
+    Some(buf.eat_u32_str())
+}
+
+// An input, the text that it begins with, and what is left.
+type Eaten<'a> = (Length, &'a [u8], Option<&'a [u8]>, &'a [u8]);
+
+const EATEN: &[Eaten] = &[
+    (Length::Lenenc, b"\x02abc", Some(b"ab"), b"c"),
+    (Length::OneByte, b"\x01de", Some(b"d"), b"e"),
+    (Length::FourBytes, b"\x01\0\0\0fg", Some(b"f"), b"g"),
+    (Length::Lenenc, b"\x03ab", None, b"ab"),
+    (
+        Length::Lenenc,
+        b"\xfe\xff\xff\xff\xff\xff\xff\xff\xffa",
+        None,
+        b"a",
+    ),
+    (Length::OneByte, b"\x03ab", None, b"ab"),
+    (Length::FourBytes, b"\x03\0\0\0ab", None, b"ab"),
+    (Length::FourBytes, b"\x03\0\0", None, b"\x03\0\0"),
+];
+
+// Whether both forms eat the text.
+fn is_eaten(row: &Eaten) -> bool {
+    let (length, input, text, left) = *row;
+    let mut buf = ParseBuf(input);
+    let mut same = buf;
+    let plain = match length {
+        Length::Lenenc => eat_lenenc(&mut same),
+        Length::OneByte => eat_u8(&mut same),
+        Length::FourBytes => eat_u32(&mut same),
+    };
+    let wanted = if text.is_some() { left } else { input };
+    let checked = length.checked(&mut buf);
+    let texts = (checked == text) & (plain == text);
+    texts & (buf.0 == left) & (same.0 == wanted)
+}
+
+#[test]
+fn texts_are_eaten(rt: HostRuntime) {
+    let mut all = true;
+    for row in EATEN {
+        all &= is_eaten(row);
+    }
+    assert!(rt; all);
+}
+
+// ---- bounded buffers
+
+// What a put of a text, or else of a number, into so much room answers, and what it leaves.
+fn put(
+    alloc: Global,
+    text: Option<&[u8]>,
+    number: u64,
+    room: usize,
+) -> (Result<(), Fault>, Vec<u8>) {
+    let mut buf = Vec::new(alloc).limit(room);
+    let put = match text {
+        Some(text) => buf.put_lenenc_str(text),
+        None => buf.put_lenenc_int(number),
+    };
+    (told(put), buf.into_inner())
+}
+
+// Whether a put of a text, or else of a number, leaves all that it writes where there is room for
+// that, and else its length, where there is room for that, and else nothing.
+fn leaves(
+    alloc: Global,
+    text: Option<&[u8]>,
+    number: u64,
+    room: usize,
+    front: usize,
+    whole: &[u8],
+) -> bool {
+    let (answer, left) = put(alloc, text, number, room);
+    let len = if room >= whole.len() {
+        whole.len()
+    } else if room >= front {
+        front
+    } else {
+        0
+    };
+    let is_put = answer == Ok(());
+    let is_refused = answer == Err(Fault::OutOfMemory);
+    let is_answered = if len == whole.len() {
+        is_put
+    } else {
+        is_refused
+    };
+    is_answered & (left.as_slice() == between(whole, 0, len))
+}
+
+// Whether a text leaves so much in a buffer of each size.
+fn is_text_left(alloc: Global, text: &[u8]) -> bool {
+    let (_, whole) = put(alloc, Some(text), 0, usize::MAX);
+    let front = whole.len().saturating_sub(text.len());
+    let mut all = lenenc_int_len(text.len() as u64) == front as u64;
+    all &= lenenc_str_len(text) == whole.len() as u64;
+    all &= whole.ends_with(text);
+    for room in 0..whole.len().saturating_add(2) {
+        all &= leaves(alloc, Some(text), 0, room, front, whole.as_slice());
+    }
+    all
+}
+
+#[test]
+fn texts_in_too_little_room(rt: HostRuntime) {
+    let bytes = [b'a'; 300];
+    let mut all = true;
+    for len in [0usize, 1, 3, 250, 251, 300] {
+        all &= is_text_left(rt.alloc(), &bytes[..len]);
+    }
+    // The length of a refused text is left.
+    assert!(rt; all & leaves(rt.alloc(), Some(b"abc"), 0, 2, 1, b"\x03abc"));
+}
+
+// Whether the row's number leaves so much in a buffer of each size.
+fn is_number_left(alloc: Global, row: &Row<'_, u64>) -> bool {
+    let (width, bytes, number) = *row;
+    let mut all = true;
+    for room in 0..11usize {
+        all &= leaves(alloc, None, number, room, width, between(bytes, 0, width));
+    }
+    all
+}
+
+#[test]
+fn numbers_in_too_little_room(rt: HostRuntime) {
+    let mut all = true;
+    for row in WRITTEN {
+        all &= is_number_left(rt.alloc(), row);
+    }
+    assert!(rt; all);
+}

@@ -1,0 +1,29 @@
+//! Tests of buffers, of streams, and of packets over readers and writers: the buffer that is read
+//! from its front, numbers whose length is in their first byte, texts behind their length,
+//! versions, limits that move.
+#![tactic(auto)]
+
+#[cfg(test)]
+mod in_place;
+#[cfg(test)]
+mod lenenc;
+#[cfg(test)]
+mod limits;
+#[cfg(test)]
+mod memory;
+#[cfg(test)]
+mod numbers;
+#[cfg(test)]
+mod parse;
+#[cfg(test)]
+mod reader;
+#[cfg(test)]
+mod scripted;
+#[cfg(test)]
+mod streams;
+#[cfg(test)]
+mod varlen;
+#[cfg(test)]
+mod versions;
+#[cfg(test)]
+mod writer;

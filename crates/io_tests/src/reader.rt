@@ -1,0 +1,495 @@
+//! Packets from readers: whole, cut, ended, failing.
+
+use crate::scripted::{Said, Slow};
+use bytes::BytesMut;
+use mysql_wire::proto::codec::PacketCodec;
+use mysql_wire::proto::packet_io::{PacketReader, PacketWriter};
+use refusing::{NEVER, Refusing};
+use std::alloc::{AllocError, Allocator, Global};
+use std::io::{self, ErrorKind};
+use std::test::Fail;
+use test_support::facts::{ensure, no_row};
+use test_support::generated::{Draws, Stream};
+use test_support::reference::{Reading, put_framing, reading_of};
+use test_support::told::Told;
+
+/// How packets are taken.
+#[derive(Clone, Copy, PartialEq, Eq)]
+enum Way {
+    // By `next_packet`.
+    HandedOut,
+    // By `fill_packet`, `packet` and `take_packet`.
+    Lent,
+    // By `fill_packet`, twice, and then `next_packet`.
+    LentAndHandedOut,
+}
+
+const WAYS: [Way; 3] = [Way::HandedOut, Way::Lent, Way::LentAndHandedOut];
+
+// A reader of these bytes under a limit, and what it answers, call after call, from the first on.
+#[derive(Clone, Copy)]
+struct Row<'a> {
+    bytes: &'a [u8],
+    at_once: usize,
+    until_fault: usize,
+    limit: usize,
+    said: &'a [Said],
+    packets: &'a [u8],
+    unread: &'a [u8],
+    reads: u64,
+}
+
+// A packet, and the end.
+const ROW: Row = Row {
+    bytes: b"\x01\0\0\0a",
+    at_once: usize::MAX,
+    until_fault: usize::MAX,
+    limit: 3,
+    said: &[Said::Packet, Said::End, Said::End],
+    packets: b"a",
+    unread: b"",
+    reads: 3,
+};
+
+// Two packets in six reads, of which one fails, or the one behind them.
+const TWO: Row = Row {
+    bytes: b"\x01\0\0\0a\x02\0\0\x01bc",
+    at_once: 2,
+    packets: b"abc",
+    reads: 8,
+    ..ROW
+};
+
+const FIRST_FAILS: &[Said] = &[Said::Io, Said::Packet, Said::Packet, Said::End];
+
+const SECOND_FAILS: &[Said] = &[Said::Packet, Said::Io, Said::Packet, Said::End];
+
+const END_FAILS: &[Said] = &[Said::Packet, Said::Packet, Said::Io, Said::End];
+
+const ROWS: [Row; 17] = [
+    ROW,
+    // Nothing.
+    Row {
+        bytes: b"",
+        said: &[Said::End],
+        packets: b"",
+        reads: 1,
+        ..ROW
+    },
+    // An end inside a packet.
+    Row {
+        bytes: b"\x01\0\0\0",
+        said: &[Said::UnexpectedEnd, Said::UnexpectedEnd],
+        packets: b"",
+        unread: b"\x01\0\0\0",
+        reads: 3,
+        ..ROW
+    },
+    // One byte a read.
+    Row {
+        bytes: b"\x03\0\0\0123",
+        at_once: 1,
+        said: &[Said::Packet],
+        packets: b"123",
+        reads: 7,
+        ..ROW
+    },
+    // The third read fails.
+    Row {
+        bytes: b"\x03\0\0\0123",
+        at_once: 1,
+        until_fault: 2,
+        said: &[Said::Io, Said::Packet],
+        packets: b"123",
+        reads: 8,
+        ..ROW
+    },
+    // Another id.
+    Row {
+        bytes: b"\0\0\0\x05\0",
+        said: &[Said::OutOfSync, Said::OutOfSync],
+        packets: b"",
+        unread: b"\0",
+        reads: 1,
+        ..ROW
+    },
+    // Past the limit.
+    Row {
+        bytes: b"\x04\0\0\x001234",
+        said: &[Said::TooLarge, Said::TooLarge],
+        packets: b"",
+        unread: b"\x04\0\0\x001234",
+        reads: 1,
+        ..ROW
+    },
+    // Two packets in one read.
+    Row {
+        bytes: b"\x01\0\0\0a\x02\0\0\x01bc",
+        said: &[Said::Packet, Said::Packet],
+        packets: b"abc",
+        reads: 1,
+        ..ROW
+    },
+    // The part of a packet behind another.
+    Row {
+        bytes: b"\x01\0\0\0a\x02\0\0\x01b",
+        said: &[Said::Packet, Said::UnexpectedEnd],
+        packets: b"a",
+        unread: b"\x02\0\0\x01b",
+        reads: 2,
+        ..ROW
+    },
+    // An empty packet.
+    Row {
+        bytes: b"\0\0\0\0",
+        limit: 0,
+        said: &[Said::Packet, Said::End],
+        packets: b"",
+        reads: 2,
+        ..ROW
+    },
+    Row {
+        until_fault: 0,
+        said: FIRST_FAILS,
+        ..TWO
+    },
+    Row {
+        until_fault: 1,
+        said: FIRST_FAILS,
+        ..TWO
+    },
+    Row {
+        until_fault: 2,
+        said: FIRST_FAILS,
+        ..TWO
+    },
+    Row {
+        until_fault: 3,
+        said: SECOND_FAILS,
+        ..TWO
+    },
+    Row {
+        until_fault: 4,
+        said: SECOND_FAILS,
+        ..TWO
+    },
+    Row {
+        until_fault: 5,
+        said: SECOND_FAILS,
+        ..TWO
+    },
+    Row {
+        until_fault: 6,
+        said: END_FAILS,
+        ..TWO
+    },
+];
+
+// Puts a packet behind the others.
+fn put(packets: &mut BytesMut<Global>, packet: &[u8]) -> Said {
+    match packets.extend_from_slice(packet) {
+        Ok(()) => Said::Packet,
+        Err(_) => Said::Wrong,
+    }
+}
+
+// Takes a packet by `next_packet`, behind the others.
+fn hands_out<A: Allocator + Copy>(
+    codec: &mut PacketCodec,
+    reader: &mut PacketReader<Slow<'_>, A>,
+    packets: &mut BytesMut<Global>,
+) -> Said {
+    if !reader.fits(codec) {
+        return Said::Wrong;
+    }
+    match reader.next_packet(codec) {
+        Ok(Some(packet)) => put(packets, packet.as_slice()),
+        Ok(None) => Said::End,
+        Err(error) => Said::of(error),
+    }
+}
+
+// Has a packet ready by `fill_packet`.
+fn fills<A: Allocator + Copy>(
+    codec: &mut PacketCodec,
+    reader: &mut PacketReader<Slow<'_>, A>,
+) -> Said {
+    if !reader.fits(codec) {
+        return Said::Wrong;
+    }
+    match reader.fill_packet(codec) {
+        Ok(true) => Said::Packet,
+        Ok(false) => Said::End,
+        Err(error) => Said::of(error),
+    }
+}
+
+// Takes the packet that is ready, behind the others.
+fn takes<A: Allocator + Copy>(
+    codec: &mut PacketCodec,
+    reader: &mut PacketReader<Slow<'_>, A>,
+    packets: &mut BytesMut<Global>,
+) -> Said {
+    if !reader.is_ready(codec) {
+        return Said::Wrong;
+    }
+    let said = put(packets, reader.packet());
+    reader.take_packet(codec);
+    said
+}
+
+// One call. A packet that is looked at twice is read once.
+fn says<A: Allocator + Copy>(
+    way: Way,
+    codec: &mut PacketCodec,
+    reader: &mut PacketReader<Slow<'_>, A>,
+    packets: &mut BytesMut<Global>,
+) -> Said {
+    if way == Way::HandedOut {
+        return hands_out(codec, reader, packets);
+    }
+    let said = fills(codec, reader);
+    if said != Said::Packet {
+        return said;
+    }
+    if way == Way::Lent {
+        return takes(codec, reader, packets);
+    }
+    let reads = reader.reads();
+    if (fills(codec, reader) != Said::Packet) | (reader.reads() != reads) {
+        return Said::Wrong;
+    }
+    hands_out(codec, reader, packets)
+}
+
+// What a reader said, call after call; the packets, one behind the other; what is unread in the
+// end; and how many reads it made.
+#[derive(Drop)]
+struct Heard {
+    said: Vec<Said>,
+    packets: BytesMut<Global>,
+    unread: BytesMut<Global>,
+    reads: u64,
+}
+
+// Whether the row says so.
+fn is_said(heard: &Heard, row: &Row) -> bool {
+    let mut all = heard.said.as_slice() == row.said;
+    all &= heard.packets.as_slice() == row.packets;
+    all &= heard.unread.as_slice() == row.unread;
+    all & (heard.reads == row.reads)
+}
+
+// Calls a reader so often, and once more after each refusal of memory.
+fn listen<A: Allocator + Copy>(
+    alloc: A,
+    way: Way,
+    codec: &mut PacketCodec,
+    input: Slow<'_>,
+    calls: usize,
+    heard: &mut Heard,
+) {
+    let Ok(mut reader) = PacketReader::new(alloc, input) else {
+        return;
+    };
+    for _ in 0..calls {
+        let mut said = says(way, codec, &mut reader, &mut heard.packets);
+        if said == Said::OutOfMemory {
+            said = says(way, codec, &mut reader, &mut heard.packets);
+        }
+        let _ = heard.said.push(said);
+    }
+    let _ = heard.unread.extend_from_slice(reader.unread());
+    heard.reads = reader.reads();
+}
+
+// What is heard of a reader where this request for memory is refused, and whether one was.
+fn hear(
+    alloc: Global,
+    nth: u64,
+    way: Way,
+    codec: &mut PacketCodec,
+    input: Slow<'_>,
+    calls: usize,
+) -> (Heard, bool) {
+    let heap = Refusing::new(alloc, nth);
+    let mut heard = Heard {
+        said: Vec::new(alloc),
+        packets: BytesMut::new(alloc),
+        unread: BytesMut::new(alloc),
+        reads: 0,
+    };
+    listen(&heap, way, codec, input, calls, &mut heard);
+    (heard, heap.has_refused())
+}
+
+// The same of a row, so many bytes a read.
+fn hear_row(alloc: Global, nth: u64, way: Way, row: &Row, at_once: usize) -> (Heard, bool) {
+    let input = Slow {
+        bytes: row.bytes,
+        at_once,
+        until_fault: row.until_fault,
+        kind: ErrorKind::Interrupted,
+    };
+    let mut codec = PacketCodec::default();
+    codec.max_allowed_packet = row.limit;
+    hear(alloc, nth, way, &mut codec, input, row.said.len())
+}
+
+// Whether a reader goes as the row says, whichever request for memory is refused: none comes behind
+// the first eight.
+fn is_read(alloc: Global, way: Way, row: &Row) -> bool {
+    let mut all = true;
+    for nth in 0..9 {
+        let (heard, refused) = hear_row(alloc, nth, way, row, row.at_once);
+        all &= is_said(&heard, row) & (!refused | (nth < 8));
+    }
+    all
+}
+
+// Whether all ways go as the packets are handed out, so many bytes a read.
+fn is_read_alike(alloc: Global, row: &Row, at_once: usize) -> bool {
+    let (heard, _) = hear_row(alloc, NEVER, Way::HandedOut, row, at_once);
+    let wanted = Row {
+        said: heard.said.as_slice(),
+        packets: heard.packets.as_slice(),
+        unread: heard.unread.as_slice(),
+        reads: heard.reads,
+        ..*row
+    };
+    let mut all = heard.said.len() == row.said.len();
+    for way in [Way::Lent, Way::LentAndHandedOut] {
+        let (heard, _) = hear_row(alloc, NEVER, way, row, at_once);
+        all &= is_said(&heard, &wanted);
+    }
+    all
+}
+
+// Whether a row goes as it says by each way, and alike over each cutting.
+fn goes(alloc: Global, row: &Row) -> bool {
+    let mut all = true;
+    for way in WAYS {
+        all &= is_read(alloc, way, row);
+    }
+    for at_once in 1..12 {
+        all &= is_read_alike(alloc, row, at_once);
+    }
+    all
+}
+
+#[test]
+fn each_reader_goes_as_it_says(rt: HostRuntime) -> Result<(), Fail> {
+    let mut wrong = None;
+    for i in 0..ROWS.len() {
+        if !goes(rt.alloc(), &ROWS[i]) {
+            wrong = Some(i);
+        }
+    }
+    no_row(wrong)
+}
+
+// What is said where a reading stops.
+fn end_of(reading: &Reading, len: usize) -> Said {
+    match reading.told {
+        Told::TooLarge => Said::TooLarge,
+        Told::OutOfSync => Said::OutOfSync,
+        _ if reading.left == len => Said::End,
+        _ => Said::UnexpectedEnd,
+    }
+}
+
+// A row of a stream under a limit, which is read so.
+fn row_of<'a>(bytes: &'a [u8], limit: usize, said: &'a [Said], packets: &'a [u8]) -> Row<'a> {
+    Row {
+        bytes,
+        limit,
+        said,
+        packets,
+        ..ROW
+    }
+}
+
+// Whether each way reads what the plain reading of the stream has.
+fn is_heard(alloc: Global, bytes: &[u8], at_once: usize, limit: usize) -> Result<bool, AllocError> {
+    let reading = reading_of(alloc, 0, limit, bytes)?;
+    let mut said = Vec::new(alloc);
+    let mut packets = Vec::new(alloc);
+    for packet in &reading.packets {
+        let _ = said.push(Said::Packet);
+        let _ = packets.extend_from_slice(packet.as_slice());
+    }
+    let _ = said.push(end_of(&reading, bytes.len()));
+    let row = row_of(bytes, limit, said.as_slice(), packets.as_slice());
+    let (heard, _) = hear_row(alloc, NEVER, Way::HandedOut, &row, at_once);
+    let mut all = heard.said.as_slice() == row.said;
+    all &= heard.packets.as_slice() == row.packets;
+    Ok(all & is_read_alike(alloc, &row, at_once))
+}
+
+// Whether it is so of the stream of this seed.
+fn is_seed_heard(alloc: Global, seed: u64) -> Result<bool, AllocError> {
+    let mut draws = Draws::new(seed);
+    let stream = Stream::damaged(alloc, &mut draws, 0)?;
+    let limit = stream.limit(&mut draws);
+    let at_once = draws.below(9).max(1);
+    is_heard(alloc, stream.bytes.as_slice(), at_once, limit)
+}
+
+#[test]
+fn generated_streams_are_read_alike(rt: HostRuntime) -> Result<(), Fail> {
+    let mut wrong = None;
+    for seed in 0..500usize {
+        if is_seed_heard(rt.alloc(), seed as u64) != Ok(true) {
+            wrong = Some(seed);
+        }
+    }
+    no_row(wrong)
+}
+
+// Whether a packet of this length is read by each way, and nothing is left.
+fn is_long_read(alloc: Global, len: usize) -> Result<bool, AllocError> {
+    let mut bytes = Vec::new(alloc);
+    let payload = Vec::from_elem(alloc, 0u8, len)?;
+    put_framing(&mut bytes, 0, payload.as_slice())?;
+    let said = [Said::Packet, Said::End];
+    let row = row_of(bytes.as_slice(), len, &said, payload.as_slice());
+    let mut all = true;
+    for way in WAYS {
+        let (heard, _) = hear_row(alloc, NEVER, way, &row, 8192);
+        all &= (heard.said.as_slice() == row.said) & (heard.packets.as_slice() == row.packets);
+    }
+    Ok(all)
+}
+
+#[test]
+fn a_packet_of_two_chunks_is_collected(rt: HostRuntime) -> Result<(), Fail> {
+    let mut all = true;
+    for len in [16777215, 16777220] {
+        all &= is_long_read(rt.alloc(), len)?;
+    }
+    ensure(all, "a packet of two chunks")
+}
+
+// Queues a command.
+fn asks(alloc: Global, codec: &mut PacketCodec) -> bool {
+    let mut command = b"\x01".as_slice();
+    match PacketWriter::new(alloc, io::sink()) {
+        Ok(mut writer) => writer.queue(codec, &mut command).is_ok(),
+        Err(_) => false,
+    }
+}
+
+#[test]
+fn a_reader_and_a_writer_share_an_id(rt: HostRuntime) -> Result<(), Fail> {
+    let mut codec = PacketCodec::default();
+    let is_asked = asks(rt.alloc(), &mut codec);
+    let input = Slow {
+        bytes: b"\x01\0\0\x01\x02",
+        at_once: usize::MAX,
+        until_fault: usize::MAX,
+        kind: ErrorKind::Interrupted,
+    };
+    let (heard, _) = hear(rt.alloc(), NEVER, Way::HandedOut, &mut codec, input, 1);
+    let is_answered = heard.packets.as_slice() == b"\x02".as_slice();
+    ensure(is_asked & is_answered, "a command and its answer")
+}

@@ -1,0 +1,75 @@
+//! The tables, run. All calls are made over the allocator that refuses by one function that is
+//! generic in its allocator: that it is one is proved once.
+
+use crate::{codec, copies, silent, writers};
+use refusing::{NEVER, Refusing};
+use std::alloc::Allocator;
+use std::test::Fail;
+use test_support::fixture::Heap;
+
+#[derive(Clone, Copy)]
+enum Call {
+    Codec(codec::Taking),
+    Copy(copies::Taking),
+}
+
+// Whether the request was refused, and what stands then is right.
+fn tries<A: Allocator + Copy>(heap: &Heap, alloc: A, call: Call, nth: u64) -> Option<bool> {
+    match call {
+        Call::Codec(call) => codec::tries(heap, alloc, call, nth),
+        Call::Copy(call) => copies::tries(heap, alloc, call, nth),
+    }
+}
+
+// No call asks so often.
+const MOST: u64 = 20;
+
+// How many requests a call makes, each refused in turn. None where one leaves something else.
+fn refusals<A: Allocator + Copy>(heap: &Heap, alloc: A, call: Call) -> Option<u64> {
+    for nth in 0..MOST {
+        let refused = tries(heap, alloc, call, nth)?;
+        if refused != heap.has_refused() {
+            return None;
+        }
+        if !refused {
+            return Some(nth);
+        }
+    }
+    None
+}
+
+// The name of a function that takes memory and goes otherwise.
+fn first_wrong<A: Allocator + Copy>(heap: &Heap, alloc: A) -> Option<&'static str> {
+    let mut wrong = None;
+    for (name, call, wanted) in codec::ROWS {
+        if refusals(heap, alloc, Call::Codec(call)) != Some(wanted) {
+            wrong = Some(name);
+        }
+    }
+    for (name, call, wanted) in copies::ROWS {
+        if refusals(heap, alloc, Call::Copy(call)) != Some(wanted) {
+            wrong = Some(name);
+        }
+    }
+    wrong
+}
+
+// What goes otherwise of those that take memory, of those that write, and of those that take none.
+fn all<A: Allocator + Copy>(heap: &Heap, alloc: A) -> [Option<&'static str>; 3] {
+    [
+        first_wrong(heap, alloc),
+        writers::first_wrong(heap, alloc),
+        silent::first_wrong(heap, alloc),
+    ]
+}
+
+#[test]
+fn each_call_goes_on_after_a_refusal_or_asks_for_nothing(rt: HostRuntime) -> Result<(), Fail> {
+    let heap = &Refusing::new(rt.alloc(), NEVER);
+    match all(heap, heap) {
+        [None, None, None] => Ok(()),
+        [taking, writing, silent] => {
+            Err(Fail::new(taking.or(writing).or(silent).unwrap_or_default()))
+        }
+    }
+}

@@ -1,0 +1,43 @@
+//! `mysql_wire_packets`: payloads as servers and clients send them.
+
+mod answers;
+mod columns;
+mod commands;
+mod errors;
+mod handshakes;
+mod payload;
+mod responses;
+mod rows;
+
+use answers::{are_eofs, are_oks, are_prepared};
+use columns::are_columns;
+use commands::are_queries;
+use errors::are_errors;
+use handshakes::are_greetings;
+use refusing::Refusing;
+use responses::are_responses;
+use rows::{are_no_rows, are_rows};
+use std::alloc::Global;
+use std::test::Fail;
+use test_support::facts::all_hold;
+use test_support::fixture::Heap;
+
+fn are_packets(heap: &Heap, alloc: Global) -> [bool; 10] {
+    [
+        are_greetings(heap, alloc),
+        are_responses(heap, alloc),
+        are_queries(heap, alloc),
+        are_oks(heap, alloc),
+        are_eofs(heap, alloc),
+        are_errors(heap, alloc),
+        are_prepared(heap, alloc),
+        are_columns(heap, alloc),
+        are_rows(heap, alloc),
+        are_no_rows(alloc),
+    ]
+}
+
+#[test]
+fn packets_are_written_and_read_and_others_refused(rt: HostRuntime) -> Result<(), Fail> {
+    all_hold(&are_packets(&Refusing::new(rt.alloc(), 0), rt.alloc()))
+}

@@ -1,0 +1,56 @@
+// Definitions of columns.
+
+use crate::server::payload::is_payload;
+use mysql_wire::misc::raw::{RawBytes, RawConst, RawFlags};
+use mysql_wire_packets::column_definition::ColumnDefinition41;
+use std::alloc::Global;
+use test_support::fixture::Heap;
+
+// The six texts, the collation, the length, the type, the flags and the digits.
+type Row = (&'static [u8], [&'static [u8]; 6], u16, u32, u8, u16, u8);
+
+// https://dev.mysql.com/doc/dev/mysql-server/latest/page_protocol_com_query_response_text_resultset.html:
+// the column of `select @@version_comment limit 1`; and a key of a table `t` under an alias.
+const COLUMNS: &[Row] = &[
+    (
+        b"\x03def\0\0\0\x11@@version_comment\0\x0c\x08\0\x1c\0\0\0\xfd\0\0\x1f\0\0",
+        [b"def", b"", b"", b"", b"@@version_comment", b""],
+        8,
+        28,
+        0xfd,
+        0,
+        31,
+    ),
+    (
+        b"\x03def\x04test\x01a\x01t\x03key\x02id\x0c\x3f\0\x0b\0\0\0\x03\x03\x42\0\0\0",
+        [b"def", b"test", b"a", b"t", b"key", b"id"],
+        63,
+        11,
+        3,
+        0x4203,
+        0,
+    ),
+];
+
+pub fn are_columns(heap: &Heap, alloc: Global) -> bool {
+    let mut all = true;
+    for row in COLUMNS {
+        let (payload, texts, character_set, column_length, column_type, flags, decimals) = *row;
+        let [catalog, schema, table, org_table, name, org_name] = texts;
+        let column = ColumnDefinition41 {
+            catalog: RawBytes::from(catalog),
+            schema: RawBytes::from(schema),
+            table: RawBytes::from(table),
+            org_table: RawBytes::from(org_table),
+            name: RawBytes::from(name),
+            org_name: RawBytes::from(org_name),
+            character_set,
+            column_length,
+            column_type: RawConst::new(column_type),
+            flags: RawFlags::new(flags),
+            decimals,
+        };
+        all &= is_payload(heap, alloc, (), column, payload, payload.len());
+    }
+    all
+}

@@ -1,0 +1,52 @@
+// A payload beside the packet that it is. A packet is handed over, so that one function lets go
+// those of all types.
+
+use mysql_wire::io::{InvalidReason, ParseBuf};
+use mysql_wire::misc::raw::RawBytes;
+use mysql_wire::misc::raw::bytes::BytesRepr;
+use mysql_wire::proto::{MyDeserialize, MySerialize};
+use std::alloc::Global;
+use test_support::answers::{Fault, told};
+use test_support::fields::{gives, is_written};
+use test_support::fixture::Heap;
+use test_support::reference::between;
+
+/// Why another header is refused.
+pub const OTHER: Fault = Fault::Invalid(InvalidReason::ConstMismatch);
+
+/// A text that may be missing, as a field.
+pub fn text_if<'a, T: BytesRepr>(text: Option<&'a [u8]>) -> Option<RawBytes<'a, T>> {
+    match text {
+        Some(text) => Some(RawBytes::from(text)),
+        None => None,
+    }
+}
+
+/// Whether a packet is written as a payload, whichever request for memory is refused, and read from
+/// it; and whether the payload cut short at any length is refused. A packet whose last field takes
+/// all the rest is read from the first `least` bytes and more: then what is read is written as just
+/// those bytes.
+pub fn is_payload<'de, T, C>(
+    heap: &Heap,
+    alloc: Global,
+    ctx: C,
+    packet: T,
+    payload: &'de [u8],
+    least: usize,
+) -> bool
+where
+    C: Copy,
+    T: Drop + PartialEq + MySerialize + MyDeserialize<'de, Global, Ctx = C>,
+{
+    let mut all = is_written(heap, &packet, payload);
+    all &= gives::<T, C, Global>(alloc, ctx, payload, &packet, 0);
+    for len in 0..payload.len() {
+        let cut = between(payload, 0, len);
+        let mut buf = ParseBuf(cut);
+        all &= match told(buf.parse_in::<T, Global>(alloc, ctx)) {
+            Ok(shorter) => (len >= least) & is_written(heap, &shorter, cut),
+            Err(_) => len < least,
+        };
+    }
+    all
+}

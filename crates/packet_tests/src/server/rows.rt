@@ -1,0 +1,51 @@
+// Rows of a text resultset.
+
+use crate::server::payload::is_payload;
+use TextValue::{Null, Text};
+use mysql_wire::misc::raw::seq::Seq;
+use mysql_wire_packets::text_row::{TextRow, TextValue};
+use std::alloc::Global;
+use std::borrow::CowSlice;
+use test_support::answers::Fault;
+use test_support::fields::stops;
+use test_support::fixture::Heap;
+
+// https://dev.mysql.com/doc/dev/mysql-server/latest/page_protocol_com_query_response_text_resultset.html:
+// the row of `select @@version_comment limit 1`; NULL alone; NULL, the empty text and a number; no
+// columns.
+const ROWS: &[(&[u8], &[TextValue<'static>])] = &[
+    (
+        b"\x1cMySQL Community Server (GPL)",
+        &[Text(b"MySQL Community Server (GPL)")],
+    ),
+    (b"\xfb", &[Null]),
+    (b"\xfb\0\x0242", &[Null, Text(b""), Text(b"42")]),
+    (b"", &[]),
+];
+
+fn is_row<'a>(heap: &Heap, alloc: Global, payload: &'a [u8], values: &'a [TextValue<'a>]) -> bool {
+    let row = TextRow {
+        values: Seq::new(CowSlice::Borrowed(values)),
+    };
+    is_payload(heap, alloc, values.len(), row, payload, payload.len())
+}
+
+pub fn are_rows(heap: &Heap, alloc: Global) -> bool {
+    let mut all = true;
+    for (payload, values) in ROWS {
+        all &= is_row(heap, alloc, *payload, *values);
+    }
+    // A text of 251 bytes stands behind three bytes of length.
+    let mut long = [b'a'; 255];
+    long[..4].copy_from_slice(b"\xfb\xfc\xfb\0");
+    all & is_row(heap, alloc, &long, &[Null, Text(&long[4..])])
+}
+
+// The byte `ff` begins no value. An error that comes in place of a row is told by it.
+pub fn are_no_rows(alloc: Global) -> bool {
+    let mut all = stops::<TextRow<'_>, usize, Global>(alloc, 1, b"\xff\x10\x04", NO_VALUE, 3);
+    all &= stops::<TextRow<'_>, usize, Global>(alloc, 2, b"\xfb\xff", NO_VALUE, 1);
+    all & stops::<TextRow<'_>, usize, Global>(alloc, 2, b"\xfb\x02a", Fault::UnexpectedEof, 1)
+}
+
+const NO_VALUE: Fault = Fault::NoInteger;
