@@ -79,7 +79,8 @@ fn copy_texts_shared(bytes: &[u8], out: &mut BytesMut) -> Result<u64, WireError>
     Ok(summary(out.as_slice()))
 }
 
-/// Rows of length-encoded texts, read and written again: form 0 into a `Vec`, form 1 into a `BytesMut`.
+/// Rows of length-encoded texts, read and written again: form 0 into a `Vec`, form 1 into a
+/// `BytesMut`.
 #[unsafe(no_mangle)]
 pub extern "C" fn mw_row_copy(alloc: Global, bytes: &[u8], form: u64, reps: u64) -> u64 {
     let mut out = Vec::new(alloc);
@@ -168,7 +169,8 @@ fn put_numbers_shared(bytes: &[u8], out: &mut BytesMut) -> Result<u64, WireError
     Ok(summary(out.as_slice()))
 }
 
-/// Numbers of 8 bytes written as length-encoded integers: form 0 into a `Vec`, form 1 into a `BytesMut`.
+/// Numbers of 8 bytes written as length-encoded integers: form 0 into a `Vec`, form 1 into a
+/// `BytesMut`.
 #[unsafe(no_mangle)]
 pub extern "C" fn mw_put_lenenc(alloc: Global, bytes: &[u8], form: u64, reps: u64) -> u64 {
     let mut out = Vec::new(alloc);

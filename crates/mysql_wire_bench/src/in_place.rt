@@ -52,8 +52,9 @@ pub extern "C" fn mw_place(alloc: Global, bytes: &[u8], piece: u64, limit: u64, 
     sum
 }
 
-// The texts of a row, one after another.
-#[inline(always)]
+// The texts of a row, one after another. It is a call, so that both ways to a row run the same code
+// for its texts.
+#[inline(never)]
 fn columns(row: &[u8], cols: u64) -> u64 {
     let mut buf = ParseBuf(row);
     let mut sum = 0u64;
