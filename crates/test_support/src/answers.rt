@@ -1,8 +1,8 @@
 //! What readers and writers of fields answered, in a form that tests compare.
 
-use mysql_wire::io::{InvalidReason, WireError};
 use std::alloc::Global;
 use std::fmt::Debug;
+use wire_buf::error::{InvalidReason, WireError};
 
 /// Why a value wasn't read or written.
 #[derive(Clone, Copy, PartialEq, Eq)]

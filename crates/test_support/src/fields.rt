@@ -4,11 +4,10 @@
 use crate::answers::{Fault, told};
 use crate::fixture::Heap;
 use crate::reference::between;
-use mysql_wire::io::ParseBuf;
-use mysql_wire::proto::codec::parse_packet_in;
-use mysql_wire::proto::{MyDeserialize, MySerialize};
 use refusing::NEVER;
 use std::alloc::{Allocator, Global};
+use wire_buf::io::{ParseBuf, parse_packet_in};
+use wire_buf::proto::{MyDeserialize, MySerialize};
 
 /// What follows a value in most inputs.
 pub const MORE: &[u8] = b"\xff\x80\0";
@@ -143,12 +142,6 @@ impl Short {
             there - self.front
         }
     }
-}
-
-/// The allocator, which refuses the next request: that of a reader that takes memory.
-pub fn starved(heap: &Heap) -> &Heap {
-    heap.refuse(0);
-    heap
 }
 
 /// Whether this value is read, and so many bytes are left.

@@ -3,10 +3,10 @@
 use crate::targets::Target;
 use crate::told::Told;
 use bytes::BytesMut;
-use mysql_wire::proto::codec::{ChunkDecoder, PacketCodec};
 use refusing::{NEVER, Refusing};
 use std::alloc::{Allocator, Global};
 use std::num::NonZeroUsize;
+use wire_codec::codec::{ChunkDecoder, PacketCodec};
 
 /// The allocator of a test that refuses a request.
 pub type Heap = Refusing<Global>;

@@ -5,13 +5,12 @@ use crate::facts::are_parts;
 use crate::fixture::Heap;
 use crate::told::Told;
 use bytes::{Buf, BytesMut};
-use mysql_wire::misc::raw::RawBytes;
-use mysql_wire::misc::raw::bytes::EofBytes;
-use mysql_wire::proto::codec::{
-    PacketCodec, Visit, deliver, deliver_each, deliver_limited, encode_value, packet_to_chunks,
-};
 use refusing::NEVER;
 use std::alloc::Allocator;
+use wire_codec::codec::{
+    PacketCodec, Visit, deliver, deliver_each, deliver_limited, encode_value, packet_to_chunks,
+};
+use wire_repr::text::{EofBytes, RawBytes};
 
 /// Counts the bytes of packets.
 #[derive(Drop)]

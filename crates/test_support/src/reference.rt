@@ -5,9 +5,9 @@
 //! where another one stopped.
 
 use crate::told::Told;
-use mysql_wire::constants::MAX_PAYLOAD_LEN;
 use std::alloc::{AllocError, Global};
 use std::mem;
+use wire_const::MAX_PAYLOAD_LEN;
 
 /// The bytes from `start` to `end`, as far as there are any.
 pub fn between(bytes: &[u8], start: usize, end: usize) -> &[u8] {
@@ -86,8 +86,8 @@ impl Place {
     }
 }
 
-// The length and the id that the header at this place states, if it is there whole.
-fn header_at(stream: &[u8], at: usize) -> Option<(usize, u8)> {
+/// The length and the id that the header at this place states, if it is there whole.
+pub fn header_at(stream: &[u8], at: usize) -> Option<(usize, u8)> {
     let header = between(stream, at, at.saturating_add(4));
     if header.len() < 4 {
         return None;

@@ -4,9 +4,9 @@ use crate::fixture::{Fixture, Remembered, decoder_of, is_filled};
 use crate::targets::{Counting, Target};
 use crate::told::Told;
 use bytes::BytesMut;
-use mysql_wire::proto::codec::PacketCodec;
 use std::alloc::{Allocator, Global};
 use std::test::Fail;
+use wire_codec::codec::PacketCodec;
 
 /// One thing that a test does, or one that it looks at.
 #[derive(Clone, Copy)]

@@ -3,10 +3,10 @@
 ghost use Rattle.std.specs.Prelude.{replicate};
 
 use bytes::{Buf, BytesMut};
-use mysql_wire::io::WireError;
-use mysql_wire::proto::codec::PacketDst;
 use std::alloc::Allocator;
 use std::num::NonZeroUsize;
+use wire_buf::error::WireError;
+use wire_codec::codec::PacketDst;
 
 /// A target that a step can empty.
 pub trait Target: PacketDst + Drop {

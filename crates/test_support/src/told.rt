@@ -1,7 +1,7 @@
 //! What calls answered, in a form that tests compare.
 
-use mysql_wire::proto::codec::ChunkInfo;
-use mysql_wire::proto::codec::error::PacketCodecError;
+use wire_codec::codec::ChunkInfo;
+use wire_codec::codec::error::PacketCodecError;
 
 /// What a call of a codec or of a chunk decoder answered.
 #[derive(Clone, Copy, PartialEq, Eq)]
