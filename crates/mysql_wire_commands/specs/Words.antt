@@ -1,5 +1,5 @@
 -- What the words on the command line ask for.
-use Rattle.std.specs.Prelude.{◌≡◌, ◌<◌, ℕ, List, [], ◌∷◌, codes, Option}
+use Rattle.std.specs.Prelude.{◌≡◌, ◌<◌, ℕ, List, [], ◌∷◌, codes, Option, Some, IfSome}
 use Rattle.std.specs.Str.Parse.{digits_value}
 use Rattle.mysql_wire_commands.specs.declared.words.Request.{Request}
 use Rattle.mysql_wire_commands.specs.declared.words.Request.TheVariants.{Frame, Chunk, Unframe, UnframeLimited, Reframe}
@@ -28,6 +28,11 @@ Asks words (UnframeLimited step limit later at) =
     × IsNumber second 4294967295 × (digits_value 10 second ≡ limit)
     × IsNumber third 4294967295 × (digits_value 10 third ≡ later)
     × IsNumber fourth 4294967295 × (digits_value 10 fourth ≡ at)
+
+-- these words ask for this, where they ask for anything
+pub record Asked (words : List (List ℕ)) (answer : Option Request) : Type 0 where
+  pub asked : IfSome answer (Asks words)
+  pub exact : (request : Request) → Asks words request → answer ≡ Some request
 
 -- this command ended with this status, where readers and writers tell their bytes
 abbrev pub RequestEnds : Request → ℕ → Option (List ℕ) → Option (List ℕ) → Option (List ℕ)

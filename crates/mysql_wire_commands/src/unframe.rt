@@ -1,6 +1,6 @@
 //! `unframe STEP LIMIT [LATER AT]`: the packets of the input, as they come.
 
-ghost use Rattle.std.specs.Prelude.{◌≡◌, ◌<◌, ◌≤◌, ◌⊎◌, ◌-◌, ◌++◌, ℕ, List, length, OnOk, IfOk, string_bytes};
+ghost use Rattle.std.specs.Prelude.{◌≡◌, ◌<◌, ◌≤◌, ◌⊎◌, ◌-◌, ◌++◌, ℕ, List, length, OnOk, IfOk, string_bytes, vec_len};
 ghost use Rattle.mysql_wire_commands.specs.declared.unframe.Verdict.TheVariants.{Waits};
 ghost use Rattle.mysql_wire.specs.Runs.{payloads};
 
@@ -169,7 +169,7 @@ fn piece_text<A: Allocator + Copy>(
     Ok(text)
 }
 
-ghost use Rattle.mysql_wire_commands.specs.Unframe.{TakesPiece, UnframeEnds, UnframeEndsOver, UnframeLimitedEnds, bytes_left, ending_line, ending_status, next_limit, run_state};
+ghost use Rattle.mysql_wire_commands.specs.Unframe.{StartsRun, TakesPiece, UnframeEnds, UnframeEndsOver, UnframeLimitedEnds, bytes_left, ending_line, ending_status, next_limit, run_state};
 ghost use Rattle.mysql_wire_commands.specs.Reads.{AsksStep, AsksUpTo};
 ghost use Rattle.std.specs.Io.KnownBytes.{Appends};
 ghost use Rattle.mysql_wire.specs.Delivery.{Waiting};
@@ -259,6 +259,41 @@ pub fn run_unframe_limited<A: Allocator + Copy, R: NotedRead, W: Write>(
     exit_status(unframe(alloc, step, limit, later, at, input, output))
 }
 
+// Reads pieces and takes their packets, until the input ends or the packets stop.
+fn take_pieces<A: Allocator + Copy, R: NotedRead, W: Write>(
+    alloc: A,
+    step: usize,
+    run: &mut Run<A>,
+    piece: &mut Vec<u8, A>,
+    input: &mut R,
+    output: &mut W,
+) -> Result<u8, Stop>
+    requires some { 0 < step }
+    requires room { vec_len piece.old ≡ step }
+    requires starts { StartsRun run.old.limit run.old.later run.old.ahead run.old }
+    ensures ended { IfOk result
+        (λ status. UnframeEndsOver run.old.limit run.old.later run.old.ahead status
+        (R.remaining input.old) (R.remaining input.new)
+        (W.contents output.old) (W.contents output.new)) }
+    ensures asked { AsksUpTo step run.old.ahead (R.reads input.old) (R.reads input.new) }
+{
+    laws::empty_goes_on();
+    laws::joined_limited_runs();
+    laws::framed_length();
+    'reads: for _ in 0..u64::MAX {
+        let count = read_piece(input, piece, run.next_read(step))?;
+        if count == 0 {
+            return write_rest(alloc, run, output);
+        }
+        match take_piece(alloc, run, &piece[..count], output)? {
+            Verdict::Waits => {}
+            Verdict::TooLarge => return Ok(4),
+            Verdict::OutOfSync => return Ok(5),
+        }
+    }
+    Err(Stop::Io)
+}
+
 // The same, with the exit status or why it gave up.
 fn unframe<A: Allocator + Copy, R: NotedRead, W: Write>(
     alloc: A,
@@ -275,22 +310,7 @@ fn unframe<A: Allocator + Copy, R: NotedRead, W: Write>(
         (W.contents output.old) (W.contents output.new)) }
     ensures asked { AsksUpTo step at (R.reads input.old) (R.reads input.new) }
 {
-    laws::empty_goes_on();
-    laws::joined_limited_runs();
-    laws::framed_length();
     let mut piece = Vec::from_elem(alloc, 0u8, step)?;
     let mut run = Run::new(alloc, limit, later, at);
-    'reads: for _ in 0..u64::MAX {
-        let count = read_piece(input, &mut piece, run.next_read(step))?;
-        if count == 0 {
-            let status = write_rest(alloc, &run, output)?;
-            return Ok(status);
-        }
-        match take_piece(alloc, &mut run, &piece[..count], output)? {
-            Verdict::Waits => {}
-            Verdict::TooLarge => return Ok(4),
-            Verdict::OutOfSync => return Ok(5),
-        }
-    }
-    Err(Stop::Io)
+    take_pieces(alloc, step, &mut run, &mut piece, input, output)
 }

@@ -1,6 +1,6 @@
 //! What the words on the command line ask for.
 
-ghost use Rattle.std.specs.Prelude.{◌≡◌, ◌↔◌, map, string_bytes, IfSome, Some};
+ghost use Rattle.std.specs.Prelude.{◌≡◌, ◌↔◌, [], ◌∷◌, codes, map, string_bytes};
 ghost use Rattle.std.specs.Io.KnownBytes.{Keeps};
 ghost use Rattle.std.specs.Option.{SomeIff};
 ghost use Rattle.std.specs.Str.Parse.{digits_value};
@@ -63,35 +63,121 @@ fn step_number(word: &str) -> Option<u64>
     }
 }
 
+// The number of a limit, or of a place in the input.
+fn limit_number(word: &str) -> Option<usize>
+    ensures { SomeIff result (IsNumber word.now 4294967295) (digits_value 10 word.now) }
+{
+    match number(word, MOST) {
+        Some(limit) => Some(limit as usize),
+        None => None,
+    }
+}
+
+// The numbers of a step and of a limit.
+fn step_and_limit(step: &str, limit: &str) -> Option<(usize, usize)>
+    ensures { SomeIff result (IsStep step.now × IsNumber limit.now 4294967295)
+        (digits_value 10 step.now, digits_value 10 limit.now) }
+{
+    match (step_number(step), limit_number(limit)) {
+        (Some(step), Some(limit)) => Some((step as usize, limit)),
+        _ => None,
+    }
+}
+
+// The numbers of two limits.
+fn two_limits(first: &str, second: &str) -> Option<(usize, usize)>
+    ensures { SomeIff result (IsNumber first.now 4294967295 × IsNumber second.now 4294967295)
+        (digits_value 10 first.now, digits_value 10 second.now) }
+{
+    match (limit_number(first), limit_number(second)) {
+        (Some(first), Some(second)) => Some((first, second)),
+        _ => None,
+    }
+}
+
 impl Request {
-    ghost use Rattle.mysql_wire_commands.specs.Words.{Asks};
+    ghost use Rattle.mysql_wire_commands.specs.Words.{Asked};
+
+    // What `frame` and the words behind it ask for.
+    fn frame<A: Allocator>(words: &[String<A>]) -> Option<Request>
+        ensures { Asked (codes "frame" ∷ map string_bytes words.now) result }
+    {
+        match words {
+            [id] => Some(Request::Frame(number(id.as_str(), 255)? as u8)),
+            _ => None,
+        }
+    }
+
+    // What `chunk` and the words behind it ask for.
+    fn chunk<A: Allocator>(words: &[String<A>]) -> Option<Request>
+        ensures { Asked (codes "chunk" ∷ map string_bytes words.now) result }
+    {
+        match words {
+            [] => Some(Request::Chunk),
+            _ => None,
+        }
+    }
+
+    // What `reframe` and the words behind it ask for.
+    fn reframe<A: Allocator>(words: &[String<A>]) -> Option<Request>
+        ensures { Asked (codes "reframe" ∷ map string_bytes words.now) result }
+    {
+        match words {
+            [limit] => Some(Request::Reframe(limit_number(limit.as_str())?)),
+            _ => None,
+        }
+    }
+
+    // What `unframe` with these words behind it asks for.
+    fn unframe_under(step: &str, limit: &str) -> Option<Request>
+        ensures { Asked (codes "unframe" ∷ step.now ∷ limit.now ∷ []) result }
+    {
+        let (step, limit) = step_and_limit(step, limit)?;
+        Some(Request::Unframe { step, limit })
+    }
+
+    // What `unframe` with these words behind it asks for.
+    fn unframe_limited(step: &str, limit: &str, later: &str, at: &str) -> Option<Request>
+        ensures { Asked (codes "unframe" ∷ step.now ∷ limit.now ∷ later.now ∷ at.now ∷ []) result }
+    {
+        let (step, limit) = step_and_limit(step, limit)?;
+        let (later, at) = two_limits(later, at)?;
+        Some(Request::UnframeLimited {
+            step,
+            limit,
+            later,
+            at,
+        })
+    }
+
+    // What `unframe` and the words behind it ask for.
+    fn unframe<A: Allocator>(words: &[String<A>]) -> Option<Request>
+        ensures { Asked (codes "unframe" ∷ map string_bytes words.now) result }
+    {
+        match words {
+            [step, limit] => Request::unframe_under(step.as_str(), limit.as_str()),
+            [step, limit, later, at] => Request::unframe_limited(
+                step.as_str(),
+                limit.as_str(),
+                later.as_str(),
+                at.as_str(),
+            ),
+            _ => None,
+        }
+    }
 
     // What the words ask for.
     fn of<A: Allocator>(words: &[String<A>]) -> Option<Request>
-        ensures asked { IfSome result (Asks (map string_bytes words.now)) }
-        ensures exact { (request : Request) → Asks (map string_bytes words.now) request
-            → result ≡ Some request }
+        ensures { Asked (map string_bytes words.now) result }
     {
-        match words {
-            [name, id] if name.as_str() == "frame" => {
-                Some(Request::Frame(number(id.as_str(), 255)? as u8))
-            }
-            [name, most] if name.as_str() == "reframe" => {
-                Some(Request::Reframe(number(most.as_str(), MOST)? as usize))
-            }
-            [name] if name.as_str() == "chunk" => Some(Request::Chunk),
-            [name, step, limit] if name.as_str() == "unframe" => Some(Request::Unframe {
-                step: step_number(step.as_str())? as usize,
-                limit: number(limit.as_str(), MOST)? as usize,
-            }),
-            [name, step, limit, later, at] if name.as_str() == "unframe" => {
-                Some(Request::UnframeLimited {
-                    step: step_number(step.as_str())? as usize,
-                    limit: number(limit.as_str(), MOST)? as usize,
-                    later: number(later.as_str(), MOST)? as usize,
-                    at: number(at.as_str(), MOST)? as usize,
-                })
-            }
+        let [name, others @ ..] = words else {
+            return None;
+        };
+        match name.as_str() {
+            "frame" => Request::frame(others),
+            "chunk" => Request::chunk(others),
+            "reframe" => Request::reframe(others),
+            "unframe" => Request::unframe(others),
             _ => None,
         }
     }

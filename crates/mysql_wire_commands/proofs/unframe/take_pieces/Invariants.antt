@@ -4,18 +4,18 @@ use Rattle.mysql_wire.specs.Limited.{Limits}
 use Rattle.mysql_wire.specs.LimitedRuns.{Aligned}
 use Rattle.mysql_wire_commands.specs.Unframe.{Unframing, place_limits, run_state}
 use Rattle.mysql_wire_commands.proofs.ReadLemmas.{Asking}
-use Rattle.mysql_wire_commands.proofs.unframe.unframe.Given as goal
+use Rattle.mysql_wire_commands.proofs.unframe.take_pieces.Given as goal
 
 abbrev pub invariant-reads : goal.invariant-reads
 invariant-reads g l = record {
   piece_len : vec_len l.piece ≡ l.fn.step;
-  limit : l.run.limit ≡ l.fn.limit;
-  later : l.run.later ≡ l.fn.later;
+  limit : l.run.limit ≡ l.fn.run.limit;
+  later : l.run.later ≡ l.fn.run.later;
   aligned : Aligned (run_state l.run);
   so_far : (input : List ℕ) × (text : List ℕ)
-      × ((limits : Limits) → ((place : ℕ) → limits place ≡ place_limits l.fn.limit l.fn.later l.fn.at place) → Unframing limits l.fn.at (run_state l.run) input text)
-      × (l.run.ahead ≡ l.fn.at - length input)
+      × ((limits : Limits) → ((place : ℕ) → limits place ≡ place_limits l.fn.run.limit l.fn.run.later l.fn.run.ahead place) → Unframing limits l.fn.run.ahead (run_state l.run) input text)
+      × (l.run.ahead ≡ l.fn.run.ahead - length input)
       × Consumes (g.R.Read.remaining l.fn.input) (g.R.Read.remaining l.input) input
       × Appends (g.W.Write.contents l.fn.output) (g.W.Write.contents l.output) text
-      × Asking l.fn.step l.fn.at (length input) (g.R.NotedRead.reads l.fn.input) (g.R.NotedRead.reads l.input);
+      × Asking l.fn.step l.fn.run.ahead (length input) (g.R.NotedRead.reads l.fn.input) (g.R.NotedRead.reads l.input);
 }
