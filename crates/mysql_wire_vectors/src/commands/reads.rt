@@ -4,7 +4,7 @@ ghost use Rattle.std.specs.Prelude.{◌≡◌, ◌<◌, List, [], Option, Some, 
 ghost use Rattle.mysql_wire_commands.specs.declared.noted.OneRead.{OneRead};
 ghost use Rattle.mysql_wire_commands.specs.Reads.{EachAskedFor};
 
-use crate::run::run;
+use crate::commands::run::run;
 use mysql_wire_commands::noted::{NotedRead, OneRead};
 use mysql_wire_commands::unframe::run_unframe_limited;
 use refusing::{NEVER, Refusing};

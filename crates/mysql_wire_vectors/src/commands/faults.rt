@@ -1,6 +1,6 @@
 // The commands with each read, each write and each request for memory failing in turn.
 
-use crate::run::run;
+use crate::commands::run::run;
 use refusing::{NEVER, Refusing};
 use std::alloc::Global;
 use std::io;

@@ -2,7 +2,7 @@
 
 ghost use Rattle.std.specs.Prelude.{◌<◌};
 
-use crate::run::run;
+use crate::commands::run::run;
 use mysql_wire_commands::noted::Unnoted;
 use mysql_wire_commands::unframe::{run_unframe, run_unframe_limited};
 use refusing::{NEVER, Refusing};
