@@ -7,8 +7,7 @@ use mysql_wire::proto::codec::Visit;
 use refusing::{NEVER, Refusing};
 use std::alloc::{AllocError, Allocator, Global};
 use std::test::Fail;
-use test_support::facts::{ensure, no_row};
-use test_support::generated::{Draws, Stream, pieces_of};
+use test_support::facts::ensure;
 use test_support::receiver::{Receiver, Run, pieces_from};
 use test_support::told::Told;
 
@@ -98,8 +97,8 @@ fn are_same(some: &[Vec<u8>], others: &[Vec<u8>]) -> bool {
     same
 }
 
-// Whether all ways hand out the same packets of these pieces, say the same, and leave the same.
-fn agree(alloc: Global, limit: usize, pieces: &[&[u8]]) -> bool {
+/// Whether all ways hand out the same packets of these pieces, say the same, and leave the same.
+pub fn agree(alloc: Global, limit: usize, pieces: &[&[u8]]) -> bool {
     let mut decoded = Receiver::new(alloc, limit);
     let run = decoded.deliver(pieces);
     let mut same = true;
@@ -110,26 +109,6 @@ fn agree(alloc: Global, limit: usize, pieces: &[&[u8]]) -> bool {
     same &= take_all(&mut lent, pieces) == run.1;
     same &= are_same(decoded.out.as_slice(), lent.out.as_slice()) & left_alike(&decoded, &lent);
     same & (decoded.next_id() == lent.next_id())
-}
-
-// Whether it is so of the stream of this seed.
-fn agree_at(alloc: Global, seed: u64) -> Result<bool, AllocError> {
-    let mut draws = Draws::new(seed);
-    let stream = Stream::damaged(alloc, &mut draws, 0)?;
-    let limit = stream.limit(&mut draws);
-    let pieces = pieces_of(alloc, &mut draws, stream.bytes.as_slice())?;
-    Ok(agree(alloc, limit, pieces.as_slice()))
-}
-
-#[test]
-fn packets_in_place_are_those_that_are_decoded(rt: HostRuntime) -> Result<(), Fail> {
-    let mut wrong = None;
-    for seed in 0..500usize {
-        if agree_at(rt.alloc(), seed as u64) != Ok(true) {
-            wrong = Some(seed);
-        }
-    }
-    no_row(wrong)
 }
 
 // Whether a packet is lent of these bytes under this limit, and which.

@@ -1,14 +1,12 @@
 // Numbers whose length is in their first byte, and texts behind their length: put into buffers, and
 // read from buffers.
 
-use crate::numbers::{Readers, Row, wrong_row};
+use crate::numbers::{Readers, Row};
 use bytes::{BufMut, BytesMut};
-use mysql_wire::io::{BufMutExt, ParseBuf, WriteMysqlExt};
+use mysql_wire::io::{BufMutExt, ParseBuf, WireError, WriteMysqlExt};
 use mysql_wire::misc::{lenenc_int_len, lenenc_str_len};
 use std::alloc::Global;
-use std::test::Fail;
 use test_support::answers::{Fault, told};
-use test_support::facts::no_row;
 use test_support::reference::between;
 
 // ---- length-encoded integers
@@ -56,81 +54,59 @@ pub const WRITTEN: &[Row<u64>] = &[
     (9, b"\xfe\xff\xff\xff\xff\xff\xff\xff\xff\xfe", u64::MAX),
 ];
 
-// The marks, which slices take as zero.
-const MARKS: &[Row<u64>] = &[(1, b"\xfb", 0), (1, b"\xfb\x01", 0), (1, b"\xff\x01", 0)];
+/// The marks, which slices take as zero.
+pub const MARKS: &[Row<u64>] = &[(1, b"\xfb", 0), (1, b"\xfb\x01", 0), (1, b"\xff\x01", 0)];
 
-#[test]
-fn lenenc_ints_are_eaten(_: HostRuntime) -> Result<(), Fail> {
-    no_row(wrong_row::<Lenenc>(WRITTEN))?;
-    no_row(wrong_row::<Lenenc>(MARKS))
-}
-
-// Whether the row's number is put as its bytes.
+// Whether the row's number is put and written as its bytes, whose length is known beforehand.
 fn is_put(alloc: Global, row: &Row<'_, u64>) -> bool {
     let (width, bytes, number) = *row;
     let bytes = between(bytes, 0, width);
     let mut vec = Vec::new(alloc);
-    let mut all = vec.put_lenenc_int(number).is_ok();
-    all &= vec.as_slice() == bytes;
+    let mut all = vec.put_lenenc_int(number).is_ok() & (vec.as_slice() == bytes);
+    vec.clear();
+    all &= told(vec.write_lenenc_int(number)) == Ok(width as u64);
+    all &= (vec.as_slice() == bytes) & (lenenc_int_len(number) == width as u64);
     let mut room = BytesMut::new(alloc);
     all &= room.put_lenenc_int(number).is_ok();
     all & (room.as_slice() == bytes)
 }
 
-// Whether the row's number is written as its bytes, whose length is known beforehand.
-fn is_written(alloc: Global, row: &Row<'_, u64>) -> bool {
-    let (width, bytes, number) = *row;
-    let mut out = Vec::new(alloc);
-    let written = told(out.write_lenenc_int(number));
-    let is_right = out.as_slice() == between(bytes, 0, width);
-    is_right & (written == Ok(width as u64)) & (lenenc_int_len(number) == width as u64)
-}
-
-#[test]
-fn lenenc_ints_are_written(rt: HostRuntime) {
-    let mut all = true;
-    for row in WRITTEN {
-        all &= is_put(rt.alloc(), row);
-        all &= is_written(rt.alloc(), row);
-    }
-    assert!(rt; all);
-}
-
 // ---- numbers of a fixed width, and texts
 
-#[test]
-fn low_bytes_are_put(rt: HostRuntime) {
-    let mut buf = Vec::new(rt.alloc());
-    let put = [
-        buf.put_u24_le(0x01020304).is_ok(),
-        buf.put_i24_le(8388608).is_ok(),
-        buf.put_i24_le(-2).is_ok(),
-        buf.put_u48_le(1).is_ok(),
-        buf.put_u56_le(1).is_ok(),
-        buf.put_i56_le(-2).is_ok(),
-    ];
-    let bytes = b"\x04\x03\x02\
-        \0\0\x80\
-        \xfe\xff\xff\
-        \x01\0\0\0\0\0\
-        \x01\0\0\0\0\0\0\
-        \xfe\xff\xff\xff\xff\xff\xff";
-    assert!(rt; (put == [true; 6]) & (buf.as_slice() == bytes.as_slice()));
+// Puts a number of a fixed width, or a text behind its length, each as it stands in `PUT`.
+fn put_fixed(nth: usize, buf: &mut Vec<u8>) -> Result<(), WireError> {
+    match nth {
+        0 => buf.put_u24_le(0x01020304),
+        1 => buf.put_i24_le(8388608),
+        2 => buf.put_i24_le(-2),
+        3 => buf.put_u48_le(1),
+        4 => buf.put_u56_le(1),
+        5 => buf.put_i56_le(-2),
+        6 => buf.put_lenenc_str(b"a"),
+        7 => buf.put_u8_str(b"b"),
+        8 => buf.put_u32_str(b"c"),
+        _ => buf.put_u8_str(&[b'd'; 256]),
+    }
 }
 
-#[test]
-fn texts_are_put_behind_their_length(rt: HostRuntime) {
-    let mut buf = Vec::new(rt.alloc());
-    let put = [
-        buf.put_lenenc_str(b"a").is_ok(),
-        buf.put_u8_str(b"b").is_ok(),
-        buf.put_u32_str(b"c").is_ok(),
-        buf.put_u8_str(&[b'd'; 256]).is_ok(),
-    ];
-    let text = buf.as_slice();
-    let is_front = between(text, 0, 10) == b"\x01a\x01b\x01\0\0\0c\xff".as_slice();
-    let is_rest = between(text, 10, usize::MAX) == [b'd'; 255].as_slice();
-    assert!(rt; (put == [true; 4]) & is_front & is_rest);
+const PUT: &[u8] = b"\x04\x03\x02\
+    \0\0\x80\
+    \xfe\xff\xff\
+    \x01\0\0\0\0\0\
+    \x01\0\0\0\0\0\0\
+    \xfe\xff\xff\xff\xff\xff\xff\
+    \x01a\x01b\x01\0\0\0c\xff";
+
+// Whether these are put one behind the other, and of a text whose length its byte can't say, as
+// much as that says.
+fn all_are_put(alloc: Global) -> bool {
+    let mut buf = Vec::new(alloc);
+    let mut all = true;
+    for nth in 0..10usize {
+        all &= put_fixed(nth, &mut buf).is_ok();
+    }
+    let rest = between(buf.as_slice(), PUT.len(), usize::MAX);
+    all & buf.as_slice().starts_with(PUT) & (rest == [b'd'; 255].as_slice())
 }
 
 // What the length of a text is.
@@ -139,36 +115,6 @@ enum Length {
     Lenenc,
     OneByte,
     FourBytes,
-}
-
-impl Length {
-    // The form that says where bytes are missing.
-    fn checked<'a>(self, buf: &mut ParseBuf<'a>) -> Option<&'a [u8]> {
-        match self {
-            Length::Lenenc => buf.checked_eat_lenenc_str(),
-            Length::OneByte => buf.checked_eat_u8_str(),
-            Length::FourBytes => buf.checked_eat_u32_str(),
-        }
-    }
-}
-
-// The forms that want the text to be there, where it is.
-fn eat_lenenc<'a>(buf: &mut ParseBuf<'a>) -> Option<&'a [u8]> {
-    let mut same = *buf;
-    same.checked_eat_lenenc_str()?;
-    Some(buf.eat_lenenc_str())
-}
-
-fn eat_u8<'a>(buf: &mut ParseBuf<'a>) -> Option<&'a [u8]> {
-    let mut same = *buf;
-    same.checked_eat_u8_str()?;
-    Some(buf.eat_u8_str())
-}
-
-fn eat_u32<'a>(buf: &mut ParseBuf<'a>) -> Option<&'a [u8]> {
-    let mut same = *buf;
-    same.checked_eat_u32_str()?;
-    Some(buf.eat_u32_str())
 }
 
 // An input, the text that it begins with, and what is left.
@@ -190,29 +136,29 @@ const EATEN: &[Eaten] = &[
     (Length::FourBytes, b"\x03\0\0", None, b"\x03\0\0"),
 ];
 
-// Whether both forms eat the text.
+// Whether both forms eat the text: the one that says where bytes are missing, and the one that
+// wants the text to be there, where it is.
 fn is_eaten(row: &Eaten) -> bool {
     let (length, input, text, left) = *row;
     let mut buf = ParseBuf(input);
     let mut same = buf;
-    let plain = match length {
-        Length::Lenenc => eat_lenenc(&mut same),
-        Length::OneByte => eat_u8(&mut same),
-        Length::FourBytes => eat_u32(&mut same),
+    let (checked, plain) = match length {
+        Length::Lenenc => match buf.checked_eat_lenenc_str() {
+            Some(text) => (Some(text), Some(same.eat_lenenc_str())),
+            None => (None, None),
+        },
+        Length::OneByte => match buf.checked_eat_u8_str() {
+            Some(text) => (Some(text), Some(same.eat_u8_str())),
+            None => (None, None),
+        },
+        Length::FourBytes => match buf.checked_eat_u32_str() {
+            Some(text) => (Some(text), Some(same.eat_u32_str())),
+            None => (None, None),
+        },
     };
     let wanted = if text.is_some() { left } else { input };
-    let checked = length.checked(&mut buf);
     let texts = (checked == text) & (plain == text);
     texts & (buf.0 == left) & (same.0 == wanted)
-}
-
-#[test]
-fn texts_are_eaten(rt: HostRuntime) {
-    let mut all = true;
-    for row in EATEN {
-        all &= is_eaten(row);
-    }
-    assert!(rt; all);
 }
 
 // ---- bounded buffers
@@ -273,17 +219,6 @@ fn is_text_left(alloc: Global, text: &[u8]) -> bool {
     all
 }
 
-#[test]
-fn texts_in_too_little_room(rt: HostRuntime) {
-    let bytes = [b'a'; 300];
-    let mut all = true;
-    for len in [0usize, 1, 3, 250, 251, 300] {
-        all &= is_text_left(rt.alloc(), &bytes[..len]);
-    }
-    // The length of a refused text is left.
-    assert!(rt; all & leaves(rt.alloc(), Some(b"abc"), 0, 2, 1, b"\x03abc"));
-}
-
 // Whether the row's number leaves so much in a buffer of each size.
 fn is_number_left(alloc: Global, row: &Row<'_, u64>) -> bool {
     let (width, bytes, number) = *row;
@@ -295,10 +230,19 @@ fn is_number_left(alloc: Global, row: &Row<'_, u64>) -> bool {
 }
 
 #[test]
-fn numbers_in_too_little_room(rt: HostRuntime) {
-    let mut all = true;
+fn numbers_and_texts_are_put_and_eaten(rt: HostRuntime) {
+    let alloc = rt.alloc();
+    let mut all = all_are_put(alloc);
     for row in WRITTEN {
-        all &= is_number_left(rt.alloc(), row);
+        all &= is_put(alloc, row) & is_number_left(alloc, row);
     }
-    assert!(rt; all);
+    for row in EATEN {
+        all &= is_eaten(row);
+    }
+    let bytes = [b'a'; 300];
+    for len in [0usize, 1, 3, 250, 251, 300] {
+        all &= is_text_left(alloc, &bytes[..len]);
+    }
+    // The length of a refused text is left.
+    assert!(rt; all & leaves(alloc, Some(b"abc"), 0, 2, 1, b"\x03abc"));
 }

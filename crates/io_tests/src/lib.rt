@@ -4,13 +4,13 @@
 #![tactic(auto)]
 
 #[cfg(test)]
+mod generated;
+#[cfg(test)]
 mod in_place;
 #[cfg(test)]
 mod lenenc;
 #[cfg(test)]
 mod limits;
-#[cfg(test)]
-mod memory;
 #[cfg(test)]
 mod numbers;
 #[cfg(test)]

@@ -1,12 +1,12 @@
 //! Runs whose pieces each have a limit.
 
 use refusing::Refusing;
-use std::alloc::{AllocError, Allocator, Global};
+use std::alloc::{Allocator, Global};
 use std::test::Fail;
 use test_support::facts::{ensure, no_row};
-use test_support::generated::{Draws, Stream, pieces_of};
+use test_support::generated::Draws;
 use test_support::receiver::{Receiver, Run, are_packets};
-use test_support::reference::{between, low_byte};
+use test_support::reference::{between, header_at, low_byte};
 use test_support::told::Told;
 
 type Piece<'a> = (usize, &'a [u8]);
@@ -14,7 +14,6 @@ type Piece<'a> = (usize, &'a [u8]);
 // Pieces to a new codec, and what the run says and leaves.
 #[derive(Clone, Copy)]
 struct Row {
-    name: &'static str,
     pieces: &'static [Piece<'static>],
     run: Run,
     packets: &'static [&'static [u8]],
@@ -23,32 +22,32 @@ struct Row {
 }
 
 const ROWS: [Row; 4] = [
+    // The piece of the fourth byte has the limit.
     Row {
-        name: "the piece of the fourth byte has the limit",
         pieces: &[(2, b"\x03\0\0"), (3, b"\0abc")],
         run: (2, Told::Waits),
         packets: &[b"abc"],
         left: b"",
         limit: 3,
     },
+    // A header that is remembered isn't judged again.
     Row {
-        name: "a header that is remembered isn't judged again",
         pieces: &[(3, b"\x03\0\0\0"), (0, b"abc")],
         run: (2, Told::Waits),
         packets: &[b"abc"],
         left: b"",
         limit: 0,
     },
+    // A packet past its limit stays.
     Row {
-        name: "a packet past its limit stays",
         pieces: &[(1, b"\x02\0\0\0ab"), (9, b"c")],
         run: (1, Told::TooLarge),
         packets: &[],
         left: b"\x02\0\0\0ab",
         limit: 1,
     },
+    // Empty pieces set the limit too.
     Row {
-        name: "empty pieces set the limit too",
         pieces: &[(9, b""), (1, b""), (2, b"\x02\0\0\0ab")],
         run: (3, Told::Waits),
         packets: &[b"ab"],
@@ -76,8 +75,23 @@ fn goes<A: Allocator + Copy>(alloc: A, row: &Row) -> bool {
     all & to.shows(row.packets, row.left, b"") & (to.codec.max_allowed_packet == row.limit)
 }
 
+// Whether a run goes on under another limit.
+fn goes_on(alloc: Global) -> bool {
+    // A larger limit goes on at the same header.
+    let mut to = Receiver::new(alloc, 0);
+    let mut all = to.deliver_limited(&[(1, b"\x02\0\0\0ab")]) == (1, Told::TooLarge);
+    to.codec.max_allowed_packet = 2;
+    all &= to.deliver_limited(&[]) == (0, Told::Waits);
+    all &= to.shows(&[b"ab"], b"", b"");
+    // A codec past its limit is aligned and doesn't stand.
+    all &= to.deliver_limited(&[(3, b"\x03\0\0\x01")]) == (1, Told::Waits);
+    to.codec.max_allowed_packet = 0;
+    all & to.codec.aligned_at(&to.src, to.dst.as_slice()) & !to.stands()
+}
+
+// Each chunk is judged once; and limits are raised and lowered.
 #[test]
-fn each_chunk_is_judged_once(rt: HostRuntime) -> Result<(), Fail> {
+fn runs_go_as_their_limits_say(rt: HostRuntime) -> Result<(), Fail> {
     let mut wrong = None;
     for i in 0..ROWS.len() {
         for nth in 0..13 {
@@ -86,43 +100,18 @@ fn each_chunk_is_judged_once(rt: HostRuntime) -> Result<(), Fail> {
             }
         }
     }
-    no_row(wrong)
-}
-
-#[test]
-fn limits_are_raised_and_lowered(rt: HostRuntime) -> Result<(), Fail> {
-    // A larger limit goes on at the same header.
-    let mut to = Receiver::new(rt.alloc(), 0);
-    let mut all = to.deliver_limited(&[(1, b"\x02\0\0\0ab")]) == (1, Told::TooLarge);
-    to.codec.max_allowed_packet = 2;
-    all &= to.deliver_limited(&[]) == (0, Told::Waits);
-    all &= to.shows(&[b"ab"], b"", b"");
-    // A codec past its limit is aligned and doesn't stand.
-    all &= to.deliver_limited(&[(3, b"\x03\0\0\x01")]) == (1, Told::Waits);
-    to.codec.max_allowed_packet = 0;
-    all &= to.codec.aligned_at(&to.src, to.dst.as_slice()) & !to.stands();
-    ensure(all, "a limit that moves")
+    no_row(wrong)?;
+    ensure(goes_on(rt.alloc()), "a limit that moves")
 }
 
 // ---- generated streams
-
-// The length and the id that a header states.
-fn header(bytes: &[u8]) -> Option<(usize, u8)> {
-    match bytes {
-        [low, middle, high, id] => {
-            let len = *low as usize + 256 * *middle as usize + 65536 * *high as usize;
-            Some((len, *id))
-        }
-        _ => None,
-    }
-}
 
 // How the stream of packets shorter than a full chunk goes on from this place, whose next id is
 // this: the packet there is whole, or why there is none; and how many bytes of the stream show
 // that. Each byte has its limit.
 fn packet_at(stream: &[u8], limits: &[usize], at: usize, id: u8) -> (Told, usize) {
     let start = at.wrapping_add(4);
-    let Some((len, given)) = header(between(stream, at, start)) else {
+    let Some((len, given)) = header_at(stream, at) else {
         return (Told::Waits, usize::MAX);
     };
     let end = start.wrapping_add(len);
@@ -145,23 +134,14 @@ struct Limited<'a> {
     limits: Vec<usize>,
 }
 
-fn cut_under<'a>(
-    alloc: Global,
-    draws: &mut Draws,
-    stream: &'a [u8],
-) -> Result<Limited<'a>, AllocError> {
-    let pieces = pieces_of(alloc, draws, stream)?;
-    let mut given = Limited {
-        pieces: Vec::new(alloc),
-        limits: Vec::new(alloc),
-    };
-    for piece in &pieces {
+// Gives each of these pieces a limit.
+fn give_limits<'a>(draws: &mut Draws, pieces: &[&'a [u8]], given: &mut Limited<'a>) {
+    for piece in pieces {
         let limit = draws.one_of(&[0, 2, 4, 7, usize::MAX]);
         let _ = given.pieces.push((limit, *piece));
         let len = given.limits.len().wrapping_add(piece.len());
         let _ = given.limits.resize(len, limit);
     }
-    Ok(given)
 }
 
 // How many pieces have so many bytes, or all.
@@ -196,21 +176,12 @@ fn agrees(alloc: Global, stream: &[u8], given: &Limited) -> bool {
     (run == (appended, next.0)) & are_packets(to.out.as_slice(), packets.as_slice())
 }
 
-// Whether it is so of the stream of this seed.
-fn agrees_at(alloc: Global, seed: u64) -> Result<bool, AllocError> {
-    let mut draws = Draws::new(seed);
-    let stream = Stream::damaged(alloc, &mut draws, 0)?;
-    let given = cut_under(alloc, &mut draws, stream.bytes.as_slice())?;
-    Ok(agrees(alloc, stream.bytes.as_slice(), &given))
-}
-
-#[test]
-fn generated_streams_go_as_their_bytes_limits_say(rt: HostRuntime) -> Result<(), Fail> {
-    let mut wrong = None;
-    for seed in 0..1000usize {
-        if agrees_at(rt.alloc(), seed as u64) != Ok(true) {
-            wrong = Some(seed);
-        }
-    }
-    no_row(wrong)
+/// Whether a run over these pieces of the stream, each with a limit, is what the reference says.
+pub fn agrees_under(alloc: Global, draws: &mut Draws, stream: &[u8], pieces: &[&[u8]]) -> bool {
+    let mut given = Limited {
+        pieces: Vec::new(alloc),
+        limits: Vec::new(alloc),
+    };
+    give_limits(draws, pieces, &mut given);
+    agrees(alloc, stream, &given)
 }

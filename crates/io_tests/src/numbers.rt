@@ -1,6 +1,7 @@
 // Readers of numbers, each in both its forms: on no byte, on fewer than it eats, on as many, and on
 // more.
 
+use crate::lenenc::{Lenenc, MARKS, WRITTEN};
 use mysql_wire::io::ParseBuf;
 use std::test::Fail;
 use test_support::facts::no_row;
@@ -386,13 +387,11 @@ const SIGNED_BE: &[Row<i128>] = &[
 ];
 
 #[test]
-fn unsigned_numbers_are_read(_: HostRuntime) -> Result<(), Fail> {
+fn numbers_are_read(_: HostRuntime) -> Result<(), Fail> {
     no_row(wrong_row::<UnsignedLe>(UNSIGNED_LE))?;
-    no_row(wrong_row::<UnsignedBe>(UNSIGNED_BE))
-}
-
-#[test]
-fn signed_numbers_are_read(_: HostRuntime) -> Result<(), Fail> {
+    no_row(wrong_row::<UnsignedBe>(UNSIGNED_BE))?;
     no_row(wrong_row::<SignedLe>(SIGNED_LE))?;
-    no_row(wrong_row::<SignedBe>(SIGNED_BE))
+    no_row(wrong_row::<SignedBe>(SIGNED_BE))?;
+    no_row(wrong_row::<Lenenc>(WRITTEN))?;
+    no_row(wrong_row::<Lenenc>(MARKS))
 }

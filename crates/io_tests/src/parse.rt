@@ -14,43 +14,34 @@ use test_support::answers::{Fault, told};
 use test_support::facts::all_hold;
 use test_support::reference::{between, first_zero};
 
-#[test]
-fn checked_slices_are_the_eaten_part(rt: HostRuntime) {
+fn checked_slices_are_the_eaten_part() -> bool {
     let mut buf = ParseBuf(b"abcdefgh");
-    let eaten = [buf.checked_eat(0), buf.checked_eat(3), buf.checked_eat(6)];
-    let bufs = [buf.checked_eat_buf(6), buf.checked_eat_buf(1)];
-    let skipped = [buf.checked_skip(5), buf.checked_skip(1)];
-    let mut all = eaten == [Some(b"".as_slice()), Some(b"abc"), None];
-    all &= bufs == [None, Some(ParseBuf(b"d"))];
-    all &= skipped == [false, true];
-    assert!(rt; all & (buf.0 == b"fgh".as_slice()));
+    let mut all = buf.checked_eat(0) == Some(b"".as_slice());
+    all &= buf.checked_eat(3) == Some(b"abc".as_slice());
+    all &= buf.checked_eat(6).is_none() & buf.checked_eat_buf(6).is_none();
+    all &= buf.checked_eat_buf(1) == Some(ParseBuf(b"d"));
+    all &= !buf.checked_skip(5);
+    all &= buf.checked_skip(1);
+    all & (buf.0 == b"fgh".as_slice())
 }
 
-#[test]
-fn slices_are_the_eaten_part(rt: HostRuntime) {
+fn slices_are_the_eaten_part() -> bool {
     let mut buf = ParseBuf(b"abcdef");
-    let lens = [buf.len(), buf.eat(1).len(), buf.len()];
-    let eaten = [buf.eat(1), buf.eat_buf(1).0];
+    let mut all = buf.len() == 6;
+    all &= buf.eat(1).len() == 1;
+    all &= buf.len() == 5;
+    all &= buf.eat(1) == b"b".as_slice();
+    all &= buf.eat_buf(1).0 == b"c".as_slice();
     buf.skip(1);
-    let rest = [buf.eat_all(), buf.eat_all()];
-    let mut all = lens == [6, 1, 5];
-    all &= eaten == [b"b".as_slice(), b"c"];
-    all &= rest == [b"ef".as_slice(), b""];
-    assert!(rt; all & buf.is_empty() & !ParseBuf(b"a").is_empty());
+    all &= buf.eat_all() == b"ef".as_slice();
+    all &= buf.eat_all().is_empty();
+    all & buf.is_empty() & !ParseBuf(b"a").is_empty()
 }
 
 // Whether this text is eaten up to its zero, and this is left.
 fn eats_null_str(input: &[u8], text: &[u8], left: &[u8]) -> bool {
     let mut buf = ParseBuf(input);
     (buf.eat_null_str() == text) & (buf.0 == left)
-}
-
-#[test]
-fn null_str_ends_at_a_zero(rt: HostRuntime) {
-    let mut all = eats_null_str(b"a\0b", b"a", b"b");
-    all &= eats_null_str(b"b", b"b", b"");
-    all &= eats_null_str(b"", b"", b"");
-    assert!(rt; all & eats_null_str(b"\0", b"", b""));
 }
 
 // Whether a text is eaten up to the zero that a plain loop finds in it, which stands at this place.
@@ -61,8 +52,7 @@ fn ends_at(text: &[u8], place: usize) -> bool {
 }
 
 // A text of each length up to 300, with a zero at each place, and with none.
-#[test]
-fn the_zero_of_a_null_str_is_found(rt: HostRuntime) {
+fn the_zero_is_found() -> bool {
     let mut all = true;
     for len in 0..301usize {
         let mut bytes = [b'a'; 300];
@@ -73,11 +63,11 @@ fn the_zero_of_a_null_str_is_found(rt: HostRuntime) {
         }
         all &= ends_at(&bytes[..len], len);
     }
-    assert!(rt; all);
+    all
 }
 
-#[test]
-fn the_first_of_two_zeros_ends_a_null_str(rt: HostRuntime) {
+// The first of two zeros ends a text.
+fn the_first_zero_is_found() -> bool {
     let mut all = true;
     for zero in 0..299usize {
         let mut bytes = [b'a'; 300];
@@ -85,11 +75,10 @@ fn the_first_of_two_zeros_ends_a_null_str(rt: HostRuntime) {
         bytes[299] = 0;
         all &= ends_at(&bytes, zero);
     }
-    assert!(rt; all);
+    all
 }
 
-#[test]
-fn read_gives_what_fits(rt: HostRuntime) {
+fn read_gives_what_fits() -> bool {
     let mut buf = ParseBuf(b"abc");
     let mut front = [0; 2];
     let mut all = true;
@@ -98,11 +87,26 @@ fn read_gives_what_fits(rt: HostRuntime) {
         all &= front == wanted;
         all &= buf.len() == left;
     }
-    assert!(rt; all);
+    all
+}
+
+#[test]
+fn slices_and_null_strs_are_eaten(_: HostRuntime) -> Result<(), Fail> {
+    all_hold(&[
+        checked_slices_are_the_eaten_part(),
+        slices_are_the_eaten_part(),
+        read_gives_what_fits(),
+        eats_null_str(b"a\0b", b"a", b"b"),
+        eats_null_str(b"b", b"b", b""),
+        eats_null_str(b"", b"", b""),
+        eats_null_str(b"\0", b"", b""),
+        the_zero_is_found(),
+        the_first_zero_is_found(),
+    ])
 }
 
 // Asks for four bytes and looks at two.
-#[derive(Clone, Copy, Debug, PartialEq)]
+#[derive(Clone, Copy, PartialEq)]
 struct Hasty(u16);
 
 impl HasSize for Hasty {
@@ -124,7 +128,7 @@ impl<'de, A: Allocator + Copy> MyDeserialize<'de, A> for Hasty {
 }
 
 // Asks for four bytes and refuses them all, unseen.
-#[derive(Clone, Copy, Debug, PartialEq)]
+#[derive(Clone, Copy, PartialEq)]
 struct Refused;
 
 impl HasSize for Refused {
@@ -156,29 +160,6 @@ fn parses<'de, T: PartialEq + MyDeserialize<'de, Global>>(
     told(buf.parse::<T>(alloc, ctx)) == wanted && buf.0 == left
 }
 
-// What is looked at is two bytes, and what is eaten is the size, where it is there.
-#[test]
-fn parse_eats_the_size(rt: HostRuntime) -> Result<(), Fail> {
-    let alloc = rt.alloc();
-    let refused = Fault::Invalid(InvalidReason::UnknownValue);
-    let eof = Fault::UnexpectedEof;
-    let bytes = b"\x01\x02\x03\x04\x05".as_slice();
-    let mut buf = ParseBuf(bytes);
-    let unchecked = told(buf.parse_unchecked::<Hasty>(alloc, ()));
-    all_hold(&[
-        parses::<Hasty>(alloc, (), bytes, Ok(Hasty(0x0201)), b"\x05"),
-        parses::<Hasty>(alloc, (), b"abc", Err(eof), b"abc"),
-        parses::<Refused>(alloc, (), bytes, Err(refused), b"\x05"),
-        // Without a check what is looked at is eaten.
-        (unchecked == Ok(Hasty(0x0201))) & (buf.len() == 3),
-        // Buffers, and arrays.
-        parses(alloc, 2, b"abc", Ok(ParseBuf(b"ab")), b"c"),
-        parses::<ParseBuf<'_>>(alloc, 2, b"a", Err(eof), b"a"),
-        parses(alloc, (), b"abcd", Ok(*b"abc"), b"d"),
-        parses::<[u8; 3]>(alloc, (), b"ab", Err(eof), b"ab"),
-    ])
-}
-
 // Whether a value is read with this memory.
 fn is_read<'de, T, A>(alloc: A, ctx: T::Ctx, input: &'de [u8]) -> bool
 where
@@ -196,19 +177,35 @@ fn are_read<A: Allocator + Copy>(alloc: A) -> [bool; 3] {
     ]
 }
 
-#[test]
-fn parse_asks_for_no_memory(rt: HostRuntime) {
-    let heap = Refusing::new(rt.alloc(), 0);
-    assert!(rt; (are_read(&heap) == [true; 3]) & (heap.left() == 0));
-}
-
 // Copied and compared.
 fn is_value<T: Copy + Eq + Hash + Debug>(marker: T) -> bool {
     let copy = marker;
     copy == marker
 }
 
+// What is looked at is two bytes, and what is eaten is the size, where it is there.
 #[test]
-fn markers_are_values(rt: HostRuntime) {
-    assert!(rt; is_value(Text) & is_value(Binary));
+fn parse_eats_the_size(rt: HostRuntime) -> Result<(), Fail> {
+    let alloc = rt.alloc();
+    let refused = Fault::Invalid(InvalidReason::UnknownValue);
+    let eof = Fault::UnexpectedEof;
+    let bytes = b"\x01\x02\x03\x04\x05".as_slice();
+    let heap = Refusing::new(alloc, 0);
+    let mut buf = ParseBuf(bytes);
+    let unchecked = told(buf.parse_unchecked::<Hasty>(alloc, ()));
+    all_hold(&[
+        parses::<Hasty>(alloc, (), bytes, Ok(Hasty(0x0201)), b"\x05"),
+        parses::<Hasty>(alloc, (), b"abc", Err(eof), b"abc"),
+        parses::<Refused>(alloc, (), bytes, Err(refused), b"\x05"),
+        // Without a check what is looked at is eaten.
+        (unchecked == Ok(Hasty(0x0201))) & (buf.len() == 3),
+        // Buffers, and arrays.
+        parses(alloc, 2, b"abc", Ok(ParseBuf(b"ab")), b"c"),
+        parses::<ParseBuf<'_>>(alloc, 2, b"a", Err(eof), b"a"),
+        parses(alloc, (), b"abcd", Ok(*b"abc"), b"d"),
+        parses::<[u8; 3]>(alloc, (), b"ab", Err(eof), b"ab"),
+        // None of these asks for memory.
+        (are_read(&heap) == [true; 3]) & (heap.left() == 0),
+        is_value(Text) & is_value(Binary),
+    ])
 }

@@ -1,20 +1,21 @@
 //! Packets from readers: whole, cut, ended, failing.
 
-use crate::scripted::{Said, Slow};
+use crate::scripted::{
+    END, OUT_OF_MEMORY, OUT_OF_SYNC, PACKET, Said, Slow, TOO_LARGE, UNEXPECTED_END, WRONG, said_of,
+};
 use bytes::BytesMut;
 use mysql_wire::proto::codec::PacketCodec;
 use mysql_wire::proto::packet_io::{PacketReader, PacketWriter};
 use refusing::{NEVER, Refusing};
-use std::alloc::{AllocError, Allocator, Global};
+use std::alloc::{Allocator, Global};
 use std::io::{self, ErrorKind};
 use std::test::Fail;
-use test_support::facts::{ensure, no_row};
-use test_support::generated::{Draws, Stream};
-use test_support::reference::{Reading, put_framing, reading_of};
+use test_support::facts::{all_hold, no_row};
+use test_support::reference::{Reading, put_framing};
 use test_support::told::Told;
 
 /// How packets are taken.
-#[derive(Clone, Copy, PartialEq, Eq)]
+#[derive(Clone, Copy)]
 enum Way {
     // By `next_packet`.
     HandedOut,
@@ -45,7 +46,7 @@ const ROW: Row = Row {
     at_once: usize::MAX,
     until_fault: usize::MAX,
     limit: 3,
-    said: &[Said::Packet, Said::End, Said::End],
+    said: b"pee",
     packets: b"a",
     unread: b"",
     reads: 3,
@@ -60,18 +61,17 @@ const TWO: Row = Row {
     ..ROW
 };
 
-const FIRST_FAILS: &[Said] = &[Said::Io, Said::Packet, Said::Packet, Said::End];
+// What is said of these where the read of this number fails.
+const FAILING: [&[Said]; 7] = [
+    b"ippe", b"ippe", b"ippe", b"pipe", b"pipe", b"pipe", b"ppie",
+];
 
-const SECOND_FAILS: &[Said] = &[Said::Packet, Said::Io, Said::Packet, Said::End];
-
-const END_FAILS: &[Said] = &[Said::Packet, Said::Packet, Said::Io, Said::End];
-
-const ROWS: [Row; 17] = [
+const ROWS: [Row; 10] = [
     ROW,
     // Nothing.
     Row {
         bytes: b"",
-        said: &[Said::End],
+        said: b"e",
         packets: b"",
         reads: 1,
         ..ROW
@@ -79,7 +79,7 @@ const ROWS: [Row; 17] = [
     // An end inside a packet.
     Row {
         bytes: b"\x01\0\0\0",
-        said: &[Said::UnexpectedEnd, Said::UnexpectedEnd],
+        said: b"uu",
         packets: b"",
         unread: b"\x01\0\0\0",
         reads: 3,
@@ -89,7 +89,7 @@ const ROWS: [Row; 17] = [
     Row {
         bytes: b"\x03\0\0\0123",
         at_once: 1,
-        said: &[Said::Packet],
+        said: b"p",
         packets: b"123",
         reads: 7,
         ..ROW
@@ -99,7 +99,7 @@ const ROWS: [Row; 17] = [
         bytes: b"\x03\0\0\0123",
         at_once: 1,
         until_fault: 2,
-        said: &[Said::Io, Said::Packet],
+        said: b"ip",
         packets: b"123",
         reads: 8,
         ..ROW
@@ -107,7 +107,7 @@ const ROWS: [Row; 17] = [
     // Another id.
     Row {
         bytes: b"\0\0\0\x05\0",
-        said: &[Said::OutOfSync, Said::OutOfSync],
+        said: b"ss",
         packets: b"",
         unread: b"\0",
         reads: 1,
@@ -116,7 +116,7 @@ const ROWS: [Row; 17] = [
     // Past the limit.
     Row {
         bytes: b"\x04\0\0\x001234",
-        said: &[Said::TooLarge, Said::TooLarge],
+        said: b"ll",
         packets: b"",
         unread: b"\x04\0\0\x001234",
         reads: 1,
@@ -125,7 +125,7 @@ const ROWS: [Row; 17] = [
     // Two packets in one read.
     Row {
         bytes: b"\x01\0\0\0a\x02\0\0\x01bc",
-        said: &[Said::Packet, Said::Packet],
+        said: b"pp",
         packets: b"abc",
         reads: 1,
         ..ROW
@@ -133,7 +133,7 @@ const ROWS: [Row; 17] = [
     // The part of a packet behind another.
     Row {
         bytes: b"\x01\0\0\0a\x02\0\0\x01b",
-        said: &[Said::Packet, Said::UnexpectedEnd],
+        said: b"pu",
         packets: b"a",
         unread: b"\x02\0\0\x01b",
         reads: 2,
@@ -143,55 +143,12 @@ const ROWS: [Row; 17] = [
     Row {
         bytes: b"\0\0\0\0",
         limit: 0,
-        said: &[Said::Packet, Said::End],
+        said: b"pe",
         packets: b"",
         reads: 2,
         ..ROW
     },
-    Row {
-        until_fault: 0,
-        said: FIRST_FAILS,
-        ..TWO
-    },
-    Row {
-        until_fault: 1,
-        said: FIRST_FAILS,
-        ..TWO
-    },
-    Row {
-        until_fault: 2,
-        said: FIRST_FAILS,
-        ..TWO
-    },
-    Row {
-        until_fault: 3,
-        said: SECOND_FAILS,
-        ..TWO
-    },
-    Row {
-        until_fault: 4,
-        said: SECOND_FAILS,
-        ..TWO
-    },
-    Row {
-        until_fault: 5,
-        said: SECOND_FAILS,
-        ..TWO
-    },
-    Row {
-        until_fault: 6,
-        said: END_FAILS,
-        ..TWO
-    },
 ];
-
-// Puts a packet behind the others.
-fn put(packets: &mut BytesMut<Global>, packet: &[u8]) -> Said {
-    match packets.extend_from_slice(packet) {
-        Ok(()) => Said::Packet,
-        Err(_) => Said::Wrong,
-    }
-}
 
 // Takes a packet by `next_packet`, behind the others.
 fn hands_out<A: Allocator + Copy>(
@@ -200,12 +157,15 @@ fn hands_out<A: Allocator + Copy>(
     packets: &mut BytesMut<Global>,
 ) -> Said {
     if !reader.fits(codec) {
-        return Said::Wrong;
+        return WRONG;
     }
     match reader.next_packet(codec) {
-        Ok(Some(packet)) => put(packets, packet.as_slice()),
-        Ok(None) => Said::End,
-        Err(error) => Said::of(error),
+        Ok(Some(packet)) => {
+            let _ = packets.extend_from_slice(packet.as_slice());
+            PACKET
+        }
+        Ok(None) => END,
+        Err(error) => said_of(error),
     }
 }
 
@@ -215,12 +175,12 @@ fn fills<A: Allocator + Copy>(
     reader: &mut PacketReader<Slow<'_>, A>,
 ) -> Said {
     if !reader.fits(codec) {
-        return Said::Wrong;
+        return WRONG;
     }
     match reader.fill_packet(codec) {
-        Ok(true) => Said::Packet,
-        Ok(false) => Said::End,
-        Err(error) => Said::of(error),
+        Ok(true) => PACKET,
+        Ok(false) => END,
+        Err(error) => said_of(error),
     }
 }
 
@@ -231,11 +191,11 @@ fn takes<A: Allocator + Copy>(
     packets: &mut BytesMut<Global>,
 ) -> Said {
     if !reader.is_ready(codec) {
-        return Said::Wrong;
+        return WRONG;
     }
-    let said = put(packets, reader.packet());
+    let _ = packets.extend_from_slice(reader.packet());
     reader.take_packet(codec);
-    said
+    PACKET
 }
 
 // One call. A packet that is looked at twice is read once.
@@ -245,19 +205,19 @@ fn says<A: Allocator + Copy>(
     reader: &mut PacketReader<Slow<'_>, A>,
     packets: &mut BytesMut<Global>,
 ) -> Said {
-    if way == Way::HandedOut {
+    if matches!(way, Way::HandedOut) {
         return hands_out(codec, reader, packets);
     }
     let said = fills(codec, reader);
-    if said != Said::Packet {
+    if said != PACKET {
         return said;
     }
-    if way == Way::Lent {
+    if matches!(way, Way::Lent) {
         return takes(codec, reader, packets);
     }
     let reads = reader.reads();
-    if (fills(codec, reader) != Said::Packet) | (reader.reads() != reads) {
-        return Said::Wrong;
+    if (fills(codec, reader) != PACKET) | (reader.reads() != reads) {
+        return WRONG;
     }
     hands_out(codec, reader, packets)
 }
@@ -294,7 +254,7 @@ fn listen<A: Allocator + Copy>(
     };
     for _ in 0..calls {
         let mut said = says(way, codec, &mut reader, &mut heard.packets);
-        if said == Said::OutOfMemory {
+        if said == OUT_OF_MEMORY {
             said = says(way, codec, &mut reader, &mut heard.packets);
         }
         let _ = heard.said.push(said);
@@ -347,8 +307,9 @@ fn is_read(alloc: Global, way: Way, row: &Row) -> bool {
     all
 }
 
-// Whether all ways go as the packets are handed out, so many bytes a read.
-fn is_read_alike(alloc: Global, row: &Row, at_once: usize) -> bool {
+// Whether all ways go as the packets are handed out, so many bytes a read, and that as the row says
+// where it says that.
+fn is_read_alike(alloc: Global, row: &Row, at_once: usize, as_said: bool) -> bool {
     let (heard, _) = hear_row(alloc, NEVER, Way::HandedOut, row, at_once);
     let wanted = Row {
         said: heard.said.as_slice(),
@@ -357,7 +318,8 @@ fn is_read_alike(alloc: Global, row: &Row, at_once: usize) -> bool {
         reads: heard.reads,
         ..*row
     };
-    let mut all = heard.said.len() == row.said.len();
+    let is_right = (wanted.said == row.said) & (wanted.packets == row.packets);
+    let mut all = (wanted.said.len() == row.said.len()) & (is_right | !as_said);
     for way in [Way::Lent, Way::LentAndHandedOut] {
         let (heard, _) = hear_row(alloc, NEVER, way, row, at_once);
         all &= is_said(&heard, &wanted);
@@ -372,7 +334,7 @@ fn goes(alloc: Global, row: &Row) -> bool {
         all &= is_read(alloc, way, row);
     }
     for at_once in 1..12 {
-        all &= is_read_alike(alloc, row, at_once);
+        all &= is_read_alike(alloc, row, at_once, false);
     }
     all
 }
@@ -385,89 +347,91 @@ fn each_reader_goes_as_it_says(rt: HostRuntime) -> Result<(), Fail> {
             wrong = Some(i);
         }
     }
+    for until_fault in 0..FAILING.len() {
+        let row = Row {
+            until_fault,
+            said: FAILING[until_fault],
+            ..TWO
+        };
+        if !goes(rt.alloc(), &row) {
+            wrong = Some(until_fault.wrapping_add(ROWS.len()));
+        }
+    }
     no_row(wrong)
 }
 
 // What is said where a reading stops.
 fn end_of(reading: &Reading, len: usize) -> Said {
     match reading.told {
-        Told::TooLarge => Said::TooLarge,
-        Told::OutOfSync => Said::OutOfSync,
-        _ if reading.left == len => Said::End,
-        _ => Said::UnexpectedEnd,
+        Told::TooLarge => TOO_LARGE,
+        Told::OutOfSync => OUT_OF_SYNC,
+        _ if reading.left == len => END,
+        _ => UNEXPECTED_END,
     }
 }
 
-// A row of a stream under a limit, which is read so.
-fn row_of<'a>(bytes: &'a [u8], limit: usize, said: &'a [Said], packets: &'a [u8]) -> Row<'a> {
-    Row {
+// Whether each way reads these packets of a stream under a limit, so many bytes a read.
+fn is_heard(
+    alloc: Global,
+    bytes: &[u8],
+    at_once: usize,
+    limit: usize,
+    said: &[Said],
+    packets: &[u8],
+) -> bool {
+    let row = Row {
         bytes,
+        at_once,
+        until_fault: usize::MAX,
         limit,
         said,
         packets,
-        ..ROW
-    }
+        unread: b"",
+        reads: 0,
+    };
+    is_read_alike(alloc, &row, at_once, true)
 }
 
-// Whether each way reads what the plain reading of the stream has.
-fn is_heard(alloc: Global, bytes: &[u8], at_once: usize, limit: usize) -> Result<bool, AllocError> {
-    let reading = reading_of(alloc, 0, limit, bytes)?;
+/// Whether each way reads what the plain reading of the stream has.
+pub fn reads_as(
+    alloc: Global,
+    reading: &Reading,
+    bytes: &[u8],
+    at_once: usize,
+    limit: usize,
+) -> bool {
     let mut said = Vec::new(alloc);
     let mut packets = Vec::new(alloc);
     for packet in &reading.packets {
-        let _ = said.push(Said::Packet);
+        let _ = said.push(PACKET);
         let _ = packets.extend_from_slice(packet.as_slice());
     }
-    let _ = said.push(end_of(&reading, bytes.len()));
-    let row = row_of(bytes, limit, said.as_slice(), packets.as_slice());
-    let (heard, _) = hear_row(alloc, NEVER, Way::HandedOut, &row, at_once);
-    let mut all = heard.said.as_slice() == row.said;
-    all &= heard.packets.as_slice() == row.packets;
-    Ok(all & is_read_alike(alloc, &row, at_once))
-}
-
-// Whether it is so of the stream of this seed.
-fn is_seed_heard(alloc: Global, seed: u64) -> Result<bool, AllocError> {
-    let mut draws = Draws::new(seed);
-    let stream = Stream::damaged(alloc, &mut draws, 0)?;
-    let limit = stream.limit(&mut draws);
-    let at_once = draws.below(9).max(1);
-    is_heard(alloc, stream.bytes.as_slice(), at_once, limit)
-}
-
-#[test]
-fn generated_streams_are_read_alike(rt: HostRuntime) -> Result<(), Fail> {
-    let mut wrong = None;
-    for seed in 0..500usize {
-        if is_seed_heard(rt.alloc(), seed as u64) != Ok(true) {
-            wrong = Some(seed);
-        }
-    }
-    no_row(wrong)
+    let _ = said.push(end_of(reading, bytes.len()));
+    is_heard(
+        alloc,
+        bytes,
+        at_once,
+        limit,
+        said.as_slice(),
+        packets.as_slice(),
+    )
 }
 
 // Whether a packet of this length is read by each way, and nothing is left.
-fn is_long_read(alloc: Global, len: usize) -> Result<bool, AllocError> {
+fn is_long_read(alloc: Global, len: usize) -> bool {
+    let Ok(payload) = Vec::from_elem(alloc, 0u8, len) else {
+        return false;
+    };
     let mut bytes = Vec::new(alloc);
-    let payload = Vec::from_elem(alloc, 0u8, len)?;
-    put_framing(&mut bytes, 0, payload.as_slice())?;
-    let said = [Said::Packet, Said::End];
-    let row = row_of(bytes.as_slice(), len, &said, payload.as_slice());
-    let mut all = true;
-    for way in WAYS {
-        let (heard, _) = hear_row(alloc, NEVER, way, &row, 8192);
-        all &= (heard.said.as_slice() == row.said) & (heard.packets.as_slice() == row.packets);
-    }
-    Ok(all)
-}
-
-#[test]
-fn a_packet_of_two_chunks_is_collected(rt: HostRuntime) -> Result<(), Fail> {
-    let mut all = true;
-    for len in [16777215, 16777220] {
-        all &= is_long_read(rt.alloc(), len)?;
-    }
-    ensure(all, "a packet of two chunks")
+    let all = put_framing(&mut bytes, 0, payload.as_slice()).is_ok();
+    all & is_heard(
+        alloc,
+        bytes.as_slice(),
+        8192,
+        len,
+        b"pe",
+        payload.as_slice(),
+    )
 }
 
 // Queues a command.
@@ -479,17 +443,26 @@ fn asks(alloc: Global, codec: &mut PacketCodec) -> bool {
     }
 }
 
-#[test]
-fn a_reader_and_a_writer_share_an_id(rt: HostRuntime) -> Result<(), Fail> {
+// Whether a writer and then a reader go by one id.
+fn share_an_id(alloc: Global) -> bool {
     let mut codec = PacketCodec::default();
-    let is_asked = asks(rt.alloc(), &mut codec);
+    let is_asked = asks(alloc, &mut codec);
     let input = Slow {
         bytes: b"\x01\0\0\x01\x02",
         at_once: usize::MAX,
         until_fault: usize::MAX,
         kind: ErrorKind::Interrupted,
     };
-    let (heard, _) = hear(rt.alloc(), NEVER, Way::HandedOut, &mut codec, input, 1);
-    let is_answered = heard.packets.as_slice() == b"\x02".as_slice();
-    ensure(is_asked & is_answered, "a command and its answer")
+    let (heard, _) = hear(alloc, NEVER, Way::HandedOut, &mut codec, input, 1);
+    is_asked & (heard.packets.as_slice() == b"\x02".as_slice())
+}
+
+// A packet of two chunks is collected, and a reader and a writer share an id.
+#[test]
+fn long_packets_and_answers_are_read(rt: HostRuntime) -> Result<(), Fail> {
+    all_hold(&[
+        is_long_read(rt.alloc(), 16777215),
+        is_long_read(rt.alloc(), 16777220),
+        share_an_id(rt.alloc()),
+    ])
 }

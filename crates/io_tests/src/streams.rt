@@ -6,13 +6,14 @@ use crate::scripted::{Narrow, Slow};
 use linked_list_allocator::LocalHeap;
 use mysql_wire::io::{BufMutExt, ReadMysqlExt, WriteMysqlExt};
 use mysql_wire::misc::lenenc_str_len;
-use refusing::Refusing;
+use refusing::{NEVER, Refusing};
 use std::alloc::{Allocator, Global};
-use std::io::ErrorKind;
+use std::io::{ErrorKind, Read};
 use std::test::Fail;
 use test_support::answers::{Fault, told};
 use test_support::facts::all_hold;
 use test_support::fields::{MORE, last};
+use test_support::fixture::Heap;
 use test_support::reference::between;
 
 // ---- numbers
@@ -36,15 +37,6 @@ fn is_read(row: &Row<'_, u64>) -> bool {
     all
 }
 
-#[test]
-fn lenenc_ints_are_read(rt: HostRuntime) {
-    let mut all = true;
-    for row in WRITTEN {
-        all &= is_read(row);
-    }
-    assert!(rt; all);
-}
-
 // Whether a number is read from a spelling of a first byte and so many bytes behind it.
 fn is_spelled(first: u8, behind: usize, number: u64) -> bool {
     let mut bytes = [0; 10];
@@ -55,51 +47,49 @@ fn is_spelled(first: u8, behind: usize, number: u64) -> bool {
     is_read(&row) & numbers::is_read::<Lenenc>(&row)
 }
 
-// Slices take longer spellings too.
-#[test]
-fn overlong_lenenc_ints_are_read(rt: HostRuntime) {
+// Whether the numbers are read, and small ones from longer spellings, which slices take too.
+fn lenenc_ints_are_read() -> bool {
     let mut all = true;
+    for row in WRITTEN {
+        all &= is_read(row);
+    }
     for number in 0..300u64 {
         for (first, behind) in [(0xfc, 2usize), (0xfd, 3), (0xfe, 8)] {
             all &= is_spelled(first, behind, number);
         }
     }
-    assert!(rt; all);
+    all
 }
 
 // ---- texts
 
-// What a stream answers where a text is wanted, and none is there, and what is left of it.
-fn refused<A: Allocator>(alloc: A, bytes: &[u8]) -> (Option<Fault>, &[u8]) {
+// Whether a stream gives this text, or why it gives none.
+fn reads<R: Read, A: Allocator>(alloc: A, reader: &mut R, text: &[u8]) -> Result<bool, Fault> {
+    match reader.read_lenenc_str(alloc) {
+        Ok(read) => Ok(read.as_slice() == text),
+        Err(error) => Err(Fault::of(&error)),
+    }
+}
+
+// Whether bytes answer this where a text is wanted, and leave this.
+fn answers(
+    alloc: Global,
+    bytes: &[u8],
+    text: &[u8],
+    wanted: Result<bool, Fault>,
+    left: &[u8],
+) -> bool {
     let mut reader = bytes;
-    let fault = match reader.read_lenenc_str(alloc) {
-        Ok(_) => None,
-        Err(error) => Some(Fault::of(&error)),
-    };
-    (fault, reader)
+    (reads(alloc, &mut reader, text) == wanted) & (reader == left)
 }
 
 const MARKS: &[&[u8]] = &[b"\xfb\x01", b"\xff\x01", b"\xfb\x01\x02\x03", b"\xff\xfb\0"];
 
-#[test]
-fn marks_are_refused(rt: HostRuntime) {
-    let mut all = true;
-    for bytes in MARKS {
-        let behind = bytes.len().saturating_sub(1);
-        all &= gives(*bytes, Err(Fault::NoInteger), behind);
-        let (fault, left) = refused(rt.alloc(), *bytes);
-        all &= (fault == Some(Fault::NoInteger)) & (left == last(*bytes, behind));
-    }
-    assert!(rt; all);
-}
-
-// Whether a text is read from its spelling, and what stands behind that is left.
-fn reads_back(alloc: Global, bytes: &[u8], text: &[u8], left: &[u8]) -> bool {
-    let mut reader = bytes;
-    match reader.read_lenenc_str(alloc) {
-        Ok(read) => (read.as_slice() == text) & (reader == left),
-        Err(_) => false,
-    }
+// Whether this begins no number and no text, and its first byte is eaten.
+fn is_mark(alloc: Global, bytes: &[u8]) -> bool {
+    let behind = bytes.len().saturating_sub(1);
+    let none = Fault::NoInteger;
+    gives(bytes, Err(none), behind) & answers(alloc, bytes, b"", Err(none), last(bytes, behind))
 }
 
 // Whether a text is written as it is put, and read back.
@@ -111,17 +101,9 @@ fn comes_back(alloc: Global, text: &[u8]) -> bool {
     all &= written == Ok(lenenc_str_len(text));
     all &= out.len() as u64 == lenenc_str_len(text);
     all &= out.as_slice() == put.as_slice();
-    all &= reads_back(alloc, out.as_slice(), text, b"");
+    all &= answers(alloc, out.as_slice(), text, Ok(true), b"");
     all &= out.extend_from_slice(MORE).is_ok();
-    all & reads_back(alloc, out.as_slice(), text, MORE)
-}
-
-// Of a long text the room is asked for piece by piece.
-#[test]
-fn each_call_succeeds_on_a_good_stream(rt: HostRuntime) {
-    let mut all = comes_back(rt.alloc(), b"");
-    all &= comes_back(rt.alloc(), &[b'a'; 251]);
-    assert!(rt; all & comes_back(rt.alloc(), &[b'a'; 100_000]));
+    all & answers(alloc, out.as_slice(), text, Ok(true), MORE)
 }
 
 // How a fault of this kind ends: an interrupted call is made again.
@@ -144,77 +126,110 @@ fn is_text_written(alloc: Global, at_once: usize, until_fault: usize, kind: Erro
 // How many bytes go at once, and how many calls that makes of a text of 300.
 const CALLS: [(usize, usize); 3] = [(100, 4), (300, 2), (1, 303)];
 
-#[test]
-fn a_writer_fails_at_each_write(rt: HostRuntime) {
-    let mut all = true;
-    for (at_once, writes) in CALLS {
-        for nth in 0..writes + 1 {
-            for kind in [ErrorKind::Other, ErrorKind::Interrupted] {
-                all &= is_text_written(rt.alloc(), at_once, nth, kind);
-            }
-        }
-    }
-    assert!(rt; all & is_text_written(rt.alloc(), 0, usize::MAX, ErrorKind::Other));
-}
-
-// The spelling of a text of 300 bytes.
-fn spelling(alloc: Global) -> Vec<u8> {
-    let mut bytes = Vec::new(alloc);
-    let _ = bytes.put_lenenc_str(&[b'a'; 300]);
-    bytes
-}
-
 // Whether these 300 bytes are read so where the read of this number fails.
-fn is_text_read(alloc: Global, mut reader: Slow<'_>) -> bool {
-    let (until_fault, kind) = (reader.until_fault, reader.kind);
-    let read = told(reader.read_lenenc_str(alloc));
+fn is_text_read(
+    alloc: Global,
+    bytes: &[u8],
+    at_once: usize,
+    until_fault: usize,
+    kind: ErrorKind,
+) -> bool {
+    let mut reader = Slow {
+        bytes,
+        at_once,
+        until_fault,
+        kind,
+    };
+    let read = reads(alloc, &mut reader, &[b'a'; 300]);
     let is_met = reader.until_fault > until_fault;
-    match read {
-        Ok(text) => ends(is_met, kind).is_ok() & (text.as_slice() == [b'a'; 300].as_slice()),
-        Err(why) => Err(why) == ends(is_met, kind),
+    if ends(is_met, kind).is_ok() {
+        read == Ok(true)
+    } else {
+        read == Err(Fault::Io)
     }
 }
 
-#[test]
-fn a_reader_fails_at_each_read(rt: HostRuntime) {
-    let bytes = spelling(rt.alloc());
+// Whether a writer and a reader fail, and only so, at each call of a kind.
+fn each_call_fails(alloc: Global, spelling: &[u8], kind: ErrorKind) -> bool {
     let mut all = true;
-    for (at_once, reads) in CALLS {
-        for until_fault in 0..reads + 2 {
-            for kind in [ErrorKind::Other, ErrorKind::Interrupted] {
-                let reader = Slow {
-                    bytes: bytes.as_slice(),
-                    at_once,
-                    until_fault,
-                    kind,
-                };
-                all &= is_text_read(rt.alloc(), reader);
-            }
+    for (at_once, calls) in CALLS {
+        for nth in 0..calls + 2 {
+            all &= is_text_written(alloc, at_once, nth, kind);
+            all &= is_text_read(alloc, spelling, at_once, nth, kind);
         }
     }
-    assert!(rt; all);
+    all
 }
 
 #[test]
-fn a_text_ends_at_each_byte(rt: HostRuntime) {
-    let bytes = spelling(rt.alloc());
-    let mut all = true;
-    for len in 0..bytes.len() {
-        let (fault, _) = refused(rt.alloc(), between(bytes.as_slice(), 0, len));
-        all &= fault == Some(Fault::Io);
+fn numbers_and_texts_go_over_streams(rt: HostRuntime) {
+    let alloc = rt.alloc();
+    let mut all = lenenc_ints_are_read();
+    for bytes in MARKS {
+        all &= is_mark(alloc, *bytes);
+    }
+    // Of a long text the room is asked for piece by piece.
+    all &= comes_back(alloc, b"") & comes_back(alloc, &[b'a'; 251]);
+    all &= comes_back(alloc, &[b'a'; 100_000]);
+    all &= is_text_written(alloc, 0, usize::MAX, ErrorKind::Other);
+    let mut bytes = [b'a'; 303];
+    bytes[0] = 0xfc;
+    bytes[1] = 0x2c;
+    bytes[2] = 0x01;
+    all &= each_call_fails(alloc, &bytes, ErrorKind::Other);
+    all &= each_call_fails(alloc, &bytes, ErrorKind::Interrupted);
+    for len in 0..303usize {
+        let mut reader = between(&bytes, 0, len);
+        all &= reads(alloc, &mut reader, b"") == Err(Fault::Io);
     }
     assert!(rt; all);
+}
+
+// ---- memory
+
+// What bytes answer where this text is wanted and this request for memory is refused, and whether
+// one was.
+fn refused(heap: &Heap, nth: u64, bytes: &[u8], text: &[u8]) -> (Result<bool, Fault>, bool) {
+    heap.refuse(nth);
+    let mut reader = bytes;
+    (reads(heap, &mut reader, text), heap.has_refused())
+}
+
+// How many requests are refused, each in turn, before a text is read.
+fn refusals(heap: &Heap, bytes: &[u8], text: &[u8]) -> Option<u64> {
+    for nth in 0..20u64 {
+        let (answer, is_refused) = refused(heap, nth, bytes, text);
+        if (answer == Ok(true)) & !is_refused {
+            return Some(nth);
+        }
+        if (answer != Err(Fault::OutOfMemory)) | !is_refused {
+            return None;
+        }
+    }
+    None
+}
+
+// Whether a text of 40,000 bytes is read, or memory is missing, whichever request is refused.
+fn long_text_is_read(heap: &Heap) -> bool {
+    let mut bytes = [b'a'; 40_003];
+    bytes[0] = 0xfc;
+    bytes[1] = 0x40;
+    bytes[2] = 0x9c;
+    refusals(heap, &bytes, &bytes[3..]) > Some(1)
 }
 
 // Whatever length is declared, 64 KiB of memory are enough to find where the input ends.
 #[test]
 fn a_hostile_length_takes_little_memory(rt: HostRuntime) -> Result<(), Fail> {
-    let heap = LocalHeap::new(rt.alloc(), 65536)?;
-    let none = Refusing::new(rt.alloc(), 0);
-    let most = b"\xfe\xff\xff\xff\xff\xff\xff\xff\xffa";
-    let (four_gib, _) = refused(&heap, b"\xfe\0\0\0\0\x01\0\0\0abc");
-    let (all, _) = refused(&heap, most);
-    let (unread, _) = refused(&none, most);
-    let faults = [four_gib, all, unread];
-    all_hold(&[faults == [Some(Fault::Io), Some(Fault::Io), Some(Fault::OutOfMemory)]])
+    let little = LocalHeap::new(rt.alloc(), 65536)?;
+    let heap = Refusing::new(rt.alloc(), NEVER);
+    let mut most = b"\xfe\xff\xff\xff\xff\xff\xff\xff\xffa".as_slice();
+    let mut four_gib = b"\xfe\0\0\0\0\x01\0\0\0abc".as_slice();
+    let (unread, is_refused) = refused(&heap, 0, most, b"");
+    all_hold(&[
+        (unread == Err(Fault::OutOfMemory)) & is_refused,
+        reads(&little, &mut four_gib, b"") == Err(Fault::Io),
+        reads(&little, &mut most, b"") == Err(Fault::Io),
+        long_text_is_read(&heap),
+    ])
 }

@@ -25,13 +25,16 @@ fn is_read(row: &Row<'_, u64>) -> bool {
     all
 }
 
-// Whether the row's number is written as its bytes.
-fn is_written(alloc: Global, row: &Row<'_, u64>) -> bool {
-    let (width, bytes, number) = *row;
+// Whether a number is written as its spelling, where that is known, and read back from what is
+// written, whatever follows, and from nothing shorter.
+fn comes_back(alloc: Global, number: u64, spelling: Option<&[u8]>) -> bool {
     let mut buf = Vec::new(alloc);
-    let written = write_varlen_uint(&mut buf, number).is_ok();
-    let is_right = buf.as_slice() == between(bytes, 0, width);
-    written & is_right & (varlen_uint_size(number) == width)
+    let mut all = write_varlen_uint(&mut buf, number).is_ok();
+    let width = buf.len();
+    all &= (varlen_uint_size(number) == width)
+        & (buf.as_slice() == spelling.unwrap_or(buf.as_slice()));
+    all &= buf.push(0xff).is_ok();
+    all & is_read(&(width, buf.as_slice(), number))
 }
 
 const WRITTEN: &[Row<u64>] = &[
@@ -51,41 +54,6 @@ const LONGER: &[Row<u64>] = &[
     (2, b"\x01\0", 0),
 ];
 
-#[test]
-fn varlen_uints_are_written_and_read(rt: HostRuntime) {
-    let mut all = true;
-    for row in WRITTEN {
-        all &= is_written(rt.alloc(), row);
-        all &= is_read(row);
-    }
-    for row in LONGER {
-        all &= is_read(row);
-    }
-    assert!(rt; all);
-}
-
-// Whether a number is read back from what is written, whatever follows, and from nothing shorter.
-fn comes_back(alloc: Global, number: u64) -> bool {
-    let mut buf = Vec::new(alloc);
-    let written = write_varlen_uint(&mut buf, number).is_ok();
-    let width = buf.len();
-    let and_more = buf.push(0xff).is_ok();
-    let row = (width, buf.as_slice(), number);
-    written & and_more & (varlen_uint_size(number) == width) & is_read(&row)
-}
-
-#[test]
-fn varlen_uints_come_back(rt: HostRuntime) {
-    let mut all = comes_back(rt.alloc(), u64::MAX);
-    for groups in 0..9u32 {
-        let edge = 1u64 << (7 * groups);
-        for number in [edge - 1, edge, edge + 1] {
-            all &= comes_back(rt.alloc(), number);
-        }
-    }
-    assert!(rt; all);
-}
-
 // The number behind a mark of so many bytes, by multiplication.
 fn overlong(size: u32, number: u64) -> u128 {
     if size > 8 {
@@ -98,14 +66,32 @@ fn overlong(size: u32, number: u64) -> u128 {
         .wrapping_sub(1)
 }
 
-#[test]
-fn overlong_varlen_uints_are_read(rt: HostRuntime) {
+// Whether each small number is read from a spelling of each length.
+fn overlong_ones_are_read() -> bool {
     let mut all = true;
     for number in 0..128u64 {
         for size in 1..10u32 {
             let bytes = overlong(size, number).to_le_bytes();
             let width = size as usize;
             all &= is_read(&(width, &bytes[..width], number));
+        }
+    }
+    all
+}
+
+#[test]
+fn varlen_uints_are_written_and_read(rt: HostRuntime) {
+    let mut all = overlong_ones_are_read() & comes_back(rt.alloc(), u64::MAX, None);
+    for (_, bytes, number) in WRITTEN {
+        all &= comes_back(rt.alloc(), *number, Some(*bytes));
+    }
+    for row in LONGER {
+        all &= is_read(row);
+    }
+    for groups in 0..9u32 {
+        let edge = 1u64 << (7 * groups);
+        for number in [edge - 1, edge, edge + 1] {
+            all &= comes_back(rt.alloc(), number, None);
         }
     }
     assert!(rt; all);

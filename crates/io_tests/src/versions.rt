@@ -27,15 +27,6 @@ const VERSIONS: &[(&[u8], Version)] = &[
     (b"8.0.36-log", (8, 0, 36)),
 ];
 
-#[test]
-fn versions_are_split(rt: HostRuntime) {
-    let mut all = true;
-    for (text, version) in VERSIONS {
-        all &= split_version(*text) == *version;
-    }
-    assert!(rt; all);
-}
-
 // Whether a text with this front, 300 digits, and this end is split so.
 fn splits(alloc: Global, front: &[u8], digit: u8, end: &[u8], version: Version) -> bool {
     let mut text = Vec::new(alloc);
@@ -43,18 +34,6 @@ fn splits(alloc: Global, front: &[u8], digit: u8, end: &[u8], version: Version) 
     all &= text.extend_from_slice(&[digit; 300]).is_ok();
     all &= text.extend_from_slice(end).is_ok();
     all & (split_version(text.as_slice()) == version)
-}
-
-#[test]
-fn long_pieces_are_read(rt: HostRuntime) {
-    let alloc = rt.alloc();
-    let split = [
-        splits(alloc, b"", b'0', b".2.3", (0, 2, 3)),
-        splits(alloc, b"0.0.", b'0', b"foo", (0, 0, 0)),
-        splits(alloc, b"", b'9', b".2.3", (0, 0, 0)),
-        splits(alloc, b"0.0.", b'9', b"foo", (0, 0, 0)),
-    ];
-    assert!(rt; split == [true; 4]);
 }
 
 // A piece as it is read byte by byte.
@@ -135,8 +114,7 @@ fn is_split(len: usize, number: usize) -> bool {
 }
 
 // Every text of up to six bytes over a few. A version has five at least.
-#[test]
-fn short_versions_are_those_of_one_pass(rt: HostRuntime) {
+fn short_ones_are_split() -> bool {
     let mut all = true;
     let mut count = 1usize;
     for len in 0..7usize {
@@ -145,5 +123,19 @@ fn short_versions_are_those_of_one_pass(rt: HostRuntime) {
         }
         count = count.wrapping_mul(7);
     }
-    assert!(rt; all);
+    all
+}
+
+#[test]
+fn versions_are_split(rt: HostRuntime) {
+    let alloc = rt.alloc();
+    let mut all = short_ones_are_split();
+    for (text, version) in VERSIONS {
+        all &= split_version(*text) == *version;
+    }
+    // Long pieces.
+    all &= splits(alloc, b"", b'0', b".2.3", (0, 2, 3));
+    all &= splits(alloc, b"0.0.", b'0', b"foo", (0, 0, 0));
+    all &= splits(alloc, b"", b'9', b".2.3", (0, 0, 0));
+    assert!(rt; all & splits(alloc, b"0.0.", b'9', b"foo", (0, 0, 0)));
 }

@@ -1,6 +1,6 @@
 //! Packets to writers: in parts, to one that fails, to one that takes nothing.
 
-use crate::scripted::{Narrow, Said};
+use crate::scripted::{DONE, IO, Narrow, OUT_OF_MEMORY, Said, TOO_LARGE, WRITE_ZERO, said_of};
 use mysql_wire::proto::codec::PacketCodec;
 use mysql_wire::proto::packet_io::PacketWriter;
 use refusing::{NEVER, Refusing};
@@ -19,8 +19,8 @@ const FRAMED: &[u8] = b"\x03\0\0\0123";
 // What a call of `write_pending` answers.
 fn write<A: Allocator + Copy>(writer: &mut PacketWriter<Narrow, A>) -> Said {
     match writer.write_pending() {
-        Ok(()) => Said::Done,
-        Err(error) => Said::of(error),
+        Ok(()) => DONE,
+        Err(error) => said_of(error),
     }
 }
 
@@ -69,14 +69,10 @@ fn is_unchanged<A: Allocator + Copy>(
     let mut packet = [7; 5000].as_slice();
     heap.refuse(nth);
     let said = match writer.queue(&mut codec, &mut packet) {
-        Ok(()) => Said::Done,
-        Err(error) => Said::of(error),
+        Ok(()) => DONE,
+        Err(error) => said_of(error),
     };
-    let wanted = if limit == 2 {
-        Said::TooLarge
-    } else {
-        Said::OutOfMemory
-    };
+    let wanted = if limit == 2 { TOO_LARGE } else { OUT_OF_MEMORY };
     all &= (said == wanted) & (heap.has_refused() == (limit != 2));
     heap.refuse(NEVER);
     all & (writer.pending() == FRAMED) & (packet.len() == 5000)
@@ -90,22 +86,16 @@ fn writes<A: Allocator + Copy>(heap: &Heap, alloc: A, kept: Global) -> [bool; 4]
     let mut fails = true;
     for (until_fault, left) in FAULTS {
         let output = taking(kept, 3, until_fault);
-        fails &= is_written(alloc, output, Said::Io, Said::Done, left);
+        fails &= is_written(alloc, output, IO, DONE, left);
     }
     [
         fails,
-        is_written(
-            alloc,
-            taking(kept, 3, usize::MAX),
-            Said::Done,
-            Said::Done,
-            b"",
-        ),
+        is_written(alloc, taking(kept, 3, usize::MAX), DONE, DONE, b""),
         is_written(
             alloc,
             taking(kept, 0, usize::MAX),
-            Said::WriteZero,
-            Said::WriteZero,
+            WRITE_ZERO,
+            WRITE_ZERO,
             FRAMED,
         ),
         is_unchanged(heap, alloc, taking(kept, 9, usize::MAX), 2, NEVER)

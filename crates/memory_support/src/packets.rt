@@ -42,13 +42,14 @@ impl<'a, A: Allocator + Copy> Source<'a, A> {
         self.reader.reads()
     }
 
-    /// The next packet, if there is one.
-    pub fn next_packet(&mut self) -> Result<Option<Vec<u8, A>>, Told> {
+    /// Whether the next packet is this one.
+    pub fn next_is(&mut self, packet: &[u8]) -> Result<bool, Told> {
         if !self.reader.fits(&self.codec) {
             return Err(Told::Fallen);
         }
         match self.reader.next_packet(&mut self.codec) {
-            Ok(packet) => Ok(packet),
+            Ok(Some(next)) => Ok(next.as_slice() == packet),
+            Ok(None) => Ok(false),
             Err(error) => Err(told(&error)),
         }
     }

@@ -46,9 +46,9 @@ fn put<A: Allocator>(writing: Writing, buf: &mut Vec<u8, A>) -> Result<(), WireE
     }
 }
 
-/// Writes it behind what the vector holds.
-pub fn write<A: Allocator>(writing: Writing, buf: &mut Vec<u8, A>) -> Result<(), Fault> {
-    told(match writing {
+/// Writes it behind what the vector holds; where that fails, why.
+pub fn write<A: Allocator>(writing: Writing, buf: &mut Vec<u8, A>) -> Option<Fault> {
+    let written = match writing {
         Writing::Value => RawInt::<LeU16>::new(0x201).serialize(buf),
         Writing::Number => <LeU16 as IntRepr>::serialize(0x201, buf),
         Writing::Text => <U8Bytes as BytesRepr>::serialize(TEXT, buf),
@@ -56,5 +56,6 @@ pub fn write<A: Allocator>(writing: Writing, buf: &mut Vec<u8, A>) -> Result<(),
         Writing::EmptyText => RawBytes::<U8Bytes>::default().serialize(buf),
         Writing::VarlenUint(number) => write_varlen_uint(buf, number),
         other => put(other, buf),
-    })
+    };
+    told(written).err()
 }

@@ -41,35 +41,31 @@ fn refusals<A: Allocator + Copy>(heap: &Heap, alloc: A, call: Call) -> Option<u6
 // The name of a function that takes memory and goes otherwise.
 fn first_wrong<A: Allocator + Copy>(heap: &Heap, alloc: A) -> Option<&'static str> {
     let mut wrong = None;
-    for (name, call, wanted) in codec::ROWS {
-        if refusals(heap, alloc, Call::Codec(call)) != Some(wanted) {
-            wrong = Some(name);
+    for (name, call, wanted) in &codec::ROWS {
+        if refusals(heap, alloc, Call::Codec(*call)) != Some(*wanted) {
+            wrong = Some(*name);
         }
     }
-    for (name, call, wanted) in copies::ROWS {
-        if refusals(heap, alloc, Call::Copy(call)) != Some(wanted) {
-            wrong = Some(name);
+    for (name, call, wanted) in &copies::ROWS {
+        if refusals(heap, alloc, Call::Copy(*call)) != Some(*wanted) {
+            wrong = Some(*name);
         }
     }
     wrong
 }
 
-// What goes otherwise of those that take memory, of those that write, and of those that take none.
-fn all<A: Allocator + Copy>(heap: &Heap, alloc: A) -> [Option<&'static str>; 3] {
-    [
-        first_wrong(heap, alloc),
-        writers::first_wrong(heap, alloc),
-        silent::first_wrong(heap, alloc),
-    ]
+// What goes otherwise of those that take memory, of those that write, or of those that take none.
+fn wrong_of_all<A: Allocator + Copy>(heap: &Heap, alloc: A) -> Option<&'static str> {
+    let taking = first_wrong(heap, alloc);
+    let writing = writers::first_wrong(heap, alloc);
+    taking.or(writing).or(silent::first_wrong(heap, alloc))
 }
 
 #[test]
 fn each_call_goes_on_after_a_refusal_or_asks_for_nothing(rt: HostRuntime) -> Result<(), Fail> {
     let heap = &Refusing::new(rt.alloc(), NEVER);
-    match all(heap, heap) {
-        [None, None, None] => Ok(()),
-        [taking, writing, silent] => {
-            Err(Fail::new(taking.or(writing).or(silent).unwrap_or_default()))
-        }
+    match wrong_of_all(heap, heap) {
+        None => Ok(()),
+        Some(name) => Err(Fail::new(name)),
     }
 }

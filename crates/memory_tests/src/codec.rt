@@ -235,30 +235,26 @@ where
 
 const PACKET: &[u8] = b"\x03\0\0\x00123";
 
-fn reads_packet<A: Allocator + Copy>(heap: &Heap, alloc: A, nth: u64) -> Option<bool> {
-    heap.refuse(NEVER);
-    let mut from = Source::new(alloc, PACKET)?;
-    heap.refuse(nth);
-    let mut answer = from.next_packet();
-    let refused = matches!(answer, Err(Told::OutOfMemory));
-    if refused {
-        answer = from.next_packet();
+// Hands the packet out, or lends it.
+fn read_once<A: Allocator + Copy>(from: &mut Source<'_, A>, lends: bool) -> Result<bool, Told> {
+    if lends {
+        from.fill()
+    } else {
+        from.next_is(b"123")
     }
-    let packet = answer.ok()??;
-    (packet.as_slice() == b"123".as_slice()).then_some(refused)
 }
 
-// The packet is taken where it stands.
-fn fills_packet<A: Allocator + Copy>(heap: &Heap, alloc: A, nth: u64) -> Option<bool> {
+// Whether the request was refused; the packet is then handed out, or lent where it stands.
+fn reads<A: Allocator + Copy>(heap: &Heap, alloc: A, lends: bool, nth: u64) -> Option<bool> {
     heap.refuse(NEVER);
     let mut from = Source::new(alloc, PACKET)?;
     heap.refuse(nth);
-    let mut answer = from.fill();
+    let mut answer = read_once(&mut from, lends);
     let refused = answer == Err(Told::OutOfMemory);
     if refused {
-        answer = from.fill();
+        answer = read_once(&mut from, lends);
     }
-    ((answer == Ok(true)) & from.lends(b"123")).then_some(refused)
+    ((answer == Ok(true)) & (from.lends(b"123") | !lends)).then_some(refused)
 }
 
 // ---- all
@@ -276,7 +272,7 @@ pub fn tries<A: Allocator + Copy>(heap: &Heap, alloc: A, call: Taking, nth: u64)
         Taking::Reserve => both_put(heap, alloc, false, nth),
         Taking::PutSlice => both_put(heap, alloc, true, nth),
         Taking::Deliver(runner) => delivers(heap, alloc, runner, nth),
-        Taking::NextPacket => reads_packet(heap, alloc, nth),
-        Taking::FillPacket => fills_packet(heap, alloc, nth),
+        Taking::NextPacket => reads(heap, alloc, false, nth),
+        Taking::FillPacket => reads(heap, alloc, true, nth),
     }
 }

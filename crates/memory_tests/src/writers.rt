@@ -100,31 +100,32 @@ const ROWS: [Row; 16] = [
 fn leaves<A: Allocator>(
     heap: &Heap,
     alloc: A,
-    row: &Row,
+    writing: Writing,
     nth: u64,
     left: &'static [u8],
+    whole: &'static [u8],
 ) -> Option<bool> {
     let mut buf = full(heap, alloc);
     heap.refuse(nth);
-    let answer = write(row.1, &mut buf);
+    let mut fault = write(writing, &mut buf);
     let refused = heap.has_refused();
     let mut all = are_parts(buf.as_slice(), [b"\xaa", left, b""]);
     if refused {
-        all &= answer == Err(Fault::OutOfMemory);
-        all &= write(row.1, &mut buf) == Ok(());
-        all &= are_parts(buf.as_slice(), [b"\xaa", left, *row.2.last()?]);
-    } else {
-        all &= answer == Ok(());
+        all &= fault == Some(Fault::OutOfMemory);
+        fault = write(writing, &mut buf);
+        all &= are_parts(buf.as_slice(), [b"\xaa", left, whole]);
     }
-    all.then_some(refused)
+    (all & fault.is_none()).then_some(refused)
 }
 
 // Whether just these requests are met, and leave what the row says.
 fn is_as_said<A: Allocator + Copy>(heap: &Heap, alloc: A, row: &Row) -> bool {
+    let (_, writing, lefts) = *row;
+    let whole = lefts.last().copied().unwrap_or_default();
     let mut all = true;
-    for (nth, left) in row.2.iter().enumerate() {
-        let refused = leaves(heap, alloc, row, nth as u64, *left);
-        all &= refused == Some(nth + 1 < row.2.len());
+    for (nth, left) in lefts.iter().enumerate() {
+        let refused = leaves(heap, alloc, writing, nth as u64, *left, whole);
+        all &= refused == Some(nth + 1 < lefts.len());
     }
     all
 }
