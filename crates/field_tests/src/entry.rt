@@ -11,7 +11,7 @@ use mysql_wire::proto::{HasSize, MyDeserialize, MySerialize, Varying, Wire};
 use std::alloc::Allocator;
 
 /// A key and its value.
-#[derive(Drop, Clone, Debug, PartialEq, Eq)]
+#[derive(Drop, Clone, PartialEq)]
 pub struct Entry<K, V> {
     pub key: K,
     pub value: V,

@@ -1,7 +1,7 @@
 // Lists: written and read by each representation of their count, counts that promise too much,
 // elements that are refused, and memory that is.
 
-use crate::at::{Refused, UNCUT, WHOLE, are_refused, is_field};
+use crate::at::{Refused, UNCUT, WHOLE, is_field};
 use crate::entry::Entry;
 use mysql_wire::constants::ColumnType;
 use mysql_wire::io::{InvalidReason, ParseBuf};
@@ -45,16 +45,6 @@ where
     let list: Seq<'de, T, U, A> = Seq::new(CowSlice::Borrowed(values));
     let value = (&list, ctx, NEVER, input, len, front);
     is_field::<Seq<'de, T, U, A>, U::Ctx, A>(heap, alloc, None, &value, refused)
-}
-
-// Whether no list is read from these.
-fn are_no_lists<'de, T, U, A>(heap: &Heap, alloc: A, rows: &[Refused<'de, U::Ctx>]) -> bool
-where
-    T: 'de + Clone + Drop + MyDeserialize<'de, A, Ctx = ()>,
-    U: 'de + SeqRepr<Ctx: Copy>,
-    A: 'de + Allocator + Copy,
-{
-    are_refused::<Seq<'de, T, U, A>, U::Ctx, A>(heap, alloc, None, rows)
 }
 
 // ---- lists of numbers
@@ -102,15 +92,6 @@ where
     is_list::<RawInt<T>, U, A>(heap, alloc, ctx, list, refused)
 }
 
-fn are_no_numbers<'de, T, U, A>(heap: &Heap, alloc: A, rows: &[Refused<'de, U::Ctx>]) -> bool
-where
-    T: 'de + IntRepr,
-    U: 'de + SeqRepr<Ctx: Copy>,
-    A: 'de + Allocator + Copy,
-{
-    are_no_lists::<RawInt<T>, U, A>(heap, alloc, rows)
-}
-
 // Each count, with its numbers and without. What is called once for each type is generic in the
 // allocator, since each call at a type proves anew that it is one.
 fn are_numbers<'de, A>(heap: &Heap, alloc: A, two: &'de [RawInt<LeU16>]) -> [bool; 6]
@@ -121,6 +102,8 @@ where
     let none: List<'de, RawInt<LeU16>> = (&[], b"\0\0\0\0\xff", 4, WHOLE);
     let eight: List<'de, RawInt<LeU16>> = (two, b"\x02\0\0\0\0\0\0\0\x01\0\x02\0\xff", 12, 8);
     let bare: List<'de, RawInt<LeU16>> = (two, b"\x01\0\x02\0\xff", 4, WHOLE);
+    let bytes: List<'de, RawInt<u8>> = (&[], b"\0\0\0\0\0\0\0\0\xff", 8, WHOLE);
+    let varying: List<'de, RawInt<VarLen>> = (&[], b"\0\0\0\0\xff", 4, WHOLE);
     let no_four: &[Refused<'de, ()>] = FOUR;
     let no_eight: &[Refused<'de, ()>] = EIGHT;
     let no_bare: &[Refused<'de, usize>] = BARE;
@@ -132,16 +115,9 @@ where
         is_list_of_numbers::<LeU16, LeU32, A>(heap, alloc, (), none, nothing),
         is_list_of_numbers::<LeU16, LeU64, A>(heap, alloc, (), eight, no_eight),
         is_list_of_numbers::<LeU16, Unknown, A>(heap, alloc, 2, bare, no_bare),
-        are_no_numbers::<u8, LeU64, A>(heap, alloc, no_bytes),
-        are_no_numbers::<VarLen, LeU32, A>(heap, alloc, no_varying),
+        is_list_of_numbers::<u8, LeU64, A>(heap, alloc, (), bytes, no_bytes),
+        is_list_of_numbers::<VarLen, LeU32, A>(heap, alloc, (), varying, no_varying),
     ]
-}
-
-#[test]
-fn lists_of_numbers_that_are_there_or_not(rt: HostRuntime) -> Result<(), Fail> {
-    let heap = &Refusing::new(rt.alloc(), 0);
-    let two = [RawInt::<LeU16>::new(1), RawInt::<LeU16>::new(2)];
-    all_hold(&are_numbers(heap, heap, &two))
 }
 
 // ---- lists of other elements
@@ -178,11 +154,12 @@ where
     let none: List<'de, Skip<0>> = (&[Skip, Skip, Skip], b"\x03\0\0\0", 4, WHOLE);
     let types: List<'de, Const<ColumnType, u8>> = (types, b"\x01\0\0\0\xf5\0", 5, 4);
     let pairs: List<'de, Pair> = (pairs, b"\x02\0\0\0\x01\x02\0\x03\x05\x04", 10, UNCUT);
+    let arrays: List<'de, [u8; 16]> = (&[], b"\0\0\0\0\0\0\0\0\xff", 8, WHOLE);
     let no_arrays: &[Refused<'de, ()>] = NO_ARRAYS;
     let no_types: &[Refused<'de, ()>] = NO_TYPES;
     let nothing: &[Refused<'de, ()>] = &[];
     [
-        are_no_lists::<[u8; 16], LeU64, A>(heap, alloc, no_arrays),
+        is_list::<[u8; 16], LeU64, A>(heap, alloc, (), arrays, no_arrays),
         is_list::<Skip<0>, LeU32, A>(heap, alloc, (), none, nothing),
         is_list::<Const<ColumnType, u8>, LeU32, A>(heap, alloc, (), types, no_types),
         is_list::<Pair, LeU32, A>(heap, alloc, (), pairs, nothing),
@@ -198,9 +175,27 @@ where
     is_list::<RawBytes<'de, U8Bytes, A>, LeU32, A>(heap, alloc, (), texts, NO_TEXTS)
 }
 
+fn are_lists<'de, A>(
+    heap: &Heap,
+    alloc: A,
+    two: &'de [RawInt<LeU16>],
+    (types, pairs): (&'de [Const<ColumnType, u8>], &'de [Pair]),
+    texts: &'de [RawBytes<'de, U8Bytes, A>],
+) -> [bool; 3]
+where
+    A: 'de + Allocator + Copy,
+{
+    [
+        are_numbers(heap, alloc, two) == [true; 6],
+        are_others(heap, alloc, types, pairs) == [true; 4],
+        are_texts(heap, alloc, texts),
+    ]
+}
+
 #[test]
-fn lists_of_other_elements(rt: HostRuntime) -> Result<(), Fail> {
+fn lists_are_written_and_read_and_others_refused(rt: HostRuntime) -> Result<(), Fail> {
     let heap = &Refusing::new(rt.alloc(), 0);
+    let two = [RawInt::<LeU16>::new(1), RawInt::<LeU16>::new(2)];
     let types = [Const::<ColumnType, u8>::new(ColumnType::MYSQL_TYPE_JSON)];
     let pairs = [
         Entry {
@@ -212,15 +207,9 @@ fn lists_of_other_elements(rt: HostRuntime) -> Result<(), Fail> {
             value: RawInt::<LeU16>::new(0x0405),
         },
     ];
-    all_hold(&are_others(heap, heap, &types, &pairs))
-}
-
-#[test]
-fn lists_of_texts(rt: HostRuntime) -> Result<(), Fail> {
-    let heap = &Refusing::new(rt.alloc(), 0);
     let texts = [
         RawBytes::<U8Bytes, &Heap>::from(b"a".as_slice()),
         RawBytes::<U8Bytes, &Heap>::from(b"".as_slice()),
     ];
-    all_hold(&[are_texts(heap, heap, &texts)])
+    all_hold(&are_lists(heap, heap, &two, (&types, &pairs), &texts))
 }

@@ -12,7 +12,7 @@ use refusing::Refusing;
 use std::alloc::Allocator;
 use std::test::Fail;
 use test_support::answers::Fault;
-use test_support::facts::{all_hold, no_row};
+use test_support::facts::all_hold;
 use test_support::fields::{gives, is_written};
 use test_support::fixture::Heap;
 
@@ -77,21 +77,13 @@ fn are_raw_numbers<A: Allocator + Copy>(heap: &Heap, alloc: A) -> [bool; 8] {
     ]
 }
 
-#[test]
-fn raw_numbers_are_written_and_read(rt: HostRuntime) -> Result<(), Fail> {
-    let heap = &Refusing::new(rt.alloc(), 0);
-    all_hold(&are_raw_numbers(heap, heap))
-}
-
-#[test]
-fn raw_numbers_show_what_they_stand_for(rt: HostRuntime) {
+fn are_shown() -> bool {
     let unknown = RawConst::<u8, ColumnType>::new(244);
     let json = RawConst::<u8, ColumnType>::new(245);
     let flags = RawFlags::<StatusFlags, LeU16>::new(7);
     let mut all = unknown.get() == Err(UnknownColumnType(244));
     all &= json.get() == Ok(ColumnType::MYSQL_TYPE_JSON);
-    all &= flags.get().bits() == 3;
-    assert!(rt; all);
+    all & (flags.get().bits() == 3)
 }
 
 // Whether a byte is the type that it stands for, or is refused, and is eaten.
@@ -110,18 +102,12 @@ fn is_column_type<A: Allocator + Copy>(heap: &Heap, alloc: A, number: u8) -> boo
     }
 }
 
-#[test]
-fn each_number_of_a_column_type_is_written_and_read_or_refused(
-    rt: HostRuntime,
-) -> Result<(), Fail> {
-    let heap = &Refusing::new(rt.alloc(), 0);
-    let mut wrong = None;
+fn are_column_types<A: Allocator + Copy>(heap: &Heap, alloc: A) -> bool {
+    let mut all = true;
     for number in 0..=255u8 {
-        if !is_column_type(heap, heap, number) {
-            wrong = Some(usize::from(number));
-        }
+        all &= is_column_type(heap, alloc, number);
     }
-    no_row(wrong)
+    all
 }
 
 // Whether a constant is read from the first bytes of an input, so many, and no constant from those
@@ -168,8 +154,18 @@ fn are_constants<A: Allocator + Copy>(heap: &Heap, alloc: A) -> [bool; 4] {
     ]
 }
 
+// Few types in each function: what a function costs grows faster than its calls.
+fn are_named<A: Allocator + Copy>(heap: &Heap, alloc: A) -> [bool; 4] {
+    [
+        are_raw_numbers(heap, alloc) == [true; 8],
+        are_shown(),
+        are_column_types(heap, alloc),
+        are_constants(heap, alloc) == [true; 4],
+    ]
+}
+
 #[test]
-fn numbers_that_stand_for_none_are_refused(rt: HostRuntime) -> Result<(), Fail> {
+fn numbers_stand_for_constants_and_flags_or_for_none(rt: HostRuntime) -> Result<(), Fail> {
     let heap = &Refusing::new(rt.alloc(), 0);
-    all_hold(&are_constants(heap, heap))
+    all_hold(&are_named(heap, heap))
 }

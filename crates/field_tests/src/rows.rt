@@ -32,34 +32,6 @@ fn is_row_of<U, A: Allocator + Copy>(heap: &Heap, alloc: A, input: &[u8]) -> boo
     )
 }
 
-fn are_bytes<A: Allocator + Copy>(heap: &Heap, alloc: A) -> [bool; 5] {
-    [
-        is_field(
-            heap,
-            alloc,
-            None,
-            &(&Slice(b"ab"), 2, 0, b"ab\xff", 2, WHOLE),
-            NO_BYTES,
-        ),
-        is_field(
-            heap,
-            alloc,
-            None,
-            &(&Slice(b""), 0, 0, b"ab", 0, WHOLE),
-            &[],
-        ),
-        is_row_of::<SessionStateType, A>(heap, alloc, b"\0\x05\x09\xff"),
-        is_row_of::<ColumnType, A>(heap, alloc, b"\xf4\xff"),
-        is_row_of::<(), A>(heap, alloc, b"\xff"),
-    ]
-}
-
-#[test]
-fn bytes_and_numbers_in_a_row(rt: HostRuntime) -> Result<(), Fail> {
-    let heap = &Refusing::new(rt.alloc(), 0);
-    all_hold(&are_bytes(heap, heap))
-}
-
 // Numbers that name changes of a session's state.
 type States<'a, A> = RawSeq<'a, u8, SessionStateType, A>;
 
@@ -79,12 +51,6 @@ fn are_shown<A: Allocator + Copy>(heap: &Heap, alloc: A, bytes: &[u8]) -> bool {
     all &= is_copied(again) & (heap.left() == 0);
     heap.refuse(1);
     all & is_owned(alloc, states, bytes) & (heap.left() == 0)
-}
-
-#[test]
-fn numbers_in_a_row_are_shown_and_owned(rt: HostRuntime) {
-    let heap = &Refusing::new(rt.alloc(), 0);
-    assert!(rt; are_shown(heap, heap, b"\0\x05\x09"));
 }
 
 // One number of four bytes or of one.
@@ -138,21 +104,37 @@ fn are_numbers<A: Allocator + Copy>(heap: &Heap, alloc: A) -> bool {
     is_field(heap, alloc, None, &value, &[])
 }
 
-#[test]
-fn one_of_two_values_and_both(rt: HostRuntime) -> Result<(), Fail> {
-    let heap = &Refusing::new(rt.alloc(), 0);
+// Bytes and numbers in a row, one of two values by each side, and two one after the other.
+fn are_rows<'de, A>(heap: &Heap, alloc: A, input: &'de [u8]) -> [bool; 12]
+where
+    A: 'de + Allocator + Copy,
+{
     let left: Number = Either::Left(RawInt::new(1));
     let right: Number = Either::Right(RawInt::new(1));
     let row = Both(
         RawInt::<LeU16>::new(258),
         RawBytes::<EofBytes>::from(b"hi".as_slice()),
     );
-    all_hold(&[
-        is_either(heap, heap, &left, &right),
+    let two = (&Slice(b"ab"), 2, 0, b"ab\xff".as_slice(), 2, WHOLE);
+    let none = (&Slice(b""), 0, 0, b"ab".as_slice(), 0, WHOLE);
+    [
+        is_field(heap, alloc, None, &two, NO_BYTES),
+        is_field(heap, alloc, None, &none, &[]),
+        is_row_of::<SessionStateType, A>(heap, alloc, b"\0\x05\x09\xff"),
+        is_row_of::<ColumnType, A>(heap, alloc, b"\xf4\xff"),
+        is_row_of::<(), A>(heap, alloc, b"\xff"),
+        are_shown(heap, alloc, b"\0\x05\x09"),
+        is_either(heap, alloc, &left, &right),
         left.unwrap_left() == RawInt::new(1),
         right.unwrap_right() == RawInt::new(1),
-        are_numbers(heap, heap),
-        is_written(heap, &row, b"\x02\x01hi"),
-        is_row(heap, heap, b"\x02\x01hi", 258, b"hi"),
-    ])
+        are_numbers(heap, alloc),
+        is_written(heap, &row, input),
+        is_row(heap, alloc, input, 258, b"hi"),
+    ]
+}
+
+#[test]
+fn values_in_a_row_are_written_and_read(rt: HostRuntime) -> Result<(), Fail> {
+    let heap = &Refusing::new(rt.alloc(), 0);
+    all_hold(&are_rows(heap, heap, b"\x02\x01hi"))
 }

@@ -12,50 +12,37 @@ use test_support::generated::{Draws, Stream, pieces_of};
 use test_support::reference::{between, chunk_count, low_byte, put_framing, reading_of};
 use test_support::told::Told;
 
-// The stream, cut behind its byte number i + 1 where bit i of the number is set. A piece that no
-// memory is left for is missing, which no reading agrees with.
-fn cut_by_bits<'a>(alloc: Global, stream: &'a [u8], bits: u32) -> Vec<&'a [u8]> {
+// The stream, cut behind its byte number i + 1 where bit i of the number is set, and an empty piece
+// behind each piece where they are spaced. A piece that no memory is left for is missing, which no
+// reading agrees with.
+fn cut_by_bits<'a>(alloc: Global, stream: &'a [u8], bits: u32, spaced: bool) -> Vec<&'a [u8]> {
     let mut pieces = Vec::new(alloc);
     let mut start = 0usize;
     let mut bits = bits;
-    for end in 1..stream.len() {
-        if bits % 2 == 1 {
+    for end in 1..stream.len().wrapping_add(1) {
+        if bits % 2 == 1 || end == stream.len() {
             let _ = pieces.push(between(stream, start, end));
             start = end;
+            if spaced {
+                let _ = pieces.push(between(stream, start, start));
+            }
         }
         bits /= 2;
     }
-    let _ = pieces.push(between(stream, start, stream.len()));
     pieces
 }
 
-// Each byte of the stream as a piece, and an empty piece behind it.
-fn single_bytes<'a>(alloc: Global, stream: &'a [u8]) -> Vec<&'a [u8]> {
-    let mut pieces = Vec::new(alloc);
-    for start in 0..stream.len() {
-        let _ = pieces.push(between(stream, start, start.wrapping_add(1)));
-        let _ = pieces.push(between(stream, start, start));
-    }
-    pieces
-}
-
-// How many cuttings into pieces that aren't empty a stream of fewer than 33 bytes has.
-fn cutting_count(stream: &[u8]) -> u32 {
-    let mut count = 1u32;
-    for _ in 1..stream.len() {
-        count = count.wrapping_mul(2);
-    }
-    count
+fn cutting_agrees(alloc: Global, case: &Case, bits: u32, spaced: bool) -> bool {
+    let pieces = cut_by_bits(alloc, case.stream, bits, spaced);
+    case.agrees(alloc, b"", pieces.as_slice(), 0)
 }
 
 // Whether all cuttings of a stream into pieces that aren't empty are delivered as its reading says,
 // and so are its single bytes with empty pieces between them.
-fn all_cuttings_agree(alloc: Global, case: &Case) -> bool {
-    let pieces = single_bytes(alloc, case.stream);
-    let mut agree = case.agrees(alloc, b"", pieces.as_slice(), 0);
-    for bits in 0..cutting_count(case.stream) {
-        let pieces = cut_by_bits(alloc, case.stream, bits);
-        agree &= case.agrees(alloc, b"", pieces.as_slice(), 0);
+fn all_cuttings_agree(alloc: Global, case: &Case, cuttings: u32) -> bool {
+    let mut agree = cutting_agrees(alloc, case, u32::MAX, true);
+    for bits in 0..cuttings {
+        agree &= cutting_agrees(alloc, case, bits, false);
     }
     agree
 }
@@ -76,8 +63,10 @@ impl Row<'_> {
             Ok(case) => {
                 let is_read = self.wanted.is_read(&case.reading);
                 let is_at = case.reading.shown_at == self.shown_at;
-                let is_counted = cutting_count(self.stream) == self.cuttings;
-                is_read & is_at & is_counted & all_cuttings_agree(alloc, &case)
+                // A stream of n bytes is cut or not at n - 1 places.
+                let places = (low_byte(self.stream.len()) as u32).wrapping_sub(1);
+                let is_counted = 2u32.wrapping_pow(places) == self.cuttings;
+                is_read & is_at & is_counted & all_cuttings_agree(alloc, &case, self.cuttings)
             }
             Err(_) => false,
         }
@@ -447,7 +436,7 @@ fn fronts_wait(alloc: Global, case: &Case) -> bool {
 }
 
 // Whether a stream agrees in these pieces, some of it in `src` and some in a run of its own.
-fn cutting_agrees(alloc: Global, draws: &mut Draws, case: &Case, at: usize) -> bool {
+fn drawn_agrees(alloc: Global, draws: &mut Draws, case: &Case, at: usize) -> bool {
     let rest = between(case.stream, at, case.stream.len());
     match pieces_of(alloc, draws, rest) {
         Ok(pieces) => {
@@ -478,7 +467,7 @@ fn drawn_stops_agree(alloc: Global, draws: &mut Draws, case: &Case) -> bool {
 // What a stream is told at its end, if it agrees, cut at drawn places.
 fn end_of(alloc: Global, draws: &mut Draws, case: &Case) -> Option<Told> {
     let at = draws.one_of(&[0, 0, 3, 7]);
-    let mut all = cutting_agrees(alloc, draws, case, at);
+    let mut all = drawn_agrees(alloc, draws, case, at);
     all &= drawn_stops_agree(alloc, draws, case);
     all &= fronts_wait(alloc, case);
     all.then_some(case.reading.told)

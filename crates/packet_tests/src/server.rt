@@ -16,13 +16,13 @@ use errors::are_errors;
 use handshakes::are_greetings;
 use refusing::Refusing;
 use responses::are_responses;
-use rows::{are_no_rows, are_rows};
+use rows::are_rows;
 use std::alloc::Global;
 use std::test::Fail;
 use test_support::facts::all_hold;
 use test_support::fixture::Heap;
 
-fn are_packets(heap: &Heap, alloc: Global) -> [bool; 10] {
+fn are_packets(heap: &Heap, alloc: Global) -> [bool; 9] {
     [
         are_greetings(heap, alloc),
         are_responses(heap, alloc),
@@ -33,7 +33,6 @@ fn are_packets(heap: &Heap, alloc: Global) -> [bool; 10] {
         are_prepared(heap, alloc),
         are_columns(heap, alloc),
         are_rows(heap, alloc),
-        are_no_rows(alloc),
     ]
 }
 

@@ -1,12 +1,11 @@
 // Answers of a server that are one packet. Another header is refused, having been eaten.
 
-use crate::server::payload::{OTHER, is_payload};
+use crate::server::payload::{OTHER, Refused, is_payload};
 use mysql_wire::misc::raw::{RawBytes, RawFlags};
 use mysql_wire_packets::com_stmt_prepare_ok::ComStmtPrepareOk;
 use mysql_wire_packets::eof_packet::EofPacket;
 use mysql_wire_packets::ok_packet::OkPacket;
 use std::alloc::Global;
-use test_support::fields::stops;
 use test_support::fixture::Heap;
 
 // https://dev.mysql.com/doc/dev/mysql-server/latest/page_protocol_basic_eof_packet.html: the
@@ -17,14 +16,15 @@ const EOFS: &[(&[u8], u16, u16)] = &[
 ];
 
 pub fn are_eofs(heap: &Heap, alloc: Global) -> bool {
-    let mut all = stops::<EofPacket, (), Global>(alloc, (), b"\0\0\0\x02\0", OTHER, 4);
+    let no_eof: &[Refused<'_, ()>] = &[((), b"\0\0\0\x02\0", OTHER, 4)];
+    let mut all = true;
     for row in EOFS {
         let (payload, warnings, status) = *row;
         let eof = EofPacket {
             warnings,
             status_flags: RawFlags::new(status),
         };
-        all &= is_payload(heap, alloc, (), eof, payload, 5);
+        all &= is_payload(heap, alloc, (), eof, (payload, 5), no_eof);
     }
     all
 }
@@ -53,11 +53,11 @@ const PREPARED: &[(&[u8], ComStmtPrepareOk)] = &[
 ];
 
 pub fn are_prepared(heap: &Heap, alloc: Global) -> bool {
-    let error = b"\xff\x48\x04#HY000";
-    let mut all = stops::<ComStmtPrepareOk, (), Global>(alloc, (), error, OTHER, 8);
+    let error: &[Refused<'_, ()>] = &[((), b"\xff\x48\x04#HY000", OTHER, 8)];
+    let mut all = true;
     for row in PREPARED {
         let (payload, ok) = *row;
-        all &= is_payload(heap, alloc, (), ok, payload, 12);
+        all &= is_payload(heap, alloc, (), ok, (payload, 12), error);
     }
     all
 }
@@ -83,8 +83,8 @@ const OKS: &[(&[u8], [u64; 2], [u16; 2], &[u8], usize)] = &[
 ];
 
 pub fn are_oks(heap: &Heap, alloc: Global) -> bool {
-    let eof = b"\xfe\0\0\x02\0\0\0";
-    let mut all = stops::<OkPacket<'_>, (), Global>(alloc, (), eof, OTHER, 6);
+    let eof: &[Refused<'_, ()>] = &[((), b"\xfe\0\0\x02\0\0\0", OTHER, 6)];
+    let mut all = true;
     for row in OKS {
         let (payload, [affected_rows, last_insert_id], [status, warnings], info, least) = *row;
         let ok = OkPacket {
@@ -94,7 +94,7 @@ pub fn are_oks(heap: &Heap, alloc: Global) -> bool {
             warnings,
             info: RawBytes::from(info),
         };
-        all &= is_payload(heap, alloc, (), ok, payload, least);
+        all &= is_payload(heap, alloc, (), ok, (payload, least), eof);
     }
     all
 }

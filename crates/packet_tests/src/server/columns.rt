@@ -50,7 +50,7 @@ pub fn are_columns(heap: &Heap, alloc: Global) -> bool {
             flags: RawFlags::new(flags),
             decimals,
         };
-        all &= is_payload(heap, alloc, (), column, payload, payload.len());
+        all &= is_payload(heap, alloc, (), column, (payload, payload.len()), &[]);
     }
     all
 }

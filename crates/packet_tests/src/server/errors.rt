@@ -1,11 +1,10 @@
 // Errors of a server.
 
-use crate::server::payload::{OTHER, is_payload};
+use crate::server::payload::{OTHER, Refused, is_payload};
 use mysql_wire::constants::CapabilityFlags;
 use mysql_wire::misc::raw::RawBytes;
 use mysql_wire_packets::err_packet::ErrPacket;
 use std::alloc::Global;
-use test_support::fields::stops;
 use test_support::fixture::Heap;
 
 const FOUR_ONE: CapabilityFlags = CapabilityFlags::CLIENT_PROTOCOL_41;
@@ -48,8 +47,8 @@ const ERRORS: &[Row] = &[
 // Under `CLIENT_PROTOCOL_41` an error without a state is refused, with the byte in whose place its
 // mark should stand.
 pub fn are_errors(heap: &Heap, alloc: Global) -> bool {
-    let bare = b"\xff\x10\x04Too many";
-    let mut all = stops::<ErrPacket<'_>, CapabilityFlags, Global>(alloc, FOUR_ONE, bare, OTHER, 7);
+    let bare: &[Refused<'_, CapabilityFlags>] = &[(FOUR_ONE, b"\xff\x10\x04Too many", OTHER, 7)];
+    let mut all = true;
     for row in ERRORS {
         let (payload, capabilities, error_code, sql_state, message, least) = *row;
         let err = ErrPacket {
@@ -57,7 +56,7 @@ pub fn are_errors(heap: &Heap, alloc: Global) -> bool {
             sql_state,
             error_message: RawBytes::from(message),
         };
-        all &= is_payload(heap, alloc, capabilities, err, payload, least);
+        all &= is_payload(heap, alloc, capabilities, err, (payload, least), bare);
     }
     all
 }

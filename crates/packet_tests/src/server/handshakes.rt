@@ -1,11 +1,10 @@
 // What a server says first.
 
-use crate::server::payload::{OTHER, is_payload, text_if};
+use crate::server::payload::{OTHER, Refused, is_payload, text_if};
 use mysql_wire::constants::Flags;
 use mysql_wire::misc::raw::{RawBytes, RawFlags};
 use mysql_wire_packets::handshake::HandshakeV10;
 use std::alloc::Global;
-use test_support::fields::stops;
 use test_support::fixture::Heap;
 
 // The version, the thread's id, the data's first part, the capabilities, the collation, the
@@ -70,7 +69,8 @@ const GREETINGS: &[Row] = &[
 
 // Another version is refused, having been eaten.
 pub fn are_greetings(heap: &Heap, alloc: Global) -> bool {
-    let mut all = stops::<HandshakeV10<'_>, (), Global>(alloc, (), b"\x095.5.2\0", OTHER, 6);
+    let other: &[Refused<'_, ()>] = &[((), b"\x095.5.2\0", OTHER, 6)];
+    let mut all = true;
     for row in GREETINGS {
         let (payload, version, thread_id, part_1, flags, set, status, len, part_2, name) = *row;
         let greeting = HandshakeV10 {
@@ -86,7 +86,7 @@ pub fn are_greetings(heap: &Heap, alloc: Global) -> bool {
             auth_plugin_name: text_if(name),
         };
         all &= greeting.capabilities().bits() == flags;
-        all &= is_payload(heap, alloc, (), greeting, payload, payload.len());
+        all &= is_payload(heap, alloc, (), greeting, (payload, payload.len()), other);
     }
     all
 }

@@ -7,7 +7,7 @@ use mysql_wire::misc::raw::bytes::BytesRepr;
 use mysql_wire::proto::{MyDeserialize, MySerialize};
 use std::alloc::Global;
 use test_support::answers::{Fault, told};
-use test_support::fields::{gives, is_written};
+use test_support::fields::{gives, is_written, stops};
 use test_support::fixture::Heap;
 use test_support::reference::between;
 
@@ -22,17 +22,20 @@ pub fn text_if<'a, T: BytesRepr>(text: Option<&'a [u8]>) -> Option<RawBytes<'a, 
     }
 }
 
+/// A context, an input that begins with no packet, why it doesn't, and how many bytes are left.
+pub type Refused<'de, C> = (C, &'de [u8], Fault, usize);
+
 /// Whether a packet is written as a payload, whichever request for memory is refused, and read from
-/// it; and whether the payload cut short at any length is refused. A packet whose last field takes
-/// all the rest is read from the first `least` bytes and more: then what is read is written as just
-/// those bytes.
+/// it; and whether the payload cut short at any length is refused, and so is each of the others. A
+/// packet whose last field takes all the rest is read from the first `least` bytes and more: then
+/// what is read is written as just those bytes.
 pub fn is_payload<'de, T, C>(
     heap: &Heap,
     alloc: Global,
     ctx: C,
     packet: T,
-    payload: &'de [u8],
-    least: usize,
+    (payload, least): (&'de [u8], usize),
+    refused: &[Refused<'de, C>],
 ) -> bool
 where
     C: Copy,
@@ -40,6 +43,9 @@ where
 {
     let mut all = is_written(heap, &packet, payload);
     all &= gives::<T, C, Global>(alloc, ctx, payload, &packet, 0);
+    for (ctx, input, fault, left) in refused {
+        all &= stops::<T, C, Global>(alloc, *ctx, *input, *fault, *left);
+    }
     for len in 0..payload.len() {
         let cut = between(payload, 0, len);
         let mut buf = ParseBuf(cut);

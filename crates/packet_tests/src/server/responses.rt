@@ -108,7 +108,7 @@ pub fn are_responses(heap: &Heap, alloc: Global) -> bool {
             connect_attrs: text_if(attrs),
             zstd_compression_level: level,
         };
-        all &= is_payload(heap, alloc, (), response, payload, payload.len());
+        all &= is_payload(heap, alloc, (), response, (payload, payload.len()), &[]);
     }
     all
 }

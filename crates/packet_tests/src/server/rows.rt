@@ -1,13 +1,12 @@
 // Rows of a text resultset.
 
-use crate::server::payload::is_payload;
+use crate::server::payload::{Refused, is_payload};
 use TextValue::{Null, Text};
 use mysql_wire::misc::raw::seq::Seq;
 use mysql_wire_packets::text_row::{TextRow, TextValue};
 use std::alloc::Global;
 use std::borrow::CowSlice;
 use test_support::answers::Fault;
-use test_support::fields::stops;
 use test_support::fixture::Heap;
 
 // https://dev.mysql.com/doc/dev/mysql-server/latest/page_protocol_com_query_response_text_resultset.html:
@@ -23,11 +22,27 @@ const ROWS: &[(&[u8], &[TextValue<'static>])] = &[
     (b"", &[]),
 ];
 
+const NO_VALUE: Fault = Fault::NoInteger;
+
+// The byte `ff` begins no value. An error that comes in place of a row is told by it.
+const NO_ROWS: &[Refused<usize>] = &[
+    (1, b"\xff\x10\x04", NO_VALUE, 3),
+    (2, b"\xfb\xff", NO_VALUE, 1),
+    (2, b"\xfb\x02a", Fault::UnexpectedEof, 1),
+];
+
 fn is_row<'a>(heap: &Heap, alloc: Global, payload: &'a [u8], values: &'a [TextValue<'a>]) -> bool {
     let row = TextRow {
         values: Seq::new(CowSlice::Borrowed(values)),
     };
-    is_payload(heap, alloc, values.len(), row, payload, payload.len())
+    is_payload(
+        heap,
+        alloc,
+        values.len(),
+        row,
+        (payload, payload.len()),
+        NO_ROWS,
+    )
 }
 
 pub fn are_rows(heap: &Heap, alloc: Global) -> bool {
@@ -40,12 +55,3 @@ pub fn are_rows(heap: &Heap, alloc: Global) -> bool {
     long[..4].copy_from_slice(b"\xfb\xfc\xfb\0");
     all & is_row(heap, alloc, &long, &[Null, Text(&long[4..])])
 }
-
-// The byte `ff` begins no value. An error that comes in place of a row is told by it.
-pub fn are_no_rows(alloc: Global) -> bool {
-    let mut all = stops::<TextRow<'_>, usize, Global>(alloc, 1, b"\xff\x10\x04", NO_VALUE, 3);
-    all &= stops::<TextRow<'_>, usize, Global>(alloc, 2, b"\xfb\xff", NO_VALUE, 1);
-    all & stops::<TextRow<'_>, usize, Global>(alloc, 2, b"\xfb\x02a", Fault::UnexpectedEof, 1)
-}
-
-const NO_VALUE: Fault = Fault::NoInteger;
