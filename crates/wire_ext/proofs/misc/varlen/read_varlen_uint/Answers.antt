@@ -12,3 +12,6 @@ returns-in-None-clause-err c =
           c.size_behind.ensures.mark short.0,
       short.1,
     )
+
+pub returns-in-Some-checked_eat-clause-err : goal.returns-in-Some-checked_eat-clause-err
+returns-in-Some-checked_eat-clause-err c = search rules

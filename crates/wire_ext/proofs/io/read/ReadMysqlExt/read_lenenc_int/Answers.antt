@@ -44,3 +44,6 @@ returns-in-0-to-250-clause-ok g c =
     let first : ReadsNumber big_number 1 old new c.in_ok-byte.byte = search rules in
     let low : c.in_ok-byte.byte < 251 = grind arith in
     reads_byte old new c.in_ok-byte.byte first low
+
+pub returns-in-251-clause-ok : goal.returns-in-251-clause-ok
+returns-in-251-clause-ok g c = search rules
