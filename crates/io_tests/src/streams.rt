@@ -162,16 +162,21 @@ fn each_call_fails(alloc: Global, spelling: &[u8], kind: ErrorKind) -> bool {
 }
 
 #[test]
-fn numbers_and_texts_go_over_streams(rt: HostRuntime) {
+fn each_call_succeeds_on_a_good_stream(rt: HostRuntime) {
     let alloc = rt.alloc();
     let mut all = lenenc_ints_are_read();
+    all &= comes_back(alloc, b"") & comes_back(alloc, &[b'a'; 251]);
+    // Of a long text the room is asked for piece by piece.
+    assert!(rt; all & comes_back(alloc, &[b'a'; 100_000]));
+}
+
+#[test]
+fn a_bad_stream_is_refused(rt: HostRuntime) {
+    let alloc = rt.alloc();
+    let mut all = is_text_written(alloc, 0, usize::MAX, ErrorKind::Other);
     for bytes in MARKS {
         all &= is_mark(alloc, *bytes);
     }
-    // Of a long text the room is asked for piece by piece.
-    all &= comes_back(alloc, b"") & comes_back(alloc, &[b'a'; 251]);
-    all &= comes_back(alloc, &[b'a'; 100_000]);
-    all &= is_text_written(alloc, 0, usize::MAX, ErrorKind::Other);
     let mut bytes = [b'a'; 303];
     bytes[0] = 0xfc;
     bytes[1] = 0x2c;
