@@ -1,5 +1,5 @@
 //! Tests of `wire_repr` and `wire_field`: numbers, texts and constants as fields of packets, fields
-//! in a row, and lists.
+//! in a row, and lists; and of the packets that connections begin with.
 #![tactic(auto)]
 
 #[cfg(test)]
@@ -24,6 +24,8 @@ mod numbers;
 mod own;
 #[cfg(test)]
 mod rows;
+#[cfg(test)]
+mod server;
 #[cfg(test)]
 mod texts;
 #[cfg(test)]

@@ -1,5 +1,5 @@
-//! Tests of packets: framing, chunks, the codec, delivery, refused memory, every cutting, and the
-//! packets that connections begin with.
+//! Tests of packets: framing, chunks, the codec, delivery, and every cutting; and of every call
+//! under refused memory.
 #![tactic(auto)]
 
 #[cfg(test)]
@@ -15,4 +15,4 @@ mod framing;
 #[cfg(test)]
 mod memory;
 #[cfg(test)]
-mod server;
+mod requests;

@@ -1,5 +1,5 @@
 //! What a call leaves when its first, second, third request for memory is refused, and so on, and
-//! how it goes on. `memory_tests` has a row for each call.
+//! how it goes on. `requests` has a row for each call.
 
 use bytes::BytesMut;
 use mysql_wire::constants::MAX_PAYLOAD_LEN;

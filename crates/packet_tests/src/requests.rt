@@ -1,7 +1,15 @@
-//! The tables, run. All calls are made over the allocator that refuses by one function that is
-//! generic in its allocator: that it is one is proved once.
+//! Every public function that takes memory, with each of its requests refused in turn, and every
+//! one that has an allocator within reach and takes none. `scripts/memory_lists.sh` compares the
+//! names in the tables with the functions that there are.
+//!
+//! All calls are made over the allocator that refuses by one function that is generic in its
+//! allocator: that it is one is proved once.
 
-use crate::{codec, copies, silent, writers};
+mod codec;
+mod copies;
+mod silent;
+mod writers;
+
 use refusing::{NEVER, Refusing};
 use std::alloc::Allocator;
 use std::test::Fail;
