@@ -46,15 +46,25 @@ fn refusals<A: Allocator + Copy>(heap: &Heap, alloc: A, call: Call) -> Option<u6
     None
 }
 
-// The name of a function that takes memory and goes otherwise.
-fn first_wrong<A: Allocator + Copy>(heap: &Heap, alloc: A) -> Option<&'static str> {
+// The name of a call of packets that takes memory and goes otherwise.
+fn wrong_of_codec<A: Allocator + Copy>(heap: &Heap, alloc: A) -> Option<&'static str> {
     let mut wrong = None;
     for (name, call, wanted) in &codec::ROWS {
         if refusals(heap, alloc, Call::Codec(*call)) != Some(*wanted) {
             wrong = Some(*name);
         }
     }
-    for (name, call, wanted) in &copies::ROWS {
+    wrong
+}
+
+// The name of a copy in the table that takes memory and goes otherwise.
+fn wrong_copy<A: Allocator + Copy>(
+    heap: &Heap,
+    alloc: A,
+    rows: &[copies::Row],
+) -> Option<&'static str> {
+    let mut wrong = None;
+    for (name, call, wanted) in rows {
         if refusals(heap, alloc, Call::Copy(*call)) != Some(*wanted) {
             wrong = Some(*name);
         }
@@ -62,9 +72,17 @@ fn first_wrong<A: Allocator + Copy>(heap: &Heap, alloc: A) -> Option<&'static st
     wrong
 }
 
+// The name of a copy that takes memory and goes otherwise.
+fn wrong_of_copies<A: Allocator + Copy>(heap: &Heap, alloc: A) -> Option<&'static str> {
+    let read = wrong_copy(heap, alloc, copies::ROWS_READ);
+    let held = wrong_copy(heap, alloc, copies::ROWS_HELD);
+    let other = wrong_copy(heap, alloc, copies::ROWS_OTHER);
+    read.or(held).or(other)
+}
+
 // What goes otherwise of those that take memory, of those that write, or of those that take none.
 fn wrong_of_all<A: Allocator + Copy>(heap: &Heap, alloc: A) -> Option<&'static str> {
-    let taking = first_wrong(heap, alloc);
+    let taking = wrong_of_codec(heap, alloc).or(wrong_of_copies(heap, alloc));
     let writing = writers::first_wrong(heap, alloc);
     taking.or(writing).or(silent::first_wrong(heap, alloc))
 }

@@ -25,7 +25,8 @@ pub enum Taking {
 /// A function by its name, and how often it asks for memory where none is refused.
 pub type Row = (&'static str, Taking, u64);
 
-pub const ROWS: [Row; 28] = [
+/// Those that read a list.
+pub const ROWS_READ: &[Row] = &[
     (
         "MyDeserialize::deserialize",
         Taking::Read(Reading::Deserialize, 5, 1),
@@ -51,8 +52,10 @@ pub const ROWS: [Row; 28] = [
     ("packet_back", Taking::Read(Reading::PacketBack, 9, 1), 1),
     ("either", Taking::Read(Reading::Either, 5, 1), 1),
     ("both", Taking::Read(Reading::Both, 5, 0), 1),
-    ("SeqRepr::deserialize", Taking::Elements, 1),
-    ("Seq::push", Taking::Push, 2),
+];
+
+/// Those of a list, numbers or a text in hand.
+pub const ROWS_HELD: &[Row] = &[
     (
         "Seq::clone",
         Taking::Copy(Holding::List, Copying::CloneLent),
@@ -113,6 +116,12 @@ pub const ROWS: [Row; 28] = [
         Taking::Copy(Holding::Text, Copying::OwnOwned),
         0,
     ),
+];
+
+/// The others.
+pub const ROWS_OTHER: &[Row] = &[
+    ("SeqRepr::deserialize", Taking::Elements, 1),
+    ("Seq::push", Taking::Push, 2),
     ("Both::clone", Taking::CloneOwner(Owner::Both), 2),
     ("Either::clone", Taking::CloneOwner(Owner::Either), 1),
     ("Const::clone", Taking::CloneOwner(Owner::Const), 1),
