@@ -136,8 +136,8 @@ const READINGS: [(Reading, usize); 8] = [
 
 fn readings_work<A: Allocator + Copy>(alloc: A) -> bool {
     let mut all = reads_by_representation::<A>(TEXT);
-    for (reading, left) in READINGS {
-        all &= reads_text(alloc, reading, TEXT) == (true, left);
+    for (reading, left) in &READINGS {
+        all &= reads_text(alloc, *reading, TEXT) == (true, *left);
     }
     know_text::<A>();
     all
@@ -146,7 +146,9 @@ fn readings_work<A: Allocator + Copy>(alloc: A) -> bool {
 // ---- the codec
 
 // What is to be read, a limit, and what `decode` answers where it takes no payload byte.
-const TAKING_NOTHING: [(&[u8], usize, Told); 9] = [
+type Row<'a> = (&'a [u8], usize, Told);
+
+const TAKING_NOTHING: &[Row] = &[
     (b"", 9, Told::Waits),
     (b"\x01\0\0", 9, Told::Waits),
     (b"\x02\0\0\0\x61", 9, Told::Waits),
@@ -158,29 +160,30 @@ const TAKING_NOTHING: [(&[u8], usize, Told); 9] = [
     (b"\xff\xff\xff\0abc", 16777214, Told::TooLarge),
 ];
 
-// With these to be read, into this target, under a limit. The next request is refused.
+// With a row's bytes to be read, into this target, under its limit. The next request is refused.
 fn fixture<'h, A: Allocator + Copy, T: Target>(
     heap: &'h Heap,
     alloc: A,
     target: T,
-    bytes: &[u8],
-    limit: usize,
+    row: &Row<'_>,
 ) -> Fixture<'h, A, T> {
     heap.refuse(NEVER);
     let mut to = Fixture::new(alloc, Some(heap), target);
-    to.codec.max_allowed_packet = limit;
-    let _ = to.src.extend_from_slice(bytes);
+    to.codec.max_allowed_packet = row.1;
+    let _ = to.src.extend_from_slice(row.0);
     heap.refuse(0);
     to
 }
 
 // Two calls, of which the second meets a remembered header where the first waits. The codec stands
 // before and, its ids set right, behind.
-fn decodes_nothing<A, T>(to: &mut Fixture<'_, A, T>, told: Told) -> bool
+fn decodes_nothing<A, T>(heap: &Heap, alloc: A, target: T, row: &Row<'_>) -> bool
 where
     A: Allocator + Copy,
     T: Target,
 {
+    let told = row.2;
+    let mut to = fixture(heap, alloc, target, row);
     let mut all = to.stands() & to.is_aligned() & (to.decode() == told);
     if told == Told::Waits {
         all &= to.decode() == told;
@@ -190,28 +193,27 @@ where
     all &= to.stands() & to.is_aligned() & to.dst.as_ref().is_empty();
     to.codec.sync_seq_id();
     to.codec.reset_seq_id();
-    all
+    all & (to.requests() == (0, false))
 }
 
 // The same of a single chunk, whose id isn't looked at.
-fn takes_nothing<A, T>(to: &mut Fixture<'_, A, T>, limit: usize, told: Told) -> bool
+fn takes_nothing<A, T>(heap: &Heap, alloc: A, target: T, row: &Row<'_>) -> bool
 where
     A: Allocator + Copy,
     T: Target,
 {
-    let chunk = to.decode_chunk(limit);
-    ((chunk == told) | matches!(chunk, Told::Last(_))) & to.dst.as_ref().is_empty()
+    let mut to = fixture(heap, alloc, target, row);
+    let chunk = to.decode_chunk(row.1);
+    let all = ((chunk == row.2) | matches!(chunk, Told::Last(_))) & to.dst.as_ref().is_empty();
+    all & (to.requests() == (0, false))
 }
 
 fn codec_works<A: Allocator + Copy>(heap: &Heap, alloc: A) -> bool {
     let mut all = true;
-    for (bytes, limit, told) in TAKING_NOTHING {
-        let mut to = fixture(heap, alloc, Vec::new(alloc), bytes, limit);
-        all &= decodes_nothing(&mut to, told) & (to.requests() == (0, false));
-        let mut to = fixture(heap, alloc, BytesMut::new(alloc), bytes, limit);
-        all &= decodes_nothing(&mut to, told) & (to.requests() == (0, false));
-        let mut to = fixture(heap, alloc, Vec::new(alloc), bytes, limit);
-        all &= takes_nothing(&mut to, limit, told) & (to.requests() == (0, false));
+    for row in TAKING_NOTHING {
+        all &= decodes_nothing(heap, alloc, Vec::new(alloc), row);
+        all &= decodes_nothing(heap, alloc, BytesMut::new(alloc), row);
+        all &= takes_nothing(heap, alloc, Vec::new(alloc), row);
     }
     all
 }
