@@ -1,16 +1,18 @@
 #!/usr/bin/env bash
 # Runs the gate, and prints a table of its crates: functions, tests, must-fail edits, and the
 # processor seconds of the proof, of the tests' proof and of the edits. They are read once a second
-# off the checks that run, so that each may miss a second. Behind the table stand the sums and the
-# longest chain of jobs that wait for one another. The gate's own output goes to the file that is
-# named (gate.log at the top, if none is).
+# off the checks that run, so that each may miss a second. Behind the table stand the sums, and the
+# longest chain of jobs that wait for one another: by the clock, from the first check of a job to the
+# end of its last one, and in processor seconds. The gate's own output goes to the file that is named
+# (gate.log at the top, if none is).
 set -u
 cd "$(dirname "$0")/.." || exit 1
 log=${1:-gate.log}
 samples=$(mktemp)
 trap 'rm -f "$samples"' EXIT
 
-# A line for each check that runs: what it checks, its process, and its seconds so far.
+# A line for each check that runs: what it checks, its process, its seconds so far, and the second
+# of the run.
 sample() {
     ps -eo pid=,cputimes=,args= | grep '[/]rattle [a-z]* --crate-name ' | while read -r pid seconds args; do
         # (the C library's archive is built behind the gate)
@@ -22,7 +24,7 @@ sample() {
             *) continue ;;
         esac
         [ "$kind" = proof ] && case $args in *' --test'*) kind=tests ;; esac
-        echo "${crate%% *} $kind $pid $seconds"
+        echo "${crate%% *} $kind $pid $seconds $((SECONDS - begun))"
     done
 }
 
@@ -61,24 +63,43 @@ awk -v log_file="$log" '
 awk '{ if ($4 > most[$2 " " $3]) most[$2 " " $3] = $4 }
     END { for (key in most) { split(key, part, " "); sum[part[1]] += most[key] }
         printf "all: proof %d s, tests %d s, edits %d s of processor time\n", sum["proof"], sum["tests"], sum["edits"] }' "$samples"
-# The longest chain of jobs: a proof or a proof of tests waits for the proofs of the crates below, the
-# edits of a crate for both of its own.
-awk '
-    FNR == NR { if ($4 > most[$1 " " $2 " " $3]) most[$1 " " $2 " " $3] = $4; next }
-    FNR == 1 { for (key in most) { split(key, part, " "); sum[part[1] " " part[2]] += most[key] } }
-    /^[a-z_]+[ a-z]*:/ { sub(/ [a-z]*:/, ":"); crate = $1; sub(/:/, "", crate); order[++crates] = crate; $1 = ""; below[crate] = $0 }
-    function reach(end, seconds, name) { if (end + seconds > longest) { longest = end + seconds; last = name } return end + seconds }
-    END {
-        for (i = 1; i <= crates; i++) {
-            crate = order[i]; before = 0; way[crate] = ""
-            n = split(below[crate], names, " ")
-            for (j = 1; j <= n; j++) if (done[names[j]] > before) { before = done[names[j]]; way[crate] = way[names[j]] }
-            way[crate] = way[crate] " " crate
-            done[crate] = reach(before, sum[crate " proof"], way[crate])
-            tests = reach(before, sum[crate " tests"], way[crate] " (tests)")
-            reach(tests > done[crate] ? tests : done[crate], sum[crate " edits"], way[crate] " (edits)")
+# The longest chain of jobs, by the clock or by the processor: a proof or a proof of tests waits for
+# the proofs of the crates below, the edits of a crate for both of its own.
+longest_chain() {
+    awk -v by="$1" '
+        FNR == NR {
+            if ($4 > most[$1 " " $2 " " $3]) most[$1 " " $2 " " $3] = $4
+            job = $1 " " $2
+            if (!(job in first)) first[job] = $5
+            last[job] = $5
+            next
         }
-        printf "longest chain: %d s of processor time, through%s\n", longest, last
-    }' "$samples" crates.txt
+        FNR == 1 {
+            for (key in most) { split(key, part, " "); seconds[part[1] " " part[2]] += most[key] }
+            if (by == "clock") for (job in first) seconds[job] = last[job] - first[job] + 1
+        }
+        /^[a-z_]+[ a-z]*:/ { sub(/ [a-z]*:/, ":"); crate = $1; sub(/:/, "", crate); order[++crates] = crate; $1 = ""; below[crate] = $0 }
+        function reach(end, more, name) {
+            if (end + more > longest) { longest = end + more; way_to = name " " more }
+            return end + more
+        }
+        END {
+            for (i = 1; i <= crates; i++) {
+                crate = order[i]; before = 0; way = ""
+                n = split(below[crate], names, " ")
+                for (j = 1; j <= n; j++) if (done[names[j]] > before) { before = done[names[j]]; way = way_of[names[j]] }
+                way = way " " crate
+                proof = seconds[crate " proof"] + 0; tests = seconds[crate " tests"] + 0
+                done[crate] = reach(before, proof, way)
+                way_of[crate] = way " " proof ","
+                if (tests) reach(before, tests, way "'"'s"' tests")
+                if (tests > proof) reach(before + tests, seconds[crate " edits"] + 0, way "'"'s"' tests " tests ", its edits")
+                else reach(done[crate], seconds[crate " edits"] + 0, way_of[crate] " its edits")
+            }
+            printf "longest chain: %d s by the %s:%s\n", longest, by, way_to
+        }' "$samples" crates.txt
+}
+longest_chain clock
+longest_chain processor
 echo "$((SECONDS - begun)) s; $(tail -n 1 "$log")"
 exit $status
