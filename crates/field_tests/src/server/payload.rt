@@ -25,27 +25,20 @@ pub fn text_if<'a, T: BytesRepr>(text: Option<&'a [u8]>) -> Option<RawBytes<'a, 
 /// A context, an input that begins with no packet, why it doesn't, and how many bytes are left.
 pub type Refused<'de, C> = (C, &'de [u8], Fault, usize);
 
-/// Whether a packet is written as a payload, whichever request for memory is refused, and read from
-/// it; and whether the payload cut short at any length is refused, and so is each of the others. A
-/// packet whose last field takes all the rest is read from the first `least` bytes and more: then
-/// what is read is written as just those bytes.
-pub fn is_payload<'de, T, C>(
+// Whether the payload cut short at any length is refused; of a packet whose last field takes all the
+// rest, only where fewer than `least` bytes are left, and else what is read is written as just those
+// bytes.
+fn are_cut<'de, T, C>(
     heap: &Heap,
     alloc: Global,
     ctx: C,
-    packet: T,
     (payload, least): (&'de [u8], usize),
-    refused: &[Refused<'de, C>],
 ) -> bool
 where
     C: Copy,
-    T: Drop + PartialEq + MySerialize + MyDeserialize<'de, Global, Ctx = C>,
+    T: MySerialize + MyDeserialize<'de, Global, Ctx = C>,
 {
-    let mut all = is_written(heap, &packet, payload);
-    all &= gives::<T, C, Global>(alloc, ctx, payload, &packet, 0);
-    for (ctx, input, fault, left) in refused {
-        all &= stops::<T, C, Global>(alloc, *ctx, *input, *fault, *left);
-    }
+    let mut all = true;
     for len in 0..payload.len() {
         let cut = between(payload, 0, len);
         let mut buf = ParseBuf(cut);
@@ -55,4 +48,28 @@ where
         };
     }
     all
+}
+
+/// Whether a packet is written as a payload, whichever request for memory is refused, and read from
+/// it; and whether the payload cut short at any length is refused, and so is each of the others. A
+/// packet whose last field takes all the rest is read from the first `least` bytes and more: then
+/// what is read is written as just those bytes.
+pub fn is_payload<'de, T, C>(
+    heap: &Heap,
+    alloc: Global,
+    ctx: C,
+    packet: T,
+    payload: (&'de [u8], usize),
+    refused: &[Refused<'de, C>],
+) -> bool
+where
+    C: Copy,
+    T: Drop + PartialEq + MySerialize + MyDeserialize<'de, Global, Ctx = C>,
+{
+    let mut all = is_written(heap, &packet, payload.0);
+    all &= gives::<T, C, Global>(alloc, ctx, payload.0, &packet, 0);
+    for (ctx, input, fault, left) in refused {
+        all &= stops::<T, C, Global>(alloc, *ctx, *input, *fault, *left);
+    }
+    all & are_cut::<T, C>(heap, alloc, ctx, payload)
 }
