@@ -3,7 +3,7 @@
 use mysql_wire::constants::MAX_PAYLOAD_LEN;
 use std::alloc::Global;
 use std::test::Fail;
-use test_support::facts::no_row;
+use test_support::facts::{no_row, wrong_row};
 use test_support::fixture::Remembered;
 use test_support::script::{Step, first_fault};
 use test_support::told::Told;
@@ -210,7 +210,7 @@ const COUNTS: &[Row] = &[
 ];
 
 // The number of the first row that goes otherwise, where they are counted from this one.
-fn wrong_row(alloc: Global, first: usize, rows: &[Row]) -> Option<usize> {
+fn first_wrong(alloc: Global, first: usize, rows: &[Row]) -> Option<usize> {
     for i in 0..rows.len() {
         if first_fault(alloc, &rows[i].steps()).is_some() {
             return Some(first.wrapping_add(i));
@@ -223,12 +223,12 @@ fn wrong_row(alloc: Global, first: usize, rows: &[Row]) -> Option<usize> {
 #[test]
 fn a_chunk_goes_by_the_state_of_its_decoder(rt: HostRuntime) -> Result<(), Fail> {
     let alloc = rt.alloc();
-    let wrong = wrong_row(alloc, 0, WITHOUT_A_HEADER)
-        .or(wrong_row(alloc, 100, EMPTY))
-        .or(wrong_row(alloc, 200, TOO_LARGE))
-        .or(wrong_row(alloc, 300, REMEMBERED))
-        .or(wrong_row(alloc, 400, WHOLE))
-        .or(wrong_row(alloc, 500, COUNTS));
+    let wrong = first_wrong(alloc, 0, WITHOUT_A_HEADER)
+        .or(first_wrong(alloc, 100, EMPTY))
+        .or(first_wrong(alloc, 200, TOO_LARGE))
+        .or(first_wrong(alloc, 300, REMEMBERED))
+        .or(first_wrong(alloc, 400, WHOLE))
+        .or(first_wrong(alloc, 500, COUNTS));
     no_row(wrong)
 }
 
@@ -266,6 +266,10 @@ impl Long {
             Step::HeldMany(held),
         ]
     }
+}
+
+fn goes_on(alloc: Global, row: Long) -> bool {
+    first_fault(alloc, &row.steps()).is_none()
 }
 
 macro_rules! long_row {
@@ -313,11 +317,5 @@ const LONG: &[Long] = &[
 
 #[test]
 fn a_packet_goes_on_where_whole_chunks_are_held(rt: HostRuntime) -> Result<(), Fail> {
-    let mut wrong = None;
-    for i in 0..LONG.len() {
-        if first_fault(rt.alloc(), &LONG[i].steps()).is_some() {
-            wrong = Some(i);
-        }
-    }
-    no_row(wrong)
+    no_row(wrong_row(rt.alloc(), LONG, goes_on))
 }

@@ -3,7 +3,7 @@
 use mysql_wire::constants::MAX_PAYLOAD_LEN;
 use std::alloc::Global;
 use std::test::Fail;
-use test_support::facts::no_row;
+use test_support::facts::{no_row, wrong_row};
 use test_support::reference::framed_len;
 use test_support::script::{Script, Step, first_fault, play};
 use test_support::told::Told;
@@ -503,7 +503,8 @@ fn refused(len: usize, held: usize, left: usize) -> [Step; 9] {
     ]
 }
 
-fn goes_at_limits(alloc: Global, len: usize, held: usize) -> bool {
+fn goes_at_limits(alloc: Global, row: (usize, usize)) -> bool {
+    let (len, held) = row;
     let eaten = held.saturating_add((held / MAX_PAYLOAD_LEN).saturating_mul(4));
     let left = framed_len(len).saturating_sub(eaten);
     let at = first_fault(alloc, &passing(len, len));
@@ -528,12 +529,5 @@ const AT_LIMITS: &[(usize, usize)] = &[
 
 #[test]
 fn packets_pass_at_a_limit_of_their_length(rt: HostRuntime) -> Result<(), Fail> {
-    let mut wrong = None;
-    for i in 0..AT_LIMITS.len() {
-        let (len, held) = AT_LIMITS[i];
-        if !goes_at_limits(rt.alloc(), len, held) {
-            wrong = Some(i);
-        }
-    }
-    no_row(wrong)
+    no_row(wrong_row(rt.alloc(), AT_LIMITS, goes_at_limits))
 }

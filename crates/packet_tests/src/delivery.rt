@@ -2,7 +2,7 @@
 
 use std::alloc::Global;
 use std::test::Fail;
-use test_support::facts::no_row;
+use test_support::facts::{no_row, wrong_row};
 use test_support::receiver::Receiver;
 use test_support::told::Told;
 
@@ -21,15 +21,13 @@ struct Row<'a> {
     held: &'a [u8],
 }
 
-impl Row<'_> {
-    fn goes(&self, alloc: Global) -> bool {
-        let mut receiver = Receiver::<Global>::new(alloc, self.limit);
-        let comes = receiver.src.extend_from_slice(self.src).is_ok();
-        let run = receiver.deliver_in_two(self.pieces, self.first);
-        let mut all = comes & (run == (self.count, self.told));
-        all &= receiver.shows(self.packets, self.left, self.held);
-        all & (receiver.codec.max_allowed_packet == self.limit)
-    }
+fn goes(alloc: Global, row: Row<'_>) -> bool {
+    let mut receiver = Receiver::<Global>::new(alloc, row.limit);
+    let comes = receiver.src.extend_from_slice(row.src).is_ok();
+    let run = receiver.deliver_in_two(row.pieces, row.first);
+    let mut all = comes & (run == (row.count, row.told));
+    all &= receiver.shows(row.packets, row.left, row.held);
+    all & (receiver.codec.max_allowed_packet == row.limit)
 }
 
 const MANY: usize = 4194304;
@@ -158,11 +156,5 @@ const ROWS: &[Row] = &[
 
 #[test]
 fn pieces_become_packets(rt: HostRuntime) -> Result<(), Fail> {
-    let mut wrong = None;
-    for i in 0..ROWS.len() {
-        if !ROWS[i].goes(rt.alloc()) {
-            wrong = Some(i);
-        }
-    }
-    no_row(wrong)
+    no_row(wrong_row(rt.alloc(), ROWS, goes))
 }

@@ -6,7 +6,7 @@ use mysql_wire::constants::MAX_PAYLOAD_LEN;
 use std::alloc::Global;
 use std::test::Fail;
 use test_support::case::{Case, Wanted};
-use test_support::facts::{all_hold, no_row};
+use test_support::facts::{all_hold, no_row, wrong_row};
 use test_support::fixture::FILL;
 use test_support::generated::{Draws, Stream, pieces_of};
 use test_support::reference::{between, chunk_count, low_byte, put_framing, reading_of};
@@ -57,19 +57,17 @@ struct Row<'a> {
     shown_at: usize,
 }
 
-impl Row<'_> {
-    fn is_shown(&self, alloc: Global) -> bool {
-        match Case::new(alloc, 0, self.limit, self.stream) {
-            Ok(case) => {
-                let is_read = self.wanted.is_read(&case.reading);
-                let is_at = case.reading.shown_at == self.shown_at;
-                // A stream of n bytes is cut or not at n - 1 places.
-                let places = (low_byte(self.stream.len()) as u32).wrapping_sub(1);
-                let is_counted = 2u32.wrapping_pow(places) == self.cuttings;
-                is_read & is_at & is_counted & all_cuttings_agree(alloc, &case, self.cuttings)
-            }
-            Err(_) => false,
+fn is_shown(alloc: Global, row: Row<'_>) -> bool {
+    match Case::new(alloc, 0, row.limit, row.stream) {
+        Ok(case) => {
+            let is_read = row.wanted.is_read(&case.reading);
+            let is_at = case.reading.shown_at == row.shown_at;
+            // A stream of n bytes is cut or not at n - 1 places.
+            let places = (low_byte(row.stream.len()) as u32).wrapping_sub(1);
+            let is_counted = 2u32.wrapping_pow(places) == row.cuttings;
+            is_read & is_at & is_counted & all_cuttings_agree(alloc, &case, row.cuttings)
         }
+        Err(_) => false,
     }
 }
 
@@ -140,13 +138,7 @@ const ROWS: &[Row] = &[
 
 #[test]
 fn all_cuttings_of_a_stream_agree(rt: HostRuntime) -> Result<(), Fail> {
-    let mut wrong = None;
-    for i in 0..ROWS.len() {
-        if !ROWS[i].is_shown(rt.alloc()) {
-            wrong = Some(i);
-        }
-    }
-    no_row(wrong)
+    no_row(wrong_row(rt.alloc(), ROWS, is_shown))
 }
 
 // Whether a stream in three pieces agrees: in one run, with the first piece in `src`, and in two
@@ -200,7 +192,7 @@ const SHORT_STREAMS: &[(u8, usize, &[u8])] = &[
     (0, 9, b"\x09\0\0\0abcdefghi\x01\0"),
 ];
 
-fn short_agrees(alloc: Global, row: &(u8, usize, &[u8])) -> bool {
+fn short_agrees(alloc: Global, row: (u8, usize, &[u8])) -> bool {
     match Case::new(alloc, row.0, row.1, row.2) {
         Ok(case) => all_three_pieces_agree(alloc, &case),
         Err(_) => false,
@@ -209,13 +201,7 @@ fn short_agrees(alloc: Global, row: &(u8, usize, &[u8])) -> bool {
 
 #[test]
 fn streams_cut_at_any_two_places_agree(rt: HostRuntime) -> Result<(), Fail> {
-    let mut wrong = None;
-    for i in 0..SHORT_STREAMS.len() {
-        if !short_agrees(rt.alloc(), &SHORT_STREAMS[i]) {
-            wrong = Some(i);
-        }
-    }
-    no_row(wrong)
+    no_row(wrong_row(rt.alloc(), SHORT_STREAMS, short_agrees))
 }
 
 // A stream with full chunks: the lengths of its packets, a byte that is another one, and what comes
@@ -265,14 +251,14 @@ impl Long<'_> {
         let is_held = case.reading.held.len() == self.held;
         is_told & is_held & (case.reading.packets.len() == self.packets)
     }
+}
 
-    // Whether it is read as it says, and agrees with its reading when it is cut near the headers.
-    fn agrees(&self, alloc: Global) -> bool {
-        let stream = self.stream(alloc);
-        match Case::new(alloc, self.first_id, self.limit, stream.as_slice()) {
-            Ok(case) => self.is_read(&case) & all_agree_at(alloc, &case),
-            Err(_) => false,
-        }
+// Whether a stream is read as it says, and agrees with its reading when it is cut near the headers.
+fn agrees(alloc: Global, row: Long<'_>) -> bool {
+    let stream = row.stream(alloc);
+    match Case::new(alloc, row.first_id, row.limit, stream.as_slice()) {
+        Ok(case) => row.is_read(&case) & all_agree_at(alloc, &case),
+        Err(_) => false,
     }
 }
 
@@ -413,13 +399,7 @@ const LONG: &[Long] = &[
 
 #[test]
 fn long_packets_cut_near_their_headers_agree(rt: HostRuntime) -> Result<(), Fail> {
-    let mut wrong = None;
-    for i in 0..LONG.len() {
-        if !LONG[i].agrees(rt.alloc()) {
-            wrong = Some(i);
-        }
-    }
-    no_row(wrong)
+    no_row(wrong_row(rt.alloc(), LONG, agrees))
 }
 
 // Whether each front of the stream waits, if it doesn't show the fault.

@@ -6,7 +6,7 @@ use mysql_wire::proto::codec::packet_to_chunks;
 use std::alloc::Global;
 use std::num::NonZeroUsize;
 use std::test::Fail;
-use test_support::facts::{all_hold, no_row};
+use test_support::facts::{all_hold, no_row, wrong_row};
 use test_support::reference::{chunk_count, framed_len, low_byte, put_framing};
 use test_support::targets::Trickle;
 
@@ -64,7 +64,9 @@ impl Framed<'_> {
 }
 
 // Small payloads, and what they become.
-const SMALL: &[(&[u8], Framed)] = &[
+type Small = (&'static [u8], Framed<'static>);
+
+const SMALL: &[Small] = &[
     (b"", framed!(0, b"\0\0\0\0", 1)),
     (b"123", framed!(0, b"\x03\0\0\x00123", 1)),
     (b"ab", framed!(7, b"\x02\0\0\x07ab", 8)),
@@ -73,16 +75,14 @@ const SMALL: &[(&[u8], Framed)] = &[
     (b"\xff\0", framed!(255, b"\x02\0\0\xff\xff\0", 0)),
 ];
 
+fn is_framed(alloc: Global, row: Small) -> bool {
+    let (payload, framed) = row;
+    framed.is_cut(alloc, payload, None)
+}
+
 #[test]
 fn a_payload_stands_behind_its_header(rt: HostRuntime) -> Result<(), Fail> {
-    let mut wrong = None;
-    for i in 0..SMALL.len() {
-        let (payload, framed) = SMALL[i];
-        if !framed.is_cut(rt.alloc(), payload, None) {
-            wrong = Some(i);
-        }
-    }
-    no_row(wrong)
+    no_row(wrong_row(rt.alloc(), SMALL, is_framed))
 }
 
 // Bytes of which each neighbourhood is another one.
@@ -114,8 +114,10 @@ fn frames_from(alloc: Global, first_id: u8, payload: &[u8], at: Option<usize>) -
     (bytes.len() == framed_len(payload.len())) & framed.is_cut(alloc, payload, at)
 }
 
-// The same of a payload of so many bytes from each of these ids.
-fn frames_len(alloc: Global, len: usize, ids: &[u8], at: Option<usize>) -> bool {
+// The same of a payload of so many bytes from each of some ids.
+fn frames_len(alloc: Global, row: (usize, Option<usize>)) -> bool {
+    let (len, at) = row;
+    let ids = if at.is_some() { CUT_FROM } else { WHOLE_FROM };
     let payload = pattern(alloc, len);
     let mut all = payload.len() == len;
     for first_id in ids {
@@ -148,15 +150,7 @@ const LENGTHS: &[(usize, Option<usize>)] = &[
 
 #[test]
 fn each_length_has_its_chunks(rt: HostRuntime) -> Result<(), Fail> {
-    let mut wrong = None;
-    for i in 0..LENGTHS.len() {
-        let (len, at) = LENGTHS[i];
-        let ids = if at.is_some() { CUT_FROM } else { WHOLE_FROM };
-        if !frames_len(rt.alloc(), len, ids, at) {
-            wrong = Some(i);
-        }
-    }
-    no_row(wrong)
+    no_row(wrong_row(rt.alloc(), LENGTHS, frames_len))
 }
 
 const LETTERS: Framed<'static> = framed!(3, b"\x07\0\0\x03abcdefg", 4);

@@ -9,7 +9,7 @@ use refusing::{NEVER, Refusing};
 use std::alloc::{Allocator, Global};
 use std::test::Fail;
 use test_support::case::{Case, Wanted};
-use test_support::facts::{ensure, no_row};
+use test_support::facts::{ensure, no_row, wrong_row};
 use test_support::fixture::{Fixture, Heap};
 use test_support::receiver::{Receiver, pieces_from};
 use test_support::script::{Script, Step};
@@ -84,13 +84,7 @@ const HUGE: &[usize] = &[
 
 #[test]
 fn a_payload_that_no_machine_can_frame_is_refused(rt: HostRuntime) -> Result<(), Fail> {
-    let mut wrong = None;
-    for i in 0..HUGE.len() {
-        if !huge_refused(rt.alloc(), HUGE[i]) {
-            wrong = Some(i);
-        }
-    }
-    no_row(wrong)
+    no_row(wrong_row(rt.alloc(), HUGE, huge_refused))
 }
 
 const REFUSED: &[Script] = &[

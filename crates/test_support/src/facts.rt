@@ -23,6 +23,23 @@ pub fn no_row(wrong: Option<usize>) -> Result<(), Fail> {
     }
 }
 
+/// The number of the last row that goes otherwise, counted from 0, where each goes in this context.
+pub fn wrong_row<C, T, F>(context: C, rows: &[T], goes: F) -> Option<usize>
+where
+    C: Copy,
+    T: Copy,
+    F: Copy + FnOnce(C, T) -> bool,
+    requires { F.IsAlwaysCallable goes }
+{
+    let mut wrong = None;
+    for i in 0..rows.len() {
+        if !goes(context, rows[i]) {
+            wrong = Some(i);
+        }
+    }
+    wrong
+}
+
 /// Fails the test with the number of the first fact that doesn't hold, counted from 0, if there is
 /// one.
 pub fn all_hold(facts: &[bool]) -> Result<(), Fail> {
