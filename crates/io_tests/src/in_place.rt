@@ -3,6 +3,7 @@
 ghost use Rattle.std.specs.Prelude.{◌≡◌, List, [], ◌∷◌, ◌++◌, IsFalse, OnOk};
 ghost use Rattle.mysql_wire.specs.Runs.{payloads};
 
+use crate::compared::same;
 use mysql_wire::proto::codec::Visit;
 use refusing::{NEVER, Refusing};
 use std::alloc::{AllocError, Allocator, Global};
@@ -61,8 +62,18 @@ impl Visit for Kept {
 
 // Whether the second receiver stands as the first.
 fn left_alike<A: Allocator>(decoded: &Receiver<Global>, other: &Receiver<A>) -> bool {
-    (decoded.src.as_slice() == other.src.as_slice())
-        & (decoded.dst.as_slice() == other.dst.as_slice())
+    same(decoded.src.as_slice(), other.src.as_slice())
+        & same(decoded.dst.as_slice(), other.dst.as_slice())
+}
+
+// Visits all packets of the pieces, and goes on once where memory was refused.
+fn visit_all<A: Allocator + Copy>(to: &mut Receiver<A>, pieces: &[&[u8]], kept: &mut Kept) -> Run {
+    let (count, told) = to.visit(pieces, kept);
+    if (told != Told::OutOfMemory) | !to.stands() {
+        return (count, told);
+    }
+    let (more, again) = to.visit(pieces_from(pieces, count), kept);
+    (count.wrapping_add(more), again)
 }
 
 // Whether these pieces are visited as they are handed out, with the same answer and rest.
@@ -78,41 +89,57 @@ fn is_visited<A: Allocator + Copy>(
         packets: Vec::new(decoded.alloc),
         refused: false,
     };
-    let mut told = (0, Told::OutOfMemory);
-    for _ in 0..2 {
-        if (told.1 == Told::OutOfMemory) & to.stands() {
-            let (more, again) = to.visit(pieces_from(pieces, told.0), &mut kept);
-            told = (told.0.wrapping_add(more), again);
-        }
-    }
-    let same = (told == wanted) & !kept.refused & left_alike(decoded, &to);
-    same & are_same(decoded.out.as_slice(), kept.packets.as_slice())
+    let run = visit_all(&mut to, pieces, &mut kept);
+    let all = (run == wanted) & !kept.refused & left_alike(decoded, &to);
+    all & are_same(decoded.out.as_slice(), kept.packets.as_slice())
 }
 
 fn are_same(some: &[Vec<u8>], others: &[Vec<u8>]) -> bool {
-    let mut same = some.len() == others.len();
-    for (i, packet) in some.iter().enumerate() {
-        same &= others.get(i) == Some(packet);
+    if some.len() != others.len() {
+        return false;
     }
-    same
+    let mut all = true;
+    for i in 0..some.len() {
+        all &= same(some[i].as_slice(), others[i].as_slice());
+    }
+    all
+}
+
+// Whether they are the same where each that can be lent is.
+fn is_taken(limit: usize, pieces: &[&[u8]], decoded: &mut Receiver<Global>, wanted: Told) -> bool {
+    let mut lent = Receiver::new(decoded.alloc, limit);
+    let mut all = take_all(&mut lent, pieces) == wanted;
+    all &= are_same(decoded.out.as_slice(), lent.out.as_slice()) & left_alike(decoded, &lent);
+    all & (decoded.next_id() == lent.next_id())
 }
 
 /// Whether all ways hand out the same packets of these pieces, say the same, and leave the same.
 pub fn agree(alloc: Global, limit: usize, pieces: &[&[u8]]) -> bool {
     let mut decoded = Receiver::new(alloc, limit);
     let run = decoded.deliver(pieces);
-    let mut same = true;
+    let mut all = true;
     for nth in [0, 1, 2, NEVER] {
-        same &= is_visited(&Refusing::new(alloc, nth), limit, pieces, &decoded, run);
+        all &= is_visited(&Refusing::new(alloc, nth), limit, pieces, &decoded, run);
     }
-    let mut lent = Receiver::new(alloc, limit);
-    same &= take_all(&mut lent, pieces) == run.1;
-    same &= are_same(decoded.out.as_slice(), lent.out.as_slice()) & left_alike(&decoded, &lent);
-    same & (decoded.next_id() == lent.next_id())
+    all & is_taken(limit, pieces, &mut decoded, run.1)
 }
 
-// Whether a packet is lent of these bytes under this limit, and which.
-fn is_lent(alloc: Global, bytes: &[u8], limit: usize, wanted: Option<&[u8]>) -> bool {
+// Bytes, a limit, and the packet that is lent, if one is.
+type Front = (&'static [u8], usize, Option<&'static [u8]>);
+
+const FRONTS: &[Front] = &[
+    (b"\x02\0\0\0ab\xff", 2, Some(b"ab")),
+    (b"\0\0\0\0", 0, Some(b"")),
+    (b"\x02\0\0\0ab", 1, None),
+    (b"\x02\0\0\x01ab", 2, None),
+    (b"\x02\0\0\0a", 2, None),
+    (b"\x02\0\0", 2, None),
+    (b"", 2, None),
+];
+
+// Whether it is lent.
+fn is_lent(alloc: Global, front: &Front) -> bool {
+    let (bytes, limit, wanted) = *front;
     let mut to = Receiver::holding(alloc, limit, bytes);
     match wanted {
         Some(packet) => to.lends(packet),
@@ -122,17 +149,10 @@ fn is_lent(alloc: Global, bytes: &[u8], limit: usize, wanted: Option<&[u8]>) -> 
 
 #[test]
 fn a_packet_is_lent_where_it_is_whole(rt: HostRuntime) -> Result<(), Fail> {
+    let alloc = rt.alloc();
     let mut all = true;
-    for (bytes, limit, wanted) in [
-        (b"\x02\0\0\0ab\xff".as_slice(), 2, Some(b"ab".as_slice())),
-        (b"\0\0\0\0", 0, Some(b"")),
-        (b"\x02\0\0\0ab", 1, None),
-        (b"\x02\0\0\x01ab", 2, None),
-        (b"\x02\0\0\0a", 2, None),
-        (b"\x02\0\0", 2, None),
-        (b"", 2, None),
-    ] {
-        all &= is_lent(rt.alloc(), bytes, limit, wanted);
+    for row in FRONTS {
+        all &= is_lent(alloc, row);
     }
     ensure(all, "what is lent")
 }

@@ -1,11 +1,13 @@
 // Numbers whose length is in their first byte, and texts behind their length: put into buffers, and
 // read from buffers.
 
+use crate::compared::{same, same_if_any};
 use crate::numbers::{Readers, Row};
 use bytes::{BufMut, BytesMut};
 use mysql_wire::io::{BufMutExt, ParseBuf, WireError, WriteMysqlExt};
 use mysql_wire::misc::{lenenc_int_len, lenenc_str_len};
 use std::alloc::Global;
+use std::convert::AsSlice;
 use test_support::answers::{Fault, told};
 use test_support::reference::between;
 
@@ -25,10 +27,6 @@ impl Readers for Lenenc {
         let mut same = *buf;
         same.checked_eat_lenenc_int()?;
         Some(buf.eat_lenenc_int())
-    }
-
-    fn left(len: usize) -> usize {
-        len.saturating_sub(1)
     }
 }
 
@@ -57,24 +55,36 @@ pub const WRITTEN: &[Row<u64>] = &[
 /// The marks, which slices take as zero.
 pub const MARKS: &[Row<u64>] = &[(1, b"\xfb", 0), (1, b"\xfb\x01", 0), (1, b"\xff\x01", 0)];
 
-// Whether the row's number is put and written as its bytes, whose length is known beforehand.
-fn is_put(alloc: Global, row: &Row<'_, u64>) -> bool {
+// Whether a buffer that was empty holds these bytes after a put of the number.
+fn is_put<B: BufMutExt + AsSlice<u8> + Drop>(mut buf: B, bytes: &[u8], number: u64) -> bool {
+    buf.put_lenenc_int(number).is_ok() & same(buf.as_slice(), bytes)
+}
+
+// Whether the number is written as these bytes, whose count is told.
+fn is_written(alloc: Global, bytes: &[u8], number: u64) -> bool {
+    let mut out = Vec::new(alloc);
+    let written = told(out.write_lenenc_int(number));
+    (written == Ok(bytes.len() as u64)) & same(out.as_slice(), bytes)
+}
+
+// Whether the row's number is put and written as its bytes, whose length is known beforehand, and
+// leaves all of them or none in a buffer of each size.
+fn is_spelled(alloc: Global, row: &Row<'_, u64>) -> bool {
     let (width, bytes, number) = *row;
     let bytes = between(bytes, 0, width);
-    let mut vec = Vec::new(alloc);
-    let mut all = vec.put_lenenc_int(number).is_ok() & (vec.as_slice() == bytes);
-    vec.clear();
-    all &= told(vec.write_lenenc_int(number)) == Ok(width as u64);
-    all &= (vec.as_slice() == bytes) & (lenenc_int_len(number) == width as u64);
-    let mut room = BytesMut::new(alloc);
-    all &= room.put_lenenc_int(number).is_ok();
-    all & (room.as_slice() == bytes)
+    let mut all = lenenc_int_len(number) == width as u64;
+    all &= is_put(Vec::new(alloc), bytes, number);
+    all &= is_put(BytesMut::new(alloc), bytes, number);
+    for room in 0..11usize {
+        all &= leaves(alloc, None, number, room, width, bytes);
+    }
+    all & is_written(alloc, bytes, number)
 }
 
 // ---- numbers of a fixed width, and texts
 
 // Puts a number of a fixed width, or a text behind its length, each as it stands in `PUT`.
-fn put_fixed(nth: usize, buf: &mut Vec<u8>) -> Result<(), WireError> {
+fn put_fixed<B: BufMutExt>(nth: usize, buf: &mut B) -> Result<(), WireError> {
     match nth {
         0 => buf.put_u24_le(0x01020304),
         1 => buf.put_i24_le(8388608),
@@ -105,8 +115,8 @@ fn all_are_put(alloc: Global) -> bool {
     for nth in 0..10usize {
         all &= put_fixed(nth, &mut buf).is_ok();
     }
-    let rest = between(buf.as_slice(), PUT.len(), usize::MAX);
-    all & buf.as_slice().starts_with(PUT) & (rest == [b'd'; 255].as_slice())
+    let (front, rest) = buf.as_slice().split_at(PUT.len().min(buf.len()));
+    all & same(front, PUT) & same(rest, &[b'd'; 255])
 }
 
 // What the length of a text is.
@@ -136,34 +146,45 @@ const EATEN: &[Eaten] = &[
     (Length::FourBytes, b"\x03\0\0", None, b"\x03\0\0"),
 ];
 
+// Whether a form that left these bytes ate the row's text.
+fn ate(row: &Eaten, text: Option<&[u8]>, left: &[u8]) -> bool {
+    same_if_any(text, row.2) & same(left, row.3)
+}
+
 // Whether both forms eat the text: the one that says where bytes are missing, and the one that
 // wants the text to be there, where it is.
 fn is_eaten(row: &Eaten) -> bool {
-    let (length, input, text, left) = *row;
+    let (length, input, _, _) = *row;
     let mut buf = ParseBuf(input);
-    let mut same = buf;
-    let (checked, plain) = match length {
-        Length::Lenenc => match buf.checked_eat_lenenc_str() {
-            Some(text) => (Some(text), Some(same.eat_lenenc_str())),
-            None => (None, None),
-        },
-        Length::OneByte => match buf.checked_eat_u8_str() {
-            Some(text) => (Some(text), Some(same.eat_u8_str())),
-            None => (None, None),
-        },
-        Length::FourBytes => match buf.checked_eat_u32_str() {
-            Some(text) => (Some(text), Some(same.eat_u32_str())),
-            None => (None, None),
-        },
+    let mut other = buf;
+    let text = match length {
+        Length::Lenenc => buf.checked_eat_lenenc_str(),
+        Length::OneByte => buf.checked_eat_u8_str(),
+        Length::FourBytes => buf.checked_eat_u32_str(),
     };
-    let wanted = if text.is_some() { left } else { input };
-    let texts = (checked == text) & (plain == text);
-    texts & (buf.0 == left) & (same.0 == wanted)
+    let all = ate(row, text, buf.0);
+    if text.is_none() {
+        return all;
+    }
+    let plain = match length {
+        Length::Lenenc => other.eat_lenenc_str(),
+        Length::OneByte => other.eat_u8_str(),
+        Length::FourBytes => other.eat_u32_str(),
+    };
+    all & ate(row, Some(plain), other.0)
 }
 
 // ---- bounded buffers
 
-// What a put of a text, or else of a number, into so much room answers, and what it leaves.
+// What a put of a text, or else of a number, answers.
+fn answer<B: BufMutExt>(buf: &mut B, text: Option<&[u8]>, number: u64) -> Result<(), Fault> {
+    told(match text {
+        Some(text) => buf.put_lenenc_str(text),
+        None => buf.put_lenenc_int(number),
+    })
+}
+
+// What it answers in so much room, and what it leaves.
 fn put(
     alloc: Global,
     text: Option<&[u8]>,
@@ -171,11 +192,8 @@ fn put(
     room: usize,
 ) -> (Result<(), Fault>, Vec<u8>) {
     let mut buf = Vec::new(alloc).limit(room);
-    let put = match text {
-        Some(text) => buf.put_lenenc_str(text),
-        None => buf.put_lenenc_int(number),
-    };
-    (told(put), buf.into_inner())
+    let put = answer(&mut buf, text, number);
+    (put, buf.into_inner())
 }
 
 // Whether a put of a text, or else of a number, leaves all that it writes where there is room for
@@ -196,14 +214,10 @@ fn leaves(
     } else {
         0
     };
-    let is_put = answer == Ok(());
-    let is_refused = answer == Err(Fault::OutOfMemory);
-    let is_answered = if len == whole.len() {
-        is_put
-    } else {
-        is_refused
-    };
-    is_answered & (left.as_slice() == between(whole, 0, len))
+    let is_whole = len == whole.len();
+    let mut all = (answer == Ok(())) == is_whole;
+    all &= (answer == Err(Fault::OutOfMemory)) == !is_whole;
+    all & same(left.as_slice(), between(whole, 0, len))
 }
 
 // Whether a text leaves so much in a buffer of each size.
@@ -219,22 +233,12 @@ fn is_text_left(alloc: Global, text: &[u8]) -> bool {
     all
 }
 
-// Whether the row's number leaves so much in a buffer of each size.
-fn is_number_left(alloc: Global, row: &Row<'_, u64>) -> bool {
-    let (width, bytes, number) = *row;
-    let mut all = true;
-    for room in 0..11usize {
-        all &= leaves(alloc, None, number, room, width, between(bytes, 0, width));
-    }
-    all
-}
-
 #[test]
 fn numbers_and_texts_are_put_and_eaten(rt: HostRuntime) {
     let alloc = rt.alloc();
     let mut all = all_are_put(alloc);
     for row in WRITTEN {
-        all &= is_put(alloc, row) & is_number_left(alloc, row);
+        all &= is_spelled(alloc, row);
     }
     for row in EATEN {
         all &= is_eaten(row);

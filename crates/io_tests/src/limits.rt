@@ -93,15 +93,16 @@ fn goes_on(alloc: Global) -> bool {
 #[test]
 fn runs_go_as_their_limits_say(rt: HostRuntime) -> Result<(), Fail> {
     let mut wrong = None;
-    for i in 0..ROWS.len() {
+    let alloc = rt.alloc();
+    for (i, row) in ROWS.iter().enumerate() {
         for nth in 0..13 {
-            if !goes(&Refusing::new(rt.alloc(), nth), &ROWS[i]) {
+            if !goes(&Refusing::new(alloc, nth), row) {
                 wrong = Some(i);
             }
         }
     }
     no_row(wrong)?;
-    ensure(goes_on(rt.alloc()), "a limit that moves")
+    ensure(goes_on(alloc), "a limit that moves")
 }
 
 // ---- generated streams

@@ -1,6 +1,7 @@
 // Readers of numbers, each in both its forms: on no byte, on fewer than it eats, on as many, and on
 // more.
 
+use crate::compared::same;
 use crate::lenenc::{Lenenc, MARKS, WRITTEN};
 use mysql_wire::io::ParseBuf;
 use std::test::Fail;
@@ -17,11 +18,6 @@ pub trait Readers {
 
     // The form that wants the bytes to be there: it is called where they are.
     fn plain(width: usize, buf: &mut ParseBuf<'_>) -> Option<Self::Number>;
-
-    // How many bytes are left of so many that are too few.
-    fn left(len: usize) -> usize {
-        len
-    }
 }
 
 // Without a sign, the least significant byte first.
@@ -191,25 +187,24 @@ pub type Row<'a, N> = (usize, &'a [u8], N);
 // isn't called.
 fn answers<R: Readers>(width: usize, input: &[u8], wanted: Option<R::Number>, left: usize) -> bool {
     let mut buf = ParseBuf(input);
-    let mut same = buf;
+    let mut other = buf;
     let checked = R::checked(width, &mut buf);
-    let plain = R::plain(width, &mut same);
-    let plain_left = if plain.is_some() { left } else { input.len() };
-    let mut all = checked == wanted;
+    let plain = R::plain(width, &mut other);
+    let rest = last(input, left);
+    let mut all = (checked == wanted) & same(buf.0, rest);
     all &= plain == wanted;
-    all &= buf.0 == last(input, left);
-    all &= same.0 == last(input, plain_left);
-    all
+    all & (plain.is_none() | same(other.0, rest))
 }
 
-/// Whether both forms read the row's number, whatever follows, and nothing from fewer bytes.
-pub fn is_read<R: Readers>(row: &Row<'_, R::Number>) -> bool {
+/// Whether both forms read the row's number, whatever follows, and nothing from fewer bytes, of
+/// which so many at most are eaten.
+pub fn is_read<R: Readers>(row: &Row<'_, R::Number>, eaten: usize) -> bool {
     let (width, bytes, number) = *row;
     let mut all = width <= bytes.len();
     for len in 0..bytes.len() + 1 {
         let input = between(bytes, 0, len);
         all &= if len < width {
-            answers::<R>(width, input, None, R::left(len))
+            answers::<R>(width, input, None, len.saturating_sub(eaten))
         } else {
             answers::<R>(width, input, Some(number), len - width)
         };
@@ -217,11 +212,11 @@ pub fn is_read<R: Readers>(row: &Row<'_, R::Number>) -> bool {
     all
 }
 
-/// The first row whose number isn't read.
-pub fn wrong_row<R: Readers>(rows: &[Row<'_, R::Number>]) -> Option<usize> {
+/// The first row whose number isn't read so.
+pub fn wrong_row<R: Readers>(rows: &[Row<'_, R::Number>], eaten: usize) -> Option<usize> {
     let mut wrong = None;
-    for i in 0..rows.len() {
-        if !is_read::<R>(&rows[i]) && wrong.is_none() {
+    for (i, row) in rows.iter().enumerate() {
+        if !is_read::<R>(row, eaten) && wrong.is_none() {
             wrong = Some(i);
         }
     }
@@ -388,10 +383,11 @@ const SIGNED_BE: &[Row<i128>] = &[
 
 #[test]
 fn numbers_are_read(_: HostRuntime) -> Result<(), Fail> {
-    no_row(wrong_row::<UnsignedLe>(UNSIGNED_LE))?;
-    no_row(wrong_row::<UnsignedBe>(UNSIGNED_BE))?;
-    no_row(wrong_row::<SignedLe>(SIGNED_LE))?;
-    no_row(wrong_row::<SignedBe>(SIGNED_BE))?;
-    no_row(wrong_row::<Lenenc>(WRITTEN))?;
-    no_row(wrong_row::<Lenenc>(MARKS))
+    let wrong = wrong_row::<UnsignedLe>(UNSIGNED_LE, 0)
+        .or(wrong_row::<UnsignedBe>(UNSIGNED_BE, 0))
+        .or(wrong_row::<SignedLe>(SIGNED_LE, 0))
+        .or(wrong_row::<SignedBe>(SIGNED_BE, 0))
+        .or(wrong_row::<Lenenc>(WRITTEN, 1))
+        .or(wrong_row::<Lenenc>(MARKS, 1));
+    no_row(wrong)
 }

@@ -2,6 +2,7 @@
 
 ghost use Rattle.std.specs.Prelude.{◌≡◌, take, Ok, IfErr};
 
+use crate::compared::{same, same_if_any};
 use mysql_wire::io::{InvalidReason, ParseBuf, WireError};
 use mysql_wire::proto::{Binary, Fixed, HasSize, MyDeserialize, Text};
 use refusing::Refusing;
@@ -16,13 +17,13 @@ use test_support::reference::{between, first_zero};
 
 fn checked_slices_are_the_eaten_part() -> bool {
     let mut buf = ParseBuf(b"abcdefgh");
-    let mut all = buf.checked_eat(0) == Some(b"".as_slice());
-    all &= buf.checked_eat(3) == Some(b"abc".as_slice());
+    let mut all = same_if_any(buf.checked_eat(0), Some(b""));
+    all &= same_if_any(buf.checked_eat(3), Some(b"abc"));
     all &= buf.checked_eat(6).is_none() & buf.checked_eat_buf(6).is_none();
     all &= buf.checked_eat_buf(1) == Some(ParseBuf(b"d"));
     all &= !buf.checked_skip(5);
     all &= buf.checked_skip(1);
-    all & (buf.0 == b"fgh".as_slice())
+    all & same(buf.0, b"fgh")
 }
 
 fn slices_are_the_eaten_part() -> bool {
@@ -30,10 +31,10 @@ fn slices_are_the_eaten_part() -> bool {
     let mut all = buf.len() == 6;
     all &= buf.eat(1).len() == 1;
     all &= buf.len() == 5;
-    all &= buf.eat(1) == b"b".as_slice();
-    all &= buf.eat_buf(1).0 == b"c".as_slice();
+    all &= same(buf.eat(1), b"b");
+    all &= same(buf.eat_buf(1).0, b"c");
     buf.skip(1);
-    all &= buf.eat_all() == b"ef".as_slice();
+    all &= same(buf.eat_all(), b"ef");
     all &= buf.eat_all().is_empty();
     all & buf.is_empty() & !ParseBuf(b"a").is_empty()
 }
@@ -41,7 +42,7 @@ fn slices_are_the_eaten_part() -> bool {
 // Whether this text is eaten up to its zero, and this is left.
 fn eats_null_str(input: &[u8], text: &[u8], left: &[u8]) -> bool {
     let mut buf = ParseBuf(input);
-    (buf.eat_null_str() == text) & (buf.0 == left)
+    same(buf.eat_null_str(), text) & same(buf.0, left)
 }
 
 // Whether a text is eaten up to the zero that a plain loop finds in it, which stands at this place.
@@ -78,14 +79,16 @@ fn the_first_zero_is_found() -> bool {
     all
 }
 
+// How many bytes a read into two gives, what then stands in these, and how many are left.
+const READ: &[(usize, &[u8], usize)] = &[(2, b"ab", 1), (1, b"cb", 0), (0, b"cb", 0)];
+
 fn read_gives_what_fits() -> bool {
     let mut buf = ParseBuf(b"abc");
     let mut front = [0; 2];
     let mut all = true;
-    for (count, wanted, left) in [(2usize, *b"ab", 1usize), (1, *b"cb", 0), (0, *b"cb", 0)] {
-        all &= matches!(buf.read(&mut front), Ok(read) if read == count);
-        all &= front == wanted;
-        all &= buf.len() == left;
+    for (count, wanted, left) in READ {
+        all &= matches!(buf.read(&mut front), Ok(read) if read == *count);
+        all &= same(&front, *wanted) & (buf.len() == *left);
     }
     all
 }
@@ -157,7 +160,7 @@ fn parses<'de, T: PartialEq + MyDeserialize<'de, Global>>(
     left: &[u8],
 ) -> bool {
     let mut buf = ParseBuf(input);
-    told(buf.parse::<T>(alloc, ctx)) == wanted && buf.0 == left
+    (told(buf.parse::<T>(alloc, ctx)) == wanted) & same(buf.0, left)
 }
 
 // Whether a value is read with this memory.
@@ -169,12 +172,10 @@ where
     ParseBuf(input).parse_in::<T, A>(alloc, ctx).is_ok()
 }
 
-fn are_read<A: Allocator + Copy>(alloc: A) -> [bool; 3] {
-    [
-        is_read::<ParseBuf<'_>, A>(alloc, 2, b"ab"),
-        is_read::<[u8; 3], A>(alloc, (), b"abc"),
-        is_read::<Hasty, A>(alloc, (), b"abcd"),
-    ]
+fn are_read<A: Allocator + Copy>(alloc: A) -> bool {
+    is_read::<ParseBuf<'_>, A>(alloc, 2, b"ab")
+        & is_read::<[u8; 3], A>(alloc, (), b"abc")
+        & is_read::<Hasty, A>(alloc, (), b"abcd")
 }
 
 // Copied and compared.
@@ -205,7 +206,7 @@ fn parse_eats_the_size(rt: HostRuntime) -> Result<(), Fail> {
         parses(alloc, (), b"abcd", Ok(*b"abc"), b"d"),
         parses::<[u8; 3]>(alloc, (), b"ab", Err(eof), b"ab"),
         // None of these asks for memory.
-        (are_read(&heap) == [true; 3]) & (heap.left() == 0),
+        are_read(&heap) & (heap.left() == 0),
         is_value(Text) & is_value(Binary),
     ])
 }

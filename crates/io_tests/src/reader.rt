@@ -1,8 +1,7 @@
 //! Packets from readers: whole, cut, ended, failing.
 
-use crate::scripted::{
-    END, OUT_OF_MEMORY, OUT_OF_SYNC, PACKET, Said, Slow, TOO_LARGE, UNEXPECTED_END, WRONG, said_of,
-};
+use crate::compared::same;
+use crate::scripted::{Said, Slow, are_said, said_of};
 use bytes::BytesMut;
 use mysql_wire::proto::codec::PacketCodec;
 use mysql_wire::proto::packet_io::{PacketReader, PacketWriter};
@@ -46,7 +45,7 @@ const ROW: Row = Row {
     at_once: usize::MAX,
     until_fault: usize::MAX,
     limit: 3,
-    said: b"pee",
+    said: &[Said::Packet, Said::End, Said::End],
     packets: b"a",
     unread: b"",
     reads: 3,
@@ -61,17 +60,22 @@ const TWO: Row = Row {
     ..ROW
 };
 
-// What is said of these where the read of this number fails.
-const FAILING: [&[Said]; 7] = [
-    b"ippe", b"ippe", b"ippe", b"pipe", b"pipe", b"pipe", b"ppie",
+// What is said of these where one of the three reads of the first packet fails, of the second, and
+// where the read behind them does.
+const FAILING: [&[Said]; 3] = [
+    &[Said::Io, Said::Packet, Said::Packet, Said::End],
+    &[Said::Packet, Said::Io, Said::Packet, Said::End],
+    &[Said::Packet, Said::Packet, Said::Io, Said::End],
 ];
 
-const ROWS: [Row; 10] = [
+const COUNT: usize = 10;
+
+const ROWS: [Row; COUNT] = [
     ROW,
     // Nothing.
     Row {
         bytes: b"",
-        said: b"e",
+        said: &[Said::End],
         packets: b"",
         reads: 1,
         ..ROW
@@ -79,7 +83,7 @@ const ROWS: [Row; 10] = [
     // An end inside a packet.
     Row {
         bytes: b"\x01\0\0\0",
-        said: b"uu",
+        said: &[Said::UnexpectedEnd, Said::UnexpectedEnd],
         packets: b"",
         unread: b"\x01\0\0\0",
         reads: 3,
@@ -89,7 +93,7 @@ const ROWS: [Row; 10] = [
     Row {
         bytes: b"\x03\0\0\0123",
         at_once: 1,
-        said: b"p",
+        said: &[Said::Packet],
         packets: b"123",
         reads: 7,
         ..ROW
@@ -99,7 +103,7 @@ const ROWS: [Row; 10] = [
         bytes: b"\x03\0\0\0123",
         at_once: 1,
         until_fault: 2,
-        said: b"ip",
+        said: &[Said::Io, Said::Packet],
         packets: b"123",
         reads: 8,
         ..ROW
@@ -107,7 +111,7 @@ const ROWS: [Row; 10] = [
     // Another id.
     Row {
         bytes: b"\0\0\0\x05\0",
-        said: b"ss",
+        said: &[Said::OutOfSync, Said::OutOfSync],
         packets: b"",
         unread: b"\0",
         reads: 1,
@@ -116,7 +120,7 @@ const ROWS: [Row; 10] = [
     // Past the limit.
     Row {
         bytes: b"\x04\0\0\x001234",
-        said: b"ll",
+        said: &[Said::TooLarge, Said::TooLarge],
         packets: b"",
         unread: b"\x04\0\0\x001234",
         reads: 1,
@@ -125,7 +129,7 @@ const ROWS: [Row; 10] = [
     // Two packets in one read.
     Row {
         bytes: b"\x01\0\0\0a\x02\0\0\x01bc",
-        said: b"pp",
+        said: &[Said::Packet, Said::Packet],
         packets: b"abc",
         reads: 1,
         ..ROW
@@ -133,7 +137,7 @@ const ROWS: [Row; 10] = [
     // The part of a packet behind another.
     Row {
         bytes: b"\x01\0\0\0a\x02\0\0\x01b",
-        said: b"pu",
+        said: &[Said::Packet, Said::UnexpectedEnd],
         packets: b"a",
         unread: b"\x02\0\0\x01b",
         reads: 2,
@@ -143,7 +147,7 @@ const ROWS: [Row; 10] = [
     Row {
         bytes: b"\0\0\0\0",
         limit: 0,
-        said: b"pe",
+        said: &[Said::Packet, Said::End],
         packets: b"",
         reads: 2,
         ..ROW
@@ -157,14 +161,14 @@ fn hands_out<A: Allocator + Copy>(
     packets: &mut BytesMut<Global>,
 ) -> Said {
     if !reader.fits(codec) {
-        return WRONG;
+        return Said::Wrong;
     }
     match reader.next_packet(codec) {
         Ok(Some(packet)) => {
             let _ = packets.extend_from_slice(packet.as_slice());
-            PACKET
+            Said::Packet
         }
-        Ok(None) => END,
+        Ok(None) => Said::End,
         Err(error) => said_of(error),
     }
 }
@@ -175,11 +179,11 @@ fn fills<A: Allocator + Copy>(
     reader: &mut PacketReader<Slow<'_>, A>,
 ) -> Said {
     if !reader.fits(codec) {
-        return WRONG;
+        return Said::Wrong;
     }
     match reader.fill_packet(codec) {
-        Ok(true) => PACKET,
-        Ok(false) => END,
+        Ok(true) => Said::Packet,
+        Ok(false) => Said::End,
         Err(error) => said_of(error),
     }
 }
@@ -191,11 +195,11 @@ fn takes<A: Allocator + Copy>(
     packets: &mut BytesMut<Global>,
 ) -> Said {
     if !reader.is_ready(codec) {
-        return WRONG;
+        return Said::Wrong;
     }
     let _ = packets.extend_from_slice(reader.packet());
     reader.take_packet(codec);
-    PACKET
+    Said::Packet
 }
 
 // One call. A packet that is looked at twice is read once.
@@ -209,15 +213,15 @@ fn says<A: Allocator + Copy>(
         return hands_out(codec, reader, packets);
     }
     let said = fills(codec, reader);
-    if said != PACKET {
+    if said != Said::Packet {
         return said;
     }
     if matches!(way, Way::Lent) {
         return takes(codec, reader, packets);
     }
     let reads = reader.reads();
-    if (fills(codec, reader) != PACKET) | (reader.reads() != reads) {
-        return WRONG;
+    if (fills(codec, reader) != Said::Packet) | (reader.reads() != reads) {
+        return Said::Wrong;
     }
     hands_out(codec, reader, packets)
 }
@@ -232,12 +236,14 @@ struct Heard {
     reads: u64,
 }
 
-// Whether the row says so.
-fn is_said(heard: &Heard, row: &Row) -> bool {
-    let mut all = heard.said.as_slice() == row.said;
-    all &= heard.packets.as_slice() == row.packets;
-    all &= heard.unread.as_slice() == row.unread;
-    all & (heard.reads == row.reads)
+// Whether these were said, and the packets were these.
+fn is_said(heard: &Heard, said: &[Said], packets: &[u8]) -> bool {
+    are_said(heard.said.as_slice(), said) & same(heard.packets.as_slice(), packets)
+}
+
+// Whether this is unread, after so many reads.
+fn is_left(heard: &Heard, unread: &[u8], reads: u64) -> bool {
+    same(heard.unread.as_slice(), unread) & (heard.reads == reads)
 }
 
 // Calls a reader so often, and once more after each refusal of memory.
@@ -254,7 +260,7 @@ fn listen<A: Allocator + Copy>(
     };
     for _ in 0..calls {
         let mut said = says(way, codec, &mut reader, &mut heard.packets);
-        if said == OUT_OF_MEMORY {
+        if said == Said::OutOfMemory {
             said = says(way, codec, &mut reader, &mut heard.packets);
         }
         let _ = heard.said.push(said);
@@ -302,7 +308,8 @@ fn is_read(alloc: Global, way: Way, row: &Row) -> bool {
     let mut all = true;
     for nth in 0..9 {
         let (heard, refused) = hear_row(alloc, nth, way, row, row.at_once);
-        all &= is_said(&heard, row) & (!refused | (nth < 8));
+        all &= is_said(&heard, row.said, row.packets) & (!refused | (nth < 8));
+        all &= is_left(&heard, row.unread, row.reads);
     }
     all
 }
@@ -310,19 +317,13 @@ fn is_read(alloc: Global, way: Way, row: &Row) -> bool {
 // Whether all ways go as the packets are handed out, so many bytes a read, and that as the row says
 // where it says that.
 fn is_read_alike(alloc: Global, row: &Row, at_once: usize, as_said: bool) -> bool {
-    let (heard, _) = hear_row(alloc, NEVER, Way::HandedOut, row, at_once);
-    let wanted = Row {
-        said: heard.said.as_slice(),
-        packets: heard.packets.as_slice(),
-        unread: heard.unread.as_slice(),
-        reads: heard.reads,
-        ..*row
-    };
-    let is_right = (wanted.said == row.said) & (wanted.packets == row.packets);
-    let mut all = (wanted.said.len() == row.said.len()) & (is_right | !as_said);
+    let (first, _) = hear_row(alloc, NEVER, Way::HandedOut, row, at_once);
+    let is_right = is_said(&first, row.said, row.packets) | !as_said;
+    let mut all = is_right & (first.said.len() == row.said.len());
     for way in [Way::Lent, Way::LentAndHandedOut] {
         let (heard, _) = hear_row(alloc, NEVER, way, row, at_once);
-        all &= is_said(&heard, &wanted);
+        all &= is_said(&heard, first.said.as_slice(), first.packets.as_slice());
+        all &= is_left(&heard, first.unread.as_slice(), first.reads);
     }
     all
 }
@@ -341,20 +342,21 @@ fn goes(alloc: Global, row: &Row) -> bool {
 
 #[test]
 fn each_reader_goes_as_it_says(rt: HostRuntime) -> Result<(), Fail> {
+    let alloc = rt.alloc();
     let mut wrong = None;
-    for i in 0..ROWS.len() {
-        if !goes(rt.alloc(), &ROWS[i]) {
+    for (i, row) in ROWS.iter().enumerate() {
+        if !goes(alloc, row) {
             wrong = Some(i);
         }
     }
-    for until_fault in 0..FAILING.len() {
+    for until_fault in 0..7usize {
         let row = Row {
             until_fault,
-            said: FAILING[until_fault],
+            said: FAILING[until_fault / 3],
             ..TWO
         };
-        if !goes(rt.alloc(), &row) {
-            wrong = Some(until_fault.wrapping_add(ROWS.len()));
+        if !goes(alloc, &row) {
+            wrong = Some(until_fault.wrapping_add(COUNT));
         }
     }
     no_row(wrong)
@@ -363,10 +365,10 @@ fn each_reader_goes_as_it_says(rt: HostRuntime) -> Result<(), Fail> {
 // What is said where a reading stops.
 fn end_of(reading: &Reading, len: usize) -> Said {
     match reading.told {
-        Told::TooLarge => TOO_LARGE,
-        Told::OutOfSync => OUT_OF_SYNC,
-        _ if reading.left == len => END,
-        _ => UNEXPECTED_END,
+        Told::TooLarge => Said::TooLarge,
+        Told::OutOfSync => Said::OutOfSync,
+        _ if reading.left == len => Said::End,
+        _ => Said::UnexpectedEnd,
     }
 }
 
@@ -403,7 +405,7 @@ pub fn reads_as(
     let mut said = Vec::new(alloc);
     let mut packets = Vec::new(alloc);
     for packet in &reading.packets {
-        let _ = said.push(PACKET);
+        let _ = said.push(Said::Packet);
         let _ = packets.extend_from_slice(packet.as_slice());
     }
     let _ = said.push(end_of(reading, bytes.len()));
@@ -429,7 +431,7 @@ fn is_long_read(alloc: Global, len: usize) -> bool {
         bytes.as_slice(),
         8192,
         len,
-        b"pe",
+        &[Said::Packet, Said::End],
         payload.as_slice(),
     )
 }
@@ -454,15 +456,16 @@ fn share_an_id(alloc: Global) -> bool {
         kind: ErrorKind::Interrupted,
     };
     let (heard, _) = hear(alloc, NEVER, Way::HandedOut, &mut codec, input, 1);
-    is_asked & (heard.packets.as_slice() == b"\x02".as_slice())
+    is_asked & same(heard.packets.as_slice(), b"\x02")
 }
 
 // A packet of two chunks is collected, and a reader and a writer share an id.
 #[test]
 fn long_packets_and_answers_are_read(rt: HostRuntime) -> Result<(), Fail> {
+    let alloc = rt.alloc();
     all_hold(&[
-        is_long_read(rt.alloc(), 16777215),
-        is_long_read(rt.alloc(), 16777220),
-        share_an_id(rt.alloc()),
+        is_long_read(alloc, 16777215),
+        is_long_read(alloc, 16777220),
+        share_an_id(alloc),
     ])
 }

@@ -5,40 +5,45 @@ use mysql_wire::proto::packet_io::PacketIoError;
 use std::alloc::Global;
 use std::io::{self, ErrorKind, Read, Write};
 
-/// What a call answered, as a letter, so that a text is what call after call answered.
-pub type Said = u8;
+/// What a call answered.
+#[derive(Clone, Copy, PartialEq, Eq)]
+pub enum Said {
+    /// All that is pending was written.
+    Done,
+    Packet,
+    End,
+    Io,
+    UnexpectedEnd,
+    WriteZero,
+    TooLarge,
+    OutOfSync,
+    OutOfMemory,
+    /// A reader doesn't fit its codec, or goes otherwise than it must.
+    Wrong,
+}
 
-/// All that is pending was written.
-pub const DONE: Said = b'd';
-
-pub const PACKET: Said = b'p';
-
-pub const END: Said = b'e';
-
-pub const IO: Said = b'i';
-
-pub const UNEXPECTED_END: Said = b'u';
-
-pub const WRITE_ZERO: Said = b'z';
-
-pub const TOO_LARGE: Said = b'l';
-
-pub const OUT_OF_SYNC: Said = b's';
-
-pub const OUT_OF_MEMORY: Said = b'm';
-
-/// A reader doesn't fit its codec, or goes otherwise than it must.
-pub const WRONG: Said = b'w';
+/// Whether these were answered, call after call.
+pub fn are_said(said: &[Said], wanted: &[Said]) -> bool {
+    said == wanted
+}
 
 /// What an error says.
 pub fn said_of(error: PacketIoError) -> Said {
     match error {
-        PacketIoError::Io(_) => IO,
-        PacketIoError::UnexpectedEnd => UNEXPECTED_END,
-        PacketIoError::WriteZero => WRITE_ZERO,
-        PacketIoError::PacketTooLarge => TOO_LARGE,
-        PacketIoError::PacketsOutOfSync => OUT_OF_SYNC,
-        PacketIoError::OutOfMemory => OUT_OF_MEMORY,
+        PacketIoError::Io(_) => Said::Io,
+        PacketIoError::UnexpectedEnd => Said::UnexpectedEnd,
+        PacketIoError::WriteZero => Said::WriteZero,
+        PacketIoError::PacketTooLarge => Said::TooLarge,
+        PacketIoError::PacketsOutOfSync => Said::OutOfSync,
+        PacketIoError::OutOfMemory => Said::OutOfMemory,
+    }
+}
+
+/// What a call answers that has nothing to give.
+pub fn said_by(answer: Result<(), PacketIoError>) -> Said {
+    match answer {
+        Ok(()) => Said::Done,
+        Err(error) => said_of(error),
     }
 }
 

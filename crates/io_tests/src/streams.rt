@@ -1,5 +1,6 @@
 // Numbers and texts over readers and writers.
 
+use crate::compared::same;
 use crate::lenenc::{Lenenc, WRITTEN};
 use crate::numbers::{self, Row};
 use crate::scripted::{Narrow, Slow};
@@ -22,7 +23,7 @@ use test_support::reference::between;
 fn gives(bytes: &[u8], wanted: Result<u64, Fault>, left: usize) -> bool {
     let mut reader = bytes;
     let read = told(reader.read_lenenc_int());
-    (read == wanted) & (reader == last(bytes, left))
+    (read == wanted) & same(reader, last(bytes, left))
 }
 
 // Whether the row's number is read, whatever follows, and an end of input from fewer bytes.
@@ -44,7 +45,7 @@ fn is_spelled(first: u8, behind: usize, number: u64) -> bool {
     bytes[1..9].copy_from_slice(&number.to_le_bytes());
     let width = behind.min(8) + 1;
     let row = (width, &bytes[..width + 1], number);
-    is_read(&row) & numbers::is_read::<Lenenc>(&row)
+    is_read(&row) & numbers::is_read::<Lenenc>(&row, 1)
 }
 
 // Whether the numbers are read, and small ones from longer spellings, which slices take too.
@@ -66,7 +67,7 @@ fn lenenc_ints_are_read() -> bool {
 // Whether a stream gives this text, or why it gives none.
 fn reads<R: Read, A: Allocator>(alloc: A, reader: &mut R, text: &[u8]) -> Result<bool, Fault> {
     match reader.read_lenenc_str(alloc) {
-        Ok(read) => Ok(read.as_slice() == text),
+        Ok(read) => Ok(same(read.as_slice(), text)),
         Err(error) => Err(Fault::of(&error)),
     }
 }
@@ -80,7 +81,7 @@ fn answers(
     left: &[u8],
 ) -> bool {
     let mut reader = bytes;
-    (reads(alloc, &mut reader, text) == wanted) & (reader == left)
+    (reads(alloc, &mut reader, text) == wanted) & same(reader, left)
 }
 
 const MARKS: &[&[u8]] = &[b"\xfb\x01", b"\xff\x01", b"\xfb\x01\x02\x03", b"\xff\xfb\0"];
@@ -94,13 +95,12 @@ fn is_mark(alloc: Global, bytes: &[u8]) -> bool {
 
 // Whether a text is written as it is put, and read back.
 fn comes_back(alloc: Global, text: &[u8]) -> bool {
+    let len = lenenc_str_len(text);
     let mut put = Vec::new(alloc);
     let mut all = put.put_lenenc_str(text).is_ok();
     let mut out = Vec::new(alloc);
-    let written = told(out.write_lenenc_str(text));
-    all &= written == Ok(lenenc_str_len(text));
-    all &= out.len() as u64 == lenenc_str_len(text);
-    all &= out.as_slice() == put.as_slice();
+    all &= told(out.write_lenenc_str(text)) == Ok(len);
+    all &= (out.len() as u64 == len) & same(out.as_slice(), put.as_slice());
     all &= answers(alloc, out.as_slice(), text, Ok(true), b"");
     all &= out.extend_from_slice(MORE).is_ok();
     all & answers(alloc, out.as_slice(), text, Ok(true), MORE)

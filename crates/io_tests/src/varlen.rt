@@ -1,5 +1,6 @@
 // Integers of the serialization library.
 
+use crate::compared::same;
 use crate::numbers::Row;
 use mysql_wire::io::ParseBuf;
 use mysql_wire::misc::{read_varlen_uint, varlen_uint_size, write_varlen_uint};
@@ -31,8 +32,8 @@ fn comes_back(alloc: Global, number: u64, spelling: Option<&[u8]>) -> bool {
     let mut buf = Vec::new(alloc);
     let mut all = write_varlen_uint(&mut buf, number).is_ok();
     let width = buf.len();
-    all &= (varlen_uint_size(number) == width)
-        & (buf.as_slice() == spelling.unwrap_or(buf.as_slice()));
+    all &= varlen_uint_size(number) == width;
+    all &= same(buf.as_slice(), spelling.unwrap_or(buf.as_slice()));
     all &= buf.push(0xff).is_ok();
     all & is_read(&(width, buf.as_slice(), number))
 }
@@ -81,9 +82,10 @@ fn overlong_ones_are_read() -> bool {
 
 #[test]
 fn varlen_uints_are_written_and_read(rt: HostRuntime) {
-    let mut all = overlong_ones_are_read() & comes_back(rt.alloc(), u64::MAX, None);
+    let alloc = rt.alloc();
+    let mut all = overlong_ones_are_read() & comes_back(alloc, u64::MAX, None);
     for (_, bytes, number) in WRITTEN {
-        all &= comes_back(rt.alloc(), *number, Some(*bytes));
+        all &= comes_back(alloc, *number, Some(*bytes));
     }
     for row in LONGER {
         all &= is_read(row);
@@ -91,7 +93,7 @@ fn varlen_uints_are_written_and_read(rt: HostRuntime) {
     for groups in 0..9u32 {
         let edge = 1u64 << (7 * groups);
         for number in [edge - 1, edge, edge + 1] {
-            all &= comes_back(rt.alloc(), number, None);
+            all &= comes_back(alloc, number, None);
         }
     }
     assert!(rt; all);
