@@ -33,8 +33,11 @@ where
 {
     let (value, ctx, nth, input, len, front) = *row;
     let is_put = is_written(heap, value, between(input, 0, len));
-    let mut short = Short::eats(Eaten::Nothing);
-    short.front = front;
+    let short = Short {
+        fault: Fault::UnexpectedEof,
+        eaten: Eaten::Nothing,
+        front,
+    };
     heap.refuse(nth);
     let is_back = if front == UNCUT {
         gives(alloc, ctx, input, value, input.len().saturating_sub(len))
@@ -59,10 +62,11 @@ where
     T: MyDeserialize<'de, A, Ctx = C>,
 {
     let mut all = T::SIZE == size;
-    for (ctx, nth, input, fault, left) in rows {
-        heap.refuse(*nth);
-        all &= stops::<T, C, A>(alloc, *ctx, *input, *fault, *left);
-        all &= heap.has_refused() == (*fault == Fault::OutOfMemory);
+    for row in rows {
+        let (ctx, nth, input, fault, left) = *row;
+        heap.refuse(nth);
+        all &= stops::<T, C, A>(alloc, ctx, input, fault, left);
+        all &= heap.has_refused() == (fault == Fault::OutOfMemory);
     }
     all
 }
@@ -83,4 +87,22 @@ where
 {
     let is_value = is_value(heap, alloc, value);
     is_value & are_refused::<T, C, A>(heap, alloc, size, refused)
+}
+
+/// The same of a value without a context, which has this size: none of its bytes is eaten before
+/// all are there. Readers take no memory.
+pub fn is_at<'de, T, A>(
+    heap: &Heap,
+    alloc: A,
+    value: &T,
+    input: &'de [u8],
+    len: usize,
+    refused: &[Refused<'de, ()>],
+) -> bool
+where
+    A: Allocator + Copy,
+    T: PartialEq + MySerialize + MyDeserialize<'de, A, Ctx = ()>,
+{
+    let value = (value, (), 0, input, len, WHOLE);
+    is_field(heap, alloc, Some(len), &value, refused)
 }

@@ -4,32 +4,37 @@ use mysql_wire::misc::raw::RawBytes;
 use mysql_wire::misc::raw::bytes::{BareBytes, BytesRepr, EofBytes};
 use std::alloc::Global;
 use std::borrow::CowSlice;
+use std::test::Fail;
+use test_support::facts::all_hold;
 
-// Whether a text shows these bytes of all that it holds, and this string.
-fn is_shown<T: BytesRepr>(alloc: Global, whole: &[u8], bytes: &[u8], string: &str) -> bool {
-    let text = RawBytes::<T>::new(CowSlice::Borrowed(whole));
+// Whether a text holds all of these bytes, and shows the first of them.
+fn is_cut<T: BytesRepr>(text: &RawBytes<'_, T>, whole: &[u8], bytes: &[u8]) -> bool {
     let mut all = text.len() == bytes.len();
     all &= text.is_empty() == bytes.is_empty();
     all &= text.as_bytes() == bytes;
     all &= text.eq_bytes(whole);
-    all &= text.eq_bytes(bytes) == (whole == bytes);
+    all & (text.eq_bytes(bytes) == (whole == bytes))
+}
+
+// Whether a text shows these bytes of all that it holds, and this string.
+fn is_shown<T: BytesRepr>(alloc: Global, whole: &[u8], bytes: &[u8], string: &str) -> bool {
+    let text = RawBytes::<T>::new(CowSlice::Borrowed(whole));
     match text.as_str(alloc) {
-        Ok(shown) => all & (shown.as_str() == string),
+        Ok(shown) => is_cut(&text, whole, bytes) & (shown.as_str() == string),
         Err(_) => false,
     }
 }
 
 // What is cut away is not looked at, and what is no UTF-8 is replaced in a string.
 #[test]
-fn a_text_shows_what_is_written_of_it(rt: HostRuntime) {
+fn a_text_shows_what_is_written_of_it(rt: HostRuntime) -> Result<(), Fail> {
     let alloc = rt.alloc();
-    let polish = "zażółć".as_bytes();
-    let shown = [
+    let polish = "zażółć";
+    all_hold(&[
         is_shown::<BareBytes<2>>(alloc, b"abc", b"ab", "ab"),
         is_shown::<BareBytes<0>>(alloc, b"abc", b"", ""),
         is_shown::<BareBytes<1>>(alloc, b"a\xff", b"a", "a"),
-        is_shown::<EofBytes>(alloc, polish, polish, "zażółć"),
+        is_shown::<EofBytes>(alloc, polish.as_bytes(), polish.as_bytes(), polish),
         is_shown::<EofBytes>(alloc, b"a\xffb", b"a\xffb", "a\u{fffd}b"),
-    ];
-    assert!(rt; shown == [true; 5]);
+    ])
 }

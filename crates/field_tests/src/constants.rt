@@ -3,12 +3,11 @@
 ghost use Rattle.std.specs.Prelude.{◌∷◌, [], refl};
 ghost use Rattle.std.proofs.Common.{arith};
 
-use crate::at::{Refused, WHOLE, is_field};
+use crate::at::{Refused, is_at};
 use mysql_wire::io::{InvalidReason, ParseBuf};
 use mysql_wire::misc::raw::Skip;
 use mysql_wire::misc::raw::bytes::{ConstBytes, ConstBytesValue};
 use mysql_wire::misc::raw::int::{ConstU8, ConstU32};
-use mysql_wire::proto::{MyDeserialize, MySerialize};
 use refusing::Refusing;
 use std::alloc::Allocator;
 use std::test::Fail;
@@ -47,31 +46,7 @@ impl ConstBytesValue<0> for Nothing {
     ghost fits = { Prim.omega arith };
 }
 
-// Whether a value is written as the first bytes of its input, so many, and read from them, whatever
-// follows; and whether from fewer none is, and none is eaten, and none from what is refused.
-// Readers take no memory.
-fn is_at<'de, T, A>(
-    heap: &Heap,
-    alloc: A,
-    value: T,
-    input: &'de [u8],
-    len: usize,
-    refused: &[Refused<'de, ()>],
-) -> bool
-where
-    A: Allocator + Copy,
-    T: Drop + PartialEq + MySerialize + MyDeserialize<'de, A, Ctx = ()>,
-{
-    is_field(
-        heap,
-        alloc,
-        Some(len),
-        &(&value, (), 0, input, len, WHOLE),
-        refused,
-    )
-}
-
-// The same of each kind of constant.
+// Each kind of constant.
 fn is_byte<'de, const N: u8, A>(
     heap: &Heap,
     alloc: A,
@@ -83,7 +58,7 @@ where
     A: Allocator + Copy,
 {
     let is_value = value.value() == N;
-    is_value & is_at(heap, alloc, value, input, 1, refused)
+    is_value & is_at(heap, alloc, &value, input, 1, refused)
 }
 
 fn is_number<'de, const N: u32, A>(
@@ -96,18 +71,18 @@ fn is_number<'de, const N: u32, A>(
 where
     A: Allocator + Copy,
 {
-    is_at(heap, alloc, value, input, 4, refused)
+    is_at(heap, alloc, &value, input, 4, refused)
 }
 
 fn is_skipped<const N: usize, A: Allocator + Copy>(heap: &Heap, alloc: A, input: &[u8]) -> bool {
-    is_at(heap, alloc, Skip::<N>, input, N, &[])
+    is_at(heap, alloc, &Skip::<N>, input, N, &[])
 }
 
 fn is_array<const N: usize, A>(heap: &Heap, alloc: A, value: [u8; N], input: &[u8]) -> bool
 where
     A: Allocator + Copy,
 {
-    is_at(heap, alloc, value, input, N, &[])
+    is_at(heap, alloc, &value, input, N, &[])
 }
 
 // Each of these differs from the constant. Its bytes are eaten.
@@ -146,13 +121,13 @@ fn are_constants<A: Allocator + Copy>(heap: &Heap, alloc: A) -> [bool; 8] {
         is_number::<7, A>(heap, alloc, ConstU32::new(), b"\x07\0\0\0\x07", NO_NUMBER),
         is_number(heap, alloc, number, b"\x04\x03\x02\x01\0", &[]),
         is_number(heap, alloc, most, b"\xff\xff\xff\xff\xff", &[]),
-        is_at(heap, alloc, magic, b"\xfebin\0", 4, NO_TEXT),
-        is_at(heap, alloc, nothing, b"a", 0, &[]),
+        is_at(heap, alloc, &magic, b"\xfebin\0", 4, NO_TEXT),
+        is_at(heap, alloc, &nothing, b"a", 0, &[]),
     ]
 }
 
 // Arrays, and bytes to skip, in whose place anything is read.
-fn are_bytes<A: Allocator + Copy>(heap: &Heap, alloc: A) -> [bool; 9] {
+fn are_bytes<A: Allocator + Copy>(heap: &Heap, alloc: A) -> [bool; 11] {
     [
         is_array(heap, alloc, *b"a", b"abc"),
         is_array(heap, alloc, *b"abc", b"abcde"),
@@ -163,17 +138,19 @@ fn are_bytes<A: Allocator + Copy>(heap: &Heap, alloc: A) -> [bool; 9] {
         is_skipped::<2, A>(heap, alloc, b"\0\0"),
         is_skipped::<3, A>(heap, alloc, b"\0\0\0\x01"),
         gives::<Skip<3>, (), A>(alloc, (), b"abcd", &Skip, 1),
+        // The other sizes are looked at with their values.
+        has_size::<[u8; 7]>(Some(7)),
+        has_size::<ParseBuf<'_>>(None),
     ]
 }
 
-fn all_constants(heap: &Heap) -> Result<(), Fail> {
-    all_hold(&are_constants(heap, heap))?;
-    all_hold(&are_bytes(heap, heap))?;
-    // The other sizes are looked at with their values.
-    all_hold(&[has_size::<[u8; 7]>(Some(7)), has_size::<ParseBuf<'_>>(None)])
+fn all_constants<A: Allocator + Copy>(heap: &Heap, alloc: A) -> Result<(), Fail> {
+    all_hold(&are_constants(heap, alloc))?;
+    all_hold(&are_bytes(heap, alloc))
 }
 
 #[test]
 fn constants_are_written_and_read_and_others_refused(rt: HostRuntime) -> Result<(), Fail> {
-    all_constants(&Refusing::new(rt.alloc(), 0))
+    let heap = &Refusing::new(rt.alloc(), 0);
+    all_constants(heap, heap)
 }

@@ -23,11 +23,11 @@ impl<K: MySerialize, V: MySerialize> MySerialize for Entry<K, V> {
     fn serialize<A: Allocator>(&self, buf: &mut Vec<u8, A>) -> Result<(), WireError> {
         let at = buf.len();
         self.key.serialize(buf)?;
-        let put = self.value.serialize(buf);
-        if put.is_err() {
+        if let Err(error) = self.value.serialize(buf) {
             buf.truncate(at);
+            return Err(error);
         }
-        put
+        Ok(())
     }
 }
 

@@ -175,26 +175,10 @@ where
     is_list::<RawBytes<'de, U8Bytes, A>, LeU32, A>(heap, alloc, (), texts, NO_TEXTS)
 }
 
-fn are_lists<'de, A>(
-    heap: &Heap,
-    alloc: A,
-    two: &'de [RawInt<LeU16>],
-    (types, pairs): (&'de [Const<ColumnType, u8>], &'de [Pair]),
-    texts: &'de [RawBytes<'de, U8Bytes, A>],
-) -> [bool; 3]
+fn are_lists<'de, A>(heap: &Heap, alloc: A, texts: &'de [RawBytes<'de, U8Bytes, A>]) -> [bool; 3]
 where
     A: 'de + Allocator + Copy,
 {
-    [
-        are_numbers(heap, alloc, two) == [true; 6],
-        are_others(heap, alloc, types, pairs) == [true; 4],
-        are_texts(heap, alloc, texts),
-    ]
-}
-
-#[test]
-fn lists_are_written_and_read_and_others_refused(rt: HostRuntime) -> Result<(), Fail> {
-    let heap = &Refusing::new(rt.alloc(), 0);
     let two = [RawInt::<LeU16>::new(1), RawInt::<LeU16>::new(2)];
     let types = [Const::<ColumnType, u8>::new(ColumnType::MYSQL_TYPE_JSON)];
     let pairs = [
@@ -207,9 +191,19 @@ fn lists_are_written_and_read_and_others_refused(rt: HostRuntime) -> Result<(), 
             value: RawInt::<LeU16>::new(0x0405),
         },
     ];
+    [
+        are_numbers(heap, alloc, &two) == [true; 6],
+        are_others(heap, alloc, &types, &pairs) == [true; 4],
+        are_texts(heap, alloc, texts),
+    ]
+}
+
+#[test]
+fn lists_are_written_and_read_and_others_refused(rt: HostRuntime) -> Result<(), Fail> {
+    let heap = &Refusing::new(rt.alloc(), 0);
     let texts = [
         RawBytes::<U8Bytes, &Heap>::from(b"a".as_slice()),
         RawBytes::<U8Bytes, &Heap>::from(b"".as_slice()),
     ];
-    all_hold(&are_lists(heap, heap, &two, (&types, &pairs), &texts))
+    all_hold(&are_lists(heap, heap, &texts))
 }

@@ -5,6 +5,7 @@ use mysql_wire::misc::raw::bytes::{LenEnc, U8Bytes};
 use mysql_wire::misc::raw::int::{LeU16, LeU32};
 use mysql_wire::misc::raw::seq::Seq;
 use mysql_wire::misc::raw::{Both, RawBytes, RawInt};
+use mysql_wire::proto::MySerialize;
 use refusing::Refusing;
 use std::alloc::Global;
 use std::borrow::CowSlice;
@@ -16,27 +17,40 @@ use test_support::fixture::Heap;
 // A list of numbers.
 type List<'a> = Seq<'a, RawInt<LeU16>, LeU32, Global>;
 
-// Two texts, one after the other, and behind their lengths.
-type Texts<'a> = Both<RawBytes<'a, U8Bytes>, RawBytes<'a, U8Bytes>>;
+// 40 numbers, behind their count.
+const NUMBERS: &[u8; 84] =
+    b"\x28\0\0\0BBBBBBBBBBBBBBBBBBBBBBBBBBBBBBBBBBBBBBBBBBBBBBBBBBBBBBBBBBBBBBBBBBBBBBBBBBBBBBBB";
 
+// Two texts, one after the other, and behind their lengths.
 const TEXTS: &[u8; 44] = b"\x28aaaaaaaaaaaaaaaaaaaaaaaaaaaaaaaaaaaaaaaa\x02bb";
+
+/// Whether a value is written as these bytes after so many requests for memory are refused in turn,
+/// at least. No bytes ask for none.
+pub fn is_refused_at_least<T: MySerialize>(
+    heap: &Heap,
+    value: &T,
+    bytes: &[u8],
+    least: u64,
+) -> bool {
+    match refusals(heap, value, bytes) {
+        Some(count) => (count >= least) & ((count == 0) == bytes.is_empty()),
+        None => false,
+    }
+}
 
 // An element in the middle is refused too, and the second of two texts. An owned text is written
 // like a borrowed one, and its own memory is another's.
-fn are_refused(
-    heap: &Heap,
-    owned: &RawBytes<'_, LenEnc>,
-    list: &List<'_>,
-    texts: &Texts<'_>,
-) -> [bool; 3] {
+fn are_refused(heap: &Heap, owned: &RawBytes<'_, LenEnc>, list: &List<'_>) -> [bool; 3] {
+    let texts = Both(
+        RawBytes::<U8Bytes>::from([b'a'; 40].as_slice()),
+        RawBytes::<U8Bytes>::from(b"bb".as_slice()),
+    );
     let mut text = [b'a'; 201];
     text[0] = 0xc8;
-    let mut numbers = [0x42; 84];
-    numbers[..4].copy_from_slice(b"\x28\0\0\0");
     [
-        refusals(heap, owned, &text) > Some(1),
-        refusals(heap, list, &numbers) > Some(2),
-        refusals(heap, texts, TEXTS) > Some(1),
+        is_refused_at_least(heap, owned, &text, 2),
+        is_refused_at_least(heap, list, NUMBERS, 3),
+        is_refused_at_least(heap, &texts, TEXTS, 2),
     ]
 }
 
@@ -46,9 +60,5 @@ fn writers_leave_nothing_half_written(rt: HostRuntime) -> Result<(), Fail> {
     let heap = &Refusing::new(rt.alloc(), 0);
     let items = [RawInt::<LeU16>::new(0x4242); 40];
     let list: List<'_> = Seq::new(CowSlice::Borrowed(&items));
-    let texts = Both(
-        RawBytes::<U8Bytes>::from([b'a'; 40].as_slice()),
-        RawBytes::<U8Bytes>::from(b"bb".as_slice()),
-    );
-    all_hold(&are_refused(heap, &owned, &list, &texts))
+    all_hold(&are_refused(heap, &owned, &list))
 }

@@ -1,6 +1,6 @@
 // Constants and sets of flags by their numbers.
 
-use crate::at::{Refused, WHOLE, are_refused, is_field};
+use crate::at::{Refused, are_refused, is_at};
 use mysql_wire::constants::{
     CapabilityFlags, ColumnType, CursorType, Flags, GeometryType, ItemResult, StatusFlags,
     UnknownColumnType,
@@ -31,12 +31,12 @@ where
     A: Allocator + Copy,
     T: IntRepr,
 {
-    let raw = RawConst::<T, U>::new(number);
-    is_field(
+    is_at(
         heap,
         alloc,
-        Some(size),
-        &(&raw, (), 0, input, size, WHOLE),
+        &RawConst::<T, U>::new(number),
+        input,
+        size,
         &[],
     )
 }
@@ -53,12 +53,12 @@ where
     F: Flags<Bits = T::Primitive>,
     T: IntRepr,
 {
-    let raw = RawFlags::<F, T>::new(number);
-    is_field(
+    is_at(
         heap,
         alloc,
-        Some(size),
-        &(&raw, (), 0, input, size, WHOLE),
+        &RawFlags::<F, T>::new(number),
+        input,
+        size,
         &[],
     )
 }
@@ -89,15 +89,14 @@ fn are_shown() -> bool {
 // Whether a byte is the type that it stands for, or is refused, and is eaten.
 fn is_column_type<A: Allocator + Copy>(heap: &Heap, alloc: A, number: u8) -> bool {
     let input = [number, 1];
-    let one = Some(1);
     match ColumnType::try_from(number) {
         Ok(value) => {
             let value = Const::<ColumnType, u8>::new(value);
-            is_field(heap, alloc, one, &(&value, (), 0, &input, 1, WHOLE), &[])
+            is_at(heap, alloc, &value, &input, 1, &[])
         }
         Err(_) => {
             let refused: [Refused<'_, ()>; 1] = [((), 0, &input, UNKNOWN, 1)];
-            are_refused::<Const<ColumnType, u8>, (), A>(heap, alloc, one, &refused)
+            are_refused::<Const<ColumnType, u8>, (), A>(heap, alloc, Some(1), &refused)
         }
     }
 }
@@ -110,13 +109,13 @@ fn are_column_types<A: Allocator + Copy>(heap: &Heap, alloc: A) -> bool {
     all
 }
 
-// Whether a constant is read from the first bytes of an input, so many, and no constant from those
-// that are refused.
+// Whether a constant is read from the first bytes of an input, so many, which takes no memory, and
+// no constant from those that are refused.
 fn is_constant<'de, C, T, A>(
     heap: &Heap,
     alloc: A,
     size: usize,
-    read: Option<(C, &'de [u8])>,
+    (value, input): (C, &'de [u8]),
     refused: &[Refused<'de, ()>],
 ) -> bool
 where
@@ -124,14 +123,11 @@ where
     C: Copy + PartialEq + TryFrom<T::Primitive, Error: Drop>,
     T: IntRepr,
 {
-    let mut all = true;
+    let value = Const::<C, T>::new(value);
     heap.refuse(0);
-    if let Some((value, input)) = read {
-        let value = Const::<C, T>::new(value);
-        all &= gives(alloc, (), input, &value, input.len().saturating_sub(size));
-    }
-    all &= heap.left() == 0;
-    all & are_refused::<Const<C, T>, (), A>(heap, alloc, Some(size), refused)
+    let is_read = gives(alloc, (), input, &value, input.len().saturating_sub(size));
+    let is_lent = heap.left() == 0;
+    is_read & is_lent & are_refused::<Const<C, T>, (), A>(heap, alloc, Some(size), refused)
 }
 
 const NO_CURSOR: &[Refused<()>] = &[((), 0, b"\x08", UNKNOWN, 0)];
@@ -143,13 +139,12 @@ const NO_STATUS: &[Refused<()>] = &[((), 0, b"\x04\0\0", UNKNOWN, 1)];
 // Numbers of constants that are read and not written, and numbers that stand for none.
 fn are_constants<A: Allocator + Copy>(heap: &Heap, alloc: A) -> [bool; 4] {
     let cursor = Const::<CursorType, u8>::new(CursorType::CURSOR_TYPE_READ_ONLY);
-    let point: Option<(GeometryType, &[u8])> = Some((GeometryType::GEOM_POINT, b"\x01"));
-    let invalid: Option<(ItemResult, &[u8])> = Some((ItemResult::INVALID_RESULT, b"\xff\x01"));
-    let is_cursor = (&cursor, (), 0, b"\x01\xff".as_slice(), 1, WHOLE);
+    let invalid = (ItemResult::INVALID_RESULT, b"\xff\x01".as_slice());
+    let point = (GeometryType::GEOM_POINT, b"\x01".as_slice());
     [
-        is_field(heap, alloc, Some(1), &is_cursor, NO_CURSOR),
+        is_at(heap, alloc, &cursor, b"\x01\xff", 1, NO_CURSOR),
         is_constant::<ItemResult, i8, A>(heap, alloc, 1, invalid, NO_RESULT),
-        is_constant::<StatusFlags, LeU16, A>(heap, alloc, 2, None, NO_STATUS),
+        are_refused::<Const<StatusFlags, LeU16>, (), A>(heap, alloc, Some(2), NO_STATUS),
         is_constant::<GeometryType, u8, A>(heap, alloc, 1, point, &[]),
     ]
 }

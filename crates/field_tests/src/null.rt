@@ -13,8 +13,8 @@ fn is_written(buf: &mut Vec<u8>, text: &[u8], zero: usize) -> bool {
     buf.clear();
     let is_put = RawBytes::<NullBytes>::from(text).serialize(buf).is_ok();
     let bytes = buf.as_slice();
-    let is_front = between(bytes, 0, zero) == between(text, 0, zero);
-    is_put & is_front & (between(bytes, zero, bytes.len()) == b"\0".as_slice())
+    let is_end = (first_zero(bytes) == zero) & (bytes.len() == zero.saturating_add(1));
+    is_put & is_end & (between(bytes, 0, zero) == between(text, 0, zero))
 }
 
 // Whether the text is read up to its first zero, which is eaten; where there is none, whether that

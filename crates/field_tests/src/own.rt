@@ -37,7 +37,7 @@ fn are_own<A: Allocator + Copy>(heap: &Heap, alloc: A, text: &[u8]) -> [bool; 2]
 
 #[test]
 fn a_number_and_a_text_of_ones_own(rt: HostRuntime) -> Result<(), Fail> {
-    let letters = letters(rt.alloc(), 65536)?;
+    let letters = letters(rt.alloc());
     let heap = &Refusing::new(rt.alloc(), 0);
     all_hold(&are_own(heap, heap, letters.as_slice()))
 }

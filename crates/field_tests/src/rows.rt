@@ -3,7 +3,6 @@
 use crate::at::{Refused, UNCUT, WHOLE, is_field};
 use crate::traits::is_copied;
 use mysql_wire::constants::{ColumnType, SessionStateType};
-use mysql_wire::io::ParseBuf;
 use mysql_wire::misc::raw::bytes::EofBytes;
 use mysql_wire::misc::raw::int::{LeU16, LeU32};
 use mysql_wire::misc::raw::{Both, Either, RawBytes, RawInt, RawSeq, Slice};
@@ -13,23 +12,26 @@ use std::borrow::CowSlice;
 use std::test::Fail;
 use test_support::answers::Fault;
 use test_support::facts::all_hold;
-use test_support::fields::is_written;
+use test_support::fields::{gives, is_written};
 use test_support::fixture::Heap;
 use test_support::reference::between;
 
 const NO_BYTES: &[Refused<usize>] = &[(usize::MAX, 0, b"ab", Fault::UnexpectedEof, 2)];
 
+// Bytes whose number the context says.
+fn are_bytes<A: Allocator + Copy>(heap: &Heap, alloc: A) -> bool {
+    let two = (&Slice(b"ab"), 2, 0, b"ab\xff".as_slice(), 2, WHOLE);
+    let none = (&Slice(b""), 0, 0, b"ab".as_slice(), 0, WHOLE);
+    let are_two = is_field(heap, alloc, None, &two, NO_BYTES);
+    are_two & is_field(heap, alloc, None, &none, &[])
+}
+
 // Whether numbers of one byte in a row are written and read, and one byte is left.
 fn is_row_of<U, A: Allocator + Copy>(heap: &Heap, alloc: A, input: &[u8]) -> bool {
     let len = input.len().saturating_sub(1);
     let numbers: RawSeq<'_, u8, U, A> = RawSeq::new(CowSlice::Borrowed(between(input, 0, len)));
-    is_field(
-        heap,
-        alloc,
-        None,
-        &(&numbers, len, 0, input, len, WHOLE),
-        &[],
-    )
+    let value = (&numbers, len, 0, input, len, WHOLE);
+    is_field(heap, alloc, None, &value, &[])
 }
 
 // Numbers that name changes of a session's state.
@@ -68,10 +70,12 @@ const NO_NUMBER: &[Refused<Either<(), ()>>] = &[
     (Either::Right(()), NEVER, b"", Fault::UnexpectedEof, 0),
 ];
 
-fn is_either<A: Allocator + Copy>(heap: &Heap, alloc: A, left: &Number, right: &Number) -> bool {
+fn is_either<A: Allocator + Copy>(heap: &Heap, alloc: A) -> bool {
+    let left: Number = Either::Left(RawInt::new(1));
+    let right: Number = Either::Right(RawInt::new(1));
     let input = b"\x01\0\0\0\x02".as_slice();
-    let four = (left, Either::Left(()), NEVER, input, 4, UNCUT);
-    let one = (right, Either::Right(()), NEVER, input, 1, UNCUT);
+    let four = (&left, Either::Left(()), NEVER, input, 4, UNCUT);
+    let one = (&right, Either::Right(()), NEVER, input, 1, UNCUT);
     let is_left = is_field(heap, alloc, None, &four, NO_NUMBER);
     is_left & is_field(heap, alloc, None, &one, &[])
 }
@@ -79,23 +83,13 @@ fn is_either<A: Allocator + Copy>(heap: &Heap, alloc: A, left: &Number, right: &
 // A number, and behind it the rest as a text.
 type Row<'a, A> = Both<RawInt<LeU16>, RawBytes<'a, EofBytes, A>>;
 
-fn is_lent<A: Allocator + Copy>(row: &Row<'_, A>, number: u16, text: &[u8]) -> bool {
-    let is_borrowed = matches!(row.1.0, CowSlice::Borrowed(_));
-    (row.0.0 == number) & row.1.eq_bytes(text) & is_borrowed
-}
-
-// Whether a row is read, whose text is borrowed.
-fn is_row<'de, A>(heap: &Heap, alloc: A, input: &'de [u8], number: u16, text: &[u8]) -> bool
-where
-    A: 'de + Allocator + Copy,
-{
-    let mut buf = ParseBuf(input);
+// Whether a row is written, and read from all of an input, which takes no memory: its text is
+// borrowed.
+fn is_row<A: Allocator + Copy>(heap: &Heap, alloc: A, input: &[u8]) -> bool {
+    let row: Row<'_, A> = Both(RawInt::new(258), RawBytes::from(b"hi".as_slice()));
+    let is_written = is_written(heap, &row, input);
     heap.refuse(0);
-    let is_read = match buf.parse_in::<Row<'de, A>, A>(alloc, ((), ())) {
-        Ok(row) => is_lent(&row, number, text),
-        Err(_) => false,
-    };
-    is_read & buf.0.is_empty() & (heap.left() == 0)
+    is_written & gives(alloc, ((), ()), input, &row, 0) & (heap.left() == 0)
 }
 
 fn are_numbers<A: Allocator + Copy>(heap: &Heap, alloc: A) -> bool {
@@ -105,36 +99,23 @@ fn are_numbers<A: Allocator + Copy>(heap: &Heap, alloc: A) -> bool {
 }
 
 // Bytes and numbers in a row, one of two values by each side, and two one after the other.
-fn are_rows<'de, A>(heap: &Heap, alloc: A, input: &'de [u8]) -> [bool; 12]
-where
-    A: 'de + Allocator + Copy,
-{
-    let left: Number = Either::Left(RawInt::new(1));
-    let right: Number = Either::Right(RawInt::new(1));
-    let row = Both(
-        RawInt::<LeU16>::new(258),
-        RawBytes::<EofBytes>::from(b"hi".as_slice()),
-    );
-    let two = (&Slice(b"ab"), 2, 0, b"ab\xff".as_slice(), 2, WHOLE);
-    let none = (&Slice(b""), 0, 0, b"ab".as_slice(), 0, WHOLE);
+fn are_rows<A: Allocator + Copy>(heap: &Heap, alloc: A) -> [bool; 10] {
     [
-        is_field(heap, alloc, None, &two, NO_BYTES),
-        is_field(heap, alloc, None, &none, &[]),
+        are_bytes(heap, alloc),
         is_row_of::<SessionStateType, A>(heap, alloc, b"\0\x05\x09\xff"),
         is_row_of::<ColumnType, A>(heap, alloc, b"\xf4\xff"),
         is_row_of::<(), A>(heap, alloc, b"\xff"),
         are_shown(heap, alloc, b"\0\x05\x09"),
-        is_either(heap, alloc, &left, &right),
-        left.unwrap_left() == RawInt::new(1),
-        right.unwrap_right() == RawInt::new(1),
+        is_either(heap, alloc),
+        Number::Left(RawInt::new(1)).unwrap_left().0 == 1,
+        Number::Right(RawInt::new(1)).unwrap_right().0 == 1,
         are_numbers(heap, alloc),
-        is_written(heap, &row, input),
-        is_row(heap, alloc, input, 258, b"hi"),
+        is_row(heap, alloc, b"\x02\x01hi"),
     ]
 }
 
 #[test]
 fn values_in_a_row_are_written_and_read(rt: HostRuntime) -> Result<(), Fail> {
     let heap = &Refusing::new(rt.alloc(), 0);
-    all_hold(&are_rows(heap, heap, b"\x02\x01hi"))
+    all_hold(&are_rows(heap, heap))
 }

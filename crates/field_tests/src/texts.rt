@@ -1,6 +1,7 @@
 // Each representation of a text: at the ends of its lengths, cut short, with bytes behind, and with
 // each request for memory refused.
 
+use crate::memory::is_refused_at_least;
 use mysql_wire::io::{InvalidReason, ParseBuf};
 use mysql_wire::misc::raw::RawBytes;
 use mysql_wire::misc::raw::bytes::{
@@ -9,25 +10,28 @@ use mysql_wire::misc::raw::bytes::{
 };
 use mysql_wire::misc::raw::int::VarLen;
 use refusing::Refusing;
-use std::alloc::{AllocError, Allocator, Global};
+use std::alloc::Allocator;
 use std::borrow::CowSlice;
 use std::test::Fail;
 use test_support::answers::Fault;
 use test_support::facts::all_hold;
 use test_support::fields::{
-    Eaten, MORE, Short, gives, has_size, is_read, is_written, joined, refusals, stops,
+    Eaten, MORE, Short, gives, has_size, is_read, is_written, joined, last, refusals, stops,
 };
 use test_support::fixture::Heap;
 use test_support::reference::between;
 
-/// A text of so many bytes, none of them a zero.
-pub fn letters(alloc: Global, len: usize) -> Result<Vec<u8>, AllocError> {
-    let mut text = Vec::with_capacity(alloc, len)?;
-    for _ in 0..len.div_ceil(26) {
-        text.extend_from_slice(b"abcdefghijklmnopqrstuvwxyz")?;
+const LETTERS: &[u8] = b"abcdefghijklmnopqrstuvwxyzABCDEFGHIJKLMNOPQRSTUVWXYZ0123456789+-";
+
+/// A text of 65536 bytes, none of them a zero, and two zeros behind it. It is shorter where memory
+/// is refused.
+pub fn letters<A: Allocator>(alloc: A) -> Vec<u8, A> {
+    let mut text = Vec::new(alloc);
+    for _ in 0..1024 {
+        let _ = text.extend_from_slice(LETTERS);
     }
-    text.truncate(len);
-    Ok(text)
+    let _ = text.extend_from_slice(b"\0\0");
+    text
 }
 
 // Whether a text is read, and borrows from the input.
@@ -64,9 +68,8 @@ fn is_text<T: BytesRepr<Ctx = C>, C: Copy, A: Allocator + Copy>(
     let input = joined(heap, &[front, cut, end, MORE]);
     let input = input.as_slice();
     let len = input.len().saturating_sub(MORE.len());
-    let bytes = between(input, 0, len);
-    let asked = refusals(heap, &RawBytes::<T>::from(text), bytes);
-    let is_put = (asked >= Some(least)) & ((asked == Some(0)) == bytes.is_empty());
+    let value = RawBytes::<T, A>::from(text);
+    let is_put = is_refused_at_least(heap, &value, between(input, 0, len), least);
     let back = RawBytes::<T, A>::from(cut);
     heap.refuse(0);
     let is_read = is_read(alloc, ctx, input, len, &back, short);
@@ -150,25 +153,21 @@ const VARLEN: &[Row] = &[
 type Read<'a, C> = (C, &'a [u8], Result<&'a [u8], Fault>, usize);
 
 // Whether each row is read so, which takes no memory.
-fn are_read<'a, T, C, A>(heap: &Heap, alloc: A, rows: &[Read<'a, C>]) -> bool
-where
-    T: BytesRepr<Ctx = C>,
-    C: Copy,
-    A: 'a + Allocator + Copy,
-{
+fn are_read<T: BytesRepr<Ctx = C>, C: Copy, A: Allocator + Copy>(
+    heap: &Heap,
+    alloc: A,
+    rows: &[Read<'_, C>],
+) -> bool {
     let mut all = true;
-    for (ctx, input, wanted, left) in rows {
-        heap.refuse(0);
+    heap.refuse(0);
+    for row in rows {
+        let (ctx, input, wanted, left) = *row;
         all &= match wanted {
-            Ok(text) => {
-                let wanted = RawBytes::<T, A>::from(*text);
-                gives(alloc, *ctx, *input, &wanted, *left)
-            }
-            Err(why) => stops::<RawBytes<'a, T, A>, C, A>(alloc, *ctx, *input, *why, *left),
+            Ok(text) => gives(alloc, ctx, input, &RawBytes::<T, A>::from(text), left),
+            Err(why) => stops::<RawBytes<'_, T, A>, C, A>(alloc, ctx, input, why, left),
         };
-        all &= heap.left() == 0;
     }
-    all
+    all & (heap.left() == 0)
 }
 
 const LARGE: Fault = Fault::Invalid(InvalidReason::VarLenTooLarge);
@@ -211,22 +210,6 @@ fn are_behind<A: Allocator + Copy>(heap: &Heap, alloc: A, text: &[u8]) -> [bool;
         are_texts::<U8Bytes, A>(heap, alloc, text, Eaten::Nothing, U8, 255),
         are_texts::<U32Bytes, A>(heap, alloc, text, Eaten::Nothing, U32, 4294967295),
         are_texts::<VarLen, A>(heap, alloc, text, Eaten::All, VARLEN, 4294967295),
-    ]
-}
-
-// Longer, hostile and refused lengths. Whatever length is declared, no memory is asked for.
-fn are_lengths<'a, A: 'a + Allocator + Copy>(heap: &Heap, alloc: A) -> [bool; 5] {
-    let lenenc: &[Read<'a, ()>] = LENENC_READ;
-    let varlen: &[Read<'a, ()>] = VARLEN_READ;
-    let one_byte: &[Read<'a, ()>] = U8_READ;
-    let four_bytes: &[Read<'a, ()>] = U32_READ;
-    let bare: &[Read<'a, usize>] = BARE_READ;
-    [
-        are_read::<LenEnc, (), A>(heap, alloc, lenenc),
-        are_read::<VarLen, (), A>(heap, alloc, varlen),
-        are_read::<U8Bytes, (), A>(heap, alloc, one_byte),
-        are_read::<U32Bytes, (), A>(heap, alloc, four_bytes),
-        are_read::<BareBytes<2>, usize, A>(heap, alloc, bare),
     ]
 }
 
@@ -334,6 +317,7 @@ const FIXED: &[(&[u8], &[u8])] = &[
     (b"\0b", b"\0b\0\0"),
 ];
 
+// The last one is 300 letters, with two zeros behind them.
 fn are_fixed<A: Allocator + Copy>(heap: &Heap, alloc: A, filled: &[u8]) -> bool {
     let long = between(filled, 0, 300);
     let mut all = is_fixed::<0, A>(heap, alloc, b"", b"");
@@ -347,33 +331,31 @@ fn are_fixed<A: Allocator + Copy>(heap: &Heap, alloc: A, filled: &[u8]) -> bool 
     all
 }
 
-// Of 65536 letters, and of 300 with two zeros behind them.
-fn are_ended<A: Allocator + Copy>(
-    heap: &Heap,
-    alloc: A,
-    letters: &[u8],
-    filled: &[u8],
-) -> [bool; 4] {
+// Longer, hostile and refused lengths: whatever length is declared, no memory is asked for. And
+// texts whose end is found by other means.
+fn are_others<A: Allocator + Copy>(heap: &Heap, alloc: A, letters: &[u8]) -> [bool; 9] {
     [
+        are_read::<LenEnc, (), A>(heap, alloc, LENENC_READ),
+        are_read::<VarLen, (), A>(heap, alloc, VARLEN_READ),
+        are_read::<U8Bytes, (), A>(heap, alloc, U8_READ),
+        are_read::<U32Bytes, (), A>(heap, alloc, U32_READ),
+        are_read::<BareBytes<2>, usize, A>(heap, alloc, BARE_READ),
         are_null(heap, alloc, between(letters, 0, 300)),
         are_all(heap, alloc, letters),
         are_bare(heap, alloc, letters),
-        are_fixed(heap, alloc, filled),
+        are_fixed(heap, alloc, last(letters, 302)),
     ]
 }
 
 // Each way out lets go all that a function holds, and is proved: this one holds nothing.
-fn all_texts(heap: &Heap, letters: &[u8], filled: &[u8]) -> Result<(), Fail> {
-    all_hold(&are_behind(heap, heap, letters))?;
-    all_hold(&are_lengths(heap, heap))?;
-    all_hold(&are_ended(heap, heap, letters, filled))
+fn all_texts<A: Allocator + Copy>(heap: &Heap, alloc: A, letters: &[u8]) -> Result<(), Fail> {
+    all_hold(&are_behind(heap, alloc, letters))?;
+    all_hold(&are_others(heap, alloc, letters))
 }
 
 #[test]
 fn texts_are_written_and_read(rt: HostRuntime) -> Result<(), Fail> {
-    let letters = letters(rt.alloc(), 65536)?;
-    let mut filled = Vec::from_slice(rt.alloc(), between(letters.as_slice(), 0, 300))?;
-    filled.extend_from_slice(b"\0\0")?;
+    let letters = letters(rt.alloc());
     let heap = &Refusing::new(rt.alloc(), 0);
-    all_texts(heap, letters.as_slice(), filled.as_slice())
+    all_texts(heap, heap, letters.as_slice())
 }
