@@ -1,5 +1,6 @@
 //! The cases of the Rust crate's own tests.
 
+use crate::tables::are;
 use mysql_wire::constants::MAX_PAYLOAD_LEN;
 use std::alloc::Global;
 use std::test::Fail;
@@ -10,7 +11,7 @@ use test_support::told::Told;
 
 const ZEROS: [u8; 1024] = [0; 1024];
 
-const CASES: [Script; 5] = [
+const CASES: &[Script] = &[
     Script {
         name: "zero_len_packet",
         steps: &[
@@ -88,7 +89,7 @@ const CASES: [Script; 5] = [
 
 #[test]
 fn each_case_goes_as_it_says(rt: HostRuntime) -> Result<(), Fail> {
-    play(rt.alloc(), &CASES)
+    play(rt.alloc(), CASES)
 }
 
 // Whether a packet through one buffer, from one codec to another, comes out as it went in.
@@ -97,7 +98,7 @@ fn passes(sender: &mut Ends, receiver: &mut Ends, packet: &[u8]) -> bool {
     let sent = sender.encode(packet) == Told::Done;
     std::mem::swap(&mut sender.src, &mut receiver.src);
     let whole = receiver.decode() == Told::Whole;
-    sent && whole && receiver.dst.as_slice() == packet && receiver.src.is_empty()
+    sent & whole & are(receiver.dst.as_slice(), packet) & receiver.src.is_empty()
 }
 
 type Ends = Fixture<'static, Global, Vec<u8>>;
@@ -109,7 +110,7 @@ fn packet_sequence(rt: HostRuntime) -> Result<(), Fail> {
     let mut receiver = Fixture::new(alloc, None, Vec::new(alloc));
     let mut good = true;
     for len in 0..1024usize {
-        good = good && passes(&mut sender, &mut receiver, &ZEROS[..len]);
+        good &= passes(&mut sender, &mut receiver, &ZEROS[..len]);
     }
     ensure(good, "each packet comes out as it went in")
 }

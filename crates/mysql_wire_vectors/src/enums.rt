@@ -14,7 +14,7 @@ type Row<R, T> = (R, T, R);
 
 macro_rules! rows {
     ($type:ident as $raw:ident; $($number:literal => $name:ident,)*) => {
-        [$(($number, $type::$name, $type::$name as $raw)),*]
+        &[$(($number, $type::$name, $type::$name as $raw)),*]
     };
 }
 
@@ -64,7 +64,7 @@ fn are_given<R: Copy + PartialEq + From<T>, T: Copy>(rows: &[Row<R, T>]) -> bool
     all
 }
 
-const MARIADB_BULK_INDICATORS: [Row<u8, MariadbBulkIndicator>; 4] = rows! {
+const MARIADB_BULK_INDICATORS: &[Row<u8, MariadbBulkIndicator>] = rows! {
     MariadbBulkIndicator as u8;
     0 => BULK_INDICATOR_NONE,
     1 => BULK_INDICATOR_NULL,
@@ -72,7 +72,7 @@ const MARIADB_BULK_INDICATORS: [Row<u8, MariadbBulkIndicator>; 4] = rows! {
     3 => BULK_INDICATOR_IGNORE,
 };
 
-const SESSION_STATE_TYPES: [Row<u8, SessionStateType>; 6] = rows! {
+const SESSION_STATE_TYPES: &[Row<u8, SessionStateType>] = rows! {
     SessionStateType as u8;
     0 => SESSION_TRACK_SYSTEM_VARIABLES,
     1 => SESSION_TRACK_SCHEMA,
@@ -82,7 +82,7 @@ const SESSION_STATE_TYPES: [Row<u8, SessionStateType>; 6] = rows! {
     5 => SESSION_TRACK_TRANSACTION_STATE,
 };
 
-const GEOMETRY_TYPES: [Row<u8, GeometryType>; 8] = rows! {
+const GEOMETRY_TYPES: &[Row<u8, GeometryType>] = rows! {
     GeometryType as u8;
     0 => GEOM_GEOMETRY,
     1 => GEOM_POINT,
@@ -94,7 +94,7 @@ const GEOMETRY_TYPES: [Row<u8, GeometryType>; 8] = rows! {
     7 => GEOM_GEOMETRYCOLLECTION,
 };
 
-const COLUMN_TYPES: [Row<u8, ColumnType>; 34] = rows! {
+const COLUMN_TYPES: &[Row<u8, ColumnType>] = rows! {
     ColumnType as u8;
     0 => MYSQL_TYPE_DECIMAL,
     1 => MYSQL_TYPE_TINY,
@@ -132,7 +132,7 @@ const COLUMN_TYPES: [Row<u8, ColumnType>; 34] = rows! {
     255 => MYSQL_TYPE_GEOMETRY,
 };
 
-const ITEM_RESULTS: [Row<i8, ItemResult>; 6] = rows! {
+const ITEM_RESULTS: &[Row<i8, ItemResult>] = rows! {
     ItemResult as i8;
     -1 => INVALID_RESULT,
     0 => STRING_RESULT,
@@ -142,7 +142,7 @@ const ITEM_RESULTS: [Row<i8, ItemResult>; 6] = rows! {
     4 => DECIMAL_RESULT,
 };
 
-const COMMANDS: [Row<u8, Command>; 34] = rows! {
+const COMMANDS: &[Row<u8, Command>] = rows! {
     Command as u8;
     0 => COM_SLEEP,
     1 => COM_QUIT,
@@ -205,20 +205,20 @@ fn each_enum_is_converted_by_its_numbers(rt: HostRuntime) {
     let enums = [
         is_enum(
             alloc,
-            &MARIADB_BULK_INDICATORS,
+            MARIADB_BULK_INDICATORS,
             UnknownMariadbBulkIndicator,
             (4, indicator),
         ),
         is_enum(
             alloc,
-            &SESSION_STATE_TYPES,
+            SESSION_STATE_TYPES,
             UnknownSessionStateType,
             (6, state),
         ),
-        is_enum(alloc, &GEOMETRY_TYPES, UnknownGeometryType, (8, geometry)),
-        is_enum(alloc, &COLUMN_TYPES, UnknownColumnType, (244, column)),
-        is_enum(alloc, &ITEM_RESULTS, UnknownItemResultType, (-2, item)),
-        are_cast(&COMMANDS),
+        is_enum(alloc, GEOMETRY_TYPES, UnknownGeometryType, (8, geometry)),
+        is_enum(alloc, COLUMN_TYPES, UnknownColumnType, (244, column)),
+        is_enum(alloc, ITEM_RESULTS, UnknownItemResultType, (-2, item)),
+        are_cast(COMMANDS),
     ];
     assert!(rt; enums == [true; 6]);
 }
@@ -226,9 +226,9 @@ fn each_enum_is_converted_by_its_numbers(rt: HostRuntime) {
 #[test]
 fn values_and_errors_give_their_numbers(rt: HostRuntime) {
     let given = [
-        are_given(&MARIADB_BULK_INDICATORS),
-        are_given(&SESSION_STATE_TYPES),
-        are_given(&COLUMN_TYPES),
+        are_given(MARIADB_BULK_INDICATORS),
+        are_given(SESSION_STATE_TYPES),
+        are_given(COLUMN_TYPES),
         u8::from(UnknownGeometryType(99)) == 99,
         u8::from(UnknownColumnType(99)) == 99,
         i8::from(UnknownItemResultType(99)) == 99,
@@ -270,7 +270,7 @@ fn has_its_kinds(row: &Row<u8, ColumnType>) -> bool {
 #[test]
 fn kinds_of_column_types(rt: HostRuntime) {
     let mut all = true;
-    for row in &COLUMN_TYPES {
+    for row in COLUMN_TYPES {
         all &= has_its_kinds(row);
     }
     assert!(rt; all);

@@ -1,5 +1,6 @@
 //! What the errors say.
 
+use crate::tables::wrong_row;
 use crate::texts;
 use mysql_wire::io::{InvalidLengthEncodedInteger, InvalidReason, WireError};
 use mysql_wire::proto::codec::error::PacketCodecError;
@@ -19,7 +20,9 @@ fn shows<E: Display + Debug>(alloc: Global, error: &E, text: &str) -> bool {
     texts::shows(alloc, error, text) & is_debugged
 }
 
-const REASONS: [(InvalidReason, &str); 5] = [
+type Reason = (InvalidReason, &'static str);
+
+const REASONS: &[Reason] = &[
     (InvalidReason::UnknownValue, "unknown value"),
     (InvalidReason::ConstMismatch, "constant mismatch"),
     (
@@ -38,17 +41,15 @@ const REASONS: [(InvalidReason, &str); 5] = [
 
 const LENGTH: &str = "Invalid length-encoded integer value (starts with 0xfb|0xff)";
 
+// Whether a reason shows as its text, alone and as an error.
+fn is_shown(alloc: Global, row: Reason) -> bool {
+    let (reason, text) = row;
+    shows(alloc, &reason, text) & shows(alloc, &WireError::InvalidData(reason), text)
+}
+
 #[test]
 fn reasons_show_their_texts(rt: HostRuntime) -> Result<(), Fail> {
-    let mut wrong = None;
-    for i in 0..REASONS.len() {
-        let (reason, text) = REASONS[i];
-        let error = WireError::InvalidData(reason);
-        if !(shows(rt.alloc(), &reason, text) & shows(rt.alloc(), &error, text)) {
-            wrong = Some(i);
-        }
-    }
-    no_row(wrong)
+    no_row(wrong_row(rt.alloc(), REASONS, is_shown))
 }
 
 #[test]

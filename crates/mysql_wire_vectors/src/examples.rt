@@ -14,7 +14,7 @@ use test_support::script::{Script, Step, play};
 use test_support::told::Told;
 
 // One codec or decoder, from its first state on.
-const EXAMPLES: [Script; 9] = [
+const EXAMPLES: &[Script] = &[
     Script {
         name: "a header, and then both its bytes at once",
         steps: &[
@@ -26,16 +26,6 @@ const EXAMPLES: [Script; 9] = [
             Step::Decode(Told::Whole),
             Step::Held(b"\xaa\xbb"),
             Step::Left(b""),
-        ],
-    },
-    Script {
-        name: "five bytes at a limit of 4",
-        steps: &[
-            Step::Limit(4),
-            Step::Src(b"\x05\0\0\x07"),
-            Step::Decode(Told::TooLarge),
-            Step::Left(b"\x05\0\0\x07"),
-            Step::Held(b""),
         ],
     },
     Script {
@@ -52,21 +42,6 @@ const EXAMPLES: [Script; 9] = [
             // The id was not raised.
             Step::Encode(b"", Told::Done),
             Step::Left(b"\0\0\0\0"),
-        ],
-    },
-    Script {
-        name: "the limit is for the whole packet",
-        steps: &[
-            Step::Limit(MAX_PAYLOAD_LEN),
-            Step::Src(b"\xff\xff\xff\0"),
-            Step::ComesMany(MAX_PAYLOAD_LEN),
-            Step::Comes(b"\x01\0\0\x01"),
-            Step::Decode(Told::TooLarge),
-            Step::HeldMany(MAX_PAYLOAD_LEN),
-            Step::Left(b"\x01\0\0\x01"),
-            Step::Stands(true),
-            // Only the chunk that was taken is in the growth.
-            Step::Grew(1, MAX_PAYLOAD_LEN),
         ],
     },
     Script {
@@ -98,6 +73,35 @@ const EXAMPLES: [Script; 9] = [
             Step::Held(b"a"),
         ],
     },
+];
+
+// The same under a limit that is met.
+const LIMITS: &[Script] = &[
+    Script {
+        name: "five bytes at a limit of 4",
+        steps: &[
+            Step::Limit(4),
+            Step::Src(b"\x05\0\0\x07"),
+            Step::Decode(Told::TooLarge),
+            Step::Left(b"\x05\0\0\x07"),
+            Step::Held(b""),
+        ],
+    },
+    Script {
+        name: "the limit is for the whole packet",
+        steps: &[
+            Step::Limit(MAX_PAYLOAD_LEN),
+            Step::Src(b"\xff\xff\xff\0"),
+            Step::ComesMany(MAX_PAYLOAD_LEN),
+            Step::Comes(b"\x01\0\0\x01"),
+            Step::Decode(Told::TooLarge),
+            Step::HeldMany(MAX_PAYLOAD_LEN),
+            Step::Left(b"\x01\0\0\x01"),
+            Step::Stands(true),
+            // Only the chunk that was taken is in the growth.
+            Step::Grew(1, MAX_PAYLOAD_LEN),
+        ],
+    },
     Script {
         name: "at limit 0 an empty packet passes, and no other",
         steps: &[
@@ -121,7 +125,8 @@ const EXAMPLES: [Script; 9] = [
 
 #[test]
 fn each_example_succeeds_with_memory(rt: HostRuntime) -> Result<(), Fail> {
-    play(rt.alloc(), &EXAMPLES)
+    play(rt.alloc(), EXAMPLES)?;
+    play(rt.alloc(), LIMITS)
 }
 
 // The numbers here are the protocol's own: three bytes of 255 are the most that a header states.
@@ -145,12 +150,18 @@ fn are_two_packets_and_a_byte(alloc: Global) -> bool {
     (run == (5, Told::Waits)) & receiver.shows(&[b"123", b"\xff"], b"\0", b"")
 }
 
-// 257 empty packets, and the next id.
-fn ids_go_on_with_0_after_255(alloc: Global) -> bool {
+// 257 empty packets; one that finds no memory is missing.
+fn empty_packets(alloc: Global) -> Vec<u8> {
     let mut stream = Vec::new(alloc);
     for i in 0..257usize {
         let _ = stream.extend_from_slice(&[0, 0, 0, low_byte(i)]);
     }
+    stream
+}
+
+// All of them are delivered, and the next id is behind theirs.
+fn ids_go_on_with_0_after_255(alloc: Global) -> bool {
+    let stream = empty_packets(alloc);
     let mut receiver = Receiver::new(alloc, 0);
     let waits = receiver.deliver(&[stream.as_slice()]) == (1, Told::Waits);
     waits & (receiver.out.len() == 257) & (receiver.next_id() == Some(1))

@@ -1,5 +1,7 @@
 //! The callers of the codec, run: each answer that they have.
 
+use crate::readers::OneByOne;
+use crate::tables::{are, wrong_row};
 use crate::values::are_unchanged;
 use bytes::BytesMut;
 use mysql_wire::proto::codec::error::PacketCodecError;
@@ -8,8 +10,7 @@ use mysql_wire_examples::callers::{exchange, read_packets};
 use mysql_wire_examples::connection::Connection;
 use refusing::{NEVER, Refusing};
 use std::alloc::{Allocator, Global};
-use std::io;
-use std::io::Read;
+use std::io::ErrorKind;
 use std::test::Fail;
 use test_support::facts::{all_hold, no_row};
 use test_support::fixture::Heap;
@@ -42,7 +43,9 @@ fn is_wanted(answer: &Answer, wanted: Wanted) -> bool {
 }
 
 // The command `0e` and its answer, in pieces.
-const EXCHANGES: [(&[&[u8]], Wanted); 5] = [
+type Exchange = (&'static [&'static [u8]], Wanted);
+
+const EXCHANGES: &[Exchange] = &[
     (
         &[b"\x01\0\0", b"\x01\x61\x01\0\0\x02\x62\0"],
         Wanted::Packets(&[b"a", b"b"]),
@@ -53,32 +56,20 @@ const EXCHANGES: [(&[&[u8]], Wanted); 5] = [
     (&[b"\x01\0\0\0\x61"], Wanted::OutOfSync),
 ];
 
-fn is_exchanged(alloc: Global, answer: &[&[u8]], wanted: Wanted) -> bool {
+fn is_exchanged(alloc: Global, row: Exchange) -> bool {
+    let (answer, wanted) = row;
     let mut output = BytesMut::new(alloc);
     let answer = exchange(alloc, b"\x0e", &mut output, answer);
-    is_wanted(&answer, wanted) && output.as_slice() == b"\x01\0\0\0\x0e".as_slice()
+    is_wanted(&answer, wanted) & are(output.as_slice(), b"\x01\0\0\0\x0e")
 }
 
 #[test]
 fn a_command_is_answered(rt: HostRuntime) -> Result<(), Fail> {
-    let mut wrong = None;
-    for i in 0..EXCHANGES.len() {
-        let (answer, wanted) = EXCHANGES[i];
-        if !is_exchanged(rt.alloc(), answer, wanted) {
-            wrong = Some(i);
-        }
-    }
-    no_row(wrong)
+    no_row(wrong_row(rt.alloc(), EXCHANGES, is_exchanged))
 }
 
-// What a server answers to these bytes under a limit of 9, in front of a fault if there is one.
-type Row = (&'static [u8], &'static [u8], Option<Fault>);
-
-#[derive(Clone, Copy)]
-enum Fault {
-    TooLarge,
-    OutOfSync,
-}
+// What a server answers to these bytes under a limit of 9, and what it says then.
+type Row = (&'static [u8], &'static [u8], Told);
 
 const QUERY_DONE: &[u8] = b"\x07\0\0\x01\0\0\0\x02\0\0\0";
 
@@ -86,23 +77,19 @@ const UNKNOWN: &[u8] = b"\x09\0\0\x01\xff\x17\x04#08S01";
 
 const BOTH: &[u8] = b"\x07\0\0\x01\0\0\0\x02\0\0\0\x09\0\0\x01\xff\x17\x04#08S01";
 
-const COMMANDS: [Row; 9] = [
-    (b"", b"", None),
-    (b"\x02\0\0\0\x03S", QUERY_DONE, None),
-    (b"\0\0\0\0", UNKNOWN, None),
-    (b"\x01\0\0\0\x0e\x02\0\0\0\x03", UNKNOWN, None),
-    (b"\x01\0\0\0\x03\x04\0\0\0\x0e123", BOTH, None),
-    (b"\x01\0\0\0\x03\x01\0\0\0\x0e\x01\0", BOTH, None),
-    (
-        b"\x01\0\0\0\x03\x0a\0\0\0",
-        QUERY_DONE,
-        Some(Fault::TooLarge),
-    ),
-    (b"\x0a\0\0\x01", b"", Some(Fault::TooLarge)),
+const COMMANDS: &[Row] = &[
+    (b"", b"", Told::Waits),
+    (b"\x02\0\0\0\x03S", QUERY_DONE, Told::Waits),
+    (b"\0\0\0\0", UNKNOWN, Told::Waits),
+    (b"\x01\0\0\0\x0e\x02\0\0\0\x03", UNKNOWN, Told::Waits),
+    (b"\x01\0\0\0\x03\x04\0\0\0\x0e123", BOTH, Told::Waits),
+    (b"\x01\0\0\0\x03\x01\0\0\0\x0e\x01\0", BOTH, Told::Waits),
+    (b"\x01\0\0\0\x03\x0a\0\0\0", QUERY_DONE, Told::TooLarge),
+    (b"\x0a\0\0\x01", b"", Told::TooLarge),
     (
         b"\x01\0\0\0\x03\x01\0\0\x01\x0e",
         QUERY_DONE,
-        Some(Fault::OutOfSync),
+        Told::OutOfSync,
     ),
 ];
 
@@ -117,56 +104,27 @@ fn serve_both(
     connection.serve(rest, output)
 }
 
-fn is_served(alloc: Global, row: &Row, cut: usize) -> bool {
-    let (bytes, wanted, fault) = *row;
-    let (front, rest) = bytes.split_at(cut.min(bytes.len()));
-    let mut output = BytesMut::new(alloc);
-    let ends_so = match serve_both(alloc, front, rest, &mut output) {
-        Ok(()) => fault.is_none(),
-        Err(PacketCodecError::PacketTooLarge) => matches!(fault, Some(Fault::TooLarge)),
-        Err(PacketCodecError::PacketsOutOfSync) => matches!(fault, Some(Fault::OutOfSync)),
-        Err(_) => false,
-    };
-    ends_so && output.as_slice() == wanted
+fn is_served_however_it_is_cut(alloc: Global, row: Row) -> bool {
+    let (bytes, wanted, told) = row;
+    let mut all = true;
+    for cut in 0..bytes.len() + 1 {
+        let (front, rest) = bytes.split_at(cut.min(bytes.len()));
+        let mut output = BytesMut::new(alloc);
+        let answer = serve_both(alloc, front, rest, &mut output);
+        all &= (Told::of_deliver(answer) == told) & are(output.as_slice(), wanted);
+    }
+    all
 }
 
 #[test]
 fn commands_are_served_however_they_are_cut(rt: HostRuntime) -> Result<(), Fail> {
-    let mut wrong = None;
-    for (i, row) in COMMANDS.iter().enumerate() {
-        for cut in 0..row.0.len() + 1 {
-            if !is_served(rt.alloc(), row, cut) {
-                wrong = Some(i);
-            }
-        }
-    }
-    no_row(wrong)
+    no_row(wrong_row(rt.alloc(), COMMANDS, is_served_however_it_is_cut))
 }
 
-// A reader that gives a byte at a time, and then fails or ends.
-#[derive(Drop)]
-struct Bytewise {
-    left: &'static [u8],
-    fails: bool,
-}
+// What a reader gives byte by byte, whether it fails then, and the packets under a limit of 2.
+type Stream = (&'static [u8], bool, Wanted);
 
-impl Read for Bytewise {
-    fn read(&mut self, buf: &mut [u8]) -> io::Result<usize> {
-        let left = self.left;
-        match (left, buf) {
-            ([first, rest @ ..], [place, ..]) => {
-                *place = *first;
-                self.left = rest;
-                Ok(1)
-            }
-            _ if self.fails => Err(io::Error::other("gone")),
-            _ => Ok(0),
-        }
-    }
-}
-
-// What a reader gives, whether it fails then, and the packets under a limit of 2.
-const STREAMS: [(&[u8], bool, Wanted); 6] = [
+const STREAMS: &[Stream] = &[
     (b"", false, Wanted::Packets(&[])),
     (
         b"\x02\0\0\0ab\0\0\0\x01\x01\0\0\x02c",
@@ -183,34 +141,34 @@ const STREAMS: [(&[u8], bool, Wanted); 6] = [
     (b"\x02\0\0\0ab", true, Wanted::Io),
 ];
 
-fn is_read(alloc: Global, bytes: &'static [u8], fails: bool, wanted: Wanted) -> bool {
-    let mut reader = Bytewise { left: bytes, fails };
+fn is_read(alloc: Global, row: Stream) -> bool {
+    let (bytes, fails, wanted) = row;
+    let until_fault = if fails { bytes.len() } else { usize::MAX };
+    let mut reader = OneByOne {
+        bytes,
+        until_fault,
+        kind: ErrorKind::Other,
+    };
     let answer = read_packets(alloc, 2, &mut reader);
     is_wanted(&answer, wanted)
 }
 
 #[test]
 fn packets_are_read_to_the_end(rt: HostRuntime) -> Result<(), Fail> {
-    let mut wrong = None;
-    for i in 0..STREAMS.len() {
-        let (bytes, fails, wanted) = STREAMS[i];
-        if !is_read(rt.alloc(), bytes, fails, wanted) {
-            wrong = Some(i);
-        }
-    }
-    no_row(wrong)
+    no_row(wrong_row(rt.alloc(), STREAMS, is_read))
 }
 
 // Two packets and the front of a third.
-const TWO: [&[u8]; 3] = [b"\x03", b"\0\0\x001", b"23\x01\0\0\x01\xff\0"];
+const TWO: &[&[u8]] = &[b"\x03", b"\0\0\x001", b"23\x01\0\0\x01\xff\0"];
 
-fn deliver_two<A: Allocator + Copy>(to: &mut Receiver<A>, again: usize) -> Option<Run> {
+// One run over them. Where the codec doesn't stand, nothing is called.
+fn deliver_two<A: Allocator + Copy>(to: &mut Receiver<A>, again: usize) -> Run {
     if !to.codec.stands_at(&to.src, to.dst.as_slice()) {
-        return None;
+        return (0, Told::Fallen);
     }
     let (codec, src) = (&mut to.codec, &mut to.src);
-    let (count, answer) = deliver_again(codec, src, &mut to.dst, &TWO, &mut to.out, again);
-    Some((count, Told::of_deliver(answer)))
+    let (count, answer) = deliver_again(codec, src, &mut to.dst, TWO, &mut to.out, again);
+    (count, Told::of_deliver(answer))
 }
 
 // Whether all is delivered where this request for memory is refused, and may be again; and whether
@@ -223,7 +181,7 @@ fn is_delivered<A: Allocator + Copy>(
 ) -> Option<bool> {
     heap.refuse(nth);
     let mut to = Receiver::new(alloc, 9);
-    let (count, told) = deliver_two(&mut to, again)?;
+    let (count, told) = deliver_two(&mut to, again);
     let is_whole = (count == 3) & (told == Told::Waits) & to.shows(&[b"123", b"\xff"], b"\0", b"");
     let is_stopped = (again == 0) & (told == Told::OutOfMemory) & to.stands();
     (is_whole | (is_stopped & heap.has_refused())).then_some(heap.has_refused())

@@ -20,12 +20,20 @@ fn mails(alloc: Global, mail: &[u8]) -> (Option<bool>, Option<bool>) {
     (row, has_mail(&mut codec, &mut src, mail))
 }
 
+// How many rows a reader gives.
+fn rows_of(reader: &mut PacketReader<&[u8]>) -> Option<u64> {
+    let mut codec = PacketCodec::default();
+    if !reader.fits(&codec) {
+        return None;
+    }
+    count_rows(&mut codec, reader).ok()
+}
+
 // How many rows there are.
 fn rows(alloc: Global, bytes: &[u8]) -> Option<u64> {
-    let mut codec = PacketCodec::default();
     match PacketReader::new(alloc, bytes) {
-        Ok(mut reader) if reader.fits(&codec) => count_rows(&mut codec, &mut reader).ok(),
-        _ => None,
+        Ok(mut reader) => rows_of(&mut reader),
+        Err(_) => None,
     }
 }
 

@@ -1,5 +1,6 @@
 //! The callers over readers and writers, and the one around a login, run.
 
+use crate::tables::{are, wrong_row};
 use mysql_wire::proto::codec::PacketCodec;
 use mysql_wire::proto::packet_io::{PacketIoError, PacketReader, PacketWriter};
 use mysql_wire_examples::login::receive_session;
@@ -26,7 +27,7 @@ fn ends<'a>(alloc: Global, bytes: &'a [u8]) -> Result<(Input<'a>, Output), Packe
 fn ask_once(input: &mut Input<'_>, output: &mut Output) -> Option<u8> {
     let mut codec = PacketCodec::default();
     match ask(&mut codec, input, output, b"\x03") {
-        Ok(answer) => Some((answer.as_slice() == b"\x07".as_slice()) as u8),
+        Ok(answer) => Some(are(answer.as_slice(), b"\x07") as u8),
         Err(_) => None,
     }
 }
@@ -45,15 +46,14 @@ fn answers(codec: &mut PacketCodec, input: &mut Input<'_>, output: &mut Output) 
 // How many commands a server answers until its client has gone.
 fn serve(input: &mut Input<'_>, output: &mut Output) -> Option<u8> {
     let mut codec = PacketCodec::default();
-    let mut count = 0u8;
-    let mut last = Some(true);
-    for _ in 0..9usize {
-        if last == Some(true) {
-            last = answers(&mut codec, input, output);
-            count = count.wrapping_add((last == Some(true)) as u8);
+    for count in 0..9u8 {
+        match answers(&mut codec, input, output) {
+            Some(true) => {}
+            Some(false) => return Some(count),
+            None => return None,
         }
     }
-    (last == Some(false)).then_some(count)
+    None
 }
 
 // Whether a proxy passed a packet on, or there is none.
@@ -78,15 +78,14 @@ fn pass(from: &mut Input<'_>, to: &mut Output) -> Option<u8> {
     let mut to_codec = PacketCodec::default();
     let mut first = b"".as_slice();
     let is_queued = to.queue(&mut to_codec, &mut first).is_ok();
-    let mut count = 0u8;
-    let mut last = Some(true);
-    for _ in 0..9usize {
-        if last == Some(true) {
-            last = relays(&mut from_codec, from, &mut to_codec, to);
-            count = count.wrapping_add((last == Some(true)) as u8);
+    for count in 0..9u8 {
+        match relays(&mut from_codec, from, &mut to_codec, to) {
+            Some(true) => {}
+            Some(false) => return is_queued.then_some(count),
+            None => return None,
         }
     }
-    (is_queued & (last == Some(false))).then_some(count)
+    None
 }
 
 // A client, a server, and a proxy.
@@ -100,7 +99,7 @@ enum Role {
 // What a side is sent, what it says of that, and what it sends.
 type Row = (Role, &'static [u8], Option<u8>, &'static [u8]);
 
-const ROWS: [Row; 5] = [
+const ROWS: &[Row] = &[
     (
         Role::Client,
         b"\x01\0\0\x01\x07\xff",
@@ -123,28 +122,22 @@ const ROWS: [Row; 5] = [
     ),
 ];
 
-fn is_sent(alloc: Global, row: &Row) -> bool {
-    let (name, bytes, wanted, sent) = *row;
+fn is_sent(alloc: Global, row: Row) -> bool {
+    let (role, bytes, wanted, sent) = row;
     let Ok((mut input, mut output)) = ends(alloc, bytes) else {
         return false;
     };
-    let said = match name {
+    let said = match role {
         Role::Client => ask_once(&mut input, &mut output),
         Role::Server => serve(&mut input, &mut output),
         Role::Proxy => pass(&mut input, &mut output),
     };
-    (said == wanted) & (output.into_inner().as_slice() == sent)
+    (said == wanted) & are(output.into_inner().as_slice(), sent)
 }
 
 #[test]
 fn each_side_sends_what_it_must(rt: HostRuntime) -> Result<(), Fail> {
-    let mut wrong = None;
-    for i in 0..ROWS.len() {
-        if !is_sent(rt.alloc(), &ROWS[i]) {
-            wrong = Some(i);
-        }
-    }
-    no_row(wrong)
+    no_row(wrong_row(rt.alloc(), ROWS, is_sent))
 }
 
 #[test]

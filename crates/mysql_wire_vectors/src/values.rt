@@ -1,10 +1,11 @@
 //! Values as packets, and packets as values.
 
+use crate::tables::are;
 use bytes::BytesMut;
 use mysql_wire::misc::raw::Both;
 use mysql_wire::misc::raw::bytes::{BytesRepr, EofBytes, RawBytes, U8Bytes};
 use mysql_wire::misc::raw::int::{IntRepr, LeU16, LenEnc, RawInt};
-use mysql_wire::proto::codec::error::PacketCodecError;
+use mysql_wire::proto::MySerialize;
 use mysql_wire::proto::codec::{PacketCodec, encode_value, parse_packet};
 use mysql_wire_examples::values::{TransferError, send_and_read};
 use refusing::NEVER;
@@ -12,27 +13,52 @@ use std::alloc::{Allocator, Global};
 use std::borrow::CowSlice;
 use std::test::Fail;
 use test_support::facts::{all_hold, ensure};
-use test_support::fields::last;
 use test_support::fixture::Heap;
+use test_support::receiver::Receiver;
+use test_support::told::Told;
 
 // A number, a text behind its length, and a text that takes the rest.
 type Row<'a> = Both<RawInt<LeU16>, Both<RawBytes<'a, LenEnc>, RawBytes<'a, EofBytes>>>;
 
+// What is answered where a value is put behind the packets in `src`.
+fn encode<T: MySerialize, A: Allocator + Copy>(to: &mut Receiver<A>, value: &T) -> Told {
+    Told::of_encode(encode_value(&mut to.codec, value, &mut to.src))
+}
+
+fn encode_byte<A: Allocator + Copy>(to: &mut Receiver<A>, number: u8) -> Told {
+    encode(to, &RawInt::<u8>::new(number))
+}
+
+// A number of the bytes 2 and 3.
+fn encode_two<A: Allocator + Copy>(to: &mut Receiver<A>) -> Told {
+    encode(to, &RawInt::<LeU16>::new(0x0302))
+}
+
+// Whether a value alone is these bytes.
+fn is_packet<T: MySerialize + Drop>(alloc: Global, value: T, packet: &[u8]) -> bool {
+    let mut codec = PacketCodec::default();
+    let mut wire = BytesMut::new(alloc);
+    let is_put = encode_value(&mut codec, &value, &mut wire).is_ok();
+    is_put & are(wire.as_slice(), packet)
+}
+
 #[test]
 fn values_are_numbered_as_packets(rt: HostRuntime) -> Result<(), Fail> {
-    let mut codec = PacketCodec::default();
-    let mut wire = BytesMut::new(rt.alloc());
+    let mut to = Receiver::new(rt.alloc(), 4194304);
     let mut all = true;
     for number in 1..4u8 {
-        all &= encode_value(&mut codec, &RawInt::<u8>::new(number), &mut wire).is_ok();
+        all &= encode_byte(&mut to, number) == Told::Done;
     }
-    all &= wire.as_slice() == b"\x01\0\0\0\x01\x01\0\0\x01\x02\x01\0\0\x02\x03".as_slice();
+    all &= are(
+        to.src.as_slice(),
+        b"\x01\0\0\0\x01\x01\0\0\x01\x02\x01\0\0\x02\x03",
+    );
     ensure(all, "three numbers")
 }
 
 // Whether the value lies in its payload.
 fn is_borrowed<T: BytesRepr>(text: &RawBytes<'_, T>, bytes: &[u8]) -> bool {
-    matches!(text.0, CowSlice::Borrowed(_)) & (text.0.as_slice() == bytes)
+    matches!(text.0, CowSlice::Borrowed(_)) & are(text.0.as_slice(), bytes)
 }
 
 // Whether a row is read from its payload, and borrows from it, and nothing is left.
@@ -59,42 +85,38 @@ where
     U: 'de + BytesRepr<Ctx = ()>,
 {
     match parse_packet::<Both<RawInt<T>, RawBytes<'de, U>>>(alloc, ((), ()), payload) {
-        Ok((back, rest)) => { (back.0.0 == number) & is_borrowed(&back.1, text) & (rest.0 == left) }
+        Ok((back, rest)) => {
+            (back.0.0 == number) & is_borrowed(&back.1, text) & are(rest.0, left)
+        }
         Err(_) => false,
     }
 }
 
 #[test]
 fn a_row_comes_back_borrowed(rt: HostRuntime) -> Result<(), Fail> {
-    let mut codec = PacketCodec::default();
-    let mut wire = BytesMut::new(rt.alloc());
-    let row: Row<'_> = Both(
-        RawInt::new(1),
-        Both(
-            RawBytes::new(CowSlice::Borrowed(b"a")),
-            RawBytes::new(CowSlice::Borrowed(b"b")),
-        ),
+    let alloc = rt.alloc();
+    let texts = Both(
+        RawBytes::new(CowSlice::Borrowed(b"a")),
+        RawBytes::new(CowSlice::Borrowed(b"b")),
     );
-    let mut all = encode_value(&mut codec, &row, &mut wire).is_ok();
-    all &= wire.as_slice() == b"\x05\0\0\0\x01\0\x01ab".as_slice();
-    all &= is_row(rt.alloc(), last(wire.as_slice(), 5), 1, b"a", b"b");
-    ensure(all, "a row")
+    let row: Row<'_> = Both(RawInt::new(1), texts);
+    let is_put = is_packet(alloc, row, b"\x05\0\0\0\x01\0\x01ab");
+    ensure(
+        is_put & is_row(alloc, b"\x01\0\x01ab", 1, b"a", b"b"),
+        "a row",
+    )
 }
 
 #[test]
 fn a_number_and_a_text_are_one_packet(rt: HostRuntime) -> Result<(), Fail> {
-    let mut codec = PacketCodec::default();
-    let mut wire = BytesMut::new(rt.alloc());
-    let pair: Both<RawInt<LeU16>, RawBytes<'_, EofBytes>> = Both(
-        RawInt::new(258),
-        RawBytes::new(CowSlice::Borrowed(b"hi")),
-    );
-    let is_put = encode_value(&mut codec, &pair, &mut wire).is_ok();
+    let alloc = rt.alloc();
+    let text = RawBytes::new(CowSlice::Borrowed(b"hi"));
+    let pair: Both<RawInt<LeU16>, RawBytes<'_, EofBytes>> = Both(RawInt::new(258), text);
     all_hold(&[
-        is_put & (wire.as_slice() == b"\x04\0\0\0\x02\x01hi".as_slice()),
-        is_pair::<LeU16, EofBytes>(rt.alloc(), last(wire.as_slice(), 4), 258, b"hi", b""),
+        is_packet(alloc, pair, b"\x04\0\0\0\x02\x01hi"),
+        is_pair::<LeU16, EofBytes>(alloc, b"\x02\x01hi", 258, b"hi", b""),
         // What follows a value is left.
-        is_pair::<u8, U8Bytes>(rt.alloc(), b"\x07\x01a\xff", 7, b"a", b"\xff"),
+        is_pair::<u8, U8Bytes>(alloc, b"\x07\x01a\xff", 7, b"a", b"\xff"),
     ])
 }
 
@@ -102,22 +124,20 @@ fn a_number_and_a_text_are_one_packet(rt: HostRuntime) -> Result<(), Fail> {
 // buffer and the id stay.
 fn is_unchanged<A: Allocator + Copy>(heap: &Heap, alloc: A, limit: usize, nth: u64) -> bool {
     heap.refuse(NEVER);
-    let mut codec = PacketCodec::default();
-    let mut wire = BytesMut::new(alloc);
-    let value = RawInt::<LeU16>::new(0x0302);
-    let mut all = encode_value(&mut codec, &RawInt::<u8>::new(1), &mut wire).is_ok();
-    codec.max_allowed_packet = limit;
+    let mut to = Receiver::new(alloc, 4194304);
+    let mut all = encode_byte(&mut to, 1) == Told::Done;
+    to.codec.max_allowed_packet = limit;
     heap.refuse(nth);
-    all &= match encode_value(&mut codec, &value, &mut wire) {
-        Err(PacketCodecError::PacketTooLarge) => limit == 1,
-        Err(PacketCodecError::OutOfMemory) => heap.has_refused(),
+    all &= match encode_two(&mut to) {
+        Told::TooLarge => limit == 1,
+        Told::OutOfMemory => heap.has_refused(),
         _ => false,
     };
-    all &= wire.as_slice() == b"\x01\0\0\0\x01".as_slice();
+    all &= are(to.src.as_slice(), b"\x01\0\0\0\x01");
     heap.refuse(NEVER);
-    codec.max_allowed_packet = 2;
-    all &= encode_value(&mut codec, &value, &mut wire).is_ok();
-    all & (wire.as_slice() == b"\x01\0\0\0\x01\x02\0\0\x01\x02\x03".as_slice())
+    to.codec.max_allowed_packet = 2;
+    all &= encode_two(&mut to) == Told::Done;
+    all & are(to.src.as_slice(), b"\x01\0\0\0\x01\x02\0\0\x01\x02\x03")
 }
 
 /// Whether a refused value changes nothing: too large, or refused the payload's room, or the
@@ -130,21 +150,7 @@ pub fn are_unchanged<A: Allocator + Copy>(heap: &Heap, alloc: A) -> [bool; 3] {
     ]
 }
 
-// Whether three texts come back over bytes that are cut there.
-fn come_back<'de>(
-    alloc: Global,
-    cuts: (usize, usize),
-    packets: &'de mut Vec<Vec<u8>>,
-) -> Result<Vec<RawBytes<'de, EofBytes>>, TransferError> {
-    let texts: [RawBytes<'de, EofBytes>; 3] = [
-        RawBytes::new(CowSlice::Borrowed(b"ab")),
-        RawBytes::new(CowSlice::Borrowed(b"")),
-        RawBytes::new(CowSlice::Borrowed(b"c")),
-    ];
-    send_and_read(alloc, 2, &texts, cuts, packets)
-}
-
-// Whether they are the same.
+// Whether they are the same three texts.
 fn are_same(answer: &Result<Vec<RawBytes<'_, EofBytes>>, TransferError>) -> bool {
     match answer {
         Ok(texts) => match texts.as_slice() {
@@ -157,13 +163,23 @@ fn are_same(answer: &Result<Vec<RawBytes<'_, EofBytes>>, TransferError>) -> bool
     }
 }
 
+// Whether three texts come back over bytes that are cut there.
+fn come_back(alloc: Global, cuts: (usize, usize)) -> bool {
+    let mut packets = Vec::new(alloc);
+    let texts: [RawBytes<'_, EofBytes>; 3] = [
+        RawBytes::new(CowSlice::Borrowed(b"ab")),
+        RawBytes::new(CowSlice::Borrowed(b"")),
+        RawBytes::new(CowSlice::Borrowed(b"c")),
+    ];
+    are_same(&send_and_read(alloc, 2, &texts, cuts, &mut packets))
+}
+
 #[test]
 fn values_come_back_wherever_they_are_cut(rt: HostRuntime) -> Result<(), Fail> {
     let mut all = true;
     for first in 0..16 {
         for second in 0..16 {
-            let mut packets = Vec::new(rt.alloc());
-            all &= are_same(&come_back(rt.alloc(), (first, second), &mut packets));
+            all &= come_back(rt.alloc(), (first, second));
         }
     }
     ensure(all, "three texts")

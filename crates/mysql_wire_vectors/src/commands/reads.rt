@@ -4,16 +4,14 @@ ghost use Rattle.std.specs.Prelude.{◌≡◌, ◌<◌, List, [], Option, Some, 
 ghost use Rattle.mysql_wire_commands.specs.declared.noted.OneRead.{OneRead};
 ghost use Rattle.mysql_wire_commands.specs.Reads.{EachAskedFor};
 
-use crate::commands::run::run;
+use crate::commands::run::{Memory, each_goes, run};
 use mysql_wire_commands::noted::{NotedRead, OneRead};
 use mysql_wire_commands::unframe::run_unframe_limited;
-use refusing::{NEVER, Refusing};
-use std::alloc::Global;
+use refusing::NEVER;
+use std::alloc::{AllocError, Global};
 use std::io;
 use std::io::Read;
 use std::test::Fail;
-use test_support::facts::no_row;
-use test_support::fixture::Heap;
 
 // Two chunks of one packet.
 const INPUT: &[u8] = b"\x03\0\0\0123\0\0\0\x01";
@@ -95,54 +93,46 @@ fn are_right(reads: &[OneRead], step: usize, at: usize) -> bool {
     all & (place == INPUT.len())
 }
 
-// The same of a command line.
-fn is_right(alloc: Global, heap: &Heap, words: &[&str], step: usize, at: usize) -> bool {
-    let mut input = reader(alloc);
-    let mut output: Vec<u8> = Vec::new(alloc);
-    let status = run(heap, NEVER, words, &mut input, &mut output);
+// The same of a command line, where there is memory for it.
+fn is_right(memory: Memory<'_>, line: Result<String, AllocError>, step: usize, at: usize) -> bool {
+    let Ok(line) = line else {
+        return false;
+    };
+    let mut input = reader(memory.0);
+    let mut output: Vec<u8> = Vec::new(memory.0);
+    let status = run(memory.1, NEVER, line.as_str(), &mut input, &mut output);
     (status == 0) & !input.lost & are_right(input.reads.as_slice(), step, at)
 }
 
-const STEPS: &[(&str, usize)] = &[("1", 1), ("2", 2), ("9", 9), ("65536", 65536)];
+// The same of a call.
+fn is_called_right(alloc: Global, step: usize, at: usize) -> bool {
+    match noted_reads(alloc, step.max(1), at) {
+        (0, Some(reads)) => are_right(reads.as_slice(), step, at),
+        _ => false,
+    }
+}
 
-// The words for places in the input and behind it, and these places.
-const PLACES: &[(&str, usize)] = &[
-    ("0", 0),
-    ("1", 1),
-    ("5", 5),
-    ("8", 8),
-    ("11", 11),
-    ("12", 12),
-    ("4294967295", 4294967295),
-];
+const STEPS: &[usize] = &[1, 2, 9, 65536];
+
+// Places in the input and behind it.
+const PLACES: &[usize] = &[0, 1, 5, 8, 11, 12, 4294967295];
 
 // Whether the reads are right, made by a command line and by a call.
-fn stops_at(alloc: Global, heap: &Heap, place: &(&str, usize), step: &(&str, usize)) -> bool {
-    let words = ["unframe", step.0, "9", "9", place.0];
-    let called = match noted_reads(alloc, step.1.max(1), place.1) {
-        (0, Some(reads)) => are_right(reads.as_slice(), step.1, place.1),
-        _ => false,
-    };
-    called & is_right(alloc, heap, &words, step.1, place.1)
+fn stops_at(memory: Memory<'_>, step: usize, at: usize) -> bool {
+    let line = format!(in memory.0; "unframe {step} 9 9 {at}");
+    is_right(memory, line, step, at) & is_called_right(memory.0, step, at)
 }
 
 // The same where the limit changes at each of the places, and where it doesn't change.
-fn are_asked(alloc: Global, heap: &Heap, step: &(&str, usize)) -> bool {
-    let mut all = is_right(alloc, heap, &["unframe", step.0, "9"], step.1, 0);
+fn are_asked(memory: Memory<'_>, step: usize) -> bool {
+    let mut all = is_right(memory, format!(in memory.0; "unframe {step} 9"), step, 0);
     for place in PLACES {
-        all &= stops_at(alloc, heap, place, step);
+        all &= stops_at(memory, step, *place);
     }
     all
 }
 
 #[test]
 fn unframe_asks_for_its_step_and_not_past_its_place(rt: HostRuntime) -> Result<(), Fail> {
-    let heap = Refusing::new(rt.alloc(), NEVER);
-    let mut wrong = None;
-    for i in 0..STEPS.len() {
-        if !are_asked(rt.alloc(), &heap, &STEPS[i]) {
-            wrong = Some(i);
-        }
-    }
-    no_row(wrong)
+    each_goes(rt.alloc(), STEPS, are_asked)
 }

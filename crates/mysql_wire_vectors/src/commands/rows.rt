@@ -2,200 +2,155 @@
 
 ghost use Rattle.std.specs.Prelude.{◌<◌};
 
-use crate::commands::run::run;
-use mysql_wire_commands::noted::Unnoted;
+use crate::commands::run::{Memory, each_goes, end_of};
+use crate::tables::{are, wrong_row};
+use mysql_wire_commands::noted::{NotedRead, Unnoted};
 use mysql_wire_commands::unframe::{run_unframe, run_unframe_limited};
-use refusing::{NEVER, Refusing};
-use std::alloc::Global;
+use refusing::NEVER;
+use std::alloc::{Allocator, Global};
+use std::io::Write;
 use std::test::Fail;
 use test_support::facts::no_row;
-use test_support::fixture::{FILL, Heap};
+use test_support::fixture::FILL;
 
-// The words, the input, and the status and the text that they end with.
-type Row<'a> = (&'a [&'a str], &'a [u8], u8, &'a [u8]);
+// The line, the input, and the status and the text that they end with.
+type Row<'a> = (&'a str, &'a [u8], u8, &'a [u8]);
 
-const FRAME: &[Row] = &[
-    (&["frame", "0"], b"123", 0, b"\x03\0\0\0123"),
-    (&["frame", "7"], b"ab", 0, b"\x02\0\0\x07ab"),
-    (&["frame", "255"], b"", 0, b"\0\0\0\xff"),
-    (&["frame", "0000000255"], b"", 0, b"\0\0\0\xff"),
+// The commands that read all of their input first.
+const WHOLE: &[Row] = &[
+    // `frame`
+    ("frame 0", b"123", 0, b"\x03\0\0\0123"),
+    ("frame 7", b"ab", 0, b"\x02\0\0\x07ab"),
+    ("frame 255", b"", 0, b"\0\0\0\xff"),
+    ("frame 0000000255", b"", 0, b"\0\0\0\xff"),
+    // `chunk`
+    ("chunk", b"\x03\0\0\0123", 0, b"last 0 3 313233\nrest 0\n"),
+    ("chunk", b"\x02\0\0\x07ab\0", 0, b"last 7 2 6162\nrest 1\n"),
+    ("chunk", b"\0\0\0\xff", 0, b"last 255 0 -\nrest 0\n"),
+    ("chunk", b"", 0, b"none\nrest 0\n"),
+    ("chunk", b"\x02\0\0", 3, b"none\nrest 3\n"),
+    ("chunk", b"\x02\0\0\x07a", 3, b"none\nrest 5\n"),
 ];
 
-const CHUNK: &[Row] = &[
+// Those that read as they go.
+const PIECES: &[Row] = &[
+    // `unframe`
     (
-        &["chunk"],
-        b"\x03\0\0\0123",
-        0,
-        b"last 0 3 313233\nrest 0\n",
-    ),
-    (
-        &["chunk"],
-        b"\x02\0\0\x07ab\0",
-        0,
-        b"last 7 2 6162\nrest 1\n",
-    ),
-    (&["chunk"], b"\0\0\0\xff", 0, b"last 255 0 -\nrest 0\n"),
-    (&["chunk"], b"", 0, b"none\nrest 0\n"),
-    (&["chunk"], b"\x02\0\0", 3, b"none\nrest 3\n"),
-    (&["chunk"], b"\x02\0\0\x07a", 3, b"none\nrest 5\n"),
-];
-
-const UNFRAME: &[Row] = &[
-    (
-        &["unframe", "1", "10"],
+        "unframe 1 10",
         b"\x01\0\0\0a\0\0\0\x01\x02\0",
         3,
         b"1 61\n0 -\nrest 2\n",
     ),
     (
-        &["unframe", "1", "10"],
+        "unframe 1 10",
         b"\x01\0\0\0a\x01\0\0\x05b",
         5,
         b"1 61\nout of sync\n",
     ),
-    (&["unframe", "9", "0"], b"\x01\0\0\0", 4, b"too large\n"),
+    ("unframe 9 0", b"\x01\0\0\0", 4, b"too large\n"),
     (
-        &["unframe", "2", "1"],
+        "unframe 2 1",
         b"\x01\0\0\0a\x02\0\0\x01bc",
         4,
         b"1 61\ntoo large\n",
     ),
-    (&["unframe", "65536", "4294967295"], b"", 0, b"rest 0\n"),
-    (&["unframe", "3", "1"], b"\x01\0\0\0a", 0, b"1 61\nrest 0\n"),
+    ("unframe 65536 4294967295", b"", 0, b"rest 0\n"),
+    ("unframe 3 1", b"\x01\0\0\0a", 0, b"1 61\nrest 0\n"),
     (
-        &["unframe", "3", "1", "5", "8"],
+        "unframe 3 1 5 8",
         b"\x01\0\0\0a\x02\0\0\x01bc",
         0,
         b"1 61\n2 6263\nrest 0\n",
     ),
     (
-        &["unframe", "3", "1", "5", "9"],
+        "unframe 3 1 5 9",
         b"\x01\0\0\0a\x02\0\0\x01bc",
         4,
         b"1 61\ntoo large\n",
     ),
     (
-        &["unframe", "1", "5", "0", "4"],
+        "unframe 1 5 0 4",
         b"\x02\0\0\0ab\0\0\0\x01\x01\0\0\x02c",
         4,
         b"2 6162\n0 -\ntoo large\n",
     ),
     (
-        &["unframe", "65536", "0", "4294967295", "0"],
+        "unframe 65536 0 4294967295 0",
         b"\x01\0\0\0a",
         0,
         b"1 61\nrest 0\n",
     ),
     (
-        &["unframe", "1", "1", "0", "4294967295"],
+        "unframe 1 1 0 4294967295",
         b"\x01\0\0\0a",
         0,
         b"1 61\nrest 0\n",
     ),
-];
-
-const REFRAME: &[Row] = &[
+    // `reframe`
+    ("reframe 10", b"\x01\0\0\0a\x02\0\0\x01b", 3, b"\x01\0\0\0a"),
+    ("reframe 10", b"\x01\0\0\0a", 0, b"\x01\0\0\0a"),
+    ("reframe 0", b"", 0, b""),
+    ("reframe 1", b"\x01\0\0\0a\x02\0\0\x01bc", 4, b"\x01\0\0\0a"),
     (
-        &["reframe", "10"],
-        b"\x01\0\0\0a\x02\0\0\x01b",
-        3,
-        b"\x01\0\0\0a",
-    ),
-    (&["reframe", "10"], b"\x01\0\0\0a", 0, b"\x01\0\0\0a"),
-    (&["reframe", "0"], b"", 0, b""),
-    (
-        &["reframe", "1"],
-        b"\x01\0\0\0a\x02\0\0\x01bc",
-        4,
-        b"\x01\0\0\0a",
-    ),
-    (
-        &["reframe", "4294967295"],
+        "reframe 4294967295",
         b"\x01\0\0\0a\0\0\0\x01\0\0\0\x05",
         5,
         b"\x01\0\0\0a\0\0\0\x01",
     ),
 ];
 
-fn goes(alloc: Global, heap: &Heap, row: &Row<'_>) -> bool {
-    let (words, input, wanted, text) = *row;
-    let mut input = input;
-    let mut output = Vec::new(alloc);
-    let status = run(heap, NEVER, words, &mut input, &mut output);
-    (status == wanted) & (output.as_slice() == text)
+fn goes(memory: Memory<'_>, row: Row<'_>) -> bool {
+    let (line, input, status, text) = row;
+    let ending = end_of(memory, NEVER, line, input);
+    (ending.status == status) & are(ending.output.as_slice(), text)
 }
 
-// The first row that goes otherwise, where they are counted from this number.
-fn wrong_row(alloc: Global, first: usize, rows: &[Row]) -> Option<usize> {
-    let heap = Refusing::new(alloc, NEVER);
-    for i in 0..rows.len() {
-        if !goes(alloc, &heap, &rows[i]) {
-            return Some(first.wrapping_add(i));
-        }
-    }
-    None
-}
-
-// The rows of each command are counted from a hundred more.
 #[test]
 fn each_command_goes_by_its_rows(rt: HostRuntime) -> Result<(), Fail> {
-    let alloc = rt.alloc();
-    let wrong = wrong_row(alloc, 0, FRAME)
-        .or(wrong_row(alloc, 100, CHUNK))
-        .or(wrong_row(alloc, 200, UNFRAME))
-        .or(wrong_row(alloc, 300, REFRAME));
-    no_row(wrong)
+    each_goes(rt.alloc(), WHOLE, goes)?;
+    each_goes(rt.alloc(), PIECES, goes)
 }
 
-// Words that ask for no command: nothing is read, and nothing is written.
-const OTHER_WORDS: &[&[&str]] = &[
-    &[],
-    &["frame"],
-    &["frame", "256"],
-    &["frame", "x"],
-    &["frame", ""],
-    &["frame", "+5"],
-    &["frame", "-0"],
-    &["frame", "00000000001"],
-    &["frame", "1", "2"],
-    &["chunk", "1"],
-    &["Chunk"],
-    &["unframe", "0", "1"],
-    &["unframe", "65537", "1"],
-    &["unframe", "1", "4294967296"],
-    &["unframe", "1", "-1"],
-    &["unframe", "1"],
-    &["unframe", "1", "1", "1"],
-    &["unframe", "0", "1", "1", "1"],
-    &["unframe", "65537", "1", "1", "1"],
-    &["unframe", "1", "4294967296", "1", "1"],
-    &["unframe", "1", "1", "4294967296", "1"],
-    &["unframe", "1", "1", "1", "4294967296"],
-    &["unframe", "1", "1", "-1", "1"],
-    &["unframe", "1", "1", "1", "x"],
-    &["unframe", "1", "1", "1", "1", "1"],
-    &["reframe"],
-    &["reframe", "4294967296"],
-    &["reframe", "1", "1"],
+// Lines that ask for no command: nothing is read, and nothing is written.
+const OTHER_LINES: &[&str] = &[
+    "",
+    "frame",
+    "frame 256",
+    "frame x",
+    "frame ''",
+    "frame +5",
+    "frame -0",
+    "frame 00000000001",
+    "frame 1 2",
+    "chunk 1",
+    "Chunk",
+    "unframe 0 1",
+    "unframe 65537 1",
+    "unframe 1 4294967296",
+    "unframe 1 -1",
+    "unframe 1",
+    "unframe 1 1 1",
+    "unframe 0 1 1 1",
+    "unframe 65537 1 1 1",
+    "unframe 1 4294967296 1 1",
+    "unframe 1 1 4294967296 1",
+    "unframe 1 1 1 4294967296",
+    "unframe 1 1 -1 1",
+    "unframe 1 1 1 x",
+    "unframe 1 1 1 1 1",
+    "reframe",
+    "reframe 4294967296",
+    "reframe 1 1",
 ];
 
-fn is_untouched(alloc: Global, heap: &Heap, words: &[&str]) -> bool {
-    let mut input = b"123".as_slice();
-    let mut output: Vec<u8> = Vec::new(alloc);
-    let status = run(heap, NEVER, words, &mut input, &mut output);
-    (status == 1) & (input.len() == 3) & output.is_empty()
+fn is_untouched(memory: Memory<'_>, line: &str) -> bool {
+    let ending = end_of(memory, NEVER, line, b"123");
+    (ending.status == 1) & (ending.left == 3) & ending.output.is_empty()
 }
 
 #[test]
 fn other_words_read_and_write_nothing(rt: HostRuntime) -> Result<(), Fail> {
-    let heap = Refusing::new(rt.alloc(), NEVER);
-    let mut wrong = None;
-    for i in 0..OTHER_WORDS.len() {
-        if !is_untouched(rt.alloc(), &heap, OTHER_WORDS[i]) {
-            wrong = Some(i);
-        }
-    }
-    no_row(wrong)
+    each_goes(rt.alloc(), OTHER_LINES, is_untouched)
 }
 
 // The limit, the later limit and the place from which on it holds, if it changes, the input, and
@@ -263,32 +218,38 @@ const STREAMS: &[Stream] = &[
     ),
 ];
 
-fn is_same(alloc: Global, row: &Stream<'_>, step: usize) -> bool
+// The status of an `unframe` whose limit changes as told, if it changes.
+fn unframe<A: Allocator + Copy, R: NotedRead, W: Write>(
+    alloc: A,
+    step: usize,
+    limit: usize,
+    change: Option<(usize, usize)>,
+    input: &mut R,
+    output: &mut W,
+) -> u8
     requires { 0 < step }
 {
-    let (limit, change, input, wanted, text) = *row;
-    let mut input = Unnoted(input);
-    let mut output = Vec::new(alloc);
-    let status = match change {
-        Some((later, at)) => {
-            run_unframe_limited(alloc, step, limit, later, at, &mut input, &mut output)
-        }
-        None => run_unframe(alloc, step, limit, &mut input, &mut output),
-    };
-    (status == wanted) & (output.as_slice() == text)
+    match change {
+        Some((later, at)) => run_unframe_limited(alloc, step, limit, later, at, input, output),
+        None => run_unframe(alloc, step, limit, input, output),
+    }
+}
+
+fn is_same_by_each_step(alloc: Global, row: Stream<'_>) -> bool {
+    let (limit, change, bytes, wanted, text) = row;
+    let mut all = true;
+    for step in 1..16usize {
+        let mut input = Unnoted(bytes);
+        let mut output = Vec::new(alloc);
+        all &= unframe(alloc, step, limit, change, &mut input, &mut output) == wanted;
+        all &= are(output.as_slice(), text);
+    }
+    all
 }
 
 #[test]
 fn unframe_writes_the_same_however_it_reads(rt: HostRuntime) -> Result<(), Fail> {
-    let mut wrong = None;
-    for i in 0..STREAMS.len() {
-        for step in 1..16usize {
-            if !is_same(rt.alloc(), &STREAMS[i], step) {
-                wrong = Some(i);
-            }
-        }
-    }
-    no_row(wrong)
+    no_row(wrong_row(rt.alloc(), STREAMS, is_same_by_each_step))
 }
 
 // The header of a chunk of so many bytes, and how its line begins.
@@ -306,27 +267,18 @@ fn chunk_of(alloc: Global, header: &[u8], len: usize) -> Vec<u8> {
 }
 
 // Whether a chunk of so many bytes is shown with two digits for each of them.
-fn is_shown(alloc: Global, heap: &Heap, chunk: &[u8], len: usize, front: &[u8]) -> bool {
-    let mut input = chunk;
-    let mut output = Vec::new(alloc);
-    let status = run(heap, NEVER, &["chunk"], &mut input, &mut output);
-    let text = output.as_slice();
+fn is_shown(memory: Memory<'_>, row: (&[u8], usize, &[u8])) -> bool {
+    let (header, len, front) = row;
+    let chunk = chunk_of(memory.0, header, len);
+    let ending = end_of(memory, NEVER, "chunk", chunk.as_slice());
+    let text = ending.output.as_slice();
     let is_framed = text.starts_with(front) & text.ends_with(b"42\nrest 0\n");
     let digits = len.saturating_mul(2);
     let text_len = front.len().saturating_add(digits).saturating_add(4);
-    (status == 0) & is_framed & (text.len() == text_len)
+    (ending.status == 0) & is_framed & (text.len() == text_len)
 }
 
 #[test]
 fn a_chunk_may_be_as_long_as_a_chunk_can_be(rt: HostRuntime) -> Result<(), Fail> {
-    let heap = Refusing::new(rt.alloc(), NEVER);
-    let mut wrong = None;
-    for i in 0..LENGTHS.len() {
-        let (header, len, front) = LENGTHS[i];
-        let chunk = chunk_of(rt.alloc(), header, len);
-        if !is_shown(rt.alloc(), &heap, chunk.as_slice(), len, front) {
-            wrong = Some(i);
-        }
-    }
-    no_row(wrong)
+    each_goes(rt.alloc(), LENGTHS, is_shown)
 }

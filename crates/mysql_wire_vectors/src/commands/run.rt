@@ -1,34 +1,90 @@
 // A command line, run.
 
+use crate::tables::wrong_row;
 use mysql_wire_commands::words::run_words;
-use refusing::NEVER;
-use std::alloc::Allocator;
+use refusing::{NEVER, Refusing};
+use std::alloc::{Allocator, Global};
 use std::io::{Read, Write};
+use std::test::Fail;
+use test_support::facts::no_row;
 use test_support::fixture::Heap;
 
-// The words as the program is given them.
-fn given<A: Allocator + Copy>(alloc: A, words: &[&str]) -> Vec<String<A>, A> {
+// The word as a shell gives it to the program: `''` is one of no letters.
+fn unquoted(word: &str) -> &str {
+    if word == "''" { "" } else { word }
+}
+
+// The words of a command line.
+fn given<A: Allocator + Copy>(alloc: A, line: &str) -> Vec<String<A>, A> {
     let mut given = Vec::new(alloc);
-    for word in words {
-        if let Ok(word) = word.to_string(alloc) {
+    for word in line.split_whitespace() {
+        if let Ok(word) = unquoted(word).to_string(alloc) {
             let _ = given.push(word);
         }
     }
     given
 }
 
-/// The status of these words. Request number `nth` for memory is refused, counted from the first of
-/// the command.
-pub fn run<R: Read, W: Write>(
+// The status of this line, whose command takes its memory of `alloc`, which is the heap.
+fn run_in<A: Allocator + Copy, R: Read, W: Write>(
     heap: &Heap,
+    alloc: A,
     nth: u64,
-    words: &[&str],
+    line: &str,
     input: &mut R,
     output: &mut W,
 ) -> u8 {
     heap.refuse(NEVER);
-    let given = given(heap, words);
+    let given = given(alloc, line);
     heap.refuse(nth);
-    let (status, _, _) = run_words(heap, given.as_slice(), input, output);
+    let (status, _, _) = run_words(alloc, given.as_slice(), input, output);
     status
+}
+
+/// The status of this line. Request number `nth` for memory is refused, counted from the first of
+/// the command.
+pub fn run<R: Read, W: Write>(
+    heap: &Heap,
+    nth: u64,
+    line: &str,
+    input: &mut R,
+    output: &mut W,
+) -> u8 {
+    run_in(heap, heap, nth, line, input, output)
+}
+
+/// How a command line ended: its status, how many bytes of its input are unread, and its output.
+#[derive(Drop)]
+pub struct Ending {
+    pub status: u8,
+    pub left: usize,
+    pub output: Vec<u8>,
+}
+
+/// What tests run command lines with: the memory that their output takes, and the heap of the
+/// commands.
+pub type Memory<'h> = (Global, &'h Heap);
+
+/// How this line ends over these bytes, with a request refused as by `run`.
+pub fn end_of(memory: Memory<'_>, nth: u64, line: &str, bytes: &[u8]) -> Ending {
+    let (alloc, heap) = memory;
+    let mut input = bytes;
+    let mut output = Vec::new(alloc);
+    let status = run(heap, nth, line, &mut input, &mut output);
+    Ending {
+        status,
+        left: input.len(),
+        output,
+    }
+}
+
+/// Fails the test with the number of a row that goes otherwise, if there is one.
+pub fn each_goes<T, F>(alloc: Global, rows: &[T], goes: F) -> Result<(), Fail>
+where
+    T: Copy,
+    F: Copy + FnOnce(Memory<'_>, T) -> bool,
+    requires { F.IsAlwaysCallable goes }
+{
+    let heap = Refusing::new(alloc, NEVER);
+    no_row(wrong_row((alloc, &heap), rows, goes))
 }
