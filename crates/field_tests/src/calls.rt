@@ -1,4 +1,4 @@
-// The calls of a text in hand. `memory_tests` has its copies.
+// The calls of a text in hand. `packet_tests` has its copies.
 
 use mysql_wire::misc::raw::RawBytes;
 use mysql_wire::misc::raw::bytes::{BareBytes, BytesRepr, EofBytes};

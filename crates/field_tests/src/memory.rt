@@ -1,5 +1,5 @@
 // Memory that is refused leaves nothing half written: the buffer is as it was, whichever request is
-// refused. `memory_tests` has copies and pushes; the texts of two puts stand with the texts.
+// refused. `packet_tests` has copies and pushes; the texts of two puts stand with the texts.
 
 use mysql_wire::misc::raw::bytes::{LenEnc, U8Bytes};
 use mysql_wire::misc::raw::int::{LeU16, LeU32};

@@ -3,12 +3,11 @@
 ghost use Rattle.std.specs.Prelude.{◌≡◌, List, [], ◌∷◌, ◌++◌, IsFalse, OnOk};
 ghost use Rattle.mysql_wire.specs.Runs.{payloads};
 
-use crate::compared::same;
 use mysql_wire::proto::codec::Visit;
 use refusing::{NEVER, Refusing};
 use std::alloc::{AllocError, Allocator, Global};
 use std::test::Fail;
-use test_support::facts::ensure;
+use test_support::facts::{ensure, same};
 use test_support::receiver::{Receiver, Run, pieces_from};
 use test_support::told::Told;
 

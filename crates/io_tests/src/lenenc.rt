@@ -1,7 +1,6 @@
 // Numbers whose length is in their first byte, and texts behind their length: put into buffers, and
 // read from buffers.
 
-use crate::compared::{same, same_if_any};
 use crate::numbers::{Readers, Row};
 use bytes::{BufMut, BytesMut};
 use mysql_wire::io::{BufMutExt, ParseBuf, WireError, WriteMysqlExt};
@@ -9,6 +8,7 @@ use mysql_wire::misc::{lenenc_int_len, lenenc_str_len};
 use std::alloc::Global;
 use std::convert::AsSlice;
 use test_support::answers::{Fault, told};
+use test_support::facts::{same, same_if_any};
 use test_support::reference::between;
 
 // ---- length-encoded integers

@@ -1,11 +1,10 @@
 // Readers of numbers, each in both its forms: on no byte, on fewer than it eats, on as many, and on
 // more.
 
-use crate::compared::same;
 use crate::lenenc::{Lenenc, MARKS, WRITTEN};
 use mysql_wire::io::ParseBuf;
 use std::test::Fail;
-use test_support::facts::no_row;
+use test_support::facts::{no_row, same};
 use test_support::fields::last;
 use test_support::reference::between;
 

@@ -2,7 +2,6 @@
 
 ghost use Rattle.std.specs.Prelude.{◌≡◌, take, Ok, IfErr};
 
-use crate::compared::{same, same_if_any};
 use mysql_wire::io::{InvalidReason, ParseBuf, WireError};
 use mysql_wire::proto::{Binary, Fixed, HasSize, MyDeserialize, Text};
 use refusing::Refusing;
@@ -12,7 +11,7 @@ use std::hash::Hash;
 use std::io::Read;
 use std::test::Fail;
 use test_support::answers::{Fault, told};
-use test_support::facts::all_hold;
+use test_support::facts::{all_hold, same, same_if_any};
 use test_support::reference::{between, first_zero};
 
 fn checked_slices_are_the_eaten_part() -> bool {

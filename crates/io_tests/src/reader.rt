@@ -1,6 +1,5 @@
 //! Packets from readers: whole, cut, ended, failing.
 
-use crate::compared::same;
 use crate::scripted::{Said, Slow, are_said, said_of};
 use bytes::BytesMut;
 use mysql_wire::proto::codec::PacketCodec;
@@ -9,7 +8,7 @@ use refusing::{NEVER, Refusing};
 use std::alloc::{Allocator, Global};
 use std::io::{self, ErrorKind};
 use std::test::Fail;
-use test_support::facts::{all_hold, no_row};
+use test_support::facts::{all_hold, no_row, same};
 use test_support::reference::{Reading, put_framing};
 use test_support::told::Told;
 

@@ -1,6 +1,5 @@
 // Numbers and texts over readers and writers.
 
-use crate::compared::same;
 use crate::lenenc::{Lenenc, WRITTEN};
 use crate::numbers::{self, Row};
 use crate::scripted::{Narrow, Slow};
@@ -12,7 +11,7 @@ use std::alloc::{Allocator, Global};
 use std::io::{ErrorKind, Read};
 use std::test::Fail;
 use test_support::answers::{Fault, told};
-use test_support::facts::all_hold;
+use test_support::facts::{all_hold, same};
 use test_support::fields::{MORE, last};
 use test_support::fixture::Heap;
 use test_support::reference::between;

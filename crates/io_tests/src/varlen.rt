@@ -1,11 +1,11 @@
 // Integers of the serialization library.
 
-use crate::compared::same;
 use crate::numbers::Row;
 use mysql_wire::io::ParseBuf;
 use mysql_wire::misc::{read_varlen_uint, varlen_uint_size, write_varlen_uint};
 use std::alloc::Global;
 use test_support::answers::{Fault, told};
+use test_support::facts::same;
 use test_support::reference::between;
 
 // Whether the row's number is read, whatever follows, and from fewer bytes none is, and none is

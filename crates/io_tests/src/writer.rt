@@ -1,6 +1,5 @@
 //! Packets to writers: in parts, to one that fails, to one that takes nothing.
 
-use crate::compared::same;
 use crate::scripted::{Narrow, Said, said_by};
 use mysql_wire::proto::codec::PacketCodec;
 use mysql_wire::proto::packet_io::PacketWriter;
@@ -8,7 +7,7 @@ use refusing::{NEVER, Refusing};
 use std::alloc::{Allocator, Global};
 use std::io::ErrorKind;
 use std::test::Fail;
-use test_support::facts::no_row;
+use test_support::facts::{no_row, same};
 use test_support::fixture::Heap;
 
 const FRAMED: &[u8] = b"\x03\0\0\0123";

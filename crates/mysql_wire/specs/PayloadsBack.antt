@@ -33,7 +33,8 @@ payload-back stated reads kept takes_memory bytes rest payload of_size law is (O
     (Ok taken.0) read
 payload-back stated reads kept takes_memory bytes rest payload of_size law is (Err error)
     (left, read) =
-    parse-back stated reads kept takes_memory bytes rest payload left of_size law is (Err error) read
+    parse-back stated reads kept takes_memory bytes rest payload left of_size law is (Err error)
+    read
 
 -- what was read of a payload that is a value's bytes
 pub alone-back : {X : Type 0} (stated : Option ℕ) (reads : List ℕ → Result X WireError → ℕ → Type 0)

@@ -1,10 +1,9 @@
 //! The cases of the Rust crate's own tests.
 
-use crate::tables::are;
 use mysql_wire::constants::MAX_PAYLOAD_LEN;
 use std::alloc::Global;
 use std::test::Fail;
-use test_support::facts::ensure;
+use test_support::facts::{ensure, same};
 use test_support::fixture::Fixture;
 use test_support::script::{Script, Step, play};
 use test_support::told::Told;
@@ -98,7 +97,7 @@ fn passes(sender: &mut Ends, receiver: &mut Ends, packet: &[u8]) -> bool {
     let sent = sender.encode(packet) == Told::Done;
     std::mem::swap(&mut sender.src, &mut receiver.src);
     let whole = receiver.decode() == Told::Whole;
-    sent & whole & are(receiver.dst.as_slice(), packet) & receiver.src.is_empty()
+    sent & whole & same(receiver.dst.as_slice(), packet) & receiver.src.is_empty()
 }
 
 type Ends = Fixture<'static, Global, Vec<u8>>;

@@ -1,6 +1,5 @@
 //! What the errors say.
 
-use crate::tables::wrong_row;
 use crate::texts;
 use mysql_wire::io::{InvalidLengthEncodedInteger, InvalidReason, WireError};
 use mysql_wire::proto::codec::error::PacketCodecError;
@@ -9,7 +8,7 @@ use std::alloc::Global;
 use std::fmt::{Debug, Display};
 use std::io::{self, ErrorKind};
 use std::test::Fail;
-use test_support::facts::{all_hold, no_row};
+use test_support::facts::{all_hold, no_row, wrong_row};
 
 // Whether an error shows as this text, and has some text for its programmers.
 fn shows<E: Display + Debug>(alloc: Global, error: &E, text: &str) -> bool {

@@ -1,7 +1,6 @@
 //! The callers of the codec, run: each answer that they have.
 
 use crate::readers::OneByOne;
-use crate::tables::{are, wrong_row};
 use crate::values::are_unchanged;
 use bytes::BytesMut;
 use mysql_wire::proto::codec::error::PacketCodecError;
@@ -12,7 +11,7 @@ use refusing::{NEVER, Refusing};
 use std::alloc::{Allocator, Global};
 use std::io::ErrorKind;
 use std::test::Fail;
-use test_support::facts::{all_hold, no_row};
+use test_support::facts::{all_hold, no_row, same, wrong_row};
 use test_support::fixture::Heap;
 use test_support::receiver::{Receiver, Run, are_packets};
 use test_support::told::Told;
@@ -60,7 +59,7 @@ fn is_exchanged(alloc: Global, row: Exchange) -> bool {
     let (answer, wanted) = row;
     let mut output = BytesMut::new(alloc);
     let answer = exchange(alloc, b"\x0e", &mut output, answer);
-    is_wanted(&answer, wanted) & are(output.as_slice(), b"\x01\0\0\0\x0e")
+    is_wanted(&answer, wanted) & same(output.as_slice(), b"\x01\0\0\0\x0e")
 }
 
 #[test]
@@ -111,7 +110,7 @@ fn is_served_however_it_is_cut(alloc: Global, row: Row) -> bool {
         let (front, rest) = bytes.split_at(cut.min(bytes.len()));
         let mut output = BytesMut::new(alloc);
         let answer = serve_both(alloc, front, rest, &mut output);
-        all &= (Told::of_deliver(answer) == told) & are(output.as_slice(), wanted);
+        all &= (Told::of_deliver(answer) == told) & same(output.as_slice(), wanted);
     }
     all
 }

@@ -1,6 +1,5 @@
 //! The callers of fields, and the representations of one's own, run.
 
-use crate::tables::are;
 use mysql_wire::io::ParseBuf;
 use mysql_wire::misc::raw::bytes::RawBytes;
 use mysql_wire::misc::raw::int::RawInt;
@@ -12,7 +11,7 @@ use mysql_wire_examples::own_fields::{BeU16, U16Bytes, read_name, read_port};
 use mysql_wire_examples::parameters::{Parameter, put_parameters, read_parameters};
 use std::alloc::Global;
 use std::test::Fail;
-use test_support::facts::{all_hold, ensure};
+use test_support::facts::{all_hold, ensure, same};
 
 #[test]
 fn payloads_are_read(_: HostRuntime) -> Result<(), Fail> {
@@ -35,17 +34,17 @@ fn payloads_are_read(_: HostRuntime) -> Result<(), Fail> {
 fn fields_are_put(rt: HostRuntime) -> Result<(), Fail> {
     let mut buf = Vec::new(rt.alloc());
     let mut put = put_schema(&mut buf, 0x030201, b"ab").is_ok();
-    put &= are(buf.as_slice(), b"\x01\x02\x03\x02ab");
+    put &= same(buf.as_slice(), b"\x01\x02\x03\x02ab");
     put &= matches!(write_name(&mut buf, b"abc"), Ok(4));
-    put &= are(buf.as_slice(), b"\x01\x02\x03\x02ab\x03abc");
+    put &= same(buf.as_slice(), b"\x01\x02\x03\x02ab\x03abc");
     put &= put_named(&mut buf, 0x0201, b"id").is_ok();
-    put &= are(buf.as_slice(), b"\x01\x02\x03\x02ab\x03abc\x01\x02\x02id");
+    put &= same(buf.as_slice(), b"\x01\x02\x03\x02ab\x03abc\x01\x02\x02id");
     ensure(put, "a field is put otherwise")
 }
 
 fn is_named(alloc: Global) -> bool {
     let named = match read_named(alloc, b"\x01\x02\x02id") {
-        Ok((id, name)) => (id.0 == 0x0201) & are(name.as_bytes(), b"id"),
+        Ok((id, name)) => (id.0 == 0x0201) & same(name.as_bytes(), b"id"),
         Err(_) => false,
     };
     named & read_named(alloc, b"\x01\x02\x03id").is_err()
@@ -63,7 +62,7 @@ fn is_own(alloc: Global, bytes: &[u8]) -> bool {
         Err(_) => 0,
     };
     let name = match read_name(alloc, &mut buf) {
-        Ok(name) => are(name.as_bytes(), b"id"),
+        Ok(name) => same(name.as_bytes(), b"id"),
         Err(_) => false,
     };
     (port == 0x1234) & name & buf.is_empty()
@@ -75,7 +74,7 @@ fn own_fields_are_written_and_read(rt: HostRuntime) -> Result<(), Fail> {
     let port = RawInt::<BeU16>::new(0x1234);
     let name = RawBytes::<U16Bytes>::from(b"id".as_slice());
     let mut own = port.serialize(&mut buf).is_ok() & name.serialize(&mut buf).is_ok();
-    own &= are(buf.as_slice(), b"\x12\x34\0\x02id");
+    own &= same(buf.as_slice(), b"\x12\x34\0\x02id");
     own &= is_own(rt.alloc(), buf.as_slice());
     ensure(own, "a port and a name")
 }
@@ -112,7 +111,7 @@ fn parameters_are_written_and_read(rt: HostRuntime) -> Result<(), Fail> {
     let mut buf = Vec::new(alloc);
     let is_put = put_parameters(&parameters, &mut buf).is_ok();
     all_hold(&[
-        is_put & are(buf.as_slice(), bytes),
+        is_put & same(buf.as_slice(), bytes),
         are_read(alloc, bytes, 2, Some(&parameters), 0),
         are_read(
             alloc,

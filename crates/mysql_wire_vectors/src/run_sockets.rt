@@ -1,13 +1,12 @@
 //! The callers over readers and writers, and the one around a login, run.
 
-use crate::tables::{are, wrong_row};
 use mysql_wire::proto::codec::PacketCodec;
 use mysql_wire::proto::packet_io::{PacketIoError, PacketReader, PacketWriter};
 use mysql_wire_examples::login::receive_session;
 use mysql_wire_examples::sockets::{answer_next, ask, relay};
 use std::alloc::Global;
 use std::test::Fail;
-use test_support::facts::{ensure, no_row};
+use test_support::facts::{ensure, no_row, same, wrong_row};
 use test_support::receiver::are_packets;
 
 // What one side reads, and what it writes.
@@ -27,7 +26,7 @@ fn ends<'a>(alloc: Global, bytes: &'a [u8]) -> Result<(Input<'a>, Output), Packe
 fn ask_once(input: &mut Input<'_>, output: &mut Output) -> Option<u8> {
     let mut codec = PacketCodec::default();
     match ask(&mut codec, input, output, b"\x03") {
-        Ok(answer) => Some(are(answer.as_slice(), b"\x07") as u8),
+        Ok(answer) => Some(same(answer.as_slice(), b"\x07") as u8),
         Err(_) => None,
     }
 }
@@ -132,7 +131,7 @@ fn is_sent(alloc: Global, row: Row) -> bool {
         Role::Server => serve(&mut input, &mut output),
         Role::Proxy => pass(&mut input, &mut output),
     };
-    (said == wanted) & are(output.into_inner().as_slice(), sent)
+    (said == wanted) & same(output.into_inner().as_slice(), sent)
 }
 
 #[test]

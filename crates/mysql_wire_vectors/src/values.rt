@@ -1,6 +1,5 @@
 //! Values as packets, and packets as values.
 
-use crate::tables::are;
 use bytes::BytesMut;
 use mysql_wire::misc::raw::Both;
 use mysql_wire::misc::raw::bytes::{BytesRepr, EofBytes, RawBytes, U8Bytes};
@@ -12,7 +11,7 @@ use refusing::NEVER;
 use std::alloc::{Allocator, Global};
 use std::borrow::CowSlice;
 use std::test::Fail;
-use test_support::facts::{all_hold, ensure};
+use test_support::facts::{all_hold, ensure, same};
 use test_support::fixture::Heap;
 use test_support::receiver::Receiver;
 use test_support::told::Told;
@@ -39,7 +38,7 @@ fn is_packet<T: MySerialize + Drop>(alloc: Global, value: T, packet: &[u8]) -> b
     let mut codec = PacketCodec::default();
     let mut wire = BytesMut::new(alloc);
     let is_put = encode_value(&mut codec, &value, &mut wire).is_ok();
-    is_put & are(wire.as_slice(), packet)
+    is_put & same(wire.as_slice(), packet)
 }
 
 #[test]
@@ -49,7 +48,7 @@ fn values_are_numbered_as_packets(rt: HostRuntime) -> Result<(), Fail> {
     for number in 1..4u8 {
         all &= encode_byte(&mut to, number) == Told::Done;
     }
-    all &= are(
+    all &= same(
         to.src.as_slice(),
         b"\x01\0\0\0\x01\x01\0\0\x01\x02\x01\0\0\x02\x03",
     );
@@ -58,7 +57,7 @@ fn values_are_numbered_as_packets(rt: HostRuntime) -> Result<(), Fail> {
 
 // Whether the value lies in its payload.
 fn is_borrowed<T: BytesRepr>(text: &RawBytes<'_, T>, bytes: &[u8]) -> bool {
-    matches!(text.0, CowSlice::Borrowed(_)) & are(text.0.as_slice(), bytes)
+    matches!(text.0, CowSlice::Borrowed(_)) & same(text.0.as_slice(), bytes)
 }
 
 // Whether a row is read from its payload, and borrows from it, and nothing is left.
@@ -86,7 +85,7 @@ where
 {
     match parse_packet::<Both<RawInt<T>, RawBytes<'de, U>>>(alloc, ((), ()), payload) {
         Ok((back, rest)) => {
-            (back.0.0 == number) & is_borrowed(&back.1, text) & are(rest.0, left)
+            (back.0.0 == number) & is_borrowed(&back.1, text) & same(rest.0, left)
         }
         Err(_) => false,
     }
@@ -133,11 +132,11 @@ fn is_unchanged<A: Allocator + Copy>(heap: &Heap, alloc: A, limit: usize, nth: u
         Told::OutOfMemory => heap.has_refused(),
         _ => false,
     };
-    all &= are(to.src.as_slice(), b"\x01\0\0\0\x01");
+    all &= same(to.src.as_slice(), b"\x01\0\0\0\x01");
     heap.refuse(NEVER);
     to.codec.max_allowed_packet = 2;
     all &= encode_two(&mut to) == Told::Done;
-    all & are(to.src.as_slice(), b"\x01\0\0\0\x01\x02\0\0\x01\x02\x03")
+    all & same(to.src.as_slice(), b"\x01\0\0\0\x01\x02\0\0\x01\x02\x03")
 }
 
 /// Whether a refused value changes nothing: too large, or refused the payload's room, or the

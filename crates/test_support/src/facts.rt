@@ -23,6 +23,16 @@ pub fn no_row(wrong: Option<usize>) -> Result<(), Fail> {
     }
 }
 
+/// Whether these are the bytes that are wanted.
+pub fn same(bytes: &[u8], wanted: &[u8]) -> bool {
+    bytes == wanted
+}
+
+/// Whether the bytes that are wanted are there, or none are where none are wanted.
+pub fn same_if_any(bytes: Option<&[u8]>, wanted: Option<&[u8]>) -> bool {
+    bytes == wanted
+}
+
 /// The number of the last row that goes otherwise, counted from 0, where each goes in this context.
 pub fn wrong_row<C, T, F>(context: C, rows: &[T], goes: F) -> Option<usize>
 where

@@ -3,14 +3,13 @@
 ghost use Rattle.std.specs.Prelude.{◌<◌};
 
 use crate::commands::run::{Memory, each_goes, end_of};
-use crate::tables::{are, wrong_row};
 use mysql_wire_commands::noted::{NotedRead, Unnoted};
 use mysql_wire_commands::unframe::{run_unframe, run_unframe_limited};
 use refusing::NEVER;
 use std::alloc::{Allocator, Global};
 use std::io::Write;
 use std::test::Fail;
-use test_support::facts::no_row;
+use test_support::facts::{no_row, same, wrong_row};
 use test_support::fixture::FILL;
 
 // The line, the input, and the status and the text that they end with.
@@ -102,7 +101,7 @@ const PIECES: &[Row] = &[
 fn goes(memory: Memory<'_>, row: Row<'_>) -> bool {
     let (line, input, status, text) = row;
     let ending = end_of(memory, NEVER, line, input);
-    (ending.status == status) & are(ending.output.as_slice(), text)
+    (ending.status == status) & same(ending.output.as_slice(), text)
 }
 
 #[test]
@@ -242,7 +241,7 @@ fn is_same_by_each_step(alloc: Global, row: Stream<'_>) -> bool {
         let mut input = Unnoted(bytes);
         let mut output = Vec::new(alloc);
         all &= unframe(alloc, step, limit, change, &mut input, &mut output) == wanted;
-        all &= are(output.as_slice(), text);
+        all &= same(output.as_slice(), text);
     }
     all
 }

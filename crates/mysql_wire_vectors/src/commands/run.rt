@@ -1,12 +1,11 @@
 // A command line, run.
 
-use crate::tables::wrong_row;
 use mysql_wire_commands::words::run_words;
 use refusing::{NEVER, Refusing};
 use std::alloc::{Allocator, Global};
 use std::io::{Read, Write};
 use std::test::Fail;
-use test_support::facts::no_row;
+use test_support::facts::{no_row, wrong_row};
 use test_support::fixture::Heap;
 
 // The word as a shell gives it to the program: `''` is one of no letters.
