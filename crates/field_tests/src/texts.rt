@@ -21,15 +21,14 @@ use test_support::fields::{
 use test_support::fixture::Heap;
 use test_support::reference::between;
 
-const LETTERS: &[u8] = b"abcdefghijklmnopqrstuvwxyzABCDEFGHIJKLMNOPQRSTUVWXYZ0123456789+-";
-
 /// A text of 65536 bytes, none of them a zero, and two zeros behind it. It is shorter where memory
 /// is refused.
 pub fn letters<A: Allocator>(alloc: A) -> Vec<u8, A> {
     let mut text = Vec::new(alloc);
-    for _ in 0..1024 {
-        let _ = text.extend_from_slice(LETTERS);
+    for _ in 0..2521 {
+        let _ = text.extend_from_slice(b"abcdefghijklmnopqrstuvwxyz");
     }
+    text.truncate(65536);
     let _ = text.extend_from_slice(b"\0\0");
     text
 }
