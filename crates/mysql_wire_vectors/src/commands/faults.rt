@@ -230,8 +230,8 @@ const REQUESTS: &[Requests] = &[
     ("reframe 3", 3),
 ];
 
-// Whether request number `nth` is met and refused, and the status is 6 then. None where the line ends
-// otherwise. The output is kept elsewhere.
+// Whether request number `nth` is met and refused, and the status is 6 then. None where the line
+// ends otherwise. The output is kept elsewhere.
 fn is_refused(memory: Memory<'_>, line: &str, nth: u64) -> Option<bool> {
     let ending = end_of(memory, nth, line, b"\x03\0\0\0123");
     let refused = memory.1.has_refused();
