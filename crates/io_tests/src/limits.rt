@@ -21,7 +21,7 @@ struct Row {
     limit: usize,
 }
 
-const ROWS: [Row; 4] = [
+const ROWS: &[Row] = &[
     // The piece of the fourth byte has the limit.
     Row {
         pieces: &[(2, b"\x03\0\0"), (3, b"\0abc")],

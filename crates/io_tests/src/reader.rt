@@ -61,7 +61,7 @@ const TWO: Row = Row {
 
 // What is said of these where one of the three reads of the first packet fails, of the second, and
 // where the read behind them does.
-const FAILING: [&[Said]; 3] = [
+const FAILING: &[&[Said]; 3] = &[
     &[Said::Io, Said::Packet, Said::Packet, Said::End],
     &[Said::Packet, Said::Io, Said::Packet, Said::End],
     &[Said::Packet, Said::Packet, Said::Io, Said::End],
@@ -69,7 +69,7 @@ const FAILING: [&[Said]; 3] = [
 
 const COUNT: usize = 10;
 
-const ROWS: [Row; COUNT] = [
+const ROWS: &[Row; COUNT] = &[
     ROW,
     // Nothing.
     Row {

@@ -68,7 +68,7 @@ const COUNT: usize = 6;
 // How many bytes are taken a write, and the call that fails; what two calls answer, and what is
 // pending between them. Of three bytes a write the third takes the last one, and the fourth call is
 // the flush.
-const CALLS: [(usize, usize, Said, Said, &[u8]); COUNT] = [
+const CALLS: &[(usize, usize, Said, Said, &[u8]); COUNT] = &[
     (3, 0, Said::Io, Said::Done, FRAMED),
     (3, 1, Said::Io, Said::Done, b"\x00123"),
     (3, 2, Said::Io, Said::Done, b"3"),

@@ -9,7 +9,7 @@ use test_support::script::{Script, Step, first_fault, play};
 use test_support::told::Told;
 
 // What each call answers, takes and leaves.
-const CALLS: [Script; 6] = [
+const CALLS: &[Script] = &[
     Script {
         name: "a header is kept until its bytes come",
         steps: &[
@@ -122,11 +122,11 @@ const CALLS: [Script; 6] = [
 
 #[test]
 fn each_call_goes_by_the_stream(rt: HostRuntime) -> Result<(), Fail> {
-    play(rt.alloc(), &CALLS)
+    play(rt.alloc(), CALLS)
 }
 
 // Where a codec stands, and what it remembers.
-const STANDING: [Script; 3] = [
+const STANDING: &[Script] = &[
     Script {
         name: "a codec stands where its header is",
         steps: &[
@@ -214,11 +214,11 @@ const STANDING: [Script; 3] = [
 
 #[test]
 fn a_codec_stands_where_it_stopped(rt: HostRuntime) -> Result<(), Fail> {
-    play(rt.alloc(), &STANDING)
+    play(rt.alloc(), STANDING)
 }
 
 // How often the target is asked for room, and for how much.
-const GROWTHS: [Script; 10] = [
+const GROWTHS: &[Script] = &[
     Script {
         name: "a packet of two full chunks grows once",
         steps: &[
@@ -381,14 +381,14 @@ const GROWTHS: [Script; 10] = [
 
 #[test]
 fn a_call_grows_its_target_once(rt: HostRuntime) -> Result<(), Fail> {
-    play(rt.alloc(), &GROWTHS)
+    play(rt.alloc(), GROWTHS)
 }
 
 // A packet of two full chunks and a byte.
 const LONG: usize = 2 * MAX_PAYLOAD_LEN + 1;
 
 // The target refuses to put what it took room for.
-const PUTS: [Script; 4] = [
+const PUTS: &[Script] = &[
     Script {
         name: "the first put is refused",
         steps: &[
@@ -470,7 +470,7 @@ const PUTS: [Script; 4] = [
 
 #[test]
 fn what_was_put_before_a_refusal_is_held(rt: HostRuntime) -> Result<(), Fail> {
-    play(rt.alloc(), &PUTS)
+    play(rt.alloc(), PUTS)
 }
 
 // A packet of so many bytes at this limit, which is not below.

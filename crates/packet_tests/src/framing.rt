@@ -6,7 +6,7 @@ use mysql_wire::proto::codec::packet_to_chunks;
 use std::alloc::Global;
 use std::num::NonZeroUsize;
 use std::test::Fail;
-use test_support::facts::{all_hold, no_row, wrong_row};
+use test_support::facts::{all_hold, no_row, same, same_if_any, wrong_row};
 use test_support::reference::{chunk_count, framed_len, low_byte, put_framing};
 use test_support::targets::Trickle;
 
@@ -36,7 +36,7 @@ impl Framed<'_> {
         let answer = packet_to_chunks(self.first_id, packet, &mut dst);
         let mut all = begins & (packet.remaining() == 0);
         all &= matches!(answer, Ok(id) if id == self.next_id);
-        all & (dst.as_slice().strip_prefix(b"ab") == Some(self.bytes))
+        all & same_if_any(dst.as_slice().strip_prefix(b"ab"), Some(self.bytes))
     }
 
     // Whether a payload becomes so, in one piece or cut at this place.
@@ -176,6 +176,6 @@ fn each_kind_of_buffer_is_framed_the_same(rt: HostRuntime) -> Result<(), Fail> {
     // What lies behind the part that is lent stays.
     let mut part = b"abcdefghi".as_slice().take(7);
     let lent = LETTERS.is_made(rt.alloc(), &mut part);
-    let is_left = part.into_inner() == b"hi".as_slice();
+    let is_left = same(part.into_inner(), b"hi");
     all_hold(&[grown, shared, lent, is_left])
 }

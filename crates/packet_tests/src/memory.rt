@@ -9,7 +9,7 @@ use refusing::{NEVER, Refusing};
 use std::alloc::{Allocator, Global};
 use std::test::Fail;
 use test_support::case::{Case, Wanted};
-use test_support::facts::{ensure, no_row, wrong_row};
+use test_support::facts::{ensure, no_row, same, wrong_row};
 use test_support::fixture::{Fixture, Heap};
 use test_support::receiver::{Receiver, pieces_from};
 use test_support::script::{Script, Step};
@@ -20,7 +20,7 @@ use test_support::told::Told;
 const MOST: u64 = 100;
 
 // How much room a vector asks for, whether it is given, and how many requests may still come then.
-const GROWTHS: [(usize, bool, u64); 4] = [
+const GROWTHS: &[(usize, bool, u64)] = &[
     (1000, true, 1),
     // A growth is one request, and what is given back is none.
     (10000, true, 0),
@@ -40,11 +40,11 @@ fn are_grown<A: Allocator>(heap: &Heap, alloc: A) -> bool {
     let mut bytes = Vec::new(alloc);
     let mut good = bytes.push(b'a').is_ok();
     for growth in GROWTHS {
-        good &= is_grown(heap, &mut bytes, growth);
+        good &= is_grown(heap, &mut bytes, *growth);
     }
     heap.refuse(0);
     good &= bytes.reserve(1000000).is_err() & heap.has_refused();
-    good & (bytes.as_slice() == b"a".as_slice())
+    good & same(bytes.as_slice(), b"a")
 }
 
 #[test]
@@ -65,7 +65,7 @@ fn huge_refused(alloc: Global, len: usize) -> bool {
     codec.max_allowed_packet = usize::MAX;
     let framed = packet_to_chunks(0, &mut packet, &mut dst);
     let encoded = Told::of_encode(codec.encode(&mut packet, &mut dst));
-    let unchanged = (packet.left == len) & (dst.as_slice() == b"ab".as_slice());
+    let unchanged = (packet.left == len) & same(dst.as_slice(), b"ab");
     let is_framed = matches!(framed, Err(WireError::OutOfMemory));
     begins & is_framed & (encoded == Told::OutOfMemory) & unchanged
 }
@@ -240,7 +240,7 @@ fn deliver_over<A: Allocator + Copy>(
 // Two packets and the front of a third.
 const TWO: &[u8] = b"\x03\0\0\x00123\x01\0\0\x01\xff\0";
 
-const TWO_PIECES: [&[u8]; 5] = [b"\x03", b"\0\0", b"\x001", b"", b"23\x01\0\0\x01\xff\0"];
+const TWO_PIECES: &[&[u8]] = &[b"\x03", b"\0\0", b"\x001", b"", b"23\x01\0\0\x01\xff\0"];
 
 const TWO_READ: Wanted<'static> = Wanted {
     packets: &[b"123", b"\xff"],
@@ -263,8 +263,8 @@ fn refusal_count(alloc: Global, case: &Case, pieces: &[&[u8]]) -> Option<u64> {
 fn deliver_refused_goes_on(rt: HostRuntime) -> Result<(), Fail> {
     let case = Case::new(rt.alloc(), 0, 4194304, TWO)?;
     let read = TWO_READ.is_read(&case.reading);
-    let one = refusal_count(rt.alloc(), &case, &TWO_PIECES);
-    let many = deliver_refused(rt.alloc(), &case, &TWO_PIECES, 0, true);
+    let one = refusal_count(rt.alloc(), &case, TWO_PIECES);
+    let many = deliver_refused(rt.alloc(), &case, TWO_PIECES, 0, true);
     // Several requests are refused, each in a run of its own and all in one.
     let several = (one > Some(3)) & (many > Some(2));
     ensure(read & several, "the delivery")

@@ -49,7 +49,7 @@ fn refusals<A: Allocator + Copy>(heap: &Heap, alloc: A, call: Call) -> Option<u6
 // The name of a call of packets that takes memory and goes otherwise.
 fn wrong_of_codec<A: Allocator + Copy>(heap: &Heap, alloc: A) -> Option<&'static str> {
     let mut wrong = None;
-    for (name, call, wanted) in &codec::ROWS {
+    for (name, call, wanted) in codec::ROWS {
         if refusals(heap, alloc, Call::Codec(*call)) != Some(*wanted) {
             wrong = Some(*name);
         }

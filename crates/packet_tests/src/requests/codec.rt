@@ -6,7 +6,7 @@ use memory_support::packets::{Outlet, Source};
 use mysql_wire::proto::codec::PacketDst;
 use refusing::NEVER;
 use std::alloc::Allocator;
-use test_support::facts::are_parts;
+use test_support::facts::{are_parts, same};
 use test_support::fixture::{Fixture, Heap};
 use test_support::receiver::{Receiver, Run, Tally, frames, pieces_from};
 use test_support::told::Told;
@@ -37,7 +37,9 @@ pub enum Runner {
 }
 
 /// A function by its name, and how often it asks for memory where none is refused.
-pub const ROWS: [(&str, Taking, u64); 14] = [
+pub type Row = (&'static str, Taking, u64);
+
+pub const ROWS: &[Row] = &[
     ("packet_to_chunks", Taking::PacketToChunks, 1),
     ("packet_to_chunks", Taking::PiecesToChunks, 1),
     ("PacketCodec::encode", Taking::Encode, 1),
@@ -99,7 +101,7 @@ fn encodes<A: Allocator + Copy>(heap: &Heap, alloc: A, as_value: bool, nth: u64)
     let refused = told == Told::OutOfMemory;
     let mut all = true;
     if refused {
-        all &= (to.src.as_slice() == b"ab".as_slice()) & (packet.len() == LEN);
+        all &= same(to.src.as_slice(), b"ab") & (packet.len() == LEN);
         told = encode_once(&mut to, &mut packet, as_value);
     }
     all &= (told == Told::Done) & (packet.is_empty() != as_value);
@@ -148,7 +150,7 @@ fn decodes<A: Allocator + Copy>(heap: &Heap, alloc: A, one: bool, nth: u64) -> O
         told = decode_once(&mut to, one);
     }
     let done = if one { Told::Last(0) } else { Told::Whole };
-    all &= (told == done) & to.src.is_empty() & (to.dst.as_slice() == TEXT);
+    all &= (told == done) & to.src.is_empty() & same(to.dst.as_slice(), TEXT);
     all.then_some(refused)
 }
 
@@ -169,7 +171,7 @@ fn puts<T: PacketDst>(heap: &Heap, dst: &mut T, puts: bool, nth: u64) -> Option<
         all &= dst.as_ref().is_empty();
         all &= dst.put_slice(TEXT).is_ok();
     }
-    all &= dst.as_ref() == TEXT;
+    all &= same(dst.as_ref(), TEXT);
     all.then_some(refused)
 }
 

@@ -9,6 +9,7 @@ use memory_support::packets::{Outlet, Source};
 use memory_support::reading::Reading;
 use refusing::NEVER;
 use std::alloc::Allocator;
+use test_support::facts::same;
 use test_support::fixture::{Fixture, Heap};
 use test_support::receiver::Receiver;
 use test_support::targets::Target;
@@ -27,7 +28,7 @@ enum Group {
     Writer,
 }
 
-const ROWS: [(&[&str], Group); 8] = [
+const ROWS: &[(&[&str], Group)] = &[
     (
         &[
             "MyDeserialize::deserialize",
@@ -123,7 +124,7 @@ const ROWS: [(&[&str], Group); 8] = [
 const TEXT: &[u8] = b"\x03abc\x02";
 
 // What reads a text, and how many bytes it leaves.
-const READINGS: [(Reading, usize); 8] = [
+const READINGS: &[(Reading, usize)] = &[
     (Reading::Deserialize, 1),
     (Reading::ParseIn, 1),
     (Reading::ParseUncheckedIn, 1),
@@ -136,7 +137,7 @@ const READINGS: [(Reading, usize); 8] = [
 
 fn readings_work<A: Allocator + Copy>(alloc: A) -> bool {
     let mut all = reads_by_representation::<A>(TEXT);
-    for (reading, left) in &READINGS {
+    for (reading, left) in READINGS {
         all &= reads_text(alloc, *reading, TEXT) == (true, *left);
     }
     know_text::<A>();
@@ -244,7 +245,7 @@ fn reader_works<A: Allocator + Copy>(alloc: A) -> bool {
         return false;
     };
     let all = from.fits() & from.unread().is_empty();
-    all & (from.reads() == 0) & (from.into_inner() == b"ab".as_slice())
+    all & (from.reads() == 0) & same(from.into_inner(), b"ab")
 }
 
 // The writer's own memory is another's.
@@ -280,7 +281,7 @@ fn works<A: Allocator + Copy>(heap: &Heap, alloc: A, group: Group) -> bool {
 /// The first name of a group that goes otherwise.
 pub fn first_wrong<A: Allocator + Copy>(heap: &Heap, alloc: A) -> Option<&'static str> {
     let mut wrong = None;
-    for (names, group) in &ROWS {
+    for (names, group) in ROWS {
         heap.refuse(0);
         if !works(heap, alloc, *group) | heap.has_refused() {
             wrong = names.first().copied();

@@ -12,7 +12,7 @@ use test_support::fixture::Heap;
 // these behind what stands.
 type Row = (&'static str, Writing, &'static [&'static [u8]]);
 
-const ROWS: [Row; 16] = [
+const ROWS: &[Row] = &[
     (
         "MySerialize::serialize",
         Writing::Value,
@@ -133,7 +133,7 @@ fn is_as_said<A: Allocator + Copy>(heap: &Heap, alloc: A, row: &Row) -> bool {
 /// The name of a function that goes otherwise.
 pub fn first_wrong<A: Allocator + Copy>(heap: &Heap, alloc: A) -> Option<&'static str> {
     let mut wrong = None;
-    for row in &ROWS {
+    for row in ROWS {
         if !is_as_said(heap, alloc, row) {
             wrong = Some(row.0);
         }
