@@ -25,9 +25,9 @@ pub fn text_if<'a, T: BytesRepr>(text: Option<&'a [u8]>) -> Option<RawBytes<'a, 
 /// A context, an input that begins with no packet, why it doesn't, and how many bytes are left.
 pub type Refused<'de, C> = (C, &'de [u8], Fault, usize);
 
-// Whether the payload cut short at any length is refused; of a packet whose last field takes all the
-// rest, only where fewer than `least` bytes are left, and else what is read is written as just those
-// bytes.
+// Whether the payload cut short at any length is refused; of a packet whose last field takes all
+// the rest, only where fewer than `least` bytes are left, and else what is read is written as just
+// those bytes.
 fn are_cut<'de, T, C>(
     heap: &Heap,
     alloc: Global,
