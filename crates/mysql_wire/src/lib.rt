@@ -92,6 +92,6 @@ pub mod proto {
 
     /// Packets from readers, and to writers.
     pub mod packet_io {
-        pub use wire_codec::packet_io::{PacketIoError, PacketReader, PacketWriter};
+        pub use wire_packet_io::{PacketIoError, PacketReader, PacketWriter};
     }
 }

@@ -4,7 +4,7 @@ mod delivery;
 mod each;
 pub mod error;
 mod framing;
-pub(crate) mod header;
+pub mod header;
 mod limited;
 mod packet;
 mod room;

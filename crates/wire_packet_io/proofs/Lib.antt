@@ -1,0 +1,2 @@
+mod PacketIoLemmas
+mod FillingLemmas

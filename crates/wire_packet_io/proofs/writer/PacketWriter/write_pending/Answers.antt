@@ -1,0 +1,23 @@
+use Rattle.std.proofs.Common.{◌≡◌, ℕ, List, [], ◌++◌, take, drop, refl, sym, ap, ◌∙◌, append_assoc, take-append-drop, rules}
+use Rattle.std.proofs.KnownBytes.{Appends-nil, Appends-trans}
+use Rattle.wire_packet_io.proofs.writer.PacketWriter.write_pending.Goals as goal
+
+-- a write took the front of what is pending
+pub taken_more : (all sent pending left : List ℕ) (count : ℕ) → all ≡ sent ++ pending → left ≡ drop count pending → all ≡ (sent ++ take count pending) ++ left
+taken_more all sent pending left count is rest =
+    is ∙ ap (λ (z : List ℕ). sent ++ z) (sym (take-append-drop count pending)) ∙ sym (append_assoc sent (take count pending) (drop count pending))
+    ∙ ap (λ (z : List ℕ). (sent ++ take count pending) ++ z) (sym rest)
+
+pub writes-init : goal.writes-init
+writes-init g c = ([], refl, Appends-nil _)
+
+pub writes-preserved : goal.writes-preserved
+writes-preserved g c =
+    let inv = c.writes.invariant in
+    let pending = c.writes.self.pending.items in
+    let count = c.in-Ok.count in
+    let took = rw c.as_slice.ensures at c.in-Ok.ensures.bytes in
+    (inv.0 ++ take count pending, taken_more _ inv.0 pending _ count inv.1 c.advance.ensures.items, Appends-trans _ _ _ inv.0 (take count pending) inv.2 took)
+
+pub returns-in-Err-clause-sent : goal.returns-in-Err-clause-sent
+returns-in-Err-clause-sent g c = search rules

@@ -1,0 +1,2 @@
+pub mod PacketIo
+pub mod Filling

@@ -1,0 +1,105 @@
+//! Packets to a writer.
+
+ghost use Rattle.std.specs.Prelude.{IsOk, ◌≡◌, ◌<◌, ◌⊎◌, ◌↔◌, ℕ, List, [], ◌++◌, length, Err, IfOk, OnOk, OnErr, IfErr};
+ghost use Rattle.std.specs.Io.KnownBytes.{Appends, Keeps};
+ghost use Rattle.wire_codec.specs.Codec.{expected_id, header_of};
+ghost use Rattle.wire_codec.specs.Framing.{framing, next_id};
+ghost use Rattle.wire_packet_io.specs.PacketIo.{WriteFails};
+
+use crate::error::PacketIoError;
+use bytes::{Buf, BytesMut};
+use std::alloc::{Allocator, Global};
+use std::io::Write;
+use wire_codec::codec::PacketCodec;
+use wire_codec::codec::error::PacketCodecError;
+
+/// Frames packets, and writes them.
+///
+/// The codec is handed in at each call, so that a reader and a writer can share one id.
+#[derive(Drop)]
+pub struct PacketWriter<W: Write, A: Allocator + Copy = Global> {
+    writer: W,
+    pending: BytesMut<A>,
+}
+
+impl<W: Write, A: Allocator + Copy> PacketWriter<W, A> {
+    /// A writer with nothing to write. It keeps the allocator.
+    pub fn new(alloc: A, writer: W) -> Result<Self, PacketIoError>
+        ensures made { IsOk result }
+        ensures writer { IfOk result (λ new. new.writer ≡ writer) }
+        ensures pending { IfOk result (λ new. new.pending.items ≡ []) }
+        ensures memory { IfErr result (λ error. error ≡ PacketIoError.OutOfMemory) }
+    {
+        Ok(PacketWriter {
+            writer,
+            pending: BytesMut::new(alloc),
+        })
+    }
+
+    /// The bytes that are still to be written.
+    pub fn pending(&self) -> &[u8]
+        ensures { result.now ≡ self.now.pending.items }
+    {
+        self.pending.as_slice()
+    }
+
+    /// The writer. What is still pending is gone.
+    pub fn into_inner(self) -> W
+        ensures { result ≡ self.writer }
+    {
+        self.writer
+    }
+
+    /// Frames the packet behind what is pending, and empties it, as the codec's `encode` does.
+    /// `PacketTooLarge` and `OutOfMemory` change nothing.
+    pub fn queue<T: Buf>(
+        &mut self,
+        codec: &mut PacketCodec,
+        packet: &mut T,
+    ) -> Result<(), PacketIoError>
+        ensures appended { OnOk result (self.new.pending.items
+            ≡ self.old.pending.items ++ framing (expected_id codec.old) (T.unread packet.old)) }
+        ensures emptied { OnOk result (T.unread packet.new ≡ []) }
+        ensures next { OnOk result (expected_id codec.new
+            ≡ next_id (expected_id codec.old) (T.unread packet.old)) }
+
+        ensures too_large { (result ≡ Err PacketIoError.PacketTooLarge)
+            ↔ (codec.old.max_allowed_packet < length (T.unread packet.old)) }
+        ensures errors { IfErr result
+            (λ error. (error ≡ PacketIoError.PacketTooLarge)
+            ⊎ (error ≡ PacketIoError.OutOfMemory)) }
+        ensures err { OnErr result ((expected_id codec.new ≡ expected_id codec.old)
+            × (packet.new ≡ packet.old) × (self.new.pending.items ≡ self.old.pending.items)) }
+
+        ensures header { header_of codec.new ≡ header_of codec.old }
+        ensures limit { codec.new.max_allowed_packet ≡ codec.old.max_allowed_packet }
+        ensures writer { self.new.writer ≡ self.old.writer }
+    {
+        match codec.encode(packet, &mut self.pending) {
+            Ok(()) => Ok(()),
+            Err(PacketCodecError::PacketTooLarge) => Err(PacketIoError::PacketTooLarge),
+            Err(_) => Err(PacketIoError::OutOfMemory),
+        }
+    }
+
+    /// Writes until nothing is pending, and flushes. After `Io` and `WriteZero` exactly the bytes
+    /// that did not go out are pending, and the call may be made again.
+    pub fn write_pending(&mut self) -> Result<(), PacketIoError>
+        ensures sent { (sent : List ℕ) × (self.old.pending.items ≡ sent ++ self.new.pending.items)
+            × Appends (W.contents self.old.writer) (W.contents self.new.writer) sent }
+        ensures ok { OnOk result (self.new.pending.items ≡ []) }
+        ensures errors { IfErr result (λ error. WriteFails error self.new.pending.items) }
+    {
+        'writes: while !self.pending.is_empty() {
+            match self.writer.write(self.pending.as_slice()) {
+                Ok(0) => return Err(PacketIoError::WriteZero),
+                Ok(count) => self.pending.advance(count),
+                Err(error) => return Err(PacketIoError::Io(error)),
+            }
+        }
+        match self.writer.flush() {
+            Ok(()) => Ok(()),
+            Err(error) => Err(PacketIoError::Io(error)),
+        }
+    }
+}
