@@ -1,11 +1,11 @@
 -- One packet after another.
 use Rattle.std.proofs.Common.{◌≡◌, ◌≢◌, ℕ, ◌≤◌, List, [], ◌∷◌, ◌++◌, length, refl, sym, ap, ◌∙◌, subst, arith, append_assoc, append-nil, Option, None, Ok, Err, Bool, true, ne_eqb, if◌then◌else◌, Result, inl, inr, zero-le}
 use Rattle.std.proofs.lemmas.List.Elements.{All-nil}
-use Rattle.mysql_wire.specs.Framing.{max_payload, framing, front, next_id, id_after, stream}
-use Rattle.mysql_wire.specs.Delivery.{Continues, Ending, Waiting, TooLarge, OutOfSync, Delivers, Splits}
-use Rattle.mysql_wire.specs.Codec.{CodecState, first_id, input_of, DecodesFrom}
-use Rattle.mysql_wire.specs.Runs.{RunsTo}
-use Rattle.mysql_wire.specs.Laws.{JoinedRuns, JoinedSplits, NothingRead, BetweenPackets, StreamAppend, IdAfterAppend, empty_state}
+use Rattle.wire_codec.specs.Framing.{max_payload, framing, front, next_id, id_after, stream}
+use Rattle.wire_codec.specs.Delivery.{Continues, Ending, Waiting, TooLarge, OutOfSync, Delivers, Splits}
+use Rattle.wire_codec.specs.Codec.{CodecState, first_id, input_of, DecodesFrom}
+use Rattle.wire_codec.specs.Runs.{RunsTo}
+use Rattle.wire_codec.specs.Laws.{JoinedRuns, JoinedSplits, NothingRead, BetweenPackets, StreamAppend, IdAfterAppend, empty_state}
 use Rattle.mysql_wire_commands.specs.Unframe.{ending_status}
 use Rattle.std.specs.Result.{IfOk}
 use Rattle.mysql_wire_commands.specs.declared.status.Stop.{Stop}

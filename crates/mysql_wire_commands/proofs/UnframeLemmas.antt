@@ -5,16 +5,16 @@ use Rattle.std.proofs.lemmas.Bool.{cases_lt, lt-ltb, le-ltb}
 use Rattle.std.proofs.lemmas.Grind.{flat_map-append}
 use Rattle.std.proofs.lemmas.List.{take-append-le}
 use Rattle.std.proofs.lemmas.List.Elements.{All-nil}
-use Rattle.mysql_wire.specs.PacketCodecError.{PacketCodecError}
-use Rattle.mysql_wire.specs.PacketCodecError.TheVariants.{PacketTooLarge, PacketsOutOfSync}
-use Rattle.mysql_wire.specs.Framing.{max_payload, chunk, framing, front, next_id, id_after, stream}
-use Rattle.mysql_wire.specs.Delivery.{id_at, IsWholeChunks, Ending, Waiting, TooLarge, OutOfSync}
-use Rattle.mysql_wire.specs.Codec.{CodecState, open_id, first_id, input_of}
-use Rattle.mysql_wire.specs.Limited.{Limits, framed_size, place_after, DeliversUnder}
-use Rattle.mysql_wire.specs.LimitedRuns.{run_limits, limited_bytes, WaitsUnder}
-use Rattle.mysql_wire.specs.GoingOn.{GoesOn, RunsOn}
-use Rattle.mysql_wire.specs.Runs.{RunsTo}
-use Rattle.mysql_wire.specs.Laws.{JoinedLimitedRuns, EmptyGoesOn, EqualLimits, FramedLength, NothingRead, empty_state}
+use Rattle.wire_codec.specs.declared.codec.error.PacketCodecError.{PacketCodecError}
+use Rattle.wire_codec.specs.declared.codec.error.PacketCodecError.TheVariants.{PacketTooLarge, PacketsOutOfSync}
+use Rattle.wire_codec.specs.Framing.{max_payload, chunk, framing, front, next_id, id_after, stream}
+use Rattle.wire_codec.specs.Delivery.{id_at, IsWholeChunks, Ending, Waiting, TooLarge, OutOfSync}
+use Rattle.wire_codec.specs.Codec.{CodecState, open_id, first_id, input_of}
+use Rattle.wire_codec.specs.Limited.{Limits, framed_size, place_after, DeliversUnder}
+use Rattle.wire_codec.specs.LimitedRuns.{run_limits, limited_bytes, WaitsUnder}
+use Rattle.wire_codec.specs.GoingOn.{GoesOn, RunsOn}
+use Rattle.wire_codec.specs.Runs.{RunsTo}
+use Rattle.wire_codec.specs.Laws.{JoinedLimitedRuns, EmptyGoesOn, EqualLimits, FramedLength, NothingRead, empty_state}
 use Rattle.mysql_wire_commands.specs.Texts.{payload_line}
 use Rattle.std.specs.Result.{IfOk}
 use Rattle.mysql_wire_commands.specs.declared.status.Stop.{Stop}

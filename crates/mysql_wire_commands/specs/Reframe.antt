@@ -1,9 +1,9 @@
 -- What `reframe` writes.
 use Rattle.std.specs.Io.KnownBytes.{Appends, Consumes, IsAtEnd}
 use Rattle.std.specs.Prelude.{◌≡◌, ◌⊎◌, ℕ, List, [], ◌++◌, length, Option, Bool, IsFalse}
-use Rattle.mysql_wire.specs.Framing.{front, stream, id_after}
-use Rattle.mysql_wire.specs.Delivery.{Ending, Delivers, Splits}
-use Rattle.mysql_wire.specs.Codec.{CodecState, first_id, Stands}
+use Rattle.wire_codec.specs.Framing.{front, stream, id_after}
+use Rattle.wire_codec.specs.Delivery.{Ending, Delivers, Splits}
+use Rattle.wire_codec.specs.Codec.{CodecState, first_id, Stands}
 use Rattle.mysql_wire_commands.specs.Unframe.{ending_status}
 
 -- what `reframe` writes of the bytes it reads under a limit, and its status: the packets that these

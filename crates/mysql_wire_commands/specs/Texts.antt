@@ -3,10 +3,10 @@ use Rattle.std.specs.Fmt.{decimal}
 use Rattle.std.specs.Io.KnownBytes.{Appends, IsAtEnd}
 use Rattle.std.specs.Prelude.{◌≡◌, ℕ, ◌⊎◌, List, [], ◌∷◌, ◌++◌, length, if◌then◌else◌, ◌==◌, codes, Option, Some, None, Ok, IfSome}
 use Rattle.hex.specs.Hex.{encode_lower}
-use Rattle.mysql_wire.specs.ChunkInfo.{ChunkInfo}
-use Rattle.mysql_wire.specs.ChunkInfo.TheVariants.{Middle, Last}
-use Rattle.mysql_wire.specs.Framing.{framing, max_payload}
-use Rattle.mysql_wire.specs.OneChunk.{ChunkState, ChunkStep}
+use Rattle.wire_codec.specs.declared.codec.chunk.ChunkInfo.{ChunkInfo}
+use Rattle.wire_codec.specs.declared.codec.chunk.ChunkInfo.TheVariants.{Middle, Last}
+use Rattle.wire_codec.specs.Framing.{framing, max_payload}
+use Rattle.wire_codec.specs.OneChunk.{ChunkState, ChunkStep}
 
 -- two digits a byte, in lower case, or a dash for no bytes
 abbrev pub hex_or_dash : List ℕ → List ℕ

@@ -2,12 +2,12 @@
 use Rattle.std.specs.Io.KnownBytes.{Appends, Consumes, IsAtEnd}
 use Rattle.std.specs.List.{flat_map}
 use Rattle.std.specs.Prelude.{◌≡◌, ◌==◌, ◌⊎◌, ◌+◌, ◌*◌, ◌/◌, ◌<◌, ◌≤◌, nat_lt, ℕ, List, [], ◌++◌, length, take, if◌then◌else◌, codes, Option, Some, None}
-use Rattle.mysql_wire.specs.Framing.{front, id_after, max_payload}
-use Rattle.mysql_wire.specs.Delivery.{Ending, Waiting, TooLarge, OutOfSync, Delivers, id_at}
-use Rattle.mysql_wire.specs.Codec.{CodecState, codec_state, expected_id, first_id, header_of, input_of}
-use Rattle.mysql_wire.specs.Limited.{Limits, place_after, DeliversUnder}
-use Rattle.mysql_wire.specs.LimitedRuns.{WaitsUnder}
-use Rattle.mysql_wire.specs.GoingOn.{GoesOn}
+use Rattle.wire_codec.specs.Framing.{front, id_after, max_payload}
+use Rattle.wire_codec.specs.Delivery.{Ending, Waiting, TooLarge, OutOfSync, Delivers, id_at}
+use Rattle.wire_codec.specs.Codec.{CodecState, codec_state, expected_id, first_id, header_of, input_of}
+use Rattle.wire_codec.specs.Limited.{Limits, place_after, DeliversUnder}
+use Rattle.wire_codec.specs.LimitedRuns.{WaitsUnder}
+use Rattle.wire_codec.specs.GoingOn.{GoesOn}
 use Rattle.mysql_wire_commands.specs.declared.unframe.Verdict.{Verdict}
 use Rattle.mysql_wire_commands.specs.declared.unframe.Verdict.TheVariants as verdict
 use Rattle.mysql_wire_commands.specs.declared.unframe.Run.{Run}

@@ -8,11 +8,11 @@ use crate::lines::{push_chunk, push_rest};
 use crate::output::write_whole;
 use crate::status::{Stop, exit_status};
 use bytes::BytesMut;
-use mysql_wire::constants::MAX_PAYLOAD_LEN;
-use mysql_wire::proto::codec::error::PacketCodecError;
-use mysql_wire::proto::codec::{ChunkDecoder, ChunkInfo};
 use std::alloc::{AllocError, Allocator};
 use std::io::{Read, Write};
+use wire_codec::codec::error::PacketCodecError;
+use wire_codec::codec::{ChunkDecoder, ChunkInfo};
+use wire_const::MAX_PAYLOAD_LEN;
 
 // The status of `chunk`.
 fn chunk_status(info: Option<ChunkInfo>, rest: &[u8]) -> u8

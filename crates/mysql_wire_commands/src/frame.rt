@@ -7,9 +7,9 @@ use crate::input::read_whole;
 use crate::output::write_whole;
 use crate::status::{Stop, exit_status};
 use bytes::BytesMut;
-use mysql_wire::proto::codec::packet_to_chunks;
 use std::alloc::Allocator;
 use std::io::{Read, Write};
+use wire_codec::codec::packet_to_chunks;
 
 /// Reads the whole input as one payload, and writes its chunks numbered from `id` on. The answer is
 /// the exit status: 0 where all was written, 2 where a read or a write failed, 6 where memory was

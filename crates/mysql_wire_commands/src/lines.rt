@@ -3,8 +3,8 @@
 ghost use Rattle.std.specs.Prelude.{◌≡◌, ◌++◌, IfOk, OnOk, string_bytes};
 ghost use Rattle.mysql_wire_commands.specs.Texts.{chunk_line, hex_or_dash, payload_line, rest_line};
 
-use mysql_wire::proto::codec::ChunkInfo;
 use std::alloc::{AllocError, Allocator};
+use wire_codec::codec::ChunkInfo;
 
 // Two digits a byte, or a dash where there are no bytes.
 fn hex_or_dash<A: Allocator>(alloc: A, bytes: &[u8]) -> Result<String<A>, AllocError>

@@ -2,16 +2,16 @@
 
 ghost use Rattle.std.specs.Prelude.{◌≡◌, ◌≤◌, ◌++◌, [], length, None, IsNone, OnOk, IfOk};
 ghost use Rattle.std.specs.Io.KnownBytes.{Appends};
-ghost use Rattle.mysql_wire.specs.Codec.{expected_id, header_of};
-ghost use Rattle.mysql_wire.specs.Framing.{framing, next_id};
+ghost use Rattle.wire_codec.specs.Codec.{expected_id, header_of};
+ghost use Rattle.wire_codec.specs.Framing.{framing, next_id};
 ghost use Rattle.mysql_wire_commands.specs.Reframe.{ReframeEnds, StartsReading};
 
 use crate::status::{Stop, exit_status};
-use mysql_wire::laws;
-use mysql_wire::proto::codec::PacketCodec;
-use mysql_wire::proto::packet_io::{PacketIoError, PacketReader, PacketWriter};
 use std::alloc::Allocator;
 use std::io::{Read, Write};
+use wire_codec::codec::PacketCodec;
+use wire_codec::laws;
+use wire_packet_io::{PacketIoError, PacketReader, PacketWriter};
 
 // A codec at id 0, under a limit.
 fn codec_under(limit: usize) -> PacketCodec

@@ -2,7 +2,7 @@
 
 ghost use Rattle.std.specs.Prelude.{◌≡◌, ◌<◌, ◌≤◌, ◌⊎◌, ◌-◌, ◌++◌, ℕ, List, length, OnOk, IfOk, string_bytes, vec_len};
 ghost use Rattle.mysql_wire_commands.specs.declared.unframe.Verdict.TheVariants.{Waits};
-ghost use Rattle.mysql_wire.specs.Runs.{payloads};
+ghost use Rattle.wire_codec.specs.Runs.{payloads};
 
 use crate::input::read_piece;
 use crate::lines::{push_payload, push_rest};
@@ -10,12 +10,12 @@ use crate::noted::NotedRead;
 use crate::output::write_whole;
 use crate::status::{Stop, exit_status};
 use bytes::BytesMut;
-use mysql_wire::constants::MAX_PAYLOAD_LEN;
-use mysql_wire::laws;
-use mysql_wire::proto::codec::error::PacketCodecError;
-use mysql_wire::proto::codec::{PacketCodec, deliver_limited};
 use std::alloc::{AllocError, Allocator};
 use std::io::Write;
+use wire_codec::codec::error::PacketCodecError;
+use wire_codec::codec::{PacketCodec, deliver_limited};
+use wire_codec::laws;
+use wire_const::MAX_PAYLOAD_LEN;
 
 /// Why no more packets come from the bytes read so far.
 #[derive(Debug, Clone, Copy, PartialEq, Eq)]
@@ -43,7 +43,7 @@ struct Run<A: Allocator + Copy> {
 
 impl<A: Allocator + Copy> Run<A> {
     ghost use Rattle.mysql_wire_commands.specs.Unframe.{StartsRun, TakesPiece, bytes_left, next_limit, run_state};
-    ghost use Rattle.mysql_wire.specs.LimitedRuns.{Aligned};
+    ghost use Rattle.wire_codec.specs.LimitedRuns.{Aligned};
 
     fn new(alloc: A, limit: usize, later: usize, at: usize) -> Self
         ensures { StartsRun limit later at result }
@@ -172,8 +172,8 @@ fn piece_text<A: Allocator + Copy>(
 ghost use Rattle.mysql_wire_commands.specs.Unframe.{StartsRun, TakesPiece, UnframeEnds, UnframeEndsOver, UnframeLimitedEnds, bytes_left, ending_line, ending_status, next_limit, run_state};
 ghost use Rattle.mysql_wire_commands.specs.Reads.{AsksStep, AsksUpTo};
 ghost use Rattle.std.specs.Io.KnownBytes.{Appends};
-ghost use Rattle.mysql_wire.specs.Delivery.{Waiting};
-ghost use Rattle.mysql_wire.specs.LimitedRuns.{Aligned};
+ghost use Rattle.wire_codec.specs.Delivery.{Waiting};
+ghost use Rattle.wire_codec.specs.LimitedRuns.{Aligned};
 
 // Takes the packets of one more piece, which comes under one limit, and writes their lines.
 fn take_piece<A: Allocator + Copy, W: Write>(

@@ -1,5 +1,5 @@
-use Rattle.mysql_wire.specs.OneChunk.{chunk_state}
-use Rattle.mysql_wire.specs.Framing.{max_payload}
+use Rattle.wire_codec.specs.OneChunk.{chunk_state}
+use Rattle.wire_codec.specs.Framing.{max_payload}
 use Rattle.mysql_wire_commands.proofs.chunk.shown.Goals as goal
 
 pub returns-clause-shown : goal.returns-clause-shown

@@ -1,8 +1,8 @@
 use Rattle.std.proofs.Common.{rules, ◌≡◌, ℕ, List, [], ◌++◌, ◌∙◌}
 use Rattle.std.proofs.KnownBytes.{Appends-nil, Appends-trans, Consumes-nil, Consumes-trans}
-use Rattle.mysql_wire.specs.Codec.{codec_state, expected_id}
-use Rattle.mysql_wire.specs.Framing.{framing}
-use Rattle.mysql_wire.specs.PacketIo.{joined_reads}
+use Rattle.wire_codec.specs.Codec.{codec_state, expected_id}
+use Rattle.wire_codec.specs.Framing.{framing}
+use Rattle.wire_packet_io.specs.PacketIo.{joined_reads}
 use Rattle.mysql_wire_commands.proofs.ReframeLemmas.{reframing_start, reframing_more, reframed_whole, reframed_short, reframed_too_large, reframed_out_of_sync}
 use Rattle.mysql_wire_commands.proofs.reframe.copy_packets.Goals as goal
 

@@ -1,6 +1,6 @@
 use Rattle.std.proofs.Common.{◌≡◌, ℕ, List, [], IsNone, false}
 use Rattle.std.specs.Io.KnownBytes.{Appends, Consumes}
-use Rattle.mysql_wire.specs.Codec.{codec_state, expected_id}
+use Rattle.wire_codec.specs.Codec.{codec_state, expected_id}
 use Rattle.mysql_wire_commands.specs.Reframe.{Reframing}
 use Rattle.mysql_wire_commands.proofs.reframe.copy_packets.Given as goal
 

@@ -3,7 +3,7 @@ use Rattle.std.proofs.Math.Numerals.{add-one}
 use Rattle.std.proofs.Math.Seq.{take-suc}
 use Rattle.std.proofs.lemmas.Grind.{flat_map-append}
 use Rattle.std.proofs.lemmas.List.{map-append}
-use Rattle.mysql_wire.specs.Runs.{payloads}
+use Rattle.wire_codec.specs.Runs.{payloads}
 use Rattle.mysql_wire_commands.specs.Texts.{payload_line}
 use Rattle.mysql_wire_commands.specs.Unframe.{packet_lines}
 use Rattle.mysql_wire_commands.proofs.unframe.push_packets.Goals as goal

@@ -1,5 +1,5 @@
 use Rattle.std.proofs.Common.{◌≡◌, ◌++◌, take, string_bytes}
-use Rattle.mysql_wire.specs.Runs.{payloads}
+use Rattle.wire_codec.specs.Runs.{payloads}
 use Rattle.mysql_wire_commands.specs.Unframe.{packet_lines}
 use Rattle.mysql_wire_commands.proofs.unframe.push_packets.Given as goal
 

@@ -1,6 +1,6 @@
 use Rattle.std.proofs.Common.{ℕ, List, ◌++◌, ap, subst, ◌∙◌}
 use Rattle.std.specs.Io.KnownBytes.{Appends}
-use Rattle.mysql_wire.specs.Runs.{payloads}
+use Rattle.wire_codec.specs.Runs.{payloads}
 use Rattle.mysql_wire_commands.specs.Unframe.{packet_lines, verdict_line}
 use Rattle.mysql_wire_commands.proofs.unframe.take_piece.Goals as goal
 

@@ -1,8 +1,8 @@
 use Rattle.std.proofs.Common.{rules, ◌+◌, ◌≡◌, ℕ, ◌<◌, ◌≤◌, List, [], ◌++◌, take, length, length-take, sym, ap₂, ◌∙◌, arith, append-nil, length-append, subst, if◌then◌else◌, nat_lt, Result, Ok, Err, OnOk, IfOk}
 use Rattle.std.proofs.KnownBytes.{Appends-nil, Appends-trans, Consumes-nil, Consumes-trans}
 use Rattle.std.specs.Io.KnownBytes.{Consumes}
-use Rattle.mysql_wire.specs.Delivery.{Waiting}
-use Rattle.mysql_wire.specs.Limited.{place_after}
+use Rattle.wire_codec.specs.Delivery.{Waiting}
+use Rattle.wire_codec.specs.Limited.{place_after}
 use Rattle.std.specs.Io.KnownBytes.{Appends}
 use Rattle.mysql_wire_commands.specs.declared.status.Stop.{Stop}
 use Rattle.mysql_wire_commands.specs.Unframe.{ending_status, UnframeEndsOver, place_limits, run_state, next_limit, packet_lines, bytes_left, ending_line, UnframedUnder}

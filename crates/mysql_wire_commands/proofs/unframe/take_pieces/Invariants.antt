@@ -1,7 +1,7 @@
 use Rattle.std.proofs.Common.{◌≡◌, ◌-◌, ℕ, List, length, vec_len}
 use Rattle.std.specs.Io.KnownBytes.{Appends, Consumes}
-use Rattle.mysql_wire.specs.Limited.{Limits}
-use Rattle.mysql_wire.specs.LimitedRuns.{Aligned}
+use Rattle.wire_codec.specs.Limited.{Limits}
+use Rattle.wire_codec.specs.LimitedRuns.{Aligned}
 use Rattle.mysql_wire_commands.specs.Unframe.{Unframing, place_limits, run_state}
 use Rattle.mysql_wire_commands.proofs.ReadLemmas.{Asking}
 use Rattle.mysql_wire_commands.proofs.unframe.take_pieces.Given as goal

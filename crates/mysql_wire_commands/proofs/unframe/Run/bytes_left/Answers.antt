@@ -1,5 +1,5 @@
 use Rattle.std.proofs.Common.{rules}
-use Rattle.mysql_wire.specs.Framing.{max_payload_is}
+use Rattle.wire_codec.specs.Framing.{max_payload_is}
 use Rattle.mysql_wire_commands.proofs.unframe.Run.bytes_left.Goals as goal
 
 pub returns : goal.returns

@@ -1,6 +1,6 @@
 use Rattle.std.proofs.Common.{ℕ, ap, sym, ◌∙◌, Some, rules}
-use Rattle.mysql_wire.specs.Codec.{codec_state}
-use Rattle.mysql_wire.specs.Runs.{payloads}
+use Rattle.wire_codec.specs.Codec.{codec_state}
+use Rattle.wire_codec.specs.Runs.{payloads}
 use Rattle.mysql_wire_commands.specs.Unframe.{run_state}
 use Rattle.mysql_wire_commands.proofs.UnframeLemmas.{piece_waits, piece_too_large, piece_out_of_sync}
 use Rattle.mysql_wire_commands.proofs.unframe.Run.take.Goals as goal
