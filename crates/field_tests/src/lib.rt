@@ -21,11 +21,7 @@ mod null;
 #[cfg(test)]
 mod numbers;
 #[cfg(test)]
-mod own;
-#[cfg(test)]
 mod rows;
-#[cfg(test)]
-mod server;
 #[cfg(test)]
 mod texts;
 #[cfg(test)]

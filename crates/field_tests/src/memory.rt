@@ -5,13 +5,12 @@ use mysql_wire::misc::raw::bytes::{LenEnc, U8Bytes};
 use mysql_wire::misc::raw::int::{LeU16, LeU32};
 use mysql_wire::misc::raw::seq::Seq;
 use mysql_wire::misc::raw::{Both, RawBytes, RawInt};
-use mysql_wire::proto::MySerialize;
 use refusing::Refusing;
 use std::alloc::Global;
 use std::borrow::CowSlice;
 use std::test::Fail;
 use test_support::facts::all_hold;
-use test_support::fields::refusals;
+use test_support::fields::is_refused_at_least;
 use test_support::fixture::Heap;
 
 // A list of numbers.
@@ -23,20 +22,6 @@ const NUMBERS: &[u8; 84] =
 
 // Two texts, one after the other, and behind their lengths.
 const TEXTS: &[u8; 44] = b"\x28aaaaaaaaaaaaaaaaaaaaaaaaaaaaaaaaaaaaaaaa\x02bb";
-
-/// Whether a value is written as these bytes after so many requests for memory are refused in turn,
-/// at least. No bytes ask for none.
-pub fn is_refused_at_least<T: MySerialize>(
-    heap: &Heap,
-    value: &T,
-    bytes: &[u8],
-    least: u64,
-) -> bool {
-    match refusals(heap, value, bytes) {
-        Some(count) => (count >= least) & ((count == 0) == bytes.is_empty()),
-        None => false,
-    }
-}
 
 // An element in the middle is refused too, and the second of two texts. An owned text is written
 // like a borrowed one, and its own memory is another's.

@@ -1,8 +1,7 @@
 // Each representation of a text: at the ends of its lengths, cut short, with bytes behind, and with
 // each request for memory refused.
 
-use crate::memory::is_refused_at_least;
-use mysql_wire::io::{InvalidReason, ParseBuf};
+use mysql_wire::io::InvalidReason;
 use mysql_wire::misc::raw::RawBytes;
 use mysql_wire::misc::raw::bytes::{
     BareBytes, BareU8Bytes, BareU16Bytes, BytesRepr, EofBytes, FixedLengthText, LenEnc, NullBytes,
@@ -11,106 +10,15 @@ use mysql_wire::misc::raw::bytes::{
 use mysql_wire::misc::raw::int::VarLen;
 use refusing::Refusing;
 use std::alloc::Allocator;
-use std::borrow::CowSlice;
 use std::test::Fail;
 use test_support::answers::Fault;
 use test_support::facts::all_hold;
-use test_support::fields::{
-    Eaten, MORE, Short, gives, has_size, is_read, is_written, joined, last, refusals, stops,
-};
+use test_support::fields::{Eaten, Short, gives, is_written, last, stops};
 use test_support::fixture::Heap;
 use test_support::reference::between;
-
-/// A text of 65536 bytes, none of them a zero, and two zeros behind it. It is shorter where memory
-/// is refused.
-pub fn letters<A: Allocator>(alloc: A) -> Vec<u8, A> {
-    let mut text = Vec::new(alloc);
-    for _ in 0..2521 {
-        let _ = text.extend_from_slice(b"abcdefghijklmnopqrstuvwxyz");
-    }
-    text.truncate(65536);
-    let _ = text.extend_from_slice(b"\0\0");
-    text
-}
-
-// Whether a text is read, and borrows from the input.
-fn borrows<'de, T, C, A>(alloc: A, ctx: C, input: &'de [u8]) -> bool
-where
-    T: 'de + BytesRepr<Ctx = C>,
-    A: 'de + Allocator + Copy,
-{
-    let mut buf = ParseBuf(input);
-    match buf.parse_in::<RawBytes<'de, T, A>, A>(alloc, ctx) {
-        Ok(text) => matches!(text.0, CowSlice::Borrowed(_)),
-        Err(_) => false,
-    }
-}
-
-// How a text is written: the bytes before it, the text, what is read back of it, the bytes behind
-// it, and how many of the requests for memory that this takes are refused in turn, at least.
-type Text<'a> = (&'a [u8], &'a [u8], &'a [u8], &'a [u8], u64);
-
-// A text of 200 bytes and more is refused at each of the two puts that it has.
-fn puts_of(text: &[u8]) -> u64 {
-    if text.len() < 200 { 0 } else { 2 }
-}
-
-// Whether a text is written so, and what is read back, whatever follows, borrows from the input and
-// takes no memory.
-fn is_text<T: BytesRepr<Ctx = C>, C: Copy, A: Allocator + Copy>(
-    heap: &Heap,
-    alloc: A,
-    ctx: C,
-    (front, text, cut, end, least): Text<'_>,
-    short: Short,
-) -> bool {
-    let input = joined(heap, &[front, cut, end, MORE]);
-    let input = input.as_slice();
-    let len = input.len().saturating_sub(MORE.len());
-    let value = RawBytes::<T, A>::from(text);
-    let is_put = is_refused_at_least(heap, &value, between(input, 0, len), least);
-    let back = RawBytes::<T, A>::from(cut);
-    heap.refuse(0);
-    let is_read = is_read(alloc, ctx, input, len, &back, short);
-    let is_lent = borrows::<T, C, A>(alloc, ctx, input);
-    is_put & is_read & is_lent & (heap.left() == 0)
-}
-
-// Whether at most so many bytes of a text are written, and it has this size.
-fn is_bounded<T: BytesRepr>(text: &[u8], most: usize, size: Option<usize>) -> bool {
-    let is_cut = RawBytes::<T>::from(text).len() == text.len().min(most);
-    is_cut & (T::MAX_LEN == most) & has_size::<RawBytes<'_, T>>(size)
-}
+use test_support::texts::{Row, are_texts, borrows, is_bounded, is_text, letters, puts_of};
 
 // ---- texts behind their length
-
-/// The length of a text, and what is written of that.
-pub type Row<'a> = (usize, &'a [u8]);
-
-/// Whether texts of these lengths, of some letters, are written behind their length, `most` bytes
-/// of them at most. A length is eaten, where it is there, and else as `eaten` says.
-pub fn are_texts<T: BytesRepr<Ctx = ()>, A: Allocator + Copy>(
-    heap: &Heap,
-    alloc: A,
-    letters: &[u8],
-    eaten: Eaten,
-    rows: &[Row<'_>],
-    most: usize,
-) -> bool {
-    let mut all = is_bounded::<T>(letters, most, None);
-    for (len, front) in rows {
-        let text = between(letters, 0, *len);
-        let cut = between(text, 0, most);
-        let short = Short {
-            fault: Fault::UnexpectedEof,
-            eaten,
-            front: front.len(),
-        };
-        let text = (*front, text, cut, b"".as_slice(), puts_of(cut));
-        all &= is_text::<T, (), A>(heap, alloc, (), text, short);
-    }
-    all
-}
 
 const LENENC: &[Row] = &[
     (0, b"\0"),

@@ -1,8 +1,8 @@
 //! Enums: each number, the errors' texts, and the kinds of column types.
 
-use crate::texts::shows;
 use std::alloc::Global;
 use std::fmt::Display;
+use test_support::answers::shows;
 use wire_const::{
     ColumnType, Command, GeometryType, ItemResult, MariadbBulkIndicator, SessionStateType,
     UnknownColumnType, UnknownGeometryType, UnknownItemResultType, UnknownMariadbBulkIndicator,

@@ -1,6 +1,5 @@
 //! What the errors say.
 
-use crate::texts;
 use mysql_wire::io::{InvalidLengthEncodedInteger, InvalidReason, WireError};
 use mysql_wire::proto::codec::error::PacketCodecError;
 use mysql_wire::proto::packet_io::PacketIoError;
@@ -8,6 +7,7 @@ use std::alloc::Global;
 use std::fmt::{Debug, Display};
 use std::io::{self, ErrorKind};
 use std::test::Fail;
+use test_support::answers;
 use test_support::facts::{all_hold, no_row, wrong_row};
 
 // Whether an error shows as this text, and has some text for its programmers.
@@ -16,7 +16,7 @@ fn shows<E: Display + Debug>(alloc: Global, error: &E, text: &str) -> bool {
         Ok(debugged) => !debugged.is_empty(),
         Err(_) => false,
     };
-    texts::shows(alloc, error, text) & is_debugged
+    answers::shows(alloc, error, text) & is_debugged
 }
 
 type Reason = (InvalidReason, &'static str);

@@ -1,9 +1,9 @@
 //! Sets of flags: each bit, each number, and the errors' texts. `run_constant_calls` has the calls.
 
-use crate::texts::shows;
 use bitflags::Bits;
 use std::alloc::Global;
 use std::fmt::Display;
+use test_support::answers::shows;
 use wire_const::{
     CapabilityFlags, ColumnFlags, CursorType, Flags, Flags2, MariadbCapabilities, SqlMode,
     StatusFlags, StmtBulkExecuteFlags, StmtExecuteParamFlags, StmtExecuteParamsFlags,

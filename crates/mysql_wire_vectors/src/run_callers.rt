@@ -1,6 +1,5 @@
 //! The callers of the codec, run: each answer that they have.
 
-use crate::readers::OneByOne;
 use crate::values::are_unchanged;
 use bytes::BytesMut;
 use mysql_wire::proto::codec::error::PacketCodecError;
@@ -13,6 +12,7 @@ use std::io::ErrorKind;
 use std::test::Fail;
 use test_support::facts::{all_hold, no_row, same, wrong_row};
 use test_support::fixture::Heap;
+use test_support::readers::OneByOne;
 use test_support::receiver::{Receiver, Run, are_packets};
 use test_support::told::Told;
 

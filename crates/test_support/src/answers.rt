@@ -1,7 +1,7 @@
 //! What readers and writers of fields answered, in a form that tests compare.
 
 use std::alloc::Global;
-use std::fmt::Debug;
+use std::fmt::{Debug, Display};
 use wire_buf::error::{InvalidReason, WireError};
 
 /// Why a value wasn't read or written.
@@ -37,6 +37,14 @@ pub fn told<T>(answer: Result<T, WireError>) -> Result<T, Fault> {
 /// Whether the value is shown as this text for debugging.
 pub fn shows_debug<T: Debug>(alloc: Global, value: &T, text: &str) -> bool {
     match format!(in alloc; "{value:?}") {
+        Ok(shown) => shown.as_str() == text,
+        Err(_) => false,
+    }
+}
+
+/// Whether the value is shown as this text.
+pub fn shows<T: Display>(alloc: Global, value: &T, text: &str) -> bool {
+    match format!(in alloc; "{value}") {
         Ok(shown) => shown.as_str() == text,
         Err(_) => false,
     }

@@ -73,9 +73,9 @@ fn is_refused<T: MySerialize>(heap: &Heap, value: &T, bytes: &[u8], nth: u64) ->
     (all & is_behind(buf.as_slice(), bytes)).then_some(refused)
 }
 
-/// How many requests for memory were refused, each in turn, before a value was written as these
-/// bytes. None where a refused call leaves something, or something else is written.
-pub fn refusals<T: MySerialize>(heap: &Heap, value: &T, bytes: &[u8]) -> Option<u64> {
+// How many requests for memory were refused, each in turn, before a value was written as these
+// bytes. None where a refused call leaves something, or something else is written.
+fn refusals<T: MySerialize>(heap: &Heap, value: &T, bytes: &[u8]) -> Option<u64> {
     for nth in 0..MOST {
         if !is_refused(heap, value, bytes, nth)? {
             return Some(nth);
@@ -84,13 +84,24 @@ pub fn refusals<T: MySerialize>(heap: &Heap, value: &T, bytes: &[u8]) -> Option<
     None
 }
 
+/// Whether a value is written as these bytes after so many requests for memory are refused in turn,
+/// at least. No bytes ask for none.
+pub fn is_refused_at_least<T: MySerialize>(
+    heap: &Heap,
+    value: &T,
+    bytes: &[u8],
+    least: u64,
+) -> bool {
+    match refusals(heap, value, bytes) {
+        Some(count) => (count >= least) & ((count == 0) == bytes.is_empty()),
+        None => false,
+    }
+}
+
 /// Whether a value is written as these bytes, whichever request for memory is refused. No bytes ask
 /// for none.
 pub fn is_written<T: MySerialize>(heap: &Heap, value: &T, bytes: &[u8]) -> bool {
-    match refusals(heap, value, bytes) {
-        Some(count) => (count == 0) == bytes.is_empty(),
-        None => false,
-    }
+    is_refused_at_least(heap, value, bytes, 0)
 }
 
 // ---- reading

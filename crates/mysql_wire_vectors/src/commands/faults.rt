@@ -1,12 +1,12 @@
 // The commands with each read, each write and each request for memory failing in turn.
 
 use crate::commands::run::{Memory, each_goes, end_of, run};
-use crate::readers::OneByOne;
 use refusing::NEVER;
 use std::io;
 use std::io::{ErrorKind, Write};
 use std::test::Fail;
 use test_support::fixture::Heap;
+use test_support::readers::OneByOne;
 
 // Takes so many bytes a write, and this many in all; then it takes none, or fails. The first write
 // may be interrupted. A flush succeeds or fails as told.

@@ -1,7 +1,5 @@
 // A number and a text in representations of one's own, by the same checks as those of the crate.
 
-use crate::numbers::{self, are_numbers};
-use crate::texts::{self, are_texts, letters};
 use mysql_wire_examples::own_fields::{BeU16, U16Bytes};
 use refusing::Refusing;
 use std::alloc::Allocator;
@@ -9,6 +7,8 @@ use std::test::Fail;
 use test_support::facts::all_hold;
 use test_support::fields::Eaten;
 use test_support::fixture::Heap;
+use test_support::numbers::{self, are_numbers};
+use test_support::texts::{self, are_texts, letters};
 
 const BE_U16: &[numbers::Row<BeU16>] = &[
     (0, b"\0\0", 0),
