@@ -7,9 +7,15 @@ mod at;
 #[cfg(test)]
 mod calls;
 #[cfg(test)]
+mod const_traits;
+#[cfg(test)]
 mod constants;
 #[cfg(test)]
 mod entry;
+#[cfg(test)]
+mod enums;
+#[cfg(test)]
+mod flag_sets;
 #[cfg(test)]
 mod lists;
 #[cfg(test)]
