@@ -7,6 +7,8 @@ mod chunks;
 #[cfg(test)]
 mod codec;
 #[cfg(test)]
+mod commands;
+#[cfg(test)]
 mod delivery;
 #[cfg(test)]
 mod fragmentation;
