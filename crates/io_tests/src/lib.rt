@@ -4,6 +4,14 @@
 #![tactic(auto)]
 
 #[cfg(test)]
+mod chunks;
+#[cfg(test)]
+mod codec;
+#[cfg(test)]
+mod delivery;
+#[cfg(test)]
+mod framing;
+#[cfg(test)]
 mod generated;
 #[cfg(test)]
 mod in_place;

@@ -3,17 +3,9 @@
 #![tactic(auto)]
 
 #[cfg(test)]
-mod chunks;
-#[cfg(test)]
-mod codec;
-#[cfg(test)]
 mod commands;
 #[cfg(test)]
-mod delivery;
-#[cfg(test)]
 mod fragmentation;
-#[cfg(test)]
-mod framing;
 #[cfg(test)]
 mod memory;
 #[cfg(test)]
