@@ -1,6 +1,6 @@
-//! Tests of buffers, of streams, and of packets over readers and writers: the buffer that is read
-//! from its front, numbers whose length is in their first byte, texts behind their length,
-//! versions, limits that move.
+//! Tests of buffers and of streams, of fields and of packets: the buffer that is read from its
+//! front, numbers whose length is in their first byte, texts behind their length, versions;
+//! framing, chunks, the codec, delivery, limits that move, and packets over readers and writers.
 #![tactic(auto)]
 
 #[cfg(test)]
@@ -9,6 +9,8 @@ mod chunks;
 mod codec;
 #[cfg(test)]
 mod delivery;
+#[cfg(test)]
+mod errors;
 #[cfg(test)]
 mod framing;
 #[cfg(test)]

@@ -1,5 +1,5 @@
-//! Tests of packets: framing, chunks, the codec, delivery, and every cutting; and of every call
-//! under refused memory.
+//! Tests of packets cut in every way, of every call under refused memory, and of the program's
+//! commands.
 #![tactic(auto)]
 
 #[cfg(test)]
