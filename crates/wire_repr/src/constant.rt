@@ -1,11 +1,13 @@
 //! Bytes that are always the same, or that say nothing.
 
-ghost use Rattle.std.specs.Prelude.{ℕ, List, ◌<◌, ◌^◌, ◌≡◌, ◌∷◌, [], ◌++◌, length, replicate, refl};
+ghost use Rattle.std.specs.Prelude.{ℕ, List, ◌<◌, ◌≤◌, ◌^◌, ◌≡◌, ◌∷◌, [], ◌++◌, length, replicate, refl};
 ghost use Rattle.wire_buf.specs.Numbers.{le_bytes};
 ghost use Rattle.wire_buf.specs.NumberLemmas.{length-le_bytes};
+ghost use Rattle.wire_buf.specs.Reading.{Reads};
 ghost use Rattle.wire_repr.specs.Constants.{ReadsConst, ReadsAny, ReadsConst-back, ReadsAny-back, array-back, length-zeros};
 ghost use Rattle.wire_repr.specs.Law.{size-is};
 
+use crate::append::{append, append_byte, append_le};
 use crate::wire::Wire;
 use bytes::BufMut;
 use std::alloc::Allocator;
@@ -13,6 +15,24 @@ use std::marker::PhantomData;
 use wire_buf::error::{InvalidReason, WireError};
 use wire_buf::io::ParseBuf;
 use wire_buf::proto::{Fixed, HasSize, MyDeserialize, MySerialize};
+
+// Eats so many bytes, and answers with the value where they are these.
+#[inline(always)]
+fn eat_const<X: Copy>(
+    count: usize,
+    bytes: &[u8],
+    value: X,
+    buf: &mut ParseBuf<'_>,
+) -> Result<X, WireError>
+    requires { count ≤ length buf.old.0.now }
+    ensures { Reads (ReadsConst count bytes.now) buf.old.0.now result buf.new.0.now }
+{
+    if buf.eat(count) == bytes {
+        Ok(value)
+    } else {
+        Err(WireError::InvalidData(InvalidReason::ConstMismatch))
+    }
+}
 
 /// The byte `N`. Another is refused as `ConstMismatch`, and has been eaten. `T` names what it
 /// stands for.
@@ -38,8 +58,7 @@ impl<T, const N: u8> MySerialize for ConstU8<T, N> {
     ghost bytes = { λ _. N ∷ [] };
 
     fn serialize<A: Allocator>(&self, buf: &mut Vec<u8, A>) -> Result<(), WireError> {
-        buf.push(N)?;
-        Ok(())
+        append_byte(N, buf)
     }
 }
 
@@ -53,11 +72,7 @@ impl<'de, A: Allocator + Copy, T, const N: u8> MyDeserialize<'de, A> for ConstU8
     ghost reads = { λ _. ReadsConst 1 (N ∷ []) };
 
     fn deserialize(_: A, _: (), buf: &mut ParseBuf<'de>) -> Result<Self, WireError> {
-        if buf.eat(1) == [N].as_slice() {
-            Ok(ConstU8::new())
-        } else {
-            Err(WireError::InvalidData(InvalidReason::ConstMismatch))
-        }
+        eat_const(1, &[N], ConstU8(PhantomData), buf)
     }
 }
 
@@ -95,8 +110,7 @@ impl<T, const N: u32> MySerialize for ConstU32<T, N> {
     ghost bytes = { λ _. le_bytes 4 N };
 
     fn serialize<A: Allocator>(&self, buf: &mut Vec<u8, A>) -> Result<(), WireError> {
-        buf.extend_from_slice(&N.to_le_bytes())?;
-        Ok(())
+        append_le(4, N as u64, buf)
     }
 }
 
@@ -110,11 +124,7 @@ impl<'de, A: Allocator + Copy, T, const N: u32> MyDeserialize<'de, A> for ConstU
     ghost reads = { λ _. ReadsConst 4 (le_bytes 4 N) };
 
     fn deserialize(_: A, _: (), buf: &mut ParseBuf<'de>) -> Result<Self, WireError> {
-        if buf.eat(4) == N.to_le_bytes().as_slice() {
-            Ok(ConstU32::new())
-        } else {
-            Err(WireError::InvalidData(InvalidReason::ConstMismatch))
-        }
+        eat_const(4, &N.to_le_bytes(), ConstU32(PhantomData), buf)
     }
 }
 
@@ -160,8 +170,7 @@ impl<T: ConstBytesValue<LEN>, const LEN: usize> MySerialize for ConstBytes<T, LE
     ghost bytes = { λ _. T.ConstBytesValue.VALUE };
 
     fn serialize<A: Allocator>(&self, buf: &mut Vec<u8, A>) -> Result<(), WireError> {
-        buf.extend_from_slice(&T::VALUE)?;
-        Ok(())
+        append(&T::VALUE, buf)
     }
 }
 
@@ -176,11 +185,7 @@ impl<'de, A: Allocator + Copy, T: ConstBytesValue<LEN>, const LEN: usize> MyDese
     ghost reads = { λ _. ReadsConst LEN T.ConstBytesValue.VALUE };
 
     fn deserialize(_: A, _: (), buf: &mut ParseBuf<'de>) -> Result<Self, WireError> {
-        if buf.eat(LEN) == T::VALUE.as_slice() {
-            Ok(ConstBytes(PhantomData))
-        } else {
-            Err(WireError::InvalidData(InvalidReason::ConstMismatch))
-        }
+        eat_const(LEN, &T::VALUE, ConstBytes(PhantomData), buf)
     }
 }
 

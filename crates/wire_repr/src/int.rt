@@ -22,6 +22,7 @@ use std::hash::Hash;
 use std::marker::PhantomData;
 pub use truncated::{LeI24, LeI56, LeU24, LeU48, LeU56};
 pub use varlen::VarLen;
+pub(crate) use varlen::put_groups;
 use wire_buf::error::WireError;
 use wire_buf::io::ParseBuf;
 use wire_buf::proto::{HasSize, MyDeserialize, MySerialize, ReadSize};

@@ -2,6 +2,7 @@
 //! that what is written is read back.
 #![tactic(auto)]
 
+mod append;
 pub mod constant;
 pub mod field_laws;
 pub mod int;

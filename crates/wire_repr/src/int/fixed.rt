@@ -12,11 +12,11 @@ ghost use Rattle.wire_repr.specs.Numbers.{byte-back, le_bytes-back, signed_bytes
 ghost use Rattle.wire_repr.specs.SignedNumbers.{signed_1, signed_2, signed_4, signed_8};
 
 use super::IntRepr;
+use crate::append::{append_byte, append_le};
 use std::alloc::Allocator;
 use wire_buf::error::WireError;
 use wire_buf::io::ParseBuf;
 use wire_buf::proto::Fixed;
-use wire_ext::io::BufMutExt;
 
 /// An `int<1>`.
 impl IntRepr for u8 {
@@ -33,8 +33,7 @@ impl IntRepr for u8 {
     ghost kept = { λ val. val };
 
     fn serialize<A: Allocator>(val: u8, buf: &mut Vec<u8, A>) -> Result<(), WireError> {
-        buf.push(val)?;
-        Ok(())
+        append_byte(val, buf)
     }
 
     fn deserialize(buf: &mut ParseBuf<'_>) -> Result<u8, WireError> {
@@ -63,8 +62,7 @@ impl IntRepr for i8 {
     ghost kept = { λ val. val };
 
     fn serialize<A: Allocator>(val: i8, buf: &mut Vec<u8, A>) -> Result<(), WireError> {
-        buf.push(val.cast_unsigned())?;
-        Ok(())
+        append_le(1, val.cast_unsigned() as u64, buf)
     }
 
     fn deserialize(buf: &mut ParseBuf<'_>) -> Result<i8, WireError> {
@@ -102,8 +100,7 @@ impl IntRepr for LeU16 {
     ghost kept = { λ val. val };
 
     fn serialize<A: Allocator>(val: u16, buf: &mut Vec<u8, A>) -> Result<(), WireError> {
-        buf.extend_from_slice(&val.to_le_bytes())?;
-        Ok(())
+        append_le(2, val as u64, buf)
     }
 
     fn deserialize(buf: &mut ParseBuf<'_>) -> Result<u16, WireError> {
@@ -138,8 +135,7 @@ impl IntRepr for LeU32 {
     ghost kept = { λ val. val };
 
     fn serialize<A: Allocator>(val: u32, buf: &mut Vec<u8, A>) -> Result<(), WireError> {
-        buf.extend_from_slice(&val.to_le_bytes())?;
-        Ok(())
+        append_le(4, val as u64, buf)
     }
 
     fn deserialize(buf: &mut ParseBuf<'_>) -> Result<u32, WireError> {
@@ -174,8 +170,7 @@ impl IntRepr for LeU64 {
     ghost kept = { λ val. val };
 
     fn serialize<A: Allocator>(val: u64, buf: &mut Vec<u8, A>) -> Result<(), WireError> {
-        buf.extend_from_slice(&val.to_le_bytes())?;
-        Ok(())
+        append_le(8, val, buf)
     }
 
     fn deserialize(buf: &mut ParseBuf<'_>) -> Result<u64, WireError> {
@@ -210,8 +205,7 @@ impl IntRepr for LeI16 {
     ghost kept = { λ val. val };
 
     fn serialize<A: Allocator>(val: i16, buf: &mut Vec<u8, A>) -> Result<(), WireError> {
-        buf.extend_from_slice(&val.to_le_bytes())?;
-        Ok(())
+        append_le(2, val.cast_unsigned() as u64, buf)
     }
 
     fn deserialize(buf: &mut ParseBuf<'_>) -> Result<i16, WireError> {
@@ -249,8 +243,7 @@ impl IntRepr for LeI32 {
     ghost kept = { λ val. val };
 
     fn serialize<A: Allocator>(val: i32, buf: &mut Vec<u8, A>) -> Result<(), WireError> {
-        buf.extend_from_slice(&val.to_le_bytes())?;
-        Ok(())
+        append_le(4, val.cast_unsigned() as u64, buf)
     }
 
     fn deserialize(buf: &mut ParseBuf<'_>) -> Result<i32, WireError> {
@@ -288,8 +281,7 @@ impl IntRepr for LeI64 {
     ghost kept = { λ val. val };
 
     fn serialize<A: Allocator>(val: i64, buf: &mut Vec<u8, A>) -> Result<(), WireError> {
-        buf.extend_from_slice(&val.to_le_bytes())?;
-        Ok(())
+        append_le(8, val.cast_unsigned(), buf)
     }
 
     fn deserialize(buf: &mut ParseBuf<'_>) -> Result<i64, WireError> {

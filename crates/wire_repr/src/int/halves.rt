@@ -9,6 +9,7 @@ ghost use Rattle.wire_repr.specs.Law.{ReadsFixed, size-is};
 ghost use Rattle.wire_repr.specs.Numbers.{le_bytes-back_cut, upper_half-back};
 
 use super::IntRepr;
+use crate::append::append_le;
 use std::alloc::Allocator;
 use wire_buf::error::WireError;
 use wire_buf::io::ParseBuf;
@@ -35,9 +36,7 @@ impl IntRepr for LeU32LowerHalf {
     ghost kept = { λ val. val % 65536 };
 
     fn serialize<A: Allocator>(val: u32, buf: &mut Vec<u8, A>) -> Result<(), WireError> {
-        let [a, b, _, _] = val.to_le_bytes();
-        buf.extend_from_slice(&[a, b])?;
-        Ok(())
+        append_le(2, val as u64, buf)
     }
 
     fn deserialize(buf: &mut ParseBuf<'_>) -> Result<u32, WireError> {
@@ -73,9 +72,7 @@ impl IntRepr for LeU32UpperHalf {
     ghost kept = { λ val. val - val % 65536 };
 
     fn serialize<A: Allocator>(val: u32, buf: &mut Vec<u8, A>) -> Result<(), WireError> {
-        let [_, _, c, d] = val.to_le_bytes();
-        buf.extend_from_slice(&[c, d])?;
-        Ok(())
+        append_le(2, (val >> 16) as u64, buf)
     }
 
     fn deserialize(buf: &mut ParseBuf<'_>) -> Result<u32, WireError> {

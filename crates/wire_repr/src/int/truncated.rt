@@ -11,11 +11,11 @@ ghost use Rattle.wire_repr.specs.Law.{ReadsFixed, size-is};
 ghost use Rattle.wire_repr.specs.Numbers.{le_bytes-back_cut, signed_bytes-back_cut};
 
 use super::IntRepr;
+use crate::append::append_le;
 use std::alloc::Allocator;
 use wire_buf::error::WireError;
 use wire_buf::io::ParseBuf;
 use wire_buf::proto::Fixed;
-use wire_ext::io::BufMutExt;
 
 /// An `int<3>`: the low three bytes of a number.
 ///
@@ -37,7 +37,7 @@ impl IntRepr for LeU24 {
     ghost kept = { λ val. val % 256 ^ 3 };
 
     fn serialize<A: Allocator>(val: u32, buf: &mut Vec<u8, A>) -> Result<(), WireError> {
-        buf.put_u24_le(val)
+        append_le(3, val as u64, buf)
     }
 
     fn deserialize(buf: &mut ParseBuf<'_>) -> Result<u32, WireError> {
@@ -72,7 +72,7 @@ impl IntRepr for LeU48 {
     ghost kept = { λ val. val % 256 ^ 6 };
 
     fn serialize<A: Allocator>(val: u64, buf: &mut Vec<u8, A>) -> Result<(), WireError> {
-        buf.put_u48_le(val)
+        append_le(6, val, buf)
     }
 
     fn deserialize(buf: &mut ParseBuf<'_>) -> Result<u64, WireError> {
@@ -108,7 +108,7 @@ impl IntRepr for LeU56 {
     ghost kept = { λ val. val % 256 ^ 7 };
 
     fn serialize<A: Allocator>(val: u64, buf: &mut Vec<u8, A>) -> Result<(), WireError> {
-        buf.put_u56_le(val)
+        append_le(7, val, buf)
     }
 
     fn deserialize(buf: &mut ParseBuf<'_>) -> Result<u64, WireError> {
@@ -143,7 +143,7 @@ impl IntRepr for LeI24 {
     ghost kept = { λ val. signed_number 3 (cast_unsigned w32 val % 256 ^ 3) };
 
     fn serialize<A: Allocator>(val: i32, buf: &mut Vec<u8, A>) -> Result<(), WireError> {
-        buf.put_i24_le(val)
+        append_le(3, val.cast_unsigned() as u64, buf)
     }
 
     fn deserialize(buf: &mut ParseBuf<'_>) -> Result<i32, WireError> {
@@ -177,7 +177,7 @@ impl IntRepr for LeI56 {
     ghost kept = { λ val. signed_number 7 (cast_unsigned w64 val % 256 ^ 7) };
 
     fn serialize<A: Allocator>(val: i64, buf: &mut Vec<u8, A>) -> Result<(), WireError> {
-        buf.put_i56_le(val)
+        append_le(7, val.cast_unsigned(), buf)
     }
 
     fn deserialize(buf: &mut ParseBuf<'_>) -> Result<i64, WireError> {

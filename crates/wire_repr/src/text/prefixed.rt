@@ -14,7 +14,8 @@ ghost use Rattle.wire_repr.specs.Spelled.{Leaves, NumberOrEof, TextBehind};
 
 use super::undelimited::eat_text;
 use super::{BytesRepr, all_or_nothing};
-use crate::int::{IntRepr, LenEnc, VarLen};
+use crate::append::append;
+use crate::int::{IntRepr, LenEnc, VarLen, put_groups};
 use std::alloc::Allocator;
 use std::borrow::CowSlice;
 use wire_buf::error::WireError;
@@ -190,8 +191,8 @@ impl BytesRepr for VarLen {
     fn serialize<A: Allocator>(text: &[u8], buf: &mut Vec<u8, A>) -> Result<(), WireError> {
         let at = buf.len();
         let cut = first_bytes(text, longest_u32_str());
-        <VarLen as IntRepr>::serialize(cut.len() as u32, buf)?;
-        let put = buf.extend_from_slice(cut).is_ok();
+        put_groups(cut.len() as u32, buf)?;
+        let put = append(cut, buf).is_ok();
         all_or_nothing(put, at, buf)
     }
 

@@ -10,6 +10,7 @@ ghost use Rattle.wire_repr.specs.Texts.{IsBorrowedText};
 ghost use Rattle.wire_repr.specs.Law.{ReadsFixed, size-is};
 
 use super::{BytesRepr, all_or_nothing};
+use crate::append::append;
 use bytes::BufMut;
 use std::alloc::Allocator;
 use std::borrow::CowSlice;
@@ -59,8 +60,7 @@ impl BytesRepr for EofBytes {
     ghost kept = { λ text. text };
 
     fn serialize<A: Allocator>(text: &[u8], buf: &mut Vec<u8, A>) -> Result<(), WireError> {
-        buf.extend_from_slice(text)?;
-        Ok(())
+        append(text, buf)
     }
 
     fn deserialize<'de, A: Allocator>(
@@ -110,8 +110,7 @@ impl<const N: usize> BytesRepr for BareBytes<N> {
     ghost kept = { λ text. take N text };
 
     fn serialize<A: Allocator>(text: &[u8], buf: &mut Vec<u8, A>) -> Result<(), WireError> {
-        buf.extend_from_slice(first_bytes(text, N))?;
-        Ok(())
+        append(first_bytes(text, N), buf)
     }
 
     fn deserialize<'de, A: Allocator>(

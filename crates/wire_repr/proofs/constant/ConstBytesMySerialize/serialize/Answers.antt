@@ -4,5 +4,5 @@ use Rattle.wire_repr.proofs.constant.ConstBytesMySerialize.serialize.Goals as go
 pub VALUE-requires : goal.VALUE-requires
 VALUE-requires g c = omega (arith, g.T.ConstBytesValue.fits)
 
-pub shared_whole_as_slice-extend_from_slice : goal.shared_whole_as_slice-extend_from_slice
-shared_whole_as_slice-extend_from_slice g c = omega (arith, g.T.ConstBytesValue.fits)
+pub shared_whole_as_slice-append : goal.shared_whole_as_slice-append
+shared_whole_as_slice-append g c = omega (arith, g.T.ConstBytesValue.fits)
