@@ -1,0 +1,72 @@
+-- A part that is put behind another is there whole, or both are taken away again.
+use Rattle.std.proofs.Common.{ℕ, ◌≡◌, ◌≤◌, ◌<◌, ◌+◌, suc, Bool, true, false, List, [], ◌∷◌, ◌++◌, length, take, get_or, Result, Ok, Err, OnOk, IfErr, refl, sym, ap, ◌∙◌, arith}
+use Rattle.std.proofs.Math.Seq.{take-suc}
+use Rattle.std.proofs.lemmas.Grind.{flat_map-append}
+use Rattle.std.proofs.lemmas.List.{append_assoc, append-nil, take_all, take_at}
+use Rattle.std.specs.List.{flat_map}
+use Rattle.std.specs.Result.{is_err}
+use Rattle.wire_buf.specs.declared.error.WireError.{WireError}
+use Rattle.wire_buf.specs.declared.error.WireError.TheVariants.{OutOfMemory}
+
+-- what a `serialize` ensures
+abbrev pub Appended : Result (Unit {0}) WireError → List ℕ → List ℕ → List ℕ → Type 0
+Appended answer old new bytes = OnOk answer (new ≡ old ++ bytes)
+    × IfErr answer (λ error. (error ≡ OutOfMemory) × (new ≡ old))
+
+contradicts : (refused : Bool) → refused ≡ true → refused ≡ false → ⊥
+contradicts refused is not = cc (sym is ∙ not)
+
+pub put-behind : (put : Result (Unit {0}) WireError) (refused : Bool)
+    (old mid new front bytes : List ℕ) → refused ≡ is_err put → refused ≡ false
+    → mid ≡ old ++ front → OnOk put (new ≡ mid ++ bytes) → Appended put old new (front ++ bytes)
+put-behind (Ok _) refused old mid new front bytes is not half puts =
+    (puts ∙ ap (λ start. start ++ bytes) half ∙ append_assoc old front bytes, tt)
+put-behind (Err error) refused old mid new front bytes is not half puts =
+    absurd (contradicts refused is not)
+
+pub taken-back : (put : Result (Unit {0}) WireError) (refused : Bool) (at : ℕ)
+    (old mid late new front bytes : List ℕ) → refused ≡ is_err put → refused ≡ true
+    → at ≡ length old → mid ≡ old ++ front
+    → IfErr put (λ error. (error ≡ OutOfMemory) × (late ≡ mid)) → new ≡ take at late
+    → Appended put old new bytes
+taken-back (Ok _) refused at old mid late new front bytes is told start half left cut =
+    absurd (contradicts refused told is)
+taken-back (Err error) refused at old mid late new front bytes is told start half left cut = (
+  tt,
+  (left.0, cut ∙ ap (take at) (left.1 ∙ half) ∙ take_at old front at (sym start)),
+)
+
+-- ---- values one after another
+
+next-value : {X : Type 0} (bytes : X → List ℕ) (values : List X) (i : ℕ) (value : X)
+    → i < length values → value ≡ get_or values i value
+    → flat_map bytes (take (i + 1) values) ≡ flat_map bytes (take i values) ++ bytes value
+next-value bytes values i value below is =
+    let next : i + 1 ≡ suc i = omega arith in
+    let one : take (i + 1) values ≡ take i values ++ (value ∷ []) =
+    ap (λ k. take k values) next ∙ take-suc values i value below
+    ∙ ap (λ x. take i values ++ (x ∷ [])) (sym is) in
+    ap (flat_map bytes) one ∙ flat_map-append bytes (take i values) (value ∷ [])
+    ∙ ap (λ l. flat_map bytes (take i values) ++ l) (append-nil (bytes value))
+
+pub none-written : (old : List ℕ) → old ≡ old ++ []
+none-written old = sym (append-nil old)
+
+pub more-written : {X : Type 0} (bytes : X → List ℕ) (values : List X) (i : ℕ) (value : X)
+    (put : Result (Unit {0}) WireError) (refused : Bool) (old mid new : List ℕ)
+    → i < length values → value ≡ get_or values i value
+    → mid ≡ old ++ flat_map bytes (take i values) → refused ≡ is_err put → refused ≡ false
+    → OnOk put (new ≡ mid ++ bytes value)
+    → new ≡ old ++ flat_map bytes (take (i + 1) values)
+more-written bytes values i value (Ok _) refused old mid new below at so_far is not puts =
+    puts ∙ ap (λ start. start ++ bytes value) so_far
+    ∙ append_assoc old (flat_map bytes (take i values)) (bytes value)
+    ∙ ap (λ l. old ++ l) (sym (next-value bytes values i value below at))
+more-written bytes values i value (Err error) refused old mid new below at so_far is not puts =
+    absurd (contradicts refused is not)
+
+pub all-written : {X : Type 0} (bytes : X → List ℕ) (values : List X) (i : ℕ) (old new : List ℕ)
+    → length values ≤ i → new ≡ old ++ flat_map bytes (take i values)
+    → new ≡ old ++ flat_map bytes values
+all-written bytes values i old new all so_far =
+    so_far ∙ ap (λ l. old ++ flat_map bytes l) (take_all i values all)

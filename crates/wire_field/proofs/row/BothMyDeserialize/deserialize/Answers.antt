@@ -1,0 +1,31 @@
+use Rattle.std.proofs.lemmas.Result.{err_from_is_err_and}
+use Rattle.wire_buf.specs.Reading.{Parses}
+use Rattle.wire_field.specs.declared.row.Both.{Both}
+use Rattle.wire_field.proofs.RowLemmas.{both-read, first-failed, second-failed}
+use Rattle.wire_field.proofs.row.BothMyDeserialize.deserialize.Goals as goal
+
+pub returns-in_err-first : goal.returns-in_err-first
+returns-in_err-first g c =
+    let p = err_from_is_err_and c.from_residual.result
+    c.from_residual.ensures.1 in
+    rw (p.1, p.2) (first-failed {Y = Both g.row.A.Denot g.row.B.Denot} (λ both. both.0) (λ both. both.1)
+    (Parses g.A.Size.ReadSize.SIZE (g.A.MyDeserialize.reads c.args.ctx.0))
+    (Parses g.B.Size.ReadSize.SIZE (g.B.MyDeserialize.reads c.args.ctx.1)) c.args.buf.now.0.now
+    c.parse_in.new.self.0.now c.in_err-first.field-0.0 c.in_err-first.ensures)
+
+pub returns-in_err-second : goal.returns-in_err-second
+returns-in_err-second g c =
+    let p = err_from_is_err_and c.from_residual-in_err-second.result
+    c.from_residual-in_err-second.ensures.1 in
+    rw (p.1, p.2) (second-failed {Y = Both g.row.A.Denot g.row.B.Denot} (λ both. both.0) (λ both. both.1)
+    (Parses g.A.Size.ReadSize.SIZE (g.A.MyDeserialize.reads c.args.ctx.0))
+    (Parses g.B.Size.ReadSize.SIZE (g.B.MyDeserialize.reads c.args.ctx.1)) c.args.buf.now.0.now
+    c.parse_in.new.self.0.now c.parse_in-2.new.self.0.now c.in_ok-first.first
+    c.in_err-second.field-0.0 c.in_ok-first.ensures c.in_err-second.ensures)
+
+pub returns : goal.returns
+returns g c = both-read {Y = Both g.row.A.Denot g.row.B.Denot} (λ both. both.0) (λ both. both.1)
+    (Parses g.A.Size.ReadSize.SIZE (g.A.MyDeserialize.reads c.args.ctx.0))
+    (Parses g.B.Size.ReadSize.SIZE (g.B.MyDeserialize.reads c.args.ctx.1)) c.args.buf.now.0.now
+    c.parse_in.new.self.0.now c.parse_in-2.new.self.0.now _ c.in_ok-first.ensures
+    c.in_ok-second.ensures
