@@ -7,7 +7,7 @@ ghost use Rattle.mysql_wire.specs.RawTexts.{IsText, IsBorrowedText};
 ghost use Rattle.mysql_wire.specs.Reading.{Through};
 ghost use Rattle.mysql_wire_packets.specs.InOrder.{packet, both, const_u8, byte, number, lenenc_text, skip, text_bytes};
 
-use crate::lent::lent;
+use crate::lent::Lent;
 use mysql_wire::constants::{ColumnFlags, ColumnType};
 use mysql_wire::io::{ParseBuf, WireError};
 use mysql_wire::misc::raw::bytes::LenEnc;
@@ -17,15 +17,20 @@ use mysql_wire::proto::{HasSize, MyDeserialize, MySerialize, Varying, Wire};
 use std::alloc::{Allocator, Global};
 
 // The payload's fields, in order.
-type Fields<'a> = Both<Text<'a>, Both<Text<'a>, Both<Text<'a>, Both<Text<'a>, Names<'a>>>>>;
+type Fields<'a> = Both<Names<'a>, Numbers>;
 
-type Text<'a> = RawBytes<'a, LenEnc>;
+type Names<'a> = Both<Pair<'a>, Both<Pair<'a>, Pair<'a>>>;
 
-type Names<'a> = Both<Text<'a>, Both<Text<'a>, Both<ConstU8<(), 0x0c>, Numbers>>>;
+type Pair<'a> = Both<RawBytes<'a, LenEnc>, RawBytes<'a, LenEnc>>;
 
-type Numbers = Both<RawInt<LeU16>, Both<RawInt<LeU32>, Both<RawConst<u8, ColumnType>, Last>>>;
+type Numbers = Both<Sizes, Kind>;
 
-type Last = Both<RawFlags<ColumnFlags, LeU16>, Both<RawInt<u8>, Skip<2>>>;
+type Sizes = Both<ConstU8<(), 0x0c>, Both<RawInt<LeU16>, RawInt<LeU32>>>;
+
+type Kind = Both<
+    Both<RawConst<u8, ColumnType>, RawFlags<ColumnFlags, LeU16>>,
+    Both<RawInt<u8>, Skip<2>>,
+>;
 
 /// What a server says of a column, on a connection under `CLIENT_PROTOCOL_41`.
 ///
@@ -54,39 +59,23 @@ pub struct ColumnDefinition41<'a> {
 // A definition of its fields.
 fn of_fields<'a>(fields: Fields<'a>) -> ColumnDefinition41<'a>
     ensures { (
-      result.catalog,
       (
-        result.schema,
-        (
-          result.table,
-          (
-            result.org_table,
-            (
-              result.name,
-              (
-                result.org_name,
-                (
-                  _,
-                  (
-                    (result.character_set, _),
-                    (
-                      (result.column_length, _),
-                      (result.column_type, (result.flags, ((result.decimals, _), _))),
-                    ),
-                  ),
-                ),
-              ),
-            ),
-          ),
-        ),
+        (result.catalog, result.schema),
+        ((result.table, result.org_table), (result.name, result.org_name)),
+      ),
+      (
+        (_, ((result.character_set, _), (result.column_length, _))),
+        ((result.column_type, result.flags), ((result.decimals, _), _)),
       ),
     )
         ≡ fields.entry }
 {
-    let Both(catalog, Both(schema, Both(table, Both(org_table, names)))) = fields;
-    let Both(name, Both(org_name, Both(_, numbers))) = names;
-    let Both(character_set, Both(column_length, Both(column_type, last))) = numbers;
-    let Both(flags, Both(decimals, _)) = last;
+    let Both(Both(schemas, Both(tables, names)), Both(sizes, kind)) = fields;
+    let Both(catalog, schema) = schemas;
+    let Both(table, org_table) = tables;
+    let Both(name, org_name) = names;
+    let Both(_, Both(character_set, column_length)) = sizes;
+    let Both(Both(column_type, flags), Both(decimals, _)) = kind;
     ColumnDefinition41 {
         catalog,
         schema,
@@ -103,33 +92,28 @@ fn of_fields<'a>(fields: Fields<'a>) -> ColumnDefinition41<'a>
 }
 
 impl MySerialize for ColumnDefinition41<'_> {
-    ghost bytes = { λ column. text_bytes column.catalog.0 ++ (text_bytes column.schema.0
-        ++ (text_bytes column.table.0 ++ (text_bytes column.org_table.0
-        ++ (text_bytes column.name.0 ++ (text_bytes column.org_name.0
-        ++ 0x0c ∷ (le_bytes 2 column.character_set ++ (le_bytes 4 column.column_length
-        ++ column.column_type.0 ∷ (le_bytes 2 column.flags.0
-        ++ column.decimals ∷ 0 ∷ 0 ∷ [])))))))) };
+    ghost bytes = { λ column. ((text_bytes column.catalog.0 ++ text_bytes column.schema.0)
+        ++ ((text_bytes column.table.0 ++ text_bytes column.org_table.0)
+        ++ (text_bytes column.name.0 ++ text_bytes column.org_name.0)))
+        ++ (0x0c ∷ (le_bytes 2 column.character_set ++ le_bytes 4 column.column_length)
+        ++ (column.column_type.0 ∷ le_bytes 2 column.flags.0 ++ column.decimals ∷ 0 ∷ 0 ∷ [])) };
 
     fn serialize<A: Allocator>(&self, buf: &mut Vec<u8, A>) -> Result<(), WireError> {
+        let schemas = Both(Lent(&self.catalog), Lent(&self.schema));
+        let tables = Both(Lent(&self.table), Lent(&self.org_table));
+        let names = Both(Lent(&self.name), Lent(&self.org_name));
         let character_set = RawInt::<LeU16>::new(self.character_set);
         let column_length = RawInt::<LeU32>::new(self.column_length);
-        let last = Both(
-            self.flags,
-            Both(RawInt::<u8>::new(self.decimals), Skip::<2>),
+        let sizes = Both(
+            ConstU8::<(), 0x0c>::new(),
+            Both(character_set, column_length),
         );
-        let numbers = Both(
-            character_set,
-            Both(column_length, Both(self.column_type, last)),
+        let decimals = RawInt::<u8>::new(self.decimals);
+        let kind = Both(
+            Both(self.column_type, self.flags),
+            Both(decimals, Skip::<2>),
         );
-        let org_name = lent(&self.org_name);
-        let names = Both(org_name, Both(ConstU8::<(), 0x0c>::new(), numbers));
-        let name = lent(&self.name);
-        let org_table = lent(&self.org_table);
-        let table = lent(&self.table);
-        let tables = Both(table, Both(org_table, Both(name, names)));
-        let schema = lent(&self.schema);
-        let catalog = lent(&self.catalog);
-        Both(catalog, Both(schema, tables)).serialize(buf)
+        Both(Both(schemas, Both(tables, names)), Both(sizes, kind)).serialize(buf)
     }
 }
 
@@ -142,45 +126,22 @@ impl<'de> MyDeserialize<'de, Global> for ColumnDefinition41<'de> {
 
     ghost reads = { λ _ input. Through
         (λ column. (
-          column.catalog,
           (
-            column.schema,
-            (
-              column.table,
-              (
-                column.org_table,
-                (
-                  column.name,
-                  (
-                    column.org_name,
-                    (
-                      _,
-                      (
-                        (column.character_set, _),
-                        (
-                          (column.column_length, _),
-                          (
-                            column.column_type,
-                            (
-                              column.flags,
-                              ((column.decimals, _), _),
-                            ),
-                          ),
-                        ),
-                      ),
-                    ),
-                  ),
-                ),
-              ),
-            ),
+            (column.catalog, column.schema),
+            ((column.table, column.org_table), (column.name, column.org_name)),
+          ),
+          (
+            (_, ((column.character_set, _), (column.column_length, _))),
+            ((column.column_type, column.flags), ((column.decimals, _), _)),
           ),
         ))
         (⟦<Fields<'de> as MyDeserialize<'de, Global>>⟧.reads
-        (tt, (tt, (tt, (tt, (tt, (tt, (tt, (tt, (tt, (tt, (tt, (tt, tt)))))))))))) input) };
+        (((tt, tt), ((tt, tt), (tt, tt))), ((tt, (tt, tt)), ((tt, tt), (tt, tt)))) input) };
 
     fn deserialize(alloc: Global, _: (), buf: &mut ParseBuf<'de>) -> Result<Self, WireError> {
-        let numbers = ((), ((), ((), ((), ((), ((), ()))))));
-        match buf.parse::<Fields<'de>>(alloc, ((), ((), ((), ((), ((), ((), numbers))))))) {
+        let names = (((), ()), (((), ()), ((), ())));
+        let numbers = (((), ((), ())), (((), ()), ((), ())));
+        match buf.parse::<Fields<'de>>(alloc, (names, numbers)) {
             Ok(fields) => Ok(of_fields(fields)),
             Err(error) => Err(error),
         }
@@ -232,31 +193,32 @@ impl<'de> Wire<'de, Global> for ColumnDefinition41<'de> {
 
     ghost comes_back = { λ ctx column rest answer eaten value good read.
         packet (⟦<Fields<'de> as MyDeserialize<'de, Global>>⟧.reads
-        (tt, (tt, (tt, (tt, (tt, (tt, (tt, (tt, (tt, (tt, (tt, (tt, tt))))))))))))) _ _
-        (λ back came. let names = came.1.1.1.1 in let numbers = names.1.1.1 in record {
-          catalog = came.0;
-          schema = came.1.0;
-          table = came.1.1.0;
-          org_table = came.1.1.1.0;
-          name = names.0;
-          org_name = names.1.0;
-          character_set = numbers.0;
-          column_length = numbers.1.0;
-          column_type = numbers.1.1.0;
-          flags = numbers.1.1.1.0;
-          decimals = numbers.1.1.1.1.0;
+        (((tt, tt), ((tt, tt), (tt, tt))), ((tt, (tt, tt)), ((tt, tt), (tt, tt))))) _ _
+        (λ back came. let names = came.0 in let sizes = came.1.0 in let kind = came.1.1 in record {
+          catalog = names.0.0;
+          schema = names.0.1;
+          table = names.1.0.0;
+          org_table = names.1.0.1;
+          name = names.1.1.0;
+          org_name = names.1.1.1;
+          character_set = sizes.1.0;
+          column_length = sizes.1.1;
+          column_type = kind.0.0;
+          flags = kind.0.1;
+          decimals = kind.1.0;
         })
-        (both (lenenc_text (λ text. text.0) (cow_slice_items column.catalog.0) value.catalog)
-        (both (lenenc_text (λ text. text.0) (cow_slice_items column.schema.0) value.schema)
-        (both (lenenc_text (λ text. text.0) (cow_slice_items column.table.0) value.table)
-        (both (lenenc_text (λ text. text.0) (cow_slice_items column.org_table.0) value.org_table)
+        (both
+        (both (both (lenenc_text (λ text. text.0) (cow_slice_items column.catalog.0) value.catalog)
+        (lenenc_text (λ text. text.0) (cow_slice_items column.schema.0) value.schema))
+        (both (both (lenenc_text (λ text. text.0) (cow_slice_items column.table.0) value.table)
+        (lenenc_text (λ text. text.0) (cow_slice_items column.org_table.0) value.org_table))
         (both (lenenc_text (λ text. text.0) (cow_slice_items column.name.0) value.name)
-        (both (lenenc_text (λ text. text.0) (cow_slice_items column.org_name.0) value.org_name)
-        (both const_u8 (both (number (λ int. int.0) 2 column.character_set value.character_set)
-        (both (number (λ int. int.0) 4 column.column_length value.column_length)
-        (both (byte (λ raw. raw.0) column.column_type.0)
-        (both (number (λ flags. flags.0) 2 column.flags.0 value.flags)
-        (both (byte (λ int. int.0) column.decimals) (skip 2)))))))))))))
+        (lenenc_text (λ text. text.0) (cow_slice_items column.org_name.0) value.org_name))))
+        (both (both const_u8 (both (number (λ int. int.0) 2 column.character_set value.character_set)
+        (number (λ int. int.0) 4 column.column_length value.column_length)))
+        (both (both (byte (λ raw. raw.0) column.column_type.0)
+        (number (λ flags. flags.0) 2 column.flags.0 value.flags))
+        (both (byte (λ int. int.0) column.decimals) (skip 2)))))
         answer eaten read };
 
     ghost of_size = { λ column size _ stated. Prim.cc };

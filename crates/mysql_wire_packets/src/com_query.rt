@@ -6,7 +6,7 @@ ghost use Rattle.mysql_wire.specs.Reading.{Through};
 ghost use Rattle.mysql_wire.specs.RawTexts.{IsText, IsBorrowedText};
 ghost use Rattle.mysql_wire_packets.specs.InOrder.{packet, both, const_u8, eof_text};
 
-use crate::lent::lent;
+use crate::lent::Lent;
 use mysql_wire::io::{ParseBuf, WireError};
 use mysql_wire::misc::raw::Both;
 use mysql_wire::misc::raw::bytes::{EofBytes, RawBytes};
@@ -30,7 +30,7 @@ impl MySerialize for ComQuery<'_> {
     ghost bytes = { λ command. 0x03 ∷ cow_slice_items command.query.0 };
 
     fn serialize<A: Allocator>(&self, buf: &mut Vec<u8, A>) -> Result<(), WireError> {
-        Both(ConstU8::<(), 0x03>::new(), lent(&self.query)).serialize(buf)
+        Both(ConstU8::<(), 0x03>::new(), Lent(&self.query)).serialize(buf)
     }
 }
 

@@ -10,7 +10,7 @@ ghost use Rattle.mysql_wire.specs.Reading.{Through};
 ghost use Rattle.mysql_wire_packets.specs.InOrder.{packet, both, const_u8, number, array, eof_text};
 ghost use Rattle.mysql_wire_packets.specs.Optional.{BothIf, IsThere, OnIf, bytes_if, field, has, kept_field, optional, side};
 
-use crate::lent::lent;
+use crate::lent::Lent;
 use crate::optional::{Optional, under};
 use mysql_wire::constants::{CapabilityFlags, Flags};
 use mysql_wire::io::{ParseBuf, WireError};
@@ -81,7 +81,7 @@ impl MySerialize for ErrPacket<'_> {
 
     fn serialize<A: Allocator>(&self, buf: &mut Vec<u8, A>) -> Result<(), WireError> {
         let error_code = RawInt::<LeU16>::new(self.error_code);
-        let message = Both(field_of(self.sql_state), lent(&self.error_message));
+        let message = Both(field_of(self.sql_state), Lent(&self.error_message));
         Both(ConstU8::<(), 0xff>::new(), Both(error_code, message)).serialize(buf)
     }
 }

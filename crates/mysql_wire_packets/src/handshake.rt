@@ -13,8 +13,8 @@ ghost use Rattle.mysql_wire_packets.specs.Optional.{BothIf, IsThere, OnIf, bytes
 ghost use Rattle.mysql_wire_packets.specs.Then.{ReadsThen, then_back};
 ghost use Rattle.mysql_wire_packets.specs.Handshakes.{part_2_length, head_bytes, tail_bytes, upper_half, upper_half-back};
 
-use crate::lent::lent;
-use crate::optional::{Optional, lent_field, under, value_of};
+use crate::lent::{Lent, LentIf};
+use crate::optional::{Optional, under, value_of};
 use mysql_wire::constants::{CapabilityFlags, Flags, StatusFlags};
 use mysql_wire::io::{ParseBuf, WireError};
 use mysql_wire::misc::raw::bytes::{BareU8Bytes, NullBytes};
@@ -147,10 +147,10 @@ impl MySerialize for HandshakeV10<'_> {
             Both(Skip::<1>, Both(self.capability_flags_1, state)),
         );
         let thread_id = RawInt::<LeU32>::new(self.thread_id);
-        let server_version = lent(&self.server_version);
+        let server_version = Lent(&self.server_version);
         let head = Both(server_version, Both(thread_id, part_1));
-        let name = lent_field(&self.auth_plugin_name);
-        let tail = Both(lent(&self.auth_plugin_data_part_2), name);
+        let name = LentIf(&self.auth_plugin_name);
+        let tail = Both(Lent(&self.auth_plugin_data_part_2), name);
         Both(Both(ConstU8::<(), 0x0a>::new(), head), tail).serialize(buf)
     }
 }

@@ -12,8 +12,8 @@ ghost use Rattle.mysql_wire_packets.specs.Optional.{BothIf, bytes_if, IsSide, Is
 ghost use Rattle.mysql_wire_packets.specs.Responses.{answer_bytes, client_bytes};
 ghost use Rattle.mysql_wire_packets.specs.Then.{ReadsThen, then_back};
 
-use crate::lent::lent;
-use crate::optional::{Optional, lent_field, under, value_of};
+use crate::lent::{Lent, LentIf};
+use crate::optional::{Optional, under, value_of};
 use mysql_wire::constants::CapabilityFlags;
 use mysql_wire::io::{ParseBuf, WireError};
 use mysql_wire::misc::raw::bytes::{LenEnc, NullBytes, U8Bytes};
@@ -83,17 +83,6 @@ fn field_of(level: Option<u8>) -> Level
     }
 }
 
-// The same answer, borrowed, as a part of fields that are written.
-fn lent_answer<'b>(answer: &'b AuthResponse<'_>) -> AuthResponse<'b>
-    ensures { by_side (λ text. text_bytes text.0) (λ text. u8_text_bytes text.0) result
-        ≡ by_side (λ text. text_bytes text.0) (λ text. u8_text_bytes text.0) answer.now }
-{
-    match answer {
-        Either::Left(text) => Either::Left(lent(text)),
-        Either::Right(text) => Either::Right(lent(text)),
-    }
-}
-
 // An answer of its fields.
 fn of_fields<'a>(client: Client<'a>, answer: Answer<'a>) -> HandshakeResponse41<'a>
     ensures client { (
@@ -138,15 +127,15 @@ impl MySerialize for HandshakeResponse41<'_> {
 
     fn serialize<A: Allocator>(&self, buf: &mut Vec<u8, A>) -> Result<(), WireError> {
         let level = field_of(self.zstd_compression_level);
-        let attrs = lent_field(&self.connect_attrs);
-        let plugin = lent_field(&self.client_plugin_name);
-        let database = lent_field(&self.database);
-        let auth_response = lent_answer(&self.auth_response);
+        let attrs = LentIf(&self.connect_attrs);
+        let plugin = LentIf(&self.client_plugin_name);
+        let database = LentIf(&self.database);
+        let auth_response = Lent(&self.auth_response);
         let answer = Both(
             auth_response,
             Both(database, Both(plugin, Both(attrs, level))),
         );
-        let username = lent(&self.username);
+        let username = Lent(&self.username);
         let character_set = RawInt::<u8>::new(self.character_set);
         let max_packet_size = RawInt::<LeU32>::new(self.max_packet_size);
         let user = Both(character_set, Both(Skip::<23>, username));

@@ -1,14 +1,34 @@
-//! Texts lent for writing.
+//! Fields lent for writing.
 
-ghost use Rattle.std.specs.Prelude.{◌≡◌};
-ghost use Rattle.std.specs.Cow.{cow_slice_items};
+ghost use Rattle.mysql_wire_packets.specs.Optional.{bytes_if};
 
-use mysql_wire::misc::raw::RawBytes;
-use mysql_wire::misc::raw::bytes::BytesRepr;
+use mysql_wire::io::WireError;
+use mysql_wire::proto::MySerialize;
+use std::alloc::Allocator;
 
-/// The same text, borrowed, as a part of fields that are written.
-pub(crate) fn lent<'b, T: BytesRepr>(text: &'b RawBytes<'_, T>) -> RawBytes<'b, T>
-    ensures { cow_slice_items result.0 ≡ cow_slice_items text.now.0 }
-{
-    RawBytes::from(text.0.as_slice())
+/// A field of a packet, lent as a part of what is written of it.
+#[derive(Drop)]
+pub(crate) struct Lent<'b, T>(pub &'b T);
+
+impl<T: MySerialize> MySerialize for Lent<'_, T> {
+    ghost bytes = { λ lent. T.bytes lent.0.now };
+
+    fn serialize<A: Allocator>(&self, buf: &mut Vec<u8, A>) -> Result<(), WireError> {
+        self.0.serialize(buf)
+    }
+}
+
+/// A field that may be missing, lent likewise.
+#[derive(Drop)]
+pub(crate) struct LentIf<'b, T>(pub &'b Option<T>);
+
+impl<T: MySerialize> MySerialize for LentIf<'_, T> {
+    ghost bytes = { λ lent. bytes_if T.bytes lent.0.now };
+
+    fn serialize<A: Allocator>(&self, buf: &mut Vec<u8, A>) -> Result<(), WireError> {
+        match self.0 {
+            Some(field) => field.serialize(buf),
+            None => Ok(()),
+        }
+    }
 }

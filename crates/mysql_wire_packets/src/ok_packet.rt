@@ -8,7 +8,7 @@ ghost use Rattle.mysql_wire.specs.RawTexts.{IsText, IsBorrowedText};
 ghost use Rattle.mysql_wire.specs.Reading.{Through};
 ghost use Rattle.mysql_wire_packets.specs.InOrder.{packet, both, const_u8, lenenc_int, number, eof_text};
 
-use crate::lent::lent;
+use crate::lent::Lent;
 use mysql_wire::constants::StatusFlags;
 use mysql_wire::io::{ParseBuf, WireError};
 use mysql_wire::misc::raw::bytes::EofBytes;
@@ -74,7 +74,7 @@ impl MySerialize for OkPacket<'_> {
         let affected_rows = RawInt::<LenEnc>::new(self.affected_rows);
         let last_insert_id = RawInt::<LenEnc>::new(self.last_insert_id);
         let warnings = RawInt::<LeU16>::new(self.warnings);
-        let info = lent(&self.info);
+        let info = Lent(&self.info);
         let state = Both(self.status_flags, Both(warnings, info));
         let fields = Both(affected_rows, Both(last_insert_id, state));
         Both(ConstU8::<(), 0x00>::new(), fields).serialize(buf)
