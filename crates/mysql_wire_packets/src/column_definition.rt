@@ -214,7 +214,8 @@ impl<'de> Wire<'de, Global> for ColumnDefinition41<'de> {
         (lenenc_text (λ text. text.0) (cow_slice_items column.org_table.0) value.org_table))
         (both (lenenc_text (λ text. text.0) (cow_slice_items column.name.0) value.name)
         (lenenc_text (λ text. text.0) (cow_slice_items column.org_name.0) value.org_name))))
-        (both (both const_u8 (both (number (λ int. int.0) 2 column.character_set value.character_set)
+        (both (both const_u8
+        (both (number (λ int. int.0) 2 column.character_set value.character_set)
         (number (λ int. int.0) 4 column.column_length value.column_length)))
         (both (both (byte (λ raw. raw.0) column.column_type.0)
         (number (λ flags. flags.0) 2 column.flags.0 value.flags))

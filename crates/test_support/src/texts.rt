@@ -44,8 +44,8 @@ pub fn puts_of(text: &[u8]) -> u64 {
     if text.len() < 200 { 0 } else { 2 }
 }
 
-/// Whether a text is written so, and what is read back, whatever follows, borrows from the input and
-/// takes no memory.
+/// Whether a text is written so, and what is read back, whatever follows, borrows from the input
+/// and takes no memory.
 pub fn is_text<T: BytesRepr<Ctx = C>, C: Copy, A: Allocator + Copy>(
     heap: &Heap,
     alloc: A,
