@@ -1,18 +1,10 @@
-//! Tests of buffers and of streams, of fields and of packets: the buffer that is read from its
-//! front, numbers whose length is in their first byte, texts behind their length, versions;
-//! framing, chunks, the codec, delivery, limits that move, and packets over readers and writers.
+//! Tests of buffers, of streams, and of packets over readers and writers: the buffer that is read
+//! from its front, numbers whose length is in their first byte, texts behind their length,
+//! versions, limits that move; and of what errors say.
 #![tactic(auto)]
 
 #[cfg(test)]
-mod chunks;
-#[cfg(test)]
-mod codec;
-#[cfg(test)]
-mod delivery;
-#[cfg(test)]
 mod errors;
-#[cfg(test)]
-mod framing;
 #[cfg(test)]
 mod generated;
 #[cfg(test)]

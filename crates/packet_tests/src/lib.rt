@@ -1,11 +1,17 @@
-//! Tests of packets cut in every way, of every call under refused memory, and of the program's
-//! commands.
+//! Tests of packets: framing, chunks, the codec, delivery, and every cutting; and of every call
+//! under refused memory.
 #![tactic(auto)]
 
 #[cfg(test)]
-mod commands;
+mod chunks;
+#[cfg(test)]
+mod codec;
+#[cfg(test)]
+mod delivery;
 #[cfg(test)]
 mod fragmentation;
+#[cfg(test)]
+mod framing;
 #[cfg(test)]
 mod memory;
 #[cfg(test)]

@@ -4,7 +4,7 @@ ghost use Rattle.std.specs.Prelude.{◌≡◌, ◌<◌, List, [], Option, Some, 
 ghost use Rattle.mysql_wire_commands.specs.declared.noted.OneRead.{OneRead};
 ghost use Rattle.mysql_wire_commands.specs.Reads.{EachAskedFor};
 
-use crate::commands::run::{Memory, each_goes, run};
+use crate::run::{Memory, each_goes, run};
 use mysql_wire_commands::noted::{NotedRead, OneRead};
 use mysql_wire_commands::unframe::run_unframe_limited;
 use refusing::NEVER;

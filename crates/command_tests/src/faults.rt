@@ -1,6 +1,6 @@
 // The commands with each read, each write and each request for memory failing in turn.
 
-use crate::commands::run::{Memory, each_goes, end_of, run};
+use crate::run::{Memory, each_goes, end_of, run};
 use refusing::NEVER;
 use std::io;
 use std::io::{ErrorKind, Write};

@@ -2,7 +2,7 @@
 
 ghost use Rattle.std.specs.Prelude.{◌<◌};
 
-use crate::commands::run::{Memory, each_goes, end_of};
+use crate::run::{Memory, each_goes, end_of};
 use mysql_wire_commands::noted::{NotedRead, Unnoted};
 use mysql_wire_commands::unframe::{run_unframe, run_unframe_limited};
 use refusing::NEVER;

@@ -1,5 +1,11 @@
 //! Tests of the program's commands, as its words run them.
+#![tactic(auto)]
+
+#[cfg(test)]
 mod faults;
+#[cfg(test)]
 mod reads;
+#[cfg(test)]
 mod rows;
+#[cfg(test)]
 mod run;
