@@ -31,6 +31,21 @@ impl ConstBytesValue<4> for Magic {
     ghost fits = { Prim.omega arith };
 }
 
+// The letter a.
+pub struct Letter;
+
+impl ConstBytesValue<1> for Letter {
+    const VALUE: [u8; 1] = *b"a";
+
+    type Error = ();
+
+    ghost VALUE = { 0x61 ∷ [] };
+
+    ghost length_is = { refl };
+
+    ghost fits = { Prim.omega arith };
+}
+
 // No byte.
 pub struct Nothing;
 
@@ -109,7 +124,9 @@ const NO_TEXT: &[Refused<()>] = &[
     ((), 0, b"\xfebim\0d", OTHER, 2),
 ];
 
-fn are_constants<A: Allocator + Copy>(heap: &Heap, alloc: A) -> [bool; 8] {
+const NO_LETTER: &[Refused<()>] = &[((), 0, b"ba", OTHER, 1)];
+
+fn are_constants<A: Allocator + Copy>(heap: &Heap, alloc: A) -> [bool; 9] {
     let magic = ConstBytes::<Magic, 4>::default();
     let nothing = ConstBytes::<Nothing, 0>::default();
     let number = ConstU32::<(), 0x01020304>::new();
@@ -122,6 +139,14 @@ fn are_constants<A: Allocator + Copy>(heap: &Heap, alloc: A) -> [bool; 8] {
         is_number(heap, alloc, number, b"\x04\x03\x02\x01\0", &[]),
         is_number(heap, alloc, most, b"\xff\xff\xff\xff\xff", &[]),
         is_at(heap, alloc, &magic, b"\xfebin\0", 4, NO_TEXT),
+        is_at(
+            heap,
+            alloc,
+            &ConstBytes::<Letter, 1>::default(),
+            b"ab",
+            1,
+            NO_LETTER,
+        ),
         is_at(heap, alloc, &nothing, b"a", 0, &[]),
     ]
 }

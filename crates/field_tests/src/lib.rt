@@ -18,6 +18,8 @@ mod enums;
 #[cfg(test)]
 mod flag_sets;
 #[cfg(test)]
+mod kind;
+#[cfg(test)]
 mod lists;
 #[cfg(test)]
 mod memory;

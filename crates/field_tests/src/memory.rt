@@ -1,7 +1,7 @@
 // Memory that is refused leaves nothing half written: the buffer is as it was, whichever request is
 // refused. `packet_tests` has copies and pushes; the texts of two puts stand with the texts.
 
-use mysql_wire::misc::raw::bytes::{LenEnc, U8Bytes};
+use mysql_wire::misc::raw::bytes::{EofBytes, LenEnc, U8Bytes};
 use mysql_wire::misc::raw::int::{LeU16, LeU32};
 use mysql_wire::misc::raw::seq::Seq;
 use mysql_wire::misc::raw::{Both, RawBytes, RawInt};
@@ -13,6 +13,8 @@ use test_support::facts::all_hold;
 use test_support::fields::is_refused_at_least;
 use test_support::fixture::Heap;
 
+type Row<'a> = Both<RawInt<LeU16>, Both<RawBytes<'a, LenEnc>, RawBytes<'a, EofBytes>>>;
+
 // A list of numbers.
 type List<'a> = Seq<'a, RawInt<LeU16>, LeU32, Global>;
 
@@ -23,9 +25,19 @@ const NUMBERS: &[u8; 84] =
 // Two texts, one after the other, and behind their lengths.
 const TEXTS: &[u8; 44] = b"\x28aaaaaaaaaaaaaaaaaaaaaaaaaaaaaaaaaaaaaaaa\x02bb";
 
+// A number, a text of 40 bytes behind its length, and a text to the end.
+const ROW: &[u8; 103] =
+    b"\x02\x01\x28aaaaaaaaaaaaaaaaaaaaaaaaaaaaaaaaaaaaaaaabbbbbbbbbbbbbbbbbbbbbbbbbbbbbbbbbbbbbbbbbbbbbbbbbbbbbbbbbbbb";
+
+// A row of three fields.
+fn row<'a>(text: &'a [u8], end: &'a [u8]) -> Row<'a> {
+    let texts = Both(RawBytes::from(text), RawBytes::from(end));
+    Both(RawInt::new(258), texts)
+}
+
 // An element in the middle is refused too, and the second of two texts. An owned text is written
 // like a borrowed one, and its own memory is another's.
-fn are_refused(heap: &Heap, owned: &RawBytes<'_, LenEnc>, list: &List<'_>) -> [bool; 3] {
+fn are_refused(heap: &Heap, owned: &RawBytes<'_, LenEnc>, list: &List<'_>) -> [bool; 4] {
     let texts = Both(
         RawBytes::<U8Bytes>::from([b'a'; 40].as_slice()),
         RawBytes::<U8Bytes>::from(b"bb".as_slice()),
@@ -36,6 +48,7 @@ fn are_refused(heap: &Heap, owned: &RawBytes<'_, LenEnc>, list: &List<'_>) -> [b
         is_refused_at_least(heap, owned, &text, 2),
         is_refused_at_least(heap, list, NUMBERS, 3),
         is_refused_at_least(heap, &texts, TEXTS, 2),
+        is_refused_at_least(heap, &row(&[b'a'; 40], &[b'b'; 60]), ROW, 3),
     ]
 }
 

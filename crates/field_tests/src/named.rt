@@ -63,10 +63,11 @@ where
     )
 }
 
-fn are_raw_numbers<A: Allocator + Copy>(heap: &Heap, alloc: A) -> [bool; 8] {
+fn are_raw_numbers<A: Allocator + Copy>(heap: &Heap, alloc: A) -> [bool; 9] {
     let more = RawFlags::<CapabilityFlags, LeU32LowerHalf>::new(0x10002);
     [
         is_raw_const::<u8, ColumnType, A>(heap, alloc, 1, 244, b"\xf4\x01"),
+        is_raw_const::<u8, ColumnType, A>(heap, alloc, 1, 245, b"\xf5"),
         is_raw_const::<LeU16, (), A>(heap, alloc, 2, 0x0102, b"\x02\x01\0"),
         is_raw_const::<LeU24, ColumnType, A>(heap, alloc, 3, 0x010203, b"\x03\x02\x01\0"),
         are_raw_flags::<StatusFlags, LeU16, A>(heap, alloc, 2, 7, b"\x07\0\xff"),
@@ -152,7 +153,7 @@ fn are_constants<A: Allocator + Copy>(heap: &Heap, alloc: A) -> [bool; 4] {
 // Few types in each function: what a function costs grows faster than its calls.
 fn are_named<A: Allocator + Copy>(heap: &Heap, alloc: A) -> [bool; 4] {
     [
-        are_raw_numbers(heap, alloc) == [true; 8],
+        are_raw_numbers(heap, alloc) == [true; 9],
         are_shown(),
         are_column_types(heap, alloc),
         are_constants(heap, alloc) == [true; 4],

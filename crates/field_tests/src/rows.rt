@@ -21,9 +21,11 @@ const NO_BYTES: &[Refused<usize>] = &[(usize::MAX, 0, b"ab", Fault::UnexpectedEo
 // Bytes whose number the context says.
 fn are_bytes<A: Allocator + Copy>(heap: &Heap, alloc: A) -> bool {
     let two = (&Slice(b"ab"), 2, 0, b"ab\xff".as_slice(), 2, WHOLE);
+    let one = (&Slice(b"a"), 1, 0, b"ab".as_slice(), 1, WHOLE);
     let none = (&Slice(b""), 0, 0, b"ab".as_slice(), 0, WHOLE);
     let are_two = is_field(heap, alloc, None, &two, NO_BYTES);
-    are_two & is_field(heap, alloc, None, &none, &[])
+    let is_one = is_field(heap, alloc, None, &one, &[]);
+    are_two & is_one & is_field(heap, alloc, None, &none, &[])
 }
 
 // Whether numbers of one byte in a row are written and read, and one byte is left.
@@ -99,11 +101,12 @@ fn are_numbers<A: Allocator + Copy>(heap: &Heap, alloc: A) -> bool {
 }
 
 // Bytes and numbers in a row, one of two values by each side, and two one after the other.
-fn are_rows<A: Allocator + Copy>(heap: &Heap, alloc: A) -> [bool; 10] {
+fn are_rows<A: Allocator + Copy>(heap: &Heap, alloc: A) -> [bool; 11] {
     [
         are_bytes(heap, alloc),
         is_row_of::<SessionStateType, A>(heap, alloc, b"\0\x05\x09\xff"),
         is_row_of::<ColumnType, A>(heap, alloc, b"\xf4\xff"),
+        is_row_of::<(), A>(heap, alloc, b"a\xff"),
         is_row_of::<(), A>(heap, alloc, b"\xff"),
         are_shown(heap, alloc, b"\0\x05\x09"),
         is_either(heap, alloc),

@@ -44,6 +44,8 @@ pub struct IsCopied<T: Copy>(PhantomData<T>);
 
 pub struct IsKept<T: Clone + Debug + Eq>(PhantomData<T>);
 
+pub struct IsHashed<T: Hash>(PhantomData<T>);
+
 pub struct OfRepresentations(
     IsOrdered<LeU16>,
     IsOrdered<LeU24>,
@@ -84,6 +86,9 @@ pub struct OfRows<'a>(
     // Two fields are copied where both are.
     IsCopied<Both<RawInt<LeU16>, Skip<2>>>,
     IsCopied<Either<RawInt<LeU16>, RawInt<u8>>>,
+    IsCopied<Slice<'a>>,
+    IsHashed<Both<RawInt<u8>, RawInt<LeU16>>>,
+    IsHashed<Either<RawInt<u8>, RawInt<LeU16>>>,
     IsKept<Both<RawInt<u8>, RawInt<LeU16>>>,
     IsKept<Either<RawInt<u8>, RawInt<LeU16>>>,
     IsOrdered<RawConst<LeU16, ColumnType>>,
@@ -112,6 +117,12 @@ fn are_same<T: Ord + Hash + Drop>(one: T, other: T) -> bool {
 // Whether the first value is less than the second, and of another hash.
 fn is_less<T: Ord + Hash + Drop>(one: T, other: T) -> bool {
     (one != other) & (one < other) & (hash_of(&one) != hash_of(&other))
+}
+
+// Whether the first value is equal to itself and of one hash, and to the second neither.
+fn is_told<T: Eq + Hash + Drop>(one: T, same: T, other: T) -> bool {
+    let is_same = (one == same) & (hash_of(&one) == hash_of(&same));
+    is_same & (one != other) & (hash_of(&one) != hash_of(&other))
 }
 
 /// Whether a copy of a value is the same.
@@ -143,6 +154,29 @@ fn numbers_are_compared_by_their_field(rt: HostRuntime) -> Result<(), Fail> {
         is_shown(rt.alloc(), raw, "RawConst(7, PhantomData<_>)"),
         has_size::<Both<RawInt<u8>, RawInt<LeU16>>>(None),
         has_size::<Either<RawInt<u8>, RawInt<LeU16>>>(None),
+    ])
+}
+
+type Pair = Both<RawInt<u8>, RawInt<u8>>;
+
+type Side = Either<RawInt<u8>, RawInt<u8>>;
+
+fn pair(first: u8, second: u8) -> Pair {
+    Both(RawInt::new(first), RawInt::new(second))
+}
+
+fn left(number: u8) -> Side {
+    Either::Left(RawInt::new(number))
+}
+
+// Two values by both, and one of two by its side and value.
+#[test]
+fn pairs_and_sides_are_compared_by_their_parts() -> Result<(), Fail> {
+    all_hold(&[
+        is_told(pair(1, 2), pair(1, 2), pair(1, 3)),
+        is_told(pair(1, 2), pair(1, 2), pair(2, 2)),
+        is_told(left(1), left(1), left(2)),
+        is_told(left(1), left(1), Either::Right(RawInt::new(1))),
     ])
 }
 

@@ -1,6 +1,6 @@
 //! Numbers that stand for constants and for sets of flags.
 
-ghost use Rattle.std.specs.Prelude.{◌≡◌, ℕ, List, ◌++◌, length};
+ghost use Rattle.std.specs.Prelude.{◌≡◌, ℕ, List, ◌++◌, length, Ok};
 ghost use Rattle.std.specs.Int.RustNames.{bit_and};
 ghost use Rattle.bitflags.specs.Sets.{known_bits};
 ghost use Rattle.wire_buf.specs.Reading.{Through};
@@ -163,11 +163,25 @@ pub trait IntoNumber<P>: Copy + Into<P> {
     ghost converts_to: { (value : Self) (val : P) → Self.converts value val → val ≡ number value };
 }
 
+/// A type whose values and numbers convert into each other.
+pub trait Numbered<P>: IntoNumber<P> + TryFrom<P> {
+    /// The value's number converts back: that of each value of an enum, and that of a set where
+    /// flags name all its bits.
+    ghost has_number: { Self → Type 0 };
+
+    ghost number_back: { (value : Self) → has_number value
+        → ConvertsBack Self.try_from_gives (Self.number value) value };
+
+    ghost value_back: { (val : P) (value : Self) → Self.try_from_gives val (Ok value)
+        → (Self.number value ≡ val) × has_number value };
+}
+
 /// A value that is written as its number, in the representation `U`. A number that stands for none
 /// is refused as `UnknownValue`, and has been eaten.
 ///
 /// As the type of a column in its definition:
 /// <https://dev.mysql.com/doc/dev/mysql-server/latest/page_protocol_com_query_response_text_resultset_column_definition.html>
+#[derive(Drop)]
 #[derive_where(Clone, Copy, Debug, PartialEq, Eq, PartialOrd, Ord, Hash, Default; T)]
 pub struct Const<T, U>(pub T, PhantomData<U>);
 
@@ -192,7 +206,7 @@ impl<T, U: IntRepr> HasSize for Const<T, U> {
     type Size = U::Size;
 }
 
-impl<'de, A: Allocator + Copy, U: IntRepr, T: TryFrom<U::Primitive> + Copy> MyDeserialize<'de, A>
+impl<'de, A: Allocator + Copy, U: IntRepr, T: TryFrom<U::Primitive> + Drop> MyDeserialize<'de, A>
     for Const<T, U>
 where
     T::Error: Drop,

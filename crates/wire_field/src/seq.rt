@@ -2,13 +2,14 @@
 
 ghost use Rattle.std.specs.Prelude.{◌≡◌, ℕ, ◌<◌, ◌≤◌, ◌^◌, List, [], ◌∷◌, ◌++◌, length, take, min, Ok, OnOk, IfOk, IfErr, IsTrue, ◌↔◌};
 ghost use Rattle.std.specs.Cow.{cow_slice_items};
-ghost use Rattle.std.specs.List.{flat_map, All, AllWithin};
+ghost use Rattle.std.specs.List.{flat_map, All, AllWithin, AllZip};
 ghost use Rattle.wire_buf.specs.declared.error.WireError.TheVariants.{OutOfMemory};
 ghost use Rattle.wire_buf.specs.Numbers.{le_bytes};
 ghost use Rattle.wire_buf.specs.Reading.{Parses};
 ghost use Rattle.wire_repr.specs.Law.{seen};
 ghost use Rattle.wire_repr.specs.Texts.{IsOwned, IsNotOwned};
 ghost use Rattle.wire_field.specs.Counted.{ReadsCounted, count_at, count-back, each-laws, sized-values, seq-back, unknown-back, at_most, below_32};
+ghost use Rattle.wire_field.specs.Copies.{IsCopy, OwnsAs, Gains, SameList};
 ghost use Rattle.wire_field.specs.Elements.{ReadsAll, AllKept};
 
 mod read;
@@ -28,7 +29,7 @@ use wire_repr::wire::Wire;
 /// A list of values, whose count is written as the representation `U` says. A list that is read
 /// owns its values.
 ///
-/// Copies of values are made by `clone` of their type, which has to give the same value.
+/// Copies of values are made by `clone` of their type.
 ///
 /// As the ids of servers with their transactions:
 /// <https://dev.mysql.com/doc/dev/mysql-server/latest/page_protocol_com_binlog_dump_gtid.html>
@@ -55,8 +56,10 @@ impl<'a, T: Clone, U, A: Allocator> Seq<'a, T, U, A> {
     pub fn clone(&self, alloc: A) -> Result<Seq<'a, T, U, A>, WireError>
     where
         T: Drop,
-        requires { (value copy : T) → T.is_clone value copy → copy ≡ value }
-        ensures ok { IfOk result (λ copy. cow_slice_items copy.0 ≡ cow_slice_items self.now.0) }
+        ensures ok { IfOk result (λ copy. IsCopy T.is_clone self.now.0 copy.0) }
+        ensures same { IfOk result (λ copy.
+            ((value clone : T) → T.is_clone value clone → clone ≡ value)
+            → cow_slice_items copy.0 ≡ cow_slice_items self.now.0) }
         ensures err { IfErr result (λ error. (error ≡ OutOfMemory) × IsOwned self.now.0) }
     {
         match &self.0 {
@@ -92,11 +95,11 @@ impl<'a, T: Clone, U, A: Allocator> Seq<'a, T, U, A> {
     pub fn push(&mut self, alloc: A, element: T) -> Result<(), WireError>
     where
         T: Drop,
-        requires { (value copy : T) → T.is_clone value copy → copy ≡ value }
-        ensures ok { OnOk result
-            (cow_slice_items self.new.0 ≡ cow_slice_items self.old.0 ++ element ∷ []) }
+        ensures ok { OnOk result (Gains T.is_clone self.old.0 element self.new.0) }
+        ensures same { OnOk result (((value clone : T) → T.is_clone value clone → clone ≡ value)
+            → cow_slice_items self.new.0 ≡ cow_slice_items self.old.0 ++ element ∷ []) }
         ensures err { IfErr result (λ error. (error ≡ OutOfMemory)
-            × (cow_slice_items self.new.0 ≡ cow_slice_items self.old.0)) }
+            × SameList self.old.0 self.new.0) }
     {
         match &mut self.0 {
             CowSlice::Owned(items) => {
@@ -104,7 +107,7 @@ impl<'a, T: Clone, U, A: Allocator> Seq<'a, T, U, A> {
                 Ok(())
             }
             CowSlice::Borrowed(items) => {
-                let mut owned = CowSlice::Borrowed(*items).into_owned(alloc)?;
+                let mut owned = Vec::from_clones(alloc, *items)?;
                 owned.push(element)?;
                 self.0 = CowSlice::Owned(owned);
                 Ok(())
@@ -117,9 +120,11 @@ impl<'a, T: Clone, U, A: Allocator> Seq<'a, T, U, A> {
     pub fn into_owned<'b>(self, alloc: A) -> Result<Seq<'b, T, U, A>, WireError>
     where
         T: Drop,
-        requires { (value copy : T) → T.is_clone value copy → copy ≡ value }
         ensures ok { IfOk result (λ owned. IsOwned owned.0
-            × (cow_slice_items owned.0 ≡ cow_slice_items self.entry.0)) }
+            × OwnsAs T.is_clone self.entry.0 (cow_slice_items owned.0)) }
+        ensures same { IfOk result (λ owned.
+            ((value clone : T) → T.is_clone value clone → clone ≡ value)
+            → cow_slice_items owned.0 ≡ cow_slice_items self.entry.0) }
         ensures err { IfErr result (λ error. (error ≡ OutOfMemory) × IsNotOwned self.entry.0) }
     {
         match self.0 {
@@ -143,8 +148,11 @@ fn copied<'b, T: Clone + Drop, U, A: Allocator>(
     alloc: A,
     items: &[T],
 ) -> Result<Seq<'b, T, U, A>, WireError>
-    requires { (value copy : T) → T.is_clone value copy → copy ≡ value }
-    ensures ok { IfOk result (λ owned. IsOwned owned.0 × (cow_slice_items owned.0 ≡ items.now)) }
+    ensures ok { IfOk result (λ owned. IsOwned owned.0
+        × AllZip T.is_clone items.now (cow_slice_items owned.0)) }
+    ensures same { IfOk result (λ owned.
+        ((value clone : T) → T.is_clone value clone → clone ≡ value)
+        → cow_slice_items owned.0 ≡ items.now) }
     ensures err { IfErr result (λ error. error ≡ OutOfMemory) }
 {
     let owned: Vec<T, A> = Vec::from_clones(alloc, items)?;

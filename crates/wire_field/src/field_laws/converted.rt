@@ -1,11 +1,11 @@
 //! Constants and sets of flags come back whatever follows.
 
-ghost use Rattle.std.specs.Prelude.{◌≡◌, ℕ, List, ◌++◌};
+ghost use Rattle.std.specs.Prelude.{◌≡◌, ℕ, List, ◌++◌, Ok, Err, OnOk, IfOk, IfErr};
 ghost use Rattle.wire_buf.specs.Reading.{Reads, Parses, Through};
 ghost use Rattle.wire_field.specs.Converted.{ConvertsBack, ReadsConverted};
 ghost use Rattle.wire_repr.specs.Law.{LeavesRest};
 
-use crate::converted::{Const, IntoNumber, RawConst, RawFlags};
+use crate::converted::{Const, IntoNumber, Numbered, RawConst, RawFlags};
 use bitflags::Flags;
 use std::alloc::Global;
 use wire_buf::error::WireError;
@@ -35,6 +35,27 @@ pub fn raw_const_comes_back<T: IntRepr, U>(_ctx: (), _raw: &RawConst<T, U>, _bac
     ensures kept { ⟦<RawConst<T, U> as Wire<'static, Global>>⟧.kept _raw.now _back.now
         → _back.now.0 ≡ T.kept _raw.now.0 }
 {}
+
+/// The value's number, and the value that this converts to: the same, where it has a number.
+pub fn value_there_and_back<P, T: Numbered<P>>(value: T) -> Result<T, T::Error>
+    ensures same { T.has_number value → result ≡ Ok value }
+    ensures gives { T.try_from_gives (T.number value) result }
+{
+    let number: P = value.into();
+    T::try_from(number)
+}
+
+/// The number's value, if it has one, and the number that this converts to: the same.
+pub fn number_there_and_back<P, T: Numbered<P>>(number: P) -> Result<P, T::Error>
+    ensures same { IfOk result (λ again. again ≡ number) }
+    ensures value { OnOk result ((value : T) × T.try_from_gives number (Ok value)) }
+    ensures none { IfErr result (λ unknown. T.try_from_gives number (Err unknown)) }
+{
+    match T::try_from(number) {
+        Ok(value) => Ok(value.into()),
+        Err(unknown) => Err(unknown),
+    }
+}
 
 /// A value whose number, as it comes back, converts to it.
 pub fn constant<U: IntRepr, T: IntoNumber<U::Primitive> + TryFrom<U::Primitive>>(

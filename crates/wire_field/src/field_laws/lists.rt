@@ -13,7 +13,7 @@ ghost use Rattle.wire_repr.specs.declared.int.RawInt.{RawInt};
 
 use crate::raw_seq::RawSeq;
 use crate::seq::{Seq, Unknown};
-use std::alloc::Global;
+use std::alloc::{Allocator, Global};
 use wire_buf::error::WireError;
 use wire_buf::io::ParseBuf;
 use wire_repr::field_laws::parse_back;
@@ -40,17 +40,19 @@ pub fn seq_u32<'de, T: IntRepr>(
     parse_back::<'de, Seq<'de, RawInt<T>, LeU32>, Global>(alloc, (), buf)
 }
 
-/// At most 4294967295 are good whatever follows, and what is kept of each comes back.
-pub fn seq_u32_comes_back<'de, T: IntRepr>(
+/// At most 4294967295 values of any type, each good whatever follows, are good whatever follows, and
+/// what is kept of each comes back.
+pub fn seq_u32_comes_back<'de, T: Clone + Wire<'de, A, Ctx = ()>, A: Allocator + Copy>(
     _ctx: (),
-    _seq: &Seq<'de, RawInt<T>, LeU32>,
-    _back: &Seq<'de, RawInt<T>, LeU32>,
+    _seq: &Seq<'de, T, LeU32, A>,
+    _back: &Seq<'de, T, LeU32, A>,
 )
     ensures good { (rest : List ℕ) → length (cow_slice_items _seq.now.0) ≤ 4294967295
-        → ⟦<Seq<'de, RawInt<T>, LeU32> as Wire<'de, Global>>⟧.good _ctx _seq.now rest }
-    ensures kept { ⟦<Seq<'de, RawInt<T>, LeU32> as Wire<'de, Global>>⟧.kept _seq.now
-        _back.now → AllKept (λ int back. back.0 ≡ T.kept int.0) (cow_slice_items _seq.now.0)
-        (cow_slice_items _back.now.0) }
+        → All (λ value. (rest : List ℕ) → T.good tt value (seen T.Size.SIZE rest))
+        (cow_slice_items _seq.now.0)
+        → ⟦<Seq<'de, T, LeU32, A> as Wire<'de, A>>⟧.good _ctx _seq.now rest }
+    ensures kept { ⟦<Seq<'de, T, LeU32, A> as Wire<'de, A>>⟧.kept _seq.now _back.now
+        → AllKept T.kept (cow_slice_items _seq.now.0) (cow_slice_items _back.now.0) }
 {}
 
 /// Numbers in a list, behind eight bytes of their count.
@@ -73,17 +75,18 @@ pub fn seq_u64<'de, T: IntRepr>(
     parse_back::<'de, Seq<'de, RawInt<T>, LeU64>, Global>(alloc, (), buf)
 }
 
-/// Any are good whatever follows, and what is kept of each comes back.
-pub fn seq_u64_comes_back<'de, T: IntRepr>(
+/// Values of any type, each good whatever follows, are good whatever follows, and what is kept of
+/// each comes back.
+pub fn seq_u64_comes_back<'de, T: Clone + Wire<'de, A, Ctx = ()>, A: Allocator + Copy>(
     _ctx: (),
-    _seq: &Seq<'de, RawInt<T>, LeU64>,
-    _back: &Seq<'de, RawInt<T>, LeU64>,
+    _seq: &Seq<'de, T, LeU64, A>,
+    _back: &Seq<'de, T, LeU64, A>,
 )
-    ensures good { (rest : List ℕ) →
-        ⟦<Seq<'de, RawInt<T>, LeU64> as Wire<'de, Global>>⟧.good _ctx _seq.now rest }
-    ensures kept { ⟦<Seq<'de, RawInt<T>, LeU64> as Wire<'de, Global>>⟧.kept _seq.now
-        _back.now → AllKept (λ int back. back.0 ≡ T.kept int.0) (cow_slice_items _seq.now.0)
-        (cow_slice_items _back.now.0) }
+    ensures good { (rest : List ℕ) → All (λ value. (rest : List ℕ) → T.good tt value (seen T.Size.SIZE rest))
+        (cow_slice_items _seq.now.0)
+        → ⟦<Seq<'de, T, LeU64, A> as Wire<'de, A>>⟧.good _ctx _seq.now rest }
+    ensures kept { ⟦<Seq<'de, T, LeU64, A> as Wire<'de, A>>⟧.kept _seq.now _back.now
+        → AllKept T.kept (cow_slice_items _seq.now.0) (cow_slice_items _back.now.0) }
 {}
 
 /// Numbers in a list, where the context is their count.
@@ -107,17 +110,19 @@ pub fn seq_unknown<'de, T: IntRepr>(
     parse_back::<'de, Seq<'de, RawInt<T>, Unknown>, Global>(alloc, count, buf)
 }
 
-/// They are good under their count, and what is kept of each comes back.
-pub fn seq_unknown_comes_back<'de, T: IntRepr>(
+/// Values of any type, each good whatever follows, are good under their count, and what is kept of
+/// each comes back.
+pub fn seq_unknown_comes_back<'de, T: Clone + Wire<'de, A, Ctx = ()>, A: Allocator + Copy>(
     _ctx: usize,
-    _seq: &Seq<'de, RawInt<T>, Unknown>,
-    _back: &Seq<'de, RawInt<T>, Unknown>,
+    _seq: &Seq<'de, T, Unknown, A>,
+    _back: &Seq<'de, T, Unknown, A>,
 )
     ensures good { (rest : List ℕ) → _ctx ≡ length (cow_slice_items _seq.now.0)
-        → ⟦<Seq<'de, RawInt<T>, Unknown> as Wire<'de, Global>>⟧.good _ctx _seq.now rest }
-    ensures kept { ⟦<Seq<'de, RawInt<T>, Unknown> as Wire<'de, Global>>⟧.kept _seq.now
-        _back.now → AllKept (λ int back. back.0 ≡ T.kept int.0) (cow_slice_items _seq.now.0)
-        (cow_slice_items _back.now.0) }
+        → All (λ value. (rest : List ℕ) → T.good tt value (seen T.Size.SIZE rest))
+        (cow_slice_items _seq.now.0)
+        → ⟦<Seq<'de, T, Unknown, A> as Wire<'de, A>>⟧.good _ctx _seq.now rest }
+    ensures kept { ⟦<Seq<'de, T, Unknown, A> as Wire<'de, A>>⟧.kept _seq.now _back.now
+        → AllKept T.kept (cow_slice_items _seq.now.0) (cow_slice_items _back.now.0) }
 {}
 
 /// Numbers that stand for constants, where the context is their count.

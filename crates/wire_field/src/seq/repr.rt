@@ -26,9 +26,6 @@ pub trait SeqRepr {
     /// How many values are written at most. The others are left out.
     const MAX_LEN: usize;
 
-    /// How many bytes a list has, where that is always the same: it never is.
-    const SIZE: Option<usize>;
-
     /// What a reader has to know beforehand.
     type Ctx: Drop;
 
@@ -85,8 +82,6 @@ pub struct Unknown;
 impl SeqRepr for Unknown {
     const MAX_LEN: usize = usize::MAX;
 
-    const SIZE: Option<usize> = None;
-
     type Ctx = usize;
 
     ghost MAX_LEN = { 0xffff_ffff_ffff_ffff };
@@ -110,8 +105,6 @@ impl SeqRepr for Unknown {
 /// The count is four bytes, the least significant first, and stands before the values.
 impl SeqRepr for LeU32 {
     const MAX_LEN: usize = 4_294_967_295;
-
-    const SIZE: Option<usize> = None;
 
     type Ctx = ();
 
@@ -140,8 +133,6 @@ impl SeqRepr for LeU32 {
 /// The count is eight bytes, the least significant first, and stands before the values.
 impl SeqRepr for LeU64 {
     const MAX_LEN: usize = usize::MAX;
-
-    const SIZE: Option<usize> = None;
 
     type Ctx = ();
 

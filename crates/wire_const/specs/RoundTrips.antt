@@ -1,5 +1,5 @@
 -- The way there and back: the number of a value becomes that value, and no other.
-use Rattle.std.proofs.Common.{ℕ, ◌≡◌, Result, Ok, Err, refl, ap, arith}
+use Rattle.std.proofs.Common.{ℕ, ◌≡◌, Result, Ok, Err, refl, sym, ap, subst, arith}
 use Rattle.wire_const.specs.FlagSets.{ConvertsBits, IsKnown, status_flags_bits, capability_flags_bits, mariadb_capabilities_bits, cursor_type_bits, stmt_execute_params_flags_bits, stmt_execute_param_flags_bits, stmt_bulk_execute_flags_bits, column_flags_bits, flags2_bits, sql_mode_bits}
 use Rattle.wire_const.specs.EnumNumbers.{ConvertsNumber, mariadb_bulk_indicator_number, session_state_type_number, geometry_type_number, column_type_number, item_result_number}
 use Rattle.wire_const.specs.declared.flag_sets.status.StatusFlags.{StatusFlags}
@@ -34,6 +34,10 @@ pub bits_back : {F E : Type 0} (known : ℕ) (bits_of : F → ℕ) (raw_of : E �
     → (flags : F) (result : Result F E) → IsKnown known (bits_of flags) → ConvertsBits known bits_of raw_of (bits_of flags) result → result ≡ Ok flags
 bits_back known bits_of raw_of apart flags (Ok other) within converts = ap (λ f. Ok f) (apart other flags converts.1)
 bits_back known bits_of raw_of apart flags (Err unknown) within converts = absurd (converts.0 within)
+
+-- the bits of a set that a raw number became are that number, and known
+pub known_back : (known bits raw : ℕ) → IsKnown known raw × (bits ≡ raw) → (bits ≡ raw) × IsKnown known bits
+known_back known bits raw converts = (converts.1, subst (IsKnown known) (sym converts.1) converts.0)
 
 -- no two values have one number
 pub mariadb_bulk_indicator_number_apart : (a b : MariadbBulkIndicator) → mariadb_bulk_indicator_number a ≡ mariadb_bulk_indicator_number b → a ≡ b
