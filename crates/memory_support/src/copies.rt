@@ -7,6 +7,7 @@ use mysql_wire::misc::raw::bytes::{BytesRepr, LenEnc};
 use mysql_wire::misc::raw::int::{LeU16, LeU32};
 use mysql_wire::misc::raw::seq::{RawSeq, Seq, SeqRepr};
 use mysql_wire::misc::raw::{Both, Const, Either, RawBytes, RawInt};
+use mysql_wire::proto::MyDeserialize;
 use refusing::NEVER;
 use std::alloc::Allocator;
 use std::borrow::CowSlice;
@@ -19,7 +20,10 @@ use test_support::fixture::Heap;
 pub enum Holding {
     Text,
     Numbers,
+    /// Numbers as they are read.
+    Read,
     List,
+    Texts,
 }
 
 /// What is copied is lent or owned, and that by `clone` or by `into_owned`.
@@ -29,6 +33,13 @@ pub enum Copying {
     CloneOwned,
     OwnLent,
     OwnOwned,
+}
+
+/// Onto what a text is pushed.
+#[derive(Clone, Copy)]
+pub enum Onto {
+    Lent,
+    Read,
 }
 
 /// What is made of owned texts.
@@ -48,6 +59,9 @@ pub type Numbers<'a, A> = RawSeq<'a, u8, (), A>;
 /// A list of numbers.
 pub type List<'a, A> = Seq<'a, RawInt<LeU16>, LeU32, A>;
 
+/// A list of texts.
+pub type Texts<'a, A> = Seq<'a, Text<'a, A>, LeU32, A>;
+
 // A list of 1 and 2, and a byte behind it.
 const LIST: &[u8] = b"\x02\0\0\0\x01\0\x02\0\x02";
 
@@ -55,12 +69,25 @@ fn is_refused(error: &WireError) -> bool {
     Fault::of(error) == Fault::OutOfMemory
 }
 
+// The value that an input begins with.
+fn parsed<'de, T, C, A>(alloc: A, ctx: C, input: &'de [u8]) -> Option<T>
+where
+    A: Allocator + Copy,
+    T: MyDeserialize<'de, A, Ctx = C>,
+{
+    let mut buf = ParseBuf(input);
+    buf.parse_in(alloc, ctx).ok()
+}
+
 // ---- what is copied
 
 // A value that may be lent or owned.
 trait Held<'a, A: Allocator + Copy>: Sized + Drop {
-    // The value that lends; a list lends these, which are `two`.
-    fn lent(numbers: &'a [RawInt<LeU16>]) -> Self;
+    // What a list is of.
+    type Item;
+
+    // The value that lends; a list lends these.
+    fn lent(items: &'a [Self::Item]) -> Self;
 
     fn copied(&self, alloc: A) -> Result<Self, WireError>;
 
@@ -71,7 +98,9 @@ trait Held<'a, A: Allocator + Copy>: Sized + Drop {
 }
 
 impl<'a, A: Allocator + Copy> Held<'a, A> for Text<'a, A> {
-    fn lent(_: &'a [RawInt<LeU16>]) -> Self {
+    type Item = ();
+
+    fn lent(_: &'a [()]) -> Self {
         RawBytes::from(b"abc".as_slice())
     }
 
@@ -89,7 +118,9 @@ impl<'a, A: Allocator + Copy> Held<'a, A> for Text<'a, A> {
 }
 
 impl<'a, A: Allocator + Copy> Held<'a, A> for Numbers<'a, A> {
-    fn lent(_: &'a [RawInt<LeU16>]) -> Self {
+    type Item = ();
+
+    fn lent(_: &'a [()]) -> Self {
         RawSeq::new(CowSlice::Borrowed(b"ab"))
     }
 
@@ -111,6 +142,8 @@ fn two() -> [RawInt<LeU16>; 2] {
 }
 
 impl<'a, A: Allocator + Copy> Held<'a, A> for List<'a, A> {
+    type Item = RawInt<LeU16>;
+
     fn lent(numbers: &'a [RawInt<LeU16>]) -> Self {
         Seq::new(CowSlice::Borrowed(numbers))
     }
@@ -128,11 +161,49 @@ impl<'a, A: Allocator + Copy> Held<'a, A> for List<'a, A> {
     }
 }
 
+impl<'a, A: Allocator + Copy> Held<'a, A> for Texts<'a, A> {
+    type Item = Text<'a, A>;
+
+    fn lent(texts: &'a [Text<'a, A>]) -> Self {
+        Seq::new(CowSlice::Borrowed(texts))
+    }
+
+    fn copied(&self, alloc: A) -> Result<Self, WireError> {
+        self.clone(alloc)
+    }
+
+    fn owned(self, alloc: A) -> Result<Self, WireError> {
+        self.into_owned(alloc)
+    }
+
+    fn is_there(&self, is_owned: bool) -> bool {
+        let are_texts = match self.as_slice() {
+            [first, second] => first.is_there(true) & second.is_there(true),
+            _ => false,
+        };
+        are_texts & (matches!(self.0, CowSlice::Owned(_)) == is_owned)
+    }
+}
+
 // Whether a copy was refused, or is the value, and owned or lent as it must be.
 fn copies<'a, T: Held<'a, A>, A>(
     heap: &Heap,
     alloc: A,
-    lent: &'a [RawInt<LeU16>],
+    lent: &'a [T::Item],
+    copying: Copying,
+    nth: u64,
+) -> Option<bool>
+where
+    A: Allocator + Copy,
+{
+    copies_value(heap, alloc, T::lent(lent), copying, nth)
+}
+
+// The same of a value that is lent.
+fn copies_value<'a, T: Held<'a, A>, A>(
+    heap: &Heap,
+    alloc: A,
+    lent: T,
     copying: Copying,
     nth: u64,
 ) -> Option<bool>
@@ -140,7 +211,7 @@ where
     A: Allocator + Copy,
 {
     heap.refuse(NEVER);
-    let mut value = T::lent(lent);
+    let mut value = lent;
     let (of_owned, by_clone) = match copying {
         Copying::CloneLent => (false, true),
         Copying::CloneOwned => (true, true),
@@ -171,14 +242,28 @@ fn clones<T: Clone + PartialEq>(heap: &Heap, value: &T, nth: u64) -> Option<bool
     }
 }
 
+// A text of its own.
+fn owned_text<'a, A: Allocator + Copy>(alloc: A) -> Option<Text<'a, A>> {
+    let text: Text<'_, A> = RawBytes::from(b"abc".as_slice());
+    text.into_owned(alloc).ok()
+}
+
+// Two of them.
+fn two_texts<'a, A: Allocator + Copy>(alloc: A) -> Option<Vec<Text<'a, A>, A>> {
+    let mut texts = Vec::new(alloc);
+    texts.push(owned_text(alloc)?).ok()?;
+    texts.push(owned_text(alloc)?).ok()?;
+    Some(texts)
+}
+
 /// Whether a copy of what is made of owned texts was refused, or is equal.
 pub fn clones_owner<A>(heap: &Heap, alloc: A, owner: Owner, nth: u64) -> Option<bool>
 where
     A: Allocator + Copy,
 {
     heap.refuse(NEVER);
-    let first = Text::lent(&[]).owned(alloc).ok()?;
-    let second = Text::lent(&[]).owned(alloc).ok()?;
+    let first = owned_text(alloc)?;
+    let second = owned_text(alloc)?;
     match owner {
         Owner::Both => clones(heap, &Both(first, second), nth),
         Owner::Either => {
@@ -246,6 +331,52 @@ pub fn pushes<A: Allocator + Copy>(heap: &Heap, alloc: A) -> Option<bool> {
     (is_there & !list.is_empty()).then_some(is_refused)
 }
 
+// Whether a text that is pushed was refused, and the list is as it was; else it has one more.
+fn pushes_onto<'a, A>(heap: &Heap, alloc: A, mut list: Texts<'a, A>, nth: u64) -> Option<bool>
+where
+    A: Allocator + Copy,
+{
+    heap.refuse(nth);
+    let is_refused = match list.push(alloc, RawBytes::from(b"c".as_slice())) {
+        Ok(()) => false,
+        Err(error) => is_refused(&error),
+    };
+    let left = heap.left();
+    let bytes = if is_refused {
+        b"\x02\0\0\0\x03abc\x03abc".as_slice()
+    } else {
+        b"\x03\0\0\0\x03abc\x03abc\x01c"
+    };
+    let is_there = is_written(heap, &list, bytes);
+    heap.refuse(left);
+    is_there.then_some(is_refused)
+}
+
+/// Whether a text that is pushed behind two was refused, and the list is as it was; else it has
+/// three.
+pub fn pushes_text<A>(heap: &Heap, alloc: A, onto: Onto, nth: u64) -> Option<bool>
+where
+    A: Allocator + Copy,
+{
+    heap.refuse(NEVER);
+    match onto {
+        Onto::Lent => {
+            let texts = two_texts(alloc)?;
+            pushes_onto(
+                heap,
+                alloc,
+                Seq::new(CowSlice::Borrowed(texts.as_slice())),
+                nth,
+            )
+        }
+        Onto::Read => {
+            let input = b"\x02\0\0\0\x03abc\x03abc";
+            let list = parsed::<Texts<'_, A>, (), A>(alloc, (), input)?;
+            pushes_onto(heap, alloc, list, nth)
+        }
+    }
+}
+
 /// Whether a copy was refused, or is the value, and owned or lent as it must be.
 pub fn copies_held<A>(
     heap: &Heap,
@@ -259,9 +390,18 @@ where
 {
     let lent = two();
     match holding {
-        Holding::Text => copies::<Text<'_, A>, A>(heap, alloc, &lent, copying, nth),
-        Holding::Numbers => copies::<Numbers<'_, A>, A>(heap, alloc, &lent, copying, nth),
+        Holding::Text => copies::<Text<'_, A>, A>(heap, alloc, &[], copying, nth),
+        Holding::Numbers => copies::<Numbers<'_, A>, A>(heap, alloc, &[], copying, nth),
+        Holding::Read => {
+            let numbers = parsed::<Numbers<'_, A>, usize, A>(alloc, 2, b"abc")?;
+            copies_value(heap, alloc, numbers, copying, nth)
+        }
         Holding::List => copies::<List<'_, A>, A>(heap, alloc, &lent, copying, nth),
+        Holding::Texts => {
+            heap.refuse(NEVER);
+            let texts = two_texts(alloc)?;
+            copies::<Texts<'_, A>, A>(heap, alloc, texts.as_slice(), copying, nth)
+        }
     }
 }
 

@@ -3,6 +3,7 @@
 use mysql_wire::proto::codec::PacketCodec;
 use mysql_wire::proto::packet_io::{PacketIoError, PacketReader, PacketWriter};
 use std::alloc::Allocator;
+use std::fmt::{self, Debug, Write};
 use std::io::{self, Sink};
 use test_support::told::Told;
 
@@ -13,6 +14,24 @@ fn told(error: &PacketIoError) -> Told {
         PacketIoError::OutOfMemory => Told::OutOfMemory,
         _ => Told::Io,
     }
+}
+
+/// Counts the bytes of what is shown.
+#[derive(Drop)]
+struct Length(usize);
+
+impl fmt::Write for Length {
+    fn write_str(&mut self, text: &str) -> fmt::Result {
+        self.0 = self.0.saturating_add(text.len());
+        Ok(())
+    }
+}
+
+// How many bytes a value shows itself in.
+fn shown_len(value: &impl Debug) -> usize {
+    let mut text = Length(0);
+    let _ = write!(text, "{value:?}");
+    text.0
 }
 
 /// A reader over these bytes.
@@ -73,10 +92,13 @@ impl<'a, A: Allocator + Copy> Source<'a, A> {
     /// Takes the packet that stands ready, if one does.
     pub fn take(&mut self) -> bool {
         let is_ready = self.reader.is_ready(&self.codec);
-        if is_ready {
-            self.reader.take_packet(&mut self.codec);
-        }
+        self.reader.take_packet();
         is_ready
+    }
+
+    /// How many bytes the reader shows itself in.
+    pub fn shown_len(&self) -> usize {
+        shown_len(&self.reader)
     }
 
     /// What isn't read.
@@ -117,6 +139,11 @@ impl<A: Allocator + Copy> Outlet<A> {
             Ok(()) => Told::Done,
             Err(error) => told(&error),
         }
+    }
+
+    /// How many bytes the writer shows itself in.
+    pub fn shown_len(&self) -> usize {
+        shown_len(&self.writer)
     }
 
     /// The writer's end.

@@ -363,6 +363,30 @@ const GROWTHS: &[Script] = &[
         ],
     },
     Script {
+        name: "a chunk past the limit is not in the growth",
+        steps: &[
+            Step::Limit(MAX_PAYLOAD_LEN + 1),
+            Step::Src(b"\xff\xff\xff\0"),
+            Step::ComesMany(MAX_PAYLOAD_LEN),
+            Step::Comes(b"\x02\0\0\x01\x42\x42"),
+            Step::Decode(Told::TooLarge),
+            Step::Grew(1, MAX_PAYLOAD_LEN),
+            Step::LeftMany(6),
+        ],
+    },
+    Script {
+        name: "a chunk behind one of another id is not in the growth",
+        steps: &[
+            Step::Limit(usize::MAX),
+            Step::Src(b"\xff\xff\xff\x07"),
+            Step::ComesMany(MAX_PAYLOAD_LEN),
+            Step::Comes(b"\x02\0\0\x08\x42\x42"),
+            Step::Decode(Told::OutOfSync),
+            Step::Grew(1, MAX_PAYLOAD_LEN),
+            Step::LeftMany(6),
+        ],
+    },
+    Script {
         name: "the next packet is not in the growth",
         steps: &[
             Step::Limit(usize::MAX),

@@ -2,13 +2,16 @@
 
 use bytes::{Buf, Bytes, BytesMut};
 use mysql_wire::constants::MAX_PAYLOAD_LEN;
-use mysql_wire::proto::codec::packet_to_chunks;
+use mysql_wire::misc::raw::bytes::{EofBytes, RawBytes};
+use mysql_wire::proto::codec::{PacketCodec, encode_value, packet_to_chunks};
 use std::alloc::Global;
+use std::borrow::CowSlice;
 use std::num::NonZeroUsize;
 use std::test::Fail;
 use test_support::facts::{all_hold, no_row, same, same_if_any, wrong_row};
 use test_support::reference::{chunk_count, framed_len, low_byte, put_framing};
 use test_support::targets::Trickle;
+use test_support::told::Told;
 
 // What a payload must become, from its first id on, and the id behind it.
 #[derive(Clone, Copy)]
@@ -147,6 +150,40 @@ const LENGTHS: &[(usize, Option<usize>)] = &[
     (MAX_PAYLOAD_LEN + 2, Some(MAX_PAYLOAD_LEN + 1)),
     (2 * MAX_PAYLOAD_LEN, Some(10000000)),
 ];
+
+// A value of so many bytes under a limit, and what is answered.
+const VALUES: &[(usize, usize, Told)] = &[
+    (0, 0, Told::Done),
+    (201, 200, Told::TooLarge),
+    (MAX_PAYLOAD_LEN, MAX_PAYLOAD_LEN, Told::Done),
+    (MAX_PAYLOAD_LEN + 1, MAX_PAYLOAD_LEN, Told::TooLarge),
+    (MAX_PAYLOAD_LEN + 1, MAX_PAYLOAD_LEN + 1, Told::Done),
+    (2 * MAX_PAYLOAD_LEN, usize::MAX, Told::Done),
+];
+
+// Whether a value is answered so, and what is put then are its chunks, by which the id rises.
+fn is_encoded(alloc: Global, row: (usize, usize, Told)) -> bool {
+    let (len, limit, wanted) = row;
+    let payload = pattern(alloc, len);
+    let value: RawBytes<'_, EofBytes> = RawBytes::new(CowSlice::Borrowed(payload.as_slice()));
+    let mut codec = PacketCodec::default();
+    codec.max_allowed_packet = limit;
+    let mut wire = BytesMut::new(alloc);
+    let told = Told::of_encode(encode_value(&mut codec, &value, &mut wire));
+    let mut bytes = Vec::new(alloc);
+    let mut count = 0;
+    if wanted == Told::Done {
+        let _ = put_framing(&mut bytes, 0, payload.as_slice());
+        count = chunk_count(len);
+    }
+    let is_there = same(wire.as_slice(), bytes.as_slice());
+    (told == wanted) & is_there & (codec.sequence_id() == low_byte(count))
+}
+
+#[test]
+fn a_value_may_be_longer_than_a_chunk(rt: HostRuntime) -> Result<(), Fail> {
+    no_row(wrong_row(rt.alloc(), VALUES, is_encoded))
+}
 
 #[test]
 fn each_length_has_its_chunks(rt: HostRuntime) -> Result<(), Fail> {

@@ -3,6 +3,8 @@
 #![tactic(auto)]
 
 #[cfg(test)]
+mod budget;
+#[cfg(test)]
 mod chunks;
 #[cfg(test)]
 mod codec;

@@ -4,7 +4,7 @@
 use bytes::BytesMut;
 use mysql_wire::constants::MAX_PAYLOAD_LEN;
 use mysql_wire::io::WireError;
-use mysql_wire::proto::codec::{PacketCodec, packet_to_chunks};
+use mysql_wire::proto::codec::{PacketCodec, PacketDst, packet_to_chunks};
 use refusing::{NEVER, Refusing};
 use std::alloc::{Allocator, Global};
 use std::test::Fail;
@@ -51,6 +51,25 @@ fn are_grown<A: Allocator>(heap: &Heap, alloc: A) -> bool {
 fn the_request_of_this_number_is_refused(rt: HostRuntime) -> Result<(), Fail> {
     let heap = Refusing::new(rt.alloc(), 3);
     ensure(are_grown(&heap, &heap), "the requests")
+}
+
+// Whether a target takes room by one request, and is filled by none.
+fn takes_room<T: PacketDst>(heap: &Heap, target: &mut T) -> bool {
+    heap.refuse(NEVER);
+    let is_taken = target.reserve(100).is_ok() & (heap.left() == NEVER - 1);
+    is_taken & target.put_slice(&[7; 100]).is_ok() & (heap.left() == NEVER - 1)
+}
+
+fn targets_take_room<A: Allocator + Copy>(heap: &Heap, alloc: A) -> bool {
+    let mut vec = Vec::new(alloc);
+    let mut bytes = BytesMut::new(alloc);
+    takes_room(heap, &mut vec) & takes_room(heap, &mut bytes)
+}
+
+#[test]
+fn a_target_takes_the_room_that_it_is_asked_for(rt: HostRuntime) -> Result<(), Fail> {
+    let heap = Refusing::new(rt.alloc(), NEVER);
+    ensure(targets_take_room(&heap, &heap), "the room")
 }
 
 // A packet of ten bytes, and a byte behind it.

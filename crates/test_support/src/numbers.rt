@@ -64,7 +64,7 @@ pub fn are_numbers<T: IntRepr, A: Allocator + Copy>(
     eaten: Eaten,
     rows: &[Row<'_, T>],
 ) -> bool {
-    let mut all = has_size::<RawInt<T>>(size);
+    let mut all = has_size::<RawInt<T>>(size) & (T::SIZE == size);
     for row in rows {
         all &= is_number::<T, A>(heap, alloc, eaten, row);
     }

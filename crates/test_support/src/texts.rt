@@ -68,7 +68,8 @@ pub fn is_text<T: BytesRepr<Ctx = C>, C: Copy, A: Allocator + Copy>(
 /// Whether at most so many bytes of a text are written, and it has this size.
 pub fn is_bounded<T: BytesRepr>(text: &[u8], most: usize, size: Option<usize>) -> bool {
     let is_cut = RawBytes::<T>::from(text).len() == text.len().min(most);
-    is_cut & (T::MAX_LEN == most) & has_size::<RawBytes<'_, T>>(size)
+    let has_size = has_size::<RawBytes<'_, T>>(size) & (T::SIZE == size);
+    is_cut & (T::MAX_LEN == most) & has_size
 }
 
 /// The length of a text, and what is written of that.

@@ -295,7 +295,7 @@ refused_on error limits mark place limit h id new src held header dst is small s
     (outcome_under limits mark place limit h src held (Err OutOfMemory) header src dst g d))
 
 -- where a run begins
-length-input : (first : ℕ) (src held : List ℕ) → length (front first held ++ src) ≡ unread_place 0 held + length src
+pub length-input : (first : ℕ) (src held : List ℕ) → length (front first held ++ src) ≡ unread_place 0 held + length src
 length-input first src held = length-append (front first held) src ∙ ap (λ (n : ℕ). n + length src) (length-front_under first held) ∙ omega arith
 
 pub start_mark : Option (ℕ × ℕ) → List ℕ → ℕ

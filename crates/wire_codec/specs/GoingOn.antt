@@ -9,7 +9,7 @@ use Rattle.wire_codec.specs.Framing.{max_payload}
 use Rattle.wire_codec.specs.Delivery.{chunk_len, id_at}
 use Rattle.wire_codec.specs.Codec.{CodecState, first_id, input_of}
 use Rattle.wire_codec.specs.Limited.{Limits, Allows, framed_size, limit_at, place_after, SplitsUnder}
-use Rattle.wire_codec.specs.LimitedRuns.{AlignedAt, unread_place, limited_bytes, DecodesUnder, RunsUnder, LeavesUnder}
+use Rattle.wire_codec.specs.LimitedRuns.{AlignedAt, WasAllowed, unread_place, limited_bytes, DecodesUnder, RunsUnder, LeavesUnder}
 
 -- the codec goes on here with the packet that is framed from this place on: the bytes from the mark
 -- on came under its own limit; before the mark there is no header that isn't remembered, and no
@@ -26,6 +26,14 @@ pub record GoesOnAt (limits : Limits) (mark place limit : ℕ) (header : Option 
 abbrev pub GoesOn : Limits → ℕ → ℕ → CodecState → Type 0
 GoesOn limits mark place state = GoesOnAt limits mark place state.limit state.header state.unread
     state.held
+
+-- the bytes to be read came under the codec's limit; but those of a header that is remembered, which
+-- is within the limit of its fourth byte, came under any
+abbrev pub HasLimits : Limits → ℕ → CodecState → Type 0
+HasLimits limits place state =
+    ((i : ℕ) → (IsSome state.header → 4 ≤ i) → i < length state.unread
+    → limits (unread_place place state.held + i) ≡ Some state.limit)
+    × WasAllowed limits place state.header state.held
 
 -- the mark stays where it is, behind what was taken
 abbrev pub KeepsMark : ℕ → ℕ → Result Bool PacketCodecError → List ℕ → List ℕ → Type 0

@@ -2,11 +2,11 @@
 use Rattle.std.specs.Prelude.{◌≡◌, ◌≢◌, ℕ, List, [], ◌++◌, length, ◌/◌, ◌%◌, ◌+◌, ◌*◌, ◌<◌, ◌≤◌, ◌⊎◌, ◌↔◌, All, None, Result, Ok, Err}
 use Rattle.std.specs.Borrow.{Bor}
 use Rattle.wire_codec.specs.Framing.{framing, front, id_after, max_payload, stream}
-use Rattle.wire_codec.specs.Delivery.{Ending, Splits, Delivers}
+use Rattle.wire_codec.specs.Delivery.{Ending, Waiting, Splits, Delivers, IsBounded}
 use Rattle.wire_codec.specs.Counted.{Call, Follows, chunk_count}
-use Rattle.wire_codec.specs.Limited.{Limits, place_after, SplitsUnder, DeliversUnder}
-use Rattle.wire_codec.specs.LimitedRuns.{run_limits}
-use Rattle.wire_codec.specs.GoingOn.{GoesOn}
+use Rattle.wire_codec.specs.Limited.{Limits, AreAtMost, place_after, SplitsUnder, DeliversUnder}
+use Rattle.wire_codec.specs.LimitedRuns.{Aligned, unread_place, run_limits}
+use Rattle.wire_codec.specs.GoingOn.{GoesOn, HasLimits}
 use Rattle.wire_codec.specs.Codec.{CodecState, Stands, first_id, input_of}
 use Rattle.wire_codec.specs.Runs.{RunsTo, RunsOver}
 use Rattle.wire_codec.specs.declared.codec.error.PacketCodecError.{PacketCodecError}
@@ -183,7 +183,33 @@ abbrev pub EmptyGoesOn : Type 0
 EmptyGoesOn =
     (limits : Limits) (place id limit : ℕ) → GoesOn limits place place (empty_state id limit)
 
+-- an aligned codec goes on in a stream under whose limits its bytes came; the bytes that come next
+-- stand behind those to be read
+abbrev pub AlignedGoesOn : Type 0
+AlignedGoesOn =
+    (limits : Limits) (place : ℕ) (state : CodecState) → Aligned state
+    → (place + length (input_of state) ≡ unread_place place state.held + length state.unread)
+    × (HasLimits limits place state → (mark : ℕ) × GoesOn limits mark place state)
+
+-- a delivery that waits holds few bytes
+abbrev pub BoundedDelivery : Type 0
+BoundedDelivery =
+    (held input : List ℕ) (open_id limit : ℕ) (payloads : List (List ℕ)) (unfinished rest : List ℕ)
+    → Delivers held input open_id limit payloads Waiting unfinished rest
+    → IsBounded limit held unfinished rest
+
+-- the same where each byte has its limit, by a number that none of them is above
+abbrev pub BoundedLimitedDelivery : Type 0
+BoundedLimitedDelivery =
+    (limits : Limits) (most place : ℕ) (held input : List ℕ) (open_id : ℕ)
+    (payloads : List (List ℕ)) (unfinished rest : List ℕ)
+    → AreAtMost most limits
+    → DeliversUnder limits place held input open_id payloads Waiting unfinished rest
+    → IsBounded most held unfinished rest
+
 -- the id that a codec expects is the number of chunks encoded and accepted since the last reset,
--- modulo 256
+-- modulo 256: after these calls, where it was so before them
 abbrev pub ChunksCounted : Type 0
-ChunksCounted = (calls : List Call) (id : ℕ) → Follows 0 calls id → id ≡ chunk_count 0 calls % 256
+ChunksCounted =
+    (calls : List Call) (count id new : ℕ)
+    → id ≡ count % 256 → Follows id calls new → new ≡ chunk_count count calls % 256

@@ -1,6 +1,6 @@
 -- What stands at the front of a stream whose bytes came under different limits, and where it stops.
 -- Nothing here knows of pieces, of a remembered header or of a loop.
-use Rattle.std.specs.Prelude.{◌≡◌, ℕ, ◌+◌, ◌*◌, ◌/◌, ◌<◌, ◌≤◌, List, [], ◌∷◌, ◌++◌, length, take, min, Option, Some, None, ⊤}
+use Rattle.std.specs.Prelude.{◌≡◌, ℕ, ◌+◌, ◌*◌, ◌/◌, ◌<◌, ◌≤◌, List, [], ◌∷◌, ◌++◌, length, take, min, Option, Some, None, MatchOption, ⊤}
 use Rattle.wire_codec.specs.Framing.{max_payload, front, stream, id_after}
 use Rattle.wire_codec.specs.Delivery.{chunk_len, IsWholeChunks, Ending, Ends}
 
@@ -12,6 +12,10 @@ Limits = ℕ → Option ℕ
 abbrev pub Allows : Option ℕ → ℕ → Type 0
 Allows None size = ⊤
 Allows (Some limit) size = size ≤ limit
+
+-- each byte has a limit, and none is above this one
+abbrev pub AreAtMost : ℕ → Limits → Type 0
+AreAtMost most limits = (place : ℕ) → MatchOption (limits place) ⊥ (λ limit. limit ≤ most)
 
 -- what a packet of so many bytes is compared with
 abbrev pub bound : Option ℕ → ℕ → ℕ

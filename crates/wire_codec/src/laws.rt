@@ -1,7 +1,7 @@
 //! Laws over the definitions that the contracts cite. Each function takes and answers nothing: its
 //! contract is the law, and a caller has it by calling.
 
-ghost use Rattle.wire_codec.specs.Laws.{AppendedRun, BetweenPackets, ChunksCounted, EmptyGoesOn, EncodedFirst, EqualLimits, FramedLength, IdAfterAppend, JoinedLimitedRuns, JoinedRuns, JoinedSplits, NothingRead, OneDelivery, OneLimitedDelivery, OneRun, RunGoesOn, StreamAppend, UniqueFraming};
+ghost use Rattle.wire_codec.specs.Laws.{AlignedGoesOn, AppendedRun, BetweenPackets, BoundedDelivery, BoundedLimitedDelivery, ChunksCounted, EmptyGoesOn, EncodedFirst, EqualLimits, FramedLength, IdAfterAppend, JoinedLimitedRuns, JoinedRuns, JoinedSplits, NothingRead, OneDelivery, OneLimitedDelivery, OneRun, RunGoesOn, StreamAppend, UniqueFraming};
 
 /// A stream delivers one list of payloads, one unfinished payload, one rest and one ending.
 pub fn one_delivery()
@@ -89,8 +89,25 @@ pub fn empty_goes_on()
     ensures { EmptyGoesOn }
 {}
 
-/// Over any list of `encode`, `decode` and `reset_seq_id` on a new codec, the id expected is the
-/// number of chunks encoded and accepted since the last reset, modulo 256.
+/// An aligned codec, with bytes unread or a header remembered, goes on in a stream under whose
+/// limits these came: what `deliver_limited` says there holds of its next call.
+pub fn aligned_goes_on()
+    ensures { AlignedGoesOn }
+{}
+
+/// What a delivery holds that waits: together, an unfinished packet and the bytes unread are at most
+/// 3 more than the limit, or than what was held before where that is more.
+pub fn bounded_delivery()
+    ensures { BoundedDelivery }
+{}
+
+/// The same where each byte has its limit, by the largest of them.
+pub fn bounded_limited_delivery()
+    ensures { BoundedLimitedDelivery }
+{}
+
+/// Over any list of `encode`, `decode` and `reset_seq_id` on a codec, the id expected is the number
+/// of chunks encoded and accepted since the last reset, modulo 256; where it was so before them.
 pub fn chunks_counted()
     ensures { ChunksCounted }
 {}

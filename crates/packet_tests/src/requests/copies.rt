@@ -2,8 +2,8 @@
 //! memory.
 
 use memory_support::copies::{
-    Copying, Holding, Owner, clones_owner, copies_held, pushes, reads_elements, reads_list,
-    reads_stream, shows_text,
+    Copying, Holding, Onto, Owner, clones_owner, copies_held, pushes, pushes_text, reads_elements,
+    reads_list, reads_stream, shows_text,
 };
 use memory_support::reading::Reading;
 use std::alloc::Allocator;
@@ -16,6 +16,7 @@ pub enum Taking {
     Read(Reading, usize, usize),
     Elements,
     Push,
+    PushText(Onto),
     Copy(Holding, Copying),
     CloneOwner(Owner),
     AsStr(&'static [u8], &'static str),
@@ -76,6 +77,27 @@ pub const ROWS_HELD: &[Row] = &[
         Taking::Copy(Holding::List, Copying::OwnOwned),
         0,
     ),
+    // Two texts that are owned are cloned with the list.
+    (
+        "Seq::clone",
+        Taking::Copy(Holding::Texts, Copying::CloneLent),
+        0,
+    ),
+    (
+        "Seq::clone",
+        Taking::Copy(Holding::Texts, Copying::CloneOwned),
+        3,
+    ),
+    (
+        "Seq::into_owned",
+        Taking::Copy(Holding::Texts, Copying::OwnLent),
+        3,
+    ),
+    (
+        "Seq::into_owned",
+        Taking::Copy(Holding::Texts, Copying::OwnOwned),
+        0,
+    ),
     (
         "RawSeq::clone",
         Taking::Copy(Holding::Numbers, Copying::CloneLent),
@@ -94,6 +116,26 @@ pub const ROWS_HELD: &[Row] = &[
     (
         "RawSeq::into_owned",
         Taking::Copy(Holding::Numbers, Copying::OwnOwned),
+        0,
+    ),
+    (
+        "RawSeq::clone",
+        Taking::Copy(Holding::Read, Copying::CloneLent),
+        0,
+    ),
+    (
+        "RawSeq::clone",
+        Taking::Copy(Holding::Read, Copying::CloneOwned),
+        1,
+    ),
+    (
+        "RawSeq::into_owned",
+        Taking::Copy(Holding::Read, Copying::OwnLent),
+        1,
+    ),
+    (
+        "RawSeq::into_owned",
+        Taking::Copy(Holding::Read, Copying::OwnOwned),
         0,
     ),
     (
@@ -122,6 +164,8 @@ pub const ROWS_HELD: &[Row] = &[
 pub const ROWS_OTHER: &[Row] = &[
     ("SeqRepr::deserialize", Taking::Elements, 1),
     ("Seq::push", Taking::Push, 2),
+    ("Seq::push", Taking::PushText(Onto::Lent), 4),
+    ("Seq::push", Taking::PushText(Onto::Read), 0),
     ("Both::clone", Taking::CloneOwner(Owner::Both), 2),
     ("Either::clone", Taking::CloneOwner(Owner::Either), 1),
     ("Const::clone", Taking::CloneOwner(Owner::Const), 1),
@@ -137,6 +181,7 @@ pub fn tries<A: Allocator + Copy>(heap: &Heap, alloc: A, call: Taking, nth: u64)
         Taking::Read(reading, if_refused, left) => reads_list(alloc, reading, if_refused, left),
         Taking::Elements => reads_elements(alloc),
         Taking::Push => pushes(heap, alloc),
+        Taking::PushText(onto) => pushes_text(heap, alloc, onto, nth),
         Taking::Copy(holding, copying) => copies_held(heap, alloc, holding, copying, nth),
         Taking::AsStr(bytes, string) => shows_text(alloc, bytes, string),
         Taking::ReadLenencStr => reads_stream(alloc),

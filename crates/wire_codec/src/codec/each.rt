@@ -3,6 +3,7 @@
 ghost use Rattle.std.specs.Prelude.{◌≡◌, ◌≢◌, ℕ, ◌<◌, ◌≤◌, List, length, take, drop, Ok, Err, OnOk, true};
 ghost use Rattle.std.specs.List.{FoldsTo};
 ghost use Rattle.wire_codec.specs.Codec.{codec_state, first_id, input_of, Stands};
+ghost use Rattle.wire_codec.specs.Delivery.{IsBounded};
 ghost use Rattle.wire_codec.specs.Runs.{joined, RunsFrom, RunsTo, RunsOver, Waits};
 ghost use Rattle.wire_codec.specs.Visits.{VisitsPacket};
 
@@ -101,6 +102,9 @@ pub fn deliver_each<A: Allocator + Copy, V: Visit>(
         (j : ℕ) → j < result.0 → Waits before (joined (take j pieces.now)) }
     ensures all { OnOk result.1 (result.0 ≡ length pieces.now) }
 
+    // Where it waits, both buffers together hold few bytes.
+    ensures bounded { OnOk result.1 (IsBounded codec.old.max_allowed_packet dst.old.items
+        dst.new.items src.new.items) }
     ensures stands { result.1 ≢ Err PacketCodecError.PacketsOutOfSync
         → Stands (codec_state codec.new src.new.items dst.new.items) }
     ensures limit { codec.new.max_allowed_packet ≡ codec.old.max_allowed_packet }

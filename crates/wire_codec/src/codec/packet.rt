@@ -1,7 +1,7 @@
 //! Whole packets.
 
-ghost use Rattle.std.specs.Prelude.{◌≡◌, ◌≢◌, ℕ, ◌+◌, ◌%◌, ◌<◌, ◌≤◌, ◌↔◌, ◌⊎◌, OnOk, OnErr, IfErr, Err, [], length, None, true, IsTrue, slice_index, ◌++◌};
-ghost use Rattle.wire_codec.specs.Delivery.{chunk_len};
+ghost use Rattle.std.specs.Prelude.{◌≡◌, ◌≢◌, ℕ, ◌+◌, ◌%◌, ◌<◌, ◌≤◌, ◌↔◌, ◌⊎◌, OnOk, OnErr, IfErr, Err, [], length, None, true, false, IsTrue, slice_index, ◌++◌};
+ghost use Rattle.wire_codec.specs.Delivery.{chunk_len, IsBounded};
 
 mod front;
 
@@ -57,7 +57,14 @@ impl PacketCodec {
     pub fn stands_at(&self, src: &BytesMut<impl Allocator + Copy>, dst: &[u8]) -> bool
         ensures { IsTrue result ↔ Stands (codec_state self.now src.now.items dst.now) }
     {
-        if !self.aligned_at(src, dst) {
+        self.stands_before(src.as_slice(), dst)
+    }
+
+    /// As `stands_at`, for unread bytes that lie anywhere.
+    pub fn stands_before(&self, unread: &[u8], dst: &[u8]) -> bool
+        ensures { IsTrue result ↔ Stands (codec_state self.now unread.now dst.now) }
+    {
+        if !self.aligned_before(unread, dst) {
             return false;
         }
         match self.decoder {
@@ -73,14 +80,19 @@ impl PacketCodec {
     pub fn aligned_at(&self, src: &BytesMut<impl Allocator + Copy>, dst: &[u8]) -> bool
         ensures { IsTrue result ↔ Aligned (codec_state self.now src.now.items dst.now) }
     {
+        self.aligned_before(src.as_slice(), dst)
+    }
+
+    // As `aligned_at`, for unread bytes that lie anywhere.
+    fn aligned_before(&self, unread: &[u8], dst: &[u8]) -> bool
+        ensures { IsTrue result ↔ Aligned (codec_state self.now unread.now dst.now) }
+    {
         if !is_full_chunks(dst.len()) {
             return false;
         }
         match self.decoder {
             ChunkDecoder::Idle => true,
-            ChunkDecoder::Chunk { seq_id, needed } => {
-                has_header(src.as_slice(), seq_id, needed.get())
-            }
+            ChunkDecoder::Chunk { seq_id, needed } => has_header(unread, seq_id, needed.get()),
         }
     }
 
@@ -115,6 +127,11 @@ impl PacketCodec {
             let after = codec_state self.new src.new.items (T.held dst.new) in
             Stands before → (result ≢ Ok true)
             → (result ≢ Err PacketCodecError.PacketsOutOfSync) → Stands after }
+        // Where it waits, both buffers together hold few bytes.
+        ensures bounded { let before = codec_state self.old src.old.items (T.held dst.old) in
+            Stands before → result ≡ Ok false
+            → IsBounded self.old.max_allowed_packet (T.held dst.old)
+            (T.held dst.new) src.new.items }
         // Want of memory is answered only where a chunk is there to be taken.
         ensures memory { let before = codec_state self.old src.old.items (T.held dst.old) in
             result ≡ Err PacketCodecError.OutOfMemory → HasChunk before }
@@ -162,6 +179,14 @@ impl PacketCodec {
             }
             Err(_) => Err(PacketCodecError::OutOfMemory),
         }
+    }
+
+    /// The sequence id that the next chunk is to bear: one that `decode` accepts, or the first that
+    /// `encode` writes.
+    pub fn sequence_id(&self) -> u8
+        ensures { result ≡ expected_id self.now }
+    {
+        self.seq_id
     }
 
     /// Sets the sequence id to 0, as at the start of a command.

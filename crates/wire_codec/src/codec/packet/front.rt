@@ -1,7 +1,8 @@
 //! A packet where it lies.
 
-ghost use Rattle.std.specs.Prelude.{◌≡◌, ◌↔◌, ◌<◌, ◌≤◌, [], length, Ok, true, IsTrue, IsSome, IfSome, MatchOption};
+ghost use Rattle.std.specs.Prelude.{◌≡◌, ◌↔◌, ◌+◌, ◌<◌, ◌≤◌, [], length, drop, Ok, true, IsTrue, IsSome, IfSome, MatchOption};
 ghost use Rattle.wire_codec.specs.Codec.{codec_state, header_of, Stands, DecodesPacket, ChunkChain};
+ghost use Rattle.wire_codec.specs.Delivery.{chunk_len};
 ghost use Rattle.wire_codec.specs.InPlace.{HasFront, front_payload, behind_front};
 ghost use Rattle.wire_codec.specs.LimitedRuns.{DecodesAligned};
 
@@ -71,6 +72,45 @@ impl PacketCodec {
         Some(&front[HEADER_LEN..HEADER_LEN + header.len])
     }
 
+    /// Accepts the packet that `front_packet` lends: the codec goes on behind it, and its bytes
+    /// stay where they lie. The answer is how many bytes of `src` are its chunk, header and
+    /// payload: `src` is to be advanced by them before the codec reads on. It asks that there is
+    /// such a packet.
+    ///
+    /// `encode` then bears the id behind the packet, while its bytes are still read.
+    pub fn accept_front(&mut self, src: &BytesMut<impl Allocator + Copy>) -> usize
+        requires { HasFront (codec_state self.old src.now.items []) }
+        ensures chunk { result ≡ 4 + chunk_len src.now.items }
+        ensures whole { result ≤ length src.now.items }
+        ensures decodes { let before = codec_state self.old src.now.items [] in
+            let after = codec_state self.new (drop result src.now.items)
+            (front_payload src.now.items) in
+            Stands before → DecodesPacket before (Ok true) after }
+        ensures aligned { let before = codec_state self.old src.now.items [] in
+            let after = codec_state self.new (drop result src.now.items)
+            (front_payload src.now.items) in
+            DecodesAligned before (Ok true) after }
+        // One chunk is accepted.
+        ensures chain { let before = codec_state self.old src.now.items [] in
+            let after = codec_state self.new (drop result src.now.items)
+            (front_payload src.now.items) in
+            ChunkChain 1 before (Ok true) after }
+        ensures rest { codec_state self.new (drop result src.now.items)
+            (front_payload src.now.items)
+            ≡ behind_front (codec_state self.old src.now.items []) }
+        // The codec stands at what is left, and an empty `dst`.
+        ensures stands { Stands (codec_state self.new (drop result src.now.items) []) }
+
+        ensures limit { self.new.max_allowed_packet ≡ self.old.max_allowed_packet }
+    {
+        let Some(header) = Header::read(src.as_slice()) else {
+            return 0;
+        };
+        self.decoder = ChunkDecoder::Idle;
+        self.seq_id = self.seq_id.wrapping_add(1); // after 255 comes 0
+        HEADER_LEN + header.len
+    }
+
     /// Takes the packet that `front_packet` lends from `src`. It asks that there is one.
     ///
     /// Both together are a `decode` that answers true, with the packet in place of what `dst` would
@@ -95,10 +135,7 @@ impl PacketCodec {
         ensures shorter { length src.new.items < length src.old.items }
         ensures limit { self.new.max_allowed_packet ≡ self.old.max_allowed_packet }
     {
-        if let Some(header) = Header::read(src.as_slice()) {
-            src.advance(HEADER_LEN + header.len);
-            self.decoder = ChunkDecoder::Idle;
-            self.seq_id = self.seq_id.wrapping_add(1); // after 255 comes 0
-        }
+        let chunk = self.accept_front(src);
+        src.advance(chunk);
     }
 }

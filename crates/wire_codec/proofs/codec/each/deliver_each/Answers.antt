@@ -7,6 +7,7 @@ use Rattle.wire_codec.specs.Runs.{joined, RunsFrom, LeavesFrom}
 use Rattle.wire_codec.proofs.VisitLemmas.{FoldsTo-append}
 use Rattle.wire_codec.proofs.CodecLemmas.{open_small}
 use Rattle.wire_codec.proofs.RunLemmas.{stands_append, runs_join, runs_over, open_waiting, stream_more, stream_rest, runs_all, runs_stand}
+use Rattle.wire_codec.proofs.BoundLemmas.{bounded_delivery_is}
 use Rattle.wire_codec.proofs.codec.each.deliver_each.Goals as goal
 
 -- what a run does, under the whole run's open id, limit and input
@@ -203,3 +204,8 @@ pub returns-clause-stands : goal.returns-clause-stands
 returns-clause-stands g c other =
     let inv = c.loop-piece.invariant in
     runs_stand (Ok tt) _ _ _ _ _ inv.gained.0 _ _ _ _ inv.same inv.gained.2 (λ e. absurd cc)
+
+pub returns-clause-bounded : goal.returns-clause-bounded
+returns-clause-bounded g c =
+    let run = c.loop-piece.invariant.gained.2 in
+    bounded_delivery_is _ _ _ _ _ _ _ run.0

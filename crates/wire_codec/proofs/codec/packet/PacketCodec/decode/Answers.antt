@@ -2,6 +2,7 @@ use Rattle.std.proofs.Common.{[]}
 use Rattle.wire_codec.specs.Codec.{expected_id, header_of}
 use Rattle.wire_codec.specs.LimitedRuns.{run_limits}
 use Rattle.wire_codec.proofs.GoingOnLemmas.{start_mark, goes_on_start}
+use Rattle.wire_codec.proofs.BoundLemmas.{decoded_bounded}
 use Rattle.wire_codec.proofs.codec.packet.PacketCodec.decode.Goals as goal
 
 pub returns-clause-aligned : goal.returns-clause-aligned
@@ -14,3 +15,6 @@ returns-clause-aligned g c aligned =
     let limits = run_limits (record { limit = limit; id = id; header = header; unread = src; held = held }) [] in
     let start = goes_on_start limit id header src held [] aligned in
     (c.decode_on.ensures.on limits (start_mark header held) 0 start).0
+
+pub returns-clause-bounded : goal.returns-clause-bounded
+returns-clause-bounded g c stands waits = decoded_bounded _ _ _ _ _ _ _ _ _ waits (c.decode_on.ensures.decodes stands)

@@ -4,34 +4,34 @@ use Rattle.wire_codec.specs.Codec.{header_of, DecodesPacket, ChunkChain}
 use Rattle.wire_codec.specs.LimitedRuns.{DecodesAligned}
 use Rattle.wire_codec.specs.InPlace.{front_payload}
 use Rattle.wire_codec.proofs.InPlaceLemmas.{state_of, front_decodes, front_aligned, front_chain}
-use Rattle.wire_codec.proofs.codec.packet.PacketCodec.take_front.Goals as goal
+use Rattle.wire_codec.proofs.codec.packet.PacketCodec.accept_front.Goals as goal
 
-pub returns-in-Some-clause-decodes : goal.returns-in-Some-clause-decodes
-returns-in-Some-clause-decodes g c stands =
+pub returns-clause-decodes : goal.returns-clause-decodes
+returns-clause-decodes g c stands =
     let limit = c.args.self.now.max_allowed_packet in
     let id = c.args.self.now.seq_id in
     let header = header_of c.args.self.now in
     let src = c.args.src.now.items in
-    let rest = c.advance.ensures.items ∙ ap (λ (n : ℕ). drop (4 + n) src) (c.in-Some.ensures.len ∙ ap (λ (z : List ℕ). chunk_len z) c.as_slice.ensures) in
+    let rest = ap (λ (n : ℕ). drop (4 + n) src) (c.in-Some.ensures.len ∙ ap (λ (z : List ℕ). chunk_len z) c.as_slice.ensures) in
     subst (λ (z : List ℕ). DecodesPacket (state_of limit id header src []) (Ok true) (state_of limit ((id + 1) % 256) None z (front_payload src))) (sym rest)
     (front_decodes limit id header src (omega arith) (rw c.as_slice.ensures at c.in-Some.ensures.spelled) c.requires stands)
 
-pub returns-in-Some-clause-aligned : goal.returns-in-Some-clause-aligned
-returns-in-Some-clause-aligned g c =
+pub returns-clause-aligned : goal.returns-clause-aligned
+returns-clause-aligned g c =
     let limit = c.args.self.now.max_allowed_packet in
     let id = c.args.self.now.seq_id in
     let header = header_of c.args.self.now in
     let src = c.args.src.now.items in
-    let rest = c.advance.ensures.items ∙ ap (λ (n : ℕ). drop (4 + n) src) (c.in-Some.ensures.len ∙ ap (λ (z : List ℕ). chunk_len z) c.as_slice.ensures) in
+    let rest = ap (λ (n : ℕ). drop (4 + n) src) (c.in-Some.ensures.len ∙ ap (λ (z : List ℕ). chunk_len z) c.as_slice.ensures) in
     subst (λ (z : List ℕ). DecodesAligned (state_of limit id header src []) (Ok true) (state_of limit ((id + 1) % 256) None z (front_payload src))) (sym rest)
     (front_aligned limit id header src (omega arith) (rw c.as_slice.ensures at c.in-Some.ensures.spelled) c.requires)
 
-pub returns-in-Some-clause-chain : goal.returns-in-Some-clause-chain
-returns-in-Some-clause-chain g c =
+pub returns-clause-chain : goal.returns-clause-chain
+returns-clause-chain g c =
     let limit = c.args.self.now.max_allowed_packet in
     let id = c.args.self.now.seq_id in
     let header = header_of c.args.self.now in
     let src = c.args.src.now.items in
-    let rest = c.advance.ensures.items ∙ ap (λ (n : ℕ). drop (4 + n) src) (c.in-Some.ensures.len ∙ ap (λ (z : List ℕ). chunk_len z) c.as_slice.ensures) in
+    let rest = ap (λ (n : ℕ). drop (4 + n) src) (c.in-Some.ensures.len ∙ ap (λ (z : List ℕ). chunk_len z) c.as_slice.ensures) in
     subst (λ (z : List ℕ). ChunkChain 1 (state_of limit id header src []) (Ok true) (state_of limit ((id + 1) % 256) None z (front_payload src))) (sym rest)
     (front_chain limit id header src c.requires)
