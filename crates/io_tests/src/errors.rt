@@ -2,7 +2,7 @@
 
 use mysql_wire::io::{InvalidLengthEncodedInteger, InvalidReason, WireError};
 use mysql_wire::proto::codec::error::PacketCodecError;
-use mysql_wire::proto::packet_io::PacketIoError;
+use mysql_wire::proto::packet_io::{PacketIoError, PacketReader, PacketWriter};
 use std::alloc::Global;
 use std::fmt::{Debug, Display};
 use std::io::{self, ErrorKind};
@@ -17,6 +17,30 @@ fn shows<E: Display + Debug>(alloc: Global, error: &E, text: &str) -> bool {
         Err(_) => false,
     };
     answers::shows(alloc, error, text) & is_debugged
+}
+
+// Whether a value is debugged as this text.
+fn is_debugged<T: Debug>(alloc: Global, value: &T, text: &str) -> bool {
+    match format!(in alloc; "{value:?}") {
+        Ok(debugged) => debugged.as_str() == text,
+        Err(_) => false,
+    }
+}
+
+const READER: &str =
+    "PacketReader { reader: [97], unread: 0, is_lent: false, is_lost: false, reads: 0, .. }";
+
+#[test]
+fn readers_and_writers_are_debugged(rt: HostRuntime) -> Result<(), Fail> {
+    let alloc = rt.alloc();
+    let reader = PacketReader::new(alloc, b"a".as_slice());
+    let writer = PacketWriter::new(alloc, Vec::<u8>::new(alloc));
+    all_hold(&[
+        reader.is_ok_and(|reader| is_debugged(alloc, &reader, READER)),
+        writer.is_ok_and(|writer| {
+            is_debugged(alloc, &writer, "PacketWriter { writer: [], pending: 0 }")
+        }),
+    ])
 }
 
 type Reason = (InvalidReason, &'static str);

@@ -197,7 +197,7 @@ fn takes<A: Allocator + Copy>(
         return Said::Wrong;
     }
     let _ = packets.extend_from_slice(reader.packet());
-    reader.take_packet(codec);
+    reader.take_packet();
     Said::Packet
 }
 
@@ -226,13 +226,14 @@ fn says<A: Allocator + Copy>(
 }
 
 // What a reader said, call after call; the packets, one behind the other; what is unread in the
-// end; and how many reads it made.
+// end; how many reads it made, and how many of them weren't of 8192 bytes.
 #[derive(Drop)]
 struct Heard {
     said: Vec<Said>,
     packets: BytesMut<Global>,
     unread: BytesMut<Global>,
     reads: u64,
+    odd_reads: usize,
 }
 
 // Whether these were said, and the packets were these.
@@ -240,9 +241,9 @@ fn is_said(heard: &Heard, said: &[Said], packets: &[u8]) -> bool {
     are_said(heard.said.as_slice(), said) & same(heard.packets.as_slice(), packets)
 }
 
-// Whether this is unread, after so many reads.
+// Whether this is unread, after so many reads of 8192 bytes each.
 fn is_left(heard: &Heard, unread: &[u8], reads: u64) -> bool {
-    same(heard.unread.as_slice(), unread) & (heard.reads == reads)
+    same(heard.unread.as_slice(), unread) & (heard.reads == reads) & (heard.odd_reads == 0)
 }
 
 // Calls a reader so often, and once more after each refusal of memory.
@@ -266,6 +267,7 @@ fn listen<A: Allocator + Copy>(
     }
     let _ = heard.unread.extend_from_slice(reader.unread());
     heard.reads = reader.reads();
+    heard.odd_reads = reader.into_inner().odd_reads;
 }
 
 // What is heard of a reader where this request for memory is refused, and whether one was.
@@ -283,6 +285,7 @@ fn hear(
         packets: BytesMut::new(alloc),
         unread: BytesMut::new(alloc),
         reads: 0,
+        odd_reads: 0,
     };
     listen(&heap, way, codec, input, calls, &mut heard);
     (heard, heap.has_refused())
@@ -295,6 +298,7 @@ fn hear_row(alloc: Global, nth: u64, way: Way, row: &Row, at_once: usize) -> (He
         at_once,
         until_fault: row.until_fault,
         kind: ErrorKind::Interrupted,
+        odd_reads: 0,
     };
     let mut codec = PacketCodec::default();
     codec.max_allowed_packet = row.limit;
@@ -453,12 +457,33 @@ fn share_an_id(alloc: Global) -> bool {
         at_once: usize::MAX,
         until_fault: usize::MAX,
         kind: ErrorKind::Interrupted,
+        odd_reads: 0,
     };
     let (heard, _) = hear(alloc, NEVER, Way::HandedOut, &mut codec, input, 1);
     is_asked & same(heard.packets.as_slice(), b"\x02")
 }
 
-// A packet of two chunks is collected, and a reader and a writer share an id.
+// Whether an answer that is queued while its command is lent is numbered on from it, and the
+// command is the same until it is taken.
+fn is_answered_while_lent(alloc: Global) -> bool {
+    let Ok(mut reader) = PacketReader::new(alloc, b"\x01\0\0\0a\x01\0\0\x02b".as_slice()) else {
+        return false;
+    };
+    let Ok(mut writer) = PacketWriter::new(alloc, io::sink()) else {
+        return false;
+    };
+    let mut codec = PacketCodec::default();
+    let mut answer = b"ok".as_slice();
+    let mut all = matches!(reader.fill_packet(&mut codec), Ok(true));
+    all &= writer.queue(&mut codec, &mut answer).is_ok();
+    all &= same(writer.pending(), b"\x02\0\0\x01ok") & same(reader.packet(), b"a");
+    reader.take_packet();
+    all &= matches!(reader.fill_packet(&mut codec), Ok(true)) & same(reader.packet(), b"b");
+    all
+}
+
+// A packet of two chunks is collected, a reader and a writer share an id, and an answer is queued
+// while its command is lent.
 #[test]
 fn long_packets_and_answers_are_read(rt: HostRuntime) -> Result<(), Fail> {
     let alloc = rt.alloc();
@@ -466,5 +491,6 @@ fn long_packets_and_answers_are_read(rt: HostRuntime) -> Result<(), Fail> {
         is_long_read(alloc, 16777215),
         is_long_read(alloc, 16777220),
         share_an_id(alloc),
+        is_answered_while_lent(alloc),
     ])
 }

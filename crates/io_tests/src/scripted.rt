@@ -47,17 +47,22 @@ pub fn said_by(answer: Result<(), PacketIoError>) -> Said {
     }
 }
 
-/// Gives so many bytes a read at most, and fails once, at the read of this number.
+/// Gives so many bytes a read at most, and fails once, at the read of this number. Counts the reads
+/// that are asked for another number of bytes than 8192.
 #[derive(Drop)]
 pub struct Slow<'a> {
     pub bytes: &'a [u8],
     pub at_once: usize,
     pub until_fault: usize,
     pub kind: ErrorKind,
+    pub odd_reads: usize,
 }
 
 impl Read for Slow<'_> {
     fn read(&mut self, buf: &mut [u8]) -> io::Result<usize> {
+        self.odd_reads = self
+            .odd_reads
+            .saturating_add(usize::from(buf.len() != 8192));
         self.until_fault = self.until_fault.wrapping_sub(1);
         if self.until_fault == usize::MAX {
             return Err(io::Error::from(self.kind));

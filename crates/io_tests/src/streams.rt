@@ -138,6 +138,7 @@ fn is_text_read(
         at_once,
         until_fault,
         kind,
+        odd_reads: 0,
     };
     let read = reads(alloc, &mut reader, &[b'a'; 300]);
     let is_met = reader.until_fault > until_fault;

@@ -1,2 +1,1 @@
 mod PacketIoLemmas
-mod FillingLemmas

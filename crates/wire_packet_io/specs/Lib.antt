@@ -1,2 +1,2 @@
 pub mod PacketIo
-pub mod Filling
+pub mod Lent

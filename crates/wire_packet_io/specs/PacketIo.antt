@@ -1,5 +1,5 @@
 -- Packets from a reader, and to a writer.
-use Rattle.std.specs.Prelude.{◌≡◌, ◌≢◌, ℕ, ◌+◌, ◌*◌, ◌/◌, ◌-◌, ◌^◌, ◌<◌, ◌≤◌, ◌⊎◌, List, [], ◌++◌, length, take, min, All, Vec, Option, Some, None, Result, Ok, Err, Bool, true, false, IsTrue, IsFalse, ⊤}
+use Rattle.std.specs.Prelude.{◌≡◌, ◌≢◌, ℕ, ◌+◌, ◌*◌, ◌/◌, ◌-◌, ◌^◌, ◌<◌, ◌≤◌, ◌⊎◌, List, [], ◌++◌, length, take, min, All, Option, Some, None, Result, Ok, Err, Bool, true, false, IsTrue, IsFalse, ⊤}
 use Rattle.std.specs.List.{flat_map}
 use Rattle.std.specs.Io.KnownBytes.{Consumes, IsAtEnd}
 use Rattle.wire_codec.specs.declared.codec.error.PacketCodecError.TheVariants as codec
@@ -8,6 +8,14 @@ use Rattle.wire_packet_io.specs.declared.error.PacketIoError.TheVariants.{Io, Un
 use Rattle.wire_codec.specs.Framing.{max_payload}
 use Rattle.wire_codec.specs.Codec.{CodecState, first_id, input_of, Stands, DecodesFrom, DecodesPacket}
 use Rattle.wire_codec.specs.Runs.{RunsTo}
+
+-- what a call answers: a packet, that the input ended between two packets, or a refusal
+abbrev pub Answer : Type 0
+Answer = Result (Option (List ℕ)) PacketIoError
+
+-- the most bytes of one read
+abbrev pub read_size : ℕ
+read_size = 8192
 
 -- a reader at a codec: it is lost, or the codec stands at its buffers
 abbrev pub FitsAt : Bool → CodecState → Type 0
@@ -18,11 +26,10 @@ abbrev pub joined_reads : List (List ℕ) → List ℕ
 joined_reads reads = flat_map (λ bytes. bytes) reads
 
 -- what a call answers, from this state and with these bytes more, and what stands afterwards
-abbrev pub ReadsTo : {A : Type 0} → CodecState → List ℕ → Result (Option (Vec ℕ A)) PacketIoError
-    → CodecState → Type 0
+abbrev pub ReadsTo : CodecState → List ℕ → Answer → CodecState → Type 0
 ReadsTo before more (Ok (Some packet)) after =
     DecodesFrom (first_id before) (input_of before
-    ++ more) before.held before.limit (Ok true) after.id after.header after.unread packet.items
+    ++ more) before.held before.limit (Ok true) after.id after.header after.unread packet
     × (after.held ≡ [])
 -- the input ended between two packets
 ReadsTo before more (Ok None) after = RunsTo before more (Ok tt) [] after
@@ -39,8 +46,7 @@ ReadsTo before more (Err OutOfMemory) after = RunsTo before more (Err codec.OutO
 ReadsTo before more (Err WriteZero) after = ⊥
 
 -- the last read gave nothing, where the call says that the input ended
-abbrev pub SeesEnd : {A : Type 0} → Result (Option (Vec ℕ A)) PacketIoError → Option (List ℕ)
-    → Type 0
+abbrev pub SeesEnd : Answer → Option (List ℕ) → Type 0
 SeesEnd (Ok None) left = IsAtEnd left
 SeesEnd (Err UnexpectedEnd) left = IsAtEnd left
 SeesEnd other left = ⊤
@@ -60,9 +66,8 @@ CountsUp old new count = (count ≡ 0 → new ≡ old)
 
 -- a call of `next_packet` by a reader that isn't lost: its reads one by one, of which a last one
 -- may have given nothing
-pub record NextPacket {A : Type 0} (before : CodecState) (unread left : Option (List ℕ))
-    (old_reads new_reads : ℕ) (answer : Result (Option (Vec ℕ A)) PacketIoError)
-    (after : CodecState) : Type 0 where
+pub record NextPacket (before : CodecState) (unread left : Option (List ℕ))
+    (old_reads new_reads : ℕ) (answer : Answer) (after : CodecState) : Type 0 where
   pub reads : List (List ℕ)
   pub consumed : Consumes unread left (joined_reads reads)
   pub answers : ReadsTo before (joined_reads reads) answer after
@@ -71,7 +76,7 @@ pub record NextPacket {A : Type 0} (before : CodecState) (unread left : Option (
   pub waits : (j : ℕ) → j < length reads → WaitsAlone before (joined_reads (take j reads))
   pub counted : CountsUp old_reads new_reads (length reads)
   pub few : length reads ≤ most_reads before.limit
-  pub small : All (λ read. length read ≤ 8192) reads
+  pub small : All (λ read. length read ≤ read_size) reads
 
 -- a read failed, or memory for it was refused, and then none was made
 abbrev pub ReadFails : PacketIoError → ℕ → ℕ → Type 0
@@ -80,11 +85,10 @@ ReadFails OutOfMemory old_reads new_reads = new_reads ≡ old_reads
 ReadFails other old_reads new_reads = ⊥
 
 -- what one decode makes of what was read, and whether the reader is lost by it
-abbrev pub TakesPacket : {A : Type 0} → CodecState → Result (Option (Vec ℕ A)) PacketIoError → Bool
-    → CodecState → Type 0
+abbrev pub TakesPacket : CodecState → Answer → Bool → CodecState → Type 0
 TakesPacket before (Ok (Some packet)) lost after =
     DecodesFrom (first_id before) (input_of before) before.held before.limit (Ok true) after.id
-    after.header after.unread packet.items × (after.held ≡ []) × IsFalse lost
+    after.header after.unread packet × (after.held ≡ []) × IsFalse lost
 TakesPacket before (Ok None) lost after = DecodesPacket before (Ok false) after × IsFalse lost
 TakesPacket before (Err PacketTooLarge) lost after = DecodesPacket before (Err codec.PacketTooLarge)
     after × IsFalse lost
@@ -95,7 +99,7 @@ TakesPacket before (Err OutOfMemory) lost after = DecodesPacket before (Err code
 TakesPacket before (Err other) lost after = ⊥
 
 -- at the end of the input, with so many bytes unread and held
-abbrev pub EndsAt : {A : Type 0} → Result (Option (Vec ℕ A)) PacketIoError → ℕ → ℕ → Type 0
+abbrev pub EndsAt : Answer → ℕ → ℕ → Type 0
 EndsAt (Ok None) unread held = (unread ≡ 0) × (held ≡ 0)
 EndsAt (Err UnexpectedEnd) unread held = 0 < unread + held
 EndsAt other unread held = ⊥
@@ -105,3 +109,10 @@ abbrev pub WriteFails : PacketIoError → List ℕ → Type 0
 WriteFails (Io error) pending = ⊤
 WriteFails WriteZero pending = 0 < length pending
 WriteFails other pending = ⊥
+
+-- a writer of packets, as contracts see it
+pub record Writing (W : Type 0) : Type 0 where
+  -- the writer below
+  pub writer : W
+  -- the bytes that are still to be written
+  pub pending : List ℕ

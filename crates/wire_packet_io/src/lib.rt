@@ -2,6 +2,7 @@
 #![tactic(auto)]
 
 mod error;
+mod input;
 mod reader;
 mod writer;
 

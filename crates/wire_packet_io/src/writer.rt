@@ -9,25 +9,45 @@ ghost use Rattle.wire_packet_io.specs.PacketIo.{WriteFails};
 use crate::error::PacketIoError;
 use bytes::{Buf, BytesMut};
 use std::alloc::{Allocator, Global};
+use std::fmt::{self, Debug, Formatter};
 use std::io::Write;
+use std::marker::Model;
 use wire_codec::codec::PacketCodec;
 use wire_codec::codec::error::PacketCodecError;
 
 /// Frames packets, and writes them.
 ///
 /// The codec is handed in at each call, so that a reader and a writer can share one id.
+///
+/// Contracts see a `Writing`: the writer below, and the bytes that are still to be written.
 #[derive(Drop)]
 pub struct PacketWriter<W: Write, A: Allocator + Copy = Global> {
     writer: W,
     pending: BytesMut<A>,
 }
 
+impl<W: Write, A: Allocator + Copy> Model for PacketWriter<W, A> {
+    ghost use Rattle.wire_packet_io.specs.PacketIo.{Writing};
+
+    ghost Value = { Writing W };
+
+    ghost view = { λ p. record { writer = p.writer; pending = p.pending.items } };
+}
+
+impl<W: Write + Debug, A: Allocator + Copy> Debug for PacketWriter<W, A> {
+    fn fmt<V: fmt::Write>(&self, f: &mut Formatter<V>) -> fmt::Result {
+        f.debug_struct("PacketWriter")
+            .field("writer", &self.writer)
+            .field("pending", &self.pending.len())
+            .finish()
+    }
+}
+
 impl<W: Write, A: Allocator + Copy> PacketWriter<W, A> {
     /// A writer with nothing to write. It keeps the allocator.
     pub fn new(alloc: A, writer: W) -> Result<Self, PacketIoError>
         ensures made { IsOk result }
-        ensures writer { IfOk result (λ new. new.writer ≡ writer) }
-        ensures pending { IfOk result (λ new. new.pending.items ≡ []) }
+        ensures new { IfOk result (λ new. new ≡ record { writer = writer; pending = [] }) }
         ensures memory { IfErr result (λ error. error ≡ PacketIoError.OutOfMemory) }
     {
         Ok(PacketWriter {
@@ -38,7 +58,7 @@ impl<W: Write, A: Allocator + Copy> PacketWriter<W, A> {
 
     /// The bytes that are still to be written.
     pub fn pending(&self) -> &[u8]
-        ensures { result.now ≡ self.now.pending.items }
+        ensures { result.now ≡ self.now.pending }
     {
         self.pending.as_slice()
     }
@@ -57,8 +77,8 @@ impl<W: Write, A: Allocator + Copy> PacketWriter<W, A> {
         codec: &mut PacketCodec,
         packet: &mut T,
     ) -> Result<(), PacketIoError>
-        ensures appended { OnOk result (self.new.pending.items
-            ≡ self.old.pending.items ++ framing (expected_id codec.old) (T.unread packet.old)) }
+        ensures appended { OnOk result (self.new.pending
+            ≡ self.old.pending ++ framing (expected_id codec.old) (T.unread packet.old)) }
         ensures emptied { OnOk result (T.unread packet.new ≡ []) }
         ensures next { OnOk result (expected_id codec.new
             ≡ next_id (expected_id codec.old) (T.unread packet.old)) }
@@ -69,10 +89,11 @@ impl<W: Write, A: Allocator + Copy> PacketWriter<W, A> {
             (λ error. (error ≡ PacketIoError.PacketTooLarge)
             ⊎ (error ≡ PacketIoError.OutOfMemory)) }
         ensures err { OnErr result ((expected_id codec.new ≡ expected_id codec.old)
-            × (packet.new ≡ packet.old) × (self.new.pending.items ≡ self.old.pending.items)) }
+            × (packet.new ≡ packet.old) × (self.new.pending ≡ self.old.pending)) }
 
         ensures header { header_of codec.new ≡ header_of codec.old }
         ensures limit { codec.new.max_allowed_packet ≡ codec.old.max_allowed_packet }
+        ensures kept { T.kept packet.new ≡ T.kept packet.old }
         ensures writer { self.new.writer ≡ self.old.writer }
     {
         match codec.encode(packet, &mut self.pending) {
@@ -85,10 +106,10 @@ impl<W: Write, A: Allocator + Copy> PacketWriter<W, A> {
     /// Writes until nothing is pending, and flushes. After `Io` and `WriteZero` exactly the bytes
     /// that did not go out are pending, and the call may be made again.
     pub fn write_pending(&mut self) -> Result<(), PacketIoError>
-        ensures sent { (sent : List ℕ) × (self.old.pending.items ≡ sent ++ self.new.pending.items)
+        ensures sent { (sent : List ℕ) × (self.old.pending ≡ sent ++ self.new.pending)
             × Appends (W.contents self.old.writer) (W.contents self.new.writer) sent }
-        ensures ok { OnOk result (self.new.pending.items ≡ []) }
-        ensures errors { IfErr result (λ error. WriteFails error self.new.pending.items) }
+        ensures ok { OnOk result (self.new.pending ≡ []) }
+        ensures errors { IfErr result (λ error. WriteFails error self.new.pending) }
     {
         'writes: while !self.pending.is_empty() {
             match self.writer.write(self.pending.as_slice()) {

@@ -1,4 +1,5 @@
-use Rattle.std.proofs.Common.{◌≡◌, ℕ, List, [], ◌++◌, take, drop, refl, sym, ap, ◌∙◌, append_assoc, take-append-drop, rules}
+use Rattle.std.proofs.Common.{◌≡◌, ℕ, List, [], ◌++◌, take, drop, sym, ap, subst, ◌∙◌, append_assoc, take-append-drop, rules}
+use Rattle.std.specs.Io.KnownBytes.{Appends}
 use Rattle.std.proofs.KnownBytes.{Appends-nil, Appends-trans}
 use Rattle.wire_packet_io.proofs.writer.PacketWriter.write_pending.Goals as goal
 
@@ -9,12 +10,16 @@ taken_more all sent pending left count is rest =
     ∙ ap (λ (z : List ℕ). (sent ++ take count pending) ++ z) (sym rest)
 
 pub writes-init : goal.writes-init
-writes-init g c = ([], refl, Appends-nil _)
+writes-init g c = (
+  [],
+  sym (ap (λ z. z.pending) c.self.view_is),
+  subst (λ z. Appends (g.W.Write.contents z.writer) (g.W.Write.contents c.self.inside.writer) []) c.self.view_is (Appends-nil _),
+)
 
 pub writes-preserved : goal.writes-preserved
 writes-preserved g c =
     let inv = c.writes.invariant in
-    let pending = c.writes.self.pending.items in
+    let pending = c.writes.self-inside.pending.items in
     let count = c.in-Ok.count in
     let took = rw c.as_slice.ensures at c.in-Ok.ensures.bytes in
     (inv.0 ++ take count pending, taken_more _ inv.0 pending _ count inv.1 c.advance.ensures.items, Appends-trans _ _ _ inv.0 (take count pending) inv.2 took)

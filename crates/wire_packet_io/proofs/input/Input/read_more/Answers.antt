@@ -1,7 +1,7 @@
 use Rattle.std.proofs.Common.{◌≡◌, ℕ, List, take, length, arith, ap, sym, ◌∙◌, ◌+◌, ◌≤◌}
 use Rattle.std.proofs.lemmas.List.{length-take-le}
 use Rattle.wire_packet_io.proofs.PacketIoLemmas.{read_taken}
-use Rattle.wire_packet_io.proofs.reader.PacketReader.read_more.Goals as goal
+use Rattle.wire_packet_io.proofs.input.Input.read_more.Goals as goal
 
 pub returns-in-Ok-clause-ok : goal.returns-in-Ok-clause-ok
 returns-in-Ok-clause-ok g c =

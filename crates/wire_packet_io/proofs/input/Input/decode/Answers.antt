@@ -1,5 +1,5 @@
 use Rattle.std.proofs.Common.{◌∙◌, ap, refl}
-use Rattle.wire_packet_io.proofs.reader.PacketReader.next_decoded.Goals as goal
+use Rattle.wire_packet_io.proofs.input.Input.decode.Goals as goal
 
 pub returns-in-Err-PacketTooLarge-clause-takes : goal.returns-in-Err-PacketTooLarge-clause-takes
 returns-in-Err-PacketTooLarge-clause-takes g c =

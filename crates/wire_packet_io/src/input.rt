@@ -1,0 +1,256 @@
+//! What is read, and the loop that finds a packet in it.
+
+ghost use Rattle.std.specs.Prelude.{Some, ◌≡◌, ℕ, ◌+◌, ◌-◌, ◌^◌, ◌≤◌, ◌↔◌, List, ◌++◌, length, min, drop, Ok, Err, IfOk, OnErr, OnOk, IfErr, IsTrue, IsFalse};
+ghost use Rattle.std.specs.Io.KnownBytes.{Consumes, IsAtEnd, Keeps};
+ghost use Rattle.wire_codec.specs.Codec.{codec_state, Stands};
+ghost use Rattle.wire_codec.specs.Delivery.{chunk_len};
+ghost use Rattle.wire_codec.specs.InPlace.{front_payload as payload_in_front};
+ghost use Rattle.wire_packet_io.specs.PacketIo.{NextPacket, ReadFails, TakesPacket, EndsAt, FitsAt, read_size};
+ghost use Rattle.wire_packet_io.specs.Lent.{IsThere, IsApart, found_in, answer_over, unread_behind};
+
+use crate::error::PacketIoError;
+use bytes::BytesMut;
+use std::alloc::Allocator;
+use std::io::Read;
+use std::mem;
+use wire_codec::codec::PacketCodec;
+use wire_codec::codec::error::PacketCodecError;
+use wire_codec::codec::header::{HEADER_LEN, Header};
+use wire_const::MAX_PAYLOAD_LEN;
+
+// The most bytes of one read.
+const READ_SIZE: usize = 8192;
+
+/// A packet that was found.
+#[derive(Debug, Drop)]
+pub enum Found<A: Allocator + Copy> {
+    /// It lies in one chunk at the front of what was read, and the codec is behind it.
+    InFront,
+    /// It was put together.
+    Apart(Vec<u8, A>),
+}
+
+/// A reader, with what was read and isn't decoded, and the full chunks of an unfinished packet.
+#[derive(Drop)]
+pub struct Input<R: Read, A: Allocator + Copy> {
+    pub reader: R,
+    pub src: BytesMut<A>,
+    pub dst: Vec<u8, A>,
+    pub lost: bool,
+    pub reads: u64,
+}
+
+impl<R: Read, A: Allocator + Copy> Input<R, A> {
+    // One read of at most 8192 bytes. The answer is how many came.
+    fn read_more(&mut self) -> Result<usize, PacketIoError>
+        ensures ok { IfOk result (λ n. (piece : List ℕ) × (length piece ≡ n)
+            × (self.new.src.items ≡ self.old.src.items ++ piece)
+            × Consumes (R.remaining self.old.reader) (R.remaining self.new.reader) piece) }
+        ensures small { IfOk result (λ n. n ≤ read_size) }
+        ensures end { IfOk result (λ n. n ≡ 0 → IsAtEnd (R.remaining self.new.reader)) }
+        ensures err { OnErr result (self.new.src.items ≡ self.old.src.items) }
+        ensures kept { OnErr result (Keeps (R.remaining self.old.reader)
+            (R.remaining self.new.reader)) }
+        ensures read { OnOk result (self.new.reads ≡ min (self.old.reads + 1) (2 ^ 64 - 1)) }
+        ensures failed { IfErr result (λ error. ReadFails error self.old.reads self.new.reads) }
+        ensures dst { self.new.dst ≡ self.old.dst }
+        ensures lost { self.new.lost ≡ self.old.lost }
+    {
+        if self.src.reserve(READ_SIZE).is_err() {
+            return Err(PacketIoError::OutOfMemory);
+        }
+        let len = self.src.len();
+        self.src.advance_mut(READ_SIZE);
+        self.reads = self.reads.saturating_add(1);
+        match self.reader.read(&mut self.src.as_mut_slice()[len..]) {
+            Ok(count) => {
+                self.src.truncate(len + count);
+                Ok(count)
+            }
+            Err(error) => {
+                self.src.truncate(len);
+                Err(PacketIoError::Io(error))
+            }
+        }
+    }
+
+    // Room for two chunks, where a full one has come whole and nothing is held: so the vector of a
+    // packet of two chunks grows once. A refusal is passed over, for `decode` asks for what it
+    // needs.
+    fn make_room(&mut self, limit: usize)
+        ensures held { self.new.dst.items ≡ self.old.dst.items }
+        ensures rest { self.new ≡ record self.old { dst = self.new.dst } }
+    {
+        if self.src.len() < HEADER_LEN + MAX_PAYLOAD_LEN || !self.dst.is_empty() {
+            return;
+        }
+        if let Some(header) = Header::read(self.src.as_slice()) {
+            if header.len == MAX_PAYLOAD_LEN {
+                let _ = self.dst.reserve(limit.min(2 * MAX_PAYLOAD_LEN));
+            }
+        }
+    }
+
+    // Decodes what was read.
+    #[inline(always)]
+    fn decode(&mut self, codec: &mut PacketCodec) -> Result<Option<Found<A>>, PacketIoError>
+        requires stands { Stands (codec_state codec.old self.old.src.items self.old.dst.items) }
+        requires found { IsFalse self.old.lost }
+        ensures takes { let state = codec_state codec.new self.new.src.items self.new.dst.items in
+            TakesPacket (codec_state codec.old self.old.src.items self.old.dst.items)
+            (answer_over result self.new.src.items) self.new.lost state }
+        ensures apart { IsApart (found_in result) }
+        ensures reader { self.new.reader ≡ self.old.reader }
+        ensures reads { self.new.reads ≡ self.old.reads }
+        ensures limit { codec.new.max_allowed_packet ≡ codec.old.max_allowed_packet }
+    {
+        self.make_room(codec.max_allowed_packet);
+        match codec.decode(&mut self.src, &mut self.dst) {
+            Ok(true) => {
+                let alloc = *self.dst.allocator();
+                let packet = mem::replace(&mut self.dst, Vec::new(alloc));
+                Ok(Some(Found::Apart(packet)))
+            }
+            Ok(false) => Ok(None),
+            Err(PacketCodecError::PacketTooLarge) => Err(PacketIoError::PacketTooLarge),
+            Err(PacketCodecError::PacketsOutOfSync) => {
+                self.lost = true;
+                Err(PacketIoError::PacketsOutOfSync)
+            }
+            Err(PacketCodecError::OutOfMemory) => Err(PacketIoError::OutOfMemory),
+            Err(PacketCodecError::Io(error)) => Err(PacketIoError::Io(error)),
+        }
+    }
+
+    // Finds a packet in what was read: where it lies, where `lends` says so and it lies whole in
+    // one chunk.
+    #[inline(always)]
+    fn find(
+        &mut self,
+        codec: &mut PacketCodec,
+        lends: bool,
+    ) -> Result<Option<Found<A>>, PacketIoError>
+        requires stands { Stands (codec_state codec.old self.old.src.items self.old.dst.items) }
+        requires found { IsFalse self.old.lost }
+        ensures takes { let unread = unread_behind (found_in result) self.new.src.items in
+            TakesPacket (codec_state codec.old self.old.src.items self.old.dst.items)
+            (answer_over result self.new.src.items) self.new.lost
+            (codec_state codec.new unread self.new.dst.items) }
+        ensures there { IsThere (found_in result) self.new.src.items }
+        ensures apart { IsFalse lends → IsApart (found_in result) }
+        ensures reader { self.new.reader ≡ self.old.reader }
+        ensures reads { self.new.reads ≡ self.old.reads }
+        ensures limit { codec.new.max_allowed_packet ≡ codec.old.max_allowed_packet }
+    {
+        if lends && codec.front_packet(&self.src, self.dst.as_slice()).is_some() {
+            codec.accept_front(&self.src);
+            return Ok(Some(Found::InFront));
+        }
+        self.decode(codec)
+    }
+
+    // What the end of the input means here.
+    fn at_end(&self) -> Result<Option<Found<A>>, PacketIoError>
+        ensures ends { EndsAt (answer_over result self.now.src.items) (length self.now.src.items)
+            (length self.now.dst.items) }
+        ensures none { IsApart (found_in result) }
+    {
+        if self.src.is_empty() && self.dst.is_empty() {
+            Ok(None)
+        } else {
+            Err(PacketIoError::UnexpectedEnd)
+        }
+    }
+}
+
+impl<R: Read, A: Allocator + Copy> Input<R, A> {
+    /// The next packet, after as many reads as it needs; `None` where the input ends between two
+    /// packets. Where `lends` says so, one that lies whole in one chunk is left where it lies.
+    pub(crate) fn next(
+        &mut self,
+        codec: &mut PacketCodec,
+        lends: bool,
+    ) -> Result<Option<Found<A>>, PacketIoError>
+        requires stands { Stands (codec_state codec.old self.old.src.items self.old.dst.items) }
+        requires found { IsFalse self.old.lost }
+        ensures next { let unread = unread_behind (found_in result) self.new.src.items in
+            NextPacket (codec_state codec.old self.old.src.items self.old.dst.items)
+            (R.remaining self.old.reader) (R.remaining self.new.reader)
+            self.old.reads self.new.reads (answer_over result self.new.src.items)
+            (codec_state codec.new unread self.new.dst.items) }
+        ensures there { IsThere (found_in result) self.new.src.items }
+        ensures apart { IsFalse lends → IsApart (found_in result) }
+        ensures fits { let unread = unread_behind (found_in result) self.new.src.items in
+            FitsAt self.new.lost (codec_state codec.new unread self.new.dst.items) }
+        ensures loses { IsTrue self.new.lost ↔ (result ≡ Err PacketIoError.PacketsOutOfSync) }
+        ensures limit { codec.new.max_allowed_packet ≡ codec.old.max_allowed_packet }
+    {
+        'reads: loop {
+            match self.find(codec, lends) {
+                Ok(Some(found)) => return Ok(Some(found)),
+                Ok(None) => {}
+                Err(error) => return Err(error),
+            }
+            match self.read_more() {
+                Ok(0) => return self.at_end(),
+                Ok(_) => {}
+                Err(error) => return Err(error),
+            }
+        }
+    }
+
+    /// Whether `next` can go on with this codec, where the bytes behind these are the unread ones:
+    /// it stands at them and at what is held, or the reader is lost.
+    pub(crate) fn fits(&self, codec: &PacketCodec, unread: &[u8]) -> bool
+        ensures { IsTrue result ↔ FitsAt self.now.lost
+            (codec_state codec.now unread.now self.now.dst.items) }
+    {
+        self.lost || codec.stands_before(unread, self.dst.as_slice())
+    }
+
+    /// Drops the chunk in front. It asks that it has come whole.
+    pub(crate) fn skip_front(&mut self)
+        requires { 4 + chunk_len self.old.src.items ≤ length self.old.src.items }
+        ensures skipped { self.new.src.items
+            ≡ drop (4 + chunk_len self.old.src.items) self.old.src.items }
+        ensures rest { self.new ≡ record self.old { src = self.new.src } }
+    {
+        if let Some(header) = Header::read(self.src.as_slice()) {
+            self.src.advance(HEADER_LEN + header.len);
+        }
+    }
+}
+
+// The chunk in front, its payload and what follows it, where it has come whole.
+fn split_front(src: &[u8]) -> (&[u8], &[u8])
+    ensures payload { 4 + chunk_len src.now ≤ length src.now
+        → result.0.now ≡ payload_in_front src.now }
+    ensures rest { 4 + chunk_len src.now ≤ length src.now
+        → result.1.now ≡ drop (4 + chunk_len src.now) src.now }
+{
+    match Header::read(src) {
+        Some(header) if header.len <= src.len() - HEADER_LEN => {
+            (
+                &src[HEADER_LEN..HEADER_LEN + header.len],
+                &src[HEADER_LEN + header.len..],
+            )
+        }
+        _ => (&[], src),
+    }
+}
+
+/// The payload of the chunk in front, where it has come whole.
+pub(crate) fn front_payload(src: &[u8]) -> &[u8]
+    ensures { 4 + chunk_len src.now ≤ length src.now
+        → result.now ≡ payload_in_front src.now }
+{
+    split_front(src).0
+}
+
+/// What follows the chunk in front, where it has come whole.
+pub(crate) fn behind_front(src: &[u8]) -> &[u8]
+    ensures { 4 + chunk_len src.now ≤ length src.now
+        → result.now ≡ drop (4 + chunk_len src.now) src.now }
+{
+    split_front(src).1
+}
