@@ -14,11 +14,16 @@ use std::alloc::Allocator;
 use wire_buf::error::WireError;
 use wire_buf::io::{ParseBuf, parse_packet_in};
 pub use wire_codec::laws::{
-    appended_run, between_packets, chunks_counted, empty_goes_on, encoded_first, equal_limits,
-    framed_length, id_after_append, joined_limited_runs, joined_runs, joined_splits, nothing_read,
-    one_delivery, one_limited_delivery, one_run, run_goes_on, stream_append, unique_framing,
+    aligned_goes_on, appended_run, between_packets, bounded_delivery, bounded_limited_delivery,
+    chunks_counted, empty_goes_on, encoded_first, equal_limits, framed_length, id_after_append,
+    joined_limited_runs, joined_runs, joined_splits, nothing_read, one_delivery,
+    one_limited_delivery, one_run, run_goes_on, stream_append, unique_framing,
 };
 use wire_repr::wire::Wire;
+pub use wire_span::laws::{
+    joined_renumberings, joined_spans, nothing_came, one_spanning, renumbered_stream, spans_begin,
+    spans_deliver, spans_end, spans_follow, spans_stop,
+};
 
 /// Reads a value from the front of a payload, as `parse_packet_in` does. Where what a value was
 /// written as stands at the front, and the value is good under the context and before what follows,

@@ -19,16 +19,16 @@ pub mod misc {
 
     /// Numbers, texts and constants as fields of packets, and fields in a row and in lists.
     pub mod raw {
-        pub use wire_field::converted::{Const, IntoNumber, RawConst, RawFlags};
+        pub use wire_field::converted::{Const, IntoNumber, Numbered, RawConst, RawFlags};
         pub use wire_field::raw_seq::RawSeq;
         pub use wire_field::row::{Both, Either, Slice};
         pub use wire_repr::constant::Skip;
         pub use wire_repr::int::RawInt;
         pub use wire_repr::text::RawBytes;
 
-        /// What was written is read back, as functions.
+        /// What was written is read back, and how wrappers are compared, as functions.
         pub mod field_laws {
-            pub use wire_field::field_laws::{converted, lists, rows};
+            pub use wire_field::field_laws::{compared, converted, lists, rows};
             pub use wire_repr::field_laws::{
                 constants, number_back, number_comes_back, numbers, parse_back, text_comes_back,
                 texts,
@@ -88,6 +88,7 @@ pub mod proto {
             ChunkDecoder, ChunkInfo, PacketCodec, PacketDst, Visit, deliver, deliver_each,
             deliver_limited, encode_value, error, packet_to_chunks,
         };
+        pub use wire_span::{Renumber, Span, SpanDecoder, SpanError, VisitSpan, visit_spans};
     }
 
     /// Packets from readers, and to writers.

@@ -1,0 +1,3 @@
+pub mod RenumberLemmas
+pub mod SpanLemmas
+pub mod MixLemmas
