@@ -6,12 +6,13 @@ ghost use Rattle.mysql_wire_commands.specs.Reads.{EachAskedFor};
 
 use crate::run::{Memory, each_goes, run};
 use mysql_wire_commands::noted::{NotedRead, OneRead};
-use mysql_wire_commands::unframe::run_unframe_limited;
+use mysql_wire_commands::unframe::{run_unframe, run_unframe_limited};
 use refusing::NEVER;
 use std::alloc::{AllocError, Global};
 use std::io;
-use std::io::Read;
+use std::io::{BufReader, Cursor, Read};
 use std::test::Fail;
+use test_support::facts::same;
 
 // Two chunks of one packet.
 const INPUT: &[u8] = b"\x03\0\0\0123\0\0\0\x01";
@@ -135,4 +136,21 @@ fn are_asked(memory: Memory<'_>, step: usize) -> bool {
 #[test]
 fn unframe_asks_for_its_step_and_not_past_its_place(rt: HostRuntime) -> Result<(), Fail> {
     each_goes(rt.alloc(), STEPS, are_asked)
+}
+
+fn is_unframed<R: NotedRead + Drop>(alloc: Global, mut input: R) -> bool {
+    let mut output: Vec<u8> = Vec::new(alloc);
+    let status = run_unframe(alloc, 4, 9, &mut input, &mut output);
+    (status == 0) & same(output.as_slice(), b"3 313233\n0 -\nrest 0\n")
+}
+
+#[test]
+fn readers_of_std_go_in_as_they_are(rt: HostRuntime) -> Result<(), Fail> {
+    let alloc = rt.alloc();
+    assert!(rt; is_unframed(alloc, INPUT));
+    assert!(rt; is_unframed(alloc, &mut INPUT));
+    assert!(rt; is_unframed(alloc, Cursor::new(INPUT)));
+    assert!(rt; is_unframed(alloc, INPUT.take(100)));
+    assert!(rt; is_unframed(alloc, BufReader::new(alloc, INPUT)?));
+    Ok(())
 }

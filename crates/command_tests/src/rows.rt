@@ -3,7 +3,7 @@
 ghost use Rattle.std.specs.Prelude.{◌<◌};
 
 use crate::run::{Memory, each_goes, end_of};
-use mysql_wire_commands::noted::{NotedRead, Unnoted};
+use mysql_wire_commands::noted::NotedRead;
 use mysql_wire_commands::unframe::{run_unframe, run_unframe_limited};
 use refusing::NEVER;
 use std::alloc::{Allocator, Global};
@@ -238,7 +238,7 @@ fn is_same_by_each_step(alloc: Global, row: Stream<'_>) -> bool {
     let (limit, change, bytes, wanted, text) = row;
     let mut all = true;
     for step in 1..16usize {
-        let mut input = Unnoted(bytes);
+        let mut input = bytes;
         let mut output = Vec::new(alloc);
         all &= unframe(alloc, step, limit, change, &mut input, &mut output) == wanted;
         all &= same(output.as_slice(), text);

@@ -1,13 +1,11 @@
 -- One read after another.
-use Rattle.std.proofs.Common.{◌≡◌, ◌⊎◌, ◌+◌, ◌-◌, ◌<◌, ◌≤◌, ℕ, List, [], ◌∷◌, ◌++◌, ◌∙◌, All, Option, Some, None, refl, sym, ap, subst, arith, inl, inr, append_assoc, append-nil}
+use Rattle.std.proofs.Common.{◌≡◌, ◌⊎◌, ◌+◌, ◌-◌, ◌<◌, ◌≤◌, ℕ, List, [], ◌∷◌, ◌++◌, ◌∙◌, All, Option, Some, None, IfSome, length, take, take_all, refl, sym, ap, subst, arith, inl, inr, append_assoc, append-nil}
+use Rattle.std.proofs.lemmas.Bool.{cases_lt}
+use Rattle.std.proofs.lemmas.List.{take-append-le, take_at, length-append}
 use Rattle.std.proofs.lemmas.List.Elements.{All-nil, All-cons}
+use Rattle.std.specs.Io.KnownBytes.{Consumes}
 use Rattle.mysql_wire_commands.specs.declared.noted.OneRead.{OneRead}
-use Rattle.mysql_wire_commands.specs.Reads.{Makes, AskedFor, EachAskedFor, AsksUpTo, AsksStep}
-
--- how many bytes came
-abbrev pub came : List OneRead → ℕ
-came [] = 0
-came (read ∷ reads) = read.came + came reads
+use Rattle.mysql_wire_commands.specs.Reads.{Makes, AskedFor, EachAskedFor, AsksUpTo, AsksStep, came, ReadsWhile}
 
 -- so far so many bytes came
 pub record Asking (step at place : ℕ) (old new : Option (List OneRead)) : Type 0 where
@@ -90,3 +88,57 @@ asked_step step old new asked = record {
   makes = asked.makes;
   each = each_step step 0 asked.made asked.each;
 }
+
+-- so far this held before each read, and so many bytes came
+pub record Waited (waits : List ℕ → Type 0) (place : ℕ) (old new : Option (List OneRead)) (unread : Option (List ℕ)) : Type 0 where
+  pub made : List OneRead
+  pub makes : Makes old new made
+  pub each : IfSome unread (λ bytes. (index : ℕ) → index < length made → waits (take (came (take index made)) bytes))
+  pub place_is : came made ≡ place
+
+-- no read yet
+pub waited_start : (waits : List ℕ → Type 0) (old : Option (List OneRead)) (unread : Option (List ℕ)) → Waited waits 0 old old unread
+waited_start waits old None = record { made = []; makes = makes_nothing old; each = tt; place_is = refl }
+waited_start waits old (Some bytes) = record { made = []; makes = makes_nothing old; each = λ index none. absurd (omega arith); place_is = refl }
+
+-- before one read more, behind which no other has come
+each_more_waited : (waits : List ℕ → Type 0) (made : List OneRead) (read : OneRead) (bytes input rest : List ℕ)
+    → ((index : ℕ) → index < length made → waits (take (came (take index made)) bytes))
+    → came made ≡ length input → bytes ≡ input ++ rest → waits input
+    → (index : ℕ) → index < length (made ++ read ∷ []) → waits (take (came (take index (made ++ read ∷ []))) bytes)
+each_more_waited waits made read bytes input rest each place is now index inside =
+    elim (cases_lt index (length made)) [
+      | inl before ↦
+          subst (λ (z : List OneRead). waits (take (came z) bytes)) (sym (take-append-le index made (read ∷ []) (omega arith))) (each index before)
+      | inr last ↦
+          let here : index ≡ length made = let len = length-append made (read ∷ []) in omega arith in
+          let all : take index (made ++ read ∷ []) ≡ made = take_at made (read ∷ []) index (sym here) in
+          let front : take (came made) bytes ≡ input = ap (λ (z : List ℕ). take (came made) z) is ∙ take_at input rest (came made) (sym place) in
+          subst (λ (z : List OneRead). waits (take (came z) bytes)) (sym all) (subst waits (sym front) now)
+    ]
+
+pub waited_more : (waits : List ℕ → Type 0) (place : ℕ) (input : List ℕ) (old new later : Option (List OneRead)) (unread left : Option (List ℕ)) (read : OneRead)
+    → Waited waits place old new unread → place ≡ length input → Consumes unread left input → waits input → Makes new later (read ∷ [])
+    → Waited waits (place + read.came) old later unread
+waited_more waits place input old new later None left read so_far is consumed now makes = record {
+  made = so_far.made ++ read ∷ [];
+  makes = makes_more old new later so_far.made (read ∷ []) so_far.makes makes;
+  each = tt;
+  place_is = came_more so_far.made read ∙ ap (λ (n : ℕ). n + read.came) so_far.place_is;
+}
+waited_more waits place input old new later (Some bytes) None read so_far is consumed now makes = absurd consumed
+waited_more waits place input old new later (Some bytes) (Some rest) read so_far is consumed now makes = record {
+  made = so_far.made ++ read ∷ [];
+  makes = makes_more old new later so_far.made (read ∷ []) so_far.makes makes;
+  each = each_more_waited waits so_far.made read bytes input rest so_far.each (so_far.place_is ∙ is) consumed now;
+  place_is = came_more so_far.made read ∙ ap (λ (n : ℕ). n + read.came) so_far.place_is;
+}
+
+pub waited : (waits : List ℕ → Type 0) (place : ℕ) (old new : Option (List OneRead)) (unread : Option (List ℕ)) → Waited waits place old new unread → ReadsWhile waits old new unread
+waited waits place old new unread so_far = record { made = so_far.made; makes = so_far.makes; each = so_far.each }
+
+-- and so where what holds says something else
+pub while_alike : (waits other : List ℕ → Type 0) (old new : Option (List OneRead)) (unread : Option (List ℕ)) → ((front : List ℕ) → waits front → other front)
+    → ReadsWhile waits old new unread → ReadsWhile other old new unread
+while_alike waits other old new None gives told = record { made = told.made; makes = told.makes; each = tt }
+while_alike waits other old new (Some bytes) gives told = record { made = told.made; makes = told.makes; each = λ index inside. gives _ (told.each index inside) }

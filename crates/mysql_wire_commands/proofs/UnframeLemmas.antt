@@ -13,7 +13,7 @@ use Rattle.wire_codec.specs.Codec.{CodecState, open_id, first_id, input_of}
 use Rattle.wire_codec.specs.Limited.{Limits, framed_size, place_after, DeliversUnder}
 use Rattle.wire_codec.specs.LimitedRuns.{run_limits, limited_bytes, WaitsUnder}
 use Rattle.wire_codec.specs.GoingOn.{GoesOn, RunsOn}
-use Rattle.wire_codec.specs.Runs.{RunsTo}
+use Rattle.wire_codec.specs.Runs.{RunsTo, WaitsFrom}
 use Rattle.wire_codec.specs.Laws.{JoinedLimitedRuns, EmptyGoesOn, EqualLimits, FramedLength, NothingRead, empty_state}
 use Rattle.mysql_wire_commands.specs.Texts.{payload_line}
 use Rattle.std.specs.Result.{IfOk}
@@ -318,9 +318,15 @@ same_both : (b : Bool) (n : ℕ) → (if b then n else n) ≡ n
 same_both true n = refl
 same_both false n = refl
 
-one_limit : (limit place : ℕ) → run_limits (empty_state 0 limit) [] place ≡ place_limits limit limit 0 place
+pub one_limit : (limit place : ℕ) → run_limits (empty_state 0 limit) [] place ≡ place_limits limit limit 0 place
 one_limit limit place =
     ap (λ (n : ℕ). Some n) (same_both (nat_lt place (length (input_of (empty_state 0 limit)))) limit ∙ sym (same_both (nat_lt place 0) limit))
+
+pub waits_alike : EqualLimits → NothingRead → (limit : ℕ) (input : List ℕ) → WaitsUnder (run_limits (empty_state 0 limit) []) 0 input [] → WaitsFrom 0 input [] limit
+unfolding max_payload
+waits_alike equal nothing limit input (payloads, unfinished, rest, delivered) =
+    let empty : RunsTo (empty_state 0 limit) [] (Ok tt) [] (empty_state 0 limit) = nothing 0 limit (omega arith) in
+    (payloads, unfinished, rest, (equal (empty_state 0 limit) [] input payloads Waiting unfinished rest empty.2 (All-nil (λ (piece : ℕ × Bor (List ℕ)). piece.0 ≡ limit))).0 delivered)
 
 unframed_alike : EqualLimits → NothingRead → (limit : ℕ) (input : List ℕ) (status : ℕ) (text : List ℕ)
     → UnframedUnder (run_limits (empty_state 0 limit) []) input status text → Unframed limit input status text

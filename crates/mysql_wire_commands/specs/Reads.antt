@@ -1,5 +1,5 @@
 -- What reads are asked for.
-use Rattle.std.specs.Prelude.{◌≡◌, ◌⊎◌, ◌+◌, ◌<◌, ◌≤◌, ℕ, List, [], ◌∷◌, ◌++◌, ⊤, All, Option, Some, IfSome}
+use Rattle.std.specs.Prelude.{◌≡◌, ◌⊎◌, ◌+◌, ◌<◌, ◌≤◌, ℕ, List, [], ◌∷◌, ◌++◌, length, take, ⊤, All, Option, Some, IfSome}
 use Rattle.mysql_wire_commands.specs.declared.noted.OneRead.{OneRead}
 
 -- where all reads are known, they are those known before, and these behind them
@@ -33,3 +33,17 @@ pub record AsksStep (step : ℕ) (old new : Option (List OneRead)) : Type 0 wher
   pub made : List OneRead
   pub makes : Makes old new made
   pub each : All (λ read. read.asked ≡ step) made
+
+-- how many bytes came by these reads
+abbrev pub came : List OneRead → ℕ
+came [] = 0
+came (read ∷ reads) = read.came + came reads
+
+-- where a reader tells its bytes, each read that was made since was made where this holds of the
+-- bytes that had come before it
+pub record ReadsWhile (waits : List ℕ → Type 0) (old new : Option (List OneRead))
+    (unread : Option (List ℕ)) : Type 0 where
+  pub made : List OneRead
+  pub makes : Makes old new made
+  pub each : IfSome unread (λ bytes. (index : ℕ) → index < length made
+      → waits (take (came (take index made)) bytes))

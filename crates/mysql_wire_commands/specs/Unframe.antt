@@ -8,9 +8,11 @@ use Rattle.wire_codec.specs.Codec.{CodecState, codec_state, expected_id, first_i
 use Rattle.wire_codec.specs.Limited.{Limits, place_after, DeliversUnder}
 use Rattle.wire_codec.specs.LimitedRuns.{WaitsUnder}
 use Rattle.wire_codec.specs.GoingOn.{GoesOn}
+use Rattle.mysql_wire_commands.specs.declared.noted.OneRead.{OneRead}
 use Rattle.mysql_wire_commands.specs.declared.unframe.Verdict.{Verdict}
 use Rattle.mysql_wire_commands.specs.declared.unframe.Verdict.TheVariants as verdict
 use Rattle.mysql_wire_commands.specs.declared.unframe.Run.{Run}
+use Rattle.mysql_wire_commands.specs.Reads.{ReadsWhile}
 use Rattle.mysql_wire_commands.specs.Texts.{payload_line, rest_line}
 
 -- a line for each packet
@@ -95,6 +97,14 @@ abbrev pub UnframeEndsOver : ℕ → ℕ → ℕ → ℕ → Option (List ℕ) �
 UnframeEndsOver limit later at status unread left written now =
     (limits : Limits) → ((place : ℕ) → limits place ≡ place_limits limit later at place)
     → UnframeUnderEnds limits at status unread left written now
+
+-- no byte was asked for behind a fault: each read was made where the bytes before it only wait,
+-- under all limits that are the same byte by byte
+abbrev pub StopsOver : ℕ → ℕ → ℕ → Option (List OneRead) → Option (List OneRead)
+    → Option (List ℕ) → Type 0
+StopsOver limit later at old new unread =
+    (limits : Limits) → ((place : ℕ) → limits place ≡ place_limits limit later at place)
+    → ReadsWhile (λ front. WaitsUnder limits 0 front []) old new unread
 
 -- so far these bytes were read and this text was written, and the codec waits for more
 pub record Unframing (limits : Limits) (at : ℕ) (state : CodecState) (input text : List ℕ) :

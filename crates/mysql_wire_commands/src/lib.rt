@@ -9,5 +9,6 @@ pub mod noted;
 mod output;
 pub mod reframe;
 pub mod status;
+mod std_readers;
 pub mod unframe;
 pub mod words;

@@ -30,11 +30,11 @@ fn send<A: Allocator + Copy, W: Write>(
     to: &mut PacketWriter<W, A>,
     packet: &[u8],
 ) -> Result<(), Stop>
-    requires idle { to.old.pending.items ≡ [] }
+    requires idle { to.old.pending ≡ [] }
     requires fits { length packet.now ≤ encoder.old.max_allowed_packet }
     ensures sent { OnOk result (Appends (W.contents to.old.writer) (W.contents to.new.writer)
         (framing (expected_id encoder.old) packet.now)) }
-    ensures idle { OnOk result (to.new.pending.items ≡ []) }
+    ensures idle { OnOk result (to.new.pending ≡ []) }
     ensures next { OnOk result
         (expected_id encoder.new ≡ next_id (expected_id encoder.old) packet.now) }
     ensures limit { encoder.new.max_allowed_packet ≡ encoder.old.max_allowed_packet }
@@ -57,9 +57,9 @@ fn copy_packets<A: Allocator + Copy, R: Read, W: Write>(
     from: &mut PacketReader<R, A>,
     to: &mut PacketWriter<W, A>,
 ) -> Result<u8, Stop>
-    requires reader { StartsReading from.old.src.items from.old.dst.items from.old.lost }
-    requires collected { IsNone from.old.collected }
-    requires writer { to.old.pending.items ≡ [] }
+    requires reader { StartsReading from.old.unread from.old.held from.old.is_lost }
+    requires lent { IsNone from.old.lent }
+    requires writer { to.old.pending ≡ [] }
     ensures { IfOk result (λ status. ReframeEnds limit status
         (R.remaining from.old.reader) (R.remaining from.new.reader)
         (W.contents to.old.writer) (W.contents to.new.writer)) }

@@ -1,6 +1,6 @@
 //! `unframe STEP LIMIT [LATER AT]`: the packets of the input, as they come.
 
-ghost use Rattle.std.specs.Prelude.{◌≡◌, ◌<◌, ◌≤◌, ◌⊎◌, ◌-◌, ◌++◌, ℕ, List, length, OnOk, IfOk, string_bytes, vec_len};
+ghost use Rattle.std.specs.Prelude.{◌≡◌, ◌<◌, ◌≤◌, ◌⊎◌, ◌-◌, ◌++◌, ℕ, List, [], length, OnOk, IfOk, string_bytes, vec_len};
 ghost use Rattle.mysql_wire_commands.specs.declared.unframe.Verdict.TheVariants.{Waits};
 ghost use Rattle.wire_codec.specs.Runs.{payloads};
 
@@ -169,11 +169,12 @@ fn piece_text<A: Allocator + Copy>(
     Ok(text)
 }
 
-ghost use Rattle.mysql_wire_commands.specs.Unframe.{StartsRun, TakesPiece, UnframeEnds, UnframeEndsOver, UnframeLimitedEnds, bytes_left, ending_line, ending_status, next_limit, run_state};
-ghost use Rattle.mysql_wire_commands.specs.Reads.{AsksStep, AsksUpTo};
+ghost use Rattle.mysql_wire_commands.specs.Unframe.{StartsRun, StopsOver, TakesPiece, UnframeEnds, UnframeEndsOver, UnframeLimitedEnds, bytes_left, ending_line, ending_status, next_limit, place_limits, run_state};
+ghost use Rattle.mysql_wire_commands.specs.Reads.{AsksStep, AsksUpTo, ReadsWhile};
 ghost use Rattle.std.specs.Io.KnownBytes.{Appends};
 ghost use Rattle.wire_codec.specs.Delivery.{Waiting};
-ghost use Rattle.wire_codec.specs.LimitedRuns.{Aligned};
+ghost use Rattle.wire_codec.specs.LimitedRuns.{Aligned, WaitsUnder};
+ghost use Rattle.wire_codec.specs.Runs.{WaitsFrom};
 
 // Takes the packets of one more piece, which comes under one limit, and writes their lines.
 fn take_piece<A: Allocator + Copy, W: Write>(
@@ -232,6 +233,9 @@ pub fn run_unframe<A: Allocator + Copy, R: NotedRead, W: Write>(
     ensures ended { UnframeEnds limit result (R.remaining input.old) (R.remaining input.new)
         (W.contents output.old) (W.contents output.new) }
     ensures asked { AsksStep step (R.reads input.old) (R.reads input.new) }
+    // Each read is made where what came before it only waits.
+    ensures stops { ReadsWhile (λ front. WaitsFrom 0 front [] limit)
+        (R.reads input.old) (R.reads input.new) (R.remaining input.old) }
 {
     laws::nothing_read();
     laws::equal_limits();
@@ -255,6 +259,8 @@ pub fn run_unframe_limited<A: Allocator + Copy, R: NotedRead, W: Write>(
         (R.remaining input.old) (R.remaining input.new)
         (W.contents output.old) (W.contents output.new) }
     ensures asked { AsksUpTo step at (R.reads input.old) (R.reads input.new) }
+    ensures stops { ReadsWhile (λ front. WaitsUnder (place_limits limit later at) 0 front [])
+        (R.reads input.old) (R.reads input.new) (R.remaining input.old) }
 {
     exit_status(unframe(alloc, step, limit, later, at, input, output))
 }
@@ -276,6 +282,8 @@ fn take_pieces<A: Allocator + Copy, R: NotedRead, W: Write>(
         (R.remaining input.old) (R.remaining input.new)
         (W.contents output.old) (W.contents output.new)) }
     ensures asked { AsksUpTo step run.old.ahead (R.reads input.old) (R.reads input.new) }
+    ensures stops { StopsOver run.old.limit run.old.later run.old.ahead
+        (R.reads input.old) (R.reads input.new) (R.remaining input.old) }
 {
     laws::empty_goes_on();
     laws::joined_limited_runs();
@@ -309,6 +317,8 @@ fn unframe<A: Allocator + Copy, R: NotedRead, W: Write>(
         (R.remaining input.old) (R.remaining input.new)
         (W.contents output.old) (W.contents output.new)) }
     ensures asked { AsksUpTo step at (R.reads input.old) (R.reads input.new) }
+    ensures stops { StopsOver limit later at
+        (R.reads input.old) (R.reads input.new) (R.remaining input.old) }
 {
     let mut piece = Vec::from_elem(alloc, 0u8, step)?;
     let mut run = Run::new(alloc, limit, later, at);

@@ -13,13 +13,13 @@ packets-init g c =
     let reader = c.requires.reader in
     record {
       found = reader.2;
-      collected = c.requires.collected;
+      lent = c.requires.lent;
       idle = c.requires.writer;
       encoder = encoder.limit;
       so_far = (
         [],
         [],
-        reframing_start c.nothing_read.ensures c.args.limit (codec_state c.codec_under-decoder.result c.args.from.now.src.items c.args.from.now.dst.items)
+        reframing_start c.nothing_read.ensures c.args.limit (codec_state c.codec_under-decoder.result c.args.from.now.unread c.args.from.now.held)
             (expected_id c.codec_under-encoder.result) decoder.id decoder.header reader.0 reader.1 decoder.limit encoder.id,
         Consumes-nil _,
         Appends-nil _,
@@ -29,9 +29,9 @@ packets-init g c =
 pub packets-preserved : goal.packets-preserved
 packets-preserved g c =
     let old = c.packets.invariant.so_far in
-    let before = codec_state c.packets.decoder c.packets.from.src.items c.packets.from.dst.items in
-    let after = codec_state c.next_packet.new.codec c.next_packet.new.self.src.items c.next_packet.new.self.dst.items in
-    let came = (rw c.in-Ok-Some.field-0-is at c.in-Ok-Some.ensures.next) c.packets.invariant.found c.packets.invariant.collected in
+    let before = codec_state c.packets.decoder c.packets.from.unread c.packets.from.held in
+    let after = codec_state c.next_packet.new.codec c.next_packet.new.self.unread c.next_packet.new.self.held in
+    let came = (rw c.in-Ok-Some.field-0-is at c.in-Ok-Some.ensures.next) c.packets.invariant.found c.packets.invariant.lent in
     let more : List ℕ = joined_reads came.reads in
     let packet : List ℕ = c.in-Ok-Some.packet.items in
     let put = c.in_ok-send.ensures in
@@ -41,7 +41,7 @@ packets-preserved g c =
     let next = rw shown at put.next in
     record {
       found = search rules;
-      collected = c.next_packet.ensures.collected c.packets.invariant.found;
+      lent = c.next_packet.ensures.taken c.packets.invariant.lent;
       idle = put.idle;
       encoder = put.limit ∙ c.packets.invariant.encoder;
       so_far = (
@@ -57,9 +57,9 @@ packets-preserved g c =
 pub returns-in-Ok-None : goal.returns-in-Ok-None
 returns-in-Ok-None g c =
     let old = c.packets.invariant.so_far in
-    let before = codec_state c.packets.decoder c.packets.from.src.items c.packets.from.dst.items in
-    let after = codec_state c.next_packet.new.codec c.next_packet.new.self.src.items c.next_packet.new.self.dst.items in
-    let came = (rw c.in-Ok-None.field-0-is at c.in-Ok-None.ensures.next) c.packets.invariant.found c.packets.invariant.collected in
+    let before = codec_state c.packets.decoder c.packets.from.unread c.packets.from.held in
+    let after = codec_state c.next_packet.new.codec c.next_packet.new.self.unread c.next_packet.new.self.held in
+    let came = (rw c.in-Ok-None.field-0-is at c.in-Ok-None.ensures.next) c.packets.invariant.found c.packets.invariant.lent in
     let more : List ℕ = joined_reads came.reads in
     record {
       cases = search rules;
@@ -76,9 +76,9 @@ returns-in-Ok-None g c =
 pub returns-in-Err-UnexpectedEnd : goal.returns-in-Err-UnexpectedEnd
 returns-in-Err-UnexpectedEnd g c =
     let old = c.packets.invariant.so_far in
-    let before = codec_state c.packets.decoder c.packets.from.src.items c.packets.from.dst.items in
-    let after = codec_state c.next_packet.new.codec c.next_packet.new.self.src.items c.next_packet.new.self.dst.items in
-    let came = (rw c.in-Err-UnexpectedEnd.field-0-is at c.in-Err-UnexpectedEnd.ensures.next) c.packets.invariant.found c.packets.invariant.collected in
+    let before = codec_state c.packets.decoder c.packets.from.unread c.packets.from.held in
+    let after = codec_state c.next_packet.new.codec c.next_packet.new.self.unread c.next_packet.new.self.held in
+    let came = (rw c.in-Err-UnexpectedEnd.field-0-is at c.in-Err-UnexpectedEnd.ensures.next) c.packets.invariant.found c.packets.invariant.lent in
     let more : List ℕ = joined_reads came.reads in
     record {
       cases = search rules;
@@ -95,8 +95,8 @@ returns-in-Err-UnexpectedEnd g c =
 pub returns-in-Err-PacketTooLarge : goal.returns-in-Err-PacketTooLarge
 returns-in-Err-PacketTooLarge g c =
     let old = c.packets.invariant.so_far in
-    let before = codec_state c.packets.decoder c.packets.from.src.items c.packets.from.dst.items in
-    let came = (rw c.in-Err-PacketTooLarge.field-0-is at c.in-Err-PacketTooLarge.ensures.next) c.packets.invariant.found c.packets.invariant.collected in
+    let before = codec_state c.packets.decoder c.packets.from.unread c.packets.from.held in
+    let came = (rw c.in-Err-PacketTooLarge.field-0-is at c.in-Err-PacketTooLarge.ensures.next) c.packets.invariant.found c.packets.invariant.lent in
     let more : List ℕ = joined_reads came.reads in
     record {
       cases = search rules;
@@ -113,8 +113,8 @@ returns-in-Err-PacketTooLarge g c =
 pub returns-in-Err-PacketsOutOfSync : goal.returns-in-Err-PacketsOutOfSync
 returns-in-Err-PacketsOutOfSync g c =
     let old = c.packets.invariant.so_far in
-    let before = codec_state c.packets.decoder c.packets.from.src.items c.packets.from.dst.items in
-    let came = (rw c.in-Err-PacketsOutOfSync.field-0-is at c.in-Err-PacketsOutOfSync.ensures.next) c.packets.invariant.found c.packets.invariant.collected in
+    let before = codec_state c.packets.decoder c.packets.from.unread c.packets.from.held in
+    let came = (rw c.in-Err-PacketsOutOfSync.field-0-is at c.in-Err-PacketsOutOfSync.ensures.next) c.packets.invariant.found c.packets.invariant.lent in
     let more : List ℕ = joined_reads came.reads in
     record {
       cases = search rules;

@@ -6,12 +6,12 @@ use Rattle.mysql_wire_commands.proofs.reframe.copy_packets.Given as goal
 
 abbrev pub invariant-packets : goal.invariant-packets
 invariant-packets g l = record {
-  found : l.from.lost ≡ false;
-  collected : IsNone l.from.collected;
-  idle : l.to.pending.items ≡ [];
+  found : l.from.is_lost ≡ false;
+  lent : IsNone l.from.lent;
+  idle : l.to.pending ≡ [];
   encoder : l.encoder.max_allowed_packet ≡ l.fn.limit;
   so_far : (input : List ℕ) × (text : List ℕ)
-      × Reframing l.fn.limit (codec_state l.decoder l.from.src.items l.from.dst.items) (expected_id l.encoder) input text
+      × Reframing l.fn.limit (codec_state l.decoder l.from.unread l.from.held) (expected_id l.encoder) input text
       × Consumes (g.R.Read.remaining l.fn.from.reader) (g.R.Read.remaining l.from.reader) input
       × Appends (g.W.Write.contents l.fn.to.writer) (g.W.Write.contents l.to.writer) text;
 }

@@ -1,4 +1,5 @@
-use Rattle.std.proofs.Common.{sym}
+use Rattle.std.proofs.Common.{refl, sym}
+use Rattle.mysql_wire_commands.specs.Unframe.{place_limits}
 use Rattle.mysql_wire_commands.proofs.UnframeLemmas.{unframe_limited}
 use Rattle.mysql_wire_commands.proofs.unframe.run_unframe_limited.Goals as goal
 
@@ -6,3 +7,6 @@ pub returns-clause-ended : goal.returns-clause-ended
 returns-clause-ended g c =
     let ended = unframe_limited c.args.limit c.args.later c.args.at c.unframe.result _ _ _ _ c.unframe.ensures.ended in
     rw (sym c.exit_status.ensures) at ended
+
+pub returns-clause-stops : goal.returns-clause-stops
+returns-clause-stops g c = c.unframe.ensures.stops (place_limits c.args.limit c.args.later c.args.at) (λ place. refl)

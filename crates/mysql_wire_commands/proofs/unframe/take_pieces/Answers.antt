@@ -1,12 +1,13 @@
-use Rattle.std.proofs.Common.{rules, ◌+◌, ◌≡◌, ℕ, ◌<◌, ◌≤◌, List, [], ◌++◌, take, length, length-take, sym, ap₂, ◌∙◌, arith, append-nil, length-append, subst, if◌then◌else◌, nat_lt, Result, Ok, Err, OnOk, IfOk}
+use Rattle.std.proofs.Common.{rules, ◌+◌, ◌≡◌, ℕ, ◌<◌, ◌≤◌, List, [], ◌++◌, take, length, length-take, refl, sym, ap₂, ◌∙◌, arith, append-nil, length-append, subst, if◌then◌else◌, nat_lt, Result, Ok, Err, OnOk, IfOk}
 use Rattle.std.proofs.KnownBytes.{Appends-nil, Appends-trans, Consumes-nil, Consumes-trans}
 use Rattle.std.specs.Io.KnownBytes.{Consumes}
 use Rattle.wire_codec.specs.Delivery.{Waiting}
 use Rattle.wire_codec.specs.Limited.{place_after}
+use Rattle.wire_codec.specs.LimitedRuns.{WaitsUnder}
 use Rattle.std.specs.Io.KnownBytes.{Appends}
 use Rattle.mysql_wire_commands.specs.declared.status.Stop.{Stop}
 use Rattle.mysql_wire_commands.specs.Unframe.{ending_status, UnframeEndsOver, place_limits, run_state, next_limit, packet_lines, bytes_left, ending_line, UnframedUnder}
-use Rattle.mysql_wire_commands.proofs.ReadLemmas.{Asking, asking_start, asking_more, asked_more}
+use Rattle.mysql_wire_commands.proofs.ReadLemmas.{Asking, asking_start, asking_more, asked_more, Waited, waited_start, waited_more, waited}
 use Rattle.mysql_wire_commands.proofs.UnframeLemmas.{unframing_start, limits_here, unframing_more, unframing_ended, unframing_too_large, unframing_out_of_sync, rest_cases}
 use Rattle.mysql_wire_commands.proofs.unframe.take_pieces.Goals as goal
 
@@ -26,6 +27,7 @@ reads-init g c =
         Consumes-nil _,
         Appends-nil _,
         asking_start c.args.step c.args.run.now.ahead _,
+        λ limits known. waited_start (λ (front : List ℕ). WaitsUnder limits 0 front []) _ _,
       );
     }
 
@@ -64,6 +66,11 @@ reads-preserved g c =
         Consumes-trans _ _ _ old.0 piece old.4 read,
         Appends-trans _ _ _ old.1 (packet_lines takes.0) old.5 lines,
         subst (λ (n : ℕ). Asking c.args.step c.args.run.now.ahead n (g.R.NotedRead.reads c.args.input.now) (g.R.NotedRead.reads c.read_piece.new.input)) came asking,
+        λ limits known.
+            let u = old.2 limits known in
+            let more = waited_more (λ (front : List ℕ). WaitsUnder limits 0 front []) (length old.0) old.0 _ _ _ _ _ (record { asked = c.next_read.result; came = c.in_ok-count.count })
+            (old.7 limits known) refl old.4 (u.payloads, before.held, before.unread, u.delivered) c.in_ok-count.ensures.noted in
+            subst (λ (n : ℕ). Waited (λ (front : List ℕ). WaitsUnder limits 0 front []) n (g.R.NotedRead.reads c.args.input.now) (g.R.NotedRead.reads c.read_piece.new.input) (g.R.Read.remaining c.args.input.now)) came more,
       );
     }
 
@@ -187,3 +194,46 @@ returns-in-OutOfSync-clause-asked g c =
     let old = c.reads.invariant.so_far in
     let asks = c.next_read.ensures in
     asked_more _ _ _ _ _ _ _ (record { asked = c.next_read.result; came = c.in_ok-count.count }) old.6 old.3 asks.some asks.step asks.apart asks.no_less c.in_ok-count.ensures.noted
+
+pub returns-in_err-count-clause-stops : goal.returns-in_err-count-clause-stops
+returns-in_err-count-clause-stops g c limits known =
+    let old = c.reads.invariant.so_far in
+    let u = old.2 limits known in
+    let state = run_state c.reads.run in
+    waited _ _ _ _ _ (waited_more (λ (front : List ℕ). WaitsUnder limits 0 front []) (length old.0) old.0 _ _ _ _ _ (record { asked = c.next_read.result; came = 0 })
+    (old.7 limits known) refl old.4 (u.payloads, state.held, state.unread, u.delivered) c.in_err-count.ensures.noted)
+
+pub returns-then-count-eq0-clause-stops : goal.returns-then-count-eq0-clause-stops
+returns-then-count-eq0-clause-stops g c limits known =
+    let old = c.reads.invariant.so_far in
+    let u = old.2 limits known in
+    let state = run_state c.reads.run in
+    waited _ _ _ _ _ (waited_more (λ (front : List ℕ). WaitsUnder limits 0 front []) (length old.0) old.0 _ _ _ _ _ (record { asked = c.next_read.result; came = c.in_ok-count.count })
+    (old.7 limits known) refl old.4 (u.payloads, state.held, state.unread, u.delivered) c.in_ok-count.ensures.noted)
+
+pub returns-in_err-take_piece-clause-stops : goal.returns-in_err-take_piece-clause-stops
+returns-in_err-take_piece-clause-stops g c limits known =
+    let old = c.reads.invariant.so_far in
+    let u = old.2 limits known in
+    let state = run_state c.reads.run in
+    waited _ _ _ _ _ (waited_more (λ (front : List ℕ). WaitsUnder limits 0 front []) (length old.0) old.0 _ _ _ _ _ (record { asked = c.next_read.result; came = c.in_ok-count.count })
+    (old.7 limits known) refl old.4 (u.payloads, state.held, state.unread, u.delivered) c.in_ok-count.ensures.noted)
+
+pub returns-in-TooLarge-clause-stops : goal.returns-in-TooLarge-clause-stops
+returns-in-TooLarge-clause-stops g c limits known =
+    let old = c.reads.invariant.so_far in
+    let u = old.2 limits known in
+    let state = run_state c.reads.run in
+    waited _ _ _ _ _ (waited_more (λ (front : List ℕ). WaitsUnder limits 0 front []) (length old.0) old.0 _ _ _ _ _ (record { asked = c.next_read.result; came = c.in_ok-count.count })
+    (old.7 limits known) refl old.4 (u.payloads, state.held, state.unread, u.delivered) c.in_ok-count.ensures.noted)
+
+pub returns-in-OutOfSync-clause-stops : goal.returns-in-OutOfSync-clause-stops
+returns-in-OutOfSync-clause-stops g c limits known =
+    let old = c.reads.invariant.so_far in
+    let u = old.2 limits known in
+    let state = run_state c.reads.run in
+    waited _ _ _ _ _ (waited_more (λ (front : List ℕ). WaitsUnder limits 0 front []) (length old.0) old.0 _ _ _ _ _ (record { asked = c.next_read.result; came = c.in_ok-count.count })
+    (old.7 limits known) refl old.4 (u.payloads, state.held, state.unread, u.delivered) c.in_ok-count.ensures.noted)
+
+pub returns-clause-stops : goal.returns-clause-stops
+returns-clause-stops g c limits known = waited _ _ _ _ _ (c.reads.invariant.so_far.7 limits known)

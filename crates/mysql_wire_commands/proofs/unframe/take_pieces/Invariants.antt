@@ -1,9 +1,9 @@
-use Rattle.std.proofs.Common.{◌≡◌, ◌-◌, ℕ, List, length, vec_len}
+use Rattle.std.proofs.Common.{◌≡◌, ◌-◌, ℕ, List, [], length, vec_len}
 use Rattle.std.specs.Io.KnownBytes.{Appends, Consumes}
 use Rattle.wire_codec.specs.Limited.{Limits}
-use Rattle.wire_codec.specs.LimitedRuns.{Aligned}
+use Rattle.wire_codec.specs.LimitedRuns.{Aligned, WaitsUnder}
 use Rattle.mysql_wire_commands.specs.Unframe.{Unframing, place_limits, run_state}
-use Rattle.mysql_wire_commands.proofs.ReadLemmas.{Asking}
+use Rattle.mysql_wire_commands.proofs.ReadLemmas.{Asking, Waited}
 use Rattle.mysql_wire_commands.proofs.unframe.take_pieces.Given as goal
 
 abbrev pub invariant-reads : goal.invariant-reads
@@ -17,5 +17,7 @@ invariant-reads g l = record {
       × (l.run.ahead ≡ l.fn.run.ahead - length input)
       × Consumes (g.R.Read.remaining l.fn.input) (g.R.Read.remaining l.input) input
       × Appends (g.W.Write.contents l.fn.output) (g.W.Write.contents l.output) text
-      × Asking l.fn.step l.fn.run.ahead (length input) (g.R.NotedRead.reads l.fn.input) (g.R.NotedRead.reads l.input);
+      × Asking l.fn.step l.fn.run.ahead (length input) (g.R.NotedRead.reads l.fn.input) (g.R.NotedRead.reads l.input)
+      × ((limits : Limits) → ((place : ℕ) → limits place ≡ place_limits l.fn.run.limit l.fn.run.later l.fn.run.ahead place)
+      → Waited (λ (front : List ℕ). WaitsUnder limits 0 front []) (length input) (g.R.NotedRead.reads l.fn.input) (g.R.NotedRead.reads l.input) (g.R.Read.remaining l.fn.input));
 }
