@@ -1,11 +1,11 @@
 -- Runs from a new codec.
-use Rattle.std.proofs.Common.{◌≡◌, ℕ, List, [], ◌∷◌, ◌++◌, length, refl, arith, subst, Option, Some, None, IfSome, Result, Ok, append-nil, ap, sym, ◌∙◌}
+use Rattle.std.proofs.Common.{◌≡◌, ℕ, List, [], ◌∷◌, ◌++◌, length, refl, arith, subst, Option, Some, None, IfSome, Result, Ok, Err, OnOk, append-nil, ap, sym, ◌∙◌}
 use Rattle.std.specs.Io.KnownBytes.{Consumes, IsAtEnd}
 use Rattle.mysql_wire.specs.Framing.{max_payload}
 use Rattle.mysql_wire.specs.Delivery.{Delivers, Waiting}
 use Rattle.mysql_wire.specs.Codec.{CodecState}
 use Rattle.mysql_wire.specs.Laws.{empty_state}
-use Rattle.mysql_wire.specs.Runs.{RunsTo}
+use Rattle.mysql_wire.specs.Runs.{RunsTo, RunsOver}
 use Rattle.mysql_wire.specs.LimitedRuns.{RunsLimited}
 use Rattle.mysql_wire.specs.PacketCodecError.{PacketCodecError}
 use Rattle.std.specs.Borrow.{Bor}
@@ -36,3 +36,20 @@ two_pieces start before after pieces count answer gained old out is two ok none 
     (subst (λ z. RunsLimited before pieces z (Ok tt) out after) two
     (subst (λ z. RunsLimited before pieces count z out after) ok
     (subst (λ z. RunsLimited before pieces count answer z after) same run)))
+
+-- a run over all pieces from a new codec, in the words of its start
+pub fresh_run : (before after : CodecState) (limit : ℕ) (input left : List ℕ) (answer : Result (Unit {0}) PacketCodecError) (gained : List (List ℕ))
+    → before ≡ empty_state 0 limit → answer ≡ Ok tt → RunsOver before input answer gained after left → RunsOver (empty_state 0 limit) input (Ok tt) gained after left
+fresh_run before after limit input left answer gained is ok run =
+    subst (λ z. RunsOver z input (Ok tt) gained after left) is (subst (λ z. RunsOver before input z gained after left) ok run)
+
+pub fresh_delivers : (before after : CodecState) (limit : ℕ) (input left : List ℕ) (answer : Result (Unit {0}) PacketCodecError) (gained : List (List ℕ))
+    → before ≡ empty_state 0 limit → answer ≡ Ok tt → RunsOver before input answer gained after left
+    → Delivers [] input 0 limit gained Waiting after.held (after.unread ++ left)
+unfolding max_payload
+fresh_delivers before after limit input left answer gained is ok run = fresh_run before after limit input left answer gained is ok run
+
+-- what is said where a call succeeds
+pub on_ok : (answer : Result (Unit {0}) PacketCodecError) (P : Type 0) → (answer ≡ Ok tt → P) → OnOk answer P
+on_ok (Ok done) P gives = gives refl
+on_ok (Err error) P gives = tt

@@ -3,7 +3,7 @@ use Rattle.std.proofs.Common.{ℕ, ◌≡◌, List, [], ◌∷◌, ◌++◌, ap,
 use Rattle.std.specs.List.{flat_map}
 use Rattle.std.proofs.lemmas.Grind.{flat_map-append}
 
-flat_map-one_more : (f : List ℕ → List ℕ) (items : List (List ℕ)) (item : List ℕ)
+pub flat_map-one_more : {X Y : Type 0} (f : X → List Y) (items : List X) (item : X)
     → flat_map f (items ++ item ∷ []) ≡ flat_map f items ++ f item
 flat_map-one_more f items item =
     flat_map-append f items (item ∷ []) ∙ ap (λ last. flat_map f items ++ last) (append-nil (f item))

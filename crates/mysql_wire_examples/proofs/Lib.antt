@@ -2,3 +2,9 @@ pub mod CallerLemmas
 pub mod ValueLemmas
 pub mod ConnectionLemmas
 pub mod TallyLemmas
+mod AccountLemmas
+mod RelayedLemmas
+mod TextListLemmas
+mod KeyedLemmas
+pub mod SessionLemmas
+pub mod BothEndsLemmas

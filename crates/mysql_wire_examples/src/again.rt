@@ -1,6 +1,6 @@
 //! A run that goes on where memory was refused.
 
-ghost use Rattle.std.specs.Prelude.{◌≡◌, ◌≢◌, ◌≤◌, List, ℕ, ◌++◌, length, take, Err};
+ghost use Rattle.std.specs.Prelude.{◌≡◌, ◌≢◌, ◌≤◌, List, ℕ, ◌++◌, length, take, Err, OnOk};
 ghost use Rattle.mysql_wire.specs.Codec.{codec_state, Stands};
 ghost use Rattle.mysql_wire.specs.Runs.{joined, payloads, RunsTo};
 
@@ -26,6 +26,7 @@ pub fn deliver_again<A: Allocator + Copy>(
         (gained : List (List ℕ)) × (payloads out.new.items ≡ payloads out.old.items ++ gained)
         × RunsTo before (joined (take result.0 pieces.now)) result.1 gained after }
     ensures count { result.0 ≤ length pieces.now }
+    ensures all { OnOk result.1 (result.0 ≡ length pieces.now) }
     ensures stands { result.1 ≢ Err PacketCodecError.PacketsOutOfSync
         → Stands (codec_state codec.new src.new.items dst.new.items) }
     ensures limit { codec.new.max_allowed_packet ≡ codec.old.max_allowed_packet }

@@ -79,6 +79,13 @@ pub fn contains(a: StatusFlags, b: StatusFlags) -> bool
     a.contains(b)
 }
 
+/// Whether a connection is in a transaction, by the flags that the server sent.
+pub fn is_in_transaction(status: u16) -> bool
+    ensures { IsTrue result ↔ (bit_and status 1 ≡ 1) }
+{
+    StatusFlags::from_bits_retain(status).contains(StatusFlags::SERVER_STATUS_IN_TRANS)
+}
+
 pub fn intersects(a: StatusFlags, b: StatusFlags) -> bool
     ensures { IsTrue result ↔ (bit_and (status_flags_bits a) (status_flags_bits b) ≢ 0) }
 {

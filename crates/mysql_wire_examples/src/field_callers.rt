@@ -3,9 +3,10 @@
 ghost use Rattle.mysql_wire.specs.Lenenc.{lenenc_bytes, IsLenencOrMark};
 ghost use Rattle.mysql_wire.specs.Numbers.{le_number, le_bytes};
 ghost use Rattle.mysql_wire.specs.RawTexts.{IsBorrowedText};
-ghost use Rattle.mysql_wire.specs.Spelling.{EatsSpelling, EatsText};
+ghost use Rattle.mysql_wire.specs.Spelling.{EatsText};
+ghost use Rattle.mysql_wire_examples.specs.Accounts.{IsOk};
 ghost use Rattle.std.specs.Io.KnownBytes.{Appends};
-ghost use Rattle.std.specs.Prelude.{◌≡◌, ◌++◌, length, OnOk, IfOk, ℕ, List, drop, IfSome, ◌≤◌, ◌↔◌, take, IsSome};
+ghost use Rattle.std.specs.Prelude.{◌≡◌, ◌++◌, length, OnOk, IfOk, ℕ, List, drop, IfSome, ◌≤◌, ◌↔◌, take, IsSome, IsNone};
 
 use bytes::BufMut;
 use mysql_wire::io::{BufMutExt, ParseBuf, WireError, WriteMysqlExt};
@@ -44,30 +45,36 @@ pub fn read_eof(payload: &[u8]) -> Option<EofPacket>
 
 /// Reads an `ERR_Packet`'s code and text, which borrows from the payload.
 pub fn read_error(payload: &[u8]) -> Option<(u16, &[u8])>
+    ensures there { IsSome result
+        ↔ ((3 ≤ length payload.now) × (le_number (take 1 payload.now) ≡ 0xff)) }
     ensures code { IfSome result (λ error. error.0 ≡ le_number (take 2 (drop 1 payload.now))) }
     ensures text { IfSome result (λ error. error.1.now ≡ drop 3 payload.now) }
 {
     let mut buf = ParseBuf(payload);
-    if buf.checked_eat_u8()? != 0xff {
+    if buf.len() < 3 || buf.eat_u8() != 0xff {
         return None;
     }
-    let code = buf.checked_eat_u16_le()?;
+    let code = buf.eat_u16_le();
     Some((code, buf.eat_all()))
 }
 
 /// Reads the counts of an `OK_Packet`: the rows that were changed, and the last id that was
-/// inserted.
+/// inserted. `None` where the packet is no such, or a count is cut short.
 pub fn read_ok(payload: &[u8]) -> Option<(u64, u64)>
-    ensures { IfSome result (λ counts. (mid : List ℕ) × (rest : List ℕ)
-        × EatsSpelling IsLenencOrMark (drop 1 payload.now) counts.0 mid
-        × EatsSpelling IsLenencOrMark mid counts.1 rest) }
+    ensures counts { IfSome result (λ counts. IsOk payload.now counts.0 counts.1) }
+    ensures none { IsNone result → (changed : ℕ) (last_id : ℕ) → IsOk payload.now changed last_id
+        → ⊥ }
 {
     let mut buf = ParseBuf(payload);
-    if buf.checked_eat_u8()? != 0 {
+    if buf.is_empty() || buf.eat_u8() != 0 {
         return None;
     }
-    let changed = buf.checked_eat_lenenc_int()?;
-    let last_id = buf.checked_eat_lenenc_int()?;
+    let Some(changed) = buf.checked_eat_lenenc_int() else {
+        return None;
+    };
+    let Some(last_id) = buf.checked_eat_lenenc_int() else {
+        return None;
+    };
     Some((changed, last_id))
 }
 

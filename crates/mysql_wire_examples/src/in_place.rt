@@ -1,13 +1,14 @@
 //! Rows read where they lie in the buffer that the socket filled.
 
-ghost use Rattle.std.specs.Prelude.{◌≡◌, ◌+◌, ◌-◌, ◌^◌, ℕ, List, [], drop, length, min, IfOk, IfSome, IsNone, IsSome, IsTrue, Some, true};
+ghost use Rattle.std.specs.Prelude.{◌≡◌, ◌+◌, ◌-◌, ◌^◌, ◌<◌, ◌↔◌, ℕ, List, [], length, min, IfOk, IfSome, IsNone, IsSome, IsTrue};
 ghost use Rattle.mysql_wire.specs.Codec.{codec_state};
-ghost use Rattle.mysql_wire.specs.Delivery.{chunk_len, Delivers, Waiting};
-ghost use Rattle.mysql_wire.specs.InPlace.{front_payload};
-ghost use Rattle.mysql_wire.specs.Lenenc.{IsLenencOrMark};
+ghost use Rattle.mysql_wire.specs.Delivery.{Delivers, Waiting};
+ghost use Rattle.mysql_wire.specs.InPlace.{HasFront, behind_front, front_payload};
+ghost use Rattle.mysql_wire.specs.Lent.{reading_state};
 ghost use Rattle.mysql_wire.specs.PacketIo.{FitsAt};
 ghost use Rattle.mysql_wire.specs.Runs.{joined};
-ghost use Rattle.mysql_wire.specs.Spelling.{EatsText};
+ghost use Rattle.mysql_wire_examples.specs.Accounts.{IsAccount, ends_rows};
+ghost use Rattle.mysql_wire_examples.specs.Relayed.{CountsRows};
 
 use bytes::BytesMut;
 use mysql_wire::io::ParseBuf;
@@ -24,25 +25,36 @@ pub struct Account<'a> {
     pub mail: &'a [u8],
 }
 
-/// Reads both columns of a row of texts, where they lie.
+/// Reads the first two columns of a row of texts, where they lie; `None` where they aren't there.
 pub fn read_account<'a>(row: &'a [u8]) -> Option<Account<'a>>
-    ensures { IfSome result (λ account. (mid : List ℕ) × (rest : List ℕ)
-        × EatsText IsLenencOrMark row.entry.now account.name.now mid
-        × EatsText IsLenencOrMark mid account.mail.now rest) }
+    ensures there { IfSome result
+        (λ account. IsAccount row.entry.now account.name.now account.mail.now) }
+    ensures none { IsNone result → (name : List ℕ) (mail : List ℕ)
+        → IsAccount row.entry.now name mail → ⊥ }
 {
     let mut columns = ParseBuf(row);
-    let name = columns.checked_eat_lenenc_str()?;
-    let mail = columns.checked_eat_lenenc_str()?;
+    let Some(name) = columns.checked_eat_lenenc_str() else {
+        return None;
+    };
+    let Some(mail) = columns.checked_eat_lenenc_str() else {
+        return None;
+    };
     Some(Account { name, mail })
+}
+
+// Whether two texts have the same bytes.
+fn is_same(a: &[u8], b: &[u8]) -> bool
+    ensures { IsTrue result ↔ (a.now ≡ b.now) }
+{
+    a == b
 }
 
 // Whether a row's mail is this one.
 fn is_mail(row: &[u8], mail: &[u8]) -> bool
-    ensures { IsTrue result → (name : List ℕ) × (mid : List ℕ) × (rest : List ℕ)
-        × EatsText IsLenencOrMark row.now name mid × EatsText IsLenencOrMark mid mail.now rest }
+    ensures { IsTrue result ↔ (name : List ℕ) × IsAccount row.now name mail.now }
 {
     match read_account(row) {
-        Some(account) => account.mail == mail,
+        Some(account) => is_same(account.mail, mail),
         None => false,
     }
 }
@@ -54,12 +66,12 @@ pub fn has_mail<A: Allocator + Copy>(
     src: &mut BytesMut<A>,
     mail: &[u8],
 ) -> Option<bool>
+    ensures there { IsSome result ↔ HasFront (codec_state codec.old src.old.items []) }
     ensures kept { IsNone result → (codec.new ≡ codec.old) × (src.new ≡ src.old) }
-    ensures has { result ≡ Some true → (name : List ℕ) × (mid : List ℕ) × (rest : List ℕ)
-        × EatsText IsLenencOrMark (front_payload src.old.items) name mid
-        × EatsText IsLenencOrMark mid mail.now rest }
-    ensures taken { IsSome result
-        → src.new.items ≡ drop (4 + chunk_len src.old.items) src.old.items }
+    ensures has { IfSome result (λ has. IsTrue has
+        ↔ (name : List ℕ) × IsAccount (front_payload src.old.items) name mail.now) }
+    ensures taken { IsSome result → codec_state codec.new src.new.items
+        (front_payload src.old.items) ≡ behind_front (codec_state codec.old src.old.items []) }
 {
     let row = codec.front_packet(src, &[])?;
     let has = is_mail(row, mail);
@@ -69,34 +81,42 @@ pub fn has_mail<A: Allocator + Copy>(
 }
 
 /// How many rows come before the packet that ends them. Each is looked at in the reader's buffer.
+/// It gives up at `u64::MAX` rows.
 pub fn count_rows<R: Read, A: Allocator + Copy>(
     codec: &mut PacketCodec,
     input: &mut PacketReader<R, A>,
 ) -> Result<u64, PacketIoError>
-    requires { FitsAt input.old.lost
-        (codec_state codec.old input.old.src.items input.old.dst.items) }
-    ensures fits { FitsAt input.new.lost
-        (codec_state codec.new input.new.src.items input.new.dst.items) }
+    requires { FitsAt input.old.is_lost (reading_state codec.old input.old) }
+    ensures counted { IfOk result (λ count. IsNone input.old.lent → count < 2 ^ 64 - 1
+        → CountsRows count
+        (reading_state codec.old input.old) (R.remaining input.old.reader)
+        (reading_state codec.new input.new) (R.remaining input.new.reader)) }
+    ensures fits { FitsAt input.new.is_lost (reading_state codec.new input.new) }
 {
-    let mut count = 0;
-    'rows: for _ in 0..u64::MAX {
-        if !input.fill_packet(codec)? {
-            return Err(PacketIoError::UnexpectedEnd);
+    'rows: for count in 0..u64::MAX {
+        match input.fill_packet(codec) {
+            Ok(true) => {}
+            Ok(false) => return Err(PacketIoError::UnexpectedEnd),
+            Err(error) => return Err(error),
         }
         let is_last = ends_rows(input.packet());
-        input.take_packet(codec);
+        input.take_packet();
         if is_last {
             return Ok(count);
         }
-        count += 1;
     }
-    Ok(count)
+    Ok(u64::MAX)
 }
 
 // Whether this packet ends the rows: an `EOF_Packet` begins with `fe`, and is shorter than a row
 // that begins so.
-fn ends_rows(packet: &[u8]) -> bool {
-    packet.len() < 9 && packet.first() == Some(&0xfe)
+fn ends_rows(packet: &[u8]) -> bool
+    ensures { result ≡ ends_rows packet.now }
+{
+    match packet {
+        [0xfe, rest @ ..] => rest.len() < 8,
+        _ => false,
+    }
 }
 
 /// Counts packets, and their bytes.

@@ -1,11 +1,13 @@
 //! Packets over any reader and any writer: a client's question, a server's loop, a proxy.
 
-ghost use Rattle.std.specs.Prelude.{◌≡◌, ◌++◌, ℕ, List, [], OnOk, Ok, true, false};
+ghost use Rattle.std.specs.Prelude.{◌≡◌, ◌++◌, IfOk, IsNone, OnOk, Ok, true, false};
 ghost use Rattle.std.specs.Io.KnownBytes.{Appends};
-ghost use Rattle.mysql_wire.specs.Codec.{codec_state, expected_id, header_of};
+ghost use Rattle.mysql_wire.specs.Codec.{expected_id, header_of};
 ghost use Rattle.mysql_wire.specs.Framing.{framing, next_id};
+ghost use Rattle.mysql_wire.specs.Lent.{reading_state};
 ghost use Rattle.mysql_wire.specs.PacketIo.{FitsAt};
 ghost use Rattle.mysql_wire_examples.specs.Connection.{answer_to};
+ghost use Rattle.mysql_wire_examples.specs.Relayed.{IsAnswered, IsNext, IsRelayed, at_id};
 
 use crate::connection::answer_to;
 use mysql_wire::proto::codec::PacketCodec;
@@ -21,7 +23,7 @@ pub fn send<W: Write, A: Allocator + Copy>(
 ) -> Result<(), PacketIoError>
     ensures sent { OnOk result (Appends
         (W.contents output.old.writer) (W.contents output.new.writer)
-        (output.old.pending.items ++ framing (expected_id codec.old) packet.now)) }
+        (output.old.pending ++ framing (expected_id codec.old) packet.now)) }
     ensures next { OnOk result
         (expected_id codec.new ≡ next_id (expected_id codec.old) packet.now) }
     ensures header { header_of codec.new ≡ header_of codec.old }
@@ -44,16 +46,21 @@ pub fn ask<R: Read, W: Write, A: Allocator + Copy>(
 ) -> Result<Vec<u8, A>, PacketIoError>
     ensures sent { OnOk result (Appends
         (W.contents output.old.writer) (W.contents output.new.writer)
-        (output.old.pending.items ++ framing 0 command.now)) }
+        (output.old.pending ++ framing 0 command.now)) }
+    ensures answered { IfOk result (λ answer. IsNone input.old.lent → IsNext
+        (at_id (next_id 0 command.now) (reading_state codec.old input.old))
+        (R.remaining input.old.reader) answer.items
+        (reading_state codec.new input.new) (R.remaining input.new.reader)) }
 {
     codec.reset_seq_id();
     send(codec, output, command)?;
     if !input.fits(codec) {
         return Err(PacketIoError::PacketsOutOfSync);
     }
-    match input.next_packet(codec)? {
-        Some(answer) => Ok(answer),
-        None => Err(PacketIoError::UnexpectedEnd),
+    match input.next_packet(codec) {
+        Ok(Some(answer)) => Ok(answer),
+        Ok(None) => Err(PacketIoError::UnexpectedEnd),
+        Err(error) => Err(error),
     }
 }
 
@@ -64,23 +71,52 @@ pub fn answer_next<R: Read, W: Write, A: Allocator + Copy>(
     input: &mut PacketReader<R, A>,
     output: &mut PacketWriter<W, A>,
 ) -> Result<bool, PacketIoError>
-    requires { FitsAt input.old.lost
-        (codec_state codec.old input.old.src.items input.old.dst.items) }
-    ensures answered { result ≡ Ok true → (id : ℕ) × (command : List ℕ)
-        × Appends (W.contents output.old.writer) (W.contents output.new.writer)
-        (output.old.pending.items ++ framing id (answer_to command)) }
+    requires { FitsAt input.old.is_lost (reading_state codec.old input.old) }
+    ensures answered { result ≡ Ok true → IsNone input.old.lent → IsAnswered
+        (at_id 0 (reading_state codec.old input.old))
+        (R.remaining input.old.reader) (R.remaining input.new.reader) output.old.pending
+        (W.contents output.old.writer) (W.contents output.new.writer) answer_to }
     ensures ended { result ≡ Ok false → output.new ≡ output.old }
-    ensures fits { OnOk result (FitsAt input.new.lost
-        (codec_state codec.new input.new.src.items input.new.dst.items)) }
+    ensures fits { OnOk result (FitsAt input.new.is_lost (reading_state codec.new input.new)) }
 {
     codec.reset_seq_id();
-    match input.next_packet(codec)? {
-        Some(command) => {
+    match input.next_packet(codec) {
+        Ok(Some(command)) => {
             send(codec, output, answer_to(command.as_slice()))?;
             Ok(true)
         }
-        None => Ok(false),
+        Ok(None) => Ok(false),
+        Err(error) => Err(error),
     }
+}
+
+/// As `answer_next`, with the command read where it lies: the answer is queued while the command is
+/// still lent, and numbered on from it.
+pub fn answer_in_place<R: Read, W: Write, A: Allocator + Copy>(
+    codec: &mut PacketCodec,
+    input: &mut PacketReader<R, A>,
+    output: &mut PacketWriter<W, A>,
+) -> Result<bool, PacketIoError>
+    requires { FitsAt input.old.is_lost (reading_state codec.old input.old) }
+    ensures answered { result ≡ Ok true → IsNone input.old.lent → IsAnswered
+        (at_id 0 (reading_state codec.old input.old))
+        (R.remaining input.old.reader) (R.remaining input.new.reader) output.old.pending
+        (W.contents output.old.writer) (W.contents output.new.writer) answer_to }
+    ensures ended { result ≡ Ok false → output.new ≡ output.old }
+    ensures taken { OnOk result (IsNone input.new.lent) }
+    ensures fits { OnOk result (FitsAt input.new.is_lost (reading_state codec.new input.new)) }
+{
+    codec.reset_seq_id();
+    match input.fill_packet(codec) {
+        Ok(true) => {}
+        Ok(false) => return Ok(false),
+        Err(error) => return Err(error),
+    }
+    let mut answer = answer_to(input.packet());
+    output.queue(codec, &mut answer)?;
+    input.take_packet();
+    output.write_pending()?;
+    Ok(true)
 }
 
 /// A proxy passes one packet on, under the ids of the other side: false where the input ends
@@ -91,20 +127,19 @@ pub fn relay<R: Read, W: Write, A: Allocator + Copy>(
     to_codec: &mut PacketCodec,
     to: &mut PacketWriter<W, A>,
 ) -> Result<bool, PacketIoError>
-    requires { FitsAt from.old.lost
-        (codec_state from_codec.old from.old.src.items from.old.dst.items) }
-    ensures passed { result ≡ Ok true → (packet : List ℕ)
-        × Appends (W.contents to.old.writer) (W.contents to.new.writer)
-        (to.old.pending.items ++ framing (expected_id to_codec.old) packet) }
+    requires { FitsAt from.old.is_lost (reading_state from_codec.old from.old) }
+    ensures passed { result ≡ Ok true → IsNone from.old.lent → IsRelayed (reading_state from_codec.old from.old)
+        (R.remaining from.old.reader) (R.remaining from.new.reader) to.old.pending
+        (expected_id to_codec.old) (W.contents to.old.writer) (W.contents to.new.writer) }
     ensures ended { result ≡ Ok false → to.new ≡ to.old }
-    ensures fits { FitsAt from.new.lost
-        (codec_state from_codec.new from.new.src.items from.new.dst.items) }
+    ensures fits { FitsAt from.new.is_lost (reading_state from_codec.new from.new) }
 {
-    match from.next_packet(from_codec)? {
-        Some(packet) => {
+    match from.next_packet(from_codec) {
+        Ok(Some(packet)) => {
             send(to_codec, to, packet.as_slice())?;
             Ok(true)
         }
-        None => Ok(false),
+        Ok(None) => Ok(false),
+        Err(error) => Err(error),
     }
 }

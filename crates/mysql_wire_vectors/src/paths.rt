@@ -1,39 +1,121 @@
 //! Every path of the facade. A path that is missing or leads elsewhere doesn't compile.
 
-pub use mysql_wire::constants::{
-    CapabilityFlags, ColumnFlags, ColumnType, Command, CursorType, DEFAULT_MAX_ALLOWED_PACKET,
-    Flags2, GeometryType, ItemResult, MAX_PAYLOAD_LEN, MIN_COMPRESS_LENGTH, MariadbBulkIndicator,
-    MariadbCapabilities, SessionStateType, SqlMode, StatusFlags, StmtBulkExecuteFlags,
-    StmtExecuteParamFlags, StmtExecuteParamsFlags, UTF8_GENERAL_CI, UTF8MB4_GENERAL_CI,
-    UnknownCapabilityFlags, UnknownColumnFlags, UnknownColumnType, UnknownCursorType,
-    UnknownFlags2, UnknownGeometryType, UnknownItemResultType, UnknownMariadbBulkIndicator,
-    UnknownMariadbCapabilityFlags, UnknownSessionStateType, UnknownSqlMode, UnknownStatusFlags,
-    UnknownStmtBulkExecuteParamsFlags, UnknownStmtExecuteParamFlags, UnknownStmtExecuteParamsFlags,
-};
-pub use mysql_wire::io::{
-    BufMutExt, InvalidLengthEncodedInteger, InvalidReason, ParseBuf, ReadMysqlExt, WireError,
-    WriteMysqlExt,
-};
-pub use mysql_wire::laws::{
-    appended_run, between_packets, chunks_counted, empty_goes_on, encoded_first, equal_limits,
-    framed_length, id_after_append, joined_limited_runs, joined_runs, joined_splits, nothing_read,
-    one_delivery, one_limited_delivery, one_run, packet_back, run_goes_on, stream_append,
-    unique_framing, values_come_back,
-};
-pub use mysql_wire::misc::raw::{
-    Both, Const, Either, RawBytes, RawConst, RawFlags, RawInt, RawSeq, Skip, Slice,
-};
-pub use mysql_wire::misc::{
-    lenenc_int_len, lenenc_str_len, read_varlen_uint, split_version, varlen_uint_size,
-    write_varlen_uint,
-};
+use bytes::BytesMut;
+pub use mysql_wire::constants::CapabilityFlags;
+pub use mysql_wire::constants::ColumnFlags;
+pub use mysql_wire::constants::ColumnType;
+pub use mysql_wire::constants::Command;
+pub use mysql_wire::constants::CursorType;
+pub use mysql_wire::constants::DEFAULT_MAX_ALLOWED_PACKET;
+pub use mysql_wire::constants::Flags2;
+pub use mysql_wire::constants::GeometryType;
+pub use mysql_wire::constants::ItemResult;
+pub use mysql_wire::constants::MAX_PAYLOAD_LEN;
+pub use mysql_wire::constants::MIN_COMPRESS_LENGTH;
+pub use mysql_wire::constants::MariadbBulkIndicator;
+pub use mysql_wire::constants::MariadbCapabilities;
+pub use mysql_wire::constants::SessionStateType;
+pub use mysql_wire::constants::SqlMode;
+pub use mysql_wire::constants::StatusFlags;
+pub use mysql_wire::constants::StmtBulkExecuteFlags;
+pub use mysql_wire::constants::StmtExecuteParamFlags;
+pub use mysql_wire::constants::StmtExecuteParamsFlags;
+pub use mysql_wire::constants::UTF8_GENERAL_CI;
+pub use mysql_wire::constants::UTF8MB4_GENERAL_CI;
+pub use mysql_wire::constants::UnknownCapabilityFlags;
+pub use mysql_wire::constants::UnknownColumnFlags;
+pub use mysql_wire::constants::UnknownColumnType;
+pub use mysql_wire::constants::UnknownCursorType;
+pub use mysql_wire::constants::UnknownFlags2;
+pub use mysql_wire::constants::UnknownGeometryType;
+pub use mysql_wire::constants::UnknownItemResultType;
+pub use mysql_wire::constants::UnknownMariadbBulkIndicator;
+pub use mysql_wire::constants::UnknownMariadbCapabilityFlags;
+pub use mysql_wire::constants::UnknownSessionStateType;
+pub use mysql_wire::constants::UnknownSqlMode;
+pub use mysql_wire::constants::UnknownStatusFlags;
+pub use mysql_wire::constants::UnknownStmtBulkExecuteParamsFlags;
+pub use mysql_wire::constants::UnknownStmtExecuteParamFlags;
+pub use mysql_wire::constants::UnknownStmtExecuteParamsFlags;
+pub use mysql_wire::io::BufMutExt;
+pub use mysql_wire::io::InvalidLengthEncodedInteger;
+pub use mysql_wire::io::InvalidReason;
+pub use mysql_wire::io::ParseBuf;
+pub use mysql_wire::io::ReadMysqlExt;
+pub use mysql_wire::io::WireError;
+pub use mysql_wire::io::WriteMysqlExt;
+pub use mysql_wire::laws::aligned_goes_on;
+pub use mysql_wire::laws::appended_run;
+pub use mysql_wire::laws::between_packets;
+pub use mysql_wire::laws::bounded_delivery;
+pub use mysql_wire::laws::bounded_limited_delivery;
+pub use mysql_wire::laws::chunks_counted;
+pub use mysql_wire::laws::empty_goes_on;
+pub use mysql_wire::laws::encoded_first;
+pub use mysql_wire::laws::equal_limits;
+pub use mysql_wire::laws::framed_length;
+pub use mysql_wire::laws::id_after_append;
+pub use mysql_wire::laws::joined_limited_runs;
+pub use mysql_wire::laws::joined_runs;
+pub use mysql_wire::laws::joined_splits;
+pub use mysql_wire::laws::nothing_read;
+pub use mysql_wire::laws::one_delivery;
+pub use mysql_wire::laws::one_limited_delivery;
+pub use mysql_wire::laws::one_run;
+pub use mysql_wire::laws::packet_back;
+pub use mysql_wire::laws::run_goes_on;
+pub use mysql_wire::laws::stream_append;
+pub use mysql_wire::laws::unique_framing;
+pub use mysql_wire::laws::values_come_back;
+pub use mysql_wire::misc::lenenc_int_len;
+pub use mysql_wire::misc::lenenc_str_len;
+pub use mysql_wire::misc::raw::Both;
+pub use mysql_wire::misc::raw::Const;
+pub use mysql_wire::misc::raw::Either;
+pub use mysql_wire::misc::raw::IntoNumber;
+pub use mysql_wire::misc::raw::Numbered;
+pub use mysql_wire::misc::raw::RawBytes;
+pub use mysql_wire::misc::raw::RawConst;
+pub use mysql_wire::misc::raw::RawFlags;
+pub use mysql_wire::misc::raw::RawInt;
+pub use mysql_wire::misc::raw::RawSeq;
+pub use mysql_wire::misc::raw::Skip;
+pub use mysql_wire::misc::raw::Slice;
+pub use mysql_wire::misc::raw::field_laws::compared::both_compares;
+pub use mysql_wire::misc::raw::field_laws::compared::raw_int_compares;
+pub use mysql_wire::misc::raw::field_laws::converted::number_there_and_back;
+pub use mysql_wire::misc::raw::field_laws::converted::value_there_and_back;
+pub use mysql_wire::misc::read_varlen_uint;
+pub use mysql_wire::misc::split_version;
+pub use mysql_wire::misc::varlen_uint_size;
+pub use mysql_wire::misc::write_varlen_uint;
+pub use mysql_wire::proto::Binary;
+pub use mysql_wire::proto::Fixed;
+pub use mysql_wire::proto::HasSize;
+pub use mysql_wire::proto::MyDeserialize;
+pub use mysql_wire::proto::MySerialize;
+pub use mysql_wire::proto::ReadSize;
+pub use mysql_wire::proto::Text;
+pub use mysql_wire::proto::Varying;
+pub use mysql_wire::proto::Wire;
+pub use mysql_wire::proto::codec::ChunkDecoder;
+pub use mysql_wire::proto::codec::ChunkInfo;
+pub use mysql_wire::proto::codec::PacketCodec;
+pub use mysql_wire::proto::codec::PacketDst;
+pub use mysql_wire::proto::codec::Visit;
+pub use mysql_wire::proto::codec::deliver;
+pub use mysql_wire::proto::codec::deliver_each;
+pub use mysql_wire::proto::codec::deliver_limited;
+pub use mysql_wire::proto::codec::encode_value;
 pub use mysql_wire::proto::codec::error::PacketCodecError;
-pub use mysql_wire::proto::codec::{
-    ChunkDecoder, ChunkInfo, PacketCodec, PacketDst, Visit, deliver, deliver_each, deliver_limited,
-    encode_value, packet_to_chunks, parse_packet, parse_packet_in,
-};
-pub use mysql_wire::proto::packet_io::{PacketIoError, PacketReader, PacketWriter};
-pub use mysql_wire::proto::{Binary, MyDeserialize, MySerialize, Text, Wire};
+pub use mysql_wire::proto::codec::packet_to_chunks;
+pub use mysql_wire::proto::codec::parse_packet;
+pub use mysql_wire::proto::codec::parse_packet_in;
+pub use mysql_wire::proto::packet_io::PacketIoError;
+pub use mysql_wire::proto::packet_io::PacketReader;
+pub use mysql_wire::proto::packet_io::PacketWriter;
+use std::test::Fail;
+use test_support::facts::all_hold;
 
 /// The same wrappers by the representations that they belong to.
 pub mod raw {
@@ -54,4 +136,23 @@ pub mod texts {
         BareBytes, BareU8Bytes, BareU16Bytes, BytesRepr, ConstBytes, ConstBytesValue, EofBytes,
         FixedLengthText, LenEnc, NullBytes, RawBytes, U8Bytes, U32Bytes,
     };
+}
+
+// What a codec says of a packet that lies whole in `src`, once it is accepted.
+fn accept(codec: &mut PacketCodec, src: &BytesMut) -> Option<(usize, u8)> {
+    codec.front_packet(src, b"")?;
+    Some((codec.accept_front(src), codec.sequence_id()))
+}
+
+#[test]
+fn a_codec_has_its_methods(rt: HostRuntime) -> Result<(), Fail> {
+    let mut codec = PacketCodec::default();
+    let mut src = BytesMut::new(rt.alloc());
+    src.extend_from_slice(b"\x01\0\0\0a")?;
+    all_hold(&[
+        codec.sequence_id() == 0,
+        codec.stands_before(src.as_slice(), b""),
+        !codec.stands_before(src.as_slice(), b"a"),
+        accept(&mut codec, &src) == Some((5, 1)),
+    ])
 }

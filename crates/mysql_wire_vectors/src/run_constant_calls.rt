@@ -7,8 +7,8 @@ use mysql_wire::constants::{
 use mysql_wire_examples::constant_calls::{
     all, bits, column_type_back, column_type_of, command_byte, complement, contains, converted,
     default, difference, empty, from_bits, from_bits_retain, from_bits_truncate,
-    geometry_type_byte, insert, intersection, intersects, is_all, is_empty, item_result_byte,
-    remove, set, status_there_and_back, symmetric_difference, toggle, union,
+    geometry_type_byte, insert, intersection, intersects, is_all, is_empty, is_in_transaction,
+    item_result_byte, remove, set, status_there_and_back, symmetric_difference, toggle, union,
 };
 
 // Two sets that share a bit, the second one with a bit that no flag names.
@@ -61,8 +61,10 @@ fn sets_are_tested(rt: HostRuntime) {
         !contains(first, second),
         intersects(first, second),
         !intersects(first, empty()),
+        is_in_transaction(FIRST),
+        !is_in_transaction(SECOND),
     ];
-    assert!(rt; tested == [true; 12]);
+    assert!(rt; tested == [true; 14]);
 }
 
 #[test]

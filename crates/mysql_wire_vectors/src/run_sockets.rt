@@ -3,7 +3,7 @@
 use mysql_wire::proto::codec::PacketCodec;
 use mysql_wire::proto::packet_io::{PacketIoError, PacketReader, PacketWriter};
 use mysql_wire_examples::login::receive_session;
-use mysql_wire_examples::sockets::{answer_next, ask, relay};
+use mysql_wire_examples::sockets::{answer_in_place, answer_next, ask, relay};
 use std::alloc::Global;
 use std::test::Fail;
 use test_support::facts::{ensure, no_row, same, wrong_row};
@@ -42,11 +42,31 @@ fn answers(codec: &mut PacketCodec, input: &mut Input<'_>, output: &mut Output) 
     }
 }
 
+// The same, where the server reads its commands where they lie.
+fn answers_in_place(
+    codec: &mut PacketCodec,
+    input: &mut Input<'_>,
+    output: &mut Output,
+) -> Option<bool> {
+    if !input.fits(codec) {
+        return Some(false);
+    }
+    match answer_in_place(codec, input, output) {
+        Ok(is_answered) => Some(is_answered),
+        Err(_) => None,
+    }
+}
+
 // How many commands a server answers until its client has gone.
-fn serve(input: &mut Input<'_>, output: &mut Output) -> Option<u8> {
+fn serve(input: &mut Input<'_>, output: &mut Output, in_place: bool) -> Option<u8> {
     let mut codec = PacketCodec::default();
     for count in 0..9u8 {
-        match answers(&mut codec, input, output) {
+        let answered = if in_place {
+            answers_in_place(&mut codec, input, output)
+        } else {
+            answers(&mut codec, input, output)
+        };
+        match answered {
             Some(true) => {}
             Some(false) => return Some(count),
             None => return None,
@@ -87,11 +107,12 @@ fn pass(from: &mut Input<'_>, to: &mut Output) -> Option<u8> {
     None
 }
 
-// A client, a server, and a proxy.
+// A client, a server, one that reads in place, and a proxy.
 #[derive(Clone, Copy)]
 enum Role {
     Client,
     Server,
+    ServerInPlace,
     Proxy,
 }
 
@@ -114,6 +135,13 @@ const ROWS: &[Row] = &[
         b"\x07\0\0\x01\0\0\0\x02\0\0\0\x09\0\0\x01\xff\x17\x04#08S01",
     ),
     (
+        Role::ServerInPlace,
+        b"\x01\0\0\0\x03\x01\0\0\0\x0e",
+        Some(2),
+        b"\x07\0\0\x01\0\0\0\x02\0\0\0\x09\0\0\x01\xff\x17\x04#08S01",
+    ),
+    (Role::ServerInPlace, b"\x01\0\0\x01\x03", None, b""),
+    (
         Role::Proxy,
         b"\x01\0\0\0a\x02\0\0\x01bc",
         Some(2),
@@ -128,7 +156,8 @@ fn is_sent(alloc: Global, row: Row) -> bool {
     };
     let said = match role {
         Role::Client => ask_once(&mut input, &mut output),
-        Role::Server => serve(&mut input, &mut output),
+        Role::Server => serve(&mut input, &mut output, false),
+        Role::ServerInPlace => serve(&mut input, &mut output, true),
         Role::Proxy => pass(&mut input, &mut output),
     };
     (said == wanted) & same(output.into_inner().as_slice(), sent)

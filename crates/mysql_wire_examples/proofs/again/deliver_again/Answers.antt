@@ -1,11 +1,17 @@
-use Rattle.std.proofs.Common.{rules, ◌≡◌, List, ℕ, ◌++◌, ◌+◌, take, drop, Err, ap, sym, subst, inr, refl, ◌∙◌}
+use Rattle.std.proofs.Common.{rules, ◌≡◌, List, ℕ, ◌++◌, ◌+◌, take, drop, length, length-drop, ◌-◌, ◌≤◌, Result, Ok, Err, OnOk, arith, ap, sym, subst, inr, refl, ◌∙◌}
 use Rattle.std.proofs.Math.Seq.{take-add}
 use Rattle.std.proofs.lemmas.List.{append_assoc, take_rest}
 use Rattle.std.proofs.lemmas.Grind.{flat_map-append}
 use Rattle.mysql_wire.specs.Codec.{codec_state}
+use Rattle.mysql_wire.specs.PacketCodecError.{PacketCodecError}
 use Rattle.mysql_wire.specs.PacketCodecError.TheVariants.{OutOfMemory}
 use Rattle.mysql_wire.specs.Runs.{joined, RunsTo}
 use Rattle.mysql_wire_examples.proofs.again.deliver_again.Goals as goal
+
+-- the pieces that were not appended are all that were left
+all_more : (answer : Result (Unit {0}) PacketCodecError) (count more left all : ℕ) → count ≤ all → left ≡ all - count → OnOk answer (more ≡ left) → OnOk answer (count + more ≡ all)
+all_more (Ok done) count more left all fits is told = omega arith
+all_more (Err error) count more left all fits is told = tt
 
 pub runs-preserved : goal.runs-preserved
 runs-preserved g c =
@@ -29,6 +35,7 @@ runs-preserved g c =
     sym (ap joined (take-add count more pieces) ∙ flat_map-append _ (take count pieces) (take more (drop count pieces))) in
     record {
       counted = search rules;
+      all = all_more c.deliver-more.result.1 count more _ (length pieces) c.runs.invariant.counted (ap (λ (z : List _). length z) (take_rest pieces count) ∙ length-drop count pieces) c.deliver-more.ensures.all;
       limited = c.deliver-more.ensures.limit ∙ c.runs.invariant.limited;
       stands = c.deliver-more.ensures.stands;
       so_far = (

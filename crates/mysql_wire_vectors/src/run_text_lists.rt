@@ -1,0 +1,80 @@
+//! Lists of texts, and maps of fields as they were read, run.
+
+use mysql_wire::io::ParseBuf;
+use mysql_wire::misc::raw::bytes::{EofBytes, LenEnc, RawBytes};
+use mysql_wire::misc::raw::int::{LeU32, RawInt};
+use mysql_wire::misc::raw::seq::Seq;
+use mysql_wire_examples::keyed::{note_schema, note_statement, parameters_of, times_of};
+use mysql_wire_examples::text_lists::{Texts, copy_texts, own_texts, push_text, read_and_push};
+use std::alloc::Global;
+use std::borrow::CowSlice;
+use std::collections::{BTreeMap, HashMap};
+use std::test::Fail;
+use test_support::facts::{all_hold, same};
+
+fn are(list: &Texts<'_>, texts: &[&[u8]]) -> bool {
+    let mut all = list.len() == texts.len();
+    for (text, wanted) in list.as_slice().iter().zip(texts) {
+        all &= same(text.as_bytes(), wanted);
+    }
+    all
+}
+
+// Whether a list that is lent has one text more, and its copies are the same.
+fn is_pushed<'a>(alloc: Global, one: &'a [RawBytes<'a, LenEnc>]) -> bool {
+    let mut list: Texts<'a> = Seq::new(CowSlice::Borrowed(one));
+    let copies = match copy_texts(alloc, &list) {
+        Ok(copy) => are(&copy, &[b"a"]) & matches!(copy.0, CowSlice::Borrowed(_)),
+        Err(_) => false,
+    };
+    let pushes = push_text(alloc, &mut list, b"bc").is_ok() & are(&list, &[b"a", b"bc"]);
+    let copied = match copy_texts(alloc, &list) {
+        Ok(copy) => are(&copy, &[b"a", b"bc"]),
+        Err(_) => false,
+    };
+    let owned = match own_texts(alloc, list) {
+        Ok(owned) => are(&owned, &[b"a", b"bc"]),
+        Err(_) => false,
+    };
+    copies & pushes & copied & owned
+}
+
+fn is_read_and_pushed(alloc: Global) -> bool {
+    let mut buf = ParseBuf(b"\x01\0\0\0\x02ab\xff");
+    let is_read = match read_and_push(alloc, &mut buf, b"c") {
+        Ok(list) => are(&list, &[b"ab", b"c"]),
+        Err(_) => false,
+    };
+    is_read & (buf.len() == 1)
+}
+
+fn are_statements(alloc: Global) -> bool {
+    let mut statements = HashMap::new(alloc);
+    let mut all = note_statement(&mut statements, RawInt::<LeU32>::new(7), 2).is_ok();
+    all &= note_statement(&mut statements, RawInt::new(8), 3).is_ok();
+    all &= note_statement(&mut statements, RawInt::new(7), 4).is_ok();
+    all &= parameters_of(&statements, RawInt::new(7)) == Some(4);
+    all &= parameters_of(&statements, RawInt::new(8)) == Some(3);
+    all & parameters_of(&statements, RawInt::new(9)).is_none()
+}
+
+// A name that is owned is that of the same bytes that are lent.
+fn are_schemas(alloc: Global, owned: &RawBytes<'_, EofBytes>) -> bool {
+    let mut schemas = BTreeMap::new(alloc);
+    let mut all = note_schema(&mut schemas, RawBytes::from(b"ab".as_slice()), 1).is_ok();
+    all &= note_schema(&mut schemas, RawBytes::from(b"b".as_slice()), 2).is_ok();
+    all &= times_of(&schemas, owned) == Some(1);
+    all & times_of(&schemas, &RawBytes::from(b"a".as_slice())).is_none()
+}
+
+#[test]
+fn texts_are_pushed_and_copied(rt: HostRuntime) -> Result<(), Fail> {
+    let one = [RawBytes::from(b"a".as_slice())];
+    all_hold(&[is_pushed(rt.alloc(), &one), is_read_and_pushed(rt.alloc())])
+}
+
+#[test]
+fn fields_are_keys(rt: HostRuntime) -> Result<(), Fail> {
+    let owned = RawBytes::from(Vec::from_slice(rt.alloc(), b"ab")?);
+    all_hold(&[are_statements(rt.alloc()), are_schemas(rt.alloc(), &owned)])
+}
