@@ -57,7 +57,7 @@ fn read_lent(
             return Ok(sum);
         }
         sum = sum.wrapping_add(summary(reader.packet()));
-        reader.take_packet(codec);
+        reader.take_packet();
     }
     Ok(sum)
 }

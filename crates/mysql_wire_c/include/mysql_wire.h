@@ -25,14 +25,22 @@
  * What a caller upholds, since C can't:
  *   - a `mysql_wire_connection` starts as NULL, and is never copied: pass its address. It is closed
  *     in the end, or its memory is lost;
- *   - one call at a time on one connection, and all of them on the thread that opened it;
- *   - addresses are valid for the lengths given with them, not NULL even where a length is 0, and
- *     don't overlap each other or the connection's memory: a lent view may be read, not written,
- *     and not handed to a call on the connection that lent it;
+ *   - one call at a time on one connection. It may move between threads, where each call on it
+ *     happens before the next, as under a mutex; calls on two connections may run at once;
+ *   - addresses are valid for the lengths given with them (one may be NULL where its length is 0),
+ *     and don't overlap each other or the connection's memory: a lent view may be read, not
+ *     written, and not handed to a call on the connection that lent it;
  *   - a view lent by a call is read only until the next call on that connection, and not after
  *     `mysql_wire_close`;
  *   - malloc, realloc and free are those of one allocator; no call is made from a signal handler.
  * All else is checked and proved: no call writes outside of what it was given, whatever bytes come.
+ *
+ * What a connection holds: `mysql_wire_feed` keeps all it is given, without a bound of its own. So
+ * feed what one read gave, and take packets until the answer is WAITS. Then `mysql_wire_unread` is
+ * at most the limit and 3 bytes: where a delivery waits, what is unfinished and the rest together
+ * have at most max(limit, what was held) + 3 bytes. (For a packet that had begun when the limit was
+ * lowered, the older limit counts.) The bytes to send stay until they are taken. Buffers grow by
+ * doubling and are used again; their memory is given back by `mysql_wire_close`.
  *
  * Link with -lmysql_wire_c and the kit's -llibc_c.
  *
@@ -42,6 +50,15 @@
 #define MYSQL_WIRE_H
 #include <stddef.h>
 #include <stdint.h>
+
+/* The version of this header, as a text, in its parts, and as `mysql_wire_version` answers it. */
+#define MYSQL_WIRE_VERSION "0.1.0"
+#define MYSQL_WIRE_VERSION_MAJOR 0
+#define MYSQL_WIRE_VERSION_MINOR 1
+#define MYSQL_WIRE_VERSION_PATCH 0
+#define MYSQL_WIRE_VERSION_NUMBER                                          \
+    (MYSQL_WIRE_VERSION_MAJOR * 10000u + MYSQL_WIRE_VERSION_MINOR * 100u + \
+     MYSQL_WIRE_VERSION_PATCH)
 
 #ifdef __cplusplus
 extern "C" {
@@ -65,7 +82,8 @@ typedef struct mysql_wire_span {
 /*
  * The answers. Below 0 is a refusal; at each call stands which ones it has, and what they leave.
  * Every call at NULL (a closed connection) answers MYSQL_WIRE_CLOSED, or 0 where it answers a
- * count, and does nothing.
+ * count; it empties a view that it would set, sets a `len` that it would set to 0, and does nothing
+ * else.
  */
 enum {
     MYSQL_WIRE_OK = 0,
@@ -83,6 +101,9 @@ enum {
     MYSQL_WIRE_NOT_A_NUMBER = -10   /* fb or ff where a length-encoded integer has to stand, or a
                                        width that isn't 1 to 8 */
 };
+
+/* The version of the library: 10000 times its first number, 100 times its second, and its third. */
+uint32_t mysql_wire_version(void);
 
 /*
  * A connection of packets of at most `limit` bytes each, the next of them numbered 0. It goes where
@@ -104,11 +125,12 @@ int32_t mysql_wire_feed(mysql_wire_connection *connection, const uint8_t *bytes,
 
 /*
  * Lends the next packet's payload, where it stands whole. The same packet is lent again until it is
- * taken. A packet of less than 16777215 bytes is lent where it came, and costs no copy.
+ * taken. A packet of less than 16777215 bytes is lent where it came, and costs no copy and no
+ * memory; but where the limit was set below a packet whose header had come, that one is copied.
  * PACKET: `packet` is the payload. WAITS: feed more bytes. TOO_LARGE: the header stays, and under a
  * larger limit the next call goes on. NO_MEMORY: nothing is lost. OUT_OF_SYNC: the stream is lost;
- * each later peek, next, feed, set_limit and sequence_id answers the same and changes nothing. Each
- * but PACKET leaves an empty `packet`.
+ * each later peek, next, feed, set_limit and sequence_id answers the same and changes nothing, and
+ * encode goes on. Each but PACKET leaves an empty `packet`.
  */
 int32_t mysql_wire_peek(mysql_wire_connection *connection, mysql_wire_view *packet);
 
@@ -118,7 +140,8 @@ int32_t mysql_wire_take(mysql_wire_connection *connection);
 /*
  * Copies the next packet's payload to `room`, and takes it; `len` is how many bytes it has.
  * PACKET; ROOM_TOO_SMALL: `len` says how many bytes are needed, the packet is lent and stays, and a
- * call with more room goes on. All others as `mysql_wire_peek`, with a `len` of 0.
+ * call with more room goes on. All others as `mysql_wire_peek`, with a `len` of 0. Each but PACKET
+ * leaves the room as it was.
  */
 int32_t mysql_wire_next(mysql_wire_connection *connection, uint8_t *room, size_t room_len,
                         size_t *len);
@@ -144,7 +167,8 @@ size_t mysql_wire_unread(mysql_wire_connection *connection);
 
 /*
  * Frames a payload behind the bytes that wait to be sent, in as many chunks as it needs. Its number
- * follows that of the last packet, sent, taken or lent.
+ * follows that of the last packet, sent, taken or lent. After OUT_OF_SYNC that goes on: its number is
+ * the one that was expected of the chunk that came, or follows that of the last packet sent since.
  * OK; TOO_LARGE: it is above the limit; NO_MEMORY. Both refusals change nothing.
  */
 int32_t mysql_wire_encode(mysql_wire_connection *connection, const uint8_t *payload, size_t len);

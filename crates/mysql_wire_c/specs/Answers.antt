@@ -2,26 +2,36 @@
 use Rattle.std.specs.Prelude.{◌≡◌, ℕ, ◌⊎◌, List, [], None, MatchOption, Ok, Err, true, false}
 use Rattle.mysql_wire.specs.PacketCodecError.{PacketCodecError}
 use Rattle.mysql_wire.specs.PacketCodecError.TheVariants.{PacketsOutOfSync}
-use Rattle.mysql_wire.specs.Codec.{CodecState}
+use Rattle.mysql_wire.specs.Codec.{CodecState, Stands}
+use Rattle.mysql_wire.specs.InPlace.{HasFront}
 use Rattle.mysql_wire.specs.LimitedRuns.{DecodesAligned}
 use Rattle.mysql_wire.specs.Laws.{empty_state}
-use Rattle.mysql_wire_c.specs.Side.{Side}
+use Rattle.mysql_wire_c.specs.Side.{Side, ConnectionState}
 
 -- a connection to which nothing has come, with this limit
 abbrev pub new_side : ℕ → Side
 new_side limit =
     record { is_lost = false; lent = None; state = empty_state 0 limit; pending = [] }
 
+abbrev pub new_connection : ℕ → ConnectionState
+new_connection limit = record { side = new_side limit; is_in_place = false }
+
 -- a state with this packet held
 abbrev pub holding : List ℕ → CodecState → CodecState
 holding packet state = record state { held = packet }
 
 -- the packet is the one that was lent, or else the next one, as one call of the codec's `decode`
--- has it; and this stands behind it
+-- has it; and this stands behind it, with nothing held
 abbrev pub HandsOut : Side → List ℕ → CodecState → Type 0
 HandsOut before packet behind =
-    MatchOption before.lent (DecodesAligned before.state (Ok true) (holding packet behind))
+    (behind.held ≡ [])
+    × MatchOption before.lent (DecodesAligned before.state (Ok true) (holding packet behind))
     (λ lent. (packet ≡ lent) × (behind ≡ before.state))
+
+-- no packet is lent, the codec stands, and the chunk in front is a whole packet
+abbrev pub HasPacket : Side → Type 0
+HasPacket side =
+    (side.is_lost ≡ false) × (side.lent ≡ None) × Stands side.state × HasFront side.state
 
 -- no packet was lent, and none is; one call of `decode` asks for more bytes, and leaves this
 abbrev pub Waits : Side → Side → Type 0
@@ -39,5 +49,5 @@ Stops before error after =
 abbrev pub LosesSync : Side → Side → Type 0
 LosesSync before after =
     (after.is_lost ≡ true) × (((before.is_lost ≡ true) × (after ≡ before))
-    ⊎ ((before.lent ≡ None) × (after.lent ≡ None)
+    ⊎ ((before.is_lost ≡ false) × (before.lent ≡ None) × (after.lent ≡ None)
     × DecodesAligned before.state (Err PacketsOutOfSync) after.state))

@@ -4,12 +4,17 @@ use Rattle.mysql_wire.specs.PacketCodecError.TheVariants.{OutOfMemory, PacketToo
 use Rattle.mysql_wire.specs.Framing.{framing, next_id}
 use Rattle.mysql_wire.specs.Laws.{appended}
 use Rattle.mysql_wire_c.specs.declared.codes.TheConstants.{OK, WAITS, PACKET, TOO_LARGE, OUT_OF_SYNC, NO_MEMORY, ROOM_TOO_SMALL, PACKET_WAITS, NO_PACKET}
-use Rattle.mysql_wire_c.specs.Side.{Side}
-use Rattle.mysql_wire_c.specs.Answers.{HandsOut, Waits, Stops, LosesSync}
+use Rattle.mysql_wire_c.specs.Side.{Side, ConnectionState}
+use Rattle.mysql_wire_c.specs.Answers.{HandsOut, HasPacket, Waits, Stops, LosesSync}
 
 -- this holds of two connections, where both are open
-abbrev pub Both : Option Side → Option Side → (Side → Side → Type 0) → Type 0
-Both old new holds = IfSome old (λ before. IfSome new (λ after. holds before after))
+abbrev pub BothStates : Option ConnectionState → Option ConnectionState
+    → (ConnectionState → ConnectionState → Type 0) → Type 0
+BothStates old new holds = IfSome old (λ before. IfSome new (λ after. holds before after))
+
+-- and this of their sides
+abbrev pub Both : Option ConnectionState → Option ConnectionState → (Side → Side → Type 0) → Type 0
+Both old new holds = BothStates old new (λ before after. holds before.side after.side)
 
 pub record Feeds (bytes : List ℕ) (answer : ℤ) (before after : Side) : Type 0 where
   pub fed : answer ≡ OK → (before.is_lost ≡ false)
@@ -33,25 +38,33 @@ pub record Peeks (answer : ℤ) (before after : Side) : Type 0 where
   pub limit : after.state.limit ≡ before.state.limit
   pub pending : after.pending ≡ before.pending
 
+-- a whole packet in front is lent where it came, and one that is lent stays where it lies
+pub record LendsInPlace (answer : ℤ) (before after : ConnectionState) : Type 0 where
+  pub found : HasPacket before.side → (answer ≡ PACKET) × (after.is_in_place ≡ true)
+  pub again : IsSome before.side.lent → after.is_in_place ≡ before.is_in_place
+
 pub record Takes (answer : ℤ) (before after : Side) : Type 0 where
   pub taken : answer ≡ OK → IsSome before.lent × (after ≡ record before { lent = None })
   pub none : answer ≡ NO_PACKET → (before.lent ≡ None) × (after ≡ before)
   pub answers : (answer ≡ OK) ⊎ (answer ≡ NO_PACKET)
 
--- the packet is copied to the front of the room, which has so many bytes of it then
+-- the packet is copied to the front of the room, which has so many bytes of it then, and is taken
 pub record CopiesNext (old_room room : List ℕ) (len : ℕ) (answer : ℤ) (before after : Side)
     : Type 0 where
-  pub packet : answer ≡ PACKET → (after.lent ≡ None) × (len ≤ length room)
-      × HandsOut before (take len room) after.state
+  pub packet : answer ≡ PACKET → (after.lent ≡ None) × (after.is_lost ≡ false)
+      × (len ≤ length room) × HandsOut before (take len room) after.state
   pub small : answer ≡ ROOM_TOO_SMALL → IfSome after.lent (λ packet.
       HandsOut before packet after.state × (len ≡ length packet) × (length old_room < len))
-  pub lent : answer ≡ ROOM_TOO_SMALL → IsSome after.lent
+  pub lent : answer ≡ ROOM_TOO_SMALL → IsSome after.lent × (after.is_lost ≡ false)
+  pub found : HasPacket before → (answer ≡ PACKET) ⊎ (answer ≡ ROOM_TOO_SMALL)
   pub waits : answer ≡ WAITS → Waits before after
   pub too_large : answer ≡ TOO_LARGE → Stops before PacketTooLarge after
   pub memory : answer ≡ NO_MEMORY → Stops before OutOfMemory after
   pub lost : answer ≡ OUT_OF_SYNC → LosesSync before after
   pub answers : (answer ≡ PACKET) ⊎ (answer ≡ ROOM_TOO_SMALL) ⊎ (answer ≡ WAITS)
       ⊎ (answer ≡ TOO_LARGE) ⊎ (answer ≡ NO_MEMORY) ⊎ (answer ≡ OUT_OF_SYNC)
+  pub stays_lost : before.is_lost ≡ true → answer ≡ OUT_OF_SYNC
+  pub empty : (answer ≡ PACKET) ⊎ (answer ≡ ROOM_TOO_SMALL) ⊎ (len ≡ 0)
   pub limit : after.state.limit ≡ before.state.limit
   pub pending : after.pending ≡ before.pending
   pub same_room : (answer ≡ PACKET) ⊎ (room ≡ old_room)
@@ -64,11 +77,13 @@ pub record SetsLimit (limit : ℕ) (answer : ℤ) (before after : Side) : Type 0
       × (after ≡ record between { state = record between.state { limit = limit } })
   pub packet : answer ≡ PACKET_WAITS
       → IfSome after.lent (λ packet. HandsOut before packet after.state)
-  pub lent : answer ≡ PACKET_WAITS → IsSome after.lent
+  pub lent : answer ≡ PACKET_WAITS → IsSome after.lent × (after.is_lost ≡ false)
+  pub found : HasPacket before → answer ≡ PACKET_WAITS
   pub memory : answer ≡ NO_MEMORY → Stops before OutOfMemory after
   pub lost : answer ≡ OUT_OF_SYNC → LosesSync before after
   pub answers : (answer ≡ OK) ⊎ (answer ≡ PACKET_WAITS) ⊎ (answer ≡ NO_MEMORY)
       ⊎ (answer ≡ OUT_OF_SYNC)
+  pub stays_lost : before.is_lost ≡ true → answer ≡ OUT_OF_SYNC
   pub refused : (answer ≡ OK) ⊎ (after.state.limit ≡ before.state.limit)
   pub pending : after.pending ≡ before.pending
 
@@ -93,6 +108,7 @@ pub record Sends (count : ℕ) (before after : Side) : Type 0 where
 pub record Resets (answer : ℤ) (before after : Side) : Type 0 where
   pub reset : answer ≡ OK → after ≡ record before { state = record before.state { id = 0 } }
   pub refused : (answer ≡ OK) ⊎ (after ≡ before)
+  pub memory : answer ≡ NO_MEMORY → IsSome before.lent
   pub answers : (answer ≡ OK) ⊎ (answer ≡ NO_MEMORY)
 
 -- the number of the next packet

@@ -2,5 +2,6 @@ pub mod Side
 pub mod Answers
 pub mod Calls
 pub mod Fields
+pub mod Messages
 pub mod Owned
 pub mod Lent

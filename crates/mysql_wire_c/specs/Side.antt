@@ -58,3 +58,17 @@ IsReady Lost state = ⊤
 abbrev pub IsNumbered : Front → ℕ → PacketCodec → Type 0
 IsNumbered Lost id codec = ⊤
 IsNumbered other id codec = id ≡ expected_id codec
+
+-- the packet that is lent lies where it came
+abbrev pub is_in_place_at : Front → Bool
+is_in_place_at InPlace = true
+is_in_place_at other = false
+
+-- a connection: its side, and whether the packet that is lent lies where it came
+pub record ConnectionState : Type 0 where
+  pub side : Side
+  pub is_in_place : Bool
+
+abbrev pub connection_of : Front → CodecState → List ℕ → ConnectionState
+connection_of front state pending =
+    record { side = side_of front state pending; is_in_place = is_in_place_at front }

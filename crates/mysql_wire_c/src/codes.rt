@@ -1,6 +1,7 @@
 //! What the calls answer.
 
-ghost use Rattle.std.specs.Prelude.{◌≡◌, ◌<◌, ◌-◌, length, slice_index};
+ghost use Rattle.std.specs.Prelude.{◌≡◌, [], ◌∷◌, ◌++◌};
+ghost use Rattle.mysql_wire_c.specs.Messages.{message};
 
 /// Done.
 pub const OK: i32 = 0;
@@ -41,10 +42,9 @@ pub const MISSING_BYTES: i32 = -9;
 /// No number begins here, or no number has this width.
 pub const NOT_A_NUMBER: i32 = -10;
 
-/// A text for a code. It ends with a zero.
+/// The text for a code, and a zero.
 pub fn text(code: i32) -> &'static [u8]
-    ensures some { 1 < length result.now }
-    ensures zero { slice_index result.now (length result.now - 1) ≡ 0 }
+    ensures { result.now ≡ message code ++ 0 ∷ [] }
 {
     match code {
         OK => b"done, or more bytes are needed\0",

@@ -1,13 +1,14 @@
 //! One side of a connection: a codec with its buffers.
 
-ghost use Rattle.std.specs.Prelude.{◌≡◌, ◌≢◌, ◌⊎◌, ◌+◌, ◌-◌, ◌/◌, ◌%◌, ◌++◌, length, take, drop, min, Ok, Err, true, false, IfSome, IsSome, OnOk};
+ghost use Rattle.std.specs.Prelude.{◌≡◌, ◌≢◌, ◌⊎◌, ◌+◌, ◌-◌, ◌/◌, ◌%◌, ◌++◌, length, take, drop, min, None, Ok, Err, true, false, IfSome, IsSome, OnOk, OnErr};
 ghost use Rattle.mysql_wire.specs.PacketCodecError.TheVariants.{OutOfMemory, PacketTooLarge, PacketsOutOfSync};
-ghost use Rattle.mysql_wire.specs.Codec.{codec_state};
+ghost use Rattle.mysql_wire.specs.Codec.{codec_state, Stands};
 ghost use Rattle.mysql_wire.specs.Framing.{max_payload};
 ghost use Rattle.mysql_wire.specs.LimitedRuns.{DecodesAligned};
+ghost use Rattle.mysql_wire.specs.InPlace.{HasFront};
 ghost use Rattle.mysql_wire_c.specs.Side.{IsReady, IsNumbered, is_lost_at, lent_at, behind_lent};
-ghost use Rattle.mysql_wire_c.specs.Answers.{new_side, holding};
-ghost use Rattle.mysql_wire_c.specs.Calls.{Feeds, Peeks, Takes, CopiesNext, SetsLimit, unread_count, Encodes, Sends, Resets, Numbers};
+ghost use Rattle.mysql_wire_c.specs.Answers.{new_connection, holding};
+ghost use Rattle.mysql_wire_c.specs.Calls.{Feeds, Peeks, LendsInPlace, Takes, CopiesNext, SetsLimit, unread_count, Encodes, Sends, Resets, Numbers};
 
 use crate::codes::{
     NO_MEMORY, NO_PACKET, OK, OUT_OF_SYNC, PACKET, PACKET_WAITS, ROOM_TOO_SMALL, TOO_LARGE, WAITS,
@@ -38,8 +39,8 @@ enum Front {
 /// One side of a connection: the bytes that came and aren't taken, the packet that is put together,
 /// the numbers of packets, and the bytes that wait to be sent.
 ///
-/// Contracts see it as a `Side`: whether it is lost, the packet that is lent, the codec behind it,
-/// and the bytes that wait.
+/// Contracts see its `Side`: whether it is lost, the packet that is lent, the codec behind it, and
+/// the bytes that wait; and whether the packet that is lent lies where it came.
 #[derive(Drop)]
 pub struct Connection {
     codec: PacketCodec,
@@ -53,11 +54,11 @@ pub struct Connection {
 
 impl Model for Connection {
     ghost use Rattle.mysql_wire.specs.Codec.{codec_state};
-    ghost use Rattle.mysql_wire_c.specs.Side.{Side, side_of, IsReady, IsNumbered};
+    ghost use Rattle.mysql_wire_c.specs.Side.{ConnectionState, connection_of, IsReady, IsNumbered};
 
-    ghost Value = { Side };
+    ghost Value = { ConnectionState };
 
-    ghost view = { λ c. side_of c.front (codec_state c.codec c.src.items c.dst.items)
+    ghost view = { λ c. connection_of c.front (codec_state c.codec c.src.items c.dst.items)
         c.output.items };
 
     ghost invariant = { λ c. IsReady c.front (codec_state c.codec c.src.items c.dst.items)
@@ -67,7 +68,7 @@ impl Model for Connection {
 impl Connection {
     /// A connection to which nothing has come, of packets of at most `limit` bytes.
     pub fn new(alloc: Global, limit: usize) -> Connection
-        ensures { result ≡ new_side limit }
+        ensures { result ≡ new_connection limit }
     {
         let mut codec = PacketCodec::default();
         codec.max_allowed_packet = limit;
@@ -87,7 +88,7 @@ impl Connection {
     /// Takes bytes that came, behind those that are unread. `OUT_OF_SYNC` where the connection is
     /// lost, `NO_MEMORY` where memory was refused: then nothing is taken.
     pub fn feed(&mut self, bytes: &[u8]) -> i32
-        ensures { Feeds bytes.now result self.old self.new }
+        ensures { Feeds bytes.now result self.old.side self.new.side }
     {
         if let Front::Lost = self.front {
             return OUT_OF_SYNC;
@@ -100,7 +101,8 @@ impl Connection {
 
     /// Lends the next packet, where it stands whole; one that is lent already is lent again.
     pub fn peek(&mut self) -> i32
-        ensures { Peeks result self.old self.new }
+        ensures peeks { Peeks result self.old.side self.new.side }
+        ensures in_place { LendsInPlace result self.old self.new }
     {
         match self.front {
             Front::InPlace | Front::Copied => PACKET,
@@ -117,7 +119,7 @@ impl Connection {
 
     /// The packet that is lent; no bytes where none is.
     pub fn packet(&self) -> &[u8]
-        ensures { IfSome self.now.lent (λ packet. result.now ≡ packet) }
+        ensures { IfSome self.now.side.lent (λ packet. result.now ≡ packet) }
     {
         match self.front {
             Front::InPlace => match self.codec.front_packet(&self.src, self.dst.as_slice()) {
@@ -131,7 +133,7 @@ impl Connection {
 
     /// Takes the packet that is lent. `NO_PACKET` where none is.
     pub fn take(&mut self) -> i32
-        ensures { Takes result self.old self.new }
+        ensures { Takes result self.old.side self.new.side }
     {
         match self.front {
             Front::InPlace => {
@@ -198,6 +200,9 @@ fn find(
         (codec_state codec.old src.old.items dst.old.items) (Err PacketsOutOfSync) after }
     ensures answers { (result ≡ PACKET) ⊎ (result ≡ WAITS) ⊎ (result ≡ TOO_LARGE)
         ⊎ (result ≡ NO_MEMORY) ⊎ (result ≡ OUT_OF_SYNC) }
+    // A packet that lies in front is lent there.
+    ensures in_place { let before = codec_state codec.old src.old.items dst.old.items in
+        Stands before → HasFront before → (result ≡ PACKET) × (front.new ≡ Front.InPlace) }
     ensures limit { codec.new.max_allowed_packet ≡ codec.old.max_allowed_packet }
 {
     if codec.stands_at(src, dst) && codec.front_packet(src, dst).is_some() {
@@ -227,7 +232,7 @@ impl Connection {
     /// Copies the next packet to `room`, and takes it. `len` is how many bytes it has, and 0 where
     /// there is none. `ROOM_TOO_SMALL`: it is lent, and stays.
     pub fn next(&mut self, room: &mut [u8], len: &mut usize) -> i32
-        ensures { CopiesNext room.old room.new len.new result self.old self.new }
+        ensures { CopiesNext room.old room.new len.new result self.old.side self.new.side }
     {
         *len = 0;
         let code = self.peek();
@@ -241,15 +246,23 @@ impl Connection {
             return ROOM_TOO_SMALL;
         }
         room[..count].copy_from_slice(packet);
-        self.take();
+        self.take_lent();
         PACKET
+    }
+
+    // Takes the packet that is lent.
+    fn take_lent(&mut self)
+        requires { IsSome self.old.side.lent }
+        ensures { self.new.side ≡ record self.old.side { lent = None } }
+    {
+        self.take();
     }
 
     /// Sets the most bytes of a packet, for the headers that end in bytes that are fed from now on;
     /// where the packet in front is too large, for all that is unread. `PACKET_WAITS`: a packet
     /// stands whole, and is lent; it is to be taken first. Every answer but `OK` leaves the limit.
     pub fn set_limit(&mut self, limit: usize) -> i32
-        ensures { SetsLimit limit result self.old self.new }
+        ensures { SetsLimit limit result self.old.side self.new.side }
     {
         match self.peek() {
             WAITS | TOO_LARGE => {
@@ -264,7 +277,7 @@ impl Connection {
     /// How many bytes came of which no packet was made; the headers of full chunks that are put
     /// together aren't counted.
     pub fn unread(&self) -> usize
-        ensures { result ≡ unread_count self.now }
+        ensures { result ≡ unread_count self.now.side }
     {
         match self.front {
             Front::InPlace => {
@@ -282,7 +295,7 @@ impl Connection {
     /// Frames a payload behind the bytes that wait to be sent, numbered on from the packet that was
     /// lent or sent last. `TOO_LARGE` and `NO_MEMORY` change nothing.
     pub fn encode(&mut self, payload: &[u8]) -> i32
-        ensures { Encodes payload.now result self.old self.new }
+        ensures { Encodes payload.now result self.old.side self.new.side }
     {
         match set_aside(
             &mut self.codec,
@@ -309,9 +322,9 @@ impl Connection {
     /// Moves bytes that wait to be sent to `room`, as many as it has place for. The answer is how
     /// many.
     pub fn output(&mut self, room: &mut [u8]) -> usize
-        ensures count { result ≡ min (length self.old.pending) (length room.old) }
-        ensures moved { room.new ≡ take result self.old.pending ++ drop result room.old }
-        ensures sends { Sends result self.old self.new }
+        ensures count { result ≡ min (length self.old.side.pending) (length room.old) }
+        ensures moved { room.new ≡ take result self.old.side.pending ++ drop result room.old }
+        ensures sends { Sends result self.old.side self.new.side }
     {
         let bytes = self.output.as_slice();
         let count = bytes.len().min(room.len());
@@ -322,7 +335,7 @@ impl Connection {
 
     /// The bytes that wait to be sent.
     pub fn pending(&self) -> &[u8]
-        ensures { result.now ≡ self.now.pending }
+        ensures { result.now ≡ self.now.side.pending }
     {
         self.output.as_slice()
     }
@@ -330,8 +343,8 @@ impl Connection {
     /// Drops so many of the bytes that wait to be sent, or all where there are fewer. The answer is
     /// how many.
     pub fn sent(&mut self, count: usize) -> usize
-        ensures count { result ≡ min count (length self.old.pending) }
-        ensures sends { Sends result self.old self.new }
+        ensures count { result ≡ min count (length self.old.side.pending) }
+        ensures sends { Sends result self.old.side self.new.side }
     {
         let count = count.min(self.output.len());
         self.output.advance(count);
@@ -340,7 +353,7 @@ impl Connection {
 
     /// Numbers the next packet 0, as at the start of a command. `NO_MEMORY` changes nothing.
     pub fn reset(&mut self) -> i32
-        ensures { Resets result self.old self.new }
+        ensures { Resets result self.old.side self.new.side }
     {
         match set_aside(
             &mut self.codec,
@@ -362,7 +375,7 @@ impl Connection {
 impl Connection {
     /// The number of the next packet, sent or received. `OUT_OF_SYNC` where the connection is lost.
     pub fn sequence_id(&self) -> i32
-        ensures { Numbers result self.now }
+        ensures { Numbers result self.now.side }
     {
         match self.front {
             Front::InPlace => self.id.wrapping_add(1) as i32,
@@ -385,6 +398,7 @@ fn set_aside(
     ensures ready { IsReady front.new (codec_state codec.new src.new.items dst.new.items) }
     ensures numbered { IsNumbered front.new id.new codec.new }
     ensures apart { OnOk result (front.new ≢ Front.InPlace) }
+    ensures memory { OnErr result (front.old ≡ Front.InPlace) }
     ensures lost { is_lost_at front.new ≡ is_lost_at front.old }
     ensures lent { lent_at front.new (codec_state codec.new src.new.items dst.new.items)
         ≡ lent_at front.old (codec_state codec.old src.old.items dst.old.items) }
@@ -404,7 +418,7 @@ fn set_aside(
 
 /// A connection on the heap.
 pub fn boxed(alloc: Global, limit: usize) -> Option<Box<Connection, Global>>
-    ensures { IfSome result (λ connection. connection.value ≡ new_side limit) }
+    ensures { IfSome result (λ connection. connection.value ≡ new_connection limit) }
 {
     match Box::new(alloc, Connection::new(alloc, limit)) {
         Ok(connection) => Some(connection),

@@ -10,8 +10,9 @@ ghost use Rattle.mysql_wire.specs.NullText.{is_zero};
 ghost use Rattle.mysql_wire.specs.Spelling.{SpellsNothing};
 ghost use Rattle.mysql_wire.specs.Lenenc.{IsLenenc, IsLenencOrMark, lenenc_bytes};
 ghost use Rattle.mysql_wire_c.specs.declared.codes.TheConstants.{MISSING_BYTES, NOT_A_NUMBER, ROOM_TOO_SMALL};
-ghost use Rattle.mysql_wire_c.specs.Answers.{new_side};
-ghost use Rattle.mysql_wire_c.specs.Calls.{Both, Feeds, Peeks, Takes, CopiesNext, SetsLimit, unread_count, Encodes, Sends, Resets, Numbers};
+ghost use Rattle.mysql_wire_c.specs.Answers.{new_connection};
+ghost use Rattle.mysql_wire_c.specs.Calls.{Both, BothStates, Feeds, Peeks, LendsInPlace, Takes, CopiesNext, SetsLimit, unread_count, Encodes, Sends, Resets, Numbers};
+ghost use Rattle.mysql_wire_c.specs.Messages.{message};
 ghost use Rattle.mysql_wire_c.specs.Fields.{IsCutShort, IsMark, ReadsAt, WritesAt, text_at};
 
 pub mod codes;
@@ -28,14 +29,25 @@ use crate::view::View;
 use std::alloc::Global;
 use std::mem;
 
+// 0.1.0: 10000 times the first number, 100 times the second, and the third.
+const VERSION: u32 = 100;
+
+/// The version of the library, as one number.
+#[unsafe(no_mangle)]
+pub extern "C" fn mysql_wire_version() -> u32
+    ensures { result ≡ 100 }
+{
+    VERSION
+}
+
 /// Puts a connection with a limit on packets into a handle of nothing.
 #[unsafe(no_mangle)]
 pub extern "C" fn mysql_wire_open(alloc: Global, limit: usize, handle: &mut Handle) -> i32
     ensures opened { result ≡ OK → (handle.old.connection ≡ None)
-        × (handle.new.connection ≡ Some (new_side limit)) }
+        × (handle.new.connection ≡ Some (new_connection limit)) }
     ensures refused { (result ≡ OK) ⊎ (handle.new ≡ handle.old) }
     ensures answers { (result ≡ OK) ⊎ (result ≡ IS_OPEN) ⊎ (result ≡ NO_MEMORY) }
-    ensures is_open { result ≡ IS_OPEN → IsSome handle.old.connection }
+    ensures is_open { (result ≡ IS_OPEN) ↔ IsSome handle.old.connection }
 {
     if !handle.is_closed() {
         return IS_OPEN;
@@ -81,8 +93,10 @@ pub extern "C" fn mysql_wire_peek(handle: &mut Handle, packet: &mut View) -> i32
     ensures open { is_some handle.new.connection ≡ is_some handle.old.connection }
     ensures closed { handle.old.connection ≡ None → result ≡ CLOSED }
     ensures peeks { Both handle.old.connection handle.new.connection (Peeks result) }
+    ensures in_place { BothStates handle.old.connection handle.new.connection
+        (LendsInPlace result) }
     ensures len { result ≡ PACKET → IfSome handle.new.connection (λ after.
-        IfSome after.lent (λ lent. packet.new.len ≡ length lent)) }
+        IfSome after.side.lent (λ lent. packet.new.len ≡ length lent)) }
     ensures empty { (result ≡ PACKET) ⊎ (packet.new.len ≡ 0) }
 {
     packet.show(&[]);
@@ -115,7 +129,8 @@ pub extern "C" fn mysql_wire_take(handle: &mut Handle) -> i32
 #[unsafe(no_mangle)]
 pub extern "C" fn mysql_wire_next(handle: &mut Handle, room: &mut [u8], len: &mut usize) -> i32
     ensures open { is_some handle.new.connection ≡ is_some handle.old.connection }
-    ensures closed { handle.old.connection ≡ None → result ≡ CLOSED }
+    ensures closed { handle.old.connection ≡ None
+        → (result ≡ CLOSED) × (room.new ≡ room.old) × (len.new ≡ 0) }
     ensures copies { Both handle.old.connection handle.new.connection
         (CopiesNext room.old room.new len.new result) }
 {
@@ -145,7 +160,7 @@ pub extern "C" fn mysql_wire_set_limit(handle: &mut Handle, limit: usize) -> i32
 pub extern "C" fn mysql_wire_unread(handle: &mut Handle) -> usize
     ensures same { handle.new.connection ≡ handle.old.connection }
     ensures count { MatchOption handle.old.connection (result ≡ 0)
-        (λ side. result ≡ unread_count side) }
+        (λ state. result ≡ unread_count state.side) }
 {
     if handle.is_closed() {
         return 0;
@@ -171,7 +186,7 @@ pub extern "C" fn mysql_wire_encode(handle: &mut Handle, payload: &[u8]) -> i32
 #[unsafe(no_mangle)]
 pub extern "C" fn mysql_wire_output(handle: &mut Handle, room: &mut [u8]) -> usize
     ensures open { is_some handle.new.connection ≡ is_some handle.old.connection }
-    ensures closed { handle.old.connection ≡ None → result ≡ 0 }
+    ensures closed { handle.old.connection ≡ None → (result ≡ 0) × (room.new ≡ room.old) }
     ensures moves { Both handle.old.connection handle.new.connection (λ before after.
         (result ≡ min (length before.pending) (length room.old))
         × (room.new ≡ take result before.pending ++ drop result room.old)
@@ -188,7 +203,7 @@ pub extern "C" fn mysql_wire_output(handle: &mut Handle, room: &mut [u8]) -> usi
 pub extern "C" fn mysql_wire_pending(handle: &mut Handle, bytes: &mut View)
     ensures same { handle.new.connection ≡ handle.old.connection }
     ensures len { MatchOption handle.old.connection (bytes.new.len ≡ 0)
-        (λ side. bytes.new.len ≡ length side.pending) }
+        (λ state. bytes.new.len ≡ length state.side.pending) }
 {
     bytes.show(&[]);
     if handle.is_closed() {
@@ -231,7 +246,7 @@ pub extern "C" fn mysql_wire_reset(handle: &mut Handle) -> i32
 pub extern "C" fn mysql_wire_sequence_id(handle: &mut Handle) -> i32
     ensures same { handle.new.connection ≡ handle.old.connection }
     ensures number { MatchOption handle.old.connection (result ≡ CLOSED)
-        (λ side. Numbers result side) }
+        (λ state. Numbers result state.side) }
 {
     if handle.is_closed() {
         return CLOSED;
@@ -239,10 +254,10 @@ pub extern "C" fn mysql_wire_sequence_id(handle: &mut Handle) -> i32
     handle.connection().sequence_id()
 }
 
-/// A text for a code, ended by a zero that isn't counted.
+/// The text for a code, ended by a zero that isn't counted.
 #[unsafe(no_mangle)]
 pub extern "C" fn mysql_wire_message(code: i32, text: &mut View)
-    ensures { 0 < text.new.len }
+    ensures { text.new.len ≡ length (message code) }
 {
     text.show(codes::text(code));
     text.len = text.len.saturating_sub(1);

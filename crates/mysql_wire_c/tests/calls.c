@@ -16,20 +16,21 @@ static mysql_wire_connection opened(size_t limit) {
 
 static bool a_closed_connection_answers_so(void) {
     mysql_wire_connection none = NULL;
-    uint8_t room[4] = {0};
+    uint8_t room[5] = "....";
     size_t len = 7;
     mysql_wire_view view = {room, 3};
     CHECK(mysql_wire_feed(&none, room, 4) == MYSQL_WIRE_CLOSED);
-    CHECK(mysql_wire_peek(&none, &view) == MYSQL_WIRE_CLOSED && view.len == 0);
+    CHECK(mysql_wire_peek(&none, &view) == MYSQL_WIRE_CLOSED && shows(view, "", 0));
     CHECK(mysql_wire_take(&none) == MYSQL_WIRE_CLOSED);
     CHECK(mysql_wire_next(&none, room, 4, &len) == MYSQL_WIRE_CLOSED && len == 0);
     CHECK(mysql_wire_set_limit(&none, 1) == MYSQL_WIRE_CLOSED);
     CHECK(mysql_wire_unread(&none) == 0);
     CHECK(mysql_wire_encode(&none, room, 4) == MYSQL_WIRE_CLOSED);
     CHECK(mysql_wire_output(&none, room, 4) == 0);
+    CHECK(memcmp(room, "....", 4) == 0);
     view.len = 3;
     mysql_wire_pending(&none, &view);
-    CHECK(view.len == 0);
+    CHECK(shows(view, "", 0));
     CHECK(mysql_wire_sent(&none, 4) == 0);
     CHECK(mysql_wire_reset(&none) == MYSQL_WIRE_CLOSED);
     CHECK(mysql_wire_sequence_id(&none) == MYSQL_WIRE_CLOSED);
@@ -74,6 +75,22 @@ static bool a_packet_is_lent_until_it_is_taken(void) {
     return true;
 }
 
+/* Two packets that were fed at once lie in one buffer, the second behind the header of its own. */
+static bool a_packet_is_lent_where_it_came(void) {
+    static const uint8_t two[] = {3, 0, 0, 0, '1', '2', '3', 2, 0, 0, 1, 'a', 'b'};
+    mysql_wire_connection one = opened(16);
+    mysql_wire_view first, again, second;
+    CHECK(mysql_wire_feed(&one, two, sizeof two) == MYSQL_WIRE_OK);
+    size_t requests = requests_made();
+    CHECK(mysql_wire_peek(&one, &first) == MYSQL_WIRE_PACKET && shows(first, "123", 3));
+    CHECK(mysql_wire_peek(&one, &again) == MYSQL_WIRE_PACKET && again.at == first.at);
+    CHECK(mysql_wire_take(&one) == MYSQL_WIRE_OK);
+    CHECK(mysql_wire_peek(&one, &second) == MYSQL_WIRE_PACKET && shows(second, "ab", 2));
+    CHECK(second.at == first.at + 3 + 4 && requests_made() == requests);
+    mysql_wire_close(&one);
+    return true;
+}
+
 static bool an_empty_packet_is_a_packet(void) {
     static const uint8_t empty[] = {0, 0, 0, 0};
     mysql_wire_connection one = opened(0);
@@ -97,6 +114,23 @@ static bool too_little_room_leaves_the_packet(void) {
     CHECK(mysql_wire_next(&one, room, 4, &len) == MYSQL_WIRE_PACKET && len == 3);
     CHECK(memcmp(room, "123.", 4) == 0);
     CHECK(mysql_wire_next(&one, room, 4, &len) == MYSQL_WIRE_WAITS && len == 0);
+    mysql_wire_close(&one);
+    return true;
+}
+
+static bool packets_are_copied_one_after_another(void) {
+    static const uint8_t three[] = {1, 0, 0, 0, 'a', 0, 0, 0, 1, 2, 0, 0, 2, 'b', 'c', 9};
+    mysql_wire_connection one = opened(16);
+    uint8_t room[4];
+    size_t len = 9;
+    CHECK(mysql_wire_feed(&one, three, sizeof three) == MYSQL_WIRE_OK);
+    CHECK(mysql_wire_next(&one, room, 4, &len) == MYSQL_WIRE_PACKET && len == 1 && room[0] == 'a');
+    CHECK(mysql_wire_sequence_id(&one) == 1 && mysql_wire_unread(&one) == 11);
+    CHECK(mysql_wire_next(&one, room, 4, &len) == MYSQL_WIRE_PACKET && len == 0);
+    CHECK(mysql_wire_next(&one, room, 1, &len) == MYSQL_WIRE_ROOM_TOO_SMALL && len == 2);
+    CHECK(mysql_wire_next(&one, room, 2, &len) == MYSQL_WIRE_PACKET && memcmp(room, "bc", 2) == 0);
+    CHECK(mysql_wire_next(&one, room, 4, &len) == MYSQL_WIRE_WAITS && len == 0);
+    CHECK(mysql_wire_take(&one) == MYSQL_WIRE_NO_PACKET && mysql_wire_unread(&one) == 1);
     mysql_wire_close(&one);
     return true;
 }
@@ -181,6 +215,55 @@ static bool a_lost_connection_stays_lost(void) {
     return true;
 }
 
+static bool a_lost_connection_numbers_on(void) {
+    static const uint8_t other[] = {1, 0, 0, 0, 'x', 1, 0, 0, 7, 'y'};
+    mysql_wire_connection one = opened(16);
+    mysql_wire_view view;
+    uint8_t room[16];
+    CHECK(mysql_wire_feed(&one, other, sizeof other) == MYSQL_WIRE_OK);
+    CHECK(mysql_wire_peek(&one, &view) == MYSQL_WIRE_PACKET);
+    CHECK(mysql_wire_take(&one) == MYSQL_WIRE_OK);
+    CHECK(mysql_wire_peek(&one, &view) == MYSQL_WIRE_OUT_OF_SYNC);
+    /* 1 was expected of the chunk that bore 7. */
+    CHECK(mysql_wire_encode(&one, (const uint8_t *)"a", 1) == MYSQL_WIRE_OK);
+    CHECK(mysql_wire_encode(&one, (const uint8_t *)"b", 1) == MYSQL_WIRE_OK);
+    CHECK(mysql_wire_output(&one, room, 16) == 10);
+    CHECK(memcmp(room, "\1\0\0\1a\1\0\0\2b", 10) == 0);
+    mysql_wire_close(&one);
+    return true;
+}
+
+static bool an_address_of_nothing_may_be_null(void) {
+    static const uint8_t empty[] = {0, 0, 0, 0};
+    mysql_wire_connection one = opened(0);
+    mysql_wire_view view;
+    uint8_t room[8] = {0};
+    size_t len = 1, at = 0;
+    mysql_wire_span text;
+    uint64_t value;
+    CHECK(mysql_wire_feed(&one, NULL, 0) == MYSQL_WIRE_OK && mysql_wire_unread(&one) == 0);
+    CHECK(mysql_wire_next(&one, NULL, 0, &len) == MYSQL_WIRE_WAITS && len == 0);
+    CHECK(mysql_wire_feed(&one, empty, 4) == MYSQL_WIRE_OK);
+    CHECK(mysql_wire_feed(&one, NULL, 0) == MYSQL_WIRE_OK && mysql_wire_unread(&one) == 4);
+    CHECK(mysql_wire_next(&one, NULL, 0, &len) == MYSQL_WIRE_PACKET && len == 0);
+    CHECK(mysql_wire_encode(&one, NULL, 0) == MYSQL_WIRE_OK);
+    CHECK(mysql_wire_output(&one, NULL, 0) == 0);
+    mysql_wire_pending(&one, &view);
+    CHECK(shows(view, "\0\0\0\1", 4));
+    mysql_wire_close(&one);
+    CHECK(mysql_wire_read_int(NULL, 0, &at, 1, &value) == MYSQL_WIRE_MISSING_BYTES);
+    CHECK(mysql_wire_read_lenenc_int(NULL, 0, &at, &value) == MYSQL_WIRE_MISSING_BYTES);
+    CHECK(mysql_wire_read_lenenc_bytes(NULL, 0, &at, &text) == MYSQL_WIRE_MISSING_BYTES);
+    CHECK(mysql_wire_read_null_bytes(NULL, 0, &at, &text) == MYSQL_WIRE_MISSING_BYTES);
+    CHECK(mysql_wire_write_int(NULL, 0, &at, 1, 1) == MYSQL_WIRE_ROOM_TOO_SMALL);
+    CHECK(mysql_wire_write_lenenc_int(NULL, 0, &at, 1) == MYSQL_WIRE_ROOM_TOO_SMALL);
+    CHECK(mysql_wire_write_lenenc_bytes(NULL, 0, &at, NULL, 0) == MYSQL_WIRE_ROOM_TOO_SMALL);
+    CHECK(mysql_wire_write_null_bytes(NULL, 0, &at, NULL, 0) == MYSQL_WIRE_ROOM_TOO_SMALL);
+    CHECK(mysql_wire_write_lenenc_bytes(room, 8, &at, NULL, 0) == MYSQL_WIRE_OK && at == 1);
+    CHECK(mysql_wire_write_null_bytes(room, 8, &at, NULL, 0) == MYSQL_WIRE_OK && at == 2);
+    return true;
+}
+
 static bool what_is_encoded_goes_out_in_parts(void) {
     mysql_wire_connection one = opened(3);
     mysql_wire_view view;
@@ -231,18 +314,46 @@ static bool the_numbers_are_those_of_the_chunks(void) {
     return true;
 }
 
-static bool each_code_has_a_text(void) {
-    const uint8_t *seen[13];
-    size_t count = 0;
-    for (int32_t code = MYSQL_WIRE_NOT_A_NUMBER; code <= MYSQL_WIRE_PACKET + 1; code++) {
-        mysql_wire_view text;
-        mysql_wire_message(code, &text);
-        CHECK(text.len > 5 && text.at[text.len] == 0 && strlen((const char *)text.at) == text.len);
-        for (size_t other = 0; other < count; other++)
-            CHECK(strcmp((const char *)seen[other], (const char *)text.at) != 0);
-        seen[count++] = text.at;
+typedef struct code_text {
+    int32_t code;
+    const char *text;
+} code_text;
+
+static const code_text TEXTS[] = {
+    {MYSQL_WIRE_OK, "done, or more bytes are needed"},
+    {MYSQL_WIRE_WAITS, "done, or more bytes are needed"},
+    {MYSQL_WIRE_PACKET, "a packet stands whole"},
+    {MYSQL_WIRE_TOO_LARGE, "the packet is above the limit"},
+    {MYSQL_WIRE_OUT_OF_SYNC, "a packet bears another number than the expected one"},
+    {MYSQL_WIRE_NO_MEMORY, "out of memory"},
+    {MYSQL_WIRE_ROOM_TOO_SMALL, "the room is too small"},
+    {MYSQL_WIRE_CLOSED, "the connection is closed"},
+    {MYSQL_WIRE_IS_OPEN, "the connection is open already"},
+    {MYSQL_WIRE_PACKET_WAITS, "a packet is to be taken first"},
+    {MYSQL_WIRE_NO_PACKET, "there is no packet to take"},
+    {MYSQL_WIRE_MISSING_BYTES, "the bytes end inside a field"},
+    {MYSQL_WIRE_NOT_A_NUMBER, "no number begins here, or no number has this width"},
+    {MYSQL_WIRE_PACKET + 1, "unknown code"},
+    {MYSQL_WIRE_NOT_A_NUMBER - 1, "unknown code"},
+    {INT32_MIN, "unknown code"},
+    {INT32_MAX, "unknown code"},
+};
+
+static bool each_code_has_its_text(void) {
+    for (size_t i = 0; i < LENGTH(TEXTS); i++) {
+        mysql_wire_view text = {NULL, 0};
+        mysql_wire_message(TEXTS[i].code, &text);
+        CHECK(shows(text, TEXTS[i].text, strlen(TEXTS[i].text)) && text.at[text.len] == 0);
     }
-    CHECK(count == LENGTH(seen));
+    return true;
+}
+
+static bool the_version_is_that_of_the_header(void) {
+    char text[16];
+    snprintf(text, sizeof text, "%d.%d.%d", MYSQL_WIRE_VERSION_MAJOR, MYSQL_WIRE_VERSION_MINOR,
+             MYSQL_WIRE_VERSION_PATCH);
+    CHECK(strcmp(text, MYSQL_WIRE_VERSION) == 0);
+    CHECK(mysql_wire_version() == MYSQL_WIRE_VERSION_NUMBER);
     return true;
 }
 
@@ -250,15 +361,20 @@ const test call_tests[] = {
     {"a closed connection answers so", a_closed_connection_answers_so},
     {"an open connection is not opened again", an_open_connection_is_not_opened_again},
     {"a packet is lent until it is taken", a_packet_is_lent_until_it_is_taken},
+    {"a packet is lent where it came", a_packet_is_lent_where_it_came},
     {"an empty packet is a packet", an_empty_packet_is_a_packet},
     {"too little room leaves the packet", too_little_room_leaves_the_packet},
+    {"packets are copied one after another", packets_are_copied_one_after_another},
     {"a larger limit goes on", a_larger_limit_goes_on},
     {"a header is judged once", a_header_is_judged_once},
     {"a whole packet keeps the limit", a_whole_packet_keeps_the_limit},
     {"a lost connection stays lost", a_lost_connection_stays_lost},
+    {"a lost connection numbers on", a_lost_connection_numbers_on},
+    {"an address of nothing may be NULL", an_address_of_nothing_may_be_null},
     {"what is encoded goes out in parts", what_is_encoded_goes_out_in_parts},
     {"numbers go on behind a packet that is lent", numbers_go_on_behind_a_packet_that_is_lent},
     {"the numbers are those of the chunks", the_numbers_are_those_of_the_chunks},
-    {"each code has a text", each_code_has_a_text},
+    {"each code has its text", each_code_has_its_text},
+    {"the version is that of the header", the_version_is_that_of_the_header},
     {NULL, NULL},
 };

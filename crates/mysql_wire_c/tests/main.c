@@ -1,4 +1,5 @@
-/* Runs the tests of the C library, and prints a line for each: "ok NAME" or "FAILED NAME". */
+/* Runs the tests of the C library, with a word those of threads alone, and prints a line for each:
+   "ok NAME" or "FAILED NAME". */
 #include "tests.h"
 
 bool complain(const char *file, int line, const char *what) {
@@ -21,8 +22,10 @@ void *__wrap_realloc(void *block, size_t size);
 
 static size_t requests_left;
 static bool refused;
+static _Thread_local size_t requests;
 
 static bool refuses(void) {
+    requests++;
     if (requests_left == 0 || --requests_left != 0) return false;
     refused = true;
     return true;
@@ -41,6 +44,8 @@ void refuse_request(size_t nth) {
 
 bool was_refused(void) { return refused; }
 
+size_t requests_made(void) { return requests; }
+
 static int run(const test *tests) {
     int failed = 0;
     for (; tests->name != NULL; tests++) {
@@ -51,7 +56,10 @@ static int run(const test *tests) {
     return failed;
 }
 
-int main(void) {
-    int failed = run(call_tests) + run(stream_tests) + run(memory_tests) + run(field_tests);
+int main(int words, char **word) {
+    (void)word;
+    int failed = run(thread_tests);
+    if (words == 1)
+        failed += run(call_tests) + run(stream_tests) + run(memory_tests) + run(field_tests);
     return failed == 0 ? EXIT_SUCCESS : EXIT_FAILURE;
 }

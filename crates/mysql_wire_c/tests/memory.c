@@ -60,7 +60,51 @@ static bool each_refusal_is_gone_on_from(void) {
     return false;
 }
 
+/* Where a copy is needed and refused, nothing goes to the room. */
+static bool a_refused_copy_leaves_the_room(void) {
+    static const uint8_t packet[] = {3, 0, 0, 0, '1', '2', '3'};
+    mysql_wire_connection one = NULL;
+    uint8_t room[5] = "....";
+    size_t len = 9;
+    CHECK(mysql_wire_open(16, &one) == MYSQL_WIRE_OK);
+    CHECK(mysql_wire_feed(&one, packet, 4) == MYSQL_WIRE_OK);
+    CHECK(mysql_wire_set_limit(&one, 2) == MYSQL_WIRE_OK);
+    CHECK(mysql_wire_feed(&one, packet + 4, 3) == MYSQL_WIRE_OK);
+    refuse_request(1);
+    CHECK(mysql_wire_next(&one, room, 4, &len) == MYSQL_WIRE_NO_MEMORY);
+    CHECK(was_refused() && len == 0 && memcmp(room, "....", 4) == 0);
+    CHECK(mysql_wire_next(&one, room, 4, &len) == MYSQL_WIRE_PACKET && len == 3);
+    CHECK(memcmp(room, "123.", 4) == 0);
+    mysql_wire_close(&one);
+    return true;
+}
+
+/* What needs no memory isn't refused where there is none. */
+static bool what_needs_no_memory_is_not_refused(void) {
+    static const uint8_t two[] = {1, 0, 0, 0, 'a', 1, 0, 0, 1, 'b'};
+    mysql_wire_connection one = NULL;
+    mysql_wire_view view;
+    uint8_t room[4];
+    size_t len;
+    CHECK(mysql_wire_open(16, &one) == MYSQL_WIRE_OK);
+    CHECK(mysql_wire_feed(&one, two, sizeof two) == MYSQL_WIRE_OK);
+    refuse_request(1);
+    CHECK(mysql_wire_open(16, &one) == MYSQL_WIRE_IS_OPEN);
+    CHECK(mysql_wire_peek(&one, &view) == MYSQL_WIRE_PACKET && view.at[0] == 'a');
+    CHECK(mysql_wire_set_limit(&one, 1) == MYSQL_WIRE_PACKET_WAITS);
+    CHECK(mysql_wire_take(&one) == MYSQL_WIRE_OK);
+    CHECK(mysql_wire_next(&one, room, 4, &len) == MYSQL_WIRE_PACKET && room[0] == 'b');
+    CHECK(mysql_wire_set_limit(&one, 1) == MYSQL_WIRE_OK);
+    CHECK(mysql_wire_reset(&one) == MYSQL_WIRE_OK && mysql_wire_sequence_id(&one) == 0);
+    CHECK(!was_refused());
+    refuse_request(0);
+    mysql_wire_close(&one);
+    return true;
+}
+
 const test memory_tests[] = {
     {"each refusal of memory is gone on from", each_refusal_is_gone_on_from},
+    {"a refused copy leaves the room", a_refused_copy_leaves_the_room},
+    {"what needs no memory is not refused", what_needs_no_memory_is_not_refused},
     {NULL, NULL},
 };

@@ -100,8 +100,11 @@ static bool cut_is_as_the_whole(const example *of, uint64_t cuts, bool lends) {
         if (mysql_wire_feed(&one, whole.stream + fed, piece) != MYSQL_WIRE_OK) break;
         fed += piece;
         code = drain(&one, &whole, fed, lends);
+        if (code == MYSQL_WIRE_WAITS && mysql_wire_unread(&one) > of->limit + 3) break;
     }
+    size_t unread = mysql_wire_unread(&one);
     mysql_wire_close(&one);
+    if (code == MYSQL_WIRE_WAITS && unread > of->limit + 3) return false;
     return code == of->code && whole.number == of->packets;
 }
 

@@ -17,6 +17,7 @@ extern const test call_tests[];
 extern const test stream_tests[];
 extern const test memory_tests[];
 extern const test field_tests[];
+extern const test thread_tests[];
 
 /* Says where something is not as it has to be, once for each test, and goes on. */
 bool complain(const char *file, int line, const char *what);
@@ -42,5 +43,7 @@ uint64_t draw(numbers *from, uint64_t below);
 void refuse_request(size_t nth);
 /* Whether one was refused since. */
 bool was_refused(void);
+/* How many requests for memory this thread has made. */
+size_t requests_made(void);
 
 #endif

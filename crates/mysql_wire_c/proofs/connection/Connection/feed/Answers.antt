@@ -1,6 +1,6 @@
 use Rattle.std.proofs.Common.{rules, ◌∙◌, ap, inl, List, ℕ}
 use Rattle.mysql_wire.specs.Codec.{codec_state}
-use Rattle.mysql_wire_c.specs.Side.{Side, side_of}
+use Rattle.mysql_wire_c.specs.Side.{Side, ConnectionState, side_of}
 use Rattle.mysql_wire_c.proofs.SideLemmas.{side_of-appended, found, fed}
 use Rattle.mysql_wire_c.proofs.connection.Connection.feed.Goals as goal
 use Rattle.mysql_wire_c.proofs.connection.Connection.feed.Goals.{in-Ok, in-Err}
@@ -9,17 +9,18 @@ pub returns : goal.returns
 returns c = elim c.match-extend_from_slice.branch [
   | in-Ok w ↦
       let fields = c.self.inside in
+      let view = ap (λ (s : ConnectionState). s.side) c.self.view_is in
       let old = codec_state fields.codec fields.src.items fields.dst.items in
       let at : List ℕ → Side = λ src. side_of fields.front (codec_state fields.codec src fields.dst.items) fields.output.items in
       record {
         fed = λ ok. (
-          found fields.front old fields.output.items c.args.self.now c.in_default.not-Lost c.self.view_is,
+          found fields.front old fields.output.items c.args.self.now.side c.in_default.not-Lost view,
           ap at w.in-Ok.ensures.ok
               ∙ side_of-appended fields.front old c.args.bytes.now fields.output.items c.self.invariant.0
-              ∙ ap (λ (s : Side). fed s c.args.bytes.now) c.self.view_is,
+              ∙ ap (λ (s : Side). fed s c.args.bytes.now) view,
         );
         stays_lost = λ lost. absurd (
-            let is = found fields.front old fields.output.items c.args.self.now c.in_default.not-Lost c.self.view_is in
+            let is = found fields.front old fields.output.items c.args.self.now.side c.in_default.not-Lost view in
             cc
             );
         refused = inl w.result-is;
