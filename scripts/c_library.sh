@@ -1,7 +1,8 @@
 #!/usr/bin/env bash
 # Builds the C library where it isn't there, and compiles and runs its tests with each C compiler
-# that there is, plainly and under the address and undefined behaviour sanitizers. It prints a line
-# for each check. The last line is 'N passed, M failed'.
+# that there is, plainly, under the address and undefined behaviour sanitizers, and, those with
+# threads, under the thread sanitizer. It prints a line for each check. The last line is
+# 'N passed, M failed'.
 set -u
 top=$(cd "$(dirname "$0")/.." && pwd)
 source "$top/scripts/checks.sh"
@@ -9,17 +10,18 @@ source "$top/scripts/c_archive.sh"
 work=$(mktemp -d)
 trap 'rm -rf "$work"' EXIT
 
-# run COMPILER MODE OPTIONS..: compiles the tests and runs them, each test a check.
+# run COMPILER MODE WORDS OPTIONS..: compiles the tests and runs them with these words, each test a
+# check.
 run() {
-    local compiler=$1 name="$1, $2" line status
-    shift 2
-    if ! "$compiler" -Wall -Wextra -Werror -std=c11 -O1 -g "$@" -I"$folder/include" \
+    local compiler=$1 name="$1, $2" words=$3 line status
+    shift 3
+    if ! "$compiler" -Wall -Wextra -Werror -std=c11 -O1 -g -pthread "$@" -I"$folder/include" \
         "$folder"/tests/*.c -Wl,--wrap=malloc,--wrap=realloc -o "$work/tests" \
         "$archive" "$kit/c/liblibc_c.a"; then
         fail "$name: the tests compile"
         return
     fi
-    (ulimit -c 0; "$work/tests" > "$work/lines" 2> "$work/errors")
+    (ulimit -c 0; "$work/tests" $words > "$work/lines" 2> "$work/errors")
     status=$?
     while read -r line; do
         case $line in
@@ -35,11 +37,16 @@ run() {
     fi
 }
 
-# sanitizes COMPILER: whether it has both sanitizers here.
-sanitizes() {
+# sanitized COMPILER SANITIZERS WORDS: runs the tests under them, where the compiler has them here.
+sanitized() {
+    local options=("-fsanitize=$2" -fno-sanitize-recover=all)
     echo 'int main(void) { return 0; }' > "$work/empty.c"
-    "$1" -fsanitize=address,undefined -o "$work/empty" "$work/empty.c" 2> "$work/errors" &&
-        "$work/empty" 2> "$work/errors"
+    if "$1" "${options[@]}" -o "$work/empty" "$work/empty.c" 2> "$work/errors" &&
+        "$work/empty" 2> "$work/errors"; then
+        run "$1" "$2 sanitized" "$3" "${options[@]}"
+    else
+        echo "$1 has no such sanitizer here: $2"
+    fi
 }
 
 # header COMPILER: the header is one of C++.
@@ -70,12 +77,9 @@ if [ ! -f "$archive" ] || [ -n "$(find "$folder/src" -newer "$archive")" ]; then
 fi
 
 for compiler in "${compilers[@]}"; do
-    run "$compiler" plain
-    if sanitizes "$compiler"; then
-        run "$compiler" sanitized -fsanitize=address,undefined -fno-sanitize-recover=all
-    else
-        echo "$compiler has no sanitizers here"
-    fi
+    run "$compiler" plain ''
+    sanitized "$compiler" address,undefined ''
+    sanitized "$compiler" thread threads
 done
 for compiler in g++ clang++; do
     command -v "$compiler" > /dev/null && header "$compiler"

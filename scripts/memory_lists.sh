@@ -21,7 +21,7 @@
 set -u
 export LC_ALL=C
 cd "$(dirname "$0")/.." || exit 1
-layers=(wire_const wire_buf wire_ext wire_repr wire_field wire_codec wire_packet_io mysql_wire)
+layers=(wire_const wire_buf wire_ext wire_repr wire_field wire_codec wire_span wire_packet_io mysql_wire)
 tests=crates/packet_tests/src/requests
 lists=crates/memory_support
 
