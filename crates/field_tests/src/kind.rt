@@ -1,20 +1,11 @@
-// Constants of one's own: one that is written and read, and one that is read alone, which can't be
-// copied.
+//! A constant of a user's own, with all that a field of it wants.
 
 ghost use Rattle.std.specs.Prelude.{◌≡◌};
 ghost use Rattle.field_tests.specs.Kinds.{kind_number};
 
-use crate::at::{Refused, are_refused, is_at};
-use mysql_wire::io::InvalidReason;
-use mysql_wire::misc::raw::{Const, IntoNumber};
-use refusing::Refusing;
-use std::alloc::Allocator;
-use std::test::Fail;
-use test_support::answers::Fault;
-use test_support::facts::all_hold;
-use test_support::fields::gives;
-use test_support::fixture::Heap;
+use mysql_wire::misc::raw::IntoNumber;
 
+/// A constant of one byte.
 #[derive(Clone, Copy, PartialEq)]
 pub enum Kind {
     Row,
@@ -48,47 +39,4 @@ impl IntoNumber<u8> for Kind {
     ghost number = { kind_number };
 
     ghost converts_to = { λ value val is. is };
-}
-
-// No copy of it can be made.
-#[derive(Drop, PartialEq)]
-pub struct Once(u8);
-
-impl TryFrom<u8> for Once {
-    type Error = ();
-
-    fn try_from(number: u8) -> Result<Self, ()> {
-        if number < 2 {
-            Ok(Once(number))
-        } else {
-            Err(())
-        }
-    }
-}
-
-const UNKNOWN: Fault = Fault::Invalid(InvalidReason::UnknownValue);
-
-const NO_KIND: &[Refused<()>] = &[
-    ((), 0, b"\0\x01", UNKNOWN, 1),
-    ((), 0, b"", Fault::UnexpectedEof, 0),
-];
-
-const NO_ONCE: &[Refused<()>] = &[((), 0, b"\x02\x01", UNKNOWN, 1)];
-
-fn are_read<A: Allocator + Copy>(heap: &Heap, alloc: A) -> [bool; 4] {
-    let row = Const::<Kind, u8>::new(Kind::Row);
-    let end = Const::<Kind, u8>::new(Kind::End);
-    let once = Const::<Once, u8>::new(Once(1));
-    [
-        is_at(heap, alloc, &row, b"\x01\xfe", 1, NO_KIND),
-        is_at(heap, alloc, &end, b"\xfe\x01", 1, &[]),
-        gives(alloc, (), b"\x01\x02", &once, 1),
-        are_refused::<Const<Once, u8>, (), A>(heap, alloc, Some(1), NO_ONCE),
-    ]
-}
-
-#[test]
-fn constants_of_ones_own_are_written_and_read(rt: HostRuntime) -> Result<(), Fail> {
-    let heap = &Refusing::new(rt.alloc(), 0);
-    all_hold(&are_read(heap, heap))
 }

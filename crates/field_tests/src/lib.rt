@@ -17,8 +17,7 @@ mod entry;
 mod enums;
 #[cfg(test)]
 mod flag_sets;
-#[cfg(test)]
-mod kind;
+pub mod kind;
 #[cfg(test)]
 mod lists;
 #[cfg(test)]
@@ -29,6 +28,8 @@ mod named;
 mod null;
 #[cfg(test)]
 mod numbers;
+#[cfg(test)]
+mod own_constants;
 #[cfg(test)]
 mod rows;
 #[cfg(test)]

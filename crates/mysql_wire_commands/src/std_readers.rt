@@ -7,7 +7,6 @@ use std::collections::VecDeque;
 use std::fs::File;
 use std::io;
 use std::io::{AsBytes, BufReader, Chain, Cursor, Empty, Read, Stdin, Take};
-use std::net::TcpStream;
 
 impl NotedRead for &[u8] {
     fn read_noted(&mut self, buf: &mut [u8]) -> io::Result<usize> {
@@ -40,12 +39,6 @@ impl NotedRead for Stdin {
 }
 
 impl NotedRead for File {
-    fn read_noted(&mut self, buf: &mut [u8]) -> io::Result<usize> {
-        self.read(buf)
-    }
-}
-
-impl NotedRead for TcpStream {
     fn read_noted(&mut self, buf: &mut [u8]) -> io::Result<usize> {
         self.read(buf)
     }
