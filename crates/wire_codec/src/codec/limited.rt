@@ -13,14 +13,17 @@ use crate::codec::packet::PacketCodec;
 use bytes::BytesMut;
 use std::alloc::Allocator;
 
-// Decodes until more bytes are needed, under whatever limits the bytes came.
+// Decodes under this limit until more bytes are needed, whatever limits the earlier bytes came
+// under. The limit is the codec's then.
 fn drain_on<A: Allocator + Copy>(
     codec: &mut PacketCodec,
     src: &mut BytesMut<A>,
     dst: &mut Vec<u8, A>,
+    limit: usize,
     out: &mut Vec<Vec<u8, A>, A>,
 ) -> Result<(), PacketCodecError>
-    ensures on { let before = codec_state codec.old src.old.items dst.old.items in
+    ensures on { let before = record (codec_state codec.old src.old.items dst.old.items)
+        { limit = limit } in
         let after = codec_state codec.new src.new.items dst.new.items in
         (limits : Limits) (mark place : ℕ) → GoesOn limits mark place before
         → (gained : List (List ℕ)) × (payloads out.new.items ≡ payloads out.old.items ++ gained)
@@ -28,8 +31,9 @@ fn drain_on<A: Allocator + Copy>(
         after.id after.header after.unread after.held
         × (result ≡ Err PacketCodecError.OutOfMemory
         → GoesOn limits mark (place_after place gained) after) }
-    ensures limit { codec.new.max_allowed_packet ≡ codec.old.max_allowed_packet }
+    ensures limit { codec.new.max_allowed_packet ≡ limit }
 {
+    codec.max_allowed_packet = limit;
     'packets: loop {
         if out.reserve(1).is_err() {
             return Err(PacketCodecError::OutOfMemory);
@@ -42,23 +46,13 @@ fn drain_on<A: Allocator + Copy>(
     }
 }
 
-// Appends a piece, and sets its limit.
-fn append<A: Allocator + Copy>(
-    codec: &mut PacketCodec,
-    src: &mut BytesMut<A>,
-    limit: usize,
-    piece: &[u8],
-) -> Result<(), PacketCodecError>
+// Appends a piece.
+fn append<A: Allocator + Copy>(src: &mut BytesMut<A>, piece: &[u8]) -> Result<(), PacketCodecError>
     ensures src { OnOk result (src.new.items ≡ src.old.items ++ piece.now) }
-    ensures set { OnOk result (codec.new.max_allowed_packet ≡ limit) }
-    ensures id { expected_id codec.new ≡ expected_id codec.old }
-    ensures header { header_of codec.new ≡ header_of codec.old }
     ensures memory { IfErr result (λ error. error ≡ PacketCodecError.OutOfMemory) }
     ensures kept { OnErr result (src.new.items ≡ src.old.items) }
-    ensures same { OnErr result (codec.new.max_allowed_packet ≡ codec.old.max_allowed_packet) }
 {
     src.extend_from_slice(piece)?;
-    codec.max_allowed_packet = limit;
     Ok(())
 }
 
@@ -104,18 +98,19 @@ pub fn deliver_limited<A: Allocator + Copy>(
     ensures limit { codec.new.max_allowed_packet
         ≡ last_limit codec.old.max_allowed_packet (take result.0 pieces.now) }
 {
-    match drain_on(codec, src, dst, out) {
+    let own = codec.max_allowed_packet;
+    match drain_on(codec, src, dst, own, out) {
         Ok(()) => {}
         Err(error) => return (0, Err(error)),
     }
     let mut count = 0;
     for piece in pieces {
-        match append(codec, src, piece.0, piece.1) {
+        match append(src, piece.1) {
             Ok(()) => {}
             Err(error) => return (count, Err(error)),
         }
         count += 1;
-        match drain_on(codec, src, dst, out) {
+        match drain_on(codec, src, dst, piece.0, out) {
             Ok(()) => {}
             Err(error) => return (count, Err(error)),
         }

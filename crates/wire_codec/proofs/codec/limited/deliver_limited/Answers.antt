@@ -127,7 +127,7 @@ returns-in-Err-append-clause-runs g c =
     let run = inv.on limits (start_mark header held) 0 from known in
     let refused = c.in-Err-append.ensures in
     let stopped = memory_under c.in-Err-append.error limits 0 first (input ++ limited_bytes (take c.loop-piece.count pieces)) held run.0 _ _ _ _ _ _ c.append.new.src.items
-    refused.memory (open_small id held) c.append.ensures.id c.append.ensures.header refused.kept run.2 in
+    refused.memory (open_small id held) refl refl refused.kept run.2 in
     let left = stopped_leaves c.in-Err-append.error limits 0 first input held pieces c.loop-piece.count run.0 _ _ c.append.new.src.items c.loop-piece.dst.items stopped.0 in
     (run.0, run.1, (stopped.0, left, λ e long which. stopped.1 long))
 
@@ -147,12 +147,12 @@ returns-in-Err-append-clause-on g c limits mark place at known =
     let run = inv.on limits mark place at known in
     let refused = c.in-Err-append.ensures in
     let stopped = memory_under c.in-Err-append.error limits place first (input ++ limited_bytes (take c.loop-piece.count pieces)) held run.0 _ _ _ _ _ _ c.append.new.src.items
-    refused.memory (open_small id held) c.append.ensures.id c.append.ensures.header refused.kept run.2 in
+    refused.memory (open_small id held) refl refl refused.kept run.2 in
     let S = input ++ limited_bytes (take c.loop-piece.count pieces) in
-    let limit1 = c.append.new.codec.max_allowed_packet in
+    let limit1 = c.loop-piece.codec.max_allowed_packet in
     let waited = marked_on limits place first S held run.0 (expected_id c.loop-piece.codec) (header_of c.loop-piece.codec) c.loop-piece.src.items c.loop-piece.dst.items limit1 run.2 in
-    let on = goes_on_with limits (place + length S) (place_after place run.0) limit1 limit1 (header_of c.loop-piece.codec) (header_of c.append.new.codec) c.loop-piece.src.items c.append.new.src.items
-    c.loop-piece.dst.items refl c.append.ensures.header refused.kept waited in (
+    let on = goes_on_with limits (place + length S) (place_after place run.0) limit1 limit1 (header_of c.loop-piece.codec) (header_of c.loop-piece.codec) c.loop-piece.src.items c.append.new.src.items
+    c.loop-piece.dst.items refl refl refused.kept waited in (
       run.0,
       run.1,
       (
@@ -179,7 +179,7 @@ returns-in-Err-append-clause-aligned g c other =
     let run = inv.on limits (start_mark header held) 0 from known in
     let refused = c.in-Err-append.ensures in
     let stopped = memory_under c.in-Err-append.error limits 0 first (input ++ limited_bytes (take c.loop-piece.count pieces)) held run.0 _ _ _ _ _ _ c.append.new.src.items
-    refused.memory (open_small id held) c.append.ensures.id c.append.ensures.header refused.kept run.2 in
+    refused.memory (open_small id held) refl refl refused.kept run.2 in
     aligned_after (Err c.in-Err-append.error) limits 0 first _ held run.0 _ _ _ _ stopped.0 other
 
 pub returns-in-Err-drain_on-clause-runs : goal.returns-in-Err-drain_on-clause-runs
@@ -217,9 +217,9 @@ returns-in-Err-drain_on-clause-runs g c =
     let before = inv.on limits mark place at known in
     let run = subst (λ (n : ℕ). RunsUnder limits place first (input ++ limited_bytes (take n pieces)) held (Ok tt) before.0 id0 header0 src0 dst0) inv.count before.2 in
     let more = one_more (Err c.in-Err-drain_on.error) limits place first input held pieces i d before.0 id0 header0 src0 dst0
-    c.append.new.codec.max_allowed_packet (expected_id c.append.new.codec) (header_of c.append.new.codec) c.append.new.src.items
+    (get_or pieces i d).0 id0 header0 c.append.new.src.items
     (payloads c.args.out.now.items) (payloads c.loop-piece.out.items) (payloads c.drain_on-in-loop-piece.new.out.items) limit2 id2 header2 src2 dst2
-    known c.loop-piece-test.true (open_small id held) run before.1 came.set c.append.ensures.id c.append.ensures.header came.src c.in-Err-drain_on.ensures.on in
+    known c.loop-piece-test.true (open_small id held) run before.1 refl refl refl came.src c.in-Err-drain_on.ensures.on in
     (more.0, more.1, subst (λ (n : ℕ). RunsUnder limits place first (input ++ limited_bytes (take (n + 1) pieces)) held (Err c.in-Err-drain_on.error) more.0 id2 header2 src2 dst2) (sym inv.count) more.2, more.3) in
     let run = all limits (start_mark header held) 0 from known in
     let left = stopped_leaves c.in-Err-drain_on.error limits 0 first input held pieces (c.loop-piece.count + 1) run.0 id2 header2 src2 dst2 run.2 in (
@@ -265,9 +265,9 @@ returns-in-Err-drain_on-clause-on g c limits mark place at known =
     let before = inv.on limits mark place at known in
     let run = subst (λ (n : ℕ). RunsUnder limits place first (input ++ limited_bytes (take n pieces)) held (Ok tt) before.0 id0 header0 src0 dst0) inv.count before.2 in
     let more = one_more (Err c.in-Err-drain_on.error) limits place first input held pieces i d before.0 id0 header0 src0 dst0
-    c.append.new.codec.max_allowed_packet (expected_id c.append.new.codec) (header_of c.append.new.codec) c.append.new.src.items
+    (get_or pieces i d).0 id0 header0 c.append.new.src.items
     (payloads c.args.out.now.items) (payloads c.loop-piece.out.items) (payloads c.drain_on-in-loop-piece.new.out.items) limit2 id2 header2 src2 dst2
-    known c.loop-piece-test.true (open_small id held) run before.1 came.set c.append.ensures.id c.append.ensures.header came.src c.in-Err-drain_on.ensures.on in
+    known c.loop-piece-test.true (open_small id held) run before.1 refl refl refl came.src c.in-Err-drain_on.ensures.on in
     (more.0, more.1, subst (λ (n : ℕ). RunsUnder limits place first (input ++ limited_bytes (take (n + 1) pieces)) held (Err c.in-Err-drain_on.error) more.0 id2 header2 src2 dst2) (sym inv.count) more.2, more.3) in
     let run = all limits mark place at known in (
       run.0,
@@ -331,9 +331,9 @@ returns-in-Err-drain_on-clause-aligned g c other =
     let before = inv.on limits mark place at known in
     let run = subst (λ (n : ℕ). RunsUnder limits place first (input ++ limited_bytes (take n pieces)) held (Ok tt) before.0 id0 header0 src0 dst0) inv.count before.2 in
     let more = one_more (Err c.in-Err-drain_on.error) limits place first input held pieces i d before.0 id0 header0 src0 dst0
-    c.append.new.codec.max_allowed_packet (expected_id c.append.new.codec) (header_of c.append.new.codec) c.append.new.src.items
+    (get_or pieces i d).0 id0 header0 c.append.new.src.items
     (payloads c.args.out.now.items) (payloads c.loop-piece.out.items) (payloads c.drain_on-in-loop-piece.new.out.items) limit2 id2 header2 src2 dst2
-    known c.loop-piece-test.true (open_small id held) run before.1 came.set c.append.ensures.id c.append.ensures.header came.src c.in-Err-drain_on.ensures.on in
+    known c.loop-piece-test.true (open_small id held) run before.1 refl refl refl came.src c.in-Err-drain_on.ensures.on in
     (more.0, more.1, subst (λ (n : ℕ). RunsUnder limits place first (input ++ limited_bytes (take (n + 1) pieces)) held (Err c.in-Err-drain_on.error) more.0 id2 header2 src2 dst2) (sym inv.count) more.2, more.3) in
     let run = all limits (start_mark header held) 0 from known in
     aligned_after (Err c.in-Err-drain_on.error) limits 0 first _ held run.0 id2 header2 src2 dst2 run.2 other
@@ -345,7 +345,7 @@ returns-in-Err-drain_on-clause-limit g c =
     let inv = c.loop-piece.invariant in
     let i = c.loop-piece.piece-index in
     let d : ℕ × Bor (List ℕ) = (0, record { ref_ptr = (0, 0); now = [] }) in
-    c.drain_on-in-loop-piece.ensures.limit ∙ c.in-Ok-append.ensures.set
+    c.drain_on-in-loop-piece.ensures.limit
     ∙ sym (subst (λ (n : ℕ). last_limit limit (take (n + 1) pieces) ≡ (get_or pieces i d).0) (sym inv.count) (last_limit_more limit pieces i d c.loop-piece-test.true))
 
 pub loop-piece-preserved : goal.loop-piece-preserved
@@ -383,14 +383,14 @@ loop-piece-preserved g c =
     let before = inv.on limits mark place at known in
     let run = subst (λ (n : ℕ). RunsUnder limits place first (input ++ limited_bytes (take n pieces)) held (Ok tt) before.0 id0 header0 src0 dst0) inv.count before.2 in
     let more = one_more (Ok tt) limits place first input held pieces i d before.0 id0 header0 src0 dst0
-    c.append.new.codec.max_allowed_packet (expected_id c.append.new.codec) (header_of c.append.new.codec) c.append.new.src.items
+    (get_or pieces i d).0 id0 header0 c.append.new.src.items
     (payloads c.args.out.now.items) (payloads c.loop-piece.out.items) (payloads c.drain_on-in-loop-piece.new.out.items) limit2 id2 header2 src2 dst2
-    known c.loop-piece-test.true (open_small id held) run before.1 came.set c.append.ensures.id c.append.ensures.header came.src c.in-Ok-drain_on.ensures.on in
+    known c.loop-piece-test.true (open_small id held) run before.1 refl refl refl came.src c.in-Ok-drain_on.ensures.on in
     (more.0, more.1, subst (λ (n : ℕ). RunsUnder limits place first (input ++ limited_bytes (take (n + 1) pieces)) held (Ok tt) more.0 id2 header2 src2 dst2) (sym inv.count) more.2, more.3) in
     let before = inv.on limits (start_mark header held) 0 from known in
     record {
       count = ap (λ (n : ℕ). n + 1) inv.count;
-      limit = c.drain_on-in-loop-piece.ensures.limit ∙ c.in-Ok-append.ensures.set
+      limit = c.drain_on-in-loop-piece.ensures.limit
           ∙ sym (subst (λ (n : ℕ). last_limit limit (take (n + 1) pieces) ≡ (get_or pieces i d).0) (sym inv.count) (last_limit_more limit pieces i d c.loop-piece-test.true));
       waits = below_more _ _ inv.waits (before.0, dst0, src0, before.2.0);
       on = λ limits mark place at known. let run = all limits mark place at known in (run.0, run.1, run.2);
