@@ -23,6 +23,7 @@ pub trait Visit {
 }
 
 // Visits the next packet, where it lies or else in `dst`. False where more bytes are needed.
+#[inline(always)]
 fn visit_packet<A: Allocator + Copy, V: Visit>(
     codec: &mut PacketCodec,
     src: &mut BytesMut<A>,
@@ -51,6 +52,7 @@ fn visit_packet<A: Allocator + Copy, V: Visit>(
 }
 
 // Visits packets until more bytes are needed.
+#[inline(always)]
 fn visit_all<A: Allocator + Copy, V: Visit>(
     codec: &mut PacketCodec,
     src: &mut BytesMut<A>,

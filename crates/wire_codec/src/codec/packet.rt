@@ -147,6 +147,7 @@ impl PacketCodec {
     ///
     /// `PacketTooLarge`: the packet has more. `OutOfMemory`: `dst` could not grow. Neither changes
     /// anything.
+    #[inline(always)]
     pub fn encode<T: Buf>(
         &mut self,
         packet: &mut T,

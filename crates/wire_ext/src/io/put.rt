@@ -63,6 +63,7 @@ pub trait BufMutExt: BufMut {
     /// Puts a `string<lenenc>`: the text behind its length as an `int<lenenc>`.
     ///
     /// <https://dev.mysql.com/doc/dev/mysql-server/latest/page_protocol_basic_dt_strings.html>
+    #[inline(always)]
     final fn put_lenenc_str(&mut self, text: &[u8]) -> Result<(), WireError>
     where
         Self: Sized,
