@@ -1,6 +1,7 @@
 //! What a peer can make a server hold.
 
-ghost use Rattle.std.specs.Prelude.{◌≡◌, ◌+◌, ◌≤◌, ℕ, List, ◌++◌, length, Ok, OnOk};
+ghost use Rattle.std.specs.Prelude.{◌≡◌, ◌+◌, ◌≤◌, ℕ, List, ◌++◌, length, Ok, OnOk, IfOk};
+ghost use Rattle.mysql_wire.specs.Bounds.{most_read};
 ghost use Rattle.mysql_wire.specs.Runs.{payloads, RunsTo};
 
 use crate::again::deliver_again;
@@ -8,7 +9,9 @@ use bytes::BytesMut;
 use mysql_wire::laws;
 use mysql_wire::proto::codec::PacketCodec;
 use mysql_wire::proto::codec::error::PacketCodecError;
+use mysql_wire::proto::packet_io::{PacketIoError, PacketReader};
 use std::alloc::{Allocator, Global};
+use std::io::Read;
 
 /// The receiving side of a connection, for a server that has a budget for each of them.
 #[derive(Debug, Drop)]
@@ -69,4 +72,23 @@ impl<A: Allocator + Copy> Inbox<A> {
         );
         result
     }
+}
+
+/// A client's first packet, and what its server goes on with. Whatever the client sends, the reader
+/// keeps at most the limit, the headers of a packet of so many bytes, 3 bytes more, and one read.
+pub fn first_packet<R: Read, A: Allocator + Copy>(
+    alloc: A,
+    client: R,
+    limit: usize,
+) -> Result<(PacketReader<R, A>, PacketCodec, Option<Vec<u8, A>>), PacketIoError>
+    ensures few { IfOk result
+        (λ first. length first.0.held + length first.0.unread ≤ most_read limit) }
+    ensures limit { IfOk result (λ first. first.1.max_allowed_packet ≡ limit) }
+{
+    laws::bounded_reads();
+    let mut codec = PacketCodec::default();
+    codec.max_allowed_packet = limit;
+    let mut reader = PacketReader::new(alloc, client)?;
+    let packet = reader.next_packet(&mut codec)?;
+    Ok((reader, codec, packet))
 }

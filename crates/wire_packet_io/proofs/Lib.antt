@@ -1,1 +1,2 @@
 mod PacketIoLemmas
+mod BoundLemmas

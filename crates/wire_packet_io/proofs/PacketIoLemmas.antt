@@ -37,7 +37,7 @@ read_taken n count room all old now buf rest more len front fits small is =
     ∙ ap (λ (z : List ℕ). old ++ z) (take-append-le count buf (rest ++ more) fits)
 
 -- blocks in more bytes are no fewer
-blocks_up : (a b : ℕ) → a ≤ b → a / max_payload ≤ b / max_payload
+pub blocks_up : (a b : ℕ) → a ≤ b → a / max_payload ≤ b / max_payload
 unfolding max_payload
 blocks_up a b h = omega arith
 

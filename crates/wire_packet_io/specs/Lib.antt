@@ -1,2 +1,3 @@
 pub mod PacketIo
 pub mod Lent
+pub mod Bounds

@@ -3,6 +3,7 @@
 
 mod error;
 mod input;
+pub mod laws;
 mod reader;
 mod writer;
 

@@ -1,0 +1,10 @@
+//! Laws of readers of packets. Each function takes and answers nothing: its contract is the law, and
+//! a caller has it by calling.
+
+ghost use Rattle.wire_packet_io.specs.Bounds.{BoundedReads};
+
+/// How many bytes a reader keeps, whatever its peer sends: what was there before the call, or what
+/// a packet of at most the limit takes with its headers, 3 bytes more, and one read of 8192.
+pub fn bounded_reads()
+    ensures { BoundedReads }
+{}
