@@ -76,7 +76,7 @@ impl<A: Allocator + Copy> Inbox<A> {
 
 /// A client's first packet, and what its server goes on with. Whatever the client sends, the reader
 /// keeps at most the limit, the headers of a packet of so many bytes, 3 bytes more, and one read.
-pub fn first_packet<R: Read, A: Allocator + Copy>(
+pub fn first_packet<R: Read + Drop, A: Allocator + Copy>(
     alloc: A,
     client: R,
     limit: usize,

@@ -4,7 +4,7 @@ ghost use Rattle.mysql_wire_examples.specs.Inbox.{HoldsFew};
 
 use mysql_wire::proto::codec::error::PacketCodecError;
 use mysql_wire_examples::both_ends::{End, Exchange, Heard, Sent, converse};
-use mysql_wire_examples::inbox::Inbox;
+use mysql_wire_examples::inbox::{Inbox, first_packet};
 use std::alloc::Global;
 use std::test::Fail;
 use test_support::facts::{no_row, wrong_row};
@@ -117,4 +117,27 @@ fn is_taken(alloc: Global, row: Reads) -> bool {
 #[test]
 fn an_inbox_says_what_it_holds(rt: HostRuntime) -> Result<(), Fail> {
     no_row(wrong_row(rt.alloc(), READS, is_taken))
+}
+
+// A packet of the limit, with four bytes behind it; one past the limit.
+const FIRST: &[(&[u8], Option<(&[u8], usize)>)] = &[
+    (b"\x02\0\0\0ab\x01\0\0\0", Some((b"ab", 4))),
+    (b"\x03\0\0\0abc", None),
+];
+
+fn is_first(alloc: Global, row: (&'static [u8], Option<(&'static [u8], usize)>)) -> bool {
+    let (bytes, wanted) = row;
+    match first_packet(alloc, bytes, 2) {
+        Ok((reader, codec, Some(packet))) => {
+            let is_there = wanted == Some((packet.as_slice(), reader.unread().len()));
+            is_there & (codec.sequence_id() == 1)
+        }
+        Ok((_, _, None)) => false,
+        Err(_) => wanted.is_none(),
+    }
+}
+
+#[test]
+fn a_reader_keeps_what_follows_the_first_packet(rt: HostRuntime) -> Result<(), Fail> {
+    no_row(wrong_row(rt.alloc(), FIRST, is_first))
 }

@@ -22,7 +22,15 @@ fn is_replayed(alloc: Global, before: usize, behind: usize) -> Option<bool> {
     let mut dst = Vec::new(alloc);
     let mut packets = Vec::new(alloc);
     src.extend_from_slice(LOGIN).ok()?;
-    go_on_under(&mut codec, &mut src, &mut dst, behind, SESSION, &mut packets).ok()?;
+    go_on_under(
+        &mut codec,
+        &mut src,
+        &mut dst,
+        behind,
+        SESSION,
+        &mut packets,
+    )
+    .ok()?;
     let (login, session) = ((before, LOGIN), (behind, SESSION));
     let again = replay_session(alloc, login, session, packets.as_slice()).ok()?;
     let wanted: &[&[u8]] = &[b"ab", b"cde", b""];
