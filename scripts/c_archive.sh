@@ -3,7 +3,8 @@
 crates=$top/crates
 folder=$crates/mysql_wire_c
 archive=$folder/out/libmysql_wire_c.a
-layers=(wire_const wire_buf wire_ext wire_repr wire_field wire_codec wire_packet_io mysql_wire)
+layers=(wire_const wire_buf wire_ext wire_repr wire_field wire_codec wire_span wire_packet_io
+    mysql_wire)
 kit=$(dirname "$(rt doc)")
 
 # Whether the layers stand as `rt ci` leaves them, which has just proved them. `rt lib` would build

@@ -5,6 +5,7 @@
 # 'N passed, M failed'.
 set -u
 top=$(cd "$(dirname "$0")/.." && pwd)
+source "$top/scripts/start.sh"
 source "$top/scripts/checks.sh"
 source "$top/scripts/c_archive.sh"
 work=$(mktemp -d)

@@ -3,6 +3,7 @@
 # print of small streams. It prints a line for each check; the last line is 'N passed, M failed'.
 set -u
 top=$(cd "$(dirname "$0")/.." && pwd)
+source "$top/scripts/start.sh"
 source "$top/scripts/checks.sh"
 source "$top/scripts/c_archive.sh"
 work=$(mktemp -d)

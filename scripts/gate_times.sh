@@ -6,7 +6,9 @@
 # end of its last one, and in processor seconds. The gate's own output goes to the file that is named
 # (gate.log at the top, if none is).
 set -u
-cd "$(dirname "$0")/.." || exit 1
+top=$(cd "$(dirname "$0")/.." && pwd)
+source "$top/scripts/start.sh"
+cd "$top" || exit 1
 log=${1:-gate.log}
 samples=$(mktemp)
 trap 'rm -f "$samples"' EXIT

@@ -21,6 +21,7 @@
 set -u
 export LC_ALL=C
 cd "$(dirname "$0")/.." || exit 1
+source scripts/checks.sh
 layers=(wire_const wire_buf wire_ext wire_repr wire_field wire_codec wire_span wire_packet_io mysql_wire)
 tests=crates/packet_tests/src/requests
 lists=crates/memory_support
@@ -33,20 +34,15 @@ in_tables() {
         sed -E 's/^[^"]*"(.*)"$/\1/' | sort -u
 }
 
-passed=0
-failed=0
-
-# Counts a check, which holds where its input has no lines; they are printed with what is wrong.
+# A check, which holds where its input has no lines; they are printed.
 holds_for_none() {
     local wrong
     wrong=$(cat)
     if [ -z "$wrong" ]; then
-        passed=$((passed + 1))
+        pass "none: $1"
     else
-        failed=$((failed + 1))
-        while read -r line; do
-            echo "$line: $1"
-        done <<<"$wrong"
+        fail "$1:"
+        echo "$wrong"
     fi
 }
 
@@ -101,5 +97,4 @@ holds_for_none 'not sorted by bytes' \
     done)
 echo "public functions: $(wc -l <"$work/within") within reach of an allocator," \
     "$(wc -l <"$work/global") of Global alone, $(wc -l <"$work/none") that name none"
-echo "$passed passed, $failed failed"
-[ "$failed" -eq 0 ]
+finish

@@ -6,6 +6,7 @@
 # failed'.
 set -u
 top=$(cd "$(dirname "$0")/.." && pwd)
+source "$top/scripts/start.sh"
 source "$top/scripts/checks.sh"
 source "$top/scripts/c_archive.sh"
 work=$(mktemp -d)

@@ -3,12 +3,13 @@
 # compares the status, what it wrote and what it said on standard error. The last line is
 # 'N passed, M failed'.
 set -u
-folder=$(cd "$(dirname "$0")/.." && pwd)/crates/mysql_wire_tool
+top=$(cd "$(dirname "$0")/.." && pwd)
+source "$top/scripts/start.sh"
+source "$top/scripts/checks.sh"
+folder=$top/crates/mysql_wire_tool
 program=$folder/out/mysql_wire_tool
 [ -x "$program" ] || (cd "$folder" && rt run -- chunk < /dev/null > /dev/null 2>&1)
 usage='usage: mysql_wire_tool frame ID | chunk | unframe STEP LIMIT [LATER AT] | reframe LIMIT'
-passed=0
-failed=0
 errors=$(mktemp)
 trap 'rm -f "$errors"' EXIT
 
@@ -22,10 +23,9 @@ want() {
 # judge STATUS OUTPUT ERROR GOT NAME: compares what came with what is wanted.
 judge() {
     if [ "$4" = "$2status $1" ] && [ "$(cat "$errors")" = "$3" ]; then
-        passed=$((passed + 1))
+        pass "status $1: $5"
     else
-        failed=$((failed + 1))
-        printf 'status %s of "%s" failed: got %s, and on standard error %s\n' "$1" "$5" "$4" "$(cat "$errors")"
+        fail "status $1 of '$5': got $4, and on standard error $(cat "$errors")"
     fi
 }
 
@@ -56,5 +56,4 @@ judge 2 '' 'input or output failed' "$("$program" unframe 1 1 2> "$errors" <&-; 
 # A bounded address space, in KiB, and an input that doesn't fit.
 judge 6 '' 'out of memory' "$(head -c 200000000 /dev/zero | (ulimit -v 100000; "$program" frame 0 2> "$errors" | wc -c | grep -v '^0$'; echo "status ${PIPESTATUS[0]}"))" 'frame 0 in 100 MB'
 
-echo "$passed passed, $failed failed"
-[ "$failed" -eq 0 ]
+finish

@@ -4,6 +4,7 @@
 # on a copy of the repository. The last line is 'N refused, M not'.
 set -eu
 top=$(cd "$(dirname "$0")/.." && pwd)
+source "$top/scripts/start.sh"
 work=$(mktemp -d)
 trap 'rm -rf "$work"' EXIT
 cp -a "$top/crates" "$top/crates.txt" "$top/HANDLES" "$work/"

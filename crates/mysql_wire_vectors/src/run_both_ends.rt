@@ -7,7 +7,7 @@ use mysql_wire_examples::both_ends::{End, Exchange, Heard, Sent, converse};
 use mysql_wire_examples::inbox::{Inbox, first_packet};
 use std::alloc::Global;
 use std::test::Fail;
-use test_support::facts::{no_row, wrong_row};
+use test_support::facts::{no_row, same, wrong_row};
 use test_support::receiver::are_packets;
 use test_support::told::Told;
 
@@ -119,21 +119,25 @@ fn an_inbox_says_what_it_holds(rt: HostRuntime) -> Result<(), Fail> {
     no_row(wrong_row(rt.alloc(), READS, is_taken))
 }
 
-// A packet of the limit, with four bytes behind it; one past the limit.
-const FIRST: &[(&[u8], Option<(&[u8], usize)>)] = &[
+// What a client sends, and the packet that is read with how many bytes are left, if one is.
+type First = (&'static [u8], Option<(&'static [u8], usize)>);
+
+const FIRST: &[First] = &[
     (b"\x02\0\0\0ab\x01\0\0\0", Some((b"ab", 4))),
     (b"\x03\0\0\0abc", None),
 ];
 
-fn is_first(alloc: Global, row: (&'static [u8], Option<(&'static [u8], usize)>)) -> bool {
+fn is_first(alloc: Global, row: First) -> bool {
     let (bytes, wanted) = row;
-    match first_packet(alloc, bytes, 2) {
-        Ok((reader, codec, Some(packet))) => {
-            let is_there = wanted == Some((packet.as_slice(), reader.unread().len()));
+    let Ok((reader, codec, packet)) = first_packet(alloc, bytes, 2) else {
+        return wanted.is_none();
+    };
+    match (packet, wanted) {
+        (Some(packet), Some((bytes, left))) => {
+            let is_there = same(packet.as_slice(), bytes) & (reader.unread().len() == left);
             is_there & (codec.sequence_id() == 1)
         }
-        Ok((_, _, None)) => false,
-        Err(_) => wanted.is_none(),
+        _ => false,
     }
 }
 
