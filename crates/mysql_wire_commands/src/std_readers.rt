@@ -6,7 +6,7 @@ use std::alloc::Allocator;
 use std::collections::VecDeque;
 use std::fs::File;
 use std::io;
-use std::io::{AsBytes, BufReader, Chain, Cursor, Empty, Read, Stdin, Take};
+use std::io::{AsBytes, BufReader, Chain, Cursor, Empty, PipeReader, Read, Repeat, Stdin, Take};
 
 impl NotedRead for &[u8] {
     fn read_noted(&mut self, buf: &mut [u8]) -> io::Result<usize> {
@@ -27,6 +27,18 @@ impl<A: Allocator> NotedRead for VecDeque<u8, A> {
 }
 
 impl NotedRead for Empty {
+    fn read_noted(&mut self, buf: &mut [u8]) -> io::Result<usize> {
+        self.read(buf)
+    }
+}
+
+impl NotedRead for Repeat {
+    fn read_noted(&mut self, buf: &mut [u8]) -> io::Result<usize> {
+        self.read(buf)
+    }
+}
+
+impl NotedRead for PipeReader {
     fn read_noted(&mut self, buf: &mut [u8]) -> io::Result<usize> {
         self.read(buf)
     }
