@@ -1,3 +1,4 @@
 pub mod RenumberLemmas
 pub mod SpanLemmas
 pub mod MixLemmas
+pub mod FrameLemmas

@@ -2,6 +2,7 @@
 //! it by calling.
 
 ghost use Rattle.wire_span.specs.SpanLaws.{JoinedRenumberings, JoinedSpans, NothingCame, OneSpanning, RenumberedStream, SpansBegin, SpansDeliver, SpansEnd, SpansFollow, SpansStop};
+ghost use Rattle.wire_span.specs.FrameLaws.{FramedPacket, FramedStream, FramesFront, JoinedFrames, NothingFramed};
 
 use wire_codec::laws::one_delivery;
 
@@ -60,4 +61,31 @@ pub fn joined_renumberings()
 /// on from the other first one.
 pub fn renumbered_stream()
     ensures { RenumberedStream }
+{}
+
+/// Calls of a writer of frames, one after another, are one call over all that they ate.
+pub fn joined_frames()
+    ensures { JoinedFrames }
+{}
+
+/// No bytes that came, and none that went, change nothing.
+pub fn nothing_framed()
+    ensures { NothingFramed }
+{}
+
+/// What went out of a packet, whatever the pieces, is the front of the framing of each payload of
+/// the stated length that begins with the bytes that came.
+pub fn frames_front()
+    ensures { FramesFront }
+{}
+
+/// Once the packet has gone whole, what went out is the framing of the bytes that came, from the id
+/// at `begin` on, and the next chunk bears the id behind it.
+pub fn framed_packet()
+    ensures { FramedPacket }
+{}
+
+/// Packets that went out one behind another are the stream of their payloads.
+pub fn framed_stream()
+    ensures { FramedStream }
 {}
