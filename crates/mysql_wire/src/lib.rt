@@ -88,7 +88,10 @@ pub mod proto {
             ChunkDecoder, ChunkInfo, PacketCodec, PacketDst, Visit, deliver, deliver_each,
             deliver_limited, encode_value, error, packet_to_chunks,
         };
-        pub use wire_span::{Renumber, Span, SpanDecoder, SpanError, VisitSpan, visit_spans};
+        pub use wire_span::{
+            FramePart, FrameWriter, Renumber, Span, SpanDecoder, SpanError, UnfinishedPacket,
+            VisitSpan, visit_spans,
+        };
     }
 
     /// Packets from readers, and to writers.
