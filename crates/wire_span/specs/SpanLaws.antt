@@ -30,12 +30,13 @@ SpansEnd =
     → CameTo first limit input payloads opened state
     → (input ≡ stream first payloads) × (opened ≡ []) × (state.id ≡ id_after first payloads)
 
--- what came is what the stream delivers: the packets that spans make are the payloads, each once and
--- in order, and the bytes of the open packet are its full chunks and what came of the open chunk
+-- what came is what the stream delivers: the packets that spans make are the payloads, each once
+-- and in order, and the bytes of the open packet are its full chunks and what came of the open
+-- chunk
 abbrev pub SpansDeliver : Type 0
 SpansDeliver =
-    (first limit : ℕ) (input : List ℕ) (payloads : List (List ℕ)) (opened : List ℕ) (state : SpanState)
-    → CameTo first limit input payloads opened state
+    (first limit : ℕ) (input : List ℕ) (payloads : List (List ℕ)) (opened : List ℕ)
+    (state : SpanState) → CameTo first limit input payloads opened state
     → (unfinished : List ℕ) × (rest : List ℕ)
     × Delivers [] input first limit payloads Waiting unfinished rest
     × (opened ≡ unfinished ++ drop 4 rest)
@@ -51,8 +52,8 @@ StopIs PacketsOutOfSync input first limit payloads opened rest =
 
 abbrev pub SpansStop : Type 0
 SpansStop =
-    (error : SpanError) (input : List ℕ) (first limit : ℕ) (payloads : List (List ℕ)) (opened rest : List ℕ)
-    → Splits [] input first limit payloads opened rest
+    (error : SpanError) (input : List ℕ) (first limit : ℕ) (payloads : List (List ℕ))
+    (opened rest : List ℕ) → Splits [] input first limit payloads opened rest
     → Refuses error (id_after first payloads) limit opened rest
     → StopIs error input first limit payloads opened rest
 
@@ -70,7 +71,8 @@ OneSpanning =
 abbrev pub JoinedSpans : Type 0
 JoinedSpans =
     (before between after : SpanState) (eaten more : List ℕ) (spans others : List (List ℕ × Bool))
-    → between.limit ≡ before.limit → SpansOn before eaten spans between → SpansOn between more others after
+    → between.limit ≡ before.limit → SpansOn before eaten spans between
+    → SpansOn between more others after
     → SpansOn before (eaten ++ more) (spans ++ others) after
 
 -- no bytes, in no spans
@@ -85,8 +87,8 @@ JoinedRenumberings =
     → RenumbersFront between other more others count after next
     → RenumbersFront before id (old ++ more) (new ++ others) (length old + count) after next
 
--- what went out between two packets is the framing of the payloads that came, with ids that count on
--- from the other first one
+-- what went out between two packets is the framing of the payloads that came, with ids that count
+-- on from the other first one
 abbrev pub RenumberedStream : Type 0
 RenumberedStream =
     (before after : SpanState) (id next : ℕ) (old new : List ℕ)

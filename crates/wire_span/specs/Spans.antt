@@ -57,7 +57,8 @@ span_state decoder =
 
 -- the full chunks of an open packet, and behind them the header of its open chunk and the part of
 -- the chunk that came, with so many bytes to come
-pub record InOpenChunk (first limit id size left : ℕ) (is_full : Bool) (opened begun : List ℕ) : Type 0 where
+pub record InOpenChunk (first limit id size left : ℕ) (is_full : Bool)
+    (opened begun : List ℕ) : Type 0 where
   pub held : List ℕ
   pub part : List ℕ
   pub len : ℕ
@@ -82,7 +83,8 @@ pub record InNextHeader (first limit id size : ℕ) (came opened begun : List �
 
 -- what came of a packet since its first chunk, which bears this id: these bytes of the payload
 abbrev pub Begins : ℕ → ℕ → ℕ → ℕ → SpanPlace → List ℕ → List ℕ → Type 0
-Begins first limit id size (AtHeader came) opened begun = InNextHeader first limit id size came opened begun
+Begins first limit id size (AtHeader came) opened begun =
+    InNextHeader first limit id size came opened begun
 Begins first limit id size (Within left is_full) opened begun =
     (0 < left) × InOpenChunk first limit id size left is_full opened begun
 
@@ -117,7 +119,8 @@ abbrev pub SpansOn : SpanState → List ℕ → List (List ℕ × Bool) → Span
 SpansOn before eaten spans after =
     (first limit : ℕ) (input : List ℕ) (payloads : List (List ℕ)) (opened : List ℕ)
     → before.limit ≤ limit → CameTo first limit input payloads opened before
-    → CameTo first limit (input ++ eaten) (payloads ++ packets_of opened spans) (opened_after opened spans) after
+    → CameTo first limit (input ++ eaten) (payloads ++ packets_of opened spans)
+    (opened_after opened spans) after
 
 -- a span, as bytes, and whether they end their packet
 abbrev pub span_of : Span → List ℕ × Bool
@@ -126,6 +129,11 @@ span_of span = (span.bytes.now, span.ends_packet)
 abbrev pub spans_of : Option Span → List (List ℕ × Bool)
 spans_of None = []
 spans_of (Some span) = span_of span ∷ []
+
+-- the front of a piece came in these spans, and this is left of it
+abbrev pub EatsSpans : SpanState → List ℕ → List (List ℕ × Bool) → List ℕ → SpanState → Type 0
+EatsSpans before piece spans left after =
+    (eaten : List ℕ) × (piece ≡ eaten ++ left) × SpansOn before eaten spans after
 
 -- the header in front states a chunk within the limit, or an empty one, and bears another id than
 -- the next; the chunk need not have come

@@ -1,5 +1,5 @@
-//! Laws of spans. Each function takes and answers nothing: its contract is the law, and a caller has
-//! it by calling.
+//! Laws of spans. Each function takes and answers nothing: its contract is the law, and a caller
+//! has it by calling.
 
 ghost use Rattle.wire_span.specs.SpanLaws.{JoinedRenumberings, JoinedSpans, NothingCame, OneSpanning, RenumberedStream, SpansBegin, SpansDeliver, SpansEnd, SpansFollow, SpansStop};
 ghost use Rattle.wire_span.specs.FrameLaws.{FramedPacket, FramedStream, FramesFront, JoinedFrames, NothingFramed};
@@ -11,20 +11,21 @@ pub fn spans_begin()
     ensures { SpansBegin }
 {}
 
-/// What came in spans is what the stream delivers: the packets that the spans make are its payloads,
-/// and the bytes of the open packet are the delivery's full chunks and what came of the open chunk.
+/// What came in spans is what the stream delivers: the packets that the spans make are its
+/// payloads, and the bytes of the open packet are the delivery's full chunks and what came of the
+/// open chunk.
 pub fn spans_deliver()
     ensures { SpansDeliver }
 {}
 
-/// Between two packets that a codec delivered, a decoder of spans goes on, with the id that the codec
-/// expects.
+/// Between two packets that a codec delivered, a decoder of spans goes on, with the id that the
+/// codec expects.
 pub fn spans_follow()
     ensures { SpansFollow }
 {}
 
-/// Between two packets that came in spans, nothing is open and the id is the one after them, so that
-/// a codec with this id goes on.
+/// Between two packets that came in spans, nothing is open and the id is the one after them, so
+/// that a codec with this id goes on.
 pub fn spans_end()
     ensures { SpansEnd }
 {}
@@ -57,8 +58,8 @@ pub fn joined_renumberings()
     ensures { JoinedRenumberings }
 {}
 
-/// Between two packets, what went out is the stream of the payloads that came in, with ids that count
-/// on from the other first one.
+/// Between two packets, what went out is the stream of the payloads that came in, with ids that
+/// count on from the other first one.
 pub fn renumbered_stream()
     ensures { RenumberedStream }
 {}

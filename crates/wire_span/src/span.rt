@@ -2,7 +2,7 @@
 
 ghost use Rattle.std.specs.Prelude.{◌≡◌, ◌≢◌, ℕ, ◌+◌, ◌%◌, ◌<◌, ◌≤◌, ◌↔◌, ◌⊎◌, List, [], ◌∷◌, ◌++◌, length, Ok, None, true, IsTrue, IfOk, IfErr, OnOk, OnErr, IfSome, IfNone, MatchResult};
 ghost use Rattle.wire_codec.specs.Framing.{max_payload, header};
-ghost use Rattle.wire_span.specs.Spans.{front_bytes, header_came, span_state, spans_of, SpansOn, StopsBefore, IsBetween};
+ghost use Rattle.wire_span.specs.Spans.{front_bytes, header_came, span_state, spans_of, EatsSpans, StopsBefore, IsBetween};
 ghost use Rattle.wire_span.specs.SpanSteps.{TakesSpan, RefusesChunk};
 
 use std::num::NonZeroUsize;
@@ -93,7 +93,8 @@ impl HeaderFront {
     // With one byte more: the header, where it is whole.
     fn push(self, byte: u8) -> Result<Header, HeaderFront>
         ensures whole { IfOk result (λ read.
-            (front_bytes self ++ byte ∷ [] ≡ header read.len read.seq_id) × (read.len ≤ max_payload)) }
+            (front_bytes self ++ byte ∷ [] ≡ header read.len read.seq_id)
+            × (read.len ≤ max_payload)) }
         ensures part { IfErr result (λ more. front_bytes more ≡ front_bytes self ++ byte ∷ []) }
     {
         match self {
@@ -203,9 +204,10 @@ impl SpanDecoder {
     // Judges a header, and opens its chunk.
     fn open_chunk(&mut self, header: Header) -> Result<(), SpanError>
         ensures ok { OnOk result ((header.seq_id ≡ self.old.seq_id)
-            × ((header.len ≡ 0) ⊎ (self.old.size + header.len ≤ self.old.max_allowed_packet))
             × (self.new.size ≡ self.old.size + header.len)
             × (self.new.seq_id ≡ (self.old.seq_id + 1) % 256)) }
+        ensures fits { OnOk result ((header.len ≡ 0)
+            ⊎ (self.old.size + header.len ≤ self.old.max_allowed_packet)) }
         ensures err { OnErr result (self.new ≡ self.old) }
         ensures refused { IfErr result (λ error. RefusesChunk error self.old.max_allowed_packet
             self.old.size self.old.seq_id header.len header.seq_id) }
@@ -242,8 +244,8 @@ impl SpanDecoder {
         ensures longer { IfSome result (λ span.
             length piece.new.now + length span.bytes.now ≡ length piece.old.now) }
         ensures bytes { IfSome result (λ span. (span.bytes.now ≢ []) ⊎ (left ≡ 0)) }
-        ensures some { IfSome result (λ span. (0 < length span.bytes.now) ⊎ (span.ends_packet ≡ true)
-            ⊎ ((left ≡ 0) × (is_full ≡ true))) }
+        ensures some { IfSome result (λ span. (0 < length span.bytes.now)
+            ⊎ (span.ends_packet ≡ true) ⊎ ((left ≡ 0) × (is_full ≡ true))) }
         ensures limit { self.new.max_allowed_packet ≡ self.old.max_allowed_packet }
     {
         let (bytes, rest) = piece.split_at(left.min(piece.len()));
@@ -286,8 +288,8 @@ impl SpanDecoder {
     /// `PacketsOutOfSync` the answer stays.
     #[inline(always)]
     pub fn next_span<'a>(&mut self, piece: &mut &'a [u8]) -> Result<Option<Span<'a>>, SpanError>
-        ensures ok { IfOk result (λ span. (eaten : List ℕ) × (piece.old.now ≡ eaten ++ piece.new.now)
-            × SpansOn (span_state self.old) eaten (spans_of span) (span_state self.new)) }
+        ensures ok { IfOk result (λ span. EatsSpans (span_state self.old) piece.old.now
+            (spans_of span) piece.new.now (span_state self.new)) }
         ensures none { result ≡ Ok None → piece.new.now ≡ [] }
         ensures shorter { IfOk result (λ span. IfSome span (λ _.
             length piece.new.now < length piece.old.now)) }

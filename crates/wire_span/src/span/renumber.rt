@@ -52,13 +52,15 @@ impl Renumber {
     // What came of a header, or of the open chunk: how many bytes.
     fn step(&mut self, piece: &mut [u8]) -> Result<usize, SpanError>
         requires some { 0 < length piece.old }
-        ensures ok { IfOk result (λ count. RenumbersFront (span_state self.old.decoder) self.old.next_id
-            piece.old piece.new count (span_state self.new.decoder) self.new.next_id) }
+        ensures ok { IfOk result (λ count. RenumbersFront (span_state self.old.decoder)
+            self.old.next_id piece.old piece.new count (span_state self.new.decoder)
+            self.new.next_id) }
         ensures some { IfOk result (λ count. 0 < count) }
         ensures uncut { IfOk result (λ count. (count ≡ length piece.old)
             ⊎ (header_came (span_state self.new.decoder).place ≡ [])) }
         ensures err { OnErr result ((self.new ≡ self.old) × (piece.new ≡ piece.old)) }
-        ensures refused { IfErr result (λ error. StopsBefore (span_state self.old.decoder) piece.old error) }
+        ensures refused { IfErr result (λ error.
+            StopsBefore (span_state self.old.decoder) piece.old error) }
         ensures limit { self.new.decoder.max_allowed_packet ≡ self.old.decoder.max_allowed_packet }
     {
         match self.decoder.place {
@@ -89,16 +91,17 @@ impl Renumber {
         }
     }
 
-    /// Writes the ids over those of the piece, which goes on where the last one ended. Where a header
-    /// is refused nothing of it is written, and nothing behind it. The number is then the place in
-    /// the piece at which it begins: how many bytes may go. What is left from there on may be given
-    /// again. It is 0 where earlier pieces brought the header's front, which has gone:
+    /// Writes the ids over those of the piece, which goes on where the last one ended. Where a
+    /// header is refused nothing of it is written, and nothing behind it. The number is then the
+    /// place in the piece at which it begins: how many bytes may go. What is left from there on may
+    /// be given again. It is 0 where earlier pieces brought the header's front, which has gone:
     /// `decoder.partial_header_len()` bytes.
     pub fn renumber(&mut self, piece: &mut [u8]) -> Result<(), (usize, SpanError)>
         ensures ok { OnOk result (RenumbersFront (span_state self.old.decoder) self.old.next_id
             piece.old piece.new (length piece.old) (span_state self.new.decoder) self.new.next_id) }
-        ensures err { IfErr result (λ stop. RenumbersFront (span_state self.old.decoder) self.old.next_id
-            piece.old piece.new stop.0 (span_state self.new.decoder) self.new.next_id) }
+        ensures err { IfErr result (λ stop. RenumbersFront (span_state self.old.decoder)
+            self.old.next_id piece.old piece.new stop.0 (span_state self.new.decoder)
+            self.new.next_id) }
         ensures refused { IfErr result (λ stop. StopsBefore (span_state self.new.decoder)
             (drop stop.0 piece.new) stop.1) }
         // Nothing of that header may go: in this piece it begins there, or this piece goes on with

@@ -53,6 +53,6 @@ returns-in-Ok-open_chunk-clause-ok c =
     let Q = slice_set P (count - 1) j in
     let before = at_place self.max_allowed_packet self.seq_id self.size (place_of (InHeader c.in-InHeader.came)) in
     subst (λ (p : Place). RenumbersFront (at_place self.max_allowed_packet self.seq_id self.size (place_of p)) j P Q count after ((j + 1) % 256)) (sym c.in-InHeader.is)
-    (subst (λ (k : ℕ). RenumbersFront before j P Q count (record after { id = k }) ((j + 1) % 256)) (sym (c.pass-in-Ok.ensures.id ∙ accepted.3))
+    (subst (λ (k : ℕ). RenumbersFront before j P Q count (record after { id = k }) ((j + 1) % 256)) (sym (c.pass-in-Ok.ensures.id ∙ accepted.2))
     (header_renumbers c.in-InHeader.came self.max_allowed_packet self.seq_id j self.size read.len read.seq_id c.open_chunk.new.self.size (count - 1) count P R c.pass-in-Ok.result after
-    whole.0 whole.1 accepted.0 accepted.1 accepted.2 c.pass-in-Ok.ensures.takes (omega (arith, shorter)) (omega (arith, shorter))))
+    whole.0 whole.1 accepted.0 c.in-Ok-open_chunk.ensures.fits accepted.1 c.pass-in-Ok.ensures.takes (omega (arith, shorter)) (omega (arith, shorter))))
