@@ -18,3 +18,5 @@ mod framing;
 mod memory;
 #[cfg(test)]
 mod requests;
+#[cfg(test)]
+mod spans;

@@ -1,0 +1,364 @@
+//! Generated streams in spans, and with other ids: each run is compared with the reference reading
+//! of the whole stream, in the pieces in which `deliver` is; what is renumbered, with `encode` of
+//! the packets. Spans behind a codec, and a codec behind spans.
+
+use mysql_wire::proto::codec::{Renumber, Span, SpanDecoder, SpanError};
+use std::alloc::Global;
+use std::mem;
+use std::test::Fail;
+use test_support::case::Case;
+use test_support::facts::{all_hold, no_row};
+use test_support::fixture::raise_to;
+use test_support::generated::{Draws, Stream, pieces_of};
+use test_support::receiver::Receiver;
+use test_support::reference::{between, header_at, low_byte};
+use test_support::told::Told;
+
+fn decoder_of(first_id: u8, limit: usize) -> SpanDecoder {
+    let mut decoder = SpanDecoder::default();
+    decoder.max_allowed_packet = limit;
+    decoder.set_sequence_id(first_id);
+    decoder
+}
+
+// ---- what a decoder of spans must do with a stream of small packets
+
+// Where it stops, or what stands behind the packets.
+#[derive(Clone, Copy)]
+struct Place {
+    // Where the chunk begins that is refused, or isn't whole.
+    at: usize,
+    stop: Option<SpanError>,
+    // Whether the header of a chunk that isn't whole was accepted.
+    is_open: bool,
+}
+
+// The reading of a chunk of another id is behind it.
+fn chunk_at(case: &Case) -> usize {
+    let reading = &case.reading;
+    match reading.told {
+        Told::OutOfSync => reading
+            .left
+            .saturating_sub(reading.held.len())
+            .saturating_sub(4),
+        _ => reading.left,
+    }
+}
+
+// By the header there: another id is told as soon as the header has come.
+fn place_of(case: &Case) -> Place {
+    let at = chunk_at(case);
+    let header = header_at(case.stream, at);
+    let is_next = match header {
+        Some((_, id)) => id == case.reading.next_id,
+        None => true,
+    };
+    let stop = match case.reading.told {
+        Told::TooLarge => Some(SpanError::PacketTooLarge),
+        _ if is_next => None,
+        _ => Some(SpanError::PacketsOutOfSync),
+    };
+    Place {
+        at,
+        stop,
+        is_open: header.is_some() & stop.is_none(),
+    }
+}
+
+// ---- spans
+
+// What came of a stream in spans, up to its end or a stop. A packet that no memory is left for is
+// missing, which no reading agrees with.
+#[derive(Drop)]
+struct Spanned {
+    decoder: SpanDecoder,
+    packets: Vec<Vec<u8>>,
+    opened: Vec<u8>,
+    eaten: usize,
+    stop: Option<SpanError>,
+}
+
+impl Spanned {
+    fn new(alloc: Global, decoder: SpanDecoder) -> Self {
+        Spanned {
+            decoder,
+            packets: Vec::new(alloc),
+            opened: Vec::new(alloc),
+            eaten: 0,
+            stop: None,
+        }
+    }
+
+    fn take(&mut self, alloc: Global, span: Span<'_>) {
+        let _ = self.opened.extend_from_slice(span.bytes);
+        if span.ends_packet {
+            let packet = mem::replace(&mut self.opened, Vec::new(alloc));
+            let _ = self.packets.push(packet);
+        }
+    }
+
+    fn feed(&mut self, alloc: Global, piece: &[u8]) {
+        let mut rest = piece;
+        'spans: for _ in 0..u64::MAX {
+            match self.decoder.next_span(&mut rest) {
+                Ok(Some(span)) => self.take(alloc, span),
+                Ok(None) => break 'spans,
+                Err(error) => {
+                    self.stop = Some(error);
+                    break 'spans;
+                }
+            }
+        }
+        let eaten = piece.len().saturating_sub(rest.len());
+        self.eaten = self.eaten.saturating_add(eaten);
+    }
+
+    fn feed_all(&mut self, alloc: Global, pieces: &[&[u8]]) {
+        for piece in pieces {
+            if self.stop.is_none() {
+                self.feed(alloc, *piece);
+            }
+        }
+    }
+
+    // Whether it stands where it must.
+    fn stands_at(&self, case: &Case, place: Place) -> bool {
+        let next_id = case.reading.next_id.wrapping_add(place.is_open as u8);
+        let eaten = if place.stop.is_some() {
+            place.at.saturating_add(self.decoder.partial_header_len())
+        } else {
+            case.stream.len()
+        };
+        (self.stop == place.stop) & (self.eaten == eaten) & (self.decoder.sequence_id() == next_id)
+    }
+
+    // Whether the packets came, and the bytes of the open one.
+    fn has_packets(&self, case: &Case, place: Place) -> bool {
+        let opened = if place.is_open {
+            between(case.stream, place.at.saturating_add(4), case.stream.len())
+        } else {
+            b""
+        };
+        are_same(self.packets.as_slice(), case.reading.packets.as_slice())
+            & (self.opened.as_slice() == opened)
+    }
+
+    fn agrees(&self, case: &Case) -> bool {
+        let place = place_of(case);
+        self.stands_at(case, place) & self.has_packets(case, place)
+    }
+}
+
+fn are_same(packets: &[Vec<u8>], wanted: &[Vec<u8>]) -> bool {
+    let mut same = packets.len() == wanted.len();
+    for (packet, other) in packets.iter().zip(wanted.iter()) {
+        same &= packet.as_slice() == other.as_slice();
+    }
+    same
+}
+
+// Whether the stream comes in these pieces as its reading says, both by `deliver` and in spans.
+fn spans_agree(alloc: Global, case: &Case, pieces: &[&[u8]]) -> bool {
+    let mut spanned = Spanned::new(alloc, decoder_of(case.first_id, case.limit));
+    spanned.feed_all(alloc, pieces);
+    spanned.agrees(case) & case.agrees(alloc, b"", pieces, 0)
+}
+
+// Whether what stops at the limit goes on without one, from the same header on, as if it had begun
+// so.
+fn raised_agrees(alloc: Global, case: &Case, pieces: &[&[u8]]) -> bool {
+    let Ok(unlimited) = Case::new(alloc, case.first_id, usize::MAX, case.stream) else {
+        return false;
+    };
+    let mut spanned = Spanned::new(alloc, decoder_of(case.first_id, case.limit));
+    spanned.feed_all(alloc, pieces);
+    if spanned.stop == Some(SpanError::PacketTooLarge) {
+        spanned.decoder.max_allowed_packet = usize::MAX;
+        spanned.stop = None;
+        let left = between(case.stream, spanned.eaten, case.stream.len());
+        spanned.feed(alloc, left);
+        spanned.agrees(&unlimited)
+    } else {
+        spanned.agrees(case)
+    }
+}
+
+// ---- a codec and spans, one behind the other
+
+// Whether a codec goes on where spans have brought these bytes. True where they don't end between
+// two packets.
+fn codec_goes_on(alloc: Global, case: &Case, front: &[u8], pieces: &[&[u8]]) -> bool {
+    let mut spanned = Spanned::new(alloc, decoder_of(case.first_id, case.limit));
+    spanned.feed(alloc, front);
+    if spanned.stop.is_some() || !spanned.decoder.is_between_packets() {
+        return true;
+    }
+    let mut receiver = Receiver::new(alloc, case.limit);
+    raise_to(&mut receiver.codec, alloc, spanned.decoder.sequence_id());
+    receiver.out = mem::replace(&mut spanned.packets, Vec::new(alloc));
+    let run = receiver.deliver(pieces);
+    case.is_ended(&mut receiver, front.len(), pieces, run)
+}
+
+// Whether spans go on where a codec has taken these bytes. True where they don't end between two
+// packets.
+fn spans_go_on(alloc: Global, case: &Case, front: &[u8], pieces: &[&[u8]]) -> bool {
+    let mut receiver = case.receiver(alloc);
+    let (_, told) = receiver.deliver(&[front]);
+    if told != Told::Waits || !receiver.src.is_empty() || !receiver.dst.is_empty() {
+        return true;
+    }
+    let decoder = decoder_of(receiver.codec.sequence_id(), case.limit);
+    let mut spanned = Spanned::new(alloc, decoder);
+    spanned.packets = mem::replace(&mut receiver.out, Vec::new(alloc));
+    spanned.eaten = front.len();
+    spanned.feed_all(alloc, pieces);
+    spanned.agrees(case)
+}
+
+// Whether both go on behind these bytes, in drawn pieces.
+fn go_on(alloc: Global, draws: &mut Draws, case: &Case, at: usize) -> bool {
+    let (front, rest) = case.stream.split_at(at.min(case.stream.len()));
+    match pieces_of(alloc, draws, rest) {
+        Ok(pieces) => {
+            codec_goes_on(alloc, case, front, pieces.as_slice())
+                & spans_go_on(alloc, case, front, pieces.as_slice())
+        }
+        Err(_) => false,
+    }
+}
+
+// ---- other ids
+
+// What went out of a stream under other ids, up to its end or a stop: all bytes of the pieces, and
+// how many of them may go.
+#[derive(Drop)]
+struct Renumbered {
+    renumber: Renumber,
+    out: Vec<u8>,
+    gone: usize,
+    stop: Option<SpanError>,
+}
+
+impl Renumbered {
+    fn pass(&mut self, alloc: Global, piece: &[u8]) {
+        let Ok(mut copy) = Vec::from_slice(alloc, piece) else {
+            return;
+        };
+        let gone = match self.renumber.renumber(copy.as_mut_slice()) {
+            Ok(()) => piece.len(),
+            Err((place, error)) => {
+                self.stop = Some(error);
+                place
+            }
+        };
+        self.gone = self.gone.saturating_add(gone);
+        let _ = self.out.extend_from_slice(copy.as_slice());
+    }
+
+    fn pass_all(&mut self, alloc: Global, pieces: &[&[u8]]) {
+        for piece in pieces {
+            if self.stop.is_none() {
+                self.pass(alloc, *piece);
+            }
+        }
+    }
+
+    // Whether it stopped where it must.
+    fn stands_at(&self, case: &Case, place: Place) -> bool {
+        let gone = if place.stop.is_some() {
+            let came = self.renumber.decoder.partial_header_len();
+            place.at.saturating_add(came)
+        } else {
+            case.stream.len()
+        };
+        (self.stop == place.stop) & (self.gone == gone)
+    }
+}
+
+// The packets encoded from this id on, and the bytes behind them, of which a header that is
+// accepted bears the next id; and the id after it.
+fn encoded(alloc: Global, case: &Case, id: u8, place: Place, end: usize) -> (Vec<u8>, u8) {
+    let mut to = Receiver::new(alloc, usize::MAX);
+    raise_to(&mut to.codec, alloc, id);
+    for packet in &case.reading.packets {
+        let mut payload = packet.as_slice();
+        let _ = to.encode(&mut payload);
+    }
+    let mut bytes = Vec::new(alloc);
+    let _ = bytes.extend_from_slice(to.src.as_slice());
+    let _ = bytes.extend_from_slice(between(case.stream, place.at, end));
+    let next_id = to.codec.sequence_id();
+    let at = place.at.saturating_add(3);
+    if place.is_open && at < bytes.len() {
+        bytes[at] = next_id;
+    }
+    (bytes, next_id.wrapping_add(place.is_open as u8))
+}
+
+// Whether the stream goes out in these pieces as `encode` writes its packets.
+fn renumbered_agrees(alloc: Global, case: &Case, id: u8, pieces: &[&[u8]]) -> bool {
+    let mut renumbered = Renumbered {
+        renumber: Renumber {
+            decoder: decoder_of(case.first_id, case.limit),
+            next_id: id,
+        },
+        out: Vec::new(alloc),
+        gone: 0,
+        stop: None,
+    };
+    renumbered.pass_all(alloc, pieces);
+    let place = place_of(case);
+    let (wanted, next_id) = encoded(alloc, case, id, place, renumbered.out.len());
+    renumbered.stands_at(case, place)
+        & (renumbered.out.as_slice() == wanted.as_slice())
+        & (renumbered.renumber.next_id == next_id)
+}
+
+// ---- the streams
+
+// Whether a stream agrees, cut at drawn places.
+fn drawn_agrees(alloc: Global, draws: &mut Draws, case: &Case) -> bool {
+    let id = low_byte(draws.below(256));
+    match pieces_of(alloc, draws, case.stream) {
+        Ok(pieces) => {
+            spans_agree(alloc, case, pieces.as_slice())
+                & raised_agrees(alloc, case, pieces.as_slice())
+                & renumbered_agrees(alloc, case, id, pieces.as_slice())
+        }
+        Err(_) => false,
+    }
+}
+
+// How the generated stream of this seed stops in spans, if it agrees.
+fn generated_agrees(alloc: Global, seed: u64) -> Option<Option<SpanError>> {
+    let mut draws = Draws::new(seed);
+    let first_id = low_byte(draws.one_of(&[0, 0, 1, 253, 255]));
+    let Ok(stream) = Stream::damaged(alloc, &mut draws, first_id) else {
+        return None;
+    };
+    let limit = stream.limit(&mut draws);
+    let at = draws.one_of(stream.headers.as_slice());
+    let Ok(case) = Case::new(alloc, first_id, limit, stream.bytes.as_slice()) else {
+        return None;
+    };
+    let agrees = drawn_agrees(alloc, &mut draws, &case) & go_on(alloc, &mut draws, &case, at);
+    agrees.then_some(place_of(&case).stop)
+}
+
+#[test]
+fn generated_streams_agree_in_spans(rt: HostRuntime) -> Result<(), Fail> {
+    let (mut whole, mut too_large, mut out_of_sync) = (0u64, 0u64, 0u64);
+    let mut wrong = None;
+    for seed in 0..2000usize {
+        match generated_agrees(rt.alloc(), seed as u64) {
+            Some(None) => whole = whole.wrapping_add(1),
+            Some(Some(SpanError::PacketTooLarge)) => too_large = too_large.wrapping_add(1),
+            Some(Some(SpanError::PacketsOutOfSync)) => out_of_sync = out_of_sync.wrapping_add(1),
+            None => wrong = Some(seed),
+        }
+    }
+    no_row(wrong)?;
+    // Each end comes often.
+    all_hold(&[whole > 200, too_large > 200, out_of_sync > 200])
+}
