@@ -6,5 +6,6 @@ mod AccountLemmas
 mod RelayedLemmas
 mod TextListLemmas
 mod KeyedLemmas
+mod MeasuredLemmas
 pub mod SessionLemmas
 pub mod BothEndsLemmas

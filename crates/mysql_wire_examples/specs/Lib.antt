@@ -8,3 +8,4 @@ pub mod Accounts
 pub mod Relayed
 pub mod Keyed
 pub mod Session
+pub mod Measured
