@@ -1,6 +1,6 @@
 //! Two commands as packets of one's own: one of fixed length, and one that ends in a text.
 
-ghost use Rattle.std.specs.Prelude.{◌≡◌, ◌<◌, ◌^◌, ◌++◌, [], List, ℕ, length, IfOk};
+ghost use Rattle.std.specs.Prelude.{◌≡◌, ◌<◌, ◌^◌, ◌++◌, [], List, ℕ, length, IfOk, IfErr};
 ghost use Rattle.mysql_wire.specs.Law.{LeavesRest, Through-back, size-is};
 ghost use Rattle.mysql_wire.specs.Reading.{Answers, Through};
 ghost use Rattle.mysql_wire_examples.specs.Commands.{close_bytes, close_at, close_bytes-back, length-close_bytes, init_db_bytes, init_db_at, init_db_bytes-back};
@@ -77,7 +77,8 @@ impl<'de, A: Allocator + Copy> Wire<'de, A> for ComStmtClose {
 
 /// Writes a command and reads it again.
 pub fn there_and_back(alloc: Global, statement_id: u32) -> Result<u32, WireError>
-    ensures { IfOk result (λ id. id ≡ statement_id) }
+    ensures back { IfOk result (λ id. id ≡ statement_id) }
+    ensures memory { IfErr result (λ error. error ≡ WireError.OutOfMemory) }
 {
     let mut written = Vec::new(alloc);
     ComStmtClose { statement_id }.serialize(&mut written)?;

@@ -6,7 +6,7 @@ ghost use Rattle.mysql_wire.specs.RawTexts.{IsBorrowedText};
 ghost use Rattle.mysql_wire.specs.Spelling.{EatsText};
 ghost use Rattle.mysql_wire_examples.specs.Accounts.{IsOk};
 ghost use Rattle.std.specs.Io.KnownBytes.{Appends};
-ghost use Rattle.std.specs.Prelude.{◌≡◌, ◌++◌, length, OnOk, IfOk, ℕ, List, drop, IfSome, ◌≤◌, ◌↔◌, take, IsSome, IsNone};
+ghost use Rattle.std.specs.Prelude.{◌≡◌, ◌++◌, length, OnOk, IfOk, IfErr, ℕ, List, drop, IfSome, ◌≤◌, ◌↔◌, take, IsSome, IsNone};
 
 use bytes::BufMut;
 use mysql_wire::io::{BufMutExt, ParseBuf, WireError, WriteMysqlExt};
@@ -80,8 +80,9 @@ pub fn read_ok(payload: &[u8]) -> Option<(u64, u64)>
 
 /// Puts flags of three bytes and the name of a schema.
 pub fn put_schema<B: BufMut>(buf: &mut B, flags: u32, schema: &[u8]) -> Result<(), WireError>
-    ensures { OnOk result (B.written buf.new ≡ B.written buf.old
+    ensures put { OnOk result (B.written buf.new ≡ B.written buf.old
         ++ (le_bytes 3 flags ++ (lenenc_bytes (length schema.now) ++ schema.now))) }
+    ensures memory { IfErr result (λ error. error ≡ WireError.OutOfMemory) }
 {
     buf.put_u24_le(flags)?;
     buf.put_lenenc_str(schema)
@@ -97,8 +98,9 @@ pub fn write_name<W: WriteMysqlExt>(out: &mut W, name: &[u8]) -> Result<u64, Wir
 
 /// Appends an id of two bytes and a name behind its length.
 pub fn put_named(buf: &mut Vec<u8>, id: u16, name: &[u8]) -> Result<(), WireError>
-    ensures { OnOk result (buf.new.items ≡ buf.old.items
+    ensures put { OnOk result (buf.new.items ≡ buf.old.items
         ++ (le_bytes 2 id ++ (lenenc_bytes (length name.now) ++ name.now))) }
+    ensures memory { IfErr result (λ error. error ≡ WireError.OutOfMemory) }
 {
     RawInt::<LeU16>::new(id).serialize(buf)?;
     RawBytes::<LenEnc>::from(name).serialize(buf)
