@@ -7,6 +7,16 @@ unsafe extern "C" {
     fn mw_decode(ptr: *const u8, len: usize, piece: u64, limit: u64, reps: u64) -> u64;
     fn mw_decode_fresh(ptr: *const u8, len: usize, piece: u64, limit: u64, reps: u64) -> u64;
     fn mw_place(ptr: *const u8, len: usize, piece: u64, limit: u64, reps: u64) -> u64;
+    fn mw_spans(ptr: *const u8, len: usize, piece: u64, limit: u64, reps: u64) -> u64;
+    fn mw_renumber(ptr: *const u8, len: usize, piece: u64, limit: u64, reps: u64) -> u64;
+    fn mw_relay(
+        ptr: *const u8,
+        len: usize,
+        piece: u64,
+        limit: u64,
+        form: u64,
+        reps: u64,
+    ) -> u64;
     fn mw_place_row(
         ptr: *const u8,
         len: usize,
@@ -50,6 +60,22 @@ pub fn decode(bytes: &[u8], piece: u64, limit: u64, fresh: bool, reps: u64) -> u
 /// A stream of whole packets in pieces, each taken where it lies.
 pub fn place(bytes: &[u8], piece: u64, limit: u64, reps: u64) -> u64 {
     unsafe { mw_place(bytes.as_ptr(), bytes.len(), piece, limit, reps) }
+}
+
+/// A stream of whole packets in pieces, in spans.
+pub fn spans(bytes: &[u8], piece: u64, limit: u64, reps: u64) -> u64 {
+    unsafe { mw_spans(bytes.as_ptr(), bytes.len(), piece, limit, reps) }
+}
+
+/// A copy of such a stream whose ids are written in place, in pieces.
+pub fn renumber(bytes: &[u8], piece: u64, limit: u64, reps: u64) -> u64 {
+    unsafe { mw_renumber(bytes.as_ptr(), bytes.len(), piece, limit, reps) }
+}
+
+/// Such a stream passed on in both directions, in pieces: form 0 in spans with other ids in place,
+/// form 1 decoded and encoded.
+pub fn relay(bytes: &[u8], piece: u64, limit: u64, form: u64, reps: u64) -> u64 {
+    unsafe { mw_relay(bytes.as_ptr(), bytes.len(), piece, limit, form, reps) }
 }
 
 /// A stream of rows of texts appended to a buffer: form 0 read where they lie, form 1 not read,

@@ -16,6 +16,7 @@ mod library;
 mod memory;
 mod packets;
 mod place;
+mod spans;
 mod streams;
 mod timing;
 
@@ -45,6 +46,7 @@ fn measure_rows(word: &str) -> bool {
     let mut rows = Vec::new();
     packets::rows(&mut rows);
     place::rows(&mut rows);
+    spans::rows(&mut rows);
     streams::rows(&mut rows);
     fields::rows(&mut rows);
     columns::rows(&mut rows);
@@ -71,8 +73,8 @@ fn run(words: &[&str]) -> Result<bool, Box<dyn Error>> {
             Ok(memory::table()? && passed)
         }
         ["memory"] => memory::table(),
-        ["memory", size, count] => {
-            println!("{}", memory::measure(size.parse()?, count.parse()?)?);
+        ["memory", how, size, count] => {
+            println!("{}", memory::measure(how, size.parse()?, count.parse()?)?);
             Ok(true)
         }
         [word] => Ok(measure_rows(word)),

@@ -13,6 +13,14 @@ pub fn ends(bytes: &[u8]) -> u64 {
     }
 }
 
+/// The last byte; 0 where there is none.
+pub fn last(bytes: &[u8]) -> u64 {
+    match bytes.last() {
+        Some(last) => *last as u64,
+        None => 0,
+    }
+}
+
 /// A length and the ends.
 pub fn summary(bytes: &[u8]) -> u64 {
     (bytes.len() as u64).wrapping_add(ends(bytes))

@@ -8,4 +8,5 @@ mod columns;
 mod fields;
 mod in_place;
 mod packets;
+mod spans;
 mod streams;
