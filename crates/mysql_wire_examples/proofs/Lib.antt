@@ -9,3 +9,4 @@ mod KeyedLemmas
 mod MeasuredLemmas
 pub mod SessionLemmas
 pub mod BothEndsLemmas
+pub mod LongPacketLemmas

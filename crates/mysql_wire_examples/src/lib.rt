@@ -12,6 +12,7 @@ pub mod in_place;
 pub mod inbox;
 pub mod keyed;
 pub mod login;
+pub mod long_packet;
 pub mod measured;
 pub mod own_fields;
 pub mod parameters;

@@ -1,6 +1,6 @@
 -- A packet of a known length that goes out as its bytes come: what went, and what is to go still.
 -- Nothing here knows of pieces or of a loop.
-use Rattle.std.specs.Prelude.{◌≡◌, ℕ, ◌+◌, List, [], ◌++◌, length, take, drop, unwrap_or, Option, Some, None, IsSome}
+use Rattle.std.specs.Prelude.{◌≡◌, ℕ, ◌+◌, ◌*◌, ◌==◌, ◌&&◌, if◌then◌else◌, is_some, List, [], ◌++◌, length, take, drop, unwrap_or, Option, Some, None, IsSome}
 use Rattle.wire_span.specs.declared.frame.FrameWriter.{FrameWriter}
 use Rattle.wire_codec.specs.Framing.{framing, next_id}
 
@@ -30,6 +30,11 @@ IsBetweenPackets state = (state.chunk_left ≡ 0) × (state.behind ≡ None)
 -- in front of a chunk's header
 abbrev pub IsHeaderDue : FrameState → Type 0
 IsHeaderDue state = (state.chunk_left ≡ 0) × IsSome state.behind
+
+-- a bound on the parts that go out of these bytes: it falls with each
+abbrev pub most_parts : FrameState → List ℕ → ℕ
+most_parts state piece =
+    (if state.chunk_left == 0 && is_some state.behind then 1 else 0) + 2 * length piece
 
 -- how many bytes of the payload are to come
 abbrev pub payload_left : FrameState → ℕ

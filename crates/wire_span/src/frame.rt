@@ -56,7 +56,7 @@ impl Default for FrameWriter {
 }
 
 impl FrameWriter {
-    ghost use Rattle.wire_span.specs.Framed.{frame_state, payload_left, begun, header_bytes, IsBetweenPackets, IsHeaderDue, FramesOn};
+    ghost use Rattle.wire_span.specs.Framed.{frame_state, payload_left, begun, header_bytes, most_parts, IsBetweenPackets, IsHeaderDue, FramesOn};
 
     /// The sequence id that the next chunk bears.
     pub fn sequence_id(&self) -> u8
@@ -144,6 +144,9 @@ impl FrameWriter {
         // A part of no bytes is a header, and then none is due.
         ensures some { IfSome result (λ part. (0 < length part.bytes.now)
             ⊎ (IsHeaderDue (frame_state self.old) × (¬ IsHeaderDue (frame_state self.new)))) }
+        // A loop over a piece ends.
+        ensures fewer { IfSome result (λ _. most_parts (frame_state self.new) piece.new.now
+            < most_parts (frame_state self.old) piece.old.now) }
         ensures ends { IfSome result (λ part.
             IsTrue part.ends_packet ↔ IsBetweenPackets (frame_state self.new)) }
         ensures none { IfNone result (IsBetweenPackets (frame_state self.old)
