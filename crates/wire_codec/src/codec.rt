@@ -15,5 +15,5 @@ pub use delivery::deliver;
 pub use each::{Visit, deliver_each};
 pub use framing::packet_to_chunks;
 pub use limited::deliver_limited;
-pub use packet::PacketCodec;
+pub use packet::{PacketCodec, Skipped};
 pub use value::encode_value;

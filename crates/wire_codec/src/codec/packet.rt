@@ -4,6 +4,9 @@ ghost use Rattle.std.specs.Prelude.{◌≡◌, ◌≢◌, ℕ, ◌+◌, ◌%◌,
 ghost use Rattle.wire_codec.specs.Delivery.{chunk_len, IsBounded};
 
 mod front;
+mod skip;
+
+pub use skip::Skipped;
 
 use crate::codec::chunk::{ChunkDecoder, ChunkInfo, PacketDst};
 use crate::codec::error::PacketCodecError;

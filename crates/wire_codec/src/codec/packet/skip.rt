@@ -1,0 +1,190 @@
+//! A packet whose bytes are dropped as they come.
+
+ghost use Rattle.std.specs.Prelude.{◌≡◌, ◌+◌, ◌<◌, ◌≤◌, ◌⊎◌, ◌↔◌, length, slice_index, None, Ok, Err, IfOk, IfErr, IfSome, IsSome, IsTrue, OnOk, OnErr};
+ghost use Rattle.wire_codec.specs.Codec.{CodecState, expected_id, header_of};
+ghost use Rattle.wire_codec.specs.Delivery.{chunk_len, IsSpelled};
+ghost use Rattle.wire_codec.specs.Skipping.{AtChunk, DropsChunk, SkipsPacket, WouldStand};
+
+use crate::codec::chunk::ChunkDecoder;
+use crate::codec::error::PacketCodecError;
+use crate::codec::header::{HEADER_LEN, Header};
+use crate::codec::packet::{PacketCodec, Progress};
+use crate::codec::room::fits;
+use bytes::BytesMut;
+use std::alloc::Allocator;
+use std::num::NonZeroUsize;
+use wire_const::MAX_PAYLOAD_LEN;
+
+// A chunk whose header was dropped, and not all of its bytes.
+#[derive(Debug, Clone, Copy, PartialEq, Eq)]
+struct OpenChunk {
+    header: Header,
+    // How many of its bytes are still to come.
+    left: NonZeroUsize,
+}
+
+/// How much of a packet was dropped, between two calls of `skip`.
+#[derive(Debug, Clone, Copy, PartialEq, Eq)]
+pub struct Skipped {
+    // How many payload bytes its full chunks had.
+    held: usize,
+    begun: Option<OpenChunk>,
+}
+
+impl Skipped {
+    /// Full chunks with so many payload bytes; 0 before a packet.
+    pub fn behind(held: usize) -> Self
+        ensures { result ≡ record { held = held; begun = None } }
+    {
+        Skipped { held, begun: None }
+    }
+
+    /// Whether a part of a packet was dropped, and the rest is still to come.
+    pub fn is_under_way(&self) -> bool
+        ensures { IsTrue result ↔ ((0 < self.now.held) ⊎ IsSome self.now.begun) }
+    {
+        self.held > 0 || self.begun.is_some()
+    }
+}
+
+impl PacketCodec {
+    // The header in front, where it has come whole. A remembered one isn't judged again.
+    fn judge(&self, front: &[u8], held: usize) -> Result<Option<Header>, PacketCodecError>
+        ensures none { result ≡ Ok None → length front.now < 4 }
+        ensures there { IfOk result (λ found. IfSome found (λ read. 4 ≤ length front.now)) }
+        ensures len { IfOk result (λ found. IfSome found (λ read.
+            read.len ≡ chunk_len front.now)) }
+        ensures id { IfOk result (λ found. IfSome found (λ read.
+            read.seq_id ≡ slice_index front.now 3)) }
+        ensures fits { IfOk result (λ found. IfSome found (λ read. IsSome (header_of self.now)
+            ⊎ ((read.len ≡ 0) ⊎ (held + read.len ≤ self.now.max_allowed_packet)))) }
+        ensures spelled { IsSpelled front.now }
+        ensures err { IfErr result (λ error. (error ≡ PacketCodecError.PacketTooLarge)
+            × (header_of self.now ≡ None) × (4 ≤ length front.now) × (0 < chunk_len front.now)
+            × (self.now.max_allowed_packet < held + chunk_len front.now)) }
+    {
+        let Some(header) = Header::read(front) else {
+            return Ok(None);
+        };
+        let is_judged = match self.decoder {
+            ChunkDecoder::Idle => false,
+            ChunkDecoder::Chunk { .. } => true,
+        };
+        if is_judged || header.len == 0 || fits(held, header.len, self.max_allowed_packet) {
+            Ok(Some(header))
+        } else {
+            Err(PacketCodecError::PacketTooLarge)
+        }
+    }
+
+    // Drops what came of a chunk with this header, of which so many bytes, with those of the
+    // header, are to come.
+    fn drop_chunk(
+        &mut self,
+        expected: u8,
+        header: Header,
+        left: usize,
+        src: &mut BytesMut<impl Allocator + Copy>,
+        skipped: &mut Skipped,
+    ) -> Result<Progress, PacketCodecError>
+        requires { expected ≡ expected_id self.old }
+        ensures drops { (full : CodecState)
+            → AtChunk header left skipped.old.held self.old src.old.items full
+            → DropsChunk result full skipped.new self.new src.new.items }
+        ensures more { result ≡ Ok Progress.More → length src.new.items + left ≡ length src.old.items }
+        ensures limit { self.new.max_allowed_packet ≡ self.old.max_allowed_packet }
+    {
+        let count = left.min(src.len());
+        src.advance(count);
+        self.decoder = ChunkDecoder::Idle;
+        if let Some(left) = NonZeroUsize::new(left - count) {
+            skipped.begun = Some(OpenChunk { header, left });
+            return Ok(Progress::Starved);
+        }
+        if header.seq_id != expected {
+            *skipped = Skipped {
+                held: 0,
+                begun: None,
+            };
+            return Err(PacketCodecError::PacketsOutOfSync);
+        }
+        self.seq_id = expected.wrapping_add(1); // after 255 comes 0
+        if header.len < MAX_PAYLOAD_LEN {
+            *skipped = Skipped {
+                held: 0,
+                begun: None,
+            };
+            return Ok(Progress::Whole);
+        }
+        // Its header was within the limit.
+        let held = skipped.held.saturating_add(header.len);
+        *skipped = Skipped {
+            held: held.min(self.max_allowed_packet),
+            begun: None,
+        };
+        if src.is_empty() {
+            Ok(Progress::Starved)
+        } else {
+            Ok(Progress::More)
+        }
+    }
+
+    // Drops one chunk, or what came of it.
+    fn skip_chunk(
+        &mut self,
+        src: &mut BytesMut<impl Allocator + Copy>,
+        skipped: &mut Skipped,
+    ) -> Result<Progress, PacketCodecError>
+        ensures drops { (full : CodecState)
+            → WouldStand skipped.old self.old src.old.items full
+            → DropsChunk result full skipped.new self.new src.new.items }
+        ensures more { result ≡ Ok Progress.More → length src.new.items < length src.old.items }
+        ensures limit { self.new.max_allowed_packet ≡ self.old.max_allowed_packet }
+    {
+        let expected = self.seq_id;
+        if let Some(begun) = skipped.begun {
+            return self.drop_chunk(expected, begun.header, begun.left.get(), src, skipped);
+        }
+        match self.judge(src.as_slice(), skipped.held) {
+            Err(error) => Err(error),
+            Ok(None) => Ok(Progress::Starved),
+            Ok(Some(header)) => {
+                self.drop_chunk(expected, header, HEADER_LEN + header.len, src, skipped)
+            }
+        }
+    }
+}
+
+impl PacketCodec {
+    /// As `decode` into nothing: takes the bytes of a packet from the front of `src` and drops
+    /// them, each as it comes, until the packet has ended. The answer is whether it has. After
+    /// false the call is made again with more bytes in `src`; after true `skipped` is as before a
+    /// packet.
+    ///
+    /// `skipped` says how much of the packet was dropped: `Skipped::behind(0)` before a packet, or
+    /// with so many payload bytes of full chunks that `decode` has put. It answers and refuses as
+    /// `decode` would, had the bytes been kept, but asks for no memory. `PacketTooLarge` leaves the
+    /// header in `src`, and a larger limit goes on. `PacketsOutOfSync` comes as soon as the chunk of
+    /// another id has come whole.
+    ///
+    /// <https://dev.mysql.com/doc/dev/mysql-server/latest/page_protocol_basic_packets.html>
+    pub fn skip(
+        &mut self,
+        src: &mut BytesMut<impl Allocator + Copy>,
+        skipped: &mut Skipped,
+    ) -> Result<bool, PacketCodecError>
+        ensures skips { (full : CodecState)
+            → WouldStand skipped.old self.old src.old.items full
+            → SkipsPacket full result skipped.new self.new src.new.items }
+        ensures limit { self.new.max_allowed_packet ≡ self.old.max_allowed_packet }
+    {
+        'chunks: loop {
+            match self.skip_chunk(src, skipped) {
+                Ok(Progress::Whole) => return Ok(true),
+                Ok(Progress::Starved) => return Ok(false),
+                Ok(Progress::More) => {}
+                Err(error) => return Err(error),
+            }
+        }
+    }
+}
