@@ -115,7 +115,7 @@ dropped_last header left held codec src rest full small a long is same less =
     let at = at_id header left held codec src full small a in (
       codec_state (record codec { decoder = Idle; seq_id = (codec.seq_id + 1) % 256 }) rest (joined_held full),
       taken_last (first_id full) codec.seq_id full.limit full.unread full.held None rest (joined_held full) a.spelled a.whole at
-      (taken_whole header left held codec src rest full (Last codec.seq_id) a long is (inr (less, ap (λ (n : ℕ). Last n) (sym same)))),
+          (taken_whole header left held codec src rest full (Last codec.seq_id) a long is (inr (less, ap (λ (n : ℕ). Last n) (sym same)))),
       (refl, refl),
     )
 
@@ -189,6 +189,6 @@ refused_header skipped codec src full error small closed w is none long some mor
     subst (λ (e : PacketCodecError). DropsChunk (Err e) full skipped codec src) (sym is) (
       full,
       chunk_failed PacketTooLarge (first_id full) full.id full.limit full.unread full.held full.header full.unread full.held w.stands.0 at
-      (large long' some' past refl (w.header ∙ ap (λ (b : Option OpenChunk). header_at b (header_of codec)) closed ∙ none) refl refl),
+          (large long' some' past refl (w.header ∙ ap (λ (b : Option OpenChunk). header_at b (header_of codec)) closed ∙ none) refl refl),
       w,
     )

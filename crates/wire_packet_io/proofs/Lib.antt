@@ -1,2 +1,3 @@
 mod PacketIoLemmas
 mod BoundLemmas
+mod SkipLemmas

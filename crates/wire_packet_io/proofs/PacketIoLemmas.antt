@@ -206,7 +206,7 @@ pub found_not_lost : {A : Type 0} (found : Found A) (src : List ℕ) (lost : Boo
 found_not_lost InFront src lost mid after t = t.2
 found_not_lost (Apart packet) src lost mid after t = t.2
 
-length-zero : (bytes : List ℕ) → length bytes ≡ 0 → bytes ≡ []
+pub length-zero : (bytes : List ℕ) → length bytes ≡ 0 → bytes ≡ []
 length-zero [] h = refl
 length-zero (byte ∷ bytes) h = absurd (omega arith)
 

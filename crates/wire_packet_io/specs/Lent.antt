@@ -8,6 +8,7 @@ use Rattle.wire_codec.specs.Delivery.{chunk_len}
 use Rattle.wire_codec.specs.Codec.{CodecState, codec_state}
 use Rattle.wire_codec.specs.InPlace.{front_payload}
 use Rattle.wire_codec.specs.declared.codec.packet.PacketCodec.{PacketCodec}
+use Rattle.wire_codec.specs.declared.codec.packet.skip.Skipped.{Skipped}
 use Rattle.wire_packet_io.specs.PacketIo.{Answer}
 
 -- a reader of packets, as contracts see it
@@ -22,6 +23,8 @@ pub record Reading (R : Type 0) : Type 0 where
   pub lent : Option (List ℕ)
   -- a chunk bore another id than the expected one, and the stream is lost
   pub is_lost : Bool
+  -- how much was dropped of a packet that is being skipped: the reader is lost until it has ended
+  pub skipped : Option Skipped
   -- how many reads were made
   pub reads : ℕ
 

@@ -1,3 +1,4 @@
 pub mod PacketIo
 pub mod Lent
 pub mod Bounds
+pub mod Skips

@@ -1,11 +1,13 @@
 //! What is read, and the loop that finds a packet in it.
 
-ghost use Rattle.std.specs.Prelude.{Some, ◌≡◌, ℕ, ◌+◌, ◌-◌, ◌^◌, ◌≤◌, ◌↔◌, List, ◌++◌, length, min, drop, Ok, Err, IfOk, OnErr, OnOk, IfErr, IsTrue, IsFalse};
+ghost use Rattle.std.specs.Prelude.{Some, None, IsSome, false, ◌≡◌, ◌⊎◌, ℕ, ◌+◌, ◌-◌, ◌^◌, ◌<◌, ◌≤◌, ◌↔◌, List, [], ◌++◌, length, min, drop, Ok, Err, IfOk, OnErr, OnOk, IfErr, IsTrue, IsFalse};
 ghost use Rattle.std.specs.Io.KnownBytes.{Consumes, IsAtEnd, Keeps};
-ghost use Rattle.wire_codec.specs.Codec.{codec_state, Stands};
+ghost use Rattle.wire_codec.specs.Codec.{CodecState, codec_state, Stands};
 ghost use Rattle.wire_codec.specs.Delivery.{chunk_len};
 ghost use Rattle.wire_codec.specs.InPlace.{front_payload as payload_in_front};
 ghost use Rattle.wire_packet_io.specs.PacketIo.{NextPacket, ReadFails, TakesPacket, EndsAt, FitsAt, read_size};
+ghost use Rattle.wire_codec.specs.Skipping.{MaySkip, WouldStand};
+ghost use Rattle.wire_packet_io.specs.Skips.{IsRefusal, SkipsNext};
 ghost use Rattle.wire_packet_io.specs.Lent.{IsThere, IsApart, found_in, answer_over, unread_behind};
 
 use crate::error::PacketIoError;
@@ -13,9 +15,9 @@ use bytes::BytesMut;
 use std::alloc::Allocator;
 use std::io::Read;
 use std::mem;
-use wire_codec::codec::PacketCodec;
 use wire_codec::codec::error::PacketCodecError;
 use wire_codec::codec::header::{HEADER_LEN, Header};
+use wire_codec::codec::{PacketCodec, Skipped};
 use wire_const::MAX_PAYLOAD_LEN;
 
 // The most bytes of one read.
@@ -217,6 +219,84 @@ impl<R: Read, A: Allocator + Copy> Input<R, A> {
     {
         if let Some(header) = Header::read(self.src.as_slice()) {
             self.src.advance(HEADER_LEN + header.len);
+        }
+    }
+}
+
+impl<R: Read, A: Allocator + Copy> Input<R, A> {
+    // The reader's name for a refusal of the codec. A chunk of another id loses the stream.
+    fn refuse(&mut self, error: PacketCodecError) -> PacketIoError
+        ensures name { IsRefusal error result }
+        ensures lost { IsFalse self.old.lost
+            → (IsTrue self.new.lost ↔ (result ≡ PacketIoError.PacketsOutOfSync)) }
+        ensures rest { self.new ≡ record self.old { lost = self.new.lost } }
+    {
+        match error {
+            PacketCodecError::PacketTooLarge => PacketIoError::PacketTooLarge,
+            PacketCodecError::PacketsOutOfSync => {
+                self.lost = true;
+                PacketIoError::PacketsOutOfSync
+            }
+            PacketCodecError::OutOfMemory => PacketIoError::OutOfMemory,
+            PacketCodecError::Io(error) => PacketIoError::Io(error),
+        }
+    }
+
+    // What the end of the input means here: false between two packets.
+    fn at_skips_end(&self, skipped: &Skipped) -> Result<bool, PacketIoError>
+        ensures clean { IfOk result (λ more. (more ≡ false) × (length self.now.src.items ≡ 0)
+            × (skipped.now.held ≡ 0) × (skipped.now.begun ≡ None)) }
+        ensures inside { IfErr result (λ error. (error ≡ PacketIoError.UnexpectedEnd)
+            × ((0 < length self.now.src.items)
+            ⊎ ((0 < skipped.now.held) ⊎ IsSome skipped.now.begun))) }
+    {
+        if self.src.is_empty() && !skipped.is_under_way() {
+            Ok(false)
+        } else {
+            Err(PacketIoError::UnexpectedEnd)
+        }
+    }
+
+    /// Begins to drop a packet: what is held goes, and its memory.
+    pub(crate) fn begin_skip(&mut self)
+        ensures held { self.new.dst.items ≡ [] }
+        ensures found { IsFalse self.new.lost }
+        ensures rest { self.new ≡ record self.old { dst = self.new.dst; lost = false } }
+    {
+        let alloc = *self.dst.allocator();
+        self.dst = Vec::new(alloc);
+        self.lost = false;
+    }
+
+    /// Drops the bytes of the next packet as they come: true where it has ended, false where the
+    /// input ends between two packets.
+    pub(crate) fn skip(
+        &mut self,
+        codec: &mut PacketCodec,
+        skipped: &mut Skipped,
+    ) -> Result<bool, PacketIoError>
+        requires may { MaySkip skipped.old codec.old self.old.src.items }
+        requires found { IsFalse self.old.lost }
+        ensures skips { (full : CodecState)
+            → WouldStand skipped.old codec.old self.old.src.items full
+            → SkipsNext full (R.remaining self.old.reader) (R.remaining self.new.reader)
+            self.old.reads self.new.reads result skipped.new codec.new self.new.src.items }
+        ensures loses { IsTrue self.new.lost ↔ (result ≡ Err PacketIoError.PacketsOutOfSync) }
+        ensures ended { IfOk result (λ _. (skipped.new.held ≡ 0) × (skipped.new.begun ≡ None)) }
+        ensures held { self.new.dst ≡ self.old.dst }
+        ensures limit { codec.new.max_allowed_packet ≡ codec.old.max_allowed_packet }
+    {
+        'skips: loop {
+            match codec.skip(&mut self.src, skipped) {
+                Ok(true) => return Ok(true),
+                Ok(false) => {}
+                Err(error) => return Err(self.refuse(error)),
+            }
+            match self.read_more() {
+                Ok(0) => return self.at_skips_end(skipped),
+                Ok(_) => {}
+                Err(error) => return Err(error),
+            }
         }
     }
 }

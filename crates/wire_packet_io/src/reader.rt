@@ -1,10 +1,12 @@
 //! Packets from a reader.
 
-ghost use Rattle.std.specs.Prelude.{IsOk, IsNone, IsSome, Some, None, MatchOption, ◌≡◌, ◌↔◌, ◌⊎◌, [], Err, IfOk, OnErr, OnOk, IfErr, Ok, true, false, IsTrue, IsFalse};
-ghost use Rattle.wire_codec.specs.Codec.{Stands, DecodesPacket};
+ghost use Rattle.std.specs.Prelude.{IsOk, IsNone, IsSome, IfSome, Some, None, MatchOption, ◌≡◌, ◌<◌, ◌↔◌, ◌⊎◌, [], Err, IfOk, OnErr, OnOk, IfErr, Ok, true, false, IsTrue, IsFalse};
+ghost use Rattle.wire_codec.specs.Codec.{CodecState, Stands, DecodesPacket};
+ghost use Rattle.wire_codec.specs.Skipping.{MaySkip, WouldStand};
 ghost use Rattle.wire_codec.specs.InPlace.{HasFront, behind_front as behind};
 ghost use Rattle.wire_packet_io.specs.PacketIo.{FitsAt, NextPacket};
 ghost use Rattle.wire_packet_io.specs.Lent.{HandsOutLent, reading_state, answer_of, answer_lent};
+ghost use Rattle.wire_packet_io.specs.Skips.{CanSkip, SkipsNext, skipped_at};
 
 use crate::error::PacketIoError;
 use crate::input::{Found, Input, behind_front, front_payload};
@@ -13,7 +15,7 @@ use std::alloc::{Allocator, Global};
 use std::fmt::{self, Debug, Formatter};
 use std::io::Read;
 use std::marker::Model;
-use wire_codec::codec::PacketCodec;
+use wire_codec::codec::{PacketCodec, Skipped};
 
 /// Reads packets, one after another.
 ///
@@ -30,6 +32,8 @@ pub struct PacketReader<R: Read, A: Allocator + Copy = Global> {
     input: Input<R, A>,
     // The packet that is lent. The codec is behind it, and nothing is held.
     lent: Option<Found<A>>,
+    // How much was dropped of a packet that is being skipped. The input is lost meanwhile.
+    skipped: Option<Skipped>,
 }
 
 impl<R: Read, A: Allocator + Copy> Model for PacketReader<R, A> {
@@ -43,6 +47,7 @@ impl<R: Read, A: Allocator + Copy> Model for PacketReader<R, A> {
       held = p.input.dst.items;
       lent = packet_of p.lent p.input.src.items;
       is_lost = p.input.lost;
+      skipped = p.skipped;
       reads = p.input.reads;
     } };
 
@@ -71,6 +76,7 @@ impl<R: Read, A: Allocator + Copy> PacketReader<R, A> {
           held = [];
           lent = None;
           is_lost = false;
+          skipped = None;
           reads = 0;
         }) }
         ensures memory { IfErr result (λ error. error ≡ PacketIoError.OutOfMemory) }
@@ -82,7 +88,11 @@ impl<R: Read, A: Allocator + Copy> PacketReader<R, A> {
             lost: false,
             reads: 0,
         };
-        Ok(PacketReader { input, lent: None })
+        Ok(PacketReader {
+            input,
+            lent: None,
+            skipped: None,
+        })
     }
 
     /// Whether `next_packet` and `fill_packet` can go on with this codec: it stands at what is
@@ -180,6 +190,104 @@ impl<R: Read, A: Allocator + Copy> PacketReader<R, A> {
                 }
             }
         }
+    }
+}
+
+// A packet that is skipped.
+impl<R: Read, A: Allocator + Copy> PacketReader<R, A> {
+    /// Reads to the end of the next packet, and hands nothing out: true where a packet was
+    /// skipped, false where the input ends between two packets. It answers and refuses as
+    /// `next_packet` does, after the same reads; the limit counts over the whole packet. What it
+    /// keeps is the buffer of one read, whatever the packet's size, and what is held of the packet
+    /// is freed. A packet that is lent is the one that is skipped.
+    ///
+    /// After `Io`, `UnexpectedEnd`, `PacketTooLarge` and `OutOfMemory` the call may be made again
+    /// and goes on. Where a part of the packet is gone, the reader is lost until it has: till then
+    /// `next_packet` and `fill_packet` answer `PacketsOutOfSync` and touch nothing. A new limit
+    /// must not be below what was accepted of the packet.
+    ///
+    /// <https://dev.mysql.com/doc/dev/mysql-server/latest/page_protocol_basic_packets.html>
+    pub fn skip_packet(&mut self, codec: &mut PacketCodec) -> Result<bool, PacketIoError>
+        requires { IsNone self.old.lent → CanSkip codec.old self.old }
+        ensures lent { IsSome self.old.lent → (result ≡ Ok true)
+            × (self.new ≡ record self.old { lent = None }) × (codec.new ≡ codec.old) }
+        ensures lost { IsNone self.old.lent → IsNone self.old.skipped → IsTrue self.old.is_lost
+            → (result ≡ Err PacketIoError.PacketsOutOfSync) × (self.new ≡ self.old)
+            × (codec.new ≡ codec.old) }
+        ensures skips { IsNone self.old.lent → IsNone self.old.skipped → IsFalse self.old.is_lost
+            → SkipsNext (reading_state codec.old self.old)
+            (R.remaining self.old.reader) (R.remaining self.new.reader)
+            self.old.reads self.new.reads result (skipped_at self.new) codec.new self.new.unread }
+        ensures goes_on { IsNone self.old.lent → IsSome self.old.skipped → (full : CodecState)
+            → WouldStand (skipped_at self.old) codec.old self.old.unread full
+            → SkipsNext full (R.remaining self.old.reader) (R.remaining self.new.reader)
+            self.old.reads self.new.reads result (skipped_at self.new) codec.new self.new.unread }
+        ensures under_way { IsNone self.old.lent → IfSome self.new.skipped (λ skipped.
+            ((0 < skipped.held) ⊎ IsSome skipped.begun) × IsTrue self.new.is_lost) }
+        ensures ended { IfOk result (λ _. IsNone self.old.lent → IsNone self.new.skipped
+            × IsFalse self.new.is_lost × (self.new.held ≡ [])) }
+        ensures loses { IsNone self.old.lent → IsTrue self.new.is_lost
+            ↔ (IsSome self.new.skipped ⊎ (result ≡ Err PacketIoError.PacketsOutOfSync)) }
+        ensures taken { IsNone self.new.lent }
+        ensures can { IsNone self.old.lent → CanSkip codec.new self.new }
+        ensures limit { codec.new.max_allowed_packet ≡ codec.old.max_allowed_packet }
+    {
+        if self.lent.is_some() {
+            self.take_packet();
+            return Ok(true);
+        }
+        if self.is_stuck() {
+            return Err(PacketIoError::PacketsOutOfSync);
+        }
+        let mut skipped = self.skipped_so_far();
+        let result = self.go_on_skipping(codec, &mut skipped);
+        if skipped.is_under_way() {
+            self.input.lost = true;
+            self.skipped = Some(skipped);
+        }
+        result
+    }
+
+    // Whether a chunk of another id has come.
+    fn is_stuck(&self) -> bool
+        ensures { IsTrue result ↔ (IsTrue self.now.is_lost × IsNone self.now.skipped) }
+    {
+        self.input.lost && self.skipped.is_none()
+    }
+
+    // What was dropped of the packet, with what is held of it.
+    fn skipped_so_far(&self) -> Skipped
+        ensures { result ≡ skipped_at self.now }
+    {
+        match self.skipped {
+            Some(skipped) => skipped,
+            None => Skipped::behind(self.input.dst.len()),
+        }
+    }
+
+    // Goes on with a packet of which so much was dropped.
+    fn go_on_skipping(
+        &mut self,
+        codec: &mut PacketCodec,
+        skipped: &mut Skipped,
+    ) -> Result<bool, PacketIoError>
+        requires none { IsNone self.old.lent }
+        requires may { MaySkip skipped.old codec.old self.old.unread }
+        ensures skips { (full : CodecState)
+            → WouldStand skipped.old codec.old self.old.unread full
+            → SkipsNext full (R.remaining self.old.reader) (R.remaining self.new.reader)
+            self.old.reads self.new.reads result skipped.new codec.new self.new.unread }
+        ensures loses { IsTrue self.new.is_lost ↔ (result ≡ Err PacketIoError.PacketsOutOfSync) }
+        ensures ended { IfOk result (λ _. (skipped.new.held ≡ 0) × (skipped.new.begun ≡ None)) }
+        ensures held { self.new.held ≡ [] }
+        ensures none { IsNone self.new.lent }
+        ensures whole { IsNone self.new.skipped }
+        ensures limit { codec.new.max_allowed_packet ≡ codec.old.max_allowed_packet }
+    {
+        self.lent = None;
+        self.skipped = None;
+        self.input.begin_skip();
+        self.input.skip(codec, skipped)
     }
 }
 

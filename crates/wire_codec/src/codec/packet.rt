@@ -6,14 +6,13 @@ ghost use Rattle.wire_codec.specs.Delivery.{chunk_len, IsBounded};
 mod front;
 mod skip;
 
-pub use skip::Skipped;
-
 use crate::codec::chunk::{ChunkDecoder, ChunkInfo, PacketDst};
 use crate::codec::error::PacketCodecError;
 use crate::codec::framing::packet_to_chunks;
 use crate::codec::header::Header;
 use crate::codec::room::{bytes_to_take, fits, is_full_chunks, whole_chunk};
 use bytes::{Buf, BytesMut};
+pub use skip::Skipped;
 use std::alloc::Allocator;
 use wire_const::DEFAULT_MAX_ALLOWED_PACKET;
 
