@@ -149,6 +149,7 @@ impl<R: Read, A: Allocator + Copy> PacketReader<R, A> {
         ensures lent { IsFalse self.old.is_lost → IsSome self.old.lent
             → HandsOutLent (answer_of result) self.old self.new × (codec.new ≡ codec.old) }
         ensures taken { IsNone self.old.lent → IsNone self.new.lent }
+        ensures skipped { self.new.skipped ≡ self.old.skipped }
         ensures lost { IsTrue self.old.is_lost → (result ≡ Err PacketIoError.PacketsOutOfSync)
             × (self.new ≡ self.old) × (codec.new ≡ codec.old) }
         ensures fits { FitsAt self.new.is_lost (reading_state codec.new self.new) }
@@ -332,6 +333,7 @@ impl<R: Read, A: Allocator + Copy> PacketReader<R, A> {
         ensures lends { IfOk result (λ ready. (IsTrue ready ↔ IsSome self.new.lent)
             × IsFalse self.new.is_lost) }
         ensures refused { OnErr result (self.new.lent ≡ self.old.lent) }
+        ensures skipped { self.new.skipped ≡ self.old.skipped }
         ensures lost { IsTrue self.old.is_lost → (result ≡ Err PacketIoError.PacketsOutOfSync)
             × (self.new ≡ self.old) × (codec.new ≡ codec.old) }
         ensures fits { FitsAt self.new.is_lost (reading_state codec.new self.new) }
