@@ -22,6 +22,8 @@ mod reader;
 #[cfg(test)]
 mod scripted;
 #[cfg(test)]
+mod skips;
+#[cfg(test)]
 mod streams;
 #[cfg(test)]
 mod varlen;

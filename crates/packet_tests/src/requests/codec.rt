@@ -3,7 +3,8 @@
 
 use bytes::BytesMut;
 use memory_support::packets::{Outlet, Source};
-use mysql_wire::proto::codec::PacketDst;
+use mysql_wire::proto::codec::{PacketCodec, PacketDst};
+use mysql_wire::proto::packet_io::{PacketIoError, PacketReader};
 use refusing::NEVER;
 use std::alloc::Allocator;
 use test_support::facts::{are_parts, same};
@@ -26,6 +27,7 @@ pub enum Taking {
     Deliver(Runner),
     NextPacket,
     FillPacket,
+    SkipPacket,
 }
 
 /// What runs over pieces.
@@ -58,6 +60,7 @@ pub const ROWS: &[Row] = &[
     ),
     ("PacketReader::next_packet", Taking::NextPacket, 2),
     ("PacketReader::fill_packet", Taking::FillPacket, 1),
+    ("PacketReader::skip_packet", Taking::SkipPacket, 1),
 ];
 
 // More than a buffer has room for that holds a few bytes.
@@ -259,6 +262,23 @@ fn reads<A: Allocator + Copy>(heap: &Heap, alloc: A, lends: bool, nth: u64) -> O
     ((answer == Ok(true)) & (from.lends(b"123") | !lends)).then_some(refused)
 }
 
+// Whether the request was refused; the packet is then skipped.
+fn skips<A: Allocator + Copy>(heap: &Heap, alloc: A, nth: u64) -> Option<bool> {
+    heap.refuse(NEVER);
+    let mut reader = PacketReader::new(alloc, PACKET).ok()?;
+    let mut codec = PacketCodec::default();
+    if !reader.fits(&codec) {
+        return None;
+    }
+    heap.refuse(nth);
+    let mut answer = reader.skip_packet(&mut codec);
+    let refused = matches!(answer, Err(PacketIoError::OutOfMemory));
+    if refused {
+        answer = reader.skip_packet(&mut codec);
+    }
+    (matches!(answer, Ok(true)) & reader.unread().is_empty()).then_some(refused)
+}
+
 // ---- all
 
 /// Whether the request was refused, and what stands then is right.
@@ -276,5 +296,6 @@ pub fn tries<A: Allocator + Copy>(heap: &Heap, alloc: A, call: Taking, nth: u64)
         Taking::Deliver(runner) => delivers(heap, alloc, runner, nth),
         Taking::NextPacket => reads(heap, alloc, false, nth),
         Taking::FillPacket => reads(heap, alloc, true, nth),
+        Taking::SkipPacket => skips(heap, alloc, nth),
     }
 }

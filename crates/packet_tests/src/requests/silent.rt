@@ -7,6 +7,7 @@ use memory_support::copies::{
 };
 use memory_support::packets::{Outlet, Source};
 use memory_support::reading::Reading;
+use mysql_wire::proto::codec::Skipped;
 use refusing::NEVER;
 use std::alloc::Allocator;
 use test_support::facts::same;
@@ -94,6 +95,7 @@ const ROWS: &[(&[&str], Group)] = &[
             "PacketCodec::front_packet",
             "PacketCodec::take_front",
             "PacketCodec::accept_front",
+            "PacketCodec::skip",
         ],
         Group::InPlace,
     ),
@@ -232,6 +234,15 @@ fn lends<A: Allocator + Copy>(heap: &Heap, alloc: A) -> bool {
     to.lends(b"ab") & to.take_front() & to.src.is_empty()
 }
 
+fn skips<A: Allocator + Copy>(heap: &Heap, alloc: A) -> bool {
+    heap.refuse(NEVER);
+    let mut to = Receiver::holding(alloc, 2, b"\x02\0\0\0ab");
+    let mut skipped = Skipped::behind(0);
+    heap.refuse(0);
+    let all = matches!(to.codec.skip(&mut to.src, &mut skipped), Ok(true));
+    all & to.src.is_empty() & !skipped.is_under_way()
+}
+
 // ---- readers and writers
 
 // Whether a packet that was read is lent, and taken.
@@ -278,7 +289,7 @@ fn works<A: Allocator + Copy>(heap: &Heap, alloc: A, group: Group) -> bool {
         Group::Lists => lists_work::<A>(),
         Group::Numbers => numbers_work::<A>(),
         Group::Codec => codec_works(heap, alloc),
-        Group::InPlace => lends(heap, alloc),
+        Group::InPlace => lends(heap, alloc) & skips(heap, alloc),
         Group::Reader => reader_works(alloc) & reader_lends(heap, alloc),
         Group::Writer => writer_works(heap, alloc),
     }

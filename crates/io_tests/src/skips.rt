@@ -1,0 +1,222 @@
+//! Packets from readers that are skipped: whole, cut, ended, failing, and of several chunks.
+
+ghost use Rattle.std.specs.Prelude.{IsNone};
+ghost use Rattle.mysql_wire.specs.Skips.{CanSkip};
+
+use crate::scripted::{Said, Slow, are_said, said_of};
+use mysql_wire::proto::codec::PacketCodec;
+use mysql_wire::proto::packet_io::PacketReader;
+use refusing::{NEVER, Refusing};
+use std::alloc::{Allocator, Global};
+use std::io::{self, ErrorKind, Read};
+use std::test::Fail;
+use test_support::facts::{all_hold, no_row, same};
+
+// A reader of these bytes under a limit, and what it answers as it skips, call after call.
+#[derive(Clone, Copy)]
+struct Row<'a> {
+    bytes: &'a [u8],
+    at_once: usize,
+    until_fault: usize,
+    limit: usize,
+    said: &'a [Said],
+    unread: &'a [u8],
+    reads: u64,
+    id: u8,
+}
+
+// A packet, and the end.
+const ROW: Row = Row {
+    bytes: b"\x01\0\0\0a",
+    at_once: usize::MAX,
+    until_fault: usize::MAX,
+    limit: 3,
+    said: &[Said::Packet, Said::End, Said::End],
+    unread: b"",
+    reads: 3,
+    id: 1,
+};
+
+const ROWS: &[Row] = &[
+    ROW,
+    // Nothing.
+    Row {
+        bytes: b"",
+        said: &[Said::End],
+        reads: 1,
+        id: 0,
+        ..ROW
+    },
+    // An end inside a header.
+    Row {
+        bytes: b"\x01\0\0",
+        said: &[Said::UnexpectedEnd, Said::UnexpectedEnd],
+        unread: b"\x01\0\0",
+        id: 0,
+        ..ROW
+    },
+    // An end behind a header, which is gone.
+    Row {
+        bytes: b"\x01\0\0\0",
+        said: &[Said::UnexpectedEnd, Said::UnexpectedEnd],
+        id: 0,
+        ..ROW
+    },
+    // One byte a read.
+    Row {
+        bytes: b"\x03\0\0\0123",
+        at_once: 1,
+        said: &[Said::Packet],
+        reads: 7,
+        ..ROW
+    },
+    // The third read fails, inside the header.
+    Row {
+        bytes: b"\x03\0\0\0123",
+        at_once: 1,
+        until_fault: 2,
+        said: &[Said::Io, Said::Packet, Said::End],
+        reads: 9,
+        ..ROW
+    },
+    // The sixth, among the packet's bytes.
+    Row {
+        bytes: b"\x03\0\0\0123",
+        at_once: 1,
+        until_fault: 5,
+        said: &[Said::Io, Said::Packet, Said::End],
+        reads: 9,
+        ..ROW
+    },
+    // Another id, of a chunk that has come whole.
+    Row {
+        bytes: b"\x01\0\0\x05a\0",
+        said: &[Said::OutOfSync, Said::OutOfSync],
+        unread: b"\0",
+        reads: 1,
+        id: 0,
+        ..ROW
+    },
+    // Past the limit.
+    Row {
+        bytes: b"\x04\0\0\x001234",
+        said: &[Said::TooLarge, Said::TooLarge],
+        unread: b"\x04\0\0\x001234",
+        reads: 1,
+        id: 0,
+        ..ROW
+    },
+    // Two packets in one read, and the front of one more.
+    Row {
+        bytes: b"\x01\0\0\0a\x02\0\0\x01bc\x01\0",
+        said: &[Said::Packet, Said::Packet],
+        unread: b"\x01\0",
+        reads: 1,
+        id: 2,
+        ..ROW
+    },
+    // Empty packets.
+    Row {
+        bytes: b"\0\0\0\0\0\0\0\x01",
+        limit: 0,
+        said: &[Said::Packet, Said::Packet, Said::End],
+        reads: 2,
+        id: 2,
+        ..ROW
+    },
+];
+
+// Skips a packet.
+fn skips<R: Read, A: Allocator + Copy>(
+    codec: &mut PacketCodec,
+    reader: &mut PacketReader<R, A>,
+) -> Said
+    requires can { CanSkip codec.old reader.old }
+    requires taken { IsNone reader.old.lent }
+    ensures can { CanSkip codec.new reader.new }
+    ensures taken { IsNone reader.new.lent }
+{
+    match reader.skip_packet(codec) {
+        Ok(true) => Said::Packet,
+        Ok(false) => Said::End,
+        Err(error) => said_of(error),
+    }
+}
+
+// What a reader said, call after call; whether this is unread in the end; and how many reads it
+// made.
+#[derive(Drop)]
+struct Heard {
+    said: Vec<Said>,
+    is_left: bool,
+    reads: u64,
+    id: u8,
+}
+
+// Skips so often, and once more after each refusal of memory.
+fn listen<A: Allocator + Copy>(alloc: A, row: &Row, heard: &mut Heard) {
+    let input = Slow {
+        bytes: row.bytes,
+        at_once: row.at_once,
+        until_fault: row.until_fault,
+        kind: ErrorKind::Interrupted,
+        odd_reads: 0,
+    };
+    let Ok(mut reader) = PacketReader::new(alloc, input) else {
+        return;
+    };
+    let mut codec = PacketCodec::default();
+    codec.max_allowed_packet = row.limit;
+    if !reader.fits(&codec) {
+        return;
+    }
+    'calls: for _ in 0..row.said.len() {
+        let mut said = skips(&mut codec, &mut reader);
+        if said == Said::OutOfMemory {
+            said = skips(&mut codec, &mut reader);
+        }
+        let _ = heard.said.push(said);
+    }
+    heard.is_left = same(reader.unread(), row.unread);
+    heard.reads = reader.reads();
+    heard.id = codec.sequence_id();
+}
+
+// Whether a reader goes as the row says, where this request for memory is refused, and whether one
+// was.
+fn goes_without(alloc: Global, nth: u64, row: &Row) -> (bool, bool) {
+    let heap = Refusing::new(alloc, nth);
+    let mut heard = Heard {
+        said: Vec::new(alloc),
+        is_left: false,
+        reads: 0,
+        id: 0,
+    };
+    listen(&heap, row, &mut heard);
+    let mut all = are_said(heard.said.as_slice(), row.said) & heard.is_left;
+    all &= (heard.reads == row.reads) & (heard.id == row.id);
+    (all, heap.has_refused())
+}
+
+// Whether a reader goes as the row says, whichever request for memory is refused: the buffer of a
+// read is the only one.
+fn goes(alloc: Global, row: &Row) -> bool {
+    let (mut all, _) = goes_without(alloc, NEVER, row);
+    for nth in 0..3 {
+        let (is_right, refused) = goes_without(alloc, nth, row);
+        all &= is_right & (!refused | (nth == 0));
+    }
+    all
+}
+
+#[test]
+fn each_packet_is_skipped(rt: HostRuntime) -> Result<(), Fail> {
+    let alloc = rt.alloc();
+    let mut wrong = None;
+    for (i, row) in ROWS.iter().enumerate() {
+        if !goes(alloc, row) {
+            wrong = Some(i);
+        }
+    }
+    no_row(wrong)
+}
