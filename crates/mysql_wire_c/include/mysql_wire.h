@@ -42,7 +42,7 @@
  * lowered, the older limit counts.) The bytes to send stay until they are taken. Buffers grow by
  * doubling and are used again; their memory is given back by `mysql_wire_close`.
  *
- * Link with -lmysql_wire_c and the kit's -llibc_c.
+ * Link with -lmysql_wire, which bindings/c makes and installs.
  *
  * The protocol: https://dev.mysql.com/doc/dev/mysql-server/latest/page_protocol_basic_packets.html
  */

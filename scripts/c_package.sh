@@ -1,0 +1,86 @@
+#!/usr/bin/env bash
+# Makes the package of the C library, installs it into a folder of its own and out of the packed
+# archive without the kit, and builds and runs programs against both: with pkg-config, with CMake
+# where it is there, against the archive and the shared library. It prints a line for each check; the
+# last line is 'N passed, M failed'.
+set -u
+top=$(cd "$(dirname "$0")/.." && pwd)
+source "$top/scripts/start.sh"
+source "$top/scripts/checks.sh"
+package=$top/bindings/c
+tests=$top/crates/mysql_wire_c/tests
+work=$(mktemp -d)
+trap 'rm -rf "$work"' EXIT
+if ! command -v gcc > /dev/null || ! command -v make > /dev/null; then
+    echo 'there is no gcc or no make here'
+    finish
+fi
+
+# quiet COMMAND..: runs it, and shows what it said where it fails.
+quiet() {
+    "$@" > "$work/log" 2>&1 || { tail "$work/log"; return 1; }
+}
+
+# The packet dump prints what it must of a stream of two packets.
+dumps() {
+    printf '\x03\0\0\x00123\x02\0\0\x01\x01\xff' | "$@" > "$work/printed"
+    printf '%s\n' '0 3 313233 123' '1 2 01ff ..' | diff - "$work/printed"
+}
+
+# built ROOT LIBRARY..: the dump, by the flags that are installed below this folder.
+built() {
+    local root=$1 flags
+    shift
+    flags=$(PKG_CONFIG_PATH="$root/lib/pkgconfig" pkg-config --cflags --libs mysql_wire) &&
+        quiet gcc -std=c11 -o "$work/dump" "$top/examples/c/dump.c" $flags "$@"
+}
+
+# The tests of the library, with the archive that is installed below this folder.
+tested() {
+    quiet gcc -std=c11 -O1 -pthread -I"$1/include" -o "$work/tests" "$tests"/*.c \
+        -Wl,--wrap=malloc,--wrap=realloc "$1/lib/libmysql_wire.a" && quiet "$work/tests"
+}
+
+# A project of CMake that asks for the package below this folder.
+cmake_finds() {
+    mkdir -p "$work/project" && cat > "$work/project/CMakeLists.txt" << EOF
+cmake_minimum_required(VERSION 3.13)
+project(dump C)
+find_package(mysql_wire 0.1 REQUIRED)
+add_executable(dump $top/examples/c/dump.c)
+target_link_libraries(dump mysql_wire::mysql_wire)
+add_executable(static_dump $top/examples/c/dump.c)
+target_link_libraries(static_dump mysql_wire::static)
+EOF
+    quiet cmake -S "$work/project" -B "$work/built" -DCMAKE_PREFIX_PATH="$1" &&
+        quiet cmake --build "$work/built" && dumps "$work/built/dump" &&
+        dumps "$work/built/static_dump"
+}
+
+# Unpacks what is packed, and installs it where neither the kit nor the repository is in sight.
+unpacked() {
+    mkdir -p "$work/empty" && tar -C "$work/empty" -xzf "$package"/out/mysql_wire-*.tar.gz &&
+        quiet env -i PATH=/usr/bin:/bin make -C "$work/empty"/mysql_wire-* install \
+            PREFIX="$work/other"
+}
+
+nothing_left() {
+    quiet make -C "$package" uninstall PREFIX="$work/root" && [ -z "$(find "$work/root" ! -type d)" ]
+}
+
+check 'the libraries are made' quiet make -C "$package" || finish
+check 'their symbols are the calls of the header' quiet make -C "$package" check
+check 'it is installed' quiet make -C "$package" install PREFIX="$work/root"
+check 'the tests pass with the archive' tested "$work/root"
+if command -v pkg-config > /dev/null; then
+    check 'a program is built by pkg-config' built "$work/root" "-Wl,-rpath,$work/root/lib"
+    check 'it runs with the shared library' dumps "$work/dump"
+fi
+if command -v cmake > /dev/null; then
+    check 'CMake finds both libraries' cmake_finds "$work/root"
+fi
+check 'it is packed' quiet make -C "$package" dist
+check 'it is installed without the kit' unpacked
+check 'the tests pass with what was packed' tested "$work/other"
+check 'it is uninstalled' nothing_left
+finish
