@@ -169,6 +169,7 @@ impl<R: Read, A: Allocator + Copy> PacketReader<R, A> {
             Err(error) => Err(error),
         }
     }
+
     // Hands out the packet that is lent.
     fn hand_out(&mut self) -> Result<Option<Vec<u8, A>>, PacketIoError>
         requires { IsSome self.old.lent }
