@@ -1,5 +1,5 @@
 -- A packet whose bytes are dropped as they come.
-use Rattle.std.proofs.Common.{◌≡◌, ◌≢◌, ℕ, ◌+◌, ◌-◌, ◌%◌, ◌<◌, ◌≤◌, ◌⊎◌, ◌^◌, min, List, [], ◌++◌, length, take, drop, refl, sym, ap, ap₂, ◌∙◌, subst, arith, append_assoc, length-append, drop-drop, drop_at, take-append-drop, slice_index, inl, inr, Some, None, IsSome, MatchOption, Option, Ok, Err, Result, Bool, true, false}
+use Rattle.std.proofs.Common.{◌≡◌, ◌≢◌, ℕ, ◌+◌, ◌-◌, ◌%◌, ◌<◌, ◌≤◌, ◌⊎◌, ◌^◌, min, List, [], ◌++◌, length, take, drop, refl, sym, ap, ap₂, ◌∙◌, subst, arith, append_assoc, length-append, drop-drop, drop_at, take-append-drop, slice_index, inl, inr, Some, None, Option, Ok, Err}
 use Rattle.std.proofs.lemmas.List.{length-take-le}
 use Rattle.std.proofs.lemmas.Bool.{cases_lt}
 use Rattle.std.specs.Int.NonZero.{non_zero_usize_get}
@@ -8,18 +8,17 @@ use Rattle.wire_codec.specs.declared.codec.chunk.ChunkDecoder.TheVariants.{Idle}
 use Rattle.wire_codec.specs.declared.codec.chunk.ChunkInfo.{ChunkInfo}
 use Rattle.wire_codec.specs.declared.codec.chunk.ChunkInfo.TheVariants.{Middle, Last}
 use Rattle.wire_codec.specs.declared.codec.error.PacketCodecError.{PacketCodecError}
-use Rattle.wire_codec.specs.declared.codec.error.PacketCodecError.TheVariants.{PacketTooLarge, OutOfMemory, PacketsOutOfSync, Io}
+use Rattle.wire_codec.specs.declared.codec.error.PacketCodecError.TheVariants.{PacketTooLarge, PacketsOutOfSync}
 use Rattle.wire_codec.specs.declared.codec.header.Header.{Header}
 use Rattle.wire_codec.specs.declared.codec.packet.PacketCodec.{PacketCodec}
 use Rattle.wire_codec.specs.declared.codec.packet.skip.OpenChunk.{OpenChunk}
 use Rattle.wire_codec.specs.declared.codec.packet.skip.Skipped.{Skipped}
-use Rattle.wire_codec.specs.declared.codec.packet.Progress.{Progress}
 use Rattle.wire_codec.specs.declared.codec.packet.Progress.TheVariants.{Whole, Starved, More}
 use Rattle.wire_codec.specs.Framing.{max_payload, max_payload_is}
-use Rattle.wire_codec.specs.Delivery.{chunk_len, id_at, IsSpelled, IsWholeChunks}
-use Rattle.wire_codec.specs.Codec.{CodecState, codec_state, header_of, first_id, input_of, open_id, StandsAt}
+use Rattle.wire_codec.specs.Delivery.{chunk_len, id_at, IsWholeChunks}
+use Rattle.wire_codec.specs.Codec.{CodecState, codec_state, header_of, first_id}
 use Rattle.wire_codec.specs.Skipping.{nothing_skipped, header_at, IsGone, WouldStand, AtChunk, DropsChunk}
-use Rattle.wire_codec.proofs.CodecLemmas.{id_at_open, chunk_len_small, Outcome, partial, short, large, Taken, len_taken, taken_last, taken_middle, taken_middle_alone, taken_other, chunk_awaited, chunk_failed, stands_without}
+use Rattle.wire_codec.proofs.CodecLemmas.{id_at_open, chunk_len_small, partial, large, Taken, len_taken, taken_last, taken_middle, taken_middle_alone, taken_other, chunk_awaited, chunk_failed, stands_without}
 
 -- where the codec is, in its packet
 at_id : (header : Header) (left held : ℕ) (codec : PacketCodec) (src : List ℕ) (full : CodecState)

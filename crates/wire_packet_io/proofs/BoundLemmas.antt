@@ -1,15 +1,14 @@
 -- How many bytes a reader of packets keeps.
-use Rattle.std.proofs.Common.{◌≡◌, ℕ, ◌+◌, ◌-◌, ◌*◌, ◌/◌, ◌<◌, ◌≤◌, List, [], ◌∷◌, ◌++◌, length, take, drop, sym, subst, ap, ◌∙◌, arith, append-nil, length-append, max, All, Option, Some, None, Result, Ok, Err, ◌≢◌, refl, zero-le}
+use Rattle.std.proofs.Common.{ℕ, ◌+◌, ◌<◌, ◌≤◌, List, [], ◌∷◌, ◌++◌, length, take, drop, ap, ◌∙◌, arith, append-nil, length-append, max, All, Option, Some, None, Ok, Err, ◌≢◌, refl}
 use Rattle.std.proofs.lemmas.List.{length-take, length-drop}
 use Rattle.std.proofs.lemmas.List.Elements.{All-head, All-tail}
-use Rattle.wire_codec.specs.Framing.{max_payload, front, framing}
+use Rattle.wire_codec.specs.Framing.{front, framing}
 use Rattle.wire_codec.specs.Delivery.{Splits, Delivers, Waiting, chunk_len}
-use Rattle.wire_codec.specs.Codec.{CodecState, first_id, input_of, open_id}
+use Rattle.wire_codec.specs.Codec.{CodecState, first_id, input_of}
 use Rattle.wire_codec.proofs.BoundLemmas.{bounded_delivery_is}
 use Rattle.wire_codec.proofs.ChunkLemmas.{blocks_whole}
 use Rattle.wire_codec.proofs.LimitedLemmas.{length-front_under}
 use Rattle.wire_codec.proofs.RunLemmas.{front-nil}
-use Rattle.wire_packet_io.specs.declared.error.PacketIoError.{PacketIoError}
 use Rattle.wire_packet_io.specs.declared.error.PacketIoError.TheVariants.{Io, UnexpectedEnd, WriteZero, PacketTooLarge, PacketsOutOfSync, OutOfMemory}
 use Rattle.wire_packet_io.specs.PacketIo.{Answer, NextPacket, ReadsTo, WaitsAlone, joined_reads, read_size}
 use Rattle.wire_packet_io.specs.Bounds.{most_read, most_kept}

@@ -1,13 +1,13 @@
 -- A packet that a reader skips.
-use Rattle.std.proofs.Common.{◌≡◌, ◌≢◌, ◌⊎◌, ℕ, ◌+◌, ◌-◌, ◌*◌, ◌/◌, ◌<◌, ◌≤◌, ◌↔◌, List, [], ◌∷◌, ◌++◌, length, take, slice_index, refl, sym, ap, ap₂, ◌∙◌, subst, arith, append_assoc, append-nil, length-append, inl, inr, Option, Some, None, MatchOption, IsNone, IsSome, IfOk, IfErr, IsTrue, IsFalse, Result, Ok, Err, Bool, true, false, min, ◌^◌}
+use Rattle.std.proofs.Common.{◌≡◌, ◌⊎◌, ℕ, ◌+◌, ◌-◌, ◌*◌, ◌/◌, ◌<◌, ◌≤◌, List, [], ◌∷◌, ◌++◌, length, refl, sym, ap, ap₂, ◌∙◌, subst, arith, append_assoc, length-append, inl, inr, Option, Some, None, MatchOption, IsNone, IsSome, IfOk, IfErr, IsTrue, IsFalse, Result, Ok, Err, Bool, true, false, min, ◌^◌}
 use Rattle.std.specs.Option.{is_some}
 use Rattle.std.proofs.lemmas.Bool.{cases_lt}
 use Rattle.std.specs.Int.NonZero.{non_zero_usize_get}
 use Rattle.std.specs.Io.KnownBytes.{Consumes, IsAtEnd, Keeps}
 use Rattle.wire_codec.specs.Framing.{max_payload}
-use Rattle.wire_codec.specs.Delivery.{chunk_len, IsSpelled, IsWholeChunks}
-use Rattle.wire_codec.specs.Codec.{CodecState, codec_state, header_of, Stands, StandsAt, DecodesPacket}
-use Rattle.wire_codec.specs.Skipping.{nothing_skipped, header_at, IsGone, WouldStand, IsBehind, MaySkip, SkipsPacket}
+use Rattle.wire_codec.specs.Delivery.{IsSpelled}
+use Rattle.wire_codec.specs.Codec.{CodecState, codec_state, header_of, Stands, StandsAt}
+use Rattle.wire_codec.specs.Skipping.{nothing_skipped, header_at, IsGone, WouldStand, MaySkip, SkipsPacket}
 use Rattle.wire_codec.specs.declared.codec.packet.PacketCodec.{PacketCodec}
 use Rattle.wire_codec.specs.declared.codec.packet.skip.OpenChunk.{OpenChunk}
 use Rattle.wire_codec.specs.declared.codec.packet.skip.Skipped.{Skipped}
@@ -20,9 +20,9 @@ use Rattle.wire_packet_io.specs.declared.error.PacketIoError.TheVariants.{Io, Un
 use Rattle.wire_packet_io.specs.Lent.{packet_of, unread_behind}
 use Rattle.wire_packet_io.specs.declared.input.Found.{Found}
 use Rattle.wire_packet_io.specs.declared.input.Found.TheVariants.{InFront, Apart}
-use Rattle.wire_packet_io.specs.PacketIo.{Answer, FitsAt, NextPacket, ReadFails, EndsAt, most_reads, read_size}
-use Rattle.wire_packet_io.specs.Skips.{SkipsFor, LeavesNext, SkipsNext, skipped_or, IsRefusal}
-use Rattle.wire_packet_io.proofs.PacketIoLemmas.{length-zero, is_standing, SoFar, Waited, starts, ends_by, failed_ends, waited, ended_at, failed_at, goes_on_at, smaller_at, to_go}
+use Rattle.wire_packet_io.specs.PacketIo.{Answer, FitsAt, NextPacket, ReadFails, most_reads}
+use Rattle.wire_packet_io.specs.Skips.{LeavesNext, SkipsNext, skipped_or, IsRefusal}
+use Rattle.wire_packet_io.proofs.PacketIoLemmas.{length-zero, is_standing, SoFar, Waited, ends_by, failed_ends, waited, ended_at, failed_at, to_go}
 
 -- how many bytes of the open chunk were dropped
 abbrev pub gone_len : Option OpenChunk → ℕ

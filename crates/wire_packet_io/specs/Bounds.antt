@@ -1,5 +1,5 @@
 -- How many bytes a reader of packets keeps.
-use Rattle.std.specs.Prelude.{◌≡◌, ◌≢◌, ℕ, ◌+◌, ◌*◌, ◌/◌, ◌≤◌, List, length, max, Option, Result, Err}
+use Rattle.std.specs.Prelude.{◌≢◌, ℕ, ◌+◌, ◌*◌, ◌/◌, ◌≤◌, List, length, max, Option, Err}
 use Rattle.wire_codec.specs.Framing.{max_payload}
 use Rattle.wire_codec.specs.Codec.{CodecState, input_of}
 use Rattle.wire_packet_io.specs.declared.error.PacketIoError.TheVariants.{PacketsOutOfSync}

@@ -1,5 +1,4 @@
-use Rattle.std.proofs.Common.{◌≡◌, ◌<◌, ◌≤◌, ◌+◌, ◌∙◌, ℕ, List, length, sym, ap, ap₂, refl, false, Err, subst, arith, ◌++◌}
-use Rattle.wire_codec.specs.Codec.{CodecState}
+use Rattle.std.proofs.Common.{◌<◌, ◌∙◌, ℕ, length, sym, ap, refl, false, Err, subst, arith, ◌++◌}
 use Rattle.wire_codec.specs.declared.codec.packet.skip.Skipped.{Skipped}
 use Rattle.wire_packet_io.specs.Skips.{SkipsNext}
 use Rattle.wire_packet_io.proofs.PacketIoLemmas.{starts, to_go, goes_on_at, smaller_at}

@@ -1,4 +1,4 @@
-use Rattle.std.proofs.Common.{◌≡◌, ◌∙◌, ℕ, List, sym, ap, subst, IsNone}
+use Rattle.std.proofs.Common.{◌∙◌, ℕ, List, sym, ap, subst, IsNone}
 use Rattle.wire_codec.specs.Codec.{CodecState}
 use Rattle.wire_codec.specs.Skipping.{WouldStand}
 use Rattle.wire_packet_io.specs.Skips.{SkipsNext}

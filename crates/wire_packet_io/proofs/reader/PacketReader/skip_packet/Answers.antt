@@ -1,9 +1,8 @@
-use Rattle.std.proofs.Common.{◌≡◌, ◌∙◌, ℕ, List, sym, ap, subst, refl, false, IsNone}
-use Rattle.wire_codec.specs.Codec.{CodecState}
+use Rattle.std.proofs.Common.{sym, subst, refl, IsNone}
 use Rattle.wire_codec.specs.declared.codec.packet.skip.Skipped.{Skipped}
 use Rattle.wire_codec.specs.Skipping.{WouldStand}
 use Rattle.wire_packet_io.specs.Lent.{reading_state}
-use Rattle.wire_packet_io.specs.Skips.{SkipsNext, skipped_at}
+use Rattle.wire_packet_io.specs.Skips.{SkipsNext}
 use Rattle.wire_packet_io.proofs.SkipLemmas.{lent_none, may_skip, fresh_would, left_under_way, left_whole, not_under_way, nothing_is, can_fit}
 use Rattle.wire_packet_io.proofs.reader.PacketReader.skip_packet.Goals as goal
 

@@ -1,4 +1,4 @@
-use Rattle.std.proofs.Common.{◌≡◌, ◌≤◌, ◌<◌, ◌+◌, ◌%◌, ◌∙◌, ◌-◌, ℕ, drop, length, sym, ap, subst, arith, eqb-true, nat_eq, min, Ok, None}
+use Rattle.std.proofs.Common.{◌≡◌, ◌<◌, ◌+◌, ◌%◌, ◌∙◌, ◌-◌, ℕ, drop, length, sym, ap, subst, arith, eqb-true, min, Ok, None}
 use Rattle.wire_codec.specs.declared.codec.chunk.ChunkDecoder.TheVariants.{Idle}
 use Rattle.wire_codec.specs.declared.codec.packet.Progress.TheVariants.{Whole, Starved, More}
 use Rattle.wire_codec.specs.Framing.{max_payload_is}

@@ -1,4 +1,4 @@
-use Rattle.std.proofs.Common.{◌≡◌, ◌∙◌, ℕ, sym, ap, refl, arith, Ok, Err}
+use Rattle.std.proofs.Common.{◌∙◌, ℕ, sym, ap, refl, Ok, Err}
 use Rattle.wire_codec.specs.declared.codec.packet.Progress.{Progress}
 use Rattle.wire_codec.specs.declared.codec.packet.Progress.TheVariants.{Whole, Starved, More}
 use Rattle.wire_codec.specs.Codec.{open_id, first_id, input_of}

@@ -1,5 +1,4 @@
-use Rattle.std.proofs.Common.{◌≡◌, ◌<◌, ◌≤◌, ℕ, List, length, arith, subst, None}
-use Rattle.wire_codec.specs.Delivery.{chunk_len}
+use Rattle.std.proofs.Common.{arith}
 use Rattle.wire_codec.proofs.SkipLemmas.{refused_header}
 use Rattle.wire_codec.proofs.codec.packet.PacketCodec.skip_chunk.Goals as goal
 
