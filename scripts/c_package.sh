@@ -1,8 +1,8 @@
 #!/usr/bin/env bash
 # Makes the package of the C library, installs it into a folder of its own and out of the packed
 # archive without the kit, and builds and runs programs against both: with pkg-config, with CMake
-# where it is there, against the archive and the shared library. It prints a line for each check; the
-# last line is 'N passed, M failed'.
+# where it is there, against the archive and the shared library. It prints a line for each check.
+# The last line is 'N passed, M failed'.
 set -u
 top=$(cd "$(dirname "$0")/.." && pwd)
 source "$top/scripts/start.sh"
@@ -65,13 +65,26 @@ unpacked() {
 }
 
 nothing_left() {
-    quiet make -C "$package" uninstall PREFIX="$work/root" && [ -z "$(find "$work/root" ! -type d)" ]
+    quiet make -C "$package" uninstall PREFIX="$work/root" &&
+        [ -z "$(find "$work/root" ! -type d)" ]
 }
 
+# A program in C and one in C++ with the constants.
+constants_compile() {
+    printf '%s\n' '#include <mysql_wire_constants.h>' \
+        'int main(void) { return MYSQL_WIRE_COM_QUERY - 3 + MYSQL_WIRE_CLIENT_PROTOCOL_41 - 512u; }' \
+        > "$work/constants.c"
+    quiet gcc -std=c11 -Wall -Wextra -Werror -I"$1/include" -o "$work/constants" \
+        "$work/constants.c" && "$work/constants" &&
+        quiet gcc -x c++ -std=c++11 -Wall -Werror -fsyntax-only -I"$1/include" "$work/constants.c"
+}
+
+check 'the constants are those of wire_const' "$top/scripts/c_constants.py" --check
 check 'the libraries are made' quiet make -C "$package" || finish
 check 'their symbols are the calls of the header' quiet make -C "$package" check
 check 'it is installed' quiet make -C "$package" install PREFIX="$work/root"
 check 'the tests pass with the archive' tested "$work/root"
+check 'the constants are compiled' constants_compile "$work/root"
 if command -v pkg-config > /dev/null; then
     check 'a program is built by pkg-config' built "$work/root" "-Wl,-rpath,$work/root/lib"
     check 'it runs with the shared library' dumps "$work/dump"
