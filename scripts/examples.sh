@@ -84,7 +84,8 @@ check 'the dump in C is built' build_dump
 check 'the shared library is built' build_shared
 check 'the proxy is built' build_proxy
 export PYTHONDONTWRITEBYTECODE=1
-python=(python3 "$top/examples/python/dump.py" "$work/libmysql_wire.so")
+export PYTHONPATH=$top/bindings/python MYSQL_WIRE_LIBRARY=$work/libmysql_wire.so
+python=(python3 "$top/examples/python/dump.py")
 for ((i = 0; i < ${#streams[@]}; i += 2)); do
     name=${streams[i]}
     printf "${streams[i + 1]}" > "$work/stream"

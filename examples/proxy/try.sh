@@ -148,8 +148,9 @@ refused_early() {
 # same_statements OPTIONS..: the client in Python prints the same with the proxy and without.
 same_statements() {
     local statements=$top/examples/python/statements.py library=$work/libmysql_wire.so
-    python3 -B "$statements" "$library" "$server_port" plain probe "$@" > "$work/direct" 2>&1
-    python3 -B "$statements" "$library" "$proxy_port" plain probe "$@" > "$work/relayed" 2>&1
+    local -x PYTHONPATH=$top/bindings/python MYSQL_WIRE_LIBRARY=$library
+    python3 -B "$statements" "$server_port" plain probe "$@" > "$work/direct" 2>&1
+    python3 -B "$statements" "$proxy_port" plain probe "$@" > "$work/relayed" 2>&1
     tail -n 1 "$work/direct" | grep -q '^    ' && diff "$work/direct" "$work/relayed"
 }
 

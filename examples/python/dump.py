@@ -1,15 +1,13 @@
 """Prints each packet of a stream on standard input, as examples/c/dump.c does.
 
-mysql_wire.py says how the shared library is made. Then:
-
-    python3 examples/python/dump.py examples/out/libmysql_wire.so < stream
+    python3 examples/python/dump.py < stream
 
 The status is 0 where the stream ends between two packets, and 1 otherwise.
 """
 
 import sys
 
-from mysql_wire import Connection, Library, Refusal
+from mysql_wire import Connection, Error
 
 LIMIT = 1 << 30  # the most bytes of a packet
 SHOWN = 16  # how many bytes of a packet are shown
@@ -25,9 +23,7 @@ def line(number, packet):
 def packets(connection, stream):
     """Each packet of a stream."""
     while piece := stream.read(STEP):
-        connection.feed(piece)
-        while (packet := connection.next_packet()) is not None:
-            yield packet
+        yield from connection.receive(piece)
 
 
 def dump(connection, stream):
@@ -35,10 +31,10 @@ def dump(connection, stream):
     try:
         for number, packet in enumerate(packets(connection, stream)):
             print(line(number, packet))
-    except Refusal as refusal:
+    except Error as refusal:
         print(refusal)
         return 1
-    unread = connection.unread()
+    unread = connection.unread
     if unread > 0:
         print(f"{unread} bytes of an unfinished packet")
         return 1
@@ -46,7 +42,7 @@ def dump(connection, stream):
 
 
 if __name__ == "__main__":
-    if len(sys.argv) != 2:
-        sys.exit("usage: dump.py SHARED_LIBRARY < STREAM")
-    with Connection(Library(sys.argv[1]), LIMIT) as opened:
+    if len(sys.argv) != 1:
+        sys.exit("usage: dump.py < STREAM")
+    with Connection(LIMIT) as opened:
         sys.exit(dump(opened, sys.stdin.buffer))

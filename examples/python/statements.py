@@ -1,6 +1,6 @@
 """A small client: prepared statements with parameters and cursors, and commands without an answer.
 
-    python3 examples/python/statements.py SHARED_LIBRARY PORT USER DATABASE [deprecate-eof]
+    python3 examples/python/statements.py PORT USER DATABASE [deprecate-eof]
 
 It logs in at 127.0.0.1 without a password, and prints the packets of each answer. The database has
 a table `numbers` of one column. examples/proxy/try.sh compares what it prints with the proxy and
@@ -11,7 +11,7 @@ import socket
 import struct
 import sys
 
-from mysql_wire import Connection, Library
+from mysql_wire import Connection
 
 LIMIT = 1 << 24
 STEP = 1 << 16
@@ -116,17 +116,17 @@ def run(client, user, database, ends_by_ok):
     client.show("given up", [client.receive()])
 
 
-def main(library, port, user, database, *options):
+def main(port, user, database, *options):
     ends_by_ok = "deprecate-eof" in options
     capabilities = CAPABILITIES | (DEPRECATE_EOF if ends_by_ok else 0)
     with socket.create_connection(("127.0.0.1", int(port)), timeout=5) as stream:
-        with Connection(Library(library), LIMIT) as wire:
+        with Connection(LIMIT) as wire:
             client = Client(stream, wire)
             client.log_in(user, database, capabilities)
             run(client, user, database, ends_by_ok)
 
 
 if __name__ == "__main__":
-    if len(sys.argv) < 5:
-        sys.exit("usage: statements.py SHARED_LIBRARY PORT USER DATABASE [deprecate-eof]")
+    if len(sys.argv) < 4:
+        sys.exit("usage: statements.py PORT USER DATABASE [deprecate-eof]")
     main(*sys.argv[1:])
