@@ -5,27 +5,23 @@ set -u
 top=$(cd "$(dirname "$0")/.." && pwd)
 source "$top/scripts/start.sh"
 source "$top/scripts/checks.sh"
-source "$top/scripts/c_archive.sh"
+libraries=$top/bindings/c/out
 work=$(mktemp -d)
 trap 'rm -rf "$work"' EXIT
 
-build_library() {
-    (build_archive) > "$work/log" 2>&1 || { tail "$work/log"; return 1; }
+# quiet COMMAND..: runs it, and shows what it said where it fails.
+quiet() {
+    "$@" > "$work/log" 2>&1 || { tail "$work/log"; return 1; }
 }
 
 build_dump() {
-    gcc -std=c11 -Wall -Wextra -Werror -I"$folder/include" -o "$work/dump" \
-        "$top/examples/c/dump.c" "$archive" "$kit/c/liblibc_c.a"
-}
-
-build_shared() {
-    gcc -shared -o "$work/libmysql_wire.so" -Wl,--whole-archive "$archive" \
-        -Wl,--no-whole-archive "$kit/c/liblibc_c.a"
+    gcc -std=c11 -Wall -Wextra -Werror -I"$top/crates/mysql_wire_c/include" -o "$work/dump" \
+        "$top/examples/c/dump.c" "$libraries/libmysql_wire.a"
 }
 
 build_proxy() {
-    rustc --edition 2021 -O -D warnings -o "$work/proxy" "$top/examples/proxy/main.rs" \
-        -L "$folder/out" -l static=mysql_wire_c -L "$kit/c" -l static=libc_c
+    RUSTFLAGS='-D warnings' MYSQL_WIRE_LIB_DIR=$libraries quiet cargo build --offline --release \
+        --manifest-path "$top/examples/proxy/Cargo.toml" --target-dir "$work/target"
 }
 
 # The streams: each is a name, and its bytes as printf has them.
@@ -77,14 +73,11 @@ long_streams_agree() {
         cmp "$work/from_c" "$work/from_python"
 }
 
-if [ ! -f "$archive" ]; then
-    check 'the library is built' build_library || finish
-fi
+check 'the libraries are made' quiet make -C "$top/bindings/c" || finish
 check 'the dump in C is built' build_dump
-check 'the shared library is built' build_shared
 check 'the proxy is built' build_proxy
-export PYTHONDONTWRITEBYTECODE=1
-export PYTHONPATH=$top/bindings/python MYSQL_WIRE_LIBRARY=$work/libmysql_wire.so
+export PYTHONDONTWRITEBYTECODE=1 PYTHONPATH=$top/bindings/python MYSQL_WIRE_LIBRARY
+MYSQL_WIRE_LIBRARY=$(ls "$libraries"/libmysql_wire.so.*.*.*)
 python=(python3 "$top/examples/python/dump.py")
 for ((i = 0; i < ${#streams[@]}; i += 2)); do
     name=${streams[i]}

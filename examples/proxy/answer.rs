@@ -1,7 +1,7 @@
 //! The packets of an answer to a command.
 
 use crate::log::{Log, count};
-use crate::wire::{Fields, Refusal};
+use mysql_wire::{Error, Fields};
 
 // The first byte of a packet, where it says what it is.
 pub const OK: u8 = 0x00;
@@ -48,7 +48,7 @@ pub enum After {
 
 /// Goes past a packet of an answer. `ends_by_ok` is whether both sides agreed on
 /// `CLIENT_DEPRECATE_EOF`: no EOF stands behind definitions, and an OK ends the rows.
-pub fn hear(next: Next, packet: &[u8], ends_by_ok: bool, log: &Log) -> Result<After, Refusal> {
+pub fn hear(next: Next, packet: &[u8], ends_by_ok: bool, log: &Log) -> Result<After, Error> {
     let first = packet.first().copied();
     match next {
         Next::Text => Ok(After::Done),
@@ -79,19 +79,19 @@ pub fn hear(next: Next, packet: &[u8], ends_by_ok: bool, log: &Log) -> Result<Af
 }
 
 /// Logs an error by its number.
-pub fn hear_error(packet: &[u8], log: &Log) -> Result<(), Refusal> {
+pub fn hear_error(packet: &[u8], log: &Log) -> Result<(), Error> {
     log.say(format_args!("  error {}", error_number(packet)?));
     Ok(())
 }
 
-fn error_number(packet: &[u8]) -> Result<u64, Refusal> {
-    Fields::of(packet, 1).int(2)
+fn error_number(packet: &[u8]) -> Result<u64, Error> {
+    Fields::starting_at(packet, 1).int(2)
 }
 
-fn hear_first(packet: &[u8], log: &Log) -> Result<After, Refusal> {
+fn hear_first(packet: &[u8], log: &Log) -> Result<After, Error> {
     match packet.first() {
         Some(&OK) => {
-            let rows = Fields::of(packet, 1).lenenc_int()?;
+            let rows = Fields::starting_at(packet, 1).lenenc_int()?;
             log.say(format_args!("  ok, {} changed", count(rows, "row")));
             Ok(behind_result(status(packet, true)?))
         }
@@ -99,7 +99,7 @@ fn hear_first(packet: &[u8], log: &Log) -> Result<After, Refusal> {
             log.say(format_args!("  asks for a file"));
             Ok(After::FileComes)
         }
-        _ => match Fields::of(packet, 0).lenenc_int()? {
+        _ => match Fields::starting_at(packet, 0).lenenc_int()? {
             0 => Ok(After::Comes(Next::Rows(0))),
             columns => Ok(After::Comes(Next::Columns(columns))),
         },
@@ -107,7 +107,7 @@ fn hear_first(packet: &[u8], log: &Log) -> Result<After, Refusal> {
 }
 
 /// A row may begin with the byte of an EOF, but is then longer than one.
-fn hear_row(rows: u64, packet: &[u8], ends_by_ok: bool, log: &Log) -> Result<After, Refusal> {
+fn hear_row(rows: u64, packet: &[u8], ends_by_ok: bool, log: &Log) -> Result<After, Error> {
     let end_below = if ends_by_ok { 0xff_ffff } else { 9 };
     if packet.first() != Some(&EOF) || packet.len() >= end_below {
         return Ok(After::Comes(Next::Rows(rows + 1)));
@@ -122,8 +122,8 @@ fn behind_result(status: u64) -> After {
 }
 
 /// The status of an OK (also of one that begins as an EOF does), or of an EOF.
-fn status(packet: &[u8], is_ok: bool) -> Result<u64, Refusal> {
-    let mut fields = Fields::of(packet, 1);
+fn status(packet: &[u8], is_ok: bool) -> Result<u64, Error> {
+    let mut fields = Fields::starting_at(packet, 1);
     if is_ok {
         fields.lenenc_int()?;
         fields.lenenc_int()?;
@@ -134,8 +134,8 @@ fn status(packet: &[u8], is_ok: bool) -> Result<u64, Refusal> {
 }
 
 /// Parameters and columns are defined behind the first packet, with an EOF behind each of both.
-fn hear_prepared(packet: &[u8], ends_by_ok: bool, log: &Log) -> Result<After, Refusal> {
-    let mut fields = Fields::of(packet, 1);
+fn hear_prepared(packet: &[u8], ends_by_ok: bool, log: &Log) -> Result<After, Error> {
+    let mut fields = Fields::starting_at(packet, 1);
     let (statement, columns, parameters) = (fields.int(4)?, fields.int(2)?, fields.int(2)?);
     log.say(format_args!(
         "  statement {statement}: {}, {}",

@@ -5,7 +5,7 @@
 
 use crate::answer::{self, After, ERR, Next, OK};
 use crate::log::{Log, front};
-use crate::wire::{Fields, Refusal};
+use mysql_wire::{Error, Fields};
 use std::borrow::Cow;
 use std::fmt;
 
@@ -75,12 +75,12 @@ const COMMANDS: [(u8, &str, Phase); 26] = [
 
 /// Why a packet isn't one that can stand where it does.
 pub enum Misread {
-    Field(Refusal),
+    Field(Error),
     OldProtocol,
 }
 
-impl From<Refusal> for Misread {
-    fn from(refusal: Refusal) -> Misread {
+impl From<Error> for Misread {
+    fn from(refusal: Error) -> Misread {
         Misread::Field(refusal)
     }
 }
@@ -143,7 +143,7 @@ impl Exchange {
     }
 
     fn hear_login(&mut self, packet: &[u8]) -> Result<(), Misread> {
-        let mut fields = Fields::of(packet, 0);
+        let mut fields = Fields::starting_at(packet, 0);
         self.agreed = self.offered & fields.int(4)?;
         if self.agreed & PROTOCOL_41 == 0 {
             return Err(Misread::OldProtocol);
@@ -177,7 +177,7 @@ impl Exchange {
 
     /// The front of a `COM_QUERY`'s statement. Attributes of a query stand in front of it.
     fn statement(&self, packet: &[u8]) -> String {
-        let mut fields = Fields::of(packet, 1);
+        let mut fields = Fields::starting_at(packet, 1);
         if self.agreed & QUERY_ATTRIBUTES != 0 {
             match (fields.lenenc_int(), fields.lenenc_int()) {
                 (Ok(0), Ok(_)) => {}
@@ -220,7 +220,7 @@ impl Exchange {
 
     /// The greeting with fewer capabilities.
     fn hear_greeting(&mut self, packet: &[u8]) -> Result<Vec<u8>, Misread> {
-        let mut fields = Fields::of(packet, 1);
+        let mut fields = Fields::starting_at(packet, 1);
         let version = fields.null_bytes()?;
         self.log.say(format_args!("server {}", front(version)));
         fields.skip(13);

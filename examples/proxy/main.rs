@@ -2,10 +2,8 @@
 //! the packet layer, and logs commands and what is answered to them.
 //!
 //! ```text
-//! $ K=$(dirname "$(rt doc)")
-//! $ rustc --edition 2021 -O -o examples/out/proxy examples/proxy/main.rs \
-//!     -L crates/mysql_wire_c/out -l static=mysql_wire_c -L "$K/c" -l static=libc_c
-//! $ examples/out/proxy 127.0.0.1:4306 127.0.0.1:3306 67108864
+//! $ make -C bindings/c && cd examples/proxy
+//! $ cargo run --release --offline 127.0.0.1:4306 127.0.0.1:3306 67108864
 //! ```
 //!
 //! What passes is plain: TLS and compression are kept out of the server's greeting, so that no
@@ -16,7 +14,6 @@ mod exchange;
 mod log;
 mod poll;
 mod relay;
-mod wire;
 
 use crate::log::Log;
 use crate::relay::{Fault, Relay};

@@ -1,19 +1,19 @@
 //! Passes the packets of one connection from side to side.
 //!
 //! One thread serves both sides: it waits until a socket can be read or written, and no call on a
-//! socket blocks. So each `Wire` is used by one thread, and it doesn't matter who speaks first, or
+//! socket blocks. So each `Connection` is used by one thread, and it doesn't matter who speaks first, or
 //! who hangs up when.
 //!
 //! How packets are numbered. The two sides of a MySQL connection share one number, which runs on
-//! over the packets of both until the next command. A `Wire` counts what it takes and what it
-//! encodes by one number too. All that one wire takes the other encodes, so both count the same
+//! over the packets of both until the next command. A `Connection` counts what it takes and what it
+//! encodes by one number too. All that one takes the other encodes, so both count the same
 //! packets, and each goes on with the number that it came with. Both are reset where an answer is
 //! complete, and the next command is numbered 0 on both.
 
 use crate::exchange::{Exchange, Misread};
 use crate::log::Log;
 use crate::poll::{self, Interest};
-use crate::wire::{Refusal, Wire};
+use mysql_wire::{Connection, Error};
 use std::fmt;
 use std::io::{self, ErrorKind, Read, Write};
 use std::net::{Shutdown, TcpStream};
@@ -33,7 +33,7 @@ const PACKET_TOO_LARGE: &[u8] =
 /// Why a connection isn't relayed any more.
 pub enum Fault {
     Io(&'static str, io::Error),
-    Wire(&'static str, Refusal),
+    Wire(&'static str, Error),
     /// A packet can't be read as what it has to be.
     Malformed(&'static str, Misread),
     GoneInside(&'static str, usize),
@@ -56,7 +56,7 @@ impl fmt::Display for Fault {
 struct Side {
     name: &'static str,
     socket: TcpStream,
-    wire: Wire,
+    wire: Connection,
     ended: bool,
 }
 
@@ -64,11 +64,11 @@ impl Side {
     fn new(name: &'static str, socket: TcpStream, limit: usize) -> Result<Side, Fault> {
         let set = socket.set_nonblocking(true).and_then(|()| socket.set_nodelay(true));
         set.map_err(|error| Fault::Io(name, error))?;
-        let wire = Wire::open(limit).map_err(|refusal| Fault::Wire(name, refusal))?;
+        let wire = Connection::new(limit).map_err(|refusal| Fault::Wire(name, refusal))?;
         Ok(Side { name, socket, wire, ended: false })
     }
 
-    fn refused(&self) -> impl Fn(Refusal) -> Fault + use<> {
+    fn refused(&self) -> impl Fn(Error) -> Fault + use<> {
         let name = self.name;
         move |refusal| Fault::Wire(name, refusal)
     }
@@ -179,7 +179,7 @@ impl Relay {
         let end = self.pass_all();
         let Relay { log, client, server, .. } = self;
         drop(server);
-        if let Err(Fault::Wire(side, Refusal::TOO_LARGE)) = end {
+        if let Err(Fault::Wire(side, Error::PacketTooLarge)) = end {
             let client_sent_it = side == client.name;
             if let Err(error) = client.say_too_large(client_sent_it) {
                 log.say(format_args!("client: {error}"));
@@ -240,8 +240,8 @@ impl Relay {
     /// Begins to number anew on both sides, where a command comes next.
     fn number_commands(&mut self) -> Result<(), Fault> {
         if self.exchange.is_between_commands() {
-            self.client.wire.reset().map_err(self.client.refused())?;
-            self.server.wire.reset().map_err(self.server.refused())?;
+            self.client.wire.reset_seq_id().map_err(self.client.refused())?;
+            self.server.wire.reset_seq_id().map_err(self.server.refused())?;
         }
         Ok(())
     }

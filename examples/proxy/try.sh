@@ -147,8 +147,9 @@ refused_early() {
 
 # same_statements OPTIONS..: the client in Python prints the same with the proxy and without.
 same_statements() {
-    local statements=$top/examples/python/statements.py library=$work/libmysql_wire.so
-    local -x PYTHONPATH=$top/bindings/python MYSQL_WIRE_LIBRARY=$library
+    local statements=$top/examples/python/statements.py
+    local -x PYTHONPATH=$top/bindings/python MYSQL_WIRE_LIBRARY
+    MYSQL_WIRE_LIBRARY=$(ls "$top"/bindings/c/out/libmysql_wire.so.*.*.*)
     python3 -B "$statements" "$server_port" plain probe "$@" > "$work/direct" 2>&1
     python3 -B "$statements" "$proxy_port" plain probe "$@" > "$work/relayed" 2>&1
     tail -n 1 "$work/direct" | grep -q '^    ' && diff "$work/direct" "$work/relayed"
@@ -185,9 +186,10 @@ if [ -z "$server" ] || [ -z "$client" ]; then
     echo 'there is no MariaDB or MySQL server and client here'
     end
 fi
-kit=$(dirname "$(rt doc)")
-if ! rustc --edition 2021 -O -D warnings -o "$work/proxy" "$top/examples/proxy/main.rs" \
-    -L "$top/crates/mysql_wire_c/out" -l static=mysql_wire_c -L "$kit/c" -l static=libc_c; then
+if ! make -s -C "$top/bindings/c" > "$work/log" 2>&1 ||
+    ! RUSTFLAGS='-D warnings' MYSQL_WIRE_LIB_DIR=$top/bindings/c/out cargo build -q --offline \
+        --release --manifest-path "$top/examples/proxy/Cargo.toml" --target-dir "$work/target" ||
+    ! cp "$work/target/release/proxy" "$work/proxy"; then
     check 'the proxy is built' false
     end
 fi
@@ -256,10 +258,7 @@ check 'a statement of 17000000 bytes' same < "$work/long"
 check 'several clients side by side' side_by_side
 slap=$(first_of mariadb-slap mysqlslap)
 [ -n "$slap" ] && check 'eight clients with 800 statements' same_load
-if command -v python3 > "$work/errors" && command -v gcc > "$work/errors"; then
-    check 'the shared library is built' gcc -shared -o "$work/libmysql_wire.so" \
-        -Wl,--whole-archive "$top/crates/mysql_wire_c/out/libmysql_wire_c.a" \
-        -Wl,--no-whole-archive -L"$kit/c" -llibc_c
+if command -v python3 > "$work/errors"; then
     check 'prepared statements, cursors, commands without answers' same_statements
     check 'the same under CLIENT_DEPRECATE_EOF' same_statements deprecate-eof
 fi

@@ -1,0 +1,101 @@
+//! The calls of `mysql_wire.h`, which says what each answers and what a caller upholds.
+
+#![no_std]
+
+use core::marker::{PhantomData, PhantomPinned};
+
+/// What a connection points to.
+#[repr(C)]
+pub struct State {
+    opaque: [u8; 0],
+    marker: PhantomData<(*mut u8, PhantomPinned)>,
+}
+
+/// `mysql_wire_connection`: NULL where it is closed.
+pub type Handle = *mut State;
+
+/// `mysql_wire_view`: bytes that are lent.
+#[repr(C)]
+pub struct View {
+    pub at: *const u8,
+    pub len: usize,
+}
+
+/// `mysql_wire_span`: where a text stands in the bytes that were read.
+#[repr(C)]
+pub struct Span {
+    pub at: usize,
+    pub len: usize,
+}
+
+extern "C" {
+    pub fn mysql_wire_version() -> u32;
+    pub fn mysql_wire_open(limit: usize, connection: *mut Handle) -> i32;
+    pub fn mysql_wire_close(connection: *mut Handle);
+    pub fn mysql_wire_feed(connection: *mut Handle, bytes: *const u8, len: usize) -> i32;
+    pub fn mysql_wire_peek(connection: *mut Handle, packet: *mut View) -> i32;
+    pub fn mysql_wire_take(connection: *mut Handle) -> i32;
+    pub fn mysql_wire_next(
+        connection: *mut Handle,
+        room: *mut u8,
+        room_len: usize,
+        len: *mut usize,
+    ) -> i32;
+    pub fn mysql_wire_set_limit(connection: *mut Handle, limit: usize) -> i32;
+    pub fn mysql_wire_unread(connection: *mut Handle) -> usize;
+    pub fn mysql_wire_encode(connection: *mut Handle, payload: *const u8, len: usize) -> i32;
+    pub fn mysql_wire_output(connection: *mut Handle, room: *mut u8, room_len: usize) -> usize;
+    pub fn mysql_wire_pending(connection: *mut Handle, bytes: *mut View);
+    pub fn mysql_wire_sent(connection: *mut Handle, count: usize) -> usize;
+    pub fn mysql_wire_reset(connection: *mut Handle) -> i32;
+    pub fn mysql_wire_sequence_id(connection: *mut Handle) -> i32;
+    pub fn mysql_wire_message(code: i32, text: *mut View);
+    pub fn mysql_wire_read_int(
+        bytes: *const u8,
+        len: usize,
+        at: *mut usize,
+        width: usize,
+        value: *mut u64,
+    ) -> i32;
+    pub fn mysql_wire_read_lenenc_int(
+        bytes: *const u8,
+        len: usize,
+        at: *mut usize,
+        value: *mut u64,
+    ) -> i32;
+    pub fn mysql_wire_read_lenenc_bytes(
+        bytes: *const u8,
+        len: usize,
+        at: *mut usize,
+        text: *mut Span,
+    ) -> i32;
+    pub fn mysql_wire_read_null_bytes(
+        bytes: *const u8,
+        len: usize,
+        at: *mut usize,
+        text: *mut Span,
+    ) -> i32;
+    pub fn mysql_wire_write_int(
+        room: *mut u8,
+        len: usize,
+        at: *mut usize,
+        width: usize,
+        value: u64,
+    ) -> i32;
+    pub fn mysql_wire_write_lenenc_int(room: *mut u8, len: usize, at: *mut usize, value: u64)
+        -> i32;
+    pub fn mysql_wire_write_lenenc_bytes(
+        room: *mut u8,
+        len: usize,
+        at: *mut usize,
+        text: *const u8,
+        text_len: usize,
+    ) -> i32;
+    pub fn mysql_wire_write_null_bytes(
+        room: *mut u8,
+        len: usize,
+        at: *mut usize,
+        text: *const u8,
+        text_len: usize,
+    ) -> i32;
+}

@@ -1,0 +1,32 @@
+//! The packet layer of MySQL's client/server protocol: packets out of bytes and back, and the fields
+//! inside them. The work is done by a proved library. It does no input and no output: feed a
+//! [`Connection`] what one read of a socket gave, take the packets that are whole, and send what is
+//! pending.
+//!
+//! ```
+//! use mysql_wire::{Connection, Fields};
+//!
+//! # fn main() -> Result<(), mysql_wire::Error> {
+//! let mut connection = Connection::new(1 << 24)?;
+//! connection.feed(b"\x05\0\0\0\xff\x15\x04no")?; // what one read gave
+//! while let Some(packet) = connection.peek()? {
+//!     let mut fields = Fields::new(packet);
+//!     assert_eq!((fields.int(1)?, fields.int(2)?), (0xff, 1045));
+//!     assert_eq!(fields.rest(), b"no");
+//!     connection.take()?;
+//! }
+//! connection.encode(b"\x01")?;
+//! assert_eq!(connection.pending(), b"\x01\0\0\x01\x01"); // to be written
+//! # Ok(())
+//! # }
+//! ```
+//!
+//! <https://dev.mysql.com/doc/dev/mysql-server/latest/page_protocol_basic_packets.html>
+
+mod connection;
+mod error;
+mod fields;
+
+pub use connection::Connection;
+pub use error::Error;
+pub use fields::{put_int, put_lenenc_bytes, put_lenenc_int, put_null_bytes, Fields};

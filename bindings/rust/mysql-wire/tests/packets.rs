@@ -1,0 +1,133 @@
+//! Packets and fields, beside what is written plainly.
+
+use mysql_wire::{put_int, put_lenenc_bytes, put_lenenc_int, put_null_bytes, Connection, Error, Fields};
+
+const FULL: usize = 16777215;
+
+/// The chunks of a payload, numbered from `number`.
+fn framed(mut number: u8, payload: &[u8]) -> Vec<u8> {
+    let mut out = Vec::new();
+    let mut rest = payload;
+    loop {
+        let len = rest.len().min(FULL);
+        out.extend_from_slice(&(len as u32).to_le_bytes()[..3]);
+        out.push(number);
+        out.extend_from_slice(&rest[..len]);
+        rest = &rest[len..];
+        if len < FULL {
+            return out;
+        }
+        number = number.wrapping_add(1);
+    }
+}
+
+/// The packets of a stream that comes in pieces of `step` bytes.
+fn packets(limit: usize, stream: &[u8], step: usize) -> (Vec<Vec<u8>>, Result<(), Error>) {
+    let mut connection = Connection::new(limit).unwrap();
+    let mut packets = Vec::new();
+    for piece in stream.chunks(step) {
+        if let Err(error) = connection.feed(piece) {
+            return (packets, Err(error));
+        }
+        loop {
+            match connection.next_packet() {
+                Ok(Some(packet)) => packets.push(packet),
+                Ok(None) => break,
+                Err(error) => return (packets, Err(error)),
+            }
+        }
+    }
+    (packets, Ok(()))
+}
+
+#[test]
+fn each_cutting_gives_the_same_packets() {
+    let payloads = [b"".to_vec(), b"a".to_vec(), vec![b'x'; 300], b"bc".to_vec()];
+    let stream: Vec<u8> = payloads.iter().zip(0..).flat_map(|(each, id)| framed(id, each)).collect();
+    for step in [1, 2, 3, 5, 64, stream.len()] {
+        assert_eq!(packets(300, &stream, step), (payloads.to_vec(), Ok(())));
+    }
+}
+
+#[test]
+fn long_packets_are_put_together() {
+    for len in [FULL - 1, FULL, FULL + 1] {
+        let payload: Vec<u8> = (0..len).map(|at| at as u8).collect();
+        let mut connection = Connection::new(len).unwrap();
+        connection.encode(&payload).unwrap();
+        assert_eq!(connection.pending(), framed(0, &payload));
+        let wire = connection.pending().to_vec();
+        assert_eq!(packets(len, &wire, 65536), (vec![payload], Ok(())));
+    }
+}
+
+// The cases of the Rust crate's own tests, written anew.
+#[test]
+fn a_packet_past_the_limit_and_one_of_another_number_are_refused() {
+    let mut stream = framed(0, b"abc");
+    assert_eq!(packets(2, &stream, 1), (vec![], Err(Error::PacketTooLarge)));
+    stream.extend(framed(2, b"d"));
+    let (before, error) = packets(3, &stream, 4);
+    assert_eq!((before.len(), error), (1, Err(Error::PacketsOutOfSync)));
+}
+
+#[test]
+fn a_larger_limit_goes_on() {
+    let mut connection = Connection::new(2).unwrap();
+    connection.feed(&framed(0, b"abc")).unwrap();
+    assert_eq!(connection.peek(), Err(Error::PacketTooLarge));
+    connection.set_limit(3).unwrap();
+    assert_eq!(connection.peek(), Ok(Some(&b"abc"[..])));
+    assert_eq!(connection.set_limit(9), Err(Error::PacketWaits));
+    connection.take().unwrap();
+    assert_eq!(connection.take(), Err(Error::NoPacket));
+    assert_eq!((connection.unread(), connection.sequence_id()), (0, Ok(1)));
+}
+
+#[test]
+fn what_is_sent_is_numbered_on_and_goes_out_in_parts() {
+    let mut connection = Connection::new(100).unwrap();
+    connection.encode(b"\x03DO 1").unwrap();
+    connection.encode(b"").unwrap();
+    assert_eq!(connection.encode(&[0; 101]), Err(Error::PacketTooLarge));
+    assert_eq!(connection.pending(), [framed(0, b"\x03DO 1"), framed(1, b"")].concat());
+    connection.sent(5);
+    assert_eq!(connection.pending(), b"DO 1\0\0\0\x01");
+    connection.reset_seq_id().unwrap();
+    assert_eq!(connection.sequence_id(), Ok(0));
+}
+
+#[test]
+fn a_connection_moves_between_threads() {
+    let mut connection = Connection::new(1).unwrap();
+    connection.feed(&framed(0, b"a")).unwrap();
+    let moved = std::thread::spawn(move || connection.next_packet()).join().unwrap();
+    assert_eq!(moved, Ok(Some(b"a".to_vec())));
+}
+
+#[test]
+fn fields_come_back() {
+    let mut payload = Vec::new();
+    put_int(&mut payload, 0x0a0b0c, 3).unwrap();
+    put_lenenc_int(&mut payload, 251);
+    put_lenenc_bytes(&mut payload, b"text");
+    payload.push(0xfb);
+    put_null_bytes(&mut payload, b"name");
+    payload.extend_from_slice(b"rest");
+    let mut fields = Fields::new(&payload);
+    assert_eq!((fields.int(3), fields.lenenc_int()), (Ok(0x0a0b0c), Ok(251)));
+    assert_eq!(fields.lenenc_bytes_or_null(), Ok(Some(&b"text"[..])));
+    assert_eq!(fields.lenenc_bytes_or_null(), Ok(None));
+    assert_eq!((fields.null_bytes(), fields.rest()), (Ok(&b"name"[..]), &b"rest"[..]));
+}
+
+#[test]
+fn refusals_read_nothing() {
+    let mut fields = Fields::new(b"\x05abc");
+    assert_eq!(fields.lenenc_bytes(), Err(Error::MissingBytes));
+    assert_eq!((fields.int(9), fields.int(5)), (Err(Error::NotANumber), Err(Error::MissingBytes)));
+    assert_eq!(fields.null_bytes(), Err(Error::MissingBytes));
+    assert_eq!(Fields::new(b"\xff").lenenc_int(), Err(Error::NotANumber));
+    assert_eq!((fields.at(), fields.rest()), (0, &b"\x05abc"[..]));
+    assert_eq!(Fields::starting_at(b"a", usize::MAX).int(1), Err(Error::MissingBytes));
+}

@@ -1,0 +1,34 @@
+#!/usr/bin/env bash
+# Compares the declarations of bindings/rust with the header of the C library, and builds the crates
+# and runs their tests, with no network. It prints a line for each check. The last line is
+# 'N passed, M failed'.
+set -u
+top=$(cd "$(dirname "$0")/.." && pwd)
+source "$top/scripts/start.sh"
+source "$top/scripts/checks.sh"
+package=$top/bindings/rust
+work=$(mktemp -d)
+trap 'rm -rf "$work"' EXIT
+if ! command -v cargo > /dev/null || ! command -v make > /dev/null; then
+    echo 'there is no cargo or no make here'
+    finish
+fi
+
+# quiet COMMAND..: runs it, and shows what it said where it fails.
+quiet() {
+    "$@" > "$work/log" 2>&1 || { tail "$work/log"; return 1; }
+}
+
+declared() {
+    grep -oE 'pub fn mysql_wire_[a-z_]+' "$package/mysql-wire-sys/src/lib.rs" | sed 's/pub fn //' |
+        sort | diff "$top/bindings/c/out/calls" -
+}
+
+export MYSQL_WIRE_LIB_DIR=$top/bindings/c/out RUSTFLAGS='-D warnings' CARGO_TARGET_DIR=$work/target
+check 'the library is made' quiet make -C "$top/bindings/c" || finish
+check 'the declarations are the calls of the header' declared
+check 'the crates and their tests pass' quiet cargo test --offline --manifest-path \
+    "$package/Cargo.toml"
+check 'the proxy is built on them' quiet cargo build --offline --manifest-path \
+    "$top/examples/proxy/Cargo.toml"
+finish
