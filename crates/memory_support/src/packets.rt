@@ -53,6 +53,10 @@ impl<'a, A: Allocator + Copy> Source<'a, A> {
         self.reader.fits(&self.codec)
     }
 
+    pub fn can_skip(&self) -> bool {
+        self.reader.can_skip(&self.codec)
+    }
+
     pub fn unread(&self) -> &[u8] {
         self.reader.unread()
     }

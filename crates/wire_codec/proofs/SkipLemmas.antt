@@ -1,6 +1,6 @@
 -- A packet whose bytes are dropped as they come.
-use Rattle.std.proofs.Common.{◌≡◌, ◌≢◌, ℕ, ◌+◌, ◌-◌, ◌%◌, ◌<◌, ◌≤◌, ◌⊎◌, ◌^◌, min, List, [], ◌++◌, length, take, drop, refl, sym, ap, ap₂, ◌∙◌, subst, arith, append_assoc, length-append, drop-drop, drop_at, take-append-drop, slice_index, inl, inr, Some, None, Option, Ok, Err}
-use Rattle.std.proofs.lemmas.List.{length-take-le}
+use Rattle.std.proofs.Common.{◌≡◌, ◌≢◌, ℕ, ◌+◌, ◌-◌, ◌%◌, ◌<◌, ◌≤◌, ◌⊎◌, ◌↔◌, ◌^◌, Bool, IsTrue, replicate, min, List, [], ◌++◌, length, take, drop, refl, sym, ap, ap₂, ◌∙◌, subst, arith, append_assoc, length-append, drop-drop, drop_at, take-append-drop, slice_index, inl, inr, Some, None, Option, Ok, Err}
+use Rattle.std.proofs.lemmas.List.{length-replicate, length-take-le}
 use Rattle.std.proofs.lemmas.Bool.{cases_lt}
 use Rattle.std.specs.Int.NonZero.{non_zero_usize_get}
 use Rattle.std.specs.declared.num.NonZeroUsize.{NonZeroUsize}
@@ -14,10 +14,11 @@ use Rattle.wire_codec.specs.declared.codec.packet.PacketCodec.{PacketCodec}
 use Rattle.wire_codec.specs.declared.codec.packet.skip.OpenChunk.{OpenChunk}
 use Rattle.wire_codec.specs.declared.codec.packet.skip.Skipped.{Skipped}
 use Rattle.wire_codec.specs.declared.codec.packet.Progress.TheVariants.{Whole, Starved, More}
-use Rattle.wire_codec.specs.Framing.{max_payload, max_payload_is}
+use Rattle.wire_codec.specs.Framing.{max_payload, max_payload_is, header}
 use Rattle.wire_codec.specs.Delivery.{chunk_len, id_at, IsWholeChunks}
-use Rattle.wire_codec.specs.Codec.{CodecState, codec_state, header_of, first_id}
-use Rattle.wire_codec.specs.Skipping.{nothing_skipped, header_at, IsGone, WouldStand, AtChunk, DropsChunk}
+use Rattle.wire_codec.specs.Codec.{CodecState, codec_state, expected_id, header_of, first_id, Stands, StandsAt}
+use Rattle.wire_codec.specs.Skipping.{nothing_skipped, header_at, IsGone, WouldStand, AtChunk, DropsChunk, MaySkip}
+use Rattle.wire_codec.proofs.ChunkLemmas.{le_number-le_bytes}
 use Rattle.wire_codec.proofs.CodecLemmas.{id_at_open, chunk_len_small, partial, large, Taken, len_taken, taken_last, taken_middle, taken_middle_alone, taken_other, chunk_awaited, chunk_failed, stands_without}
 
 -- where the codec is, in its packet
@@ -191,3 +192,98 @@ refused_header skipped codec src full error small closed w is none long some mor
           (large long' some' past refl (w.header ∙ ap (λ (b : Option OpenChunk). header_at b (header_of codec)) closed ∙ none) refl refl),
       w,
     )
+
+-- what a codec needs to go on with a packet of which full chunks were dropped
+pub may_skip_closed : (answer : Bool) (skipped : Skipped) (codec : PacketCodec) (unread : List ℕ) → skipped.begun ≡ None
+    → ((dst : List ℕ) → length dst ≡ skipped.held → (IsTrue answer ↔ Stands (codec_state codec unread dst)))
+    → (IsTrue answer ↔ MaySkip skipped codec unread)
+may_skip_closed answer skipped codec unread closed test =
+    let zeros : List ℕ = replicate skipped.held 0 in
+    let long : length zeros ≡ skipped.held = length-replicate skipped.held 0 in (
+      λ yes. (
+        codec_state codec unread zeros,
+        record {
+          limit = refl;
+          id = refl;
+          header = sym (ap (λ (b : Option OpenChunk). header_at b (header_of codec)) closed);
+          gone = [];
+          gone_is = subst (λ (b : Option OpenChunk). IsGone b [] unread) (sym closed) refl;
+          unread_is = refl;
+          held_is = long;
+          stands = (test zeros long).0 yes;
+        },
+      ),
+      λ may.
+          let full = may.0 in
+          let w = may.1 in
+          let same : full.unread ≡ unread = w.unread_is ∙ ap (λ (z : List ℕ). z ++ unread) (gone_none skipped w.gone full.unread closed w.gone_is) in
+          let header : full.header ≡ header_of codec = w.header ∙ ap (λ (b : Option OpenChunk). header_at b (header_of codec)) closed in
+          (test full.held w.held_is).1
+          (subst (λ (n : ℕ). StandsAt n (header_of codec) unread full.held) w.limit
+          (subst (λ (h : Option (ℕ × ℕ)). StandsAt full.limit h unread full.held) header
+          (subst (λ (z : List ℕ). StandsAt full.limit full.header z full.held) same w.stands))),
+    )
+
+-- a header and zeros, as what was dropped of an open chunk
+would_skip : (skipped : Skipped) (begun : OpenChunk) (codec : PacketCodec) (unread : List ℕ) → skipped.begun ≡ Some begun
+    → begun.header.seq_id < 256 → 0 < non_zero_usize_get begun.left
+    → (skipped.held % max_payload ≡ 0) × (non_zero_usize_get begun.left ≤ begun.header.len) × (begun.header.len ≤ max_payload)
+    × (skipped.held + begun.header.len ≤ codec.max_allowed_packet)
+    → MaySkip skipped codec unread
+would_skip skipped begun codec unread opened small some numbers =
+    let len : ℕ = begun.header.len in
+    let id : ℕ = begun.header.seq_id in
+    let left : ℕ = non_zero_usize_get begun.left in
+    let zeros : List ℕ = replicate (len - left) 0 in
+    let gone : List ℕ = header len id ++ zeros in
+    let held : List ℕ = replicate skipped.held 0 in
+    let long : length held ≡ skipped.held = length-replicate skipped.held 0 in
+    let many : length zeros ≡ len - left = length-replicate (len - left) 0 in
+    let size : length gone ≡ 4 + length zeros = length-append (header len id) zeros in
+    let all : length (gone ++ unread) ≡ length gone + length unread = length-append gone unread in
+    let says : chunk_len (gone ++ unread) ≡ len = le_number-le_bytes len (omega (arith, numbers.2, max_payload_is)) in
+    let bears : slice_index (gone ++ unread) 3 ≡ id = omega (arith, small) in
+    let four : 4 ≤ length (gone ++ unread) = omega (arith, all, size) in (
+      record {
+        limit = codec.max_allowed_packet;
+        id = expected_id codec;
+        header = Some (id, len);
+        unread = gone ++ unread;
+        held = held;
+      },
+      record {
+        limit = refl;
+        id = refl;
+        header = sym (ap (λ (b : Option OpenChunk). header_at b (header_of codec)) opened);
+        gone = gone;
+        gone_is = subst (λ (b : Option OpenChunk). IsGone b gone (gone ++ unread)) (sym opened)
+            (omega (arith, size), some, omega (arith, size, many, numbers.1), λ more. ap₂ header (sym says) (sym bears));
+        unread_is = refl;
+        held_is = long;
+        stands = (subst (λ (n : ℕ). n % max_payload ≡ 0) (sym long) numbers.0, (four, bears, says, omega (arith, some, numbers.1), omega (arith, long, numbers.3)));
+      },
+    )
+
+-- and of which a part of one was
+pub may_skip_open : (answer : Bool) (skipped : Skipped) (begun : OpenChunk) (codec : PacketCodec) (unread : List ℕ) → skipped.begun ≡ Some begun
+    → begun.header.seq_id < 256 → 0 < non_zero_usize_get begun.left
+    → (IsTrue answer ↔ ((skipped.held % max_payload ≡ 0) × (non_zero_usize_get begun.left ≤ begun.header.len) × (begun.header.len ≤ max_payload)
+    × (skipped.held + begun.header.len ≤ codec.max_allowed_packet)))
+    → (IsTrue answer ↔ MaySkip skipped codec unread)
+may_skip_open answer skipped begun codec unread opened small some test = (
+  λ yes. would_skip skipped begun codec unread opened small some (test.0 yes),
+  λ may.
+      let full = may.0 in
+      let w = may.1 in
+      let gone : IsGone (Some begun) w.gone full.unread = subst (λ (b : Option OpenChunk). IsGone b w.gone full.unread) opened w.gone_is in
+      let header : full.header ≡ Some (begun.header.seq_id, begun.header.len) = w.header ∙ ap (λ (b : Option OpenChunk). header_at b (header_of codec)) opened in
+      let at : StandsAt full.limit (Some (begun.header.seq_id, begun.header.len)) full.unread full.held =
+      subst (λ (h : Option (ℕ × ℕ)). StandsAt full.limit h full.unread full.held) header w.stands in
+      let little = chunk_len_small full.unread gone.3 at.1.0 in
+      test.1 (
+        subst (λ (n : ℕ). n % max_payload ≡ 0) w.held_is at.0,
+        omega (arith, gone.0, gone.2),
+        omega (arith, little, at.1.2),
+        omega (arith, at.1.4, w.held_is, w.limit),
+      ),
+)

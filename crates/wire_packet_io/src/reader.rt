@@ -197,6 +197,18 @@ impl<R: Read, A: Allocator + Copy> PacketReader<R, A> {
 
 // A packet that is skipped.
 impl<R: Read, A: Allocator + Copy> PacketReader<R, A> {
+    /// Whether `skip_packet` can go on with this codec. In the midst of a packet that is skipped:
+    /// whether the chunk that is being dropped, with those before it, is within the codec's limit
+    /// still. Otherwise as `fits`.
+    pub fn can_skip(&self, codec: &PacketCodec) -> bool
+        ensures { IsTrue result ↔ CanSkip codec.now self.now }
+    {
+        match &self.skipped {
+            Some(skipped) => codec.may_skip(self.unread(), skipped),
+            None => self.fits(codec),
+        }
+    }
+
     /// Reads to the end of the next packet, and hands nothing out: true where a packet was
     /// skipped, false where the input ends between two packets. It answers and refuses as
     /// `next_packet` does, after the same reads; the limit counts over the whole packet. What it
@@ -206,7 +218,7 @@ impl<R: Read, A: Allocator + Copy> PacketReader<R, A> {
     /// After `Io`, `UnexpectedEnd`, `PacketTooLarge` and `OutOfMemory` the call may be made again
     /// and goes on. Where a part of the packet is gone, the reader is lost until it has: till then
     /// `next_packet` and `fill_packet` answer `PacketsOutOfSync` and touch nothing. A new limit
-    /// must not be below what was accepted of the packet.
+    /// must not be below what was accepted of the packet: `can_skip` is the test.
     ///
     /// <https://dev.mysql.com/doc/dev/mysql-server/latest/page_protocol_basic_packets.html>
     pub fn skip_packet(&mut self, codec: &mut PacketCodec) -> Result<bool, PacketIoError>

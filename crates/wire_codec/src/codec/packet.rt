@@ -1,6 +1,6 @@
 //! Whole packets.
 
-ghost use Rattle.std.specs.Prelude.{◌≡◌, ◌≢◌, ℕ, ◌+◌, ◌%◌, ◌<◌, ◌≤◌, ◌↔◌, ◌⊎◌, OnOk, OnErr, IfErr, Err, [], length, None, true, false, IsTrue, slice_index, ◌++◌};
+ghost use Rattle.std.specs.Prelude.{◌≡◌, ◌≢◌, ℕ, ◌+◌, ◌%◌, ◌<◌, ◌≤◌, ◌↔◌, ◌⊎◌, OnOk, OnErr, IfErr, Err, List, [], length, None, true, false, IsTrue, slice_index, ◌++◌};
 ghost use Rattle.wire_codec.specs.Delivery.{chunk_len, IsBounded};
 
 mod front;
@@ -66,13 +66,22 @@ impl PacketCodec {
     pub fn stands_before(&self, unread: &[u8], dst: &[u8]) -> bool
         ensures { IsTrue result ↔ Stands (codec_state self.now unread.now dst.now) }
     {
-        if !self.aligned_before(unread, dst) {
+        self.stands_behind(unread, dst.len())
+    }
+
+    // As `stands_before`, with so many bytes in `dst`.
+    fn stands_behind(&self, unread: &[u8], held: usize) -> bool
+        ensures { (dst : List ℕ) → length dst ≡ held
+            → (IsTrue result ↔ Stands (codec_state self.now unread.now dst)) }
+    {
+        if !is_full_chunks(held) {
             return false;
         }
         match self.decoder {
             ChunkDecoder::Idle => true,
-            ChunkDecoder::Chunk { needed, .. } => {
-                fits(dst.len(), needed.get(), self.max_allowed_packet)
+            ChunkDecoder::Chunk { seq_id, needed } => {
+                has_header(unread, seq_id, needed.get())
+                    && fits(held, needed.get(), self.max_allowed_packet)
             }
         }
     }

@@ -1,15 +1,17 @@
 //! A packet whose bytes are dropped as they come.
 
-ghost use Rattle.std.specs.Prelude.{◌≡◌, ◌+◌, ◌<◌, ◌≤◌, ◌⊎◌, ◌↔◌, length, slice_index, None, Ok, Err, IfOk, IfErr, IfSome, IsSome, IsTrue, OnOk, OnErr};
+ghost use Rattle.std.specs.Prelude.{◌≡◌, ◌+◌, ◌%◌, ◌<◌, ◌≤◌, ◌⊎◌, ◌↔◌, length, slice_index, None, Ok, Err, IfOk, IfErr, IfSome, IsSome, IsTrue, OnOk, OnErr};
 ghost use Rattle.wire_codec.specs.Codec.{CodecState, expected_id, header_of};
 ghost use Rattle.wire_codec.specs.Delivery.{chunk_len, IsSpelled};
-ghost use Rattle.wire_codec.specs.Skipping.{AtChunk, DropsChunk, SkipsPacket, WouldStand};
+ghost use Rattle.wire_codec.specs.Skipping.{AtChunk, DropsChunk, MaySkip, SkipsPacket, WouldStand};
+ghost use Rattle.wire_codec.specs.Framing.{max_payload};
+ghost use Rattle.std.specs.Int.NonZero.{non_zero_usize_get};
 
 use crate::codec::chunk::ChunkDecoder;
 use crate::codec::error::PacketCodecError;
 use crate::codec::header::{HEADER_LEN, Header};
 use crate::codec::packet::{PacketCodec, Progress};
-use crate::codec::room::fits;
+use crate::codec::room::{fits, is_full_chunks};
 use bytes::BytesMut;
 use std::alloc::Allocator;
 use std::num::NonZeroUsize;
@@ -155,7 +157,36 @@ impl PacketCodec {
     }
 }
 
+impl OpenChunk {
+    // Whether such a chunk may be open behind full chunks with so many bytes.
+    #[tactic(auto, using(crate::specs::Framing::max_payload_is))]
+    fn is_behind(self, held: usize, limit: usize) -> bool
+        ensures id { self.header.seq_id < 256 }
+        ensures behind { IsTrue result ↔ ((held % max_payload ≡ 0)
+            × (non_zero_usize_get self.left ≤ self.header.len) × (self.header.len ≤ max_payload)
+            × (held + self.header.len ≤ limit)) }
+    {
+        is_full_chunks(held)
+            && self.left.get() <= self.header.len
+            && self.header.len <= MAX_PAYLOAD_LEN
+            && fits(held, self.header.len, limit)
+    }
+}
+
 impl PacketCodec {
+    /// Whether `skip` goes on here with the packet of which so much was dropped: full chunks, and
+    /// of the open one its header and a part of its bytes, or none. The open chunk is within the
+    /// limit still. Where none is open, a header that the codec remembers is the one at the front
+    /// of `unread`, and within the limit still.
+    pub fn may_skip(&self, unread: &[u8], skipped: &Skipped) -> bool
+        ensures { IsTrue result ↔ MaySkip skipped.now self.now unread.now }
+    {
+        match skipped.begun {
+            Some(begun) => begun.is_behind(skipped.held, self.max_allowed_packet),
+            None => self.stands_behind(unread, skipped.held),
+        }
+    }
+
     /// As `decode` into nothing: takes the bytes of a packet from the front of `src` and drops
     /// them, each as it comes, until the packet has ended. The answer is whether it has. After
     /// false the call is made again with more bytes in `src`; after true `skipped` is as before a
