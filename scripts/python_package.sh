@@ -9,7 +9,7 @@ package=$top/bindings/python
 work=$(mktemp -d)
 trap 'rm -rf "$work"' EXIT
 export PYTHONDONTWRITEBYTECODE=1
-if ! python3 -m pip --version > /dev/null 2>&1 || ! command -v make > /dev/null; then
+if ! python3 -m pip --version > "$work/log" 2>&1 || ! make --version > "$work/log" 2>&1; then
     echo 'there is no python3 with pip, or no make here'
     finish
 fi

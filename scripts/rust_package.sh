@@ -9,7 +9,8 @@ source "$top/scripts/checks.sh"
 package=$top/bindings/rust
 work=$(mktemp -d)
 trap 'rm -rf "$work"' EXIT
-if ! command -v cargo > /dev/null || ! command -v make > /dev/null; then
+export CARGO_HOME=$work/cargo
+if ! cargo --version > "$work/log" 2>&1 || ! make --version > "$work/log" 2>&1; then
     echo 'there is no cargo or no make here'
     finish
 fi
