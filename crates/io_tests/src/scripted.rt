@@ -72,6 +72,49 @@ impl Read for Slow<'_> {
     }
 }
 
+/// Gives parts, each in reads of its own: these bytes, and so many zeros behind them, which take no
+/// memory. Fails once, at the read of this number.
+#[derive(Drop)]
+pub struct Parts<'a> {
+    parts: &'a [(&'a [u8], usize)],
+    bytes: &'a [u8],
+    zeros: usize,
+    until_fault: usize,
+}
+
+impl<'a> Parts<'a> {
+    /// Nothing is read yet.
+    pub fn new(parts: &'a [(&'a [u8], usize)], until_fault: usize) -> Parts<'a> {
+        Parts {
+            parts,
+            bytes: b"",
+            zeros: 0,
+            until_fault,
+        }
+    }
+}
+
+impl Read for Parts<'_> {
+    fn read(&mut self, buf: &mut [u8]) -> io::Result<usize> {
+        self.until_fault = self.until_fault.wrapping_sub(1);
+        if self.until_fault == usize::MAX {
+            return Err(io::Error::from(ErrorKind::Interrupted));
+        }
+        if self.zeros > 0 {
+            let count = self.zeros.min(buf.len());
+            buf[..count].fill(0);
+            self.zeros -= count;
+            return Ok(count);
+        }
+        if let [(bytes, zeros), rest @ ..] = self.parts {
+            self.bytes = *bytes;
+            self.zeros = *zeros;
+            self.parts = rest;
+        }
+        self.bytes.read(buf)
+    }
+}
+
 /// Takes so many bytes a write at most, and fails once, at the write or flush of this number.
 #[derive(Drop)]
 pub struct Narrow {

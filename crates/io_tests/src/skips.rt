@@ -3,7 +3,8 @@
 ghost use Rattle.std.specs.Prelude.{IsNone};
 ghost use Rattle.mysql_wire.specs.Skips.{CanSkip};
 
-use crate::scripted::{Said, Slow, are_said, said_of};
+use crate::scripted::{Parts, Said, Slow, are_said, said_of};
+use linked_list_allocator::LocalHeap;
 use mysql_wire::proto::codec::PacketCodec;
 use mysql_wire::proto::packet_io::PacketReader;
 use refusing::{NEVER, Refusing};
@@ -219,4 +220,208 @@ fn each_packet_is_skipped(rt: HostRuntime) -> Result<(), Fail> {
         }
     }
     no_row(wrong)
+}
+
+// ---- packets of several chunks
+
+// A packet's parts, as they are read, and what a reader answers as it skips it, call after call.
+#[derive(Clone, Copy)]
+struct LongRow<'a> {
+    parts: &'a [(&'a [u8], usize)],
+    until_fault: usize,
+    limit: usize,
+    // The limit from the second call on.
+    later_limit: usize,
+    said: &'a [Said],
+    reads: u64,
+    id: u8,
+}
+
+// One byte more than a full chunk has.
+const LONG_ROW: LongRow = LongRow {
+    parts: &[(b"\xff\xff\xff\0", 16777215), (b"\x01\0\0\x01", 1)],
+    until_fault: usize::MAX,
+    limit: 16777216,
+    later_limit: 16777216,
+    said: &[Said::Packet, Said::End],
+    reads: 2052,
+    id: 2,
+};
+
+const LONG_ROWS: &[LongRow] = &[
+    LONG_ROW,
+    // Two full chunks.
+    LongRow {
+        parts: &[
+            (b"\xff\xff\xff\0", 16777215),
+            (b"\xff\xff\xff\x01", 16777215),
+            (b"\0\0\0\x02", 0),
+        ],
+        limit: 33554430,
+        later_limit: 33554430,
+        reads: 4100,
+        id: 3,
+        ..LONG_ROW
+    },
+    // A read fails inside the first chunk, behind it, and behind the second header.
+    LongRow {
+        until_fault: 1024,
+        said: &[Said::Io, Said::Packet, Said::End],
+        reads: 2053,
+        ..LONG_ROW
+    },
+    LongRow {
+        until_fault: 2049,
+        said: &[Said::Io, Said::Packet, Said::End],
+        reads: 2053,
+        ..LONG_ROW
+    },
+    LongRow {
+        until_fault: 2050,
+        said: &[Said::Io, Said::Packet, Said::End],
+        reads: 2053,
+        ..LONG_ROW
+    },
+    // The second chunk is past the limit, which is then raised.
+    LongRow {
+        limit: 16777215,
+        said: &[Said::TooLarge, Said::Packet, Said::End],
+        ..LONG_ROW
+    },
+    // The input ends behind the first chunk, and inside the second.
+    LongRow {
+        parts: &[(b"\xff\xff\xff\0", 16777215)],
+        said: &[Said::UnexpectedEnd, Said::UnexpectedEnd],
+        reads: 2051,
+        id: 1,
+        ..LONG_ROW
+    },
+    LongRow {
+        parts: &[(b"\xff\xff\xff\0", 16777215), (b"\x02\0\0\x01", 1)],
+        limit: 16777217,
+        later_limit: 16777217,
+        said: &[Said::UnexpectedEnd],
+        id: 1,
+        ..LONG_ROW
+    },
+];
+
+// Skips a packet, where it can be skipped.
+fn tries<R: Read, A: Allocator + Copy>(
+    codec: &mut PacketCodec,
+    reader: &mut PacketReader<R, A>,
+) -> Said {
+    if !reader.can_skip(codec) {
+        return Said::Wrong;
+    }
+    match reader.skip_packet(codec) {
+        Ok(true) => Said::Packet,
+        Ok(false) => Said::End,
+        Err(error) => said_of(error),
+    }
+}
+
+// Whether a reader goes as the row says, and leaves nothing unread.
+fn goes_long<A: Allocator + Copy>(alloc: A, row: &LongRow) -> bool {
+    let Ok(mut reader) = PacketReader::new(alloc, Parts::new(row.parts, row.until_fault)) else {
+        return false;
+    };
+    let mut codec = PacketCodec::default();
+    codec.max_allowed_packet = row.limit;
+    let mut all = true;
+    for said in row.said.iter() {
+        all &= tries(&mut codec, &mut reader) == *said;
+        codec.max_allowed_packet = row.later_limit;
+    }
+    all &= (reader.reads() == row.reads) & (codec.sequence_id() == row.id);
+    all & reader.unread().is_empty()
+}
+
+// The memory is that of the buffer of one read, and of its growth.
+#[test]
+fn long_packets_are_skipped_with_little_memory(rt: HostRuntime) -> Result<(), Fail> {
+    let little = LocalHeap::new(rt.alloc(), 32768)?;
+    let mut wrong = None;
+    for (i, row) in LONG_ROWS.iter().enumerate() {
+        if !goes_long(&little, row) {
+            wrong = Some(i);
+        }
+    }
+    no_row(wrong)
+}
+
+// ---- in the midst of a packet
+
+// Whether the next packet is this one.
+fn next_is<R: Read, A: Allocator + Copy>(
+    codec: &mut PacketCodec,
+    reader: &mut PacketReader<R, A>,
+    packet: &[u8],
+) -> bool {
+    if !reader.fits(codec) {
+        return false;
+    }
+    match reader.next_packet(codec) {
+        Ok(Some(next)) => same(next.as_slice(), packet),
+        Ok(None) | Err(_) => false,
+    }
+}
+
+// Whether a packet of which a full chunk is held is skipped, and the one behind it handed out. The
+// read behind this many fails.
+fn held_is_skipped(alloc: Global, until_fault: usize) -> bool {
+    let parts: &[(&[u8], usize)] = &[
+        (b"\xff\xff\xff\0", 16777215),
+        (b"\x01\0\0\x01", 1),
+        (b"\x02\0\0\x02", 2),
+    ];
+    let Ok(mut reader) = PacketReader::new(alloc, Parts::new(parts, until_fault)) else {
+        return false;
+    };
+    let mut codec = PacketCodec::default();
+    codec.max_allowed_packet = 16777216;
+    let mut all = !next_is(&mut codec, &mut reader, b"") & (codec.sequence_id() == 1);
+    all &= tries(&mut codec, &mut reader) == Said::Packet;
+    all & next_is(&mut codec, &mut reader, b"\0\0") & (codec.sequence_id() == 3)
+}
+
+// Whether `can_skip` is false where the limit was lowered below the chunk that is open, and no
+// packet is handed out in the midst of one that is skipped.
+fn lower_limit_is_seen(alloc: Global) -> bool {
+    let Ok(mut reader) = PacketReader::new(alloc, Parts::new(&[(b"\x03\0\0\0", 3)], 1)) else {
+        return false;
+    };
+    let mut codec = PacketCodec::default();
+    codec.max_allowed_packet = 3;
+    let mut all = tries(&mut codec, &mut reader) == Said::Io;
+    all &= !next_is(&mut codec, &mut reader, b"\0\0\0") & (reader.reads() == 2);
+    codec.max_allowed_packet = 2;
+    all &= !reader.can_skip(&codec) & reader.fits(&codec);
+    codec.max_allowed_packet = 3;
+    all & (tries(&mut codec, &mut reader) == Said::Packet) & (codec.sequence_id() == 1)
+}
+
+// The same of a header that is remembered, of a packet that is not skipped yet.
+fn remembered_header_is_seen(alloc: Global) -> bool {
+    let Ok(mut reader) = PacketReader::new(alloc, Parts::new(&[(b"\x03\0\0\0", 3)], 1)) else {
+        return false;
+    };
+    let mut codec = PacketCodec::default();
+    codec.max_allowed_packet = 3;
+    let mut all = !next_is(&mut codec, &mut reader, b"\0\0\0") & reader.can_skip(&codec);
+    codec.max_allowed_packet = 2;
+    all &= !reader.can_skip(&codec) & !reader.fits(&codec);
+    codec.max_allowed_packet = 3;
+    all & (tries(&mut codec, &mut reader) == Said::Packet)
+}
+
+#[test]
+fn packets_are_skipped_from_their_midst(rt: HostRuntime) -> Result<(), Fail> {
+    let alloc = rt.alloc();
+    all_hold(&[
+        held_is_skipped(alloc, 2049),
+        held_is_skipped(alloc, 2050),
+        lower_limit_is_seen(alloc),
+        remembered_header_is_seen(alloc),
+    ])
 }
