@@ -16,11 +16,6 @@ if ! command -v gcc > /dev/null || ! command -v make > /dev/null; then
     finish
 fi
 
-# quiet COMMAND..: runs it, and shows what it said where it fails.
-quiet() {
-    "$@" > "$work/log" 2>&1 || { tail "$work/log"; return 1; }
-}
-
 # The packet dump prints what it must of a stream of two packets.
 dumps() {
     printf '\x03\0\0\x00123\x02\0\0\x01\x01\xff' | "$@" > "$work/printed"

@@ -24,6 +24,12 @@ check() {
     fi
 }
 
+# quiet COMMAND..: runs it, and shows the end of what it said where it fails.
+quiet() {
+    local said
+    said=$("$@" 2>&1) || { tail <<< "$said"; return 1; }
+}
+
 # Prints the last line, and ends the script.
 finish() {
     echo "$passed passed, $failed failed"

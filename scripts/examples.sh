@@ -9,11 +9,6 @@ libraries=$top/bindings/c/out
 work=$(mktemp -d)
 trap 'rm -rf "$work"' EXIT
 
-# quiet COMMAND..: runs it, and shows what it said where it fails.
-quiet() {
-    "$@" > "$work/log" 2>&1 || { tail "$work/log"; return 1; }
-}
-
 build_dump() {
     gcc -std=c11 -Wall -Wextra -Werror -I"$top/crates/mysql_wire_c/include" -o "$work/dump" \
         "$top/examples/c/dump.c" "$libraries/libmysql_wire.a"

@@ -14,11 +14,6 @@ if ! python3 -m pip --version > "$work/log" 2>&1 || ! make --version > "$work/lo
     finish
 fi
 
-# quiet COMMAND..: runs it, and shows what it said where it fails.
-quiet() {
-    "$@" > "$work/log" 2>&1 || { tail "$work/log"; return 1; }
-}
-
 pip=(python3 -m pip --disable-pip-version-check)
 wheel() {
     MYSQL_WIRE_LIBRARY=$(ls "$top"/bindings/c/out/libmysql_wire.so.*.*.*)

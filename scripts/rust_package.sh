@@ -15,11 +15,6 @@ if ! cargo --version > "$work/log" 2>&1 || ! make --version > "$work/log" 2>&1; 
     finish
 fi
 
-# quiet COMMAND..: runs it, and shows what it said where it fails.
-quiet() {
-    "$@" > "$work/log" 2>&1 || { tail "$work/log"; return 1; }
-}
-
 declared() {
     grep -oE 'pub fn mysql_wire_[a-z_]+' "$package/mysql-wire-sys/src/lib.rs" | sed 's/pub fn //' |
         sort | diff "$top/bindings/c/out/calls" -
