@@ -4,7 +4,6 @@ ghost use Rattle.std.specs.Prelude.{IsNone};
 ghost use Rattle.mysql_wire.specs.Skips.{CanSkip};
 
 use crate::scripted::{Parts, Said, Slow, are_said, said_of};
-use linked_list_allocator::LocalHeap;
 use mysql_wire::proto::codec::PacketCodec;
 use mysql_wire::proto::packet_io::PacketReader;
 use refusing::{NEVER, Refusing};
@@ -337,17 +336,18 @@ fn goes_long<A: Allocator + Copy>(alloc: A, row: &LongRow) -> bool {
     all & reader.unread().is_empty()
 }
 
-// The memory is that of the buffer of one read, and of its growth.
+// No request is larger than the buffer of one read and its growth.
 #[test]
 fn long_packets_are_skipped_with_little_memory(rt: HostRuntime) -> Result<(), Fail> {
-    let little = LocalHeap::new(rt.alloc(), 32768)?;
+    let heap = Refusing::new(rt.alloc(), NEVER);
     let mut wrong = None;
     for (i, row) in LONG_ROWS.iter().enumerate() {
-        if !goes_long(&little, row) {
+        if !goes_long(&heap, row) {
             wrong = Some(i);
         }
     }
-    no_row(wrong)
+    no_row(wrong)?;
+    all_hold(&[heap.largest() <= 16384])
 }
 
 // ---- in the midst of a packet

@@ -3,7 +3,6 @@
 use crate::lenenc::{Lenenc, WRITTEN};
 use crate::numbers::{self, Row};
 use crate::scripted::{Narrow, Slow};
-use linked_list_allocator::LocalHeap;
 use mysql_wire::io::{BufMutExt, ReadMysqlExt, WriteMysqlExt};
 use mysql_wire::misc::lenenc_str_len;
 use refusing::{NEVER, Refusing};
@@ -223,18 +222,23 @@ fn long_text_is_read(heap: &Heap) -> bool {
     refusals(heap, &bytes, &bytes[3..]) > Some(1)
 }
 
-// Whatever length is declared, 64 KiB of memory are enough to find where the input ends.
+// Whether it is found that the input ends, with no request above 64 KiB.
+fn finds_the_end(heap: &Heap, input: &mut &[u8]) -> bool {
+    heap.refuse(NEVER);
+    (reads(heap, input, b"") == Err(Fault::Io)) & (heap.largest() <= 65536)
+}
+
+// Whatever length is declared, little memory is asked for before the input ends.
 #[test]
 fn a_hostile_length_takes_little_memory(rt: HostRuntime) -> Result<(), Fail> {
-    let little = LocalHeap::new(rt.alloc(), 65536)?;
     let heap = Refusing::new(rt.alloc(), NEVER);
     let mut most = b"\xfe\xff\xff\xff\xff\xff\xff\xff\xffa".as_slice();
     let mut four_gib = b"\xfe\0\0\0\0\x01\0\0\0abc".as_slice();
     let (unread, is_refused) = refused(&heap, 0, most, b"");
     all_hold(&[
         (unread == Err(Fault::OutOfMemory)) & is_refused,
-        reads(&little, &mut four_gib, b"") == Err(Fault::Io),
-        reads(&little, &mut most, b"") == Err(Fault::Io),
+        finds_the_end(&heap, &mut four_gib),
+        finds_the_end(&heap, &mut most),
         long_text_is_read(&heap),
     ])
 }

@@ -1,7 +1,6 @@
-//! How much memory is asked for: each call has enough with a heap of a given size.
+//! How much memory is asked for: the largest request of each call.
 
 use bytes::BytesMut;
-use linked_list_allocator::LocalHeap;
 use mysql_wire::constants::MAX_PAYLOAD_LEN;
 use mysql_wire::io::{ParseBuf, WireError};
 use mysql_wire::misc::raw::RawInt;
@@ -9,9 +8,11 @@ use mysql_wire::misc::raw::int::{LeU32, LeU64, VarLen};
 use mysql_wire::misc::raw::seq::{Seq, Unknown};
 use mysql_wire::proto::MyDeserialize;
 use mysql_wire::proto::codec::PacketCodec;
-use std::alloc::{Allocator, Global};
+use refusing::{NEVER, Refusing};
+use std::alloc::Allocator;
 use std::test::Fail;
 use test_support::facts::all_hold;
+use test_support::fixture::Heap;
 use test_support::told::Told;
 
 // Whether a list ends before the values that its count promises.
@@ -40,44 +41,47 @@ fn hostile_counts_end<A: Allocator + Copy>(alloc: A) -> [bool; 3] {
 
 #[test]
 fn a_declared_count_takes_little_memory(rt: HostRuntime) -> Result<(), Fail> {
-    let little = LocalHeap::new(rt.alloc(), 65536)?;
-    all_hold(&hostile_counts_end(&little))
+    let heap = Refusing::new(rt.alloc(), NEVER);
+    all_hold(&hostile_counts_end(&heap))?;
+    all_hold(&[heap.largest() > 0, heap.largest() <= 65536])
 }
 
-// Whether a full chunk is decoded under a limit of 1 GiB.
-fn full_chunk_is_decoded<A: Allocator + Copy>(alloc: A) -> bool {
-    let mut src = BytesMut::new(alloc);
-    let mut dst = Vec::new(alloc);
+// A full chunk with its header.
+fn fill<A: Allocator>(src: &mut BytesMut<A>) -> bool {
+    let header = src.extend_from_slice(b"\xff\xff\xff\0").is_ok();
+    header & src.resize(4 + MAX_PAYLOAD_LEN, 0).is_ok()
+}
+
+// Whether a full chunk is decoded under a limit of 1 GiB, and room is taken for its payload alone.
+fn full_chunk_is_decoded(heap: &Heap) -> bool {
+    let mut src = BytesMut::new(heap);
+    let mut dst = Vec::new(heap);
     let mut codec = PacketCodec::default();
     codec.max_allowed_packet = 1 << 30;
-    let mut all = src.reserve(4 + MAX_PAYLOAD_LEN).is_ok();
-    all &= src.extend_from_slice(b"\xff\xff\xff\0").is_ok();
-    all &= src.resize(4 + MAX_PAYLOAD_LEN, 0).is_ok();
-    all &= Told::of_decode(codec.decode(&mut src, &mut dst)) == Told::Waits;
-    all & (dst.len() == MAX_PAYLOAD_LEN)
+    let filled = fill(&mut src);
+    heap.refuse(NEVER);
+    let told = Told::of_decode(codec.decode(&mut src, &mut dst));
+    let room = heap.largest() == MAX_PAYLOAD_LEN;
+    filled & room & (told == Told::Waits) & (dst.len() == MAX_PAYLOAD_LEN)
 }
 
-// Whether a packet of 1 MiB is encoded.
-fn packet_is_encoded<A: Allocator + Copy>(alloc: A, payload: &[u8]) -> bool {
-    let mut dst = BytesMut::new(alloc);
+// Whether a packet of 1 MiB is encoded, and room is taken for its framing alone.
+fn packet_is_encoded(heap: &Heap, payload: &[u8]) -> bool {
+    let mut dst = BytesMut::new(heap);
     let mut codec = PacketCodec::default();
     let mut packet = payload;
+    heap.refuse(NEVER);
     let told = Told::of_encode(codec.encode(&mut packet, &mut dst));
-    (told == Told::Done) & (dst.len() == 4 + 1048576)
-}
-
-// A full chunk has room in 40 MiB with its source, and a framing of 1 MiB in a half more.
-fn packets_have_room(alloc: Global) -> Result<[bool; 2], Fail> {
-    let large = LocalHeap::new(alloc, 40 << 20)?;
-    let small = LocalHeap::new(alloc, 3 << 19)?;
-    let payload = Vec::from_elem(alloc, 7u8, 1048576)?;
-    Ok([
-        full_chunk_is_decoded(&large),
-        packet_is_encoded(&small, payload.as_slice()),
-    ])
+    let room = heap.largest() == 4 + 1048576;
+    room & (told == Told::Done) & (dst.len() == 4 + 1048576)
 }
 
 #[test]
 fn a_packet_takes_room_for_itself(rt: HostRuntime) -> Result<(), Fail> {
-    all_hold(&packets_have_room(rt.alloc())?)
+    let heap = Refusing::new(rt.alloc(), NEVER);
+    let payload = Vec::from_elem(rt.alloc(), 7u8, 1048576)?;
+    all_hold(&[
+        full_chunk_is_decoded(&heap),
+        packet_is_encoded(&heap, payload.as_slice()),
+    ])
 }
