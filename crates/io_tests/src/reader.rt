@@ -168,7 +168,7 @@ fn hands_out<A: Allocator + Copy>(
             Said::Packet
         }
         Ok(None) => Said::End,
-        Err(error) => said_of(error),
+        Err(error) => said_of(&error),
     }
 }
 
@@ -183,7 +183,7 @@ fn fills<A: Allocator + Copy>(
     match reader.fill_packet(codec) {
         Ok(true) => Said::Packet,
         Ok(false) => Said::End,
-        Err(error) => said_of(error),
+        Err(error) => said_of(&error),
     }
 }
 

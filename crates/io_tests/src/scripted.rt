@@ -28,7 +28,7 @@ pub fn are_said(said: &[Said], wanted: &[Said]) -> bool {
 }
 
 /// What an error says.
-pub fn said_of(error: PacketIoError) -> Said {
+pub fn said_of(error: &PacketIoError) -> Said {
     match error {
         PacketIoError::Io(_) => Said::Io,
         PacketIoError::UnexpectedEnd => Said::UnexpectedEnd,
@@ -43,7 +43,7 @@ pub fn said_of(error: PacketIoError) -> Said {
 pub fn said_by(answer: Result<(), PacketIoError>) -> Said {
     match answer {
         Ok(()) => Said::Done,
-        Err(error) => said_of(error),
+        Err(error) => said_of(&error),
     }
 }
 

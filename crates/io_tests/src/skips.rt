@@ -1,8 +1,5 @@
 //! Packets from readers that are skipped: whole, cut, ended, failing, and of several chunks.
 
-ghost use Rattle.std.specs.Prelude.{IsNone};
-ghost use Rattle.mysql_wire.specs.Skips.{CanSkip};
-
 use crate::scripted::{Parts, Said, Slow, are_said, said_of};
 use mysql_wire::proto::codec::PacketCodec;
 use mysql_wire::proto::packet_io::PacketReader;
@@ -126,20 +123,18 @@ const ROWS: &[Row] = &[
     },
 ];
 
-// Skips a packet.
-fn skips<R: Read, A: Allocator + Copy>(
+// Skips a packet, where it can be skipped.
+fn tries<R: Read, A: Allocator + Copy>(
     codec: &mut PacketCodec,
     reader: &mut PacketReader<R, A>,
-) -> Said
-    requires can { CanSkip codec.old reader.old }
-    requires taken { IsNone reader.old.lent }
-    ensures can { CanSkip codec.new reader.new }
-    ensures taken { IsNone reader.new.lent }
-{
+) -> Said {
+    if !reader.can_skip(codec) {
+        return Said::Wrong;
+    }
     match reader.skip_packet(codec) {
         Ok(true) => Said::Packet,
         Ok(false) => Said::End,
-        Err(error) => said_of(error),
+        Err(error) => said_of(&error),
     }
 }
 
@@ -170,10 +165,10 @@ fn listen<A: Allocator + Copy>(alloc: A, row: &Row, heard: &mut Heard) {
     if !reader.fits(&codec) {
         return;
     }
-    'calls: for _ in 0..row.said.len() {
-        let mut said = skips(&mut codec, &mut reader);
+    for _ in 0..row.said.len() {
+        let mut said = tries(&mut codec, &mut reader);
         if said == Said::OutOfMemory {
-            said = skips(&mut codec, &mut reader);
+            said = tries(&mut codec, &mut reader);
         }
         let _ = heard.said.push(said);
     }
@@ -305,21 +300,6 @@ const LONG_ROWS: &[LongRow] = &[
     },
 ];
 
-// Skips a packet, where it can be skipped.
-fn tries<R: Read, A: Allocator + Copy>(
-    codec: &mut PacketCodec,
-    reader: &mut PacketReader<R, A>,
-) -> Said {
-    if !reader.can_skip(codec) {
-        return Said::Wrong;
-    }
-    match reader.skip_packet(codec) {
-        Ok(true) => Said::Packet,
-        Ok(false) => Said::End,
-        Err(error) => said_of(error),
-    }
-}
-
 // Whether a reader goes as the row says, and leaves nothing unread.
 fn goes_long<A: Allocator + Copy>(alloc: A, row: &LongRow) -> bool {
     let Ok(mut reader) = PacketReader::new(alloc, Parts::new(row.parts, row.until_fault)) else {
@@ -385,34 +365,40 @@ fn held_is_skipped(alloc: Global, until_fault: usize) -> bool {
     all & next_is(&mut codec, &mut reader, b"\0\0") & (codec.sequence_id() == 3)
 }
 
+type ShortReader = PacketReader<Parts<'static>, Global>;
+
 // Whether `can_skip` is false where the limit was lowered below the chunk that is open, and no
 // packet is handed out in the midst of one that is skipped.
-fn lower_limit_is_seen(alloc: Global) -> bool {
-    let Ok(mut reader) = PacketReader::new(alloc, Parts::new(&[(b"\x03\0\0\0", 3)], 1)) else {
-        return false;
-    };
-    let mut codec = PacketCodec::default();
-    codec.max_allowed_packet = 3;
-    let mut all = tries(&mut codec, &mut reader) == Said::Io;
-    all &= !next_is(&mut codec, &mut reader, b"\0\0\0") & (reader.reads() == 2);
+fn lower_limit_is_seen(codec: &mut PacketCodec, reader: &mut ShortReader) -> bool {
+    let mut all = tries(codec, reader) == Said::Io;
+    all &= !next_is(codec, reader, b"\0\0\0") & (reader.reads() == 2);
     codec.max_allowed_packet = 2;
-    all &= !reader.can_skip(&codec) & reader.fits(&codec);
+    all &= !reader.can_skip(codec) & reader.fits(codec);
     codec.max_allowed_packet = 3;
-    all & (tries(&mut codec, &mut reader) == Said::Packet) & (codec.sequence_id() == 1)
+    all & (tries(codec, reader) == Said::Packet) & (codec.sequence_id() == 1)
 }
 
 // The same of a header that is remembered, of a packet that is not skipped yet.
-fn remembered_header_is_seen(alloc: Global) -> bool {
+fn remembered_header_is_seen(codec: &mut PacketCodec, reader: &mut ShortReader) -> bool {
+    let mut all = !next_is(codec, reader, b"\0\0\0") & reader.can_skip(codec);
+    codec.max_allowed_packet = 2;
+    all &= !reader.can_skip(codec) & !reader.fits(codec);
+    codec.max_allowed_packet = 3;
+    all & (tries(codec, reader) == Said::Packet)
+}
+
+// Whether a limit that was lowered is seen, of a packet that is skipped already, or isn't.
+fn limit_is_seen(alloc: Global, is_skipped: bool) -> bool {
     let Ok(mut reader) = PacketReader::new(alloc, Parts::new(&[(b"\x03\0\0\0", 3)], 1)) else {
         return false;
     };
     let mut codec = PacketCodec::default();
     codec.max_allowed_packet = 3;
-    let mut all = !next_is(&mut codec, &mut reader, b"\0\0\0") & reader.can_skip(&codec);
-    codec.max_allowed_packet = 2;
-    all &= !reader.can_skip(&codec) & !reader.fits(&codec);
-    codec.max_allowed_packet = 3;
-    all & (tries(&mut codec, &mut reader) == Said::Packet)
+    if is_skipped {
+        lower_limit_is_seen(&mut codec, &mut reader)
+    } else {
+        remembered_header_is_seen(&mut codec, &mut reader)
+    }
 }
 
 #[test]
@@ -421,7 +407,7 @@ fn packets_are_skipped_from_their_midst(rt: HostRuntime) -> Result<(), Fail> {
     all_hold(&[
         held_is_skipped(alloc, 2049),
         held_is_skipped(alloc, 2050),
-        lower_limit_is_seen(alloc),
-        remembered_header_is_seen(alloc),
+        limit_is_seen(alloc, true),
+        limit_is_seen(alloc, false),
     ])
 }
