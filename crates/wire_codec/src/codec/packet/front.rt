@@ -3,6 +3,7 @@
 ghost use Rattle.std.specs.Prelude.{◌≡◌, ◌↔◌, ◌+◌, ◌<◌, ◌≤◌, [], length, drop, Ok, true, IsTrue, IsSome, IfSome, MatchOption};
 ghost use Rattle.wire_codec.specs.Codec.{codec_state, header_of, Stands, DecodesPacket, ChunkChain};
 ghost use Rattle.wire_codec.specs.Delivery.{chunk_len};
+ghost use Rattle.wire_codec.specs.GoingOn.{Decodes};
 ghost use Rattle.wire_codec.specs.InPlace.{HasFront, front_payload, behind_front};
 ghost use Rattle.wire_codec.specs.LimitedRuns.{DecodesAligned};
 
@@ -90,6 +91,11 @@ impl PacketCodec {
             let after = codec_state self.new (drop result src.now.items)
             (front_payload src.now.items) in
             DecodesAligned before (Ok true) after }
+        // The same in the middle of a stream, of which each byte has its limit.
+        ensures on { let before = codec_state self.old src.now.items [] in
+            let after = codec_state self.new (drop result src.now.items)
+            (front_payload src.now.items) in
+            Decodes before (Ok true) after }
         // One chunk is accepted.
         ensures chain { let before = codec_state self.old src.now.items [] in
             let after = codec_state self.new (drop result src.now.items)
@@ -123,6 +129,10 @@ impl PacketCodec {
         ensures aligned { let before = codec_state self.old src.old.items [] in
             let after = codec_state self.new src.new.items (front_payload src.old.items) in
             DecodesAligned before (Ok true) after }
+        // The same in the middle of a stream, of which each byte has its limit.
+        ensures on { let before = codec_state self.old src.old.items [] in
+            let after = codec_state self.new src.new.items (front_payload src.old.items) in
+            Decodes before (Ok true) after }
         // One chunk is accepted.
         ensures chain { let before = codec_state self.old src.old.items [] in
             let after = codec_state self.new src.new.items (front_payload src.old.items) in

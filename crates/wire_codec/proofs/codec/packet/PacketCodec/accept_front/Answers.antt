@@ -2,8 +2,9 @@ use Rattle.std.proofs.Common.{ℕ, ◌+◌, ◌%◌, List, [], drop, sym, ap, �
 use Rattle.wire_codec.specs.Delivery.{chunk_len}
 use Rattle.wire_codec.specs.Codec.{header_of, DecodesPacket, ChunkChain}
 use Rattle.wire_codec.specs.LimitedRuns.{DecodesAligned}
+use Rattle.wire_codec.specs.GoingOn.{Decodes}
 use Rattle.wire_codec.specs.InPlace.{front_payload}
-use Rattle.wire_codec.proofs.InPlaceLemmas.{state_of, front_decodes, front_aligned, front_chain}
+use Rattle.wire_codec.proofs.InPlaceLemmas.{state_of, front_decodes, front_on, front_aligned, front_chain}
 use Rattle.wire_codec.proofs.codec.packet.PacketCodec.accept_front.Goals as goal
 
 pub returns-clause-decodes : goal.returns-clause-decodes
@@ -35,3 +36,13 @@ returns-clause-chain g c =
     let rest = ap (λ (n : ℕ). drop (4 + n) src) (c.in-Some.ensures.len ∙ ap (λ (z : List ℕ). chunk_len z) c.as_slice.ensures) in
     subst (λ (z : List ℕ). ChunkChain 1 (state_of limit id header src []) (Ok true) (state_of limit ((id + 1) % 256) None z (front_payload src))) (sym rest)
     (front_chain limit id header src c.requires)
+
+pub returns-clause-on : goal.returns-clause-on
+returns-clause-on g c =
+    let limit = c.args.self.now.max_allowed_packet in
+    let id = c.args.self.now.seq_id in
+    let header = header_of c.args.self.now in
+    let src = c.args.src.now.items in
+    let rest = ap (λ (n : ℕ). drop (4 + n) src) (c.in-Some.ensures.len ∙ ap (λ (z : List ℕ). chunk_len z) c.as_slice.ensures) in
+    subst (λ (z : List ℕ). Decodes (state_of limit id header src []) (Ok true) (state_of limit ((id + 1) % 256) None z (front_payload src))) (sym rest)
+    (front_on limit id header src (omega arith) (rw c.as_slice.ensures at c.in-Some.ensures.spelled) c.requires)
