@@ -151,7 +151,7 @@ more_blocks k b h =
     ]
 
 -- the payloads are within the one limit
-are_within : (limits : Limits) (L s : ℕ) (d src more : List ℕ) (ps : List (List ℕ)) (q W : List ℕ) → IsWholeChunks d → IsWholeChunks q → SameLimit limits L d src
+pub are_within : (limits : Limits) (L s : ℕ) (d src more : List ℕ) (ps : List (List ℕ)) (q W : List ℕ) → IsWholeChunks d → IsWholeChunks q → SameLimit limits L d src
     → front s d ++ (src ++ more) ≡ stream s ps ++ (front (id_after s ps) q ++ W) → AreUnder limits 0 d ps q → AreWithin d L ps q
 are_within limits L s d src more [] q W wd wq same is a =
     let long = begins_long d q a.begins in
@@ -187,7 +187,7 @@ place_up place [] = omega arith
 place_up place (p ∷ ps) = let h = place_up (place + framed_size p) ps in omega arith
 
 -- where the rest is judged by the remembered header
-here_fits : (limits : Limits) (L s : ℕ) (d src more : List ℕ) (ps : List (List ℕ)) (q W : List ℕ) → IsWholeChunks d → IsWholeChunks q
+pub here_fits : (limits : Limits) (L s : ℕ) (d src more : List ℕ) (ps : List (List ℕ)) (q W : List ℕ) → IsWholeChunks d → IsWholeChunks q
     → front s d ++ (src ++ more) ≡ stream s ps ++ (front (id_after s ps) q ++ W) → AreUnder limits 0 d ps q
     → chunk_place (place_after 0 ps) (length q / max_payload) + 3 ≡ chunk_place 0 (length d / max_payload) + 3 → 4 ≤ length src → length d + chunk_len src ≤ L
     → length q + chunk_len W ≤ L

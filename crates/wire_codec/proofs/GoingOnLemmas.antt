@@ -16,7 +16,7 @@ use Rattle.wire_codec.specs.Codec.{open_id}
 use Rattle.wire_codec.specs.GoingOn.{GoesOnAt, DecodesOn, TakesOn}
 use Rattle.wire_codec.proofs.ChunkLemmas.{blocks_whole, whole_blocks, blocks_are}
 use Rattle.wire_codec.proofs.LimitedLemmas.{allows_bound, bound_allows, same_block, under_trans, length-front_under}
-use Rattle.wire_codec.proofs.CodecLemmas.{id_at_open, Outcome, outcome_of, outcome_finished, Taken, len_taken, chunk_len_small, taken_last, taken_middle, none_none, short, empty, large, partial, taken, refused}
+use Rattle.wire_codec.proofs.CodecLemmas.{Outcome, outcome_of, outcome_finished, Taken, len_taken, chunk_len_small, taken_last, taken_middle, none_none, short, empty, large, partial, taken, refused}
 
 -- the number by which the chunk in front is judged
 limit_known : (limits : Limits) (mark place limit : ℕ) (src held : List ℕ) → GoesOnAt limits mark place limit None src held → 4 ≤ length src
@@ -284,15 +284,6 @@ takes_later_under answer limits mark place opened first now limit before input h
     takes_on_under answer limits mark place limit first before input held src id header rest dst s
     (subst (λ (z : ℕ). TakesOn limits mark place z first (front first held ++ src) held answer id header rest dst) n
     (subst (λ (z : ℕ). TakesOn limits mark place now z (front z held ++ src) held answer id header rest dst) o t))
-
--- no room for all that a call takes
-pub refused_on : (error : PacketCodecError) (limits : Limits) (mark place limit : ℕ) (h : Option (ℕ × ℕ)) (id new : ℕ) (src held : List ℕ) (header : Option (ℕ × ℕ)) (dst : List ℕ)
-    → error ≡ OutOfMemory → id < 256 → new ≡ id → GoesOnAt limits mark place limit h src held → DecodesChunk h src held limit (Err OutOfMemory) header src dst
-    → DecodesOn limits mark place (open_id id held) (front (open_id id held) held ++ src) held (Err error) new header src dst
-refused_on error limits mark place limit h id new src held header dst is small same g d =
-    subst (λ (z : PacketCodecError). DecodesOn limits mark place (open_id id held) (front (open_id id held) held ++ src) held (Err z) new header src dst) (sym is)
-    (failed_under OutOfMemory limits mark place limit h (open_id id held) new src held header src dst g (same ∙ sym (id_at_open id held small))
-    (outcome_under limits mark place limit h src held (Err OutOfMemory) header src dst g d))
 
 -- where a run begins
 pub length-input : (first : ℕ) (src held : List ℕ) → length (front first held ++ src) ≡ unread_place 0 held + length src

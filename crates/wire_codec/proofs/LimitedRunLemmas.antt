@@ -1,5 +1,5 @@
 -- Runs of decodes under limits, joined.
-use Rattle.std.proofs.Common.{◌≡◌, ℕ, ◌+◌, ◌-◌, ◌/◌, ◌<◌, ◌≤◌, List, [], ◌∷◌, ◌++◌, length, take, drop, refl, sym, ap, ap₂, ◌∙◌, subst, arith, append_assoc, append-nil, length-append, length-drop, take_all, drop_of_length-le, inl, inr, ◌⊎◌, slice_index, Option, Some, None, IsSome, Result, Ok, Err, Bool, false, suc, zero, rules, if◌then◌else◌, ne_eqb, get_or, Bor}
+use Rattle.std.proofs.Common.{◌≡◌, ℕ, ◌+◌, ◌-◌, ◌/◌, ◌<◌, ◌≤◌, List, [], ◌∷◌, ◌++◌, length, take, drop, refl, sym, ap, ap₂, ◌∙◌, subst, arith, append_assoc, append-nil, length-append, length-drop, take_all, drop_of_length-le, inl, inr, ◌⊎◌, slice_index, Option, Some, None, IsSome, Result, Ok, Err, Bool, suc, zero, rules, if◌then◌else◌, ne_eqb, get_or, Bor}
 use Rattle.std.proofs.lemmas.List.{take-append-le, drop-append-le, take_more, flat_map_more, take-append-drop}
 use Rattle.std.proofs.lemmas.Bool.{cases_lt, lt-ltb, le-ltb}
 use Rattle.wire_codec.specs.declared.codec.error.PacketCodecError.{PacketCodecError}
@@ -12,8 +12,7 @@ use Rattle.wire_codec.specs.LimitedRuns.{AlignedAt, unread_place, RunsUnder, Lea
 use Rattle.wire_codec.specs.GoingOn.{GoesOnAt, DecodesOn, HavePieceLimits, Remembers}
 use Rattle.wire_codec.proofs.ChunkLemmas.{length-framing}
 use Rattle.wire_codec.proofs.DeliveryLemmas.{stream-append, id_after-append}
-use Rattle.wire_codec.proofs.CodecLemmas.{open_at_id}
-use Rattle.wire_codec.proofs.RunLemmas.{front-nil, nothing_whole, id_after_small, chunk_len_append, id_append, open_waiting}
+use Rattle.wire_codec.proofs.RunLemmas.{front-nil, nothing_whole, chunk_len_append, id_append, open_waiting}
 use Rattle.wire_codec.proofs.LimitedLemmas.{begins_long, bound_allows, under_append, place_after-append, splits_join_under, delivers_join_under, length-front_under, length-splits_under}
 use Rattle.wire_codec.proofs.GoingOnLemmas.{aligned_without, start_mark, start_mark_some}
 
@@ -121,28 +120,17 @@ stays_on OutOfMemory limits mark place limit s h q W id (Some header) src dst g 
           ap limits there ∙ g.same (unread_place place dst + i - unread_place place q) (omega arith) (omega arith);
     }
 
--- a run stops as its last decode does
-pub runs_stop_under : (error : PacketCodecError) (limits : Limits) (mark place : ℕ) (d S : List ℕ) (s : ℕ) (ps : List (List ℕ)) (q W : List ℕ) (id : ℕ) (header : Option (ℕ × ℕ)) (src dst : List ℕ)
-    → s < 256 → SplitsUnder limits place d S s ps q W
-    → DecodesOn limits mark (place_after place ps) (id_after s ps) (front (id_after s ps) q ++ W) q (Err error) id header src dst
-    → RunsUnder limits place s S d (Err error) ps id header src dst × (error ≡ OutOfMemory → Remembers mark (place_after place ps) header src dst)
-runs_stop_under PacketTooLarge limits mark place d S s ps q W id header src dst h a t =
-    ((delivers_still_under limits place d S s ps q W TooLarge dst src a t.0.0, t.0.1, t.0.2), λ e. absurd cc)
-runs_stop_under PacketsOutOfSync limits mark place d S s ps q W id header src dst h a t =
-    let r = t.0 in
-    ((r.0, r.1, delivers_still_under limits place d S s ps q W OutOfSync r.0 r.1 a r.2, r.3, r.4, r.5, r.6), λ e. absurd cc)
-runs_stop_under OutOfMemory limits mark place d S s ps q W id header src dst h a t = (
-  (splits_still_under limits place d S s ps q W dst src a t.0.0, ap (λ (n : ℕ). open_id n dst) t.0.1 ∙ open_at_id (id_after s ps) dst (id_after_small s ps h), t.0.2, t.0.3),
-  λ e long before. t.0.4,
-)
-runs_stop_under (Io e) limits mark place d S s ps q W id header src dst h a t = absurd t.0
-
-pub runs_wait_under : (limits : Limits) (mark place : ℕ) (d S : List ℕ) (s : ℕ) (ps : List (List ℕ)) (q W : List ℕ) (id : ℕ) (header : Option (ℕ × ℕ)) (src dst : List ℕ)
+-- a run that hands out no more stops as its last step does
+pub runs_still_under : (answer : Result (Unit {0}) PacketCodecError) (limits : Limits) (place : ℕ) (d S : List ℕ) (s : ℕ) (ps : List (List ℕ)) (q W : List ℕ) (id : ℕ) (header : Option (ℕ × ℕ)) (src dst : List ℕ)
     → SplitsUnder limits place d S s ps q W
-    → DecodesOn limits mark (place_after place ps) (id_after s ps) (front (id_after s ps) q ++ W) q (Ok false) id header src dst
-    → RunsUnder limits place s S d (Ok tt) ps id header src dst
-runs_wait_under limits mark place d S s ps q W id header src dst a t =
-    (delivers_still_under limits place d S s ps q W Waiting dst src a t.0.0, t.0.1, t.0.2, t.0.3)
+    → RunsUnder limits (place_after place ps) (id_after s ps) (front (id_after s ps) q ++ W) q answer [] id header src dst
+    → RunsUnder limits place s S d answer ps id header src dst
+runs_still_under (Ok u) limits place d S s ps q W id header src dst a t = (delivers_still_under limits place d S s ps q W Waiting dst src a t.0, t.1, t.2, t.3)
+runs_still_under (Err PacketTooLarge) limits place d S s ps q W id header src dst a t = (delivers_still_under limits place d S s ps q W TooLarge dst src a t.0, t.1, t.2)
+runs_still_under (Err PacketsOutOfSync) limits place d S s ps q W id header src dst a t =
+    (t.0, t.1, delivers_still_under limits place d S s ps q W OutOfSync t.0 t.1 a t.2, t.3, t.4, t.5, t.6)
+runs_still_under (Err OutOfMemory) limits place d S s ps q W id header src dst a t = (splits_still_under limits place d S s ps q W dst src a t.0, t.1, t.2, t.3)
+runs_still_under (Err (Io e)) limits place d S s ps q W id header src dst a t = absurd t
 
 -- a run, and then one over what came since
 pub runs_join_under : (answer : Result (Unit {0}) PacketCodecError) (limits : Limits) (place : ℕ) (d S : List ℕ) (s : ℕ) (ps : List (List ℕ)) (q W x : List ℕ) (qs : List (List ℕ)) (id : ℕ) (header : Option (ℕ × ℕ)) (src dst : List ℕ)
@@ -412,41 +400,6 @@ goes_on_with limits mark place limit limit' header header' src src' held l h e g
     subst (λ (z : ℕ). GoesOnAt limits mark place z header' src' held) (sym l)
     (subst (λ (z : Option (ℕ × ℕ)). GoesOnAt limits mark place limit z src' held) (sym h)
     (subst (λ (z : List ℕ). GoesOnAt limits mark place limit header z held) (sym e) g))
-
--- a run that decodes until it waits, in any place of a stream
-abbrev pub Drains : ℕ → ℕ → Option (ℕ × ℕ) → List ℕ → List ℕ → List (List ℕ) → Result (Unit {0}) PacketCodecError → List (List ℕ) → ℕ → ℕ → Option (ℕ × ℕ) → List ℕ → List ℕ → Type 0
-Drains limit id header src held out answer out' limit' id' header' src' dst' =
-    (limits : Limits) (mark place : ℕ) → GoesOnAt limits mark place limit header src held
-    → (gained : List (List ℕ)) × (out' ≡ out ++ gained)
-    × RunsUnder limits place (open_id id held) (front (open_id id held) held ++ src) held answer gained id' header' src' dst'
-    × (answer ≡ Err OutOfMemory → GoesOnAt limits mark (place_after place gained) limit' header' src' dst')
-
--- what a run over so many pieces, and then over one more, makes of them
-pub one_more : (answer : Result (Unit {0}) PacketCodecError) (limits : Limits) (place first : ℕ) (input held : List ℕ) (pieces : List (ℕ × Bor (List ℕ))) (i : ℕ) (d : ℕ × Bor (List ℕ))
-    (gained : List (List ℕ)) (id : ℕ) (header : Option (ℕ × ℕ)) (src dst : List ℕ)
-    (limit id' : ℕ) (header' : Option (ℕ × ℕ)) (src' : List ℕ) (start out out' : List (List ℕ)) (limit'' id'' : ℕ) (header'' : Option (ℕ × ℕ)) (src'' dst'' : List ℕ)
-    → HavePieceLimits limits (place + length input) pieces → i < length pieces → first < 256
-    → RunsUnder limits place first (input ++ limited_bytes (take i pieces)) held (Ok tt) gained id header src dst → out ≡ start ++ gained
-    → limit ≡ (get_or pieces i d).0 → id' ≡ id → header' ≡ header → src' ≡ src ++ (get_or pieces i d).1.now
-    → Drains limit id' header' src' dst out answer out' limit'' id'' header'' src'' dst''
-    → (all : List (List ℕ)) × (out' ≡ start ++ all)
-    × RunsUnder limits place first (input ++ limited_bytes (take (i + 1) pieces)) held answer all id'' header'' src'' dst''
-    × (answer ≡ Err OutOfMemory → GoesOnAt limits (place + length (input ++ limited_bytes (take i pieces))) (place_after place all) limit'' header'' src'' dst'')
-one_more answer limits place first input held pieces i d gained id header src dst limit id' header' src' start out out' limit'' id'' header'' src'' dst'' known inside small run is set same_id same_header came drains =
-    let piece : ℕ × Bor (List ℕ) = get_or pieces i d in
-    let S : List ℕ = input ++ limited_bytes (take i pieces) in
-    let at = goes_on_with limits (place + length S) (place_after place gained) piece.0 limit header header' (src ++ piece.1.now) src' dst set same_header came
-    (goes_on_next limits place first input held pieces i d gained id header src dst known inside run) in
-    let more = drains limits (place + length S) (place_after place gained) at in
-    let opened : open_id id' dst ≡ id_after first gained = ap (λ (n : ℕ). open_id n dst) same_id ∙ open_waiting first gained id dst small run.1 in
-    let next = shifted_under answer limits (place_after place gained) (open_id id' dst) (id_after first gained) dst src' (src ++ piece.1.now) more.0 id'' header'' src'' dst'' opened came more.2 in
-    let ends : place_after (place_after place gained) more.0 ≡ place_after place (gained ++ more.0) = sym (place_after-append place gained more.0) in (
-      gained ++ more.0,
-      more.1 ∙ ap (λ (z : List (List ℕ)). z ++ more.0) is ∙ append_assoc start gained more.0,
-      subst (λ (z : List ℕ). RunsUnder limits place first z held answer (gained ++ more.0) id'' header'' src'' dst'') (limited_more input pieces i d inside)
-          (runs_join_under answer limits place held S first gained dst src piece.1.now more.0 id'' header'' src'' dst'' run.0.splits next),
-      λ e. subst (λ (n : ℕ). GoesOnAt limits (place + length S) n limit'' header'' src'' dst'') ends (more.3 e),
-    )
 
 -- what a run over pieces leaves, where it stopped
 pub stopped_leaves : (error : PacketCodecError) (limits : Limits) (place first : ℕ) (input held : List ℕ) (pieces : List (ℕ × Bor (List ℕ))) (count : ℕ) (gained : List (List ℕ))

@@ -1,17 +1,15 @@
 -- Runs of decodes, joined.
-use Rattle.std.proofs.Common.{◌≡◌, ℕ, ◌+◌, ◌<◌, ◌≤◌, List, [], ◌∷◌, ◌++◌, length, take, drop, refl, sym, ap, ap₂, ◌∙◌, subst, arith, append_assoc, append-nil, length-append, length-drop, inl, inr, ◌⊎◌, slice_index, Option, Some, None, Result, Ok, Err, false, ◌≢◌}
-use Rattle.std.proofs.lemmas.List.Elements.{All-nil}
-use Rattle.std.proofs.lemmas.List.{take-append-le, drop-append-le, get_or_append_left, take_more, flat_map_more, take-append-drop, take_all, drop_all}
-use Rattle.std.proofs.Common.{Bor, get_or}
+use Rattle.std.proofs.Common.{◌≡◌, ℕ, ◌<◌, ◌≤◌, List, [], ◌∷◌, ◌++◌, length, refl, sym, ap, ◌∙◌, subst, arith, append_assoc, append-nil, length-append, inl, inr, ◌⊎◌, slice_index, Option, Some, None, Result, Ok, Err, ◌≢◌}
+use Rattle.std.proofs.lemmas.List.{take-append-le, get_or_append_left}
 use Rattle.wire_buf.specs.Numbers.{le_number}
 use Rattle.wire_codec.specs.declared.codec.error.PacketCodecError.{PacketCodecError}
 use Rattle.wire_codec.specs.declared.codec.error.PacketCodecError.TheVariants.{PacketTooLarge, OutOfMemory, PacketsOutOfSync, Io}
-use Rattle.wire_codec.specs.Framing.{max_payload, framing, front, next_id, stream, id_after}
-use Rattle.wire_codec.specs.Delivery.{chunk_len, id_at, IsWholeChunks, Continues, Splits, Ending, Waiting, TooLarge, OutOfSync, Delivers}
-use Rattle.wire_codec.specs.Codec.{Stands, StandsAt, CodecState, open_id, first_id, input_of, DecodesFrom}
-use Rattle.wire_codec.specs.Runs.{RunsFrom, RunsTo, LeavesFrom, joined}
+use Rattle.wire_codec.specs.Framing.{max_payload, front, next_id, stream, id_after}
+use Rattle.wire_codec.specs.Delivery.{chunk_len, id_at, IsWholeChunks, Splits, Waiting, TooLarge, OutOfSync}
+use Rattle.wire_codec.specs.Codec.{Stands, StandsAt, CodecState, open_id, first_id, input_of}
+use Rattle.wire_codec.specs.Runs.{RunsFrom, RunsTo}
 use Rattle.wire_codec.specs.Laws.{appended, empty_state}
-use Rattle.wire_codec.proofs.DeliveryLemmas.{stream-append, id_after-append, within_append, splits_join, delivers_join}
+use Rattle.wire_codec.proofs.DeliveryLemmas.{id_after-append, splits_join, delivers_join}
 use Rattle.wire_codec.proofs.CodecLemmas.{open_at_id, open_small, stands_without}
 
 -- nothing unfinished
@@ -26,59 +24,6 @@ nothing_whole = refl
 pub id_after_small : (s : ℕ) (ps : List (List ℕ)) → s < 256 → id_after s ps < 256
 id_after_small s [] h = h
 id_after_small s (p ∷ ps) h = id_after_small (next_id s p) ps (omega arith)
-
--- a run goes on to another
-pub splits_trans : (d S : List ℕ) (s L : ℕ) (ps : List (List ℕ)) (q W : List ℕ) (qs : List (List ℕ)) (r V : List ℕ)
-    → Splits d S s L ps q W → Splits q (front (id_after s ps) q ++ W) (id_after s ps) L qs r V → Splits d S s L (ps ++ qs) r V
-splits_trans d S s L ps q W qs r V a b = record {
-  is =
-      let A : List ℕ = stream s ps in
-      let B : List ℕ = stream (id_after s ps) qs in
-      let G : List ℕ = front (id_after (id_after s ps) qs) r in
-      a.is ∙ ap (λ (z : List ℕ). A ++ z) b.is ∙ sym (append_assoc A B (G ++ V))
-      ∙ ap₂ (λ (u v : List ℕ). u ++ v) (sym (stream-append s ps qs)) (ap (λ (i : ℕ). front i r ++ V) (sym (id_after-append s ps qs)));
-  held_whole = a.held_whole;
-  unfinished_whole = b.unfinished_whole;
-  within = within_append d L ps qs q r a.within b.within;
-}
-
--- a run that hands out no more
-pub splits_still : (d S : List ℕ) (s L : ℕ) (ps : List (List ℕ)) (q W r V : List ℕ)
-    → Splits d S s L ps q W → Splits q (front (id_after s ps) q ++ W) (id_after s ps) L [] r V → Splits d S s L ps r V
-splits_still d S s L ps q W r V a b =
-    subst (λ (z : List (List ℕ)). Splits d S s L z r V) (append-nil ps) (splits_trans d S s L ps q W [] r V a b)
-
-pub delivers_still : (d S : List ℕ) (s L : ℕ) (ps : List (List ℕ)) (q W : List ℕ) (e : Ending) (r V : List ℕ)
-    → Splits d S s L ps q W → Delivers q (front (id_after s ps) q ++ W) (id_after s ps) L [] e r V → Delivers d S s L ps e r V
-delivers_still d S s L ps q W e r V a b = record { splits = splits_still d S s L ps q W r V a b.splits; ends = b.ends }
-
--- a run that hands out one more
-pub splits_push : (d S : List ℕ) (s L : ℕ) (ps : List (List ℕ)) (q W p V : List ℕ)
-    → Splits d S s L ps q W → front (id_after s ps) q ++ W ≡ framing (id_after s ps) p ++ V → Continues q L p → Splits d S s L (ps ++ p ∷ []) [] V
-splits_push d S s L ps q W p V a e c =
-    let t : ℕ = id_after s ps in
-    let more : Splits q (front t q ++ W) t L (p ∷ []) [] V = record {
-      is = e ∙ ap₂ (λ (u v : List ℕ). u ++ v) (sym (append-nil (framing t p))) (ap (λ (z : List ℕ). z ++ V) (sym (front-nil (next_id t p))));
-      held_whole = a.unfinished_whole;
-      unfinished_whole = nothing_whole;
-      within = (c, All-nil (λ (o : List ℕ). length o ≤ L), omega arith);
-    } in
-    splits_trans d S s L ps q W (p ∷ []) [] V a more
-
--- a run stops as its last decode does
-pub runs_stop : (error : PacketCodecError) (d S : List ℕ) (s L : ℕ) (ps : List (List ℕ)) (q W : List ℕ) (id : ℕ) (header : Option (ℕ × ℕ)) (src dst : List ℕ)
-    → s < 256 → Splits d S s L ps q W → DecodesFrom (id_after s ps) (front (id_after s ps) q ++ W) q L (Err error) id header src dst
-    → RunsFrom s S d L (Err error) ps id header src dst
-runs_stop PacketTooLarge d S s L ps q W id header src dst h a t = (delivers_still d S s L ps q W TooLarge dst src a t.0, t.1, t.2)
-runs_stop PacketsOutOfSync d S s L ps q W id header src dst h a t = (t.0, t.1, delivers_still d S s L ps q W OutOfSync t.0 t.1 a t.2, t.3, t.4, t.5, t.6)
-runs_stop OutOfMemory d S s L ps q W id header src dst h a t =
-    (splits_still d S s L ps q W dst src a t.0, ap (λ (n : ℕ). open_id n dst) t.1 ∙ open_at_id (id_after s ps) dst (id_after_small s ps h), t.2)
-runs_stop (Io e) d S s L ps q W id header src dst h a t = t
-
-pub runs_wait : (d S : List ℕ) (s L : ℕ) (ps : List (List ℕ)) (q W : List ℕ) (id : ℕ) (header : Option (ℕ × ℕ)) (src dst : List ℕ)
-    → Splits d S s L ps q W → DecodesFrom (id_after s ps) (front (id_after s ps) q ++ W) q L (Ok false) id header src dst
-    → RunsFrom s S d L (Ok tt) ps id header src dst
-runs_wait d S s L ps q W id header src dst a t = (delivers_still d S s L ps q W Waiting dst src a t.0, t.1, t.2, t.3)
 
 -- the next packet of a run
 pub next_open : (s : ℕ) (ps : List (List ℕ)) (id : ℕ) (p : List ℕ) → id ≡ next_id (id_after s ps) p → id < 256 → open_id id [] ≡ id_after s (ps ++ p ∷ [])
@@ -124,40 +69,6 @@ splits_extend d S s L ps q W x a = record {
   within = a.within;
 }
 
-pub runs_over : (error : PacketCodecError) (d S : List ℕ) (s L : ℕ) (ps : List (List ℕ)) (id : ℕ) (header : Option (ℕ × ℕ)) (src x dst : List ℕ)
-    → RunsFrom s S d L (Err error) ps id header src dst → LeavesFrom s (S ++ x) d L (Err error) ps src x dst
-runs_over PacketTooLarge d S s L ps id header src x dst r =
-    let e = r.0.ends in
-    let l = chunk_len_append src x e.0 in
-    record {
-      splits = splits_extend d S s L ps dst src x r.0.splits;
-      ends = (rw length-append (omega (arith, e.0)), omega (arith, l, e.1), omega (arith, l, e.2));
-    }
-runs_over PacketsOutOfSync d S s L ps id header src x dst r =
-    let q : List ℕ = r.0 in
-    let W : List ℕ = r.1 in
-    let e = r.2.ends in
-    let long : 4 ≤ length W = omega (arith, e.0) in
-    let l : chunk_len (W ++ x) ≡ chunk_len W = chunk_len_append W x long in
-    let room : 4 + chunk_len W ≤ length W = e.0 in
-    let room' : chunk_len W ≤ length (drop 4 W) = rw length-drop (omega arith) in
-    let i : slice_index (W ++ x) 3 ≡ slice_index W 3 = id_append W x long in (
-      q,
-      W ++ x,
-      record {
-        splits = splits_extend d S s L ps q W x r.2.splits;
-        ends = (
-          rw (l, length-append) (omega (arith, room)),
-          elim e.1 [ inl none ↦ inl (l ∙ none) | inr fits ↦ inr (omega (arith, l, fits)) ],
-          λ same. e.2 (sym i ∙ same),
-        );
-      },
-      r.3 ∙ ap (λ (z : List ℕ). q ++ z) (sym (ap (λ (n : ℕ). take n (drop 4 (W ++ x))) l ∙ ap (λ (z : List ℕ). take (chunk_len W) z) (drop-append-le 4 W x long) ∙ take-append-le (chunk_len W) (drop 4 W) x room')),
-      ap (λ (z : List ℕ). z ++ x) r.4 ∙ sym (ap (λ (n : ℕ). drop (4 + n) (W ++ x)) l ∙ drop-append-le (4 + chunk_len W) W x room),
-    )
-runs_over OutOfMemory d S s L ps id header src x dst r = splits_extend d S s L ps dst src x r.0
-runs_over (Io e) d S s L ps id header src x dst r = r
-
 -- after everything but a lost sync the codec stands
 pub runs_stand : (answer : Result (Unit {0}) PacketCodecError) (first : ℕ) (input held : List ℕ) (limit now : ℕ) (gained : List (List ℕ)) (id : ℕ) (header : Option (ℕ × ℕ)) (src dst : List ℕ)
     → now ≡ limit → RunsFrom first input held limit answer gained id header src dst → answer ≢ Err PacketsOutOfSync → StandsAt now header src dst
@@ -167,35 +78,9 @@ runs_stand (Err PacketsOutOfSync) first input held limit now gained id header sr
 runs_stand (Err OutOfMemory) first input held limit now gained id header src dst n r other = subst (λ (z : ℕ). StandsAt z header src dst) (sym n) r.2
 runs_stand (Err (Io e)) first input held limit now gained id header src dst n r other = absurd r
 
--- where all pieces were appended, none are left
-pub runs_all : (held input : List ℕ) (first limit : ℕ) (gained : List (List ℕ)) (src dst : List ℕ) (pieces : List (Bor (List ℕ))) (n : ℕ) → length pieces ≤ n
-    → Delivers held (input ++ joined (take n pieces)) first limit gained Waiting dst src
-    → LeavesFrom first (input ++ joined pieces) held limit (Ok tt) gained src (joined (drop n pieces)) dst
-runs_all held input first limit gained src dst pieces n all d =
-    let none : src ++ joined (drop n pieces) ≡ src = ap (λ (z : List (Bor (List ℕ))). src ++ joined z) (drop_all n pieces all) ∙ append-nil src in
-    subst (λ (z : List (Bor (List ℕ))). Delivers held (input ++ joined z) first limit gained Waiting dst (src ++ joined (drop n pieces))) (take_all n pieces all)
-    (subst (λ (z : List ℕ). Delivers held (input ++ joined (take n pieces)) first limit gained Waiting dst z) (sym none) d)
-
 -- the open id of a codec that waits
 pub open_waiting : (s : ℕ) (ps : List (List ℕ)) (id : ℕ) (dst : List ℕ) → s < 256 → id ≡ id_at (id_after s ps) dst → open_id id dst ≡ id_after s ps
 open_waiting s ps id dst h e = ap (λ (n : ℕ). open_id n dst) e ∙ open_at_id (id_after s ps) dst (id_after_small s ps h)
-
--- one piece more of a stream
-pub stream_more : (input : List ℕ) (pieces : List (Bor (List ℕ))) (i : ℕ) (d : Bor (List ℕ)) → i < length pieces
-    → (input ++ joined (take i pieces)) ++ (get_or pieces i d).now ≡ input ++ joined (take (i + 1) pieces)
-stream_more input pieces i d h =
-    flat_map_more (λ (piece : Bor (List ℕ)). piece.now) input (take i pieces) (get_or pieces i d)
-    ∙ ap (λ (z : List (Bor (List ℕ))). input ++ joined z) (sym (take_more pieces i d h))
-
-joined-append : (xs ys : List (Bor (List ℕ))) → joined (xs ++ ys) ≡ joined xs ++ joined ys
-joined-append [] ys = refl
-joined-append (x ∷ xs) ys = ap (λ (z : List ℕ). x.now ++ z) (joined-append xs ys) ∙ sym (append_assoc x.now (joined xs) (joined ys))
-
--- the pieces that are left
-pub stream_rest : (input : List ℕ) (pieces : List (Bor (List ℕ))) (i : ℕ) → (input ++ joined (take i pieces)) ++ joined (drop i pieces) ≡ input ++ joined pieces
-stream_rest input pieces i =
-    append_assoc input (joined (take i pieces)) (joined (drop i pieces))
-    ∙ ap (λ (z : List ℕ). input ++ z) (sym (joined-append (take i pieces) (drop i pieces)) ∙ ap (λ (z : List (Bor (List ℕ))). joined z) (take-append-drop i pieces))
 
 -- bytes appended to what is to be read
 pub appended_run_is : (before after : CodecState) (more : List ℕ) (answer : Result (Unit {0}) PacketCodecError) (gained : List (List ℕ))

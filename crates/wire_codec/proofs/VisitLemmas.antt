@@ -1,34 +1,11 @@
 -- Packets that are visited, one after another.
-use Rattle.std.proofs.Common.{◌≡◌, ℕ, List, [], ◌∷◌, ◌++◌, ◌+◌, ◌≢◌, take, drop, refl, sym, ap, ap₂, ◌∙◌, subst, Result, Ok, Err, Bool, Option}
-use Rattle.std.specs.List.{FoldsTo}
+use Rattle.std.proofs.Common.{◌≡◌, ℕ, List, ◌++◌, ◌+◌, ◌≢◌, take, drop, refl, sym, ap, ap₂, ◌∙◌, Result, Ok, Err}
 use Rattle.wire_codec.specs.declared.codec.error.PacketCodecError.{PacketCodecError}
 use Rattle.wire_codec.specs.declared.codec.error.PacketCodecError.TheVariants.{PacketTooLarge, PacketsOutOfSync, OutOfMemory, Io}
-use Rattle.wire_codec.specs.Framing.{front}
 use Rattle.wire_codec.specs.Delivery.{chunk_len, Ending, Waiting, TooLarge, OutOfSync, Delivers}
 use Rattle.wire_codec.specs.Runs.{LeavesFrom, RunsOver}
 use Rattle.wire_codec.proofs.DeliveryLemmas.{one_delivery_is}
-use Rattle.wire_codec.specs.Codec.{CodecState, first_id, input_of, DecodesFrom}
-use Rattle.wire_codec.specs.Visits.{VisitsPacket}
-
--- steps, and more steps
-pub FoldsTo-append : {P A : Type 0} (R : P → A → P → Type 0) (p : P) (xs : List A) (q : P) (ys : List A) (r : P) → FoldsTo R p xs q → FoldsTo R q ys r
-    → FoldsTo R p (xs ++ ys) r
-FoldsTo-append R p [] q ys r e more = subst (λ z. FoldsTo R z ys r) (sym e) more
-FoldsTo-append R p (x ∷ xs) q ys r (j, step, rest) more = (j, step, FoldsTo-append R j xs q ys r rest more)
-
--- what a decode does, under the run's open id and limit
-pub moved : (answer : Result Bool PacketCodecError) (opened first now limit : ℕ) (held src : List ℕ) (id : ℕ) (header : Option (ℕ × ℕ)) (rest dst : List ℕ)
-    → opened ≡ first → now ≡ limit
-    → DecodesFrom opened (front opened held ++ src) held now answer id header rest dst
-    → DecodesFrom first (front first held ++ src) held limit answer id header rest dst
-moved answer opened first now limit held src id header rest dst o n t =
-    subst (λ (z : ℕ). DecodesFrom first (front first held ++ src) held z answer id header rest dst) n
-    (subst (λ (z : ℕ). DecodesFrom z (front z held ++ src) held now answer id header rest dst) o t)
-
--- what a visit does, by its answer
-pub visited : {V : Type 0} (sees : V → List ℕ → V → Type 0) (answer other : Bool) (old new : V) (before after : CodecState) → answer ≡ other
-    → VisitsPacket sees before (Ok answer) old new after → VisitsPacket sees before (Ok other) old new after
-visited sees answer other old new before after same t = subst (λ (b : Bool). VisitsPacket sees before (Ok b) old new after) same t
+use Rattle.wire_codec.specs.Codec.{CodecState, first_id, input_of}
 
 -- how a run ends, and what it leaves, by how its delivery ends
 abbrev answer_of : Ending → Result (Unit {0}) PacketCodecError

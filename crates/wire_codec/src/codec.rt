@@ -7,7 +7,9 @@ mod framing;
 pub mod header;
 mod limited;
 mod packet;
+mod pieces;
 mod room;
+mod taking;
 mod value;
 
 pub use chunk::{ChunkDecoder, ChunkInfo, PacketDst};

@@ -1,18 +1,54 @@
 //! Packets from a stream that comes in pieces.
 
-ghost use Rattle.std.specs.Prelude.{◌≡◌, ◌≢◌, ℕ, ◌+◌, ◌<◌, ◌≤◌, List, [], ◌∷◌, ◌++◌, length, take, drop, Err, OnOk, vec_len, vec_capacity};
-ghost use Rattle.wire_codec.specs.Codec.{codec_state, first_id, input_of, Stands};
+ghost use Rattle.std.specs.Prelude.{◌≡◌, ◌≢◌, ℕ, ◌<◌, ◌≤◌, List, [], ◌∷◌, ◌++◌, length, take, drop, Err, OnOk, vec_len, vec_capacity};
+ghost use Rattle.wire_codec.specs.Codec.{codec_state, Stands};
 ghost use Rattle.wire_codec.specs.Delivery.{IsBounded};
-ghost use Rattle.wire_codec.specs.Runs.{payloads, joined, RunsFrom, RunsTo, RunsOver, Waits};
+ghost use Rattle.wire_codec.specs.Runs.{payloads, joined, RunsTo, RunsOver, Waits};
 
 use crate::codec::error::PacketCodecError;
 use crate::codec::packet::PacketCodec;
+use crate::codec::pieces::take_pieces;
+use crate::codec::taking::Takes;
 use bytes::BytesMut;
 use std::alloc::Allocator;
 use std::mem;
 
+// Each packet is moved to the end of a list.
+pub(crate) struct Collects;
+
+impl<A: Allocator + Copy> Takes<A, Vec<Vec<u8, A>, A>> for Collects {
+    ghost use Rattle.std.proofs.Common.{rules};
+    ghost use Rattle.std.proofs.lemmas.Grind.{common_steps};
+
+    ghost took = { λ old gained new. payloads new.items ≡ payloads old.items ++ gained };
+
+    ghost none = { λ old. Prim.search (rules, common_steps) };
+
+    ghost joins = { λ old mid new ps qs first more. Prim.search (rules, common_steps) };
+
+    #[inline(always)]
+    fn take_next(
+        codec: &mut PacketCodec,
+        src: &mut BytesMut<A>,
+        dst: &mut Vec<u8, A>,
+        out: &mut Vec<Vec<u8, A>, A>,
+    ) -> Result<bool, PacketCodecError> {
+        if out.reserve(1).is_err() {
+            return Err(PacketCodecError::OutOfMemory);
+        }
+        match codec.decode_on(src, dst) {
+            Ok(true) => {
+                hand_out(dst, out);
+                Ok(true)
+            }
+            Ok(false) => Ok(false),
+            Err(error) => Err(error),
+        }
+    }
+}
+
 // Moves a packet to the end of the list, where there is room.
-pub(crate) fn hand_out<A: Allocator + Copy>(dst: &mut Vec<u8, A>, out: &mut Vec<Vec<u8, A>, A>)
+fn hand_out<A: Allocator + Copy>(dst: &mut Vec<u8, A>, out: &mut Vec<Vec<u8, A>, A>)
     requires { vec_len out.old < vec_capacity out.old }
     ensures packet { payloads out.new.items ≡ payloads out.old.items ++ dst.old.items ∷ [] }
     ensures empty { dst.new.items ≡ [] }
@@ -20,31 +56,6 @@ pub(crate) fn hand_out<A: Allocator + Copy>(dst: &mut Vec<u8, A>, out: &mut Vec<
     let alloc = *dst.allocator();
     let packet = mem::replace(dst, Vec::new(alloc));
     let _ = out.push(packet);
-}
-
-// Decodes until more bytes are needed.
-fn drain<A: Allocator + Copy>(
-    codec: &mut PacketCodec,
-    src: &mut BytesMut<A>,
-    dst: &mut Vec<u8, A>,
-    out: &mut Vec<Vec<u8, A>, A>,
-) -> Result<(), PacketCodecError>
-    requires { Stands (codec_state codec.old src.old.items dst.old.items) }
-    ensures runs { let before = codec_state codec.old src.old.items dst.old.items in
-        let after = codec_state codec.new src.new.items dst.new.items in
-        (gained : List (List ℕ)) × (payloads out.new.items ≡ payloads out.old.items ++ gained)
-        × RunsFrom (first_id before) (input_of before) before.held before.limit result gained
-        after.id after.header after.unread after.held }
-    ensures limit { codec.new.max_allowed_packet ≡ codec.old.max_allowed_packet }
-{
-    'packets: loop {
-        out.reserve(1)?;
-        match codec.decode(src, dst) {
-            Ok(true) => hand_out(dst, out),
-            Ok(false) => return Ok(()),
-            Err(error) => return Err(error),
-        }
-    }
 }
 
 /// Decodes what `src` holds, then appends one piece after another to `src` and decodes after each,
@@ -82,21 +93,5 @@ pub fn deliver<A: Allocator + Copy>(
         → Stands (codec_state codec.new src.new.items dst.new.items) }
     ensures limit { codec.new.max_allowed_packet ≡ codec.old.max_allowed_packet }
 {
-    match drain(codec, src, dst, out) {
-        Ok(()) => {}
-        Err(error) => return (0, Err(error)),
-    }
-    let mut count = 0;
-    for piece in pieces {
-        match src.extend_from_slice(piece) {
-            Ok(()) => {}
-            Err(_) => return (count, Err(PacketCodecError::OutOfMemory)),
-        }
-        count += 1;
-        match drain(codec, src, dst, out) {
-            Ok(()) => {}
-            Err(error) => return (count, Err(error)),
-        }
-    }
-    (count, Ok(()))
+    take_pieces::<A, Vec<Vec<u8, A>, A>, Collects, &[u8]>(codec, src, dst, pieces, out)
 }

@@ -1,14 +1,16 @@
 //! Packets from a stream that comes in pieces, each visited where it lies.
 
-ghost use Rattle.std.specs.Prelude.{◌≡◌, ◌≢◌, ℕ, ◌<◌, ◌≤◌, List, length, take, drop, Ok, Err, OnOk, true};
+ghost use Rattle.std.specs.Prelude.{◌≡◌, ◌≢◌, ℕ, ◌<◌, ◌≤◌, List, length, take, drop, Err, OnOk};
 ghost use Rattle.std.specs.List.{FoldsTo};
-ghost use Rattle.wire_codec.specs.Codec.{codec_state, first_id, input_of, Stands};
+ghost use Rattle.wire_codec.specs.Codec.{codec_state, Stands};
 ghost use Rattle.wire_codec.specs.Delivery.{IsBounded};
-ghost use Rattle.wire_codec.specs.Runs.{joined, RunsFrom, RunsTo, RunsOver, Waits};
-ghost use Rattle.wire_codec.specs.Visits.{VisitsPacket};
+ghost use Rattle.wire_codec.specs.Runs.{joined, RunsTo, RunsOver, Waits};
+ghost use Rattle.wire_codec.specs.Taking.{FoldsTo-append};
 
 use crate::codec::error::PacketCodecError;
 use crate::codec::packet::PacketCodec;
+use crate::codec::pieces::take_pieces;
+use crate::codec::taking::Takes;
 use bytes::BytesMut;
 use std::alloc::Allocator;
 
@@ -22,56 +24,38 @@ pub trait Visit {
         ensures { sees self.old packet.now self.new };
 }
 
-// Visits the next packet, where it lies or else in `dst`. False where more bytes are needed.
-#[inline(always)]
-fn visit_packet<A: Allocator + Copy, V: Visit>(
-    codec: &mut PacketCodec,
-    src: &mut BytesMut<A>,
-    dst: &mut Vec<u8, A>,
-    visitor: &mut V,
-) -> Result<bool, PacketCodecError>
-    requires { Stands (codec_state codec.old src.old.items dst.old.items) }
-    ensures visits { VisitsPacket V.sees (codec_state codec.old src.old.items dst.old.items)
-        result visitor.old visitor.new (codec_state codec.new src.new.items dst.new.items) }
-    ensures shorter { result ≡ Ok true → length src.new.items < length src.old.items }
-    ensures limit { codec.new.max_allowed_packet ≡ codec.old.max_allowed_packet }
-{
-    if let Some(packet) = codec.front_packet(src, dst.as_slice()) {
-        visitor.visit(packet);
-        codec.take_front(src);
-        return Ok(true);
-    }
-    match codec.decode(src, dst) {
-        Ok(true) => {
-            visitor.visit(dst.as_slice());
-            dst.clear();
-            Ok(true)
-        }
-        other => other,
-    }
-}
+// Each packet is visited, where it lies or else in `dst`.
+pub(crate) struct Visits;
 
-// Visits packets until more bytes are needed.
-#[inline(always)]
-fn visit_all<A: Allocator + Copy, V: Visit>(
-    codec: &mut PacketCodec,
-    src: &mut BytesMut<A>,
-    dst: &mut Vec<u8, A>,
-    visitor: &mut V,
-) -> Result<(), PacketCodecError>
-    requires { Stands (codec_state codec.old src.old.items dst.old.items) }
-    ensures runs { let before = codec_state codec.old src.old.items dst.old.items in
-        let after = codec_state codec.new src.new.items dst.new.items in
-        (gained : List (List ℕ)) × FoldsTo V.sees visitor.old gained visitor.new
-        × RunsFrom (first_id before) (input_of before) before.held before.limit result gained
-        after.id after.header after.unread after.held }
-    ensures limit { codec.new.max_allowed_packet ≡ codec.old.max_allowed_packet }
-{
-    'packets: loop {
-        match visit_packet(codec, src, dst, visitor) {
-            Ok(true) => {}
-            Ok(false) => return Ok(()),
-            Err(error) => return Err(error),
+impl<A: Allocator + Copy, V: Visit> Takes<A, V> for Visits {
+    ghost use Rattle.std.proofs.Common.{refl};
+
+    ghost took = { λ old gained new. FoldsTo V.sees old gained new };
+
+    ghost none = { λ old. refl };
+
+    ghost joins = { λ old mid new ps qs first more. FoldsTo-append V.sees old mid new ps qs first more };
+
+    #[inline(always)]
+    fn take_next(
+        codec: &mut PacketCodec,
+        src: &mut BytesMut<A>,
+        dst: &mut Vec<u8, A>,
+        out: &mut V,
+    ) -> Result<bool, PacketCodecError> {
+        if let Some(packet) = codec.front_packet(src, dst.as_slice()) {
+            out.visit(packet);
+            codec.take_front(src);
+            return Ok(true);
+        }
+        match codec.decode_on(src, dst) {
+            Ok(true) => {
+                out.visit(dst.as_slice());
+                dst.clear();
+                Ok(true)
+            }
+            Ok(false) => Ok(false),
+            Err(error) => Err(error),
         }
     }
 }
@@ -111,21 +95,5 @@ pub fn deliver_each<A: Allocator + Copy, V: Visit>(
         → Stands (codec_state codec.new src.new.items dst.new.items) }
     ensures limit { codec.new.max_allowed_packet ≡ codec.old.max_allowed_packet }
 {
-    match visit_all(codec, src, dst, visitor) {
-        Ok(()) => {}
-        Err(error) => return (0, Err(error)),
-    }
-    let mut count = 0;
-    for piece in pieces {
-        match src.extend_from_slice(piece) {
-            Ok(()) => {}
-            Err(_) => return (count, Err(PacketCodecError::OutOfMemory)),
-        }
-        count += 1;
-        match visit_all(codec, src, dst, visitor) {
-            Ok(()) => {}
-            Err(error) => return (count, Err(error)),
-        }
-    }
-    (count, Ok(()))
+    take_pieces::<A, V, Visits, &[u8]>(codec, src, dst, pieces, visitor)
 }

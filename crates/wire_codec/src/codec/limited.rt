@@ -1,60 +1,18 @@
 //! Packets from a stream whose pieces each have a limit.
 
-ghost use Rattle.std.specs.Prelude.{◌≡◌, ◌≢◌, ℕ, ◌+◌, ◌<◌, ◌≤◌, List, ◌++◌, length, take, Err, OnOk, OnErr, IfErr};
-ghost use Rattle.wire_codec.specs.Limited.{Limits, place_after};
-ghost use Rattle.wire_codec.specs.LimitedRuns.{Aligned, RunsUnder, RunsLimited, WaitsLimited, last_limit};
+ghost use Rattle.std.specs.Prelude.{◌≡◌, ◌≢◌, ℕ, ◌+◌, ◌<◌, ◌≤◌, List, ◌++◌, length, take, Err, OnOk};
+ghost use Rattle.wire_codec.specs.Limited.{Limits};
+ghost use Rattle.wire_codec.specs.LimitedRuns.{Aligned, RunsLimited, WaitsLimited, last_limit};
 ghost use Rattle.wire_codec.specs.GoingOn.{GoesOn, HavePieceLimits, RunsOn};
-ghost use Rattle.wire_codec.specs.Codec.{codec_state, expected_id, first_id, header_of, input_of};
+ghost use Rattle.wire_codec.specs.Codec.{codec_state, input_of};
 ghost use Rattle.wire_codec.specs.Runs.{payloads};
 
-use crate::codec::delivery::hand_out;
+use crate::codec::delivery::Collects;
 use crate::codec::error::PacketCodecError;
 use crate::codec::packet::PacketCodec;
+use crate::codec::pieces::take_pieces;
 use bytes::BytesMut;
 use std::alloc::Allocator;
-
-// Decodes under this limit until more bytes are needed, whatever limits the earlier bytes came
-// under. The limit is the codec's then.
-fn drain_on<A: Allocator + Copy>(
-    codec: &mut PacketCodec,
-    src: &mut BytesMut<A>,
-    dst: &mut Vec<u8, A>,
-    limit: usize,
-    out: &mut Vec<Vec<u8, A>, A>,
-) -> Result<(), PacketCodecError>
-    ensures on { let before = record (codec_state codec.old src.old.items dst.old.items)
-        { limit = limit } in
-        let after = codec_state codec.new src.new.items dst.new.items in
-        (limits : Limits) (mark place : ℕ) → GoesOn limits mark place before
-        → (gained : List (List ℕ)) × (payloads out.new.items ≡ payloads out.old.items ++ gained)
-        × RunsUnder limits place (first_id before) (input_of before) before.held result gained
-        after.id after.header after.unread after.held
-        × (result ≡ Err PacketCodecError.OutOfMemory
-        → GoesOn limits mark (place_after place gained) after) }
-    ensures limit { codec.new.max_allowed_packet ≡ limit }
-{
-    codec.max_allowed_packet = limit;
-    'packets: loop {
-        if out.reserve(1).is_err() {
-            return Err(PacketCodecError::OutOfMemory);
-        }
-        match codec.decode_on(src, dst) {
-            Ok(true) => hand_out(dst, out),
-            Ok(false) => return Ok(()),
-            Err(error) => return Err(error),
-        }
-    }
-}
-
-// Appends a piece.
-fn append<A: Allocator + Copy>(src: &mut BytesMut<A>, piece: &[u8]) -> Result<(), PacketCodecError>
-    ensures src { OnOk result (src.new.items ≡ src.old.items ++ piece.now) }
-    ensures memory { IfErr result (λ error. error ≡ PacketCodecError.OutOfMemory) }
-    ensures kept { OnErr result (src.new.items ≡ src.old.items) }
-{
-    src.extend_from_slice(piece)?;
-    Ok(())
-}
 
 /// `deliver` under limits that move: each piece comes with the limit of the packets whose headers
 /// it ends, and once it is appended that limit is the codec's. What `src` holds at the start is
@@ -98,22 +56,5 @@ pub fn deliver_limited<A: Allocator + Copy>(
     ensures limit { codec.new.max_allowed_packet
         ≡ last_limit codec.old.max_allowed_packet (take result.0 pieces.now) }
 {
-    let own = codec.max_allowed_packet;
-    match drain_on(codec, src, dst, own, out) {
-        Ok(()) => {}
-        Err(error) => return (0, Err(error)),
-    }
-    let mut count = 0;
-    for piece in pieces {
-        match append(src, piece.1) {
-            Ok(()) => {}
-            Err(error) => return (count, Err(error)),
-        }
-        count += 1;
-        match drain_on(codec, src, dst, piece.0, out) {
-            Ok(()) => {}
-            Err(error) => return (count, Err(error)),
-        }
-    }
-    (count, Ok(()))
+    take_pieces::<A, Vec<Vec<u8, A>, A>, Collects, (usize, &[u8])>(codec, src, dst, pieces, out)
 }

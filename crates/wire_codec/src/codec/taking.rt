@@ -1,0 +1,62 @@
+//! What becomes of the packets of a run, and the loop that takes them.
+
+ghost use Rattle.std.specs.Prelude.{◌≡◌, ℕ, ◌<◌, ◌++◌, List, [], length, Ok, true};
+ghost use Rattle.wire_codec.specs.Codec.{codec_state};
+ghost use Rattle.wire_codec.specs.GoingOn.{GoesOn};
+ghost use Rattle.wire_codec.specs.Limited.{Limits};
+ghost use Rattle.wire_codec.specs.Taking.{TakesNext, Drains};
+
+use crate::codec::error::PacketCodecError;
+use crate::codec::packet::PacketCodec;
+use bytes::BytesMut;
+use std::alloc::Allocator;
+
+// A way in which `O` takes packets.
+pub(crate) trait Takes<A: Allocator + Copy, O> {
+    // What so many packets, taken one after another, make of it.
+    ghost took: { O → List (List ℕ) → O → Type 0 };
+
+    // Decodes the next packet, which is taken. False where more bytes are needed.
+    fn take_next(
+        codec: &mut PacketCodec,
+        src: &mut BytesMut<A>,
+        dst: &mut Vec<u8, A>,
+        out: &mut O,
+    ) -> Result<bool, PacketCodecError>
+        ensures takes { let before = codec_state codec.old src.old.items dst.old.items in
+            let after = codec_state codec.new src.new.items dst.new.items in
+            (limits : Limits) (mark place : ℕ) → GoesOn limits mark place before
+            → TakesNext took limits mark place before result out.old out.new after }
+        ensures shorter { result ≡ Ok true → length src.new.items < length src.old.items }
+        ensures limit { codec.new.max_allowed_packet ≡ codec.old.max_allowed_packet };
+
+    ghost none: { (old : O) → took old [] old };
+
+    ghost joins: { (old mid new : O) (ps qs : List (List ℕ)) → took old ps mid → took mid qs new
+        → took old (ps ++ qs) new };
+}
+
+// Takes packets under this limit until more bytes are needed, whatever limits the earlier bytes
+// came under. The limit is the codec's then.
+#[inline(always)]
+pub(crate) fn drain<A: Allocator + Copy, O, K: Takes<A, O>>(
+    codec: &mut PacketCodec,
+    src: &mut BytesMut<A>,
+    dst: &mut Vec<u8, A>,
+    limit: usize,
+    out: &mut O,
+) -> Result<(), PacketCodecError>
+    ensures on { Drains K.took (record (codec_state codec.old src.old.items dst.old.items)
+        { limit = limit })
+        result out.old out.new (codec_state codec.new src.new.items dst.new.items) }
+    ensures limit { codec.new.max_allowed_packet ≡ limit }
+{
+    codec.max_allowed_packet = limit;
+    'packets: loop {
+        match K::take_next(codec, src, dst, out) {
+            Ok(true) => {}
+            Ok(false) => return Ok(()),
+            Err(error) => return Err(error),
+        }
+    }
+}
