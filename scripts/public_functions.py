@@ -61,7 +61,8 @@ class Sources:
     """What one file has to know of the others."""
 
     def __init__(self, files):
-        self.traits, self.exported, self.public_modules = set(), set(), set()
+        self.traits, self.hidden_traits = set(), set()
+        self.exported, self.public_modules = set(), set()
         declarations = {}
         for path, lines in files.items():
             text = "\n".join(lines)
@@ -71,6 +72,8 @@ class Sources:
             for name in re.findall(r"^pub mod (\w+);", text, re.M):
                 self.public_modules.add(f"{folder}/{name}")
             self.traits |= set(re.findall(r"^pub (?:unsafe )?trait (\w+)", text, re.M))
+            hidden = re.findall(r"^(?:pub\(\w+\) )?(?:unsafe )?trait (\w+)", text, re.M)
+            self.hidden_traits |= set(hidden)
             for found in WHOLE_DECLARATION.finditer(text):
                 declarations[found["name"]] = words(found[0])
         self.owners, more = set(OWNERS), True
@@ -95,11 +98,11 @@ class Sources:
 class Head:
     """The head of an impl or a trait, and what its methods are named by."""
 
-    def __init__(self, text, traits):
+    def __init__(self, text, sources):
         self.text = text
         self.is_trait = "trait " in text[:17]
-        self.is_of_ours, self.given = self.is_trait, ""
-        name = re.sub(r"^(pub )?(unsafe )?(impl|trait) ?", "", text)
+        self.is_of_ours, self.given = self.is_trait and text.startswith("pub "), ""
+        name = re.sub(r"^(pub(\(\w+\))? )?(unsafe )?(impl|trait) ?", "", text)
         self.is_foreign = False
         if not self.is_trait:
             name = bracketed(name)[1].strip()
@@ -107,8 +110,9 @@ class Head:
             trait_name = re.match(r"\w*", trait)[0]
             if is_for:
                 name = for_type
-                self.is_of_ours = trait_name in traits
-                self.is_foreign = not self.is_of_ours
+                self.is_of_ours = trait_name in sources.traits
+                is_hidden = trait_name in sources.hidden_traits
+                self.is_foreign = not self.is_of_ours and not is_hidden
             if self.is_of_ours:
                 name = trait_name
             if self.is_foreign and trait != trait_name:
@@ -179,7 +183,7 @@ class Finder:
                 derive = None
             elif HEAD.match(line):
                 text = item(lines, at)
-                head = None if text.endswith("{}") else Head(text, self.sources.traits)
+                head = None if text.endswith("{}") else Head(text, self.sources)
                 while not re.search(r"[{}]$", lines[at]):
                     at += 1
             elif found := FUNCTION.match(line):
