@@ -5,7 +5,7 @@ use std::alloc::{Allocator, Global};
 use std::test::Fail;
 use test_support::facts::{ensure, no_row};
 use test_support::generated::Draws;
-use test_support::receiver::{Receiver, Run, are_packets};
+use test_support::receiver::{Receiver, Run, Tally, are_packets};
 use test_support::reference::{between, header_at, low_byte};
 use test_support::told::Told;
 
@@ -157,6 +157,18 @@ fn pieces_with(pieces: &[Piece<'_>], bytes: usize) -> usize {
     pieces.len()
 }
 
+// Whether a visitor sees as many bytes in the same run.
+fn is_visited(alloc: Global, given: &Limited, packets: &[&[u8]], run: Run) -> bool {
+    let mut bytes = 0usize;
+    for packet in packets {
+        bytes = bytes.wrapping_add(packet.len());
+    }
+    let mut tally = Tally { bytes: 0 };
+    let mut to = Receiver::new(alloc, 0);
+    let visited = to.visit_limited(given.pieces.as_slice(), &mut tally);
+    (visited == run) & (tally.bytes == bytes)
+}
+
 // Whether the run over the pieces is what the plain reading of the whole stream says.
 fn agrees(alloc: Global, stream: &[u8], given: &Limited) -> bool {
     let mut packets = Vec::new(alloc);
@@ -174,7 +186,9 @@ fn agrees(alloc: Global, stream: &[u8], given: &Limited) -> bool {
     let mut to = Receiver::new(alloc, 0);
     let run = to.deliver_limited(given.pieces.as_slice());
     let appended = pieces_with(given.pieces.as_slice(), next.1);
-    (run == (appended, next.0)) & are_packets(to.out.as_slice(), packets.as_slice())
+    (run == (appended, next.0))
+        & are_packets(to.out.as_slice(), packets.as_slice())
+        & is_visited(alloc, given, packets.as_slice(), run)
 }
 
 /// Whether a run over these pieces of the stream, each with a limit, is what the reference says.

@@ -105,6 +105,7 @@ pub use mysql_wire::proto::codec::PacketDst;
 pub use mysql_wire::proto::codec::Visit;
 pub use mysql_wire::proto::codec::deliver;
 pub use mysql_wire::proto::codec::deliver_each;
+pub use mysql_wire::proto::codec::deliver_each_limited;
 pub use mysql_wire::proto::codec::deliver_limited;
 pub use mysql_wire::proto::codec::encode_value;
 pub use mysql_wire::proto::codec::error::PacketCodecError;

@@ -8,7 +8,8 @@ use bytes::{Buf, BytesMut};
 use refusing::NEVER;
 use std::alloc::Allocator;
 use wire_codec::codec::{
-    PacketCodec, Visit, deliver, deliver_each, deliver_limited, encode_value, packet_to_chunks,
+    PacketCodec, Visit, deliver, deliver_each, deliver_each_limited, deliver_limited, encode_value,
+    packet_to_chunks,
 };
 use wire_repr::text::{EofBytes, RawBytes};
 
@@ -138,6 +139,21 @@ impl<A: Allocator + Copy> Receiver<A> {
             return (0, Told::Fallen);
         }
         let (count, answer) = deliver_each(
+            &mut self.codec,
+            &mut self.src,
+            &mut self.dst,
+            pieces,
+            visitor,
+        );
+        (count, Told::of_deliver(answer))
+    }
+
+    /// As `deliver_limited`, where a visitor sees the packets.
+    pub fn visit_limited<V: Visit>(&mut self, pieces: &[(usize, &[u8])], visitor: &mut V) -> Run {
+        if !self.codec.aligned_at(&self.src, self.dst.as_slice()) {
+            return (0, Told::Fallen);
+        }
+        let (count, answer) = deliver_each_limited(
             &mut self.codec,
             &mut self.src,
             &mut self.dst,

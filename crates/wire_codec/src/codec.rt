@@ -16,6 +16,6 @@ pub use chunk::{ChunkDecoder, ChunkInfo, PacketDst};
 pub use delivery::deliver;
 pub use each::{Visit, deliver_each};
 pub use framing::packet_to_chunks;
-pub use limited::deliver_limited;
+pub use limited::{deliver_each_limited, deliver_limited};
 pub use packet::{PacketCodec, Skipped};
 pub use value::encode_value;

@@ -36,6 +36,7 @@ pub enum Runner {
     Deliver,
     DeliverEach,
     DeliverLimited,
+    DeliverEachLimited,
 }
 
 /// A function by its name, and how often it asks for memory where none is refused.
@@ -57,6 +58,11 @@ pub const ROWS: &[Row] = &[
         "deliver_limited",
         Taking::Deliver(Runner::DeliverLimited),
         6,
+    ),
+    (
+        "deliver_each_limited",
+        Taking::Deliver(Runner::DeliverEachLimited),
+        3,
     ),
     ("PacketReader::next_packet", Taking::NextPacket, 2),
     ("PacketReader::fill_packet", Taking::FillPacket, 1),
@@ -203,12 +209,13 @@ where
         Runner::Deliver => to.deliver(pieces_from(&PIECES, from)),
         Runner::DeliverEach => to.visit(pieces_from(&PIECES, from), tally),
         Runner::DeliverLimited => to.deliver_limited(&LIMITED[from.min(3)..]),
+        Runner::DeliverEachLimited => to.visit_limited(&LIMITED[from.min(3)..], tally),
     }
 }
 
 // Whether the packets were handed out, or visited, and this is left.
 fn is_run<A: Allocator + Copy>(to: &Receiver<A>, runner: Runner, tally: &Tally) -> bool {
-    if matches!(runner, Runner::DeliverEach) {
+    if matches!(runner, Runner::DeliverEach | Runner::DeliverEachLimited) {
         (tally.bytes == 4) & to.shows(&[], b"\0", b"")
     } else {
         to.shows(&[b"123", b"\xff"], b"\0", b"")

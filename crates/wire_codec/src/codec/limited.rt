@@ -1,6 +1,7 @@
 //! Packets from a stream whose pieces each have a limit.
 
 ghost use Rattle.std.specs.Prelude.{◌≡◌, ◌≢◌, ℕ, ◌+◌, ◌<◌, ◌≤◌, List, ◌++◌, length, take, Err, OnOk};
+ghost use Rattle.std.specs.List.{FoldsTo};
 ghost use Rattle.wire_codec.specs.Limited.{Limits};
 ghost use Rattle.wire_codec.specs.LimitedRuns.{Aligned, RunsLimited, WaitsLimited, last_limit};
 ghost use Rattle.wire_codec.specs.GoingOn.{GoesOn, HavePieceLimits, RunsOn};
@@ -8,6 +9,7 @@ ghost use Rattle.wire_codec.specs.Codec.{codec_state, input_of};
 ghost use Rattle.wire_codec.specs.Runs.{payloads};
 
 use crate::codec::delivery::Collects;
+use crate::codec::each::{Visit, Visits};
 use crate::codec::error::PacketCodecError;
 use crate::codec::packet::PacketCodec;
 use crate::codec::pieces::take_pieces;
@@ -57,4 +59,46 @@ pub fn deliver_limited<A: Allocator + Copy>(
         ≡ last_limit codec.old.max_allowed_packet (take result.0 pieces.now) }
 {
     take_pieces::<A, Vec<Vec<u8, A>, A>, Collects, (usize, &[u8])>(codec, src, dst, pieces, out)
+}
+
+/// As `deliver_limited`, and each packet is visited in place of being handed out, as `deliver_each`
+/// does. The answers and what stands afterwards are those of `deliver_limited`; what was visited is
+/// what `deliver_limited` hands out.
+///
+/// It asks that the codec is aligned at the buffers; `aligned_at` is the test. Memory is asked for
+/// where a piece is appended to `src`, and for a packet of several chunks.
+pub fn deliver_each_limited<A: Allocator + Copy, V: Visit>(
+    codec: &mut PacketCodec,
+    src: &mut BytesMut<A>,
+    dst: &mut Vec<u8, A>,
+    pieces: &[(usize, &[u8])],
+    visitor: &mut V,
+) -> (usize, Result<(), PacketCodecError>)
+    requires { Aligned (codec_state codec.old src.old.items dst.old.items) }
+    // One visit after another, of the packets of the delivery.
+    ensures runs { let before = codec_state codec.old src.old.items dst.old.items in
+        let after = codec_state codec.new src.new.items dst.new.items in
+        (gained : List (List ℕ)) × FoldsTo V.sees visitor.old gained visitor.new
+        × RunsLimited before pieces.now result.0 result.1 gained after }
+
+    // The same in the middle of a stream, of which each byte has its limit.
+    ensures on { let before = codec_state codec.old src.old.items dst.old.items in
+        let after = codec_state codec.new src.new.items dst.new.items in
+        (limits : Limits) (mark place : ℕ) → GoesOn limits mark place before
+        → HavePieceLimits limits (place + length (input_of before)) pieces.now
+        → (gained : List (List ℕ)) × FoldsTo V.sees visitor.old gained visitor.new
+        × RunsOn limits place before pieces.now result.0 result.1 gained after }
+
+    // So many pieces were appended, and with fewer of them the run only waits.
+    ensures count { result.0 ≤ length pieces.now }
+    ensures least { let before = codec_state codec.old src.old.items dst.old.items in
+        (j : ℕ) → j < result.0 → WaitsLimited before pieces.now j }
+    ensures all { OnOk result.1 (result.0 ≡ length pieces.now) }
+
+    ensures aligned { result.1 ≢ Err PacketCodecError.PacketsOutOfSync
+        → Aligned (codec_state codec.new src.new.items dst.new.items) }
+    ensures limit { codec.new.max_allowed_packet
+        ≡ last_limit codec.old.max_allowed_packet (take result.0 pieces.now) }
+{
+    take_pieces::<A, V, Visits, (usize, &[u8])>(codec, src, dst, pieces, visitor)
 }
