@@ -2,3 +2,4 @@ pub mod RenumberLemmas
 pub mod SpanLemmas
 pub mod MixLemmas
 pub mod FrameLemmas
+pub mod PartLemmas

@@ -141,7 +141,7 @@ header_renumbers came limit i j n len id size at count P R ends after e small sa
       header_on limit j n len j size (front_bytes came) y ends after (λ k. other.5 k) small refl fits is_size passes,
     )
 
-take_front : (xs ys : List ℕ) → take (length xs) (xs ++ ys) ≡ xs
+pub take_front : (xs ys : List ℕ) → take (length xs) (xs ++ ys) ≡ xs
 take_front [] ys = refl
 take_front (x ∷ xs) ys = ap (λ (z : List ℕ). x ∷ z) (take_front xs ys)
 

@@ -2,6 +2,7 @@
 //! has it by calling.
 
 ghost use Rattle.wire_span.specs.SpanLaws.{JoinedRenumberings, JoinedSpans, NothingCame, OneSpanning, RenumberedStream, SpansBegin, SpansDeliver, SpansEnd, SpansFollow, SpansStop};
+ghost use Rattle.wire_span.specs.Parts.{SpansStand};
 ghost use Rattle.wire_span.specs.FrameLaws.{FramedPacket, FramedStream, FramesFront, JoinedFrames, NothingFramed};
 
 use wire_codec::laws::one_delivery;
@@ -33,6 +34,11 @@ pub fn spans_end()
 /// Where a decoder of spans stops, the stream's delivery does: in front of the same chunk.
 pub fn spans_stop()
     ensures { SpansStop }
+{}
+
+/// A decoder that stands where some stream brings it still does so behind more bytes.
+pub fn spans_stand()
+    ensures { SpansStand }
 {}
 
 /// Two cuttings of one stream agree, in the packets, in the bytes of the open one, and in where the

@@ -11,6 +11,7 @@ use wire_codec::codec::error::PacketCodecError;
 use wire_codec::codec::header::{HEADER_LEN, Header};
 use wire_const::{DEFAULT_MAX_ALLOWED_PACKET, MAX_PAYLOAD_LEN};
 
+pub(crate) mod parts;
 pub(crate) mod renumber;
 
 /// Why a stream stops.
