@@ -24,7 +24,7 @@ use wire_repr::wire::Wire;
 pub use wire_span::laws::{
     framed_packet, framed_stream, frames_front, joined_frames, joined_renumberings, joined_spans,
     nothing_came, nothing_framed, one_spanning, renumbered_stream, spans_begin, spans_deliver,
-    spans_end, spans_follow, spans_stop,
+    spans_end, spans_follow, spans_stand, spans_stop,
 };
 
 /// Reads a value from the front of a payload, as `parse_packet_in` does. Where what a value was

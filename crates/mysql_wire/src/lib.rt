@@ -89,8 +89,8 @@ pub mod proto {
             deliver_each_limited, deliver_limited, encode_value, error, packet_to_chunks,
         };
         pub use wire_span::{
-            FramePart, FrameWriter, Renumber, Span, SpanDecoder, SpanError, UnfinishedPacket,
-            VisitSpan, visit_spans,
+            FramePart, FrameWriter, Renumber, Span, SpanDecoder, SpanError, SpanParts,
+            UnfinishedPacket, VisitSpan, visit_spans,
         };
     }
 
