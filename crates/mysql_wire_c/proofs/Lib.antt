@@ -1,3 +1,4 @@
 pub mod AsBox
 pub mod SideLemmas
 pub mod FieldLemmas
+pub mod SpanLemmas

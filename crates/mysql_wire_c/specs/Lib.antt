@@ -2,6 +2,7 @@ pub mod Side
 pub mod Answers
 pub mod Calls
 pub mod Fields
+pub mod Spans
 pub mod Messages
 pub mod Owned
 pub mod Lent

@@ -12,6 +12,9 @@ pub const WAITS: i32 = 0;
 /// A packet stands whole.
 pub const PACKET: i32 = 1;
 
+/// Bytes of a packet.
+pub const SPAN: i32 = 2;
+
 /// The packet is above the limit.
 pub const TOO_LARGE: i32 = -1;
 
@@ -42,6 +45,9 @@ pub const MISSING_BYTES: i32 = -9;
 /// No number begins here, or no number has this width.
 pub const NOT_A_NUMBER: i32 = -10;
 
+/// The record is of no stream, wherever it stood.
+pub const INVALID_STATE: i32 = -11;
+
 /// The text for a code, and a zero.
 pub fn text(code: i32) -> &'static [u8]
     ensures { result.now ≡ message code ++ 0 ∷ [] }
@@ -49,6 +55,7 @@ pub fn text(code: i32) -> &'static [u8]
     match code {
         OK => b"done, or more bytes are needed\0",
         PACKET => b"a packet stands whole\0",
+        SPAN => b"bytes of a packet\0",
         TOO_LARGE => b"the packet is above the limit\0",
         OUT_OF_SYNC => b"a packet bears another number than the expected one\0",
         NO_MEMORY => b"out of memory\0",
@@ -59,6 +66,7 @@ pub fn text(code: i32) -> &'static [u8]
         NO_PACKET => b"there is no packet to take\0",
         MISSING_BYTES => b"the bytes end inside a field\0",
         NOT_A_NUMBER => b"no number begins here, or no number has this width\0",
+        INVALID_STATE => b"the record is of no stream\0",
         _ => b"unknown code\0",
     }
 }

@@ -13,18 +13,22 @@ ghost use Rattle.mysql_wire_c.specs.declared.codes.TheConstants.{MISSING_BYTES, 
 ghost use Rattle.mysql_wire_c.specs.Answers.{new_connection};
 ghost use Rattle.mysql_wire_c.specs.Calls.{Both, BothStates, Feeds, Peeks, LendsInPlace, Takes, CopiesNext, SetsLimit, unread_count, Encodes, Sends, Resets, Numbers};
 ghost use Rattle.mysql_wire_c.specs.Messages.{message};
+ghost use Rattle.mysql_wire.specs.Spans.{IsBetween};
+ghost use Rattle.mysql_wire_c.specs.Spans.{state_of, IsValid, NextSpan, Renumbers};
 ghost use Rattle.mysql_wire_c.specs.Fields.{IsCutShort, IsMark, ReadsAt, WritesAt, text_at};
 
 pub mod codes;
 pub mod connection;
 pub mod fields;
 pub mod handle;
+pub mod spans;
 pub mod view;
 
 use crate::codes::{CLOSED, IS_OPEN, NO_MEMORY, OK, PACKET};
 use crate::connection::boxed;
 use crate::fields::Span;
 use crate::handle::Handle;
+use crate::spans::Spans;
 use crate::view::View;
 use std::alloc::Global;
 use std::mem;
@@ -252,6 +256,43 @@ pub extern "C" fn mysql_wire_sequence_id(handle: &mut Handle) -> i32
         return CLOSED;
     }
     handle.connection().sequence_id()
+}
+
+/// Begins a stream of packets, between two of them.
+#[unsafe(no_mangle)]
+pub extern "C" fn mysql_wire_spans_init(spans: &mut Spans, limit: usize, id: u8)
+    ensures valid { IsValid spans.new }
+    ensures between { IsBetween (state_of spans.new) }
+    ensures settings { (spans.new.limit ≡ limit) × (spans.new.id ≡ id)
+        × (spans.new.next_id ≡ id) }
+{
+    *spans = spans::begin(limit, id);
+}
+
+/// Eats the front of bytes that came, up to the end of the next span of a packet.
+#[unsafe(no_mangle)]
+pub extern "C" fn mysql_wire_spans_next(
+    spans: &mut Spans,
+    bytes: &[u8],
+    used: &mut usize,
+    span: &mut View,
+    ends: &mut u8,
+) -> i32
+    ensures { NextSpan bytes.now used.new span.new.len ends.new result spans.old spans.new }
+{
+    spans::next_span(spans, bytes, used, span, ends)
+}
+
+/// Writes other numbers over those of the packets that came.
+#[unsafe(no_mangle)]
+pub extern "C" fn mysql_wire_spans_renumber(
+    spans: &mut Spans,
+    bytes: &mut [u8],
+    used: &mut usize,
+) -> i32
+    ensures { Renumbers bytes.old bytes.new used.new result spans.old spans.new }
+{
+    spans::renumber(spans, bytes, used)
 }
 
 /// The text for a code, ended by a zero that isn't counted.
