@@ -89,6 +89,7 @@ enum {
     MYSQL_WIRE_OK = 0,
     MYSQL_WIRE_WAITS = 0,           /* no packet is whole: feed more bytes */
     MYSQL_WIRE_PACKET = 1,          /* a packet stands whole */
+    MYSQL_WIRE_SPAN = 2,            /* bytes of a packet */
     MYSQL_WIRE_TOO_LARGE = -1,      /* the packet is above the limit */
     MYSQL_WIRE_OUT_OF_SYNC = -2,    /* a packet bears another number than the expected one */
     MYSQL_WIRE_NO_MEMORY = -3,      /* memory was refused: the same call may be made again */
@@ -98,8 +99,9 @@ enum {
     MYSQL_WIRE_PACKET_WAITS = -7,   /* a packet must be taken first */
     MYSQL_WIRE_NO_PACKET = -8,      /* there is no packet to take */
     MYSQL_WIRE_MISSING_BYTES = -9,  /* the bytes end inside a field */
-    MYSQL_WIRE_NOT_A_NUMBER = -10   /* fb or ff where a length-encoded integer has to stand, or a
+    MYSQL_WIRE_NOT_A_NUMBER = -10,  /* fb or ff where a length-encoded integer has to stand, or a
                                        width that isn't 1 to 8 */
+    MYSQL_WIRE_INVALID_STATE = -11  /* the `mysql_wire_spans` is of no stream */
 };
 
 /* The version of the library: 10000 times its first number, 100 times its second, and its third. */
@@ -192,6 +194,74 @@ int32_t mysql_wire_reset(mysql_wire_connection *connection);
 
 /* The number of the next packet: 0 to 255. CLOSED; OUT_OF_SYNC: the stream is lost. */
 int32_t mysql_wire_sequence_id(mysql_wire_connection *connection);
+
+/*
+ * --- packets in spans ---
+ * Packets of any size in constant memory: what came of each is lent where it came, in as many spans
+ * as bytes come in, and nothing is kept or copied. Or their numbers are written over in place, and
+ * the bytes go on.
+ *
+ *     mysql_wire_spans spans;
+ *     mysql_wire_spans_init(&spans, 1 << 30, 0);
+ *     while ((count = read(socket, room, sizeof room)) > 0) {
+ *         const uint8_t *bytes = room;
+ *         size_t len = count, used;
+ *         mysql_wire_view span;
+ *         uint8_t ends;
+ *         while ((code = mysql_wire_spans_next(&spans, bytes, len, &used, &span, &ends)) ==
+ *                MYSQL_WIRE_SPAN) {
+ *             use(span.at, span.len, ends);
+ *             bytes += used;
+ *             len -= used;
+ *         }
+ *         if (code != MYSQL_WIRE_WAITS) break;
+ *     }
+ */
+
+/*
+ * The place in a stream, in the caller's memory: there is nothing to close, and a copy goes on by
+ * itself. `limit`, `id` and `next_id` may be read and set between any two calls; the other fields
+ * are read, not set. Whatever a record is filled with, no call reads or writes outside of what it
+ * was given: INVALID_STATE is the answer where no stream stands so.
+ * Between two packets `size` and `header_len` are 0.
+ */
+typedef struct mysql_wire_spans {
+    size_t limit;         /* the most bytes of a packet, for the headers to come */
+    size_t size;          /* how many bytes the open packet has, up to the end of its open chunk */
+    size_t left;          /* how many bytes of that chunk are to come */
+    uint8_t header[3];    /* what came of the next header, and zeros */
+    uint8_t header_len;   /* how many bytes came of it */
+    uint8_t id;           /* the number that the next chunk is to bear */
+    uint8_t next_id;      /* the number that `mysql_wire_spans_renumber` gives it */
+    uint8_t reserved[34]; /* set by `mysql_wire_spans_init`, for later versions */
+} mysql_wire_spans;
+
+/* Begins a stream, between two packets; `id` is the number of the next one, and it is given it. */
+void mysql_wire_spans_init(mysql_wire_spans *spans, size_t limit, uint8_t id);
+
+/*
+ * Eats `used` bytes from the front. Their last ones are the next bytes of a packet's payload, which
+ * `span` lends; `ends` is 1 where they are the packet's last, and else 0. An empty packet is one
+ * span of no bytes, and so is the end of a packet of a multiple of 16777215 bytes. The id is
+ * counted on.
+ * SPAN. WAITS: all bytes were used up (no span; feed what comes next). TOO_LARGE: with the chunk in
+ * front the packet would be above the limit; under a larger limit the same call goes on.
+ * OUT_OF_SYNC: the chunk in front bears another number. INVALID_STATE. Each refusal uses no byte
+ * and leaves `spans`; each but SPAN leaves an empty `span` and an `ends` of 0.
+ */
+int32_t mysql_wire_spans_next(mysql_wire_spans *spans, const uint8_t *bytes, size_t len,
+                              size_t *used, mysql_wire_view *span, uint8_t *ends);
+
+/*
+ * Writes `next_id` and the numbers after it over those of the chunks that come, and changes nothing
+ * else of the bytes; `used` of them may go.
+ * WAITS: all of them. TOO_LARGE, OUT_OF_SYNC: as `mysql_wire_spans_next`; `used` is where the
+ * refused header begins, and `spans` stands there: what is left may be given again. It is 0 where
+ * earlier calls let `header_len` bytes of that header go. INVALID_STATE: nothing changes, and
+ * `used` is 0.
+ */
+int32_t mysql_wire_spans_renumber(mysql_wire_spans *spans, uint8_t *bytes, size_t len,
+                                  size_t *used);
 
 /* A text for a code, ended by a zero that isn't counted in `len`. It is there for good. */
 void mysql_wire_message(int32_t code, mysql_wire_view *text);

@@ -60,6 +60,7 @@ int main(int words, char **word) {
     (void)word;
     int failed = run(thread_tests);
     if (words == 1)
-        failed += run(call_tests) + run(stream_tests) + run(memory_tests) + run(field_tests);
+        failed += run(call_tests) + run(stream_tests) + run(span_tests) + run(memory_tests) +
+                  run(field_tests);
     return failed == 0 ? EXIT_SUCCESS : EXIT_FAILURE;
 }

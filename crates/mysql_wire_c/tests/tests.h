@@ -15,6 +15,7 @@ typedef struct test {
 
 extern const test call_tests[];
 extern const test stream_tests[];
+extern const test span_tests[];
 extern const test memory_tests[];
 extern const test field_tests[];
 extern const test thread_tests[];
