@@ -28,6 +28,20 @@ pub struct Span {
     pub len: usize,
 }
 
+/// `mysql_wire_spans`: the place in a stream of packets.
+#[repr(C)]
+#[derive(Clone, Copy, Debug)]
+pub struct Spans {
+    pub limit: usize,
+    pub size: usize,
+    pub left: usize,
+    pub header: [u8; 3],
+    pub header_len: u8,
+    pub id: u8,
+    pub next_id: u8,
+    pub reserved: [u8; 34],
+}
+
 extern "C" {
     pub fn mysql_wire_version() -> u32;
     pub fn mysql_wire_open(limit: usize, connection: *mut Handle) -> i32;
@@ -49,6 +63,21 @@ extern "C" {
     pub fn mysql_wire_sent(connection: *mut Handle, count: usize) -> usize;
     pub fn mysql_wire_reset(connection: *mut Handle) -> i32;
     pub fn mysql_wire_sequence_id(connection: *mut Handle) -> i32;
+    pub fn mysql_wire_spans_init(spans: *mut Spans, limit: usize, id: u8);
+    pub fn mysql_wire_spans_next(
+        spans: *mut Spans,
+        bytes: *const u8,
+        len: usize,
+        used: *mut usize,
+        span: *mut View,
+        ends: *mut u8,
+    ) -> i32;
+    pub fn mysql_wire_spans_renumber(
+        spans: *mut Spans,
+        bytes: *mut u8,
+        len: usize,
+        used: *mut usize,
+    ) -> i32;
     pub fn mysql_wire_message(code: i32, text: *mut View);
     pub fn mysql_wire_read_int(
         bytes: *const u8,

@@ -24,7 +24,7 @@ pub enum Error {
 
 impl Error {
     /// A code below 0, as `mysql_wire.h` lists them. Those of a closed connection, of one that is
-    /// opened twice and of too little room don't come here.
+    /// opened twice, of too little room and of an invalid place in a stream don't come here.
     fn of(code: i32) -> Error {
         match code {
             -1 => Error::PacketTooLarge,

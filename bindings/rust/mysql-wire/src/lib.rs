@@ -21,12 +21,16 @@
 //! # }
 //! ```
 //!
+//! Packets of any size pass in constant memory as [`Spans`] of the bytes that bring them.
+//!
 //! <https://dev.mysql.com/doc/dev/mysql-server/latest/page_protocol_basic_packets.html>
 
 mod connection;
 mod error;
 mod fields;
+mod spans;
 
 pub use connection::Connection;
 pub use error::Error;
 pub use fields::{put_int, put_lenenc_bytes, put_lenenc_int, put_null_bytes, Fields};
+pub use spans::{Span, Spans};
