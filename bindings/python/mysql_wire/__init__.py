@@ -18,12 +18,14 @@ import ctypes
 import ctypes.util
 import os
 import weakref
-from ctypes import POINTER, byref, c_char_p, c_int32, c_size_t, c_uint32, c_uint64, c_void_p
+from ctypes import (
+    POINTER, byref, c_char_p, c_int32, c_size_t, c_uint8, c_uint32, c_uint64, c_void_p,
+)
 from typing import Iterator, Optional, Union
 
 __all__ = [
     "Closed", "Connection", "Error", "Fields", "MissingBytes", "NotANumber", "OutOfMemory",
-    "PacketTooLarge", "PacketWaits", "PacketsOutOfSync", "int_bytes", "lenenc_bytes",
+    "PacketTooLarge", "PacketWaits", "PacketsOutOfSync", "Spans", "int_bytes", "lenenc_bytes",
     "lenenc_int_bytes", "null_bytes", "version",
 ]
 
@@ -86,6 +88,15 @@ class _Span(ctypes.Structure):
     _fields_ = [("at", c_size_t), ("len", c_size_t)]
 
 
+class _Spans(ctypes.Structure):
+    # The place in a stream of packets.
+    _fields_ = [
+        ("limit", c_size_t), ("size", c_size_t), ("left", c_size_t), ("header", c_uint8 * 3),
+        ("header_len", c_uint8), ("id", c_uint8), ("next_id", c_uint8),
+        ("reserved", c_uint8 * 34),
+    ]
+
+
 _HANDLE = POINTER(c_void_p)
 _PLACE = [c_char_p, c_size_t, POINTER(c_size_t)]
 
@@ -104,6 +115,11 @@ _CALLS = {
     "sent": (c_size_t, [_HANDLE, c_size_t]),
     "reset": (c_int32, [_HANDLE]),
     "sequence_id": (c_int32, [_HANDLE]),
+    "spans_init": (None, [POINTER(_Spans), c_size_t, c_uint8]),
+    "spans_next": (c_int32, [
+        POINTER(_Spans), c_void_p, c_size_t, POINTER(c_size_t), POINTER(_View), POINTER(c_uint8),
+    ]),
+    "spans_renumber": (c_int32, [POINTER(_Spans), c_void_p, c_size_t, POINTER(c_size_t)]),
     "message": (None, [c_int32, POINTER(_View)]),
     "read_int": (c_int32, [*_PLACE, c_size_t, POINTER(c_uint64)]),
     "read_lenenc_int": (c_int32, [*_PLACE, POINTER(c_uint64)]),
@@ -222,6 +238,82 @@ class Connection:
         framed = pending.copied()
         _library.sent(byref(self._handle), len(framed))
         return framed
+
+
+class Spans:
+    """The place in a stream of packets of at most `limit` payload bytes, the first of them numbered
+    `id`. Packets of any size are handed out as their bytes come, or go on with other numbers, and
+    nothing is kept of them. `limit`, `id` (the number that the next chunk is to bear) and `next_id`
+    (the one that `renumber` gives it) may be set at any time.
+
+        for part, ends in spans.parts(data):
+            ...
+    """
+
+    def __init__(self, limit: int = 4194304, id: int = 0) -> None:
+        self._spans = _Spans()
+        self.taken = 0  # how many bytes of the last data `parts` took
+        _library.spans_init(byref(self._spans), limit, id)
+
+    def parts(self, data: Bytes) -> Iterator[tuple[bytes, bool]]:
+        """The parts of packets in the next bytes of the stream, each with whether it ends its
+        packet. Where a packet is refused, those before it come first; `taken` bytes were taken,
+        and the others may be given again, under a larger limit or with another `id`.
+        """
+        data = bytes(data)
+        self.taken = 0
+        used, ends, view = c_size_t(), c_uint8(), _View()
+        start = ctypes.cast(c_char_p(data), c_void_p).value
+        while True:
+            front, left = c_void_p(start + self.taken), len(data) - self.taken
+            code = _checked(_library.spans_next(
+                byref(self._spans), front, left, byref(used), byref(view), byref(ends)
+            ))
+            self.taken += used.value
+            if not code:
+                return
+            yield data[self.taken - view.len : self.taken], ends.value == 1
+
+    def renumber(self, data: bytearray) -> int:
+        """Writes `next_id` and the numbers after it over those of the packets, and nothing else.
+        Answers how many bytes may go: all, or those before a packet that is refused. Of what is
+        left, the next call says why.
+        """
+        used = c_size_t()
+        room = (c_uint8 * len(data)).from_buffer(data)
+        code = _library.spans_renumber(byref(self._spans), room, len(data), byref(used))
+        if used.value == 0 and len(data) > 0:
+            _checked(code)
+        return used.value
+
+    @property
+    def is_between_packets(self) -> bool:
+        """Whether nothing of a packet has come that has not ended."""
+        return self._spans.size == 0 and self._spans.header_len == 0
+
+    @property
+    def limit(self) -> int:
+        return self._spans.limit
+
+    @limit.setter
+    def limit(self, limit: int) -> None:
+        self._spans.limit = limit
+
+    @property
+    def id(self) -> int:
+        return self._spans.id
+
+    @id.setter
+    def id(self, id: int) -> None:
+        self._spans.id = id
+
+    @property
+    def next_id(self) -> int:
+        return self._spans.next_id
+
+    @next_id.setter
+    def next_id(self, id: int) -> None:
+        self._spans.next_id = id
 
 
 class Fields:

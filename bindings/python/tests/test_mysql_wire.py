@@ -3,7 +3,7 @@
 import unittest
 
 import mysql_wire
-from mysql_wire import Connection, Fields
+from mysql_wire import Connection, Fields, Spans
 
 FULL = 16777215
 
@@ -75,6 +75,62 @@ class Packets(unittest.TestCase):
         connection.close()
         for call in (connection.next_packet, connection.reset, lambda: connection.feed(b"")):
             self.assertRaises(mysql_wire.Closed, call)
+
+
+class PacketsInSpans(unittest.TestCase):
+    payloads = [b"", b"a", b"x" * 300, b"bc"]
+
+    def gathered(self, spans, pieces):
+        """The packets, and the bytes of the open one."""
+        packets, opened = [], b""
+        for piece in pieces:
+            for part, ends in spans.parts(piece):
+                opened += part
+                if ends:
+                    packets.append(opened)
+                    opened = b""
+        return packets, opened
+
+    def test_each_cutting_gives_the_same_packets(self):
+        stream = b"".join(framed(250 + number, each) for number, each in enumerate(self.payloads))
+        for step in (1, 2, 3, 5, 64, len(stream)):
+            spans = Spans(300, 250)
+            pieces = [stream[at : at + step] for at in range(0, len(stream), step)]
+            self.assertEqual(self.gathered(spans, pieces), (self.payloads, b""))
+            self.assertEqual((spans.id, spans.is_between_packets), (254, True))
+
+    def test_long_packets_go_on_with_other_numbers(self):
+        payload = bytes(range(256)) * (FULL // 256 + 1)
+        stream = bytearray(framed(7, payload))
+        spans = Spans(len(payload), 7)
+        spans.next_id = 255
+        for at in range(0, len(stream), 1 << 20):
+            piece = bytearray(stream[at : at + (1 << 20)])
+            self.assertEqual(spans.renumber(piece), len(piece))
+            stream[at : at + len(piece)] = piece
+        self.assertEqual(stream, framed(255, payload))
+        self.assertEqual(self.gathered(Spans(len(payload), 255), [stream]), ([payload], b""))
+
+    def test_a_refusal_leaves_all(self):
+        spans = Spans(2)
+        with self.assertRaises(mysql_wire.PacketTooLarge):
+            list(spans.parts(framed(0, b"abc")))
+        spans.limit = 3
+        with self.assertRaises(mysql_wire.PacketsOutOfSync):
+            list(spans.parts(framed(1, b"abc")))
+        self.assertEqual(list(spans.parts(framed(0, b"abc"))), [(b"abc", True)])
+        self.assertEqual((list(spans.parts(b"")), spans.taken), ([], 0))
+        with self.assertRaises(mysql_wire.PacketTooLarge):
+            list(spans.parts(framed(1, b"d") + framed(2, b"four")))
+        self.assertEqual(spans.taken, 5)
+        spans.id = 1
+        spans.next_id = 9
+        wire = bytearray(framed(1, b"d") + framed(7, b"e"))
+        self.assertEqual(spans.renumber(wire), 5)
+        self.assertEqual(wire, framed(9, b"d") + framed(7, b"e"))
+        with self.assertRaises(mysql_wire.PacketsOutOfSync):
+            spans.renumber(wire[5:])
+        self.assertEqual(spans.renumber(bytearray()), 0)
 
 
 class OfPayloads(unittest.TestCase):
