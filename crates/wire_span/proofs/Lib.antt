@@ -3,3 +3,4 @@ pub mod SpanLemmas
 pub mod MixLemmas
 pub mod FrameLemmas
 pub mod PartLemmas
+pub mod PassingLemmas

@@ -12,6 +12,7 @@ use wire_codec::codec::header::{HEADER_LEN, Header};
 use wire_const::{DEFAULT_MAX_ALLOWED_PACKET, MAX_PAYLOAD_LEN};
 
 pub(crate) mod parts;
+mod passing;
 pub(crate) mod renumber;
 
 /// Why a stream stops.

@@ -210,6 +210,17 @@ impl PacketCodec {
         self.seq_id = 0;
     }
 
+    /// Stands in front of a packet whose first chunk bears this id, as behind one that was taken
+    /// without the codec. A remembered header is forgotten.
+    pub fn begin_at(&mut self, seq_id: u8)
+        ensures id { expected_id self.new ≡ seq_id }
+        ensures header { header_of self.new ≡ None }
+        ensures limit { self.new.max_allowed_packet ≡ self.old.max_allowed_packet }
+    {
+        self.seq_id = seq_id;
+        self.decoder = ChunkDecoder::Idle;
+    }
+
     /// Changes nothing. It stands for the call by which a compressed connection carries its id
     /// over.
     pub fn sync_seq_id(&mut self)

@@ -1,7 +1,8 @@
 //! Other sequence ids for a stream's chunks, written in place.
 
-ghost use Rattle.std.specs.Prelude.{◌≡◌, ℕ, ◌<◌, ◌≤◌, ◌⊎◌, List, [], ◌∷◌, length, drop, IfOk, IfErr, OnOk, OnErr, MatchResult, Bool};
-ghost use Rattle.wire_span.specs.Spans.{header_came, span_state, StopsBefore};
+ghost use Rattle.std.specs.Prelude.{◌≡◌, ℕ, ◌+◌, ◌<◌, ◌≤◌, ◌⊎◌, List, [], ◌∷◌, length, drop, IfOk, IfErr, IsTrue, IsFalse, OnOk, OnErr, MatchResult, Bool};
+ghost use Rattle.wire_span.specs.Spans.{header_came, span_state, IsBetween, StopsBefore};
+ghost use Rattle.wire_span.specs.Passing.{most_here};
 ghost use Rattle.wire_span.specs.SpanSteps.{TakesSpan};
 ghost use Rattle.wire_span.specs.Renumbering.{RenumbersFront};
 
@@ -12,13 +13,18 @@ use wire_const::MAX_PAYLOAD_LEN;
 impl SpanDecoder {
     // So many bytes of the open chunk came, of which so many were to come: whether they end their
     // packet.
-    fn pass(&mut self, left: usize, is_full: bool, came: usize) -> bool
+    pub(super) fn pass(&mut self, left: usize, is_full: bool, came: usize) -> bool
         requires { came ≤ left }
         ensures takes { (id : ℕ) (eaten : List ℕ) → length eaten ≡ came
             → TakesSpan id self.old.size left is_full eaten ((eaten, result) ∷ [])
             (record (span_state self.new) { id = id }) }
         ensures id { self.new.seq_id ≡ self.old.seq_id }
         ensures uncut { header_came (span_state self.new).place ≡ [] }
+        ensures between { IsTrue result → IsBetween (span_state self.new) }
+        ensures fewer { IsFalse result
+            → most_here (span_state self.new).place + came ≡ left + 4 }
+        ensures size { IsFalse result → self.new.size ≡ self.old.size }
+        ensures last { IsFalse result → (came < left) ⊎ IsTrue is_full }
         ensures limit { self.new.max_allowed_packet ≡ self.old.max_allowed_packet }
     {
         match NonZeroUsize::new(left - came) {
