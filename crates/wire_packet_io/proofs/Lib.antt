@@ -1,3 +1,4 @@
 mod PacketIoLemmas
 mod BoundLemmas
 mod SkipLemmas
+pub mod CopyLemmas

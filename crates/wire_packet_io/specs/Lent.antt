@@ -9,6 +9,7 @@ use Rattle.wire_codec.specs.Codec.{CodecState, codec_state}
 use Rattle.wire_codec.specs.InPlace.{front_payload}
 use Rattle.wire_codec.specs.declared.codec.packet.PacketCodec.{PacketCodec}
 use Rattle.wire_codec.specs.declared.codec.packet.skip.Skipped.{Skipped}
+use Rattle.wire_span.specs.declared.span.SpanDecoder.{SpanDecoder}
 use Rattle.wire_packet_io.specs.PacketIo.{Answer}
 
 -- a reader of packets, as contracts see it
@@ -25,6 +26,8 @@ pub record Reading (R : Type 0) : Type 0 where
   pub is_lost : Bool
   -- how much was dropped of a packet that is being skipped: the reader is lost until it has ended
   pub skipped : Option Skipped
+  -- where it is in a packet that is being copied: the reader is lost until it has ended
+  pub copied : Option SpanDecoder
   -- how many reads were made
   pub reads : ℕ
 

@@ -10,6 +10,8 @@ ghost use Rattle.wire_codec.specs.Skipping.{MaySkip, WouldStand};
 ghost use Rattle.wire_packet_io.specs.Skips.{IsRefusal, SkipsNext};
 ghost use Rattle.wire_packet_io.specs.Lent.{IsThere, IsApart, found_in, answer_over, unread_behind};
 
+mod copy;
+
 use crate::error::PacketIoError;
 use bytes::BytesMut;
 use std::alloc::Allocator;

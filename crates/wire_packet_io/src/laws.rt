@@ -2,9 +2,16 @@
 //! a caller has it by calling.
 
 ghost use Rattle.wire_packet_io.specs.Bounds.{BoundedReads};
+ghost use Rattle.wire_packet_io.specs.Copies.{CopiedPacket};
 
 /// How many bytes a reader keeps, whatever its peer sends: what was there before the call, or what
 /// a packet of at most the limit takes with its headers, 3 bytes more, and one read of 8192.
 pub fn bounded_reads()
     ensures { BoundedReads }
+{}
+
+/// What one call of `copy_packet` wrote is the packet, where it began in front of one: the bytes
+/// that were there began with its framing, and the codec is behind it.
+pub fn copied_packet()
+    ensures { CopiedPacket }
 {}

@@ -8,6 +8,8 @@ ghost use Rattle.wire_packet_io.specs.PacketIo.{FitsAt, NextPacket};
 ghost use Rattle.wire_packet_io.specs.Lent.{HandsOutLent, reading_state, answer_of, answer_lent};
 ghost use Rattle.wire_packet_io.specs.Skips.{CanSkip, SkipsNext, skipped_at};
 
+mod copy;
+
 use crate::error::PacketIoError;
 use crate::input::{Found, Input, behind_front, front_payload};
 use bytes::BytesMut;
@@ -16,6 +18,7 @@ use std::fmt::{self, Debug, Formatter};
 use std::io::Read;
 use std::marker::Model;
 use wire_codec::codec::{PacketCodec, Skipped};
+use wire_span::SpanDecoder;
 
 /// Reads packets, one after another.
 ///
@@ -34,6 +37,8 @@ pub struct PacketReader<R: Read, A: Allocator + Copy = Global> {
     lent: Option<Found<A>>,
     // How much was dropped of a packet that is being skipped. The input is lost meanwhile.
     skipped: Option<Skipped>,
+    // Where it is in a packet that is being copied. The input is lost meanwhile.
+    copied: Option<SpanDecoder>,
 }
 
 impl<R: Read, A: Allocator + Copy> Model for PacketReader<R, A> {
@@ -48,6 +53,7 @@ impl<R: Read, A: Allocator + Copy> Model for PacketReader<R, A> {
       lent = packet_of p.lent p.input.src.items;
       is_lost = p.input.lost;
       skipped = p.skipped;
+      copied = p.copied;
       reads = p.input.reads;
     } };
 
@@ -77,6 +83,7 @@ impl<R: Read, A: Allocator + Copy> PacketReader<R, A> {
           lent = None;
           is_lost = false;
           skipped = None;
+          copied = None;
           reads = 0;
         }) }
         ensures memory { IfErr result (λ error. error ≡ PacketIoError.OutOfMemory) }
@@ -92,6 +99,7 @@ impl<R: Read, A: Allocator + Copy> PacketReader<R, A> {
             input,
             lent: None,
             skipped: None,
+            copied: None,
         })
     }
 
@@ -150,6 +158,7 @@ impl<R: Read, A: Allocator + Copy> PacketReader<R, A> {
             → HandsOutLent (answer_of result) self.old self.new × (codec.new ≡ codec.old) }
         ensures taken { IsNone self.old.lent → IsNone self.new.lent }
         ensures skipped { self.new.skipped ≡ self.old.skipped }
+        ensures copied { self.new.copied ≡ self.old.copied }
         ensures lost { IsTrue self.old.is_lost → (result ≡ Err PacketIoError.PacketsOutOfSync)
             × (self.new ≡ self.old) × (codec.new ≡ codec.old) }
         ensures fits { FitsAt self.new.is_lost (reading_state codec.new self.new) }
@@ -244,6 +253,7 @@ impl<R: Read, A: Allocator + Copy> PacketReader<R, A> {
             ↔ (IsSome self.new.skipped ⊎ (result ≡ Err PacketIoError.PacketsOutOfSync)) }
         ensures taken { IsNone self.new.lent }
         ensures can { IsNone self.old.lent → CanSkip codec.new self.new }
+        ensures copied { self.new.copied ≡ self.old.copied }
         ensures limit { codec.new.max_allowed_packet ≡ codec.old.max_allowed_packet }
     {
         if self.lent.is_some() {
@@ -296,6 +306,7 @@ impl<R: Read, A: Allocator + Copy> PacketReader<R, A> {
         ensures held { self.new.held ≡ [] }
         ensures none { IsNone self.new.lent }
         ensures whole { IsNone self.new.skipped }
+        ensures copied { self.new.copied ≡ self.old.copied }
         ensures limit { codec.new.max_allowed_packet ≡ codec.old.max_allowed_packet }
     {
         self.lent = None;
@@ -347,6 +358,7 @@ impl<R: Read, A: Allocator + Copy> PacketReader<R, A> {
             × IsFalse self.new.is_lost) }
         ensures refused { OnErr result (self.new.lent ≡ self.old.lent) }
         ensures skipped { self.new.skipped ≡ self.old.skipped }
+        ensures copied { self.new.copied ≡ self.old.copied }
         ensures lost { IsTrue self.old.is_lost → (result ≡ Err PacketIoError.PacketsOutOfSync)
             × (self.new ≡ self.old) × (codec.new ≡ codec.old) }
         ensures fits { FitsAt self.new.is_lost (reading_state codec.new self.new) }

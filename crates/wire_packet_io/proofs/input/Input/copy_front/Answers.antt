@@ -1,0 +1,28 @@
+use Rattle.std.proofs.Common.{ap, arith, sym, subst, refl}
+use Rattle.std.proofs.KnownBytes.{Keeps-refl}
+use Rattle.wire_span.specs.Spans.{SpanState, span_state}
+use Rattle.wire_packet_io.specs.Copies.{StopsHere}
+use Rattle.wire_packet_io.proofs.CopyLemmas.{header_step, header_stop}
+use Rattle.wire_packet_io.proofs.input.Input.copy_front.Goals as goal
+
+pub returns-in-Ok-clause-steps : goal.returns-in-Ok-clause-steps
+returns-in-Ok-clause-steps g c =
+    let read = c.in-Some.header in
+    let said = rw c.as_slice.ensures at c.in-Some.ensures in
+    let passed = c.in-Ok.ensures in
+    header_step (span_state c.args.decoder.now) (span_state c.pass_header.new.self) c.args.self.now.src.items c.advance.new.self.items read.len read.seq_id c.in-Ok.ended
+    (g.W.Write.contents c.args.writer.now) (said.there.0 refl) said.len said.id said.spelled c.advance.ensures.items (omega arith)
+    passed.id passed.came passed.between passed.fewer
+
+pub returns-in-Err-clause-steps : goal.returns-in-Err-clause-steps
+returns-in-Err-clause-steps g c =
+    let read = c.in-Some.header in
+    let said = rw c.as_slice.ensures at c.in-Some.ensures in
+    let same = ap (λ z. span_state z) c.in-Err.ensures.err in (
+      same,
+      refl,
+      Keeps-refl _,
+      subst (λ (s : SpanState). StopsHere c.refusal.result s c.args.self.now.src.items) (sym same)
+          (header_stop c.in-Err.error c.refusal.result (span_state c.args.decoder.now) c.args.self.now.src.items read.len read.seq_id
+          (said.there.0 refl) said.len said.id said.spelled c.refusal.ensures c.in-Err.ensures.refused),
+    )

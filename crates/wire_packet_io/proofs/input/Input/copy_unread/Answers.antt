@@ -1,0 +1,55 @@
+use Rattle.std.proofs.Common.{◌++◌, ◌∙◌, [], ap, arith, refl, true, false}
+use Rattle.std.proofs.KnownBytes.{Appends-nil, Appends-trans}
+use Rattle.wire_span.specs.Spans.{span_state}
+use Rattle.wire_packet_io.proofs.CopyLemmas.{copied_none, copied_more, copy_stays}
+use Rattle.wire_packet_io.proofs.input.Input.copy_unread.Goals as goal
+
+pub steps-init : goal.steps-init
+steps-init g c = record {
+  uncut = c.requires.uncut;
+  limit = refl;
+  rest = refl;
+  fewer = omega arith;
+  goes = ([], Appends-nil _, copied_none _ _);
+}
+
+pub returns-in-Ok-Some-true-clause-goes : goal.returns-in-Ok-Some-true-clause-goes
+returns-in-Ok-Some-true-clause-goes g c =
+    let inv = c.steps.invariant in
+    let step = rw (c.in-Ok-Some-true.field-0-is, c.in-Ok-Some-true.field-0-0-test) at c.in-Ok-Some-true.ensures.steps in (
+      inv.goes.0 ++ step.0,
+      Appends-trans _ _ _ inv.goes.0 step.0 inv.goes.1 step.2,
+      copied_more (span_state c.args.decoder.now) (span_state c.steps.decoder) (span_state c.copy_front.new.decoder) c.args.self.now.src.items c.steps.self.src.items
+          c.copy_front.new.self.src.items inv.goes.0 step.0 true inv.limit inv.goes.2 step.1,
+    )
+
+pub steps-preserved : goal.steps-preserved
+steps-preserved g c =
+    let inv = c.steps.invariant in
+    let step = rw (c.in-Ok-Some-false.field-0-is, c.in-Ok-Some-false.field-0-0-test) at c.in-Ok-Some-false.ensures.steps in
+    record {
+      uncut = c.copy_front.ensures.uncut;
+      limit = c.copy_front.ensures.limit ∙ inv.limit;
+      rest = rw inv.rest at c.copy_front.ensures.rest;
+      fewer = let less = (step.4 refl).0 in omega (arith, inv.fewer, less);
+      goes = (
+        inv.goes.0 ++ step.0,
+        Appends-trans _ _ _ inv.goes.0 step.0 inv.goes.1 step.2,
+        copied_more (span_state c.args.decoder.now) (span_state c.steps.decoder) (span_state c.copy_front.new.decoder) c.args.self.now.src.items c.steps.self.src.items
+            c.copy_front.new.self.src.items inv.goes.0 step.0 false inv.limit inv.goes.2 step.1,
+      );
+    }
+
+pub returns-in-Ok-None-clause-goes : goal.returns-in-Ok-None-clause-goes
+returns-in-Ok-None-clause-goes g c =
+    let inv = c.steps.invariant in
+    let step = rw c.in-Ok-None.field-0-is at c.in-Ok-None.ensures.steps in
+    copy_stays (span_state c.args.decoder.now) (span_state c.steps.decoder) (span_state c.copy_front.new.decoder) c.args.self.now.src.items c.steps.self.src.items
+    c.copy_front.new.self.src.items inv.goes.0 _ _ _ inv.goes.1 inv.goes.2 step.0 step.1 step.2
+
+pub returns-in-Err-clause-goes : goal.returns-in-Err-clause-goes
+returns-in-Err-clause-goes g c =
+    let inv = c.steps.invariant in
+    let step = c.in-Err.ensures.steps in
+    copy_stays (span_state c.args.decoder.now) (span_state c.steps.decoder) (span_state c.copy_front.new.decoder) c.args.self.now.src.items c.steps.self.src.items
+    c.copy_front.new.self.src.items inv.goes.0 _ _ _ inv.goes.1 inv.goes.2 step.0 step.1 step.2

@@ -1,0 +1,162 @@
+//! The loop that writes a packet's bytes as they come.
+
+ghost use Rattle.std.specs.Prelude.{◌≡◌, ℕ, ◌+◌, ◌<◌, ◌≤◌, List, [], ◌∷◌, length, None, true, false, Ok, IfOk, OnErr, IfErr, IsFalse, Bool};
+ghost use Rattle.std.specs.Io.KnownBytes.{Appends, IsAtEnd};
+ghost use Rattle.wire_span.specs.Spans.{header_came, span_state, EatsSpans, IsBetween};
+ghost use Rattle.wire_span.specs.Passing.{left_in, most_bytes};
+ghost use Rattle.wire_packet_io.specs.Copies.{has_ended, CopiesNext, CopyStops, EndsCopy, IsSpanRefusal, StepsCopy, WaitsHere};
+
+use super::Input;
+use crate::error::PacketIoError;
+use std::alloc::Allocator;
+use std::io::{Read, Write};
+use wire_codec::codec::header::{HEADER_LEN, Header};
+use wire_span::{SpanDecoder, SpanError};
+
+// The reader's name for a refusal of a header.
+fn refusal(error: SpanError) -> PacketIoError
+    ensures { IsSpanRefusal error result }
+{
+    match error {
+        SpanError::PacketTooLarge => PacketIoError::PacketTooLarge,
+        SpanError::PacketsOutOfSync => PacketIoError::PacketsOutOfSync,
+    }
+}
+
+impl<R: Read, A: Allocator + Copy> Input<R, A> {
+    // Writes what came of the open chunk, and drops what the writer took: whether that ended the
+    // packet. `None` where nothing of it is there.
+    fn copy_bytes<W: Write>(
+        &mut self,
+        decoder: &mut SpanDecoder,
+        writer: &mut W,
+    ) -> Result<Option<bool>, PacketIoError>
+        requires open { 0 < left_in (span_state decoder.old).place }
+        requires uncut { header_came (span_state decoder.old).place ≡ [] }
+        ensures steps { StepsCopy result (span_state decoder.old) self.old.src.items
+            (W.contents writer.old) (span_state decoder.new) self.new.src.items
+            (W.contents writer.new) }
+        ensures uncut { header_came (span_state decoder.new).place ≡ [] }
+        ensures limit { decoder.new.max_allowed_packet ≡ decoder.old.max_allowed_packet }
+        ensures rest { self.new ≡ record self.old { src = self.new.src } }
+    {
+        let len = decoder.chunk_left().min(self.src.len());
+        if len == 0 {
+            return Ok(None);
+        }
+        match writer.write(&self.src.as_slice()[..len]) {
+            Ok(0) => Err(PacketIoError::WriteZero),
+            Ok(count) => {
+                self.src.advance(count);
+                Ok(Some(decoder.pass_bytes(count)))
+            }
+            Err(error) => Err(PacketIoError::Io(error)),
+        }
+    }
+
+    // Drops the header in front, or writes the bytes there: whether that ended the packet. `None`
+    // where more has to come first.
+    fn copy_front<W: Write>(
+        &mut self,
+        decoder: &mut SpanDecoder,
+        writer: &mut W,
+    ) -> Result<Option<bool>, PacketIoError>
+        requires uncut { header_came (span_state decoder.old).place ≡ [] }
+        ensures steps { StepsCopy result (span_state decoder.old) self.old.src.items
+            (W.contents writer.old) (span_state decoder.new) self.new.src.items
+            (W.contents writer.new) }
+        ensures uncut { header_came (span_state decoder.new).place ≡ [] }
+        ensures limit { decoder.new.max_allowed_packet ≡ decoder.old.max_allowed_packet }
+        ensures rest { self.new ≡ record self.old { src = self.new.src } }
+    {
+        if decoder.chunk_left() > 0 {
+            return self.copy_bytes(decoder, writer);
+        }
+        let Some(header) = Header::read(self.src.as_slice()) else {
+            return Ok(None);
+        };
+        match decoder.pass_header(header) {
+            Ok(ended) => {
+                self.src.advance(HEADER_LEN);
+                Ok(Some(ended))
+            }
+            Err(error) => Err(refusal(error)),
+        }
+    }
+
+    // Writes what is there of the packet: whether it has ended.
+    fn copy_unread<W: Write>(
+        &mut self,
+        decoder: &mut SpanDecoder,
+        writer: &mut W,
+    ) -> Result<bool, PacketIoError>
+        requires uncut { header_came (span_state decoder.old).place ≡ [] }
+        ensures goes { (bytes : List ℕ)
+            × Appends (W.contents writer.old) (W.contents writer.new) bytes
+            × EatsSpans (span_state decoder.old) self.old.src.items
+            ((bytes, has_ended result) ∷ []) self.new.src.items (span_state decoder.new) }
+        ensures ends { EndsCopy result (span_state decoder.new) self.new.src.items }
+        ensures fewer { IsFalse (has_ended result)
+            → most_bytes (span_state decoder.new) + length self.old.src.items
+            ≤ most_bytes (span_state decoder.old) + length self.new.src.items }
+        ensures uncut { header_came (span_state decoder.new).place ≡ [] }
+        ensures limit { decoder.new.max_allowed_packet ≡ decoder.old.max_allowed_packet }
+        ensures rest { self.new ≡ record self.old { src = self.new.src } }
+    {
+        'steps: loop {
+            match self.copy_front(decoder, writer) {
+                Ok(Some(true)) => return Ok(true),
+                Ok(Some(false)) => {}
+                Ok(None) => return Ok(false),
+                Err(error) => return Err(error),
+            }
+        }
+    }
+
+    // What the end of the input means here: false between two packets.
+    fn at_copys_end(&self, decoder: &SpanDecoder) -> Result<bool, PacketIoError>
+        requires { WaitsHere (span_state decoder.now) self.now.src.items }
+        ensures stops { CopyStops result (span_state decoder.now) self.now.src.items None }
+        ensures going { has_ended result ≡ false }
+        ensures only { IfErr result (λ error. error ≡ PacketIoError.UnexpectedEnd) }
+    {
+        if self.src.is_empty() && decoder.is_between_packets() {
+            Ok(false)
+        } else {
+            Err(PacketIoError::UnexpectedEnd)
+        }
+    }
+
+    /// Writes the bytes of the next packet as they come: true where it has ended, false where the
+    /// input ends between two packets.
+    pub(crate) fn copy<W: Write>(
+        &mut self,
+        decoder: &mut SpanDecoder,
+        writer: &mut W,
+    ) -> Result<bool, PacketIoError>
+        requires uncut { header_came (span_state decoder.old).place ≡ [] }
+        ensures copies { (written : List ℕ)
+            × Appends (W.contents writer.old) (W.contents writer.new) written
+            × CopiesNext (span_state decoder.old) self.old.src.items
+            (R.remaining self.old.reader) (R.remaining self.new.reader)
+            self.old.reads self.new.reads result written
+            (span_state decoder.new) self.new.src.items }
+        ensures uncut { header_came (span_state decoder.new).place ≡ [] }
+        ensures held { self.new.dst ≡ self.old.dst }
+        ensures lost { self.new.lost ≡ self.old.lost }
+        ensures limit { decoder.new.max_allowed_packet ≡ decoder.old.max_allowed_packet }
+    {
+        'reads: loop {
+            match self.copy_unread(decoder, writer) {
+                Ok(true) => return Ok(true),
+                Ok(false) => {}
+                Err(error) => return Err(error),
+            }
+            match self.read_more() {
+                Ok(0) => return self.at_copys_end(decoder),
+                Ok(_) => {}
+                Err(error) => return Err(error),
+            }
+        }
+    }
+}
