@@ -161,16 +161,15 @@ copy_goes before mid after old src new unread left last old_reads new_reads all 
 -- and that ended the packet, or met a refusal
 pub copy_ends : (result : Result Bool PacketIoError) (before mid after : SpanState) (old src new : List ℕ) (unread left last : Option (List ℕ)) (old_reads new_reads all : ℕ) (held some more : Option (List ℕ)) (b : List ℕ)
     → CopiedSoFar before old unread left old_reads new_reads held some mid src → last ≡ left → all ≡ new_reads
-    → Appends some more b → EatsSpans mid src ((b, has_ended result) ∷ []) new after → CopyStops result after new last
+    → Appends some more b → EatsSpans mid src ((b, has_ended result) ∷ []) new after
     → (written : List ℕ) × Appends held more written × CopiesNext before old unread last old_reads all result written after new
-copy_ends result before mid after old src new unread left last old_reads new_reads all held some more b s same count took eats stops = (
+copy_ends result before mid after old src new unread left last old_reads new_reads all held some more b s same count took eats = (
   s.written ++ b,
   Appends-trans held some more s.written b s.appended took,
   record {
     reads = s.reads;
     consumed = subst (λ (z : Option (List ℕ)). Consumes unread z (joined_reads s.reads)) (sym same) s.consumed;
     eats = copied_more before mid after (old ++ joined_reads s.reads) src new s.written b (has_ended result) s.limit s.eats eats;
-    stops = stops;
     waits = s.waits;
     counted = subst (λ (n : ℕ). CountsUp old_reads n (length s.reads)) (sym count) s.counted;
     small = s.small;
@@ -223,16 +222,15 @@ copy_reads before after old src new piece unread left last old_reads new_reads a
 
 -- the call ends with what stands there
 pub copy_done : (result : Result Bool PacketIoError) (before after : SpanState) (old new : List ℕ) (unread left : Option (List ℕ)) (old_reads new_reads : ℕ) (held more : Option (List ℕ))
-    → CopiedSoFar before old unread left old_reads new_reads held more after new → has_ended result ≡ false → CopyStops result after new left
+    → CopiedSoFar before old unread left old_reads new_reads held more after new → has_ended result ≡ false
     → (written : List ℕ) × Appends held more written × CopiesNext before old unread left old_reads new_reads result written after new
-copy_done result before after old new unread left old_reads new_reads held more s going stops = (
+copy_done result before after old new unread left old_reads new_reads held more s going = (
   s.written,
   s.appended,
   record {
     reads = s.reads;
     consumed = s.consumed;
     eats = subst (λ (b : Bool). EatsSpans before (old ++ joined_reads s.reads) ((s.written, b) ∷ []) new after) (sym going) s.eats;
-    stops = stops;
     waits = s.waits;
     counted = s.counted;
     small = s.small;
@@ -246,7 +244,7 @@ pub copy_failed : (error : PacketIoError) (before after : SpanState) (old src ne
 copy_failed (Io error) before after old src new unread left last old_reads new_reads all held more s waiting is kept count =
     copy_done (Err (Io error)) before after old new unread last old_reads all held more
     (copy_reads before after old src new [] unread left last old_reads new_reads all held more s waiting (is ∙ sym (append-nil src)) (Consumes-kept left left last [] (Consumes-nil left) kept) count (omega arith))
-    refl tt
+    refl
 copy_failed OutOfMemory before after old src new unread left last old_reads new_reads all held more s waiting is kept count =
     copy_done (Err OutOfMemory) before after old new unread last old_reads all held more
     (record {
@@ -260,7 +258,7 @@ copy_failed OutOfMemory before after old src new unread left last old_reads new_
       small = s.small;
       limit = s.limit;
     })
-    refl (subst (λ (z : List ℕ). WaitsHere after z) (sym is) waiting)
+    refl
 copy_failed PacketTooLarge before after old src new unread left last old_reads new_reads all held more s waiting is kept count = absurd count
 copy_failed PacketsOutOfSync before after old src new unread left last old_reads new_reads all held more s waiting is kept count = absurd count
 copy_failed UnexpectedEnd before after old src new unread left last old_reads new_reads all held more s waiting is kept count = absurd count
@@ -299,11 +297,21 @@ can_after (Some d) lost codec unread held lent decoder none empty header kept un
 
 -- what a call that began in front of a packet wrote is the packet
 pub copied_packet_is : CopiedPacket
-copied_packet_is before after old new unread left old_reads new_reads written small between call =
+copied_packet_is before after old new unread left old_reads new_reads written small between ends call =
     let L : ℕ = before.limit in
     let came = call.eats.2 before.id L [] [] [] (omega arith) (spans_begin_is before L small between) in
-    let is = spans_end_is before.id L call.eats.0 (written ∷ []) [] after small call.stops came in (
+    let is = spans_end_is before.id L call.eats.0 (written ∷ []) [] after small ends came in (
       call.eats.1 ∙ ap (λ (z : List ℕ). z ++ new) (is.0 ∙ append-nil (framing before.id written)),
       All-head (λ (z : List ℕ). length z ≤ L) written [] came.2,
       is.2,
     )
+
+-- and what that left
+pub read_stops : (error : PacketIoError) (state : SpanState) (src new : List ℕ) (old_reads new_reads : ℕ) (left : Option (List ℕ))
+    → WaitsHere state src → new ≡ src → ReadFails error old_reads new_reads → CopyStops (Err error) state new left
+read_stops (Io error) state src new old_reads new_reads left waiting is failed = tt
+read_stops OutOfMemory state src new old_reads new_reads left waiting is failed = subst (λ (z : List ℕ). WaitsHere state z) (sym is) waiting
+read_stops PacketTooLarge state src new old_reads new_reads left waiting is failed = absurd failed
+read_stops PacketsOutOfSync state src new old_reads new_reads left waiting is failed = absurd failed
+read_stops UnexpectedEnd state src new old_reads new_reads left waiting is failed = absurd failed
+read_stops WriteZero state src new old_reads new_reads left waiting is failed = absurd failed

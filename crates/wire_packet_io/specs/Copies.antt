@@ -81,7 +81,6 @@ pub record CopiesNext (before : SpanState) (old : List ℕ) (unread left : Optio
   pub reads : List (List ℕ)
   pub consumed : Consumes unread left (joined_reads reads)
   pub eats : EatsSpans before (old ++ joined_reads reads) ((written, has_ended result) ∷ []) new after
-  pub stops : CopyStops result after new left
   -- each read is made where nothing can go before more has come
   pub waits : (j : ℕ) → j < length reads → WaitsBehind before (old ++ joined_reads (take j reads))
   pub counted : CountsUp old_reads new_reads (length reads)
@@ -118,7 +117,7 @@ IsSpanRefusal span.PacketsOutOfSync error = error ≡ PacketsOutOfSync
 abbrev pub CopiedPacket : Type 0
 CopiedPacket =
     (before after : SpanState) (old new : List ℕ) (unread left : Option (List ℕ))
-    (old_reads new_reads : ℕ) (written : List ℕ) → before.id < 256 → IsBetween before
+    (old_reads new_reads : ℕ) (written : List ℕ) → before.id < 256 → IsBetween before → IsBetween after
     → (call : CopiesNext before old unread left old_reads new_reads (Ok true) written after new)
     → (old ++ joined_reads call.reads ≡ framing before.id written ++ new)
     × (length written ≤ before.limit) × (after.id ≡ next_id before.id written)

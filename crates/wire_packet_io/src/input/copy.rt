@@ -141,6 +141,8 @@ impl<R: Read, A: Allocator + Copy> Input<R, A> {
             (R.remaining self.old.reader) (R.remaining self.new.reader)
             self.old.reads self.new.reads result written
             (span_state decoder.new) self.new.src.items }
+        ensures stops { CopyStops result (span_state decoder.new) self.new.src.items
+            (R.remaining self.new.reader) }
         ensures uncut { header_came (span_state decoder.new).place ≡ [] }
         ensures held { self.new.dst ≡ self.old.dst }
         ensures lost { self.new.lost ≡ self.old.lost }

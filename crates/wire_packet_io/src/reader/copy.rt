@@ -4,7 +4,7 @@ ghost use Rattle.std.specs.Prelude.{◌≡◌, ◌↔◌, ◌⊎◌, ℕ, List, 
 ghost use Rattle.std.specs.Io.KnownBytes.{Appends};
 ghost use Rattle.wire_codec.specs.Codec.{header_of};
 ghost use Rattle.wire_span.specs.Spans.{header_came, span_state, IsBetween};
-ghost use Rattle.wire_packet_io.specs.Copies.{copied_to, CanCopy, CopiesNext};
+ghost use Rattle.wire_packet_io.specs.Copies.{copied_to, CanCopy, CopiesNext, CopyStops};
 
 use super::PacketReader;
 use crate::error::PacketIoError;
@@ -60,6 +60,9 @@ impl<R: Read, A: Allocator + Copy> PacketReader<R, A> {
             (R.remaining self.old.reader) (R.remaining self.new.reader)
             self.old.reads self.new.reads result written
             (copied_to self.new.copied codec.new) self.new.unread }
+        ensures stops { (IsSome self.old.copied ⊎ IsFalse self.old.is_lost)
+            → CopyStops result (copied_to self.new.copied codec.new) self.new.unread
+            (R.remaining self.new.reader) }
         ensures ended { IfOk result (λ _. IsNone self.new.copied × IsFalse self.new.is_lost) }
         ensures header { (IsSome self.old.copied ⊎ IsFalse self.old.is_lost)
             → IsNone self.new.copied → header_of codec.new ≡ None }
@@ -109,6 +112,8 @@ impl<R: Read, A: Allocator + Copy> PacketReader<R, A> {
             (R.remaining self.old.reader) (R.remaining self.new.reader)
             self.old.reads self.new.reads result written
             (span_state decoder.new) self.new.unread }
+        ensures stops { CopyStops result (span_state decoder.new) self.new.unread
+            (R.remaining self.new.reader) }
         ensures uncut { header_came (span_state decoder.new).place ≡ [] }
         ensures none { IsNone self.new.lent }
         ensures held { self.new.held ≡ [] }

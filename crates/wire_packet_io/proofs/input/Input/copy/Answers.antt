@@ -1,6 +1,6 @@
 use Rattle.std.proofs.Common.{◌∙◌, ap, arith, refl, Ok, Err, true, false}
 use Rattle.wire_span.specs.Spans.{span_state}
-use Rattle.wire_packet_io.proofs.CopyLemmas.{copy_starts, copy_goes, copy_ends, stops_by, copy_reads, copy_done, copy_failed, at_end}
+use Rattle.wire_packet_io.proofs.CopyLemmas.{copy_starts, copy_goes, copy_ends, stops_by, copy_reads, copy_done, copy_failed, at_end, read_stops}
 use Rattle.wire_packet_io.proofs.input.Input.copy.Goals as goal
 
 pub reads-init : goal.reads-init
@@ -15,10 +15,9 @@ reads-init g c = record {
 pub returns-in-Ok-true-clause-copies : goal.returns-in-Ok-true-clause-copies
 returns-in-Ok-true-clause-copies g c =
     let goes = rw c.in-Ok-true.field-0-test at c.in-Ok-true.ensures.goes in
-    let ends = rw c.in-Ok-true.field-0-test at c.in-Ok-true.ensures.ends in
     copy_ends (Ok true) (span_state c.args.decoder.now) (span_state c.reads.decoder) (span_state c.copy_unread.new.decoder) c.args.self.now.src.items c.reads.self.src.items
     c.copy_unread.new.self.src.items _ _ _ _ _ _ _ _ _ goes.0 c.reads.invariant.so_far
-    (ap (λ z. g.R.Read.remaining z.reader) c.copy_unread.ensures.rest) (ap (λ z. z.reads) c.copy_unread.ensures.rest) goes.1 goes.2 ends
+    (ap (λ z. g.R.Read.remaining z.reader) c.copy_unread.ensures.rest) (ap (λ z. z.reads) c.copy_unread.ensures.rest) goes.1 goes.2
 
 pub returns-in-Err-clause-copies : goal.returns-in-Err-clause-copies
 returns-in-Err-clause-copies g c =
@@ -26,7 +25,6 @@ returns-in-Err-clause-copies g c =
     copy_ends (Err c.in-Err.error) (span_state c.args.decoder.now) (span_state c.reads.decoder) (span_state c.copy_unread.new.decoder) c.args.self.now.src.items c.reads.self.src.items
     c.copy_unread.new.self.src.items _ _ _ _ _ _ _ _ _ goes.0 c.reads.invariant.so_far
     (ap (λ z. g.R.Read.remaining z.reader) c.copy_unread.ensures.rest) (ap (λ z. z.reads) c.copy_unread.ensures.rest) goes.1 goes.2
-    (stops_by c.in-Err.error _ _ _ c.in-Err.ensures.ends)
 
 pub returns-in-Ok-eq0-clause-copies : goal.returns-in-Ok-eq0-clause-copies
 returns-in-Ok-eq0-clause-copies g c =
@@ -40,7 +38,6 @@ returns-in-Ok-eq0-clause-copies g c =
     _ _ _ _ _ _ _ _ so_far waits piece.2 piece.3 c.in-Ok-eq0.ensures.read (let n = c.in-Ok-eq0.ensures.small in let e = piece.1 in omega arith) in
     copy_done c.at_copys_end.result (span_state c.args.decoder.now) (span_state c.copy_unread.new.decoder) c.args.self.now.src.items c.read_more.new.self.src.items
     _ _ _ _ _ _ read c.at_copys_end.ensures.going
-    (at_end c.at_copys_end.result _ _ _ c.at_copys_end.ensures.stops c.at_copys_end.ensures.going c.at_copys_end.ensures.only (c.in-Ok-eq0.ensures.end c.in-Ok-eq0.field-0-test))
 
 pub reads-preserved : goal.reads-preserved
 reads-preserved g c =
@@ -69,3 +66,15 @@ returns-in-Err-read_more-clause-copies g c =
     (ap (λ z. g.R.Read.remaining z.reader) c.copy_unread.ensures.rest) (ap (λ z. z.reads) c.copy_unread.ensures.rest) c.copy_unread.ensures.limit goes.1 goes.2 in
     copy_failed c.in-Err-read_more.error (span_state c.args.decoder.now) (span_state c.copy_unread.new.decoder) c.args.self.now.src.items c.copy_unread.new.self.src.items c.read_more.new.self.src.items
     _ _ _ _ _ _ _ _ so_far waits c.in-Err-read_more.ensures.err c.in-Err-read_more.ensures.kept c.in-Err-read_more.ensures.failed
+
+pub returns-in-Err-clause-stops : goal.returns-in-Err-clause-stops
+returns-in-Err-clause-stops g c = stops_by c.in-Err.error _ _ _ c.in-Err.ensures.ends
+
+pub returns-in-Ok-eq0-clause-stops : goal.returns-in-Ok-eq0-clause-stops
+returns-in-Ok-eq0-clause-stops g c =
+    at_end c.at_copys_end.result _ _ _ c.at_copys_end.ensures.stops c.at_copys_end.ensures.going c.at_copys_end.ensures.only (c.in-Ok-eq0.ensures.end c.in-Ok-eq0.field-0-test)
+
+pub returns-in-Err-read_more-clause-stops : goal.returns-in-Err-read_more-clause-stops
+returns-in-Err-read_more-clause-stops g c =
+    let waits = rw c.in-Ok-false.field-0-test at c.in-Ok-false.ensures.ends in
+    read_stops c.in-Err-read_more.error _ _ _ _ _ _ waits c.in-Err-read_more.ensures.err c.in-Err-read_more.ensures.failed
