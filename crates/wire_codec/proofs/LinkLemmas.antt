@@ -1,5 +1,5 @@
 -- What one link of a chain makes of a codec that stands, or goes on under limits.
-use Rattle.std.proofs.Common.{◌≡◌, ◌≢◌, ℕ, ◌+◌, ◌%◌, ◌<◌, ◌⊎◌, List, [], ◌++◌, length, refl, sym, subst, ap, ◌∙◌, inl, inr, Option, Some, None, Result, Ok, Err, Bool, true, false}
+use Rattle.std.proofs.Common.{◌≡◌, ◌≢◌, ℕ, ◌+◌, ◌%◌, ◌<◌, ◌⊎◌, List, ◌++◌, length, refl, sym, subst, ap, ◌∙◌, inl, inr, Option, Some, None, Result, Ok, Err, Bool, true, false}
 use Rattle.wire_codec.specs.declared.codec.chunk.ChunkInfo.{ChunkInfo}
 use Rattle.wire_codec.specs.declared.codec.chunk.ChunkInfo.TheVariants.{Middle, Last}
 use Rattle.wire_codec.specs.declared.codec.error.PacketCodecError.{PacketCodecError}
