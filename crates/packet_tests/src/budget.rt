@@ -47,7 +47,7 @@ fn a_declared_count_takes_little_memory(rt: HostRuntime) -> Result<(), Fail> {
 }
 
 // A full chunk with its header.
-fn fill<A: Allocator>(src: &mut BytesMut<A>) -> bool {
+fn fill<A: Allocator + Copy>(src: &mut BytesMut<A>) -> bool {
     let header = src.extend_from_slice(b"\xff\xff\xff\0").is_ok();
     header & src.resize(4 + MAX_PAYLOAD_LEN, 0).is_ok()
 }
