@@ -57,6 +57,10 @@ impl<'a, A: Allocator + Copy> Source<'a, A> {
         self.reader.can_skip(&self.codec)
     }
 
+    pub fn can_copy(&self) -> bool {
+        self.reader.can_copy(&self.codec)
+    }
+
     pub fn unread(&self) -> &[u8] {
         self.reader.unread()
     }

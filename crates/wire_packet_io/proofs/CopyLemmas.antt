@@ -23,7 +23,7 @@ use Rattle.wire_span.proofs.PassingLemmas.{merged_spans}
 use Rattle.wire_packet_io.specs.declared.error.PacketIoError.{PacketIoError}
 use Rattle.wire_packet_io.specs.declared.error.PacketIoError.TheVariants.{Io, UnexpectedEnd, WriteZero, PacketTooLarge, PacketsOutOfSync, OutOfMemory}
 use Rattle.wire_packet_io.specs.PacketIo.{joined_reads, read_size, CountsUp, ReadFails}
-use Rattle.wire_packet_io.specs.Copies.{has_ended, CopiedPacket, CopiesNext, CopyStops, IsSpanRefusal, StepsCopy, StopsHere, WaitsBehind, WaitsHere}
+use Rattle.wire_packet_io.specs.Copying.{has_ended, CopiedPacket, CopiesNext, CopyStops, IsSpanRefusal, StepsCopy, StopsHere, WaitsBehind, WaitsHere}
 use Rattle.wire_packet_io.proofs.PacketIoLemmas.{reads_more, counted_more, length-push}
 
 -- nothing came, in a span of no bytes

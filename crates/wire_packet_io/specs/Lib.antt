@@ -2,4 +2,4 @@ pub mod PacketIo
 pub mod Lent
 pub mod Bounds
 pub mod Skips
-pub mod Copies
+pub mod Copying

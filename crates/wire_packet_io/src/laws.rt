@@ -2,7 +2,7 @@
 //! a caller has it by calling.
 
 ghost use Rattle.wire_packet_io.specs.Bounds.{BoundedReads};
-ghost use Rattle.wire_packet_io.specs.Copies.{CopiedPacket};
+ghost use Rattle.wire_packet_io.specs.Copying.{CopiedPacket};
 
 /// How many bytes a reader keeps, whatever its peer sends: what was there before the call, or what
 /// a packet of at most the limit takes with its headers, 3 bytes more, and one read of 8192.

@@ -7,6 +7,7 @@ use mysql_wire::proto::codec::{PacketCodec, PacketDst};
 use mysql_wire::proto::packet_io::{PacketIoError, PacketReader};
 use refusing::NEVER;
 use std::alloc::Allocator;
+use std::io;
 use test_support::facts::{are_parts, same};
 use test_support::fixture::{Fixture, Heap};
 use test_support::receiver::{Receiver, Run, Tally, frames, pieces_from};
@@ -28,6 +29,7 @@ pub enum Taking {
     NextPacket,
     FillPacket,
     SkipPacket,
+    CopyPacket,
 }
 
 /// What runs over pieces.
@@ -67,6 +69,7 @@ pub const ROWS: &[Row] = &[
     ("PacketReader::next_packet", Taking::NextPacket, 2),
     ("PacketReader::fill_packet", Taking::FillPacket, 1),
     ("PacketReader::skip_packet", Taking::SkipPacket, 1),
+    ("PacketReader::copy_packet", Taking::CopyPacket, 1),
 ];
 
 // More than a buffer has room for that holds a few bytes.
@@ -286,6 +289,23 @@ fn skips<A: Allocator + Copy>(heap: &Heap, alloc: A, nth: u64) -> Option<bool> {
     (matches!(answer, Ok(true)) & reader.unread().is_empty()).then_some(refused)
 }
 
+// Whether the request was refused; the packet is then copied.
+fn copies<A: Allocator + Copy>(heap: &Heap, alloc: A, nth: u64) -> Option<bool> {
+    heap.refuse(NEVER);
+    let mut reader = PacketReader::new(alloc, PACKET).ok()?;
+    let mut codec = PacketCodec::default();
+    if !reader.can_copy(&codec) {
+        return None;
+    }
+    heap.refuse(nth);
+    let mut answer = reader.copy_packet(&mut codec, &mut io::sink());
+    let refused = matches!(answer, Err(PacketIoError::OutOfMemory));
+    if refused {
+        answer = reader.copy_packet(&mut codec, &mut io::sink());
+    }
+    (matches!(answer, Ok(true)) & reader.unread().is_empty()).then_some(refused)
+}
+
 // ---- all
 
 /// Whether the request was refused, and what stands then is right.
@@ -304,5 +324,6 @@ pub fn tries<A: Allocator + Copy>(heap: &Heap, alloc: A, call: Taking, nth: u64)
         Taking::NextPacket => reads(heap, alloc, false, nth),
         Taking::FillPacket => reads(heap, alloc, true, nth),
         Taking::SkipPacket => skips(heap, alloc, nth),
+        Taking::CopyPacket => copies(heap, alloc, nth),
     }
 }

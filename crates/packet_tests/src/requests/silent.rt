@@ -104,6 +104,7 @@ const ROWS: &[(&[&str], Group)] = &[
             "PacketReader::new",
             "PacketReader::fits",
             "PacketReader::can_skip",
+            "PacketReader::can_copy",
             "PacketReader::unread",
             "PacketReader::reads",
             "PacketReader::into_inner",
@@ -262,7 +263,7 @@ fn reader_works<A: Allocator + Copy>(alloc: A) -> bool {
     let Some(from) = Source::new(alloc, b"ab") else {
         return false;
     };
-    let all = from.fits() & from.can_skip() & from.unread().is_empty();
+    let all = from.fits() & from.can_skip() & from.can_copy() & from.unread().is_empty();
     all & (from.reads() == 0) & (from.shown_len() > 0) & same(from.into_inner(), b"ab")
 }
 

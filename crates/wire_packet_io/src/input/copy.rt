@@ -4,7 +4,7 @@ ghost use Rattle.std.specs.Prelude.{◌≡◌, ℕ, ◌+◌, ◌<◌, ◌≤◌,
 ghost use Rattle.std.specs.Io.KnownBytes.{Appends, IsAtEnd};
 ghost use Rattle.wire_span.specs.Spans.{header_came, span_state, EatsSpans, IsBetween};
 ghost use Rattle.wire_span.specs.Passing.{left_in, most_bytes};
-ghost use Rattle.wire_packet_io.specs.Copies.{has_ended, CopiesNext, CopyStops, EndsCopy, IsSpanRefusal, StepsCopy, WaitsHere};
+ghost use Rattle.wire_packet_io.specs.Copying.{has_ended, CopiesNext, CopyStops, EndsCopy, IsSpanRefusal, StepsCopy, WaitsHere};
 
 use super::Input;
 use crate::error::PacketIoError;

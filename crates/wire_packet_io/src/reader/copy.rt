@@ -4,7 +4,7 @@ ghost use Rattle.std.specs.Prelude.{◌≡◌, ◌↔◌, ◌⊎◌, ℕ, List, 
 ghost use Rattle.std.specs.Io.KnownBytes.{Appends};
 ghost use Rattle.wire_codec.specs.Codec.{header_of};
 ghost use Rattle.wire_span.specs.Spans.{header_came, span_state, IsBetween};
-ghost use Rattle.wire_packet_io.specs.Copies.{copied_to, CanCopy, CopiesNext, CopyStops};
+ghost use Rattle.wire_packet_io.specs.Copying.{copied_to, CanCopy, CopiesNext, CopyStops};
 
 use super::PacketReader;
 use crate::error::PacketIoError;

@@ -1,7 +1,7 @@
 use Rattle.std.proofs.Common.{ap, arith, sym, subst, refl}
 use Rattle.std.proofs.KnownBytes.{Keeps-refl}
 use Rattle.wire_span.specs.Spans.{SpanState, span_state}
-use Rattle.wire_packet_io.specs.Copies.{StopsHere}
+use Rattle.wire_packet_io.specs.Copying.{StopsHere}
 use Rattle.wire_packet_io.proofs.CopyLemmas.{header_step, header_stop}
 use Rattle.wire_packet_io.proofs.input.Input.copy_front.Goals as goal
 
