@@ -1,14 +1,13 @@
 //! Packets from readers that are copied to a writer: whole, cut, ended, failing, refused.
 
 use crate::scripted::{Narrow, Parts, Said, Slow, said_of};
-use linked_list_allocator::LocalHeap;
 use mysql_wire::proto::codec::PacketCodec;
 use mysql_wire::proto::packet_io::PacketReader;
 use refusing::{NEVER, Refusing};
 use std::alloc::{Allocator, Global};
 use std::io::{self, ErrorKind, Read, Write};
 use std::test::Fail;
-use test_support::facts::{no_row, same};
+use test_support::facts::{all_hold, no_row, same};
 
 // A reader of these bytes under a limit, a writer, and what they say as packets are copied, call
 // after call.
@@ -138,7 +137,7 @@ fn copies<R: Read, W: Write, A: Allocator + Copy>(
     match reader.copy_packet(codec, writer) {
         Ok(true) => Said::Packet,
         Ok(false) => Said::End,
-        Err(error) => said_of(error),
+        Err(error) => said_of(&error),
     }
 }
 
@@ -247,16 +246,17 @@ fn goes_long<A: Allocator + Copy>(alloc: A, parts: &[(&[u8], usize)], len: usize
     all & (writer.bytes == len) & (codec.sequence_id() == id)
 }
 
-// The memory is that of the buffer of one read, and of its growth.
+// No request is larger than the buffer of one read and its growth.
 #[test]
 fn long_packets_are_copied_with_little_memory(rt: HostRuntime) -> Result<(), Fail> {
-    let little = LocalHeap::new(rt.alloc(), 32768)?;
+    let heap = Refusing::new(rt.alloc(), NEVER);
     let mut wrong = None;
     for (i, row) in LONG_ROWS.iter().enumerate() {
         let (parts, len, id) = *row;
-        if !goes_long(&little, parts, len, id) {
+        if !goes_long(&heap, parts, len, id) {
             wrong = Some(i);
         }
     }
-    no_row(wrong)
+    no_row(wrong)?;
+    all_hold(&[heap.largest() <= 16384])
 }
