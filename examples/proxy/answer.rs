@@ -1,6 +1,7 @@
 //! The packets of an answer to a command.
 
 use crate::log::{Log, count};
+use crate::stream::Front;
 use mysql_wire::{Error, Fields};
 
 // The first byte of a packet, where it says what it is.
@@ -46,10 +47,10 @@ pub enum After {
     Done,
 }
 
-/// Goes past a packet of an answer. `ends_by_ok` is whether both sides agreed on
+/// Goes past a packet of an answer, by its front. `ends_by_ok` is whether both sides agreed on
 /// `CLIENT_DEPRECATE_EOF`: no EOF stands behind definitions, and an OK ends the rows.
-pub fn hear(next: Next, packet: &[u8], ends_by_ok: bool, log: &Log) -> Result<After, Error> {
-    let first = packet.first().copied();
+pub fn hear(next: Next, packet: &Front, ends_by_ok: bool, log: &Log) -> Result<After, Error> {
+    let first = packet.first();
     match next {
         Next::Text => Ok(After::Done),
         _ if first == Some(ERR) && error_number(packet)? == PROGRESS => Ok(After::Comes(next)),
@@ -79,27 +80,27 @@ pub fn hear(next: Next, packet: &[u8], ends_by_ok: bool, log: &Log) -> Result<Af
 }
 
 /// Logs an error by its number.
-pub fn hear_error(packet: &[u8], log: &Log) -> Result<(), Error> {
+pub fn hear_error(packet: &Front, log: &Log) -> Result<(), Error> {
     log.say(format_args!("  error {}", error_number(packet)?));
     Ok(())
 }
 
-fn error_number(packet: &[u8]) -> Result<u64, Error> {
-    Fields::starting_at(packet, 1).int(2)
+fn error_number(packet: &Front) -> Result<u64, Error> {
+    Fields::starting_at(packet.bytes, 1).int(2)
 }
 
-fn hear_first(packet: &[u8], log: &Log) -> Result<After, Error> {
+fn hear_first(packet: &Front, log: &Log) -> Result<After, Error> {
     match packet.first() {
-        Some(&OK) => {
-            let rows = Fields::starting_at(packet, 1).lenenc_int()?;
+        Some(OK) => {
+            let rows = Fields::starting_at(packet.bytes, 1).lenenc_int()?;
             log.say(format_args!("  ok, {} changed", count(rows, "row")));
             Ok(behind_result(status(packet, true)?))
         }
-        Some(&LOCAL_INFILE) => {
+        Some(LOCAL_INFILE) => {
             log.say(format_args!("  asks for a file"));
             Ok(After::FileComes)
         }
-        _ => match Fields::starting_at(packet, 0).lenenc_int()? {
+        _ => match Fields::starting_at(packet.bytes, 0).lenenc_int()? {
             0 => Ok(After::Comes(Next::Rows(0))),
             columns => Ok(After::Comes(Next::Columns(columns))),
         },
@@ -107,9 +108,9 @@ fn hear_first(packet: &[u8], log: &Log) -> Result<After, Error> {
 }
 
 /// A row may begin with the byte of an EOF, but is then longer than one.
-fn hear_row(rows: u64, packet: &[u8], ends_by_ok: bool, log: &Log) -> Result<After, Error> {
+fn hear_row(rows: u64, packet: &Front, ends_by_ok: bool, log: &Log) -> Result<After, Error> {
     let end_below = if ends_by_ok { 0xff_ffff } else { 9 };
-    if packet.first() != Some(&EOF) || packet.len() >= end_below {
+    if packet.first() != Some(EOF) || packet.len >= end_below {
         return Ok(After::Comes(Next::Rows(rows + 1)));
     }
     log.say(format_args!("  {}", count(rows, "row")));
@@ -122,8 +123,8 @@ fn behind_result(status: u64) -> After {
 }
 
 /// The status of an OK (also of one that begins as an EOF does), or of an EOF.
-fn status(packet: &[u8], is_ok: bool) -> Result<u64, Error> {
-    let mut fields = Fields::starting_at(packet, 1);
+fn status(packet: &Front, is_ok: bool) -> Result<u64, Error> {
+    let mut fields = Fields::starting_at(packet.bytes, 1);
     if is_ok {
         fields.lenenc_int()?;
         fields.lenenc_int()?;
@@ -134,8 +135,8 @@ fn status(packet: &[u8], is_ok: bool) -> Result<u64, Error> {
 }
 
 /// Parameters and columns are defined behind the first packet, with an EOF behind each of both.
-fn hear_prepared(packet: &[u8], ends_by_ok: bool, log: &Log) -> Result<After, Error> {
-    let mut fields = Fields::starting_at(packet, 1);
+fn hear_prepared(packet: &Front, ends_by_ok: bool, log: &Log) -> Result<After, Error> {
+    let mut fields = Fields::starting_at(packet.bytes, 1);
     let (statement, columns, parameters) = (fields.int(4)?, fields.int(2)?, fields.int(2)?);
     log.say(format_args!(
         "  statement {statement}: {}, {}",

@@ -5,14 +5,15 @@
 
 use crate::answer::{self, After, ERR, Next, OK};
 use crate::log::{Log, front};
+use crate::stream::Front;
 use mysql_wire::{Error, Fields};
-use std::borrow::Cow;
 use std::fmt;
 
 // The first byte of a greeting.
 const HANDSHAKE_V10: u8 = 0x0a;
 
-// Capabilities, as both sides announce them.
+// Capabilities, as both sides announce them: four bytes, and above them four of MariaDB's own, which
+// MySQL leaves 0.
 const COMPRESS: u64 = 1 << 5;
 const PROTOCOL_41: u64 = 1 << 9;
 const SSL: u64 = 1 << 11;
@@ -20,13 +21,14 @@ const DEPRECATE_EOF: u64 = 1 << 24;
 const OPTIONAL_METADATA: u64 = 1 << 25;
 const ZSTD: u64 = 1 << 26;
 const QUERY_ATTRIBUTES: u64 = 1 << 27;
-// MariaDB's own, in four bytes that MySQL leaves 0.
-const MARIADB_CACHE_METADATA: u64 = 1 << 4;
+const CACHE_METADATA: u64 = 1 << 36;
 
 // What the relay keeps a server from offering. What passes stays plain and can be looked at, and
 // each number of columns is followed by all definitions.
-const NOT_OFFERED: u64 = SSL | COMPRESS | ZSTD | OPTIONAL_METADATA;
-const NOT_OFFERED_MARIADB: u64 = MARIADB_CACHE_METADATA;
+const NOT_OFFERED: u64 = SSL | COMPRESS | ZSTD | OPTIONAL_METADATA | CACHE_METADATA;
+
+// Where a login's user stands.
+const LOGIN_USER: usize = 32;
 
 /// Where a connection stands.
 #[derive(Clone, Copy)]
@@ -131,25 +133,24 @@ impl Exchange {
         self.logged_in
     }
 
-    /// Goes past a packet of the client.
-    pub fn hear_client(&mut self, packet: &[u8]) -> Result<(), Misread> {
+    /// Goes past a packet of the client, by its front.
+    pub fn hear_client(&mut self, packet: &mut Front) -> Result<(), Misread> {
         match self.phase {
-            Phase::Command => self.hear_command(packet),
-            Phase::File if packet.is_empty() => self.phase = Phase::Answer(Next::ResultSet),
-            Phase::Login if self.agreed == 0 => self.hear_login(packet)?,
+            Phase::Command => self.hear_command(packet.bytes),
+            Phase::File if packet.len == 0 => self.phase = Phase::Answer(Next::ResultSet),
+            Phase::Login if self.agreed == 0 => self.hear_login(packet.bytes)?,
             _ => {}
         }
         Ok(())
     }
 
     fn hear_login(&mut self, packet: &[u8]) -> Result<(), Misread> {
-        let mut fields = Fields::starting_at(packet, 0);
-        self.agreed = self.offered & fields.int(4)?;
+        self.agreed = self.offered & Fields::new(packet).int(4)?;
         if self.agreed & PROTOCOL_41 == 0 {
             return Err(Misread::OldProtocol);
         }
-        fields.skip(28);
-        let user = fields.null_bytes()?;
+        let rest = packet.get(LOGIN_USER..).ok_or(Error::MissingBytes)?;
+        let user = rest.split(|&byte| byte == 0).next().unwrap_or_default();
         self.log.say(format_args!("login of {}", front(user)));
         Ok(())
     }
@@ -187,13 +188,13 @@ impl Exchange {
         front(fields.rest())
     }
 
-    /// Goes past a packet of the server, and says what the client gets in its place.
-    pub fn hear_server<'a>(&mut self, packet: &'a [u8]) -> Result<Cow<'a, [u8]>, Misread> {
-        let first = packet.first().copied();
+    /// Goes past a packet of the server, by its front.
+    pub fn hear_server(&mut self, packet: &mut Front) -> Result<(), Misread> {
+        let first = packet.first();
         match self.phase {
             Phase::Greeting if first == Some(HANDSHAKE_V10) => {
+                self.hear_greeting(packet.bytes)?;
                 self.phase = Phase::Login;
-                return Ok(Cow::Owned(self.hear_greeting(packet)?));
             }
             Phase::Login if first == Some(OK) => {
                 self.logged_in = true;
@@ -215,11 +216,11 @@ impl Exchange {
             _ if first == Some(ERR) => answer::hear_error(packet, &self.log)?,
             _ => {}
         }
-        Ok(Cow::Borrowed(packet))
+        Ok(())
     }
 
-    /// The greeting with fewer capabilities.
-    fn hear_greeting(&mut self, packet: &[u8]) -> Result<Vec<u8>, Misread> {
+    /// Takes back what isn't to be offered.
+    fn hear_greeting(&mut self, packet: &mut [u8]) -> Result<(), Misread> {
         let mut fields = Fields::starting_at(packet, 1);
         let version = fields.null_bytes()?;
         self.log.say(format_args!("server {}", front(version)));
@@ -233,13 +234,15 @@ impl Exchange {
         let mariadb_at = fields.at();
         let mariadb = fields.int(4)?;
 
-        self.offered = (low | high << 16) & !NOT_OFFERED;
-        let [low0, low1, high0, high1, ..] = self.offered.to_le_bytes();
-        let mariadb = (mariadb & !NOT_OFFERED_MARIADB) as u32;
-        let mut greeting = packet.to_vec();
-        greeting[low_at..low_at + 2].copy_from_slice(&[low0, low1]);
-        greeting[high_at..high_at + 2].copy_from_slice(&[high0, high1]);
-        greeting[mariadb_at..mariadb_at + 4].copy_from_slice(&mariadb.to_le_bytes());
-        Ok(greeting)
+        self.offered = (low | high << 16 | mariadb << 32) & !NOT_OFFERED;
+        overwrite(packet, low_at, 2, self.offered);
+        overwrite(packet, high_at, 2, self.offered >> 16);
+        overwrite(packet, mariadb_at, 4, self.offered >> 32);
+        Ok(())
     }
+}
+
+/// Writes the low bytes of a number over a field, the least significant first.
+fn overwrite(packet: &mut [u8], at: usize, width: usize, value: u64) {
+    packet[at..at + width].copy_from_slice(&value.to_le_bytes()[..width]);
 }

@@ -14,6 +14,7 @@ mod exchange;
 mod log;
 mod poll;
 mod relay;
+mod stream;
 
 use crate::log::Log;
 use crate::relay::{Fault, Relay};

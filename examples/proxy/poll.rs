@@ -21,26 +21,28 @@ extern "C" {
     fn poll(entries: *mut Entry, count: c_ulong, timeout: c_int) -> c_int;
 }
 
-/// What to wait for at a socket. That it hangs up is always waited for, unless it did.
+/// What to wait for at a socket.
 #[derive(Clone, Copy)]
 pub struct Interest {
     pub read: bool,
     pub write: bool,
-    pub ended: bool,
+    pub hang_up: bool,
 }
 
 impl Interest {
     fn entry(self, socket: &TcpStream) -> Entry {
         let read = if self.read { READABLE } else { 0 };
         let write = if self.write { WRITABLE } else { 0 };
+        let hang_up = if self.hang_up { HUNG_UP } else { 0 };
+        let events = read | write | hang_up;
         // An entry of a negative number is left out.
-        let socket = if self.ended { -1 } else { socket.as_raw_fd() };
-        Entry { socket, events: HUNG_UP | read | write, returned: 0 }
+        let socket = if events == 0 { -1 } else { socket.as_raw_fd() };
+        Entry { socket, events, returned: 0 }
     }
 }
 
-/// Waits until one of both has what it was asked for, or hung up. The answer is whether to read
-/// from each: its bytes came, or its end or an error did.
+/// Waits until one of both has what it was asked for. The answer is whether to read from each: its
+/// bytes came, or its end or an error did.
 pub fn wait(sockets: [(&TcpStream, Interest); 2]) -> io::Result<[bool; 2]> {
     let mut entries = sockets.map(|(socket, interest)| interest.entry(socket));
     // SAFETY: the pointer is to as many entries as are said.

@@ -5,15 +5,15 @@
 //! who hangs up when.
 //!
 //! How packets are numbered. The two sides of a MySQL connection share one number, which runs on
-//! over the packets of both until the next command. A `Connection` counts what it takes and what it
-//! encodes by one number too. All that one takes the other encodes, so both count the same
-//! packets, and each goes on with the number that it came with. Both are reset where an answer is
-//! complete, and the next command is numbered 0 on both.
+//! over the packets of both until the next command. What comes of one side goes to the other as it
+//! is, number and all: both count the same packets. So the relay has one number too, and each packet
+//! is held to it. It is 0 where an answer is complete and a command comes next.
 
 use crate::exchange::{Exchange, Misread};
 use crate::log::Log;
 use crate::poll::{self, Interest};
-use mysql_wire::{Connection, Error};
+use crate::stream::{Front, Stream};
+use mysql_wire::Error;
 use std::fmt;
 use std::io::{self, ErrorKind, Read, Write};
 use std::net::{Shutdown, TcpStream};
@@ -21,8 +21,6 @@ use std::time::{Duration, Instant};
 
 // The most bytes of a packet before a login.
 const LOGIN_LIMIT: usize = 1 << 16;
-// Where so many bytes wait for one side, nothing more is taken from the other.
-const HIGH_WATER: usize = 1 << 20;
 // How long a client that was refused may go on sending what it began.
 const LAST_WORDS: Duration = Duration::from_secs(10);
 
@@ -36,7 +34,17 @@ pub enum Fault {
     Wire(&'static str, Error),
     /// A packet can't be read as what it has to be.
     Malformed(&'static str, Misread),
-    GoneInside(&'static str, usize),
+    GoneInside(&'static str),
+}
+
+impl Fault {
+    /// Whose packet was refused, and the error packet by which the client is told.
+    fn answer(&self) -> Option<(&'static str, &'static [u8])> {
+        match self {
+            Fault::Wire(side, Error::PacketTooLarge) => Some((side, PACKET_TOO_LARGE)),
+            _ => None,
+        }
+    }
 }
 
 impl fmt::Display for Fault {
@@ -45,18 +53,16 @@ impl fmt::Display for Fault {
             Fault::Io(side, error) => write!(f, "{side}: {error}"),
             Fault::Wire(side, refusal) => write!(f, "{side}: {refusal}"),
             Fault::Malformed(side, misread) => write!(f, "{side}: {misread}"),
-            Fault::GoneInside(side, unread) => {
-                write!(f, "{side} went away inside a packet, {unread} bytes of it came")
-            }
+            Fault::GoneInside(side) => write!(f, "{side} went away inside a packet"),
         }
     }
 }
 
-/// One side: its socket, and its packets.
+/// One side: its socket, and what came of it for the other.
 struct Side {
     name: &'static str,
     socket: TcpStream,
-    wire: Connection,
+    stream: Stream,
     ended: bool,
 }
 
@@ -64,20 +70,14 @@ impl Side {
     fn new(name: &'static str, socket: TcpStream, limit: usize) -> Result<Side, Fault> {
         let set = socket.set_nonblocking(true).and_then(|()| socket.set_nodelay(true));
         set.map_err(|error| Fault::Io(name, error))?;
-        let wire = Connection::new(limit).map_err(|refusal| Fault::Wire(name, refusal))?;
-        Ok(Side { name, socket, wire, ended: false })
+        Ok(Side { name, socket, stream: Stream::new(limit), ended: false })
     }
 
-    fn refused(&self) -> impl Fn(Error) -> Fault + use<> {
-        let name = self.name;
-        move |refusal| Fault::Wire(name, refusal)
-    }
-
-    /// Feeds what one read has.
-    fn read(&mut self, room: &mut [u8]) -> Result<(), Fault> {
-        match self.socket.read(room) {
+    /// Reads once. A side that hung up, and more of it came than there is room for, ends here too.
+    fn read(&mut self) -> Result<(), Fault> {
+        match self.socket.read(self.stream.spare()) {
             Ok(0) => self.ended = true,
-            Ok(count) => self.wire.feed(&room[..count]).map_err(self.refused())?,
+            Ok(count) => self.stream.add(count),
             Err(error) if is_for_later(&error) => {}
             Err(error) if error.kind() == ErrorKind::ConnectionReset => self.ended = true,
             Err(error) => return Err(Fault::Io(self.name, error)),
@@ -85,15 +85,14 @@ impl Side {
         Ok(())
     }
 
-    /// Writes as much of what waits as one write takes. Whether any went.
-    fn write(&mut self) -> Result<bool, Fault> {
-        let pending = self.wire.pending();
-        if self.ended || pending.is_empty() {
+    /// Writes as much of what waits for this side as one write takes. Whether any went.
+    fn write(&mut self, other: &mut Stream) -> Result<bool, Fault> {
+        if !self.is_awaited_by(other) {
             return Ok(false);
         }
-        match self.socket.write(pending) {
+        match self.socket.write(other.pending()) {
             Ok(count) => {
-                self.wire.sent(count);
+                other.sent(count);
                 Ok(count > 0)
             }
             Err(error) if is_for_later(&error) => Ok(false),
@@ -101,41 +100,58 @@ impl Side {
         }
     }
 
-    /// Whether nothing is left that could be written.
-    fn is_flushed(&mut self) -> bool {
-        self.ended || self.wire.pending().is_empty()
+    /// Whether something of the other side can be written here.
+    fn is_awaited_by(&self, other: &Stream) -> bool {
+        !self.ended && !other.pending().is_empty()
     }
 
-    /// Whether so much waits that no more should.
-    fn is_full(&mut self) -> bool {
-        self.wire.pending().len() >= HIGH_WATER
+    /// Passes what came of one packet: of the open one, or of the next, which is heard first, and
+    /// begins only where it may. Whether its end passed.
+    fn pass(
+        &mut self,
+        may_begin: bool,
+        hear: impl FnOnce(&mut Front) -> Result<(), Misread>,
+    ) -> Result<bool, Fault> {
+        let name = self.name;
+        let refused = |refusal| Fault::Wire(name, refusal);
+        if self.stream.is_between_packets() {
+            if !may_begin {
+                return Ok(false);
+            }
+            let Some(mut front) = self.stream.front().map_err(refused)? else { return Ok(false) };
+            hear(&mut front).map_err(|misread| Fault::Malformed(name, misread))?;
+        }
+        self.stream.pass().map_err(refused)
     }
 
-    /// How this side ended: between two packets, or inside one.
-    fn hung_up(&mut self, end: &'static str) -> Result<Option<&'static str>, Fault> {
-        match self.wire.unread() {
-            0 => Ok(Some(end)),
-            unread => Err(Fault::GoneInside(self.name, unread)),
+    /// What to wait for here. While it isn't this side's turn it may only hang up.
+    fn interest(&self, speaks: bool, other: &Stream) -> Interest {
+        let reads = speaks || !self.stream.is_between_packets();
+        Interest {
+            read: !self.ended && reads && !self.stream.is_full(),
+            write: self.is_awaited_by(other),
+            hang_up: !self.ended && !reads,
         }
     }
 
-    /// Answers error 1153 to this side, the client. The number of this packet follows that of the
-    /// refused chunk; the wire still expects that one, so the header is made by hand. What the
-    /// client is about to send is read and dropped: as long as it writes, it doesn't read the
-    /// answer.
-    fn say_too_large(mut self, client_sent_it: bool) -> io::Result<()> {
-        let expected = self.wire.sequence_id().unwrap_or(0);
-        let number = if client_sent_it { expected.wrapping_add(1) } else { expected };
-        let mut socket = &self.socket;
+    /// How this side ended: between two packets, or inside one.
+    fn hung_up(&self, end: &'static str) -> Result<Option<&'static str>, Fault> {
+        if self.stream.is_cut() { Err(Fault::GoneInside(self.name)) } else { Ok(Some(end)) }
+    }
+
+    /// Sends this side, the client, what waits for it and a last packet. What it is about to send
+    /// is read and dropped: as long as it writes, it doesn't read the answer.
+    fn say_last(self, pending: &[u8], number: u8, packet: &[u8]) -> io::Result<()> {
+        let mut socket = self.socket;
         socket.set_nonblocking(false)?;
         socket.set_write_timeout(Some(LAST_WORDS))?;
         socket.set_read_timeout(Some(LAST_WORDS))?;
-        socket.write_all(self.wire.pending())?;
-        socket.write_all(&[PACKET_TOO_LARGE.len() as u8, 0, 0, number])?;
-        socket.write_all(PACKET_TOO_LARGE)?;
+        socket.write_all(pending)?;
+        socket.write_all(&[packet.len() as u8, 0, 0, number])?;
+        socket.write_all(packet)?;
         socket.shutdown(Shutdown::Write)?;
 
-        let mut room = [0; 1 << 14];
+        let mut room = [0; 1 << 12];
         let began = Instant::now();
         while began.elapsed() < LAST_WORDS && socket.read(&mut room)? > 0 {}
         Ok(())
@@ -174,14 +190,18 @@ impl Relay {
     }
 
     /// Passes all packets, until a side hangs up or a packet is refused; then both sides are
-    /// closed. A packet above the limit is answered to the client.
+    /// closed. The client is told of some refusals, but inside a packet of the server there is no
+    /// place for that.
     pub fn run(mut self) -> Result<&'static str, Fault> {
         let end = self.pass_all();
         let Relay { log, client, server, .. } = self;
-        drop(server);
-        if let Err(Fault::Wire(side, Error::PacketTooLarge)) = end {
-            let client_sent_it = side == client.name;
-            if let Err(error) = client.say_too_large(client_sent_it) {
+        drop(server.socket);
+        let answer = end.as_ref().err().and_then(Fault::answer);
+        if let (Some((side, packet)), true) = (answer, server.stream.is_between_packets()) {
+            // It stands behind the client's chunk that was refused, or in place of the server's.
+            let behind = u8::from(side == client.name);
+            let number = client.stream.number().wrapping_add(behind);
+            if let Err(error) = client.say_last(server.stream.pending(), number, packet) {
                 log.say(format_args!("client: {error}"));
             }
         }
@@ -189,94 +209,75 @@ impl Relay {
     }
 
     fn pass_all(&mut self) -> Result<&'static str, Fault> {
-        let mut room = vec![0; 1 << 16];
         loop {
             while self.pass_from_client()? || self.pass_from_server()? {}
-            let wrote_to_client = self.client.write()?;
-            if self.server.write()? || wrote_to_client {
+            let wrote_to_client = self.client.write(&mut self.server.stream)?;
+            if self.server.write(&mut self.client.stream)? || wrote_to_client {
                 continue;
             }
             if let Some(end) = self.end()? {
                 return Ok(end);
             }
-            self.wait(&mut room)?;
+            self.wait()?;
         }
     }
 
-    /// Passes a packet of the client, where one stands whole and it is its turn.
+    /// Passes what came of a packet of the client. Whether it ended.
     fn pass_from_client(&mut self) -> Result<bool, Fault> {
-        if !self.exchange.client_speaks() || self.server.is_full() {
-            return Ok(false);
+        let Relay { client, server, exchange, .. } = self;
+        let may_begin = exchange.client_speaks() && server.stream.is_between_packets();
+        let ended = client.pass(may_begin, |front| exchange.hear_client(front))?;
+        if ended {
+            self.go_on_with(self.client.stream.number());
         }
-        let refused = self.client.refused();
-        let Some(packet) = self.client.wire.peek().map_err(&refused)? else { return Ok(false) };
-        let heard = self.exchange.hear_client(packet);
-        heard.map_err(|misread| Fault::Malformed(self.client.name, misread))?;
-        self.server.wire.encode(packet).map_err(&refused)?;
-        self.client.wire.take().map_err(&refused)?;
-        self.number_commands()?;
-        Ok(true)
+        Ok(ended)
     }
 
-    /// Passes a packet of the server, where one stands whole and it is its turn.
+    /// Passes what came of a packet of the server. Whether it ended.
     fn pass_from_server(&mut self) -> Result<bool, Fault> {
-        if !self.exchange.server_speaks() || self.client.is_full() {
-            return Ok(false);
+        let Relay { client, server, exchange, .. } = self;
+        let may_begin = exchange.server_speaks() && client.stream.is_between_packets();
+        let ended = server.pass(may_begin, |front| exchange.hear_server(front))?;
+        if ended {
+            self.go_on_with(self.server.stream.number());
+            if self.exchange.is_logged_in() {
+                self.client.stream.set_limit(self.limit);
+            }
         }
-        let refused = self.server.refused();
-        let Some(packet) = self.server.wire.peek().map_err(&refused)? else { return Ok(false) };
-        let was_logged_in = self.exchange.is_logged_in();
-        let heard = self.exchange.hear_server(packet);
-        let packet = heard.map_err(|misread| Fault::Malformed(self.server.name, misread))?;
-        self.client.wire.encode(&packet).map_err(&refused)?;
-        self.server.wire.take().map_err(&refused)?;
-        self.number_commands()?;
-        if self.exchange.is_logged_in() && !was_logged_in {
-            self.client.wire.set_limit(self.limit).map_err(self.client.refused())?;
-        }
-        Ok(true)
+        Ok(ended)
     }
 
-    /// Begins to number anew on both sides, where a command comes next.
-    fn number_commands(&mut self) -> Result<(), Fault> {
-        if self.exchange.is_between_commands() {
-            self.client.wire.reset_seq_id().map_err(self.client.refused())?;
-            self.server.wire.reset_seq_id().map_err(self.server.refused())?;
-        }
-        Ok(())
+    /// Gives the next packet of both sides its number, behind one of either. A command's is 0.
+    fn go_on_with(&mut self, number: u8) {
+        let number = if self.exchange.is_between_commands() { 0 } else { number };
+        self.client.stream.set_number(number);
+        self.server.stream.set_number(number);
     }
 
     /// What ended, where a side hung up and nothing waits for the other.
-    fn end(&mut self) -> Result<Option<&'static str>, Fault> {
-        if self.client.ended && self.server.is_flushed() {
-            return self.client.hung_up("the client hung up");
+    fn end(&self) -> Result<Option<&'static str>, Fault> {
+        let Relay { client, server, .. } = self;
+        if client.ended && !server.is_awaited_by(&client.stream) {
+            return client.hung_up("the client hung up");
         }
-        if self.server.ended && self.client.is_flushed() {
-            return self.server.hung_up("the server hung up");
+        if server.ended && !client.is_awaited_by(&server.stream) {
+            return server.hung_up("the server hung up");
         }
         Ok(None)
     }
 
-    /// Waits for a side, and reads what came. One that hung up is read to its end, whoever's turn
+    /// Waits for a side, and reads what came. One that hangs up is read to its end, whoever's turn
     /// it is: a client that goes away doesn't leave its server at work.
-    fn wait(&mut self, room: &mut [u8]) -> Result<(), Fault> {
-        let to_client = Interest {
-            read: self.exchange.client_speaks() && !self.server.is_full(),
-            write: !self.client.is_flushed(),
-            ended: self.client.ended,
-        };
-        let to_server = Interest {
-            read: self.exchange.server_speaks() && !self.client.is_full(),
-            write: !self.server.is_flushed(),
-            ended: self.server.ended,
-        };
-        let sockets = [(&self.client.socket, to_client), (&self.server.socket, to_server)];
-        let [client, server] = poll::wait(sockets).map_err(|error| Fault::Io("poll", error))?;
-        if client {
-            self.client.read(room)?;
-        }
-        if server {
-            self.server.read(room)?;
+    fn wait(&mut self) -> Result<(), Fault> {
+        let Relay { client, server, exchange, .. } = self;
+        let to_client = client.interest(exchange.client_speaks(), &server.stream);
+        let to_server = server.interest(exchange.server_speaks(), &client.stream);
+        let sockets = [(&client.socket, to_client), (&server.socket, to_server)];
+        let ready = poll::wait(sockets).map_err(|error| Fault::Io("poll", error))?;
+        for (side, is_ready) in [client, server].into_iter().zip(ready) {
+            if is_ready {
+                side.read()?;
+            }
         }
         Ok(())
     }

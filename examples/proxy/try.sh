@@ -78,11 +78,12 @@ as_root() {
     "$client" --no-defaults --socket="$work/socket" --user=root --batch --execute="$1"
 }
 
-# start_proxy NAME LIMIT: starts a proxy in front of the server. Its log is NAME.log, and NAME_port
-# its port.
+# start_proxy NAME LIMIT: starts a proxy in front of the server. Its log is NAME.log, NAME_port its
+# port, and NAME_id its process.
 start_proxy() {
     "$work/proxy" 127.0.0.1:0 "127.0.0.1:$server_port" "$2" > "$work/$1.log" &
     started+=($!)
+    printf -v "$1_id" '%s' $!
     until_it grep -q 'listens on' "$work/$1.log"
     printf -v "$1_port" '%s' "$(sed -n 's/.*listens on .*:\([0-9]*\)$/\1/p' "$work/$1.log")"
 }
@@ -96,12 +97,35 @@ ask() {
         --skip-column-names "$@"
 }
 
-# same OPTIONS..: the statements on standard input print the same with the proxy and without.
-same() {
+# same_at PORT OPTIONS..: the statements on standard input print the same at this port as at the
+# server's.
+same_at() {
+    local port=$1
+    shift
     cat > "$work/statements"
     ask "$server_port" "$@" < "$work/statements" > "$work/direct" 2>&1
-    ask "$proxy_port" "$@" < "$work/statements" > "$work/relayed" 2>&1
+    ask "$port" "$@" < "$work/statements" > "$work/relayed" 2>&1
     [ -s "$work/direct" ] && cmp "$work/direct" "$work/relayed"
+}
+
+# same OPTIONS..: the same with the proxy and without.
+same() {
+    same_at "$proxy_port" "$@"
+}
+
+# memory FIELD: this of the wide proxy's memory, in KiB. VmRSS is what it has, VmHWM the most it had.
+memory() {
+    sed -n "s/^$1:[^0-9]*\([0-9]*\) kB/\1/p" "/proc/$wide_id/status"
+}
+
+# in_little_memory: the statements on standard input print the same, and the wide proxy has at most
+# 1 MiB more meanwhile than before.
+in_little_memory() {
+    local before
+    before=$(memory VmRSS)
+    # This makes the peak what it has now.
+    echo 5 > "/proc/$wide_id/clear_refs"
+    same_at "$wide_port" && (($(memory VmHWM) < before + 1024))
 }
 
 # logged LOG PATTERN: the proxy wrote such a line, soon.
@@ -132,7 +156,7 @@ goes_away() {
     printf '\x20\x00\x00\x01abc' >&3
     sleep 0.2
     exec 3>&-
-    logged proxy 'client went away inside a packet, 7 bytes' && until_it alone
+    logged proxy 'client went away inside a packet' && until_it alone
 }
 
 # refused_early: a packet above 64 KiB is refused before a login.
@@ -203,6 +227,7 @@ as_root "CREATE DATABASE probe; CREATE USER probe@'127.0.0.1' IDENTIFIED BY 'ses
     GRANT ALL ON probe.* TO plain@'127.0.0.1';"
 start_proxy proxy $((32 << 20))
 start_proxy narrow $((1 << 20))
+start_proxy wide $((1 << 30))
 
 check 'a login with a password' same <<< 'SELECT USER()'
 check 'a login with a wrong password' same --password=wrong <<< 'SELECT 1'
@@ -255,6 +280,12 @@ SELECT REPEAT('a', 16777216);
 END
 printf "SELECT LENGTH('%0*d')" 17000000 0 > "$work/long"
 check 'a statement of 17000000 bytes' same < "$work/long"
+check 'a result of 60000000 bytes in little memory' in_little_memory <<< \
+    "SELECT REPEAT('a', 60000000)"
+printf "SELECT LENGTH('%0*d')" 60000000 0 > "$work/long"
+check 'a statement of 60000000 bytes in little memory' in_little_memory < "$work/long"
+check 'many results in little memory' in_little_memory <<< "WITH RECURSIVE n AS (SELECT 1 AS i
+    UNION ALL SELECT i + 1 FROM n WHERE i < 30) SELECT i, REPEAT('a', 1000000) FROM n"
 check 'several clients side by side' side_by_side
 slap=$(first_of mariadb-slap mysqlslap)
 [ -n "$slap" ] && check 'eight clients with 800 statements' same_load

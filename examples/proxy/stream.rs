@@ -1,0 +1,119 @@
+//! What one side sends, on its way to the other.
+
+use mysql_wire::{Error, Fields, Spans};
+
+// The bytes of a chunk's header, of which the first three are its length.
+const HEADER: usize = 4;
+const LENGTH: usize = 3;
+// The most bytes of a packet that are looked at. All that has to be known of one stands there, but
+// for the greeting of a server whose version is longer.
+const FRONT: usize = 512;
+// The most bytes that wait for the other side. A front has to fit.
+const ROOM: usize = 1 << 14;
+
+/// The front of a packet, before it goes on. What is written to it goes on in its place.
+pub struct Front<'a> {
+    pub bytes: &'a mut [u8],
+    /// How many bytes the packet's first chunk has.
+    pub len: usize,
+}
+
+impl Front<'_> {
+    /// The first byte, where the packet isn't empty.
+    pub fn first(&self) -> Option<u8> {
+        self.bytes.first().copied()
+    }
+}
+
+/// The bytes of one side that came and haven't gone to the other: those that may go, and behind them
+/// those that may not yet.
+pub struct Stream {
+    room: Box<[u8]>,
+    came: usize,
+    passed: usize,
+    spans: Spans,
+}
+
+impl Stream {
+    /// For packets of at most `limit` bytes.
+    pub fn new(limit: usize) -> Stream {
+        let room = vec![0; ROOM].into_boxed_slice();
+        Stream { room, came: 0, passed: 0, spans: Spans::new(limit, 0) }
+    }
+
+    /// Where the next bytes are read to.
+    pub fn spare(&mut self) -> &mut [u8] {
+        &mut self.room[self.came..]
+    }
+
+    /// So many bytes were read there.
+    pub fn add(&mut self, count: usize) {
+        self.came += count;
+    }
+
+    /// Whether no more can be read.
+    pub fn is_full(&self) -> bool {
+        self.came == self.room.len()
+    }
+
+    /// The bytes that may go.
+    pub fn pending(&self) -> &[u8] {
+        &self.room[..self.passed]
+    }
+
+    /// The first `count` of them went.
+    pub fn sent(&mut self, count: usize) {
+        self.room.copy_within(count..self.came, 0);
+        self.came -= count;
+        self.passed -= count;
+    }
+
+    /// Whether the next bytes begin a packet.
+    pub fn is_between_packets(&self) -> bool {
+        self.spans.is_between_packets()
+    }
+
+    /// Whether a part of a packet came, or more that may not go yet.
+    pub fn is_cut(&self) -> bool {
+        !self.is_between_packets() || self.passed < self.came
+    }
+
+    /// The number of the next chunk.
+    pub fn number(&self) -> u8 {
+        self.spans.sequence_id()
+    }
+
+    /// Sets the number of the next packet.
+    pub fn set_number(&mut self, number: u8) {
+        self.spans.set_sequence_id(number);
+    }
+
+    /// Sets the most bytes of a packet.
+    pub fn set_limit(&mut self, limit: usize) {
+        self.spans.set_limit(limit);
+    }
+
+    /// The front of the packet that begins with the next bytes, where it came. A header that is
+    /// refused is so at once, whatever came behind it.
+    pub fn front(&mut self) -> Result<Option<Front<'_>>, Error> {
+        let waiting = &mut self.room[self.passed..self.came];
+        let Some((header, payload)) = waiting.split_at_mut_checked(HEADER) else { return Ok(None) };
+        // A copy looks at it, so that these spans stay between packets until the front came.
+        self.spans.clone().next_span(&mut &*header)?;
+        let len = Fields::new(header).int(LENGTH)? as usize;
+        let bytes = payload.get_mut(..len.min(FRONT));
+        Ok(bytes.map(|bytes| Front { bytes, len }))
+    }
+
+    /// Lets go what came of the packet in front. Whether that was its end.
+    pub fn pass(&mut self) -> Result<bool, Error> {
+        let mut piece = &self.room[self.passed..self.came];
+        let mut ended = false;
+        while !ended {
+            let Some(span) = self.spans.next_span(&mut piece)? else { break };
+            ended = span.ends_packet;
+        }
+        self.passed = self.came - piece.len();
+        Ok(ended)
+    }
+}
