@@ -14,6 +14,7 @@ const HANDSHAKE_V10: u8 = 0x0a;
 
 // Capabilities, as both sides announce them: four bytes, and above them four of MariaDB's own, which
 // MySQL leaves 0.
+const CLIENT_MYSQL: u64 = 1;
 const COMPRESS: u64 = 1 << 5;
 const PROTOCOL_41: u64 = 1 << 9;
 const SSL: u64 = 1 << 11;
@@ -25,9 +26,12 @@ const CACHE_METADATA: u64 = 1 << 36;
 
 // What the relay keeps a server from offering. What passes stays plain and can be looked at, and
 // each number of columns is followed by all definitions.
-const NOT_OFFERED: u64 = SSL | COMPRESS | ZSTD | OPTIONAL_METADATA | CACHE_METADATA;
+const NOT_OFFERED: u64 = NOT_PLAIN | OPTIONAL_METADATA | CACHE_METADATA;
+// Under these a client goes on in bytes that aren't packets.
+const NOT_PLAIN: u64 = SSL | COMPRESS | ZSTD;
 
-// Where a login's user stands.
+// A login's own bytes of MariaDB's capabilities, and where its user stands.
+const LOGIN_MARIADB: usize = 28;
 const LOGIN_USER: usize = 32;
 
 /// Where a connection stands.
@@ -79,6 +83,8 @@ const COMMANDS: [(u8, &str, Phase); 26] = [
 pub enum Misread {
     Field(Error),
     OldProtocol,
+    /// A login asks for TLS or compression.
+    NotOffered,
 }
 
 impl From<Error> for Misread {
@@ -92,6 +98,7 @@ impl fmt::Display for Misread {
         match self {
             Misread::Field(refusal) => write!(f, "a malformed packet: {refusal}"),
             Misread::OldProtocol => f.write_str("a protocol older than 4.1"),
+            Misread::NotOffered => f.write_str("a login that asks for TLS or compression"),
         }
     }
 }
@@ -144,13 +151,22 @@ impl Exchange {
         Ok(())
     }
 
-    fn hear_login(&mut self, packet: &[u8]) -> Result<(), Misread> {
-        self.agreed = self.offered & Fields::new(packet).int(4)?;
-        if self.agreed & PROTOCOL_41 == 0 {
+    /// Clears what the server doesn't offer. The flag of MySQL's clients stays: MariaDB's servers
+    /// don't offer it, and read by it what a client is.
+    fn hear_login(&mut self, packet: &mut [u8]) -> Result<(), Misread> {
+        let mut asked = Fields::new(packet).int(4)?;
+        if asked & self.offered & PROTOCOL_41 == 0 {
             return Err(Misread::OldProtocol);
         }
-        let rest = packet.get(LOGIN_USER..).ok_or(Error::MissingBytes)?;
-        let user = rest.split(|&byte| byte == 0).next().unwrap_or_default();
+        asked |= Fields::starting_at(packet, LOGIN_MARIADB).int(4)? << 32;
+        if asked & NOT_PLAIN != 0 {
+            return Err(Misread::NotOffered);
+        }
+        self.agreed = asked & self.offered;
+        let kept = self.agreed | asked & CLIENT_MYSQL;
+        overwrite(packet, 0, 4, kept);
+        overwrite(packet, LOGIN_MARIADB, 4, kept >> 32);
+        let user = packet[LOGIN_USER..].split(|&byte| byte == 0).next().unwrap_or_default();
         self.log.say(format_args!("login of {}", front(user)));
         Ok(())
     }

@@ -24,9 +24,11 @@ const LOGIN_LIMIT: usize = 1 << 16;
 // How long a client that was refused may go on sending what it began.
 const LAST_WORDS: Duration = Duration::from_secs(10);
 
-// Error 1153, with its state.
+// Errors 1153 and 1043, with their states.
 const PACKET_TOO_LARGE: &[u8] =
     b"\xff\x81\x04#08S01Got a packet bigger than 'max_allowed_packet' bytes";
+const BAD_HANDSHAKE: &[u8] =
+    b"\xff\x13\x04#08S01Bad handshake: TLS and compression are not offered";
 
 /// Why a connection isn't relayed any more.
 pub enum Fault {
@@ -42,6 +44,7 @@ impl Fault {
     fn answer(&self) -> Option<(&'static str, &'static [u8])> {
         match self {
             Fault::Wire(side, Error::PacketTooLarge) => Some((side, PACKET_TOO_LARGE)),
+            Fault::Malformed(side, Misread::NotOffered) => Some((side, BAD_HANDSHAKE)),
             _ => None,
         }
     }

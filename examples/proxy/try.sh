@@ -179,6 +179,28 @@ same_statements() {
     tail -n 1 "$work/direct" | grep -q '^    ' && diff "$work/direct" "$work/relayed"
 }
 
+# unoffered PORT FLAGS MARIADB: what a raw client gets that logs in with these flags.
+unoffered() {
+    python3 -B "$top/examples/proxy/unoffered.py" "$@" 2>&1
+}
+
+# not_plain: a login that asks for compression, TLS or compression by zstd gets an error.
+not_plain() {
+    local flag
+    for flag in 20 800 4000000; do
+        unoffered "$proxy_port" "$flag" 0 > "$work/said"
+        [ "$(wc -l < "$work/said")" = 1 ] && grep -q '^2 ff .*Bad handshake' "$work/said" || return
+    done
+}
+
+# cleared: a login that asks for all else that isn't offered, such as to leave out definitions that
+# were sent before, is answered as one that doesn't ask.
+cleared() {
+    unoffered "$server_port" 0 0 > "$work/direct"
+    unoffered "$proxy_port" da000000 fffffff0 > "$work/relayed"
+    [ "$(wc -l < "$work/direct")" = 14 ] && cmp "$work/direct" "$work/relayed"
+}
+
 # same_load: mariadb-slap's clients get all their answers.
 same_load() {
     "$slap" --no-defaults --protocol=tcp --host=127.0.0.1 --port="$proxy_port" --user=probe \
@@ -231,6 +253,7 @@ start_proxy wide $((1 << 30))
 
 check 'a login with a password' same <<< 'SELECT USER()'
 check 'a login with a wrong password' same --password=wrong <<< 'SELECT 1'
+check 'a client that would compress' same --compress <<< 'SELECT 1'
 check 'rows of every type' same << 'END'
 CREATE OR REPLACE TABLE kinds (i INT, u BIGINT UNSIGNED, d DECIMAL(20, 5), f DOUBLE, b BIT(9),
     day DATE, at DATETIME(6), t TIME, y YEAR, c CHAR(9), v VARCHAR(300), x BLOB, e ENUM('a', 'b'),
@@ -292,6 +315,8 @@ slap=$(first_of mariadb-slap mysqlslap)
 if command -v python3 > "$work/errors"; then
     check 'prepared statements, cursors, commands without answers' same_statements
     check 'the same under CLIENT_DEPRECATE_EOF' same_statements deprecate-eof
+    check 'a login that asks for TLS or compression' not_plain
+    check 'a login that asks for what else is not offered' cleared
 fi
 check 'a client that goes away inside a packet' goes_away
 printf "SELECT LENGTH('%0*d')" 2000000 0 > "$work/long"
