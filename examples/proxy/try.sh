@@ -78,14 +78,17 @@ as_root() {
     "$client" --no-defaults --socket="$work/socket" --user=root --batch --execute="$1"
 }
 
-# start_proxy NAME LIMIT: starts a proxy in front of the server. Its log is NAME.log, NAME_port its
-# port, and NAME_id its process.
+# start_proxy NAME WORDS [COMMAND..]: starts a proxy in front of the server, by this command. Its log
+# is NAME.log, NAME_port its port, and NAME_id its process.
 start_proxy() {
-    "$work/proxy" 127.0.0.1:0 "127.0.0.1:$server_port" "$2" > "$work/$1.log" &
+    local name=$1 words=$2
+    shift 2
+    "$@" "$work/proxy" 127.0.0.1:0 "127.0.0.1:$server_port" $words > "$work/$name.log" &
     started+=($!)
-    printf -v "$1_id" '%s' $!
-    until_it grep -q 'listens on' "$work/$1.log"
-    printf -v "$1_port" '%s' "$(sed -n 's/.*listens on .*:\([0-9]*\)$/\1/p' "$work/$1.log")"
+    printf -v "${name}_id" '%s' $!
+    until_it grep -q 'listens on' "$work/$name.log"
+    printf -v "${name}_port" '%s' \
+        "$(sed -n 's/.*listens on .*:\([0-9]*\)$/\1/p' "$work/$name.log")"
 }
 
 # ask PORT OPTIONS..: runs the client's program, with its statements on standard input.
@@ -220,6 +223,28 @@ leaves_early() {
     logged narrow "^$number the client hung up"
 }
 
+# one_too_many: a second client at a proxy for one, and the next one behind the first.
+one_too_many() {
+    ask "$lone_port" <<< 'SELECT SLEEP(1)' > "$work/slow" &
+    local slow=$!
+    logged lone 'COM_QUERY SELECT SLEEP' &&
+        says "$lone_port" '1040.*Too many connections' <<< 'SELECT 7' && wait "$slow" &&
+        logged lone 'the client hung up' && says "$lone_port" '^7$' <<< 'SELECT 7'
+}
+
+# no_descriptor: a proxy without a free descriptor goes on once it may have more.
+no_descriptor() {
+    logged scarce "isn't served: Too many open files" &&
+        prlimit --pid="$scarce_id" --nofile=64 && says "$scarce_port" '^7$' <<< 'SELECT 7'
+}
+
+# no_thread: a proxy without a free thread hangs up, and goes on once it may have more.
+no_thread() {
+    says "$threadless_port" 'ERROR 2013' <<< 'SELECT 7' &&
+        logged threadless "isn't served: Resource temporarily unavailable" &&
+        "${as_other[@]}" prlimit --pid="$threadless_id" --nproc=64 && says "$threadless_port" '^7$' <<< 'SELECT 7'
+}
+
 # alone: no other client is connected to the server.
 alone() {
     [ "$(as_root "SELECT COUNT(*) FROM information_schema.processlist WHERE Command != 'Daemon'" |
@@ -325,6 +350,19 @@ check 'a statement above the limit' says "$narrow_port" 'ERROR 1153.*bigger' < "
 check 'a result above the limit' says "$narrow_port" 'ERROR 1153' <<< "SELECT REPEAT('a', 2000000)"
 check 'the next client after these' says "$narrow_port" '^7$' <<< 'SELECT 7'
 check 'a client that goes away while it waits' leaves_early
+start_proxy lone "$((1 << 20)) 1"
+check 'one client too many' one_too_many
+if command -v prlimit > "$work/errors"; then
+    start_proxy scarce $((1 << 20)) prlimit --nofile=4:
+    check 'no descriptor for a client' no_descriptor
+fi
+# Root has all the threads that it wants, so a user runs it who runs nothing else.
+as_other=(setpriv --reuid=54321 --clear-groups)
+if [ "$(id -u)" = 0 ] && "${as_other[@]}" prlimit > "$work/errors" 2>&1; then
+    chmod a+x "$work"
+    start_proxy threadless $((1 << 20)) "${as_other[@]}" prlimit --nproc=1:
+    check 'no thread for a client' no_thread
+fi
 check 'the server is left by all' until_it alone
 
 check 'the log has the statements' logged proxy 'COM_QUERY PREPARE add_up FROM'
