@@ -275,6 +275,7 @@ as_root "CREATE DATABASE probe; CREATE USER probe@'127.0.0.1' IDENTIFIED BY 'ses
 start_proxy proxy $((32 << 20))
 start_proxy narrow $((1 << 20))
 start_proxy wide $((1 << 30))
+start_proxy middle 20000000
 
 check 'a login with a password' same <<< 'SELECT USER()'
 check 'a login with a wrong password' same --password=wrong <<< 'SELECT 1'
@@ -348,6 +349,11 @@ printf "SELECT LENGTH('%0*d')" 2000000 0 > "$work/long"
 check 'a long packet before the login' refused_early
 check 'a statement above the limit' says "$narrow_port" 'ERROR 1153.*bigger' < "$work/long"
 check 'a result above the limit' says "$narrow_port" 'ERROR 1153' <<< "SELECT REPEAT('a', 2000000)"
+printf "SELECT LENGTH('%0*d')" 30000000 0 > "$work/long"
+check 'a statement above the limit in its second chunk' says "$middle_port" 'ERROR 1153' \
+    < "$work/long"
+check 'a result above the limit in its second chunk' says "$middle_port" 'ERROR 2013' <<< \
+    "SELECT REPEAT('a', 30000000)"
 check 'the next client after these' says "$narrow_port" '^7$' <<< 'SELECT 7'
 check 'a client that goes away while it waits' leaves_early
 start_proxy lone "$((1 << 20)) 1"
