@@ -172,13 +172,15 @@ refused_early() {
     return "$status"
 }
 
-# same_statements OPTIONS..: the client in Python prints the same with the proxy and without.
+# same_statements PORT OPTIONS..: the client in Python prints the same at this port as at the
+# server's.
 same_statements() {
-    local statements=$top/examples/python/statements.py
+    local statements=$top/examples/python/statements.py port=$1
+    shift
     local -x PYTHONPATH=$top/bindings/python MYSQL_WIRE_LIBRARY
     MYSQL_WIRE_LIBRARY=$(ls "$top"/bindings/c/out/libmysql_wire.so.*.*.*)
     python3 -B "$statements" "$server_port" plain probe "$@" > "$work/direct" 2>&1
-    python3 -B "$statements" "$proxy_port" plain probe "$@" > "$work/relayed" 2>&1
+    python3 -B "$statements" "$port" plain probe "$@" > "$work/relayed" 2>&1
     tail -n 1 "$work/direct" | grep -q '^    ' && diff "$work/direct" "$work/relayed"
 }
 
@@ -202,6 +204,14 @@ cleared() {
     unoffered "$server_port" 0 0 > "$work/direct"
     unoffered "$proxy_port" da000000 fffffff0 > "$work/relayed"
     [ "$(wc -l < "$work/direct")" = 14 ] && cmp "$work/direct" "$work/relayed"
+}
+
+# start_pieces NAME PORT: forwards to this port in pieces of a few bytes, from NAME_port.
+start_pieces() {
+    python3 -B "$top/examples/proxy/pieces.py" "$2" > "$work/$1.port" &
+    started+=($!)
+    until_it test -s "$work/$1.port"
+    printf -v "$1_port" '%s' "$(< "$work/$1.port")"
 }
 
 # same_load: mariadb-slap's clients get all their answers.
@@ -339,8 +349,21 @@ check 'several clients side by side' side_by_side
 slap=$(first_of mariadb-slap mysqlslap)
 [ -n "$slap" ] && check 'eight clients with 800 statements' same_load
 if command -v python3 > "$work/errors"; then
-    check 'prepared statements, cursors, commands without answers' same_statements
-    check 'the same under CLIENT_DEPRECATE_EOF' same_statements deprecate-eof
+    check 'prepared statements, cursors, commands without answers' same_statements "$proxy_port"
+    check 'the same under CLIENT_DEPRECATE_EOF' same_statements "$proxy_port" deprecate-eof
+    # Pieces of the server's packets, a proxy, and pieces of the client's.
+    direct_port=$server_port
+    start_pieces far "$server_port"
+    server_port=$far_port
+    start_proxy between $((32 << 20))
+    server_port=$direct_port
+    start_pieces near "$between_port"
+    check 'the same cut into pieces' same_statements "$near_port"
+    check 'cut under CLIENT_DEPRECATE_EOF' same_statements "$near_port" deprecate-eof
+    check 'long rows cut into pieces' same_at "$near_port" << 'END'
+SELECT REPEAT('a', 16777211);
+SELECT REPEAT('b', 17000000);
+END
     check 'a login that asks for TLS or compression' not_plain
     check 'a login that asks for what else is not offered' cleared
 fi
