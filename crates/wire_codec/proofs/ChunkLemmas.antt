@@ -5,7 +5,7 @@ use Rattle.std.proofs.Math.Seq.{take-add}
 use Rattle.std.proofs.lemmas.List.{take-append-le, drop-append-le, length-take-le, take_min, drop_min}
 use Rattle.std.proofs.Math.Nat.{min_comm}
 use Rattle.wire_buf.specs.Numbers.{le_number, le_bytes}
-use Rattle.wire_codec.specs.Framing.{max_payload, max_payload_is, chunk, chunks, framing}
+use Rattle.wire_codec.specs.Framing.{max_payload, max_payload_is, header, chunk, chunks, framing}
 
 pub max_payload_pos : 0 < max_payload
 max_payload_pos = omega (arith, max_payload_is)
@@ -222,3 +222,47 @@ length-framing s p =
     let last : length (take max_payload (drop (b * max_payload) p)) ≡ length p - b * max_payload = rw (length-take, length-drop) (omega arith) in
     length-append (chunks b s p) (chunk (s + b) (take max_payload (drop (b * max_payload) p)))
     ∙ (let a = length-chunks b s p low in let e = length-chunk_alone (s + b) (take max_payload (drop (b * max_payload) p)) in omega arith)
+
+-- bytes written at a place, and others behind them
+pub put_twice : (old mid new a b : List ℕ) (at : ℕ) → at + length a ≤ length old → mid ≡ take at old ++ a ++ drop (at + length a) old
+    → new ≡ take (at + length a) mid ++ b ++ drop (at + length a + length b) mid
+    → new ≡ take at old ++ (a ++ b) ++ drop (at + length a + length b) old
+put_twice old mid new a b at fits mid_is new_is =
+    let m : ℕ = at + length a in
+    let front : List ℕ = take at old ++ a in
+    let front_len : length front ≡ m = length-append (take at old) a ∙ ap (λ (n : ℕ). n + length a) (length-take-le at old (omega arith)) in
+    let head : take m mid ≡ front = ap (λ (z : List ℕ). take m z) mid_is ∙ take_at front (drop m old) m front_len in
+    let tail : drop (m + length b) mid ≡ drop (m + length b) old =
+    sym (drop-drop (length b) m mid) ∙ ap (λ (z : List ℕ). drop (length b) z) (ap (λ (z : List ℕ). drop m z) mid_is ∙ drop_at front (drop m old) m front_len) ∙ drop-drop (length b) m old in
+    new_is ∙ ap₂ (λ (u v : List ℕ). u ++ b ++ v) head tail ∙ ap (λ (z : List ℕ). z ++ drop (m + length b) old) (append_assoc (take at old) a b)
+
+-- a chunk written at a place
+pub put_chunk_there : (old mid new hdr bytes : List ℕ) (at id : ℕ) → length hdr ≡ 4 → hdr ≡ header (length bytes) id → at + 4 + length bytes ≤ length old
+    → mid ≡ take at old ++ hdr ++ drop (at + length hdr) old → new ≡ take (at + 4) mid ++ bytes ++ drop (at + 4 + length bytes) mid
+    → new ≡ take at old ++ chunk id bytes ++ drop (at + 4 + length bytes) old
+unfolding chunk
+put_chunk_there old mid new hdr bytes at id four is fits mid_is new_is =
+    let e : at + length hdr ≡ at + 4 = ap (λ (n : ℕ). at + n) four in
+    let both = put_twice old mid new hdr bytes at (omega (arith, fits, e)) mid_is
+    (subst (λ (n : ℕ). new ≡ take n mid ++ bytes ++ drop (n + length bytes) mid) (sym e) new_is) in
+    both ∙ ap₂ (λ (u : List ℕ) (n : ℕ). take at old ++ (u ++ bytes) ++ drop (n + length bytes) old) is e
+
+-- one chunk more of a payload, written behind the others
+pub chunk_behind : (old room new packet rest bytes : List ℕ) (at count first id len : ℕ) → room ≡ chunks count first packet ++ drop at old
+    → length (chunks count first packet) ≡ at → new ≡ take at room ++ chunk id bytes ++ drop (at + 4 + length bytes) room → bytes ≡ take len rest
+    → rest ≡ drop (count * max_payload) packet → id ≡ (first + count) % 256 → len ≡ min (length rest) max_payload
+    → (new ≡ chunks (count + 1) first packet ++ drop (at + (4 + length bytes)) old)
+    × (length (chunks (count + 1) first packet) ≡ at + (4 + length bytes))
+chunk_behind old room new packet rest bytes at count first id len room_is size new_is is left id_is len_is =
+    let C : List ℕ = chunks count first packet in
+    let more : C ++ chunk id bytes ≡ chunks (count + 1) first packet =
+    ap (λ (z : List ℕ). C ++ chunk id z) is ∙ chunks_more C [] rest packet count first id len left id_is len_is refl in
+    let head : take at room ≡ C = ap (λ (z : List ℕ). take at z) room_is ∙ take_at C (drop at old) at size in
+    let behind : drop at room ≡ drop at old = ap (λ (z : List ℕ). drop at z) room_is ∙ drop_at C (drop at old) at size in
+    let place : at + 4 + length bytes ≡ at + (4 + length bytes) = omega arith in
+    let tail : drop (at + 4 + length bytes) room ≡ drop (at + (4 + length bytes)) old =
+    ap (λ (n : ℕ). drop n room) place ∙ sym (drop-drop (4 + length bytes) at room) ∙ ap (λ (z : List ℕ). drop (4 + length bytes) z) behind
+    ∙ drop-drop (4 + length bytes) at old in (
+      new_is ∙ ap₂ (λ (u v : List ℕ). u ++ chunk id bytes ++ v) head tail ∙ ap (λ (z : List ℕ). z ++ drop (at + (4 + length bytes)) old) more,
+      ap (λ (z : List ℕ). length z) (sym more) ∙ length-append C (chunk id bytes) ∙ ap₂ (λ (m n : ℕ). m + n) size (length-chunk_alone id bytes),
+    )

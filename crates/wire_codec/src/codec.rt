@@ -15,7 +15,7 @@ mod value;
 pub use chunk::{ChunkDecoder, ChunkInfo, PacketDst};
 pub use delivery::deliver;
 pub use each::{Visit, deliver_each};
-pub use framing::packet_to_chunks;
+pub use framing::{framed_len, packet_to_chunks, packet_to_slice};
 pub use limited::{deliver_each_limited, deliver_limited};
 pub use packet::{PacketCodec, Skipped};
 pub use value::encode_value;

@@ -49,7 +49,7 @@ impl Default for PacketCodec {
 }
 
 impl PacketCodec {
-    ghost use Rattle.wire_codec.specs.Codec.{expected_id, header_of, codec_state, Stands, DecodesPacket, ChunkChain, HasChunk};
+    ghost use Rattle.wire_codec.specs.Codec.{expected_id, header_of, codec_state, first_id, Stands, DecodesPacket, ChunkChain, HasChunk};
     ghost use Rattle.wire_codec.specs.LimitedRuns.{Aligned, DecodesAligned};
     ghost use Rattle.wire_codec.specs.Framing.{framing, next_id};
 
@@ -210,6 +210,23 @@ impl PacketCodec {
         self.seq_id = 0;
     }
 
+    /// Sets the sequence id that the next chunk is to bear, for one who reads a single direction of
+    /// a connection, or begins in the midst of a stream. Where nothing is held and no header is
+    /// remembered, a packet begins with it. Elsewhere the packet goes on with it: what is held and
+    /// a remembered header stay, and so does the standing of the codec.
+    ///
+    /// <https://dev.mysql.com/doc/dev/mysql-server/latest/page_protocol_basic_packets.html>
+    pub fn set_sequence_id(&mut self, seq_id: u8)
+        ensures id { expected_id self.new ≡ seq_id }
+        ensures header { header_of self.new ≡ header_of self.old }
+        ensures limit { self.new.max_allowed_packet ≡ self.old.max_allowed_packet }
+        ensures begins { (src : List ℕ) → first_id (codec_state self.new src []) ≡ seq_id }
+        ensures stands { (src dst : List ℕ)
+            → (Stands (codec_state self.old src dst) ↔ Stands (codec_state self.new src dst)) }
+    {
+        self.seq_id = seq_id;
+    }
+
     /// Stands in front of a packet whose first chunk bears this id, as behind one that was taken
     /// without the codec. A remembered header is forgotten.
     pub fn begin_at(&mut self, seq_id: u8)
@@ -217,7 +234,7 @@ impl PacketCodec {
         ensures header { header_of self.new ≡ None }
         ensures limit { self.new.max_allowed_packet ≡ self.old.max_allowed_packet }
     {
-        self.seq_id = seq_id;
+        self.set_sequence_id(seq_id);
         self.decoder = ChunkDecoder::Idle;
     }
 

@@ -39,7 +39,6 @@ impl PacketCodec {
     /// use of what was lent.
     ///
     /// <https://dev.mysql.com/doc/dev/mysql-server/latest/page_protocol_basic_packets.html>
-    #[tactic(auto, using(crate::specs::Framing::max_payload_is))]
     pub fn front_packet<'a, A: Allocator + Copy>(
         &self,
         src: &'a BytesMut<A>,
@@ -51,10 +50,24 @@ impl PacketCodec {
         ensures decodes { let before = codec_state self.now src.now.items dst.now in
             IsSome result → Stands before → DecodesPacket before (Ok true) (behind_front before) }
     {
+        self.front_packet_in(src.as_slice(), dst)
+    }
+
+    /// As `front_packet`, where the unread bytes lie anywhere, as in the room of a read. The packet
+    /// is taken by `accept_front_in`.
+    ///
+    /// <https://dev.mysql.com/doc/dev/mysql-server/latest/page_protocol_basic_packets.html>
+    #[inline(always)]
+    #[tactic(auto, using(crate::specs::Framing::max_payload_is))]
+    pub fn front_packet_in<'a>(&self, front: &'a [u8], dst: &[u8]) -> Option<&'a [u8]>
+        ensures there { IsSome result ↔ HasFront (codec_state self.now front.now dst.now) }
+        ensures packet { IfSome result (λ packet. packet.now ≡ front_payload front.now) }
+        ensures decodes { let before = codec_state self.now front.now dst.now in
+            IsSome result → Stands before → DecodesPacket before (Ok true) (behind_front before) }
+    {
         if !dst.is_empty() {
             return None;
         }
-        let front = src.as_slice();
         let Some(header) = Header::read(front) else {
             return None;
         };
@@ -109,7 +122,42 @@ impl PacketCodec {
 
         ensures limit { self.new.max_allowed_packet ≡ self.old.max_allowed_packet }
     {
-        let Some(header) = Header::read(src.as_slice()) else {
+        self.accept_front_in(src.as_slice())
+    }
+
+    /// As `accept_front`, where the unread bytes lie anywhere: for what `front_packet_in` lends.
+    #[inline(always)]
+    pub fn accept_front_in(&mut self, front: &[u8]) -> usize
+        requires { HasFront (codec_state self.old front.now []) }
+        ensures chunk { result ≡ 4 + chunk_len front.now }
+        ensures whole { result ≤ length front.now }
+        ensures decodes { let before = codec_state self.old front.now [] in
+            let after = codec_state self.new (drop result front.now)
+            (front_payload front.now) in
+            Stands before → DecodesPacket before (Ok true) after }
+        ensures aligned { let before = codec_state self.old front.now [] in
+            let after = codec_state self.new (drop result front.now)
+            (front_payload front.now) in
+            DecodesAligned before (Ok true) after }
+        // The same in the middle of a stream, of which each byte has its limit.
+        ensures on { let before = codec_state self.old front.now [] in
+            let after = codec_state self.new (drop result front.now)
+            (front_payload front.now) in
+            Decodes before (Ok true) after }
+        // One chunk is accepted.
+        ensures chain { let before = codec_state self.old front.now [] in
+            let after = codec_state self.new (drop result front.now)
+            (front_payload front.now) in
+            ChunkChain 1 before (Ok true) after }
+        ensures rest { codec_state self.new (drop result front.now)
+            (front_payload front.now)
+            ≡ behind_front (codec_state self.old front.now []) }
+        // The codec stands at what is left, and an empty `dst`.
+        ensures stands { Stands (codec_state self.new (drop result front.now) []) }
+
+        ensures limit { self.new.max_allowed_packet ≡ self.old.max_allowed_packet }
+    {
+        let Some(header) = Header::read(front) else {
             return 0;
         };
         self.decoder = ChunkDecoder::Idle;

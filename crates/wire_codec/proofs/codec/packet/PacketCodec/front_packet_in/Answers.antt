@@ -3,46 +3,44 @@ use Rattle.wire_codec.specs.Delivery.{chunk_len}
 use Rattle.wire_codec.specs.Framing.{max_payload, max_payload_is}
 use Rattle.wire_codec.specs.Codec.{header_of, expected_id}
 use Rattle.wire_codec.proofs.InPlaceLemmas.{front_there, front_decodes_at}
-use Rattle.wire_codec.proofs.codec.packet.PacketCodec.front_packet.Goals as goal
+use Rattle.wire_codec.proofs.codec.packet.PacketCodec.front_packet_in.Goals as goal
 
 pub returns-clause-there : goal.returns-clause-there
-returns-clause-there g c =
-    let src = c.args.src.now.items in
+returns-clause-there c =
+    let src = c.args.front.now in
     let limit = c.args.self.now.max_allowed_packet in
     let header = header_of c.args.self.now in
-    let same = c.as_slice-front.ensures in
-    let len : c.in-Some.header.len ≡ chunk_len src = c.in-Some.ensures.len ∙ ap (λ (z : List ℕ). chunk_len z) same in
-    let id : c.in-Some.header.seq_id ≡ slice_index src 3 = c.in-Some.ensures.id ∙ ap (λ (z : List ℕ). slice_index z 3) same in
-    let long : 4 ≤ length src = subst (λ (z : List ℕ). 4 ≤ length z) same (c.in-Some.ensures.there.0 refl) in
+    let len : c.in-Some.header.len ≡ chunk_len src = c.in-Some.ensures.len in
+    let id : c.in-Some.header.seq_id ≡ slice_index src 3 = c.in-Some.ensures.id in
+    let long : 4 ≤ length src = c.in-Some.ensures.there.0 refl in
     let empty : length c.args.dst.now ≡ 0 = eqb-true (length c.args.dst.now) 0 (sym c.is_empty.ensures ∙ c.if-not-is_empty.false) in
     let passes = c.passes.ensures.0 c.if-not-passes.false in
     let passes' : MatchOption header (chunk_len src ≤ limit) (λ h. (slice_index src 3 ≡ h.0) × (chunk_len src ≡ h.1) × (0 < h.1)) =
     subst (λ (n : ℕ). MatchOption header (n ≤ limit) (λ h. (slice_index src 3 ≡ h.0) × (n ≡ h.1) × (0 < h.1))) len
     (subst (λ (n : ℕ). MatchOption header (c.in-Some.header.len ≤ limit) (λ h. (n ≡ h.0) × (c.in-Some.header.len ≡ h.1) × (0 < h.1))) id passes) in
     let part : chunk_len src < max_payload = let n = c.if-header-eq-MAX_PAYLOAD_LEN.false in let m = c.in-Some.ensures.small in omega (arith, n, m, len, max_payload_is) in
-    let room : chunk_len src ≤ length src - 4 = let r = c.if-front-header.false in let l = ap (λ (z : List ℕ). length z) same in omega (arith, r, l, len) in
+    let room : chunk_len src ≤ length src - 4 = let r = c.if-front-header.false in omega (arith, r, len) in
     (λ e. front_there limit (expected_id c.args.self.now) header src c.args.dst.now empty long passes' (sym id ∙ c.if-header-self.false) part room, λ e. refl)
 
 pub returns-clause-decodes : goal.returns-clause-decodes
-returns-clause-decodes g c some stands =
-    let src = c.args.src.now.items in
+returns-clause-decodes c some stands =
+    let src = c.args.front.now in
     let limit = c.args.self.now.max_allowed_packet in
     let header = header_of c.args.self.now in
-    let same = c.as_slice-front.ensures in
-    let len : c.in-Some.header.len ≡ chunk_len src = c.in-Some.ensures.len ∙ ap (λ (z : List ℕ). chunk_len z) same in
-    let id : c.in-Some.header.seq_id ≡ slice_index src 3 = c.in-Some.ensures.id ∙ ap (λ (z : List ℕ). slice_index z 3) same in
-    let long : 4 ≤ length src = subst (λ (z : List ℕ). 4 ≤ length z) same (c.in-Some.ensures.there.0 refl) in
+    let len : c.in-Some.header.len ≡ chunk_len src = c.in-Some.ensures.len in
+    let id : c.in-Some.header.seq_id ≡ slice_index src 3 = c.in-Some.ensures.id in
+    let long : 4 ≤ length src = c.in-Some.ensures.there.0 refl in
     let empty : length c.args.dst.now ≡ 0 = eqb-true (length c.args.dst.now) 0 (sym c.is_empty.ensures ∙ c.if-not-is_empty.false) in
     let passes = c.passes.ensures.0 c.if-not-passes.false in
     let passes' : MatchOption header (chunk_len src ≤ limit) (λ h. (slice_index src 3 ≡ h.0) × (chunk_len src ≡ h.1) × (0 < h.1)) =
     subst (λ (n : ℕ). MatchOption header (n ≤ limit) (λ h. (slice_index src 3 ≡ h.0) × (n ≡ h.1) × (0 < h.1))) len
     (subst (λ (n : ℕ). MatchOption header (c.in-Some.header.len ≤ limit) (λ h. (n ≡ h.0) × (c.in-Some.header.len ≡ h.1) × (0 < h.1))) id passes) in
     let part : chunk_len src < max_payload = let n = c.if-header-eq-MAX_PAYLOAD_LEN.false in let m = c.in-Some.ensures.small in omega (arith, n, m, len, max_payload_is) in
-    let room : chunk_len src ≤ length src - 4 = let r = c.if-front-header.false in let l = ap (λ (z : List ℕ). length z) same in omega (arith, r, l, len) in
-    front_decodes_at limit (expected_id c.args.self.now) header src c.args.dst.now (omega arith) (rw same at c.in-Some.ensures.spelled)
+    let room : chunk_len src ≤ length src - 4 = let r = c.if-front-header.false in omega (arith, r, len) in
+    front_decodes_at limit (expected_id c.args.self.now) header src c.args.dst.now (omega arith) c.in-Some.ensures.spelled
     (front_there limit (expected_id c.args.self.now) header src c.args.dst.now empty long passes' (sym id ∙ c.if-header-self.false) part room) stands
 
 pub returns-then-header-eq-MAX_PAYLOAD_LEN-clause-there : goal.returns-then-header-eq-MAX_PAYLOAD_LEN-clause-there
-returns-then-header-eq-MAX_PAYLOAD_LEN-clause-there g c =
-    let len : c.in-Some.header.len ≡ chunk_len c.args.src.now.items = c.in-Some.ensures.len ∙ ap (λ (z : List ℕ). chunk_len z) c.as_slice-front.ensures in
+returns-then-header-eq-MAX_PAYLOAD_LEN-clause-there c =
+    let len : c.in-Some.header.len ≡ chunk_len c.args.front.now = c.in-Some.ensures.len in
     (λ e. absurd cc, λ there. absurd (let part = there.4 in let full = c.if-header-eq-MAX_PAYLOAD_LEN.true in omega (arith, part, full, len, max_payload_is)))
