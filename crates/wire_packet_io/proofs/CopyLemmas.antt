@@ -16,7 +16,7 @@ use Rattle.wire_codec.proofs.CodecLemmas.{stands_without}
 use Rattle.wire_codec.proofs.RunLemmas.{nothing_whole}
 use Rattle.wire_span.specs.declared.span.SpanDecoder.{SpanDecoder}
 use Rattle.wire_span.specs.Renumbering.{sent}
-use Rattle.wire_span.specs.Passing.{left_in, most_here, most_bytes}
+use Rattle.wire_span.specs.Passing.{most_here, most_bytes}
 use Rattle.wire_span.proofs.SpanLemmas.{nothing_came, spans_begin_is}
 use Rattle.wire_span.proofs.MixLemmas.{spans_end_is}
 use Rattle.wire_span.proofs.PassingLemmas.{merged_spans}
@@ -72,7 +72,7 @@ bytes_step before after src rest buf n count ended held more is within fits some
       λ goes. (let f = fewer goes in omega (arith, f, left, less), omega (arith, left, less, some)),
     )
 
-header_is : (src : List ℕ) (len id : ℕ) → 4 ≤ length src → len ≡ chunk_len src → id ≡ slice_index src 3 → IsSpelled src → take 4 src ≡ header len id
+pub header_is : (src : List ℕ) (len id : ℕ) → 4 ≤ length src → len ≡ chunk_len src → id ≡ slice_index src 3 → IsSpelled src → take 4 src ≡ header len id
 header_is src len id long len_is id_is spelled = spelled long ∙ ap₂ (λ (n i : ℕ). header n i) (sym len_is) (sym id_is)
 
 -- a header that was accepted
@@ -186,7 +186,7 @@ stops_by UnexpectedEnd state unread left h = absurd h
 stops_by OutOfMemory state unread left h = absurd h
 
 -- one read more
-waits_then : (before : SpanState) (old : List ℕ) (reads : List (List ℕ)) (piece : List ℕ)
+pub waits_then : (before : SpanState) (old : List ℕ) (reads : List (List ℕ)) (piece : List ℕ)
     → ((j : ℕ) → j < length reads → WaitsBehind before (old ++ joined_reads (take j reads))) → WaitsBehind before (old ++ joined_reads reads)
     → (j : ℕ) → j < length (reads ++ piece ∷ []) → WaitsBehind before (old ++ joined_reads (take j (reads ++ piece ∷ [])))
 waits_then before old reads piece earlier now j less =

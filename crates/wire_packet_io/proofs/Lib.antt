@@ -2,3 +2,4 @@ mod PacketIoLemmas
 mod BoundLemmas
 mod SkipLemmas
 pub mod CopyLemmas
+pub mod RelayLemmas

@@ -3,3 +3,4 @@ pub mod Lent
 pub mod Bounds
 pub mod Skips
 pub mod Copying
+pub mod Relaying

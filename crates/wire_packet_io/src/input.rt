@@ -11,6 +11,7 @@ ghost use Rattle.wire_packet_io.specs.Skips.{IsRefusal, SkipsNext};
 ghost use Rattle.wire_packet_io.specs.Lent.{IsThere, IsApart, found_in, answer_over, unread_behind};
 
 mod copy;
+mod relay;
 
 use crate::error::PacketIoError;
 use bytes::BytesMut;

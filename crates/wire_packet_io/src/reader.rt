@@ -9,6 +9,7 @@ ghost use Rattle.wire_packet_io.specs.Lent.{HandsOutLent, reading_state, answer_
 ghost use Rattle.wire_packet_io.specs.Skips.{CanSkip, SkipsNext, skipped_at};
 
 mod copy;
+mod relay;
 
 use crate::error::PacketIoError;
 use crate::input::{Found, Input, behind_front, front_payload};

@@ -103,6 +103,19 @@ impl<W: Write, A: Allocator + Copy> PacketWriter<W, A> {
         }
     }
 
+    // Puts bytes behind what is pending.
+    pub(crate) fn put(&mut self, bytes: &[u8]) -> Result<(), PacketIoError>
+        ensures put { OnOk result (self.new.pending ≡ self.old.pending ++ bytes.now) }
+        ensures err { OnErr result (self.new.pending ≡ self.old.pending) }
+        ensures memory { IfErr result (λ error. error ≡ PacketIoError.OutOfMemory) }
+        ensures writer { self.new.writer ≡ self.old.writer }
+    {
+        match self.pending.extend_from_slice(bytes) {
+            Ok(()) => Ok(()),
+            Err(_) => Err(PacketIoError::OutOfMemory),
+        }
+    }
+
     /// Writes until nothing is pending, and flushes. After `Io` and `WriteZero` exactly the bytes
     /// that did not go out are pending, and the call may be made again.
     pub fn write_pending(&mut self) -> Result<(), PacketIoError>

@@ -14,7 +14,7 @@ use wire_codec::codec::header::{HEADER_LEN, Header};
 use wire_span::{SpanDecoder, SpanError};
 
 // The reader's name for a refusal of a header.
-fn refusal(error: SpanError) -> PacketIoError
+pub(super) fn refusal(error: SpanError) -> PacketIoError
     ensures { IsSpanRefusal error result }
 {
     match error {
@@ -114,7 +114,7 @@ impl<R: Read, A: Allocator + Copy> Input<R, A> {
     }
 
     // What the end of the input means here: false between two packets.
-    fn at_copys_end(&self, decoder: &SpanDecoder) -> Result<bool, PacketIoError>
+    pub(super) fn at_copys_end(&self, decoder: &SpanDecoder) -> Result<bool, PacketIoError>
         requires { WaitsHere (span_state decoder.now) self.now.src.items }
         ensures stops { CopyStops result (span_state decoder.now) self.now.src.items None }
         ensures going { has_ended result ≡ false }

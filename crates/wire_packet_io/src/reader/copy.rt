@@ -85,7 +85,7 @@ impl<R: Read, A: Allocator + Copy> PacketReader<R, A> {
     }
 
     // Where it is in the packet that is copied, under the codec's limit.
-    fn copied_so_far(&self, codec: &PacketCodec) -> SpanDecoder
+    pub(super) fn copied_so_far(&self, codec: &PacketCodec) -> SpanDecoder
         ensures { span_state result ≡ copied_to self.now.copied codec.now }
     {
         let mut decoder = SpanDecoder::default();
@@ -126,7 +126,12 @@ impl<R: Read, A: Allocator + Copy> PacketReader<R, A> {
     }
 
     // Keeps the place in the packet, or, where it has ended, puts the codec behind it.
-    fn keep_place(&mut self, codec: &mut PacketCodec, decoder: SpanDecoder, is_lost: bool)
+    pub(super) fn keep_place(
+        &mut self,
+        codec: &mut PacketCodec,
+        decoder: SpanDecoder,
+        is_lost: bool,
+    )
         requires limit { decoder.max_allowed_packet ≡ codec.old.max_allowed_packet }
         ensures place { copied_to self.new.copied codec.new ≡ span_state decoder }
         ensures between { IsNone self.new.copied ↔ IsBetween (span_state decoder) }

@@ -1,4 +1,4 @@
-use Rattle.std.proofs.Common.{◌∙◌, ap, arith, refl, Ok, Err, true, false}
+use Rattle.std.proofs.Common.{◌∙◌, ap, arith, refl, Ok, Err, true}
 use Rattle.wire_span.specs.Spans.{span_state}
 use Rattle.wire_packet_io.proofs.CopyLemmas.{copy_starts, copy_goes, copy_ends, stops_by, copy_reads, copy_done, copy_failed, at_end, read_stops}
 use Rattle.wire_packet_io.proofs.input.Input.copy.Goals as goal

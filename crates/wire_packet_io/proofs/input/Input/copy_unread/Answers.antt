@@ -1,4 +1,4 @@
-use Rattle.std.proofs.Common.{◌++◌, ◌∙◌, [], ap, arith, refl, true, false}
+use Rattle.std.proofs.Common.{◌++◌, ◌∙◌, [], arith, refl, true, false}
 use Rattle.std.proofs.KnownBytes.{Appends-nil, Appends-trans}
 use Rattle.wire_span.specs.Spans.{span_state}
 use Rattle.wire_packet_io.proofs.CopyLemmas.{copied_none, copied_more, copy_stays}

@@ -1,0 +1,112 @@
+//! A packet that is passed on.
+
+ghost use Rattle.std.specs.Prelude.{◌≡◌, ◌↔◌, ◌⊎◌, ℕ, List, [], None, Err, IfOk, IsNone, IsSome, IsTrue, IsFalse};
+ghost use Rattle.wire_codec.specs.Codec.{expected_id, header_of};
+ghost use Rattle.wire_span.specs.Spans.{header_came, span_state};
+ghost use Rattle.wire_packet_io.specs.Copying.{copied_to, has_ended, CanCopy, CopiesNext};
+ghost use Rattle.wire_packet_io.specs.Relaying.{PassesOn, RelayStops};
+
+use super::PacketReader;
+use crate::error::PacketIoError;
+use crate::writer::PacketWriter;
+use std::alloc::Allocator;
+use std::io::{Read, Write};
+use wire_codec::codec::PacketCodec;
+use wire_span::SpanDecoder;
+
+impl<R: Read, A: Allocator + Copy> PacketReader<R, A> {
+    /// Passes the next packet on to a writer, with the ids of the writer's codec: true where it has
+    /// ended, false where the input ends between two packets. Its chunks keep their lengths. What
+    /// is kept of it is what one read brings, and as much behind what is pending, whatever its
+    /// size; the limit of the reader's codec counts.
+    ///
+    /// All that is pending is written, and flushed, before each read. The packet's last bytes are
+    /// pending as behind `queue`: `write_pending` writes them, once for many packets.
+    ///
+    /// It asks for a reader between two packets, with nothing lent or held; `can_copy` is the test.
+    /// A chunk is refused as soon as its header has come, with `PacketTooLarge` or
+    /// `PacketsOutOfSync`, and nothing of it goes. After `Io`, `WriteZero`, `UnexpectedEnd`,
+    /// `PacketTooLarge` and `OutOfMemory` the call may be made again and goes on at the same byte
+    /// of both sides. Where a part of the packet is gone, the reader is lost until it has ended, as
+    /// with `copy_packet`.
+    ///
+    /// <https://dev.mysql.com/doc/dev/mysql-server/latest/page_protocol_basic_packets.html>
+    pub fn relay_packet<W: Write, B: Allocator + Copy>(
+        &mut self,
+        codec: &mut PacketCodec,
+        writer: &mut PacketWriter<W, B>,
+        writer_codec: &mut PacketCodec,
+    ) -> Result<bool, PacketIoError>
+        requires { CanCopy codec.old self.old }
+        ensures lost { IsNone self.old.copied → IsTrue self.old.is_lost
+            → (result ≡ Err PacketIoError.PacketsOutOfSync) × (self.new ≡ self.old)
+            × (codec.new ≡ codec.old) × (writer.new ≡ writer.old)
+            × (writer_codec.new ≡ writer_codec.old) }
+        ensures relays { (IsSome self.old.copied ⊎ IsFalse self.old.is_lost) → (bytes : List ℕ)
+            × CopiesNext (copied_to self.old.copied codec.old) self.old.unread
+            (R.remaining self.old.reader) (R.remaining self.new.reader)
+            self.old.reads self.new.reads result bytes
+            (copied_to self.new.copied codec.new) self.new.unread
+            × PassesOn (copied_to self.old.copied codec.old) (expected_id writer_codec.old) bytes
+            (has_ended result) (copied_to self.new.copied codec.new) (expected_id writer_codec.new)
+            writer.old.pending writer.new.pending
+            (W.contents writer.old.writer) (W.contents writer.new.writer) }
+        ensures stops { (IsSome self.old.copied ⊎ IsFalse self.old.is_lost)
+            → RelayStops result (copied_to self.new.copied codec.new) self.new.unread
+            (R.remaining self.new.reader) writer.new.pending }
+        ensures ended { IfOk result (λ _. IsNone self.new.copied × IsFalse self.new.is_lost) }
+        ensures header { (IsSome self.old.copied ⊎ IsFalse self.old.is_lost)
+            → IsNone self.new.copied → header_of codec.new ≡ None }
+        ensures under_way { IsSome self.new.copied → codec.new ≡ codec.old }
+        ensures loses { IsTrue self.new.is_lost
+            ↔ (IsSome self.new.copied ⊎ (result ≡ Err PacketIoError.PacketsOutOfSync)) }
+        ensures rest { (self.new.held ≡ self.old.held) × (self.new.lent ≡ self.old.lent)
+            × (self.new.skipped ≡ self.old.skipped) }
+        ensures can { CanCopy codec.new self.new }
+        ensures limit { codec.new.max_allowed_packet ≡ codec.old.max_allowed_packet }
+        ensures other { (header_of writer_codec.new ≡ header_of writer_codec.old)
+            × (writer_codec.new.max_allowed_packet ≡ writer_codec.old.max_allowed_packet) }
+    {
+        if self.input.lost && self.copied.is_none() {
+            return Err(PacketIoError::PacketsOutOfSync);
+        }
+        let mut decoder = self.copied_so_far(codec);
+        let mut next_id = writer_codec.sequence_id();
+        let result = self.go_on_relaying(&mut decoder, writer, &mut next_id);
+        let is_lost = matches!(&result, Err(PacketIoError::PacketsOutOfSync));
+        self.keep_place(codec, decoder, is_lost);
+        writer_codec.set_sequence_id(next_id);
+        result
+    }
+
+    // Goes on from there.
+    fn go_on_relaying<W: Write, B: Allocator + Copy>(
+        &mut self,
+        decoder: &mut SpanDecoder,
+        writer: &mut PacketWriter<W, B>,
+        next_id: &mut u8,
+    ) -> Result<bool, PacketIoError>
+        requires none { IsNone self.old.lent }
+        requires held { self.old.held ≡ [] }
+        requires uncut { header_came (span_state decoder.old).place ≡ [] }
+        ensures relays { (bytes : List ℕ)
+            × CopiesNext (span_state decoder.old) self.old.unread
+            (R.remaining self.old.reader) (R.remaining self.new.reader)
+            self.old.reads self.new.reads result bytes
+            (span_state decoder.new) self.new.unread
+            × PassesOn (span_state decoder.old) next_id.old bytes (has_ended result)
+            (span_state decoder.new) next_id.new writer.old.pending writer.new.pending
+            (W.contents writer.old.writer) (W.contents writer.new.writer) }
+        ensures stops { RelayStops result (span_state decoder.new) self.new.unread
+            (R.remaining self.new.reader) writer.new.pending }
+        ensures uncut { header_came (span_state decoder.new).place ≡ [] }
+        ensures none { IsNone self.new.lent }
+        ensures held { self.new.held ≡ [] }
+        ensures rest { (self.new.held ≡ self.old.held) × (self.new.skipped ≡ self.old.skipped)
+            × (self.new.copied ≡ self.old.copied) × (self.new.is_lost ≡ self.old.is_lost) }
+        ensures limit { decoder.new.max_allowed_packet ≡ decoder.old.max_allowed_packet }
+    {
+        self.lent = None;
+        self.input.relay(decoder, writer, next_id)
+    }
+}
