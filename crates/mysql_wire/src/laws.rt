@@ -19,7 +19,7 @@ pub use wire_codec::laws::{
     joined_limited_runs, joined_runs, joined_splits, nothing_read, one_delivery,
     one_limited_delivery, one_run, run_goes_on, stream_append, unique_framing,
 };
-pub use wire_packet_io::laws::{bounded_reads, copied_packet};
+pub use wire_packet_io::laws::{bounded_reads, copied_packet, relayed_packet};
 use wire_repr::wire::Wire;
 pub use wire_span::laws::{
     framed_packet, framed_stream, frames_front, joined_frames, joined_renumberings, joined_spans,

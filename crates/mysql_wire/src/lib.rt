@@ -86,7 +86,8 @@ pub mod proto {
         pub use wire_buf::io::{parse_packet, parse_packet_in};
         pub use wire_codec::codec::{
             ChunkDecoder, ChunkInfo, PacketCodec, PacketDst, Skipped, Visit, deliver, deliver_each,
-            deliver_each_limited, deliver_limited, encode_value, error, packet_to_chunks,
+            deliver_each_limited, deliver_limited, encode_value, error, framed_len,
+            packet_to_chunks, packet_to_slice,
         };
         pub use wire_span::{
             FramePart, FrameWriter, Renumber, Span, SpanDecoder, SpanError, SpanParts,
