@@ -32,7 +32,8 @@
  *     written, and not handed to a call on the connection that lent it;
  *   - a view lent by a call is read only until the next call on that connection, and not after
  *     `mysql_wire_close`;
- *   - malloc, realloc and free are those of one allocator; no call is made from a signal handler.
+ *   - malloc, realloc and free are those of one allocator, and so are the functions in their place;
+ *     no call is made from a signal handler.
  * All else is checked and proved: no call writes outside of what it was given, whatever bytes come.
  *
  * What a connection holds: `mysql_wire_feed` keeps all it is given, without a bound of its own. So
@@ -90,6 +91,7 @@ enum {
     MYSQL_WIRE_WAITS = 0,           /* no packet is whole: feed more bytes */
     MYSQL_WIRE_PACKET = 1,          /* a packet stands whole */
     MYSQL_WIRE_SPAN = 2,            /* bytes of a packet */
+    MYSQL_WIRE_NULL = 3,            /* the text is NULL */
     MYSQL_WIRE_TOO_LARGE = -1,      /* the packet is above the limit */
     MYSQL_WIRE_OUT_OF_SYNC = -2,    /* a packet bears another number than the expected one */
     MYSQL_WIRE_NO_MEMORY = -3,      /* memory was refused: the same call may be made again */
@@ -106,6 +108,15 @@ enum {
 
 /* The version of the library: 10000 times its first number, 100 times its second, and its third. */
 uint32_t mysql_wire_version(void);
+
+/*
+ * Where all memory of the library comes from and goes to, in place of malloc, realloc and free: three
+ * functions of one allocator, none of them NULL, each with the meaning of the one that it stands for.
+ * It is called before every other call, once, and by one thread; the three are called by each thread
+ * that calls the library. It is there in the libraries that bindings/c makes.
+ */
+void mysql_wire_set_memory(void *(*allocates)(size_t), void *(*reallocates)(void *, size_t),
+                           void (*releases)(void *));
 
 /*
  * A connection of packets of at most `limit` bytes each, the next of them numbered 0. It goes where
@@ -149,6 +160,27 @@ int32_t mysql_wire_next(mysql_wire_connection *connection, uint8_t *room, size_t
                         size_t *len);
 
 /*
+ * Takes the packet that is lent, and lends the next one: from `bytes`, without a copy and without
+ * memory, where it lies whole there in one chunk and nothing that came before is unread. `used` of
+ * the bytes are used up then, and there is nothing more to take. Else the connection takes as many
+ * bytes as complete a packet, or all, and the packet is lent as by `mysql_wire_peek`: `used` says how
+ * many. So a loop over what a read gave copies only the packets that are cut by its ends:
+ *
+ *     while ((code = mysql_wire_decode(&connection, bytes, len, &used, &packet)) ==
+ *            MYSQL_WIRE_PACKET) {
+ *         use(packet.at, packet.len);
+ *         bytes += used;
+ *         len -= used;
+ *     }
+ *
+ * PACKET: `packet` is the payload, till the next call and as long as `bytes` are there. WAITS: all
+ * bytes were used up. TOO_LARGE, NO_MEMORY, OUT_OF_SYNC: as `mysql_wire_peek`; the first `used` bytes
+ * are taken, and a call with the others goes on. Each but PACKET leaves an empty `packet`.
+ */
+int32_t mysql_wire_decode(mysql_wire_connection *connection, const uint8_t *bytes, size_t len,
+                          size_t *used, mysql_wire_view *packet);
+
+/*
  * Sets the most bytes of a packet. A chunk's header is judged once, by the limit in force when its
  * fourth byte was fed; so the new limit holds for what is fed from now on. Where the packet in
  * front is too large, it holds for that header and all that is unread behind it. It also holds for
@@ -175,6 +207,23 @@ size_t mysql_wire_unread(mysql_wire_connection *connection);
  */
 int32_t mysql_wire_encode(mysql_wire_connection *connection, const uint8_t *payload, size_t len);
 
+/*
+ * How many bytes a payload of `len` bytes takes with the headers of its chunks: 4 for each, and a
+ * chunk more behind a full one. OK; TOO_LARGE: more than a size_t counts, and `framed` is 0.
+ */
+int32_t mysql_wire_framed_len(size_t len, size_t *framed);
+
+/*
+ * Frames a payload at the front of `room`, numbered as by `mysql_wire_encode`; `written` is how many
+ * bytes that takes, as `mysql_wire_framed_len` says. Bytes that wait to be sent aren't looked at: they
+ * bear the numbers before it, and go first.
+ * OK; ROOM_TOO_SMALL: `written` says how many bytes are needed; TOO_LARGE: it is above the limit, or
+ * takes more bytes than a size_t counts; NO_MEMORY (only where a packet is lent). Each refusal
+ * changes nothing, and all but ROOM_TOO_SMALL leave a `written` of 0.
+ */
+int32_t mysql_wire_encode_to(mysql_wire_connection *connection, const uint8_t *payload, size_t len,
+                             uint8_t *room, size_t room_len, size_t *written);
+
 /* Moves bytes that wait to `room`, as many as fit, and answers how many. */
 size_t mysql_wire_output(mysql_wire_connection *connection, uint8_t *room, size_t room_len);
 
@@ -191,6 +240,13 @@ size_t mysql_wire_sent(mysql_wire_connection *connection, size_t count);
  * OK; NO_MEMORY (only where a packet is lent): nothing changes.
  */
 int32_t mysql_wire_reset(mysql_wire_connection *connection);
+
+/*
+ * Numbers the next packet, sent or received, with `id`: where a single direction of a connection is
+ * read, or a stream from its midst. In the midst of a packet it is the number of the packet's next
+ * chunk. OK; NO_MEMORY (only where a packet is lent): nothing changes.
+ */
+int32_t mysql_wire_set_sequence_id(mysql_wire_connection *connection, uint8_t id);
 
 /* The number of the next packet: 0 to 255. CLOSED; OUT_OF_SYNC: the stream is lost. */
 int32_t mysql_wire_sequence_id(mysql_wire_connection *connection);
@@ -268,8 +324,8 @@ void mysql_wire_message(int32_t code, mysql_wire_view *text);
 
 /*
  * --- fields ---
- * `at` is where to read or write next. It moves past the field where the answer is OK; any other
- * answer changes nothing.
+ * `at` is where to read or write next. It moves past the field where the answer is OK or NULL; any
+ * other answer changes nothing.
  */
 
 /* `width` bytes, 1 to 8, the least significant first. OK, MISSING_BYTES, NOT_A_NUMBER. */
@@ -286,6 +342,24 @@ int32_t mysql_wire_read_lenenc_bytes(const uint8_t *bytes, size_t len, size_t *a
 /* string<NUL>: where the text before the zero stands. OK, MISSING_BYTES. */
 int32_t mysql_wire_read_null_bytes(const uint8_t *bytes, size_t len, size_t *at,
                                    mysql_wire_span *text);
+
+/* `count` bytes: where they stand. OK, MISSING_BYTES. */
+int32_t mysql_wire_read_bytes(const uint8_t *bytes, size_t len, size_t *at, size_t count,
+                              mysql_wire_span *text);
+
+/* Moves past `count` bytes. OK, MISSING_BYTES. */
+int32_t mysql_wire_skip(const uint8_t *bytes, size_t len, size_t *at, size_t count);
+
+/* string<EOF>: where the bytes up to the end stand. OK; MISSING_BYTES: `at` is behind the end. */
+int32_t mysql_wire_read_rest(const uint8_t *bytes, size_t len, size_t *at, mysql_wire_span *text);
+
+/*
+ * string<lenenc>, or NULL, as in a row of a text result: where its text stands.
+ * OK; NULL: it is one byte, fb, and `text` has no bytes; NOT_A_NUMBER: its first byte is ff;
+ * MISSING_BYTES.
+ */
+int32_t mysql_wire_read_nullable_bytes(const uint8_t *bytes, size_t len, size_t *at,
+                                       mysql_wire_span *text);
 
 /* The low `width` bytes of a number, 1 to 8. OK, ROOM_TOO_SMALL, NOT_A_NUMBER. */
 int32_t mysql_wire_write_int(uint8_t *room, size_t len, size_t *at, size_t width, uint64_t value);

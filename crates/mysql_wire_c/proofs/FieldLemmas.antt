@@ -1,5 +1,5 @@
 -- Places in bytes.
-use Rattle.std.proofs.Common.{◌≡◌, ℕ, ◌+◌, ◌-◌, ◌≤◌, List, ◌++◌, length, take, drop, sym, ap, ap₂, ◌∙◌, arith, inl, inr, length-drop, append_assoc, slice_get}
+use Rattle.std.proofs.Common.{◌≡◌, ℕ, ◌+◌, ◌-◌, ◌≤◌, List, [], ◌∷◌, ◌++◌, length, take, drop, sym, ap, ap₂, ◌∙◌, arith, inl, inr, length-drop, append_assoc, slice_get}
 use Rattle.std.proofs.lemmas.List.{length-append, length-take-le, drop-drop}
 use Rattle.std.proofs.Math.Seq.{take-append_seam, drop-append_seam}
 use Rattle.mysql_wire.specs.Spelling.{EatsSpelling}
@@ -58,3 +58,9 @@ writes_on old at a mid m b new end (mid_is, m_is, m_fits) (new_is, end_is, end_f
       end_is ∙ omega (arith, length-append a b, m_is),
       omega (arith, len, end_fits),
     )
+
+-- how long a text is without its end
+pub without_end : (n m : ℕ) (bytes text : List ℕ) → bytes ≡ text ++ 0 ∷ [] → n ≡ length bytes → m ≡ n - 1 → m ≡ length text
+without_end n m bytes text is len left =
+    let e = ap (λ (l : List ℕ). length l) is ∙ length-append text (0 ∷ []) in
+    omega (arith, e, len, left)

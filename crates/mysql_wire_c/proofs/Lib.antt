@@ -2,3 +2,4 @@ pub mod AsBox
 pub mod SideLemmas
 pub mod FieldLemmas
 pub mod SpanLemmas
+pub mod DecodingLemmas

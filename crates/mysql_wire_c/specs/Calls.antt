@@ -100,10 +100,36 @@ pub record Encodes (payload : List ℕ) (answer : ℤ) (before after : Side) : T
   pub refused : (answer ≡ OK) ⊎ (after ≡ before)
   pub answers : (answer ≡ OK) ⊎ (answer ≡ TOO_LARGE) ⊎ (answer ≡ NO_MEMORY)
 
+-- the payload is framed at the front of the room, as `Encodes` numbers it; `written` is how many
+-- bytes that takes
+pub record EncodesTo (payload old_room room : List ℕ) (written : ℕ) (answer : ℤ)
+    (before after : Side) : Type 0 where
+  pub encoded : answer ≡ OK → (room ≡ framing before.state.id payload ++ drop written old_room)
+      × (after ≡ record before {
+        state = record before.state { id = next_id before.state.id payload };
+      })
+  pub len : (answer ≡ OK) ⊎ (answer ≡ ROOM_TOO_SMALL)
+      → written ≡ length (framing before.state.id payload)
+  pub fits : answer ≡ OK → (length payload ≤ before.state.limit) × (written ≤ length old_room)
+  pub small : answer ≡ ROOM_TOO_SMALL → length old_room < written
+  pub too_large : answer ≡ TOO_LARGE → (before.state.limit < length payload)
+      ⊎ (2 ^ 64 ≤ length (framing before.state.id payload))
+  pub refused : (answer ≡ OK) ⊎ ((after ≡ before) × (room ≡ old_room))
+  pub none : (answer ≡ OK) ⊎ (answer ≡ ROOM_TOO_SMALL) ⊎ (written ≡ 0)
+  pub answers : (answer ≡ OK) ⊎ (answer ≡ ROOM_TOO_SMALL) ⊎ (answer ≡ TOO_LARGE)
+      ⊎ (answer ≡ NO_MEMORY)
+
 -- so many of the bytes that wait go
 pub record Sends (count : ℕ) (before after : Side) : Type 0 where
   pub bound : count ≤ length before.pending
   pub rest : after ≡ record before { pending = drop count before.pending }
+
+-- the next packet gets this number
+pub record SetsId (id : ℕ) (answer : ℤ) (before after : Side) : Type 0 where
+  pub set : answer ≡ OK → after ≡ record before { state = record before.state { id = id } }
+  pub refused : (answer ≡ OK) ⊎ (after ≡ before)
+  pub memory : answer ≡ NO_MEMORY → IsSome before.lent
+  pub answers : (answer ≡ OK) ⊎ (answer ≡ NO_MEMORY)
 
 pub record Resets (answer : ℤ) (before after : Side) : Type 0 where
   pub reset : answer ≡ OK → after ≡ record before { state = record before.state { id = 0 } }

@@ -6,3 +6,4 @@ pub mod Spans
 pub mod Messages
 pub mod Owned
 pub mod Lent
+pub mod Decoding

@@ -1,13 +1,14 @@
 -- The texts for the codes.
 use Rattle.std.specs.Prelude.{ℕ, ℤ, List, codes, if◌then◌else◌}
 use Rattle.std.specs.Ordering.{int_eq}
-use Rattle.mysql_wire_c.specs.declared.codes.TheConstants.{OK, PACKET, TOO_LARGE, OUT_OF_SYNC, NO_MEMORY, ROOM_TOO_SMALL, CLOSED, IS_OPEN, PACKET_WAITS, NO_PACKET, MISSING_BYTES, NOT_A_NUMBER, SPAN, INVALID_STATE}
+use Rattle.mysql_wire_c.specs.declared.codes.TheConstants.{OK, PACKET, TOO_LARGE, OUT_OF_SYNC, NO_MEMORY, ROOM_TOO_SMALL, CLOSED, IS_OPEN, PACKET_WAITS, NO_PACKET, MISSING_BYTES, NOT_A_NUMBER, SPAN, NULL, INVALID_STATE}
 
 abbrev pub message : ℤ → List ℕ
 message code =
     if int_eq code OK then codes "done, or more bytes are needed"
     else if int_eq code PACKET then codes "a packet stands whole"
     else if int_eq code SPAN then codes "bytes of a packet"
+    else if int_eq code NULL then codes "the text is NULL"
     else if int_eq code TOO_LARGE then codes "the packet is above the limit"
     else if int_eq code OUT_OF_SYNC then codes "a packet bears another number than the expected one"
     else if int_eq code NO_MEMORY then codes "out of memory"

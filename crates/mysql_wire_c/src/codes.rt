@@ -15,6 +15,9 @@ pub const PACKET: i32 = 1;
 /// Bytes of a packet.
 pub const SPAN: i32 = 2;
 
+/// The text is NULL.
+pub const NULL: i32 = 3;
+
 /// The packet is above the limit.
 pub const TOO_LARGE: i32 = -1;
 
@@ -56,6 +59,7 @@ pub fn text(code: i32) -> &'static [u8]
         OK => b"done, or more bytes are needed\0",
         PACKET => b"a packet stands whole\0",
         SPAN => b"bytes of a packet\0",
+        NULL => b"the text is NULL\0",
         TOO_LARGE => b"the packet is above the limit\0",
         OUT_OF_SYNC => b"a packet bears another number than the expected one\0",
         NO_MEMORY => b"out of memory\0",

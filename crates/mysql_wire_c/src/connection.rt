@@ -1,6 +1,6 @@
 //! One side of a connection: a codec with its buffers.
 
-ghost use Rattle.std.specs.Prelude.{◌≡◌, ◌≢◌, ◌⊎◌, ◌+◌, ◌-◌, ◌/◌, ◌%◌, ◌++◌, length, take, drop, min, None, Ok, Err, true, false, IfSome, IsSome, OnOk, OnErr};
+ghost use Rattle.std.specs.Prelude.{◌≡◌, ◌≢◌, ◌⊎◌, ◌↔◌, ℕ, ◌+◌, ◌-◌, ◌/◌, ◌%◌, ◌<◌, ◌++◌, length, take, drop, min, None, Ok, Err, true, false, IfSome, IfNone, IsSome, OnOk, OnErr};
 ghost use Rattle.mysql_wire.specs.PacketCodecError.TheVariants.{OutOfMemory, PacketTooLarge, PacketsOutOfSync};
 ghost use Rattle.mysql_wire.specs.Codec.{codec_state, Stands};
 ghost use Rattle.mysql_wire.specs.Framing.{max_payload};
@@ -8,15 +8,19 @@ ghost use Rattle.mysql_wire.specs.LimitedRuns.{DecodesAligned};
 ghost use Rattle.mysql_wire.specs.InPlace.{HasFront};
 ghost use Rattle.mysql_wire_c.specs.Side.{IsReady, IsNumbered, is_lost_at, lent_at, behind_lent};
 ghost use Rattle.mysql_wire_c.specs.Answers.{new_connection, holding};
-ghost use Rattle.mysql_wire_c.specs.Calls.{Feeds, Peeks, LendsInPlace, Takes, CopiesNext, SetsLimit, unread_count, Encodes, Sends, Resets, Numbers};
+ghost use Rattle.mysql_wire_c.specs.Decoding.{Decodes, FeedsFront, HasPacketIn, LendsFrom};
+ghost use Rattle.mysql_wire_c.specs.Calls.{Feeds, Peeks, LendsInPlace, Takes, CopiesNext, SetsLimit, unread_count, Encodes, EncodesTo, Sends, Resets, SetsId, Numbers};
 
 use crate::codes::{
     NO_MEMORY, NO_PACKET, OK, OUT_OF_SYNC, PACKET, PACKET_WAITS, ROOM_TOO_SMALL, TOO_LARGE, WAITS,
 };
+use crate::view::View;
 use bytes::{Buf, BytesMut};
 use mysql_wire::constants::MAX_PAYLOAD_LEN;
-use mysql_wire::proto::codec::PacketCodec;
+use mysql_wire::io::ParseBuf;
+use mysql_wire::laws;
 use mysql_wire::proto::codec::error::PacketCodecError;
+use mysql_wire::proto::codec::{PacketCodec, framed_len, packet_to_slice};
 use std::alloc::{AllocError, Global};
 use std::marker::Model;
 
@@ -355,6 +359,13 @@ impl Connection {
     pub fn reset(&mut self) -> i32
         ensures { Resets result self.old.side self.new.side }
     {
+        self.set_sequence_id(0)
+    }
+
+    /// Numbers the next packet, sent or received, with this number. `NO_MEMORY` changes nothing.
+    pub fn set_sequence_id(&mut self, id: u8) -> i32
+        ensures { SetsId id result self.old.side self.new.side }
+    {
         match set_aside(
             &mut self.codec,
             &mut self.id,
@@ -363,11 +374,127 @@ impl Connection {
             &mut self.front,
         ) {
             Ok(()) => {
-                self.codec.reset_seq_id();
-                self.id = 0;
+                self.codec.set_sequence_id(id);
+                self.id = id;
                 OK
             }
             Err(_) => NO_MEMORY,
+        }
+    }
+}
+
+// What goes, to where the caller wants it.
+impl Connection {
+    /// Frames a payload at the front of `room`, numbered as by `encode`; `written` is how many bytes
+    /// that takes. `ROOM_TOO_SMALL`: `written` says how many are needed. `TOO_LARGE`: it is above the
+    /// limit, or takes more bytes than can be counted. Every refusal changes nothing.
+    pub fn encode_to(&mut self, payload: &[u8], room: &mut [u8], written: &mut usize) -> i32
+        ensures { EncodesTo payload.now room.old room.new written.new result
+            self.old.side self.new.side }
+    {
+        laws::framed_length();
+        *written = 0;
+        if self.codec.max_allowed_packet < payload.len() {
+            return TOO_LARGE;
+        }
+        let Some(len) = framed_len(payload.len()) else {
+            return TOO_LARGE;
+        };
+        match set_aside(
+            &mut self.codec,
+            &mut self.id,
+            &mut self.src,
+            &mut self.dst,
+            &mut self.front,
+        ) {
+            Ok(()) => {}
+            Err(_) => return NO_MEMORY,
+        }
+        *written = len;
+        match packet_to_slice(self.codec.sequence_id(), payload, room) {
+            Some((_, id)) => {
+                self.codec.set_sequence_id(id);
+                self.id = id;
+                OK
+            }
+            None => ROOM_TOO_SMALL,
+        }
+    }
+}
+
+// What comes, where the caller has it.
+impl Connection {
+    /// Takes the packet that is lent, and lends the next one: from these bytes, where it lies whole
+    /// there and nothing came before it. Else it feeds as many of them as complete a packet, or all,
+    /// and answers as `peek`. `used` is how many of the bytes are used up.
+    pub fn decode(&mut self, bytes: &[u8], used: &mut usize, packet: &mut View) -> i32
+        ensures { Decodes bytes.now used.new packet.new.len result self.old.side self.new.side }
+    {
+        self.take();
+        if let Some(lent) = self.lend_from(bytes) {
+            *used = HEADER_LEN + lent.len();
+            packet.show(lent);
+            return PACKET;
+        }
+        let code = self.fill(bytes, used);
+        packet.show(&[]);
+        if code == PACKET {
+            packet.show(self.packet());
+        }
+        code
+    }
+
+    // The packet in front of these bytes, where nothing came before it: the connection is behind it
+    // then.
+    fn lend_from<'a>(&mut self, bytes: &'a [u8]) -> Option<&'a [u8]>
+        requires { self.old.side.lent ≡ None }
+        ensures there { IsSome result ↔ HasPacketIn bytes.now self.old.side }
+        ensures lends { IfSome result (λ packet. LendsFrom bytes.now (4 + length packet.now)
+            (length packet.now) PACKET self.old.side self.new.side) }
+        ensures none { IfNone result (self.new.side ≡ self.old.side) }
+    {
+        match self.front {
+            Front::Unfinished => {}
+            Front::InPlace | Front::Copied | Front::Lost => return None,
+        }
+        if !self.src.is_empty() || !self.dst.is_empty() {
+            return None;
+        }
+        let packet = self.codec.front_packet_in(bytes, &[])?;
+        self.codec.accept_front_in(bytes);
+        self.id = self.id.wrapping_add(1);
+        Some(packet)
+    }
+
+    // How many bytes are to come before the header in front, or its chunk, can be whole; 1 where that
+    // isn't known.
+    fn missing(&self) -> usize
+        ensures { 0 < result }
+    {
+        let front = self.src.as_slice();
+        let len = match ParseBuf(front).checked_eat_u24_le() {
+            Some(len) if front.len() >= HEADER_LEN => HEADER_LEN + len as usize,
+            _ => HEADER_LEN,
+        };
+        len.saturating_sub(front.len()).max(1)
+    }
+
+    // Feeds as many of these bytes as complete a packet, or all.
+    fn fill(&mut self, bytes: &[u8], used: &mut usize) -> i32
+        ensures { FeedsFront bytes.now used.new result self.old.side self.new.side }
+    {
+        *used = 0;
+        'pieces: loop {
+            match self.peek() {
+                WAITS if *used < bytes.len() => {}
+                code => return code,
+            }
+            let rest = &bytes[*used..];
+            let count = self.missing().min(rest.len());
+            match self.feed(&rest[..count]) {
+                OK => *used += count,
+                code => return code,
+            }
         }
     }
 }

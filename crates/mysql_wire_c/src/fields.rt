@@ -1,7 +1,7 @@
 //! Numbers and texts at a place in bytes. Each call moves the place past what it read or wrote
 //! where it answers `OK`, and changes nothing where not.
 
-ghost use Rattle.std.specs.Prelude.{◌≡◌, ◌⊎◌, ◌+◌, ◌-◌, ◌<◌, ◌≤◌, [], ◌∷◌, ◌++◌, length, take, drop, IsTrue, ◌↔◌, MatchOption};
+ghost use Rattle.std.specs.Prelude.{◌≡◌, ◌⊎◌, ◌+◌, ◌-◌, ◌<◌, ◌≤◌, [], ◌∷◌, ◌++◌, length, take, drop, slice_get, Some, IsTrue, ◌↔◌, MatchOption};
 ghost use Rattle.std.specs.List.{before_first, after_first};
 ghost use Rattle.mysql_wire.specs.Numbers.{le_bytes, le_number};
 ghost use Rattle.mysql_wire.specs.NullText.{is_zero};
@@ -10,7 +10,7 @@ ghost use Rattle.mysql_wire.specs.Spelling.{SpellsNothing};
 ghost use Rattle.mysql_wire.specs.Lenenc.{IsLenenc, IsLenencOrMark, lenenc_bytes};
 ghost use Rattle.mysql_wire_c.specs.Fields.{IsCutShort, IsMark, ReadsAt, WritesAt, text_at};
 
-use crate::codes::{MISSING_BYTES, NOT_A_NUMBER, OK, ROOM_TOO_SMALL};
+use crate::codes::{MISSING_BYTES, NOT_A_NUMBER, NULL, OK, ROOM_TOO_SMALL};
 use mysql_wire::io::ParseBuf;
 
 /// Where a text stands in the bytes that were read.
@@ -163,6 +163,100 @@ pub fn read_null_bytes(bytes: &[u8], at: &mut usize, text: &mut Span) -> i32
     *text = Span { at: *at, len };
     *at += len + 1;
     OK
+}
+
+/// Reads so many bytes: where they stand. `MISSING_BYTES`: there are fewer.
+///
+/// <https://dev.mysql.com/doc/dev/mysql-server/latest/page_protocol_basic_dt_strings.html>
+pub fn read_bytes(bytes: &[u8], at: &mut usize, count: usize, text: &mut Span) -> i32
+    ensures read { result ≡ OK → (text.new.at ≡ at.old) × (text.new.len ≡ count)
+        × (at.new ≡ at.old + count) × (at.new ≤ length bytes.now) }
+    ensures missing { result ≡ MISSING_BYTES → length bytes.now < at.old + count }
+    ensures refused { (result ≡ OK) ⊎ ((at.new ≡ at.old) × (text.new ≡ text.old)) }
+    ensures answers { (result ≡ OK) ⊎ (result ≡ MISSING_BYTES) }
+{
+    let start = *at;
+    let code = skip(bytes, at, count);
+    if code == OK {
+        *text = Span {
+            at: start,
+            len: count,
+        };
+    }
+    code
+}
+
+/// Moves past so many bytes. `MISSING_BYTES`: there are fewer.
+pub fn skip(bytes: &[u8], at: &mut usize, count: usize) -> i32
+    ensures past { result ≡ OK → (at.new ≡ at.old + count) × (at.new ≤ length bytes.now) }
+    ensures missing { result ≡ MISSING_BYTES → length bytes.now < at.old + count }
+    ensures refused { (result ≡ OK) ⊎ (at.new ≡ at.old) }
+    ensures answers { (result ≡ OK) ⊎ (result ≡ MISSING_BYTES) }
+{
+    if bytes.len() < *at || bytes.len() - *at < count {
+        return MISSING_BYTES;
+    }
+    *at += count;
+    OK
+}
+
+/// Reads a `string<EOF>`: where the bytes up to the end stand. `MISSING_BYTES`: the place is behind
+/// the end.
+///
+/// <https://dev.mysql.com/doc/dev/mysql-server/latest/page_protocol_basic_dt_strings.html>
+pub fn read_rest(bytes: &[u8], at: &mut usize, text: &mut Span) -> i32
+    ensures read { result ≡ OK → (text.new.at ≡ at.old) × (at.new ≡ at.old + text.new.len)
+        × (at.new ≡ length bytes.now) }
+    ensures missing { result ≡ MISSING_BYTES → length bytes.now < at.old }
+    ensures refused { (result ≡ OK) ⊎ ((at.new ≡ at.old) × (text.new ≡ text.old)) }
+    ensures answers { (result ≡ OK) ⊎ (result ≡ MISSING_BYTES) }
+{
+    if bytes.len() < *at {
+        return MISSING_BYTES;
+    }
+    *text = Span {
+        at: *at,
+        len: bytes.len() - *at,
+    };
+    *at = bytes.len();
+    OK
+}
+
+// Whether the byte there stands for NULL.
+fn is_null(bytes: &[u8], at: usize) -> bool
+    ensures null { IsTrue result ↔ (slice_get (drop at bytes.now) 0 ≡ Some 0xfb) }
+    ensures there { IsTrue result → at < length bytes.now }
+{
+    match rest(bytes, at) {
+        Some(buf) => matches!(buf.0.first(), Some(0xfb)),
+        None => false,
+    }
+}
+
+/// Reads a `string<lenenc>` that may be NULL, as in a row of a text result. `NULL`: its one byte is
+/// `fb`, and the text has no bytes. `NOT_A_NUMBER`: its first byte is `ff`. `MISSING_BYTES`: it is
+/// cut short.
+///
+/// <https://dev.mysql.com/doc/dev/mysql-server/latest/page_protocol_com_query_response_text_resultset_row.html>
+pub fn read_nullable_bytes(bytes: &[u8], at: &mut usize, text: &mut Span) -> i32
+    ensures null { result ≡ NULL ↔ (slice_get (drop at.old bytes.now) 0 ≡ Some 0xfb) }
+    ensures past { result ≡ NULL → (at.new ≡ at.old + 1) × (at.new ≤ length bytes.now)
+        × (text.new.at ≡ at.new) × (text.new.len ≡ 0) }
+    ensures read { result ≡ OK → ReadsAt IsLenenc bytes.now at.old text.new.len text.new.at
+        × (at.new ≡ text.new.at + text.new.len) × (at.new ≤ length bytes.now) }
+    ensures missing { result ≡ MISSING_BYTES → IsCutShort bytes.now at.old }
+    ensures mark { result ≡ NOT_A_NUMBER → slice_get (drop at.old bytes.now) 0 ≡ Some 0xff }
+    ensures refused { (result ≡ OK) ⊎ (result ≡ NULL)
+        ⊎ ((at.new ≡ at.old) × (text.new ≡ text.old)) }
+    ensures answers { (result ≡ OK) ⊎ (result ≡ NULL) ⊎ (result ≡ MISSING_BYTES)
+        ⊎ (result ≡ NOT_A_NUMBER) }
+{
+    if is_null(bytes, *at) {
+        *at += 1;
+        *text = Span { at: *at, len: 0 };
+        return NULL;
+    }
+    read_lenenc_bytes(bytes, at, text)
 }
 
 // Writes bytes at a place.

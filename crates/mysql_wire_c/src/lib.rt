@@ -3,15 +3,17 @@
 //! `include/mysql_wire.h` has the same calls for C.
 #![tactic(auto)]
 
-ghost use Rattle.std.specs.Prelude.{◌≡◌, ◌↔◌, ◌⊎◌, ◌+◌, ◌≤◌, ◌<◌, [], ◌∷◌, ◌++◌, IsSome, IfSome, MatchOption, Some, None, is_some, length, take, drop, min};
+ghost use Rattle.std.specs.Prelude.{◌≡◌, ◌↔◌, ◌⊎◌, ℕ, List, ◌+◌, ◌^◌, ◌≤◌, ◌<◌, [], ◌∷◌, ◌++◌, slice_get, IsSome, IfSome, MatchOption, Some, None, is_some, length, take, drop, min};
 ghost use Rattle.std.specs.List.{before_first};
 ghost use Rattle.mysql_wire.specs.Numbers.{le_bytes, le_number};
 ghost use Rattle.mysql_wire.specs.NullText.{is_zero};
 ghost use Rattle.mysql_wire.specs.Spelling.{SpellsNothing};
 ghost use Rattle.mysql_wire.specs.Lenenc.{IsLenenc, IsLenencOrMark, lenenc_bytes};
-ghost use Rattle.mysql_wire_c.specs.declared.codes.TheConstants.{MISSING_BYTES, NOT_A_NUMBER, ROOM_TOO_SMALL};
+ghost use Rattle.mysql_wire_c.specs.declared.codes.TheConstants.{MISSING_BYTES, NOT_A_NUMBER, NULL, ROOM_TOO_SMALL};
 ghost use Rattle.mysql_wire_c.specs.Answers.{new_connection};
-ghost use Rattle.mysql_wire_c.specs.Calls.{Both, BothStates, Feeds, Peeks, LendsInPlace, Takes, CopiesNext, SetsLimit, unread_count, Encodes, Sends, Resets, Numbers};
+ghost use Rattle.mysql_wire_c.specs.Calls.{Both, BothStates, Feeds, Peeks, LendsInPlace, Takes, CopiesNext, SetsLimit, unread_count, Encodes, EncodesTo, Sends, Resets, SetsId, Numbers};
+ghost use Rattle.mysql_wire_c.specs.Decoding.{Decodes};
+ghost use Rattle.mysql_wire.specs.Framing.{framing};
 ghost use Rattle.mysql_wire_c.specs.Messages.{message};
 ghost use Rattle.mysql_wire.specs.Spans.{IsBetween};
 ghost use Rattle.mysql_wire_c.specs.Spans.{state_of, IsValid, NextSpan, Renumbers};
@@ -24,12 +26,14 @@ pub mod handle;
 pub mod spans;
 pub mod view;
 
-use crate::codes::{CLOSED, IS_OPEN, NO_MEMORY, OK, PACKET};
+use crate::codes::{CLOSED, IS_OPEN, NO_MEMORY, OK, PACKET, TOO_LARGE};
 use crate::connection::boxed;
 use crate::fields::Span;
 use crate::handle::Handle;
 use crate::spans::Spans;
 use crate::view::View;
+use mysql_wire::laws;
+use mysql_wire::proto::codec::framed_len;
 use std::alloc::Global;
 use std::mem;
 
@@ -145,6 +149,29 @@ pub extern "C" fn mysql_wire_next(handle: &mut Handle, room: &mut [u8], len: &mu
     handle.connection().next(room, len)
 }
 
+/// Takes the packet that is lent, and lends the next one: from `bytes`, where it lies whole there
+/// and nothing came before it.
+#[unsafe(no_mangle)]
+pub extern "C" fn mysql_wire_decode(
+    handle: &mut Handle,
+    bytes: &[u8],
+    used: &mut usize,
+    packet: &mut View,
+) -> i32
+    ensures open { is_some handle.new.connection ≡ is_some handle.old.connection }
+    ensures closed { handle.old.connection ≡ None
+        → (result ≡ CLOSED) × (used.new ≡ 0) × (packet.new.len ≡ 0) }
+    ensures decodes { Both handle.old.connection handle.new.connection
+        (Decodes bytes.now used.new packet.new.len result) }
+{
+    *used = 0;
+    packet.show(&[]);
+    if handle.is_closed() {
+        return CLOSED;
+    }
+    handle.connection().decode(bytes, used, packet)
+}
+
 /// Sets the most bytes of a packet.
 #[unsafe(no_mangle)]
 pub extern "C" fn mysql_wire_set_limit(handle: &mut Handle, limit: usize) -> i32
@@ -184,6 +211,53 @@ pub extern "C" fn mysql_wire_encode(handle: &mut Handle, payload: &[u8]) -> i32
         return CLOSED;
     }
     handle.connection().encode(payload)
+}
+
+/// How many bytes a payload takes with the headers of its chunks. `TOO_LARGE`: more than can be
+/// counted.
+///
+/// <https://dev.mysql.com/doc/dev/mysql-server/latest/page_protocol_basic_packets.html>
+#[unsafe(no_mangle)]
+pub extern "C" fn mysql_wire_framed_len(len: usize, framed: &mut usize) -> i32
+    ensures framed { result ≡ OK → (id : ℕ) (payload : List ℕ) → length payload ≡ len
+        → framed.new ≡ length (framing id payload) }
+    ensures too_large { result ≡ TOO_LARGE → (id : ℕ) (payload : List ℕ) → length payload ≡ len
+        → 2 ^ 64 ≤ length (framing id payload) }
+    ensures refused { (result ≡ OK) ⊎ (framed.new ≡ 0) }
+    ensures answers { (result ≡ OK) ⊎ (result ≡ TOO_LARGE) }
+{
+    laws::framed_length();
+    match framed_len(len) {
+        Some(count) => {
+            *framed = count;
+            OK
+        }
+        None => {
+            *framed = 0;
+            TOO_LARGE
+        }
+    }
+}
+
+/// Frames a payload into `room`.
+#[unsafe(no_mangle)]
+pub extern "C" fn mysql_wire_encode_to(
+    handle: &mut Handle,
+    payload: &[u8],
+    room: &mut [u8],
+    written: &mut usize,
+) -> i32
+    ensures open { is_some handle.new.connection ≡ is_some handle.old.connection }
+    ensures closed { handle.old.connection ≡ None
+        → (result ≡ CLOSED) × (room.new ≡ room.old) × (written.new ≡ 0) }
+    ensures encodes { Both handle.old.connection handle.new.connection
+        (EncodesTo payload.now room.old room.new written.new result) }
+{
+    *written = 0;
+    if handle.is_closed() {
+        return CLOSED;
+    }
+    handle.connection().encode_to(payload, room, written)
 }
 
 /// Moves bytes that wait to be sent to `room`.
@@ -243,6 +317,20 @@ pub extern "C" fn mysql_wire_reset(handle: &mut Handle) -> i32
         return CLOSED;
     }
     handle.connection().reset()
+}
+
+/// Numbers the next packet with this number.
+#[unsafe(no_mangle)]
+pub extern "C" fn mysql_wire_set_sequence_id(handle: &mut Handle, id: u8) -> i32
+    ensures open { is_some handle.new.connection ≡ is_some handle.old.connection }
+    ensures closed { handle.old.connection ≡ None → result ≡ CLOSED }
+    ensures sets { Both handle.old.connection handle.new.connection
+        (SetsId id result) }
+{
+    if handle.is_closed() {
+        return CLOSED;
+    }
+    handle.connection().set_sequence_id(id)
 }
 
 /// The number of the next packet.
@@ -372,6 +460,77 @@ pub extern "C" fn mysql_wire_read_null_bytes(bytes: &[u8], at: &mut usize, text:
     ensures answers { (result ≡ OK) ⊎ (result ≡ MISSING_BYTES) }
 {
     fields::read_null_bytes(bytes, at, text)
+}
+
+/// Reads so many bytes: where they stand. `MISSING_BYTES`: there are fewer.
+///
+/// <https://dev.mysql.com/doc/dev/mysql-server/latest/page_protocol_basic_dt_strings.html>
+#[unsafe(no_mangle)]
+pub extern "C" fn mysql_wire_read_bytes(
+    bytes: &[u8],
+    at: &mut usize,
+    count: usize,
+    text: &mut Span,
+) -> i32
+    ensures read { result ≡ OK → (text.new.at ≡ at.old) × (text.new.len ≡ count)
+        × (at.new ≡ at.old + count) × (at.new ≤ length bytes.now) }
+    ensures missing { result ≡ MISSING_BYTES → length bytes.now < at.old + count }
+    ensures refused { (result ≡ OK) ⊎ ((at.new ≡ at.old) × (text.new ≡ text.old)) }
+    ensures answers { (result ≡ OK) ⊎ (result ≡ MISSING_BYTES) }
+{
+    fields::read_bytes(bytes, at, count, text)
+}
+
+/// Moves past so many bytes. `MISSING_BYTES`: there are fewer.
+#[unsafe(no_mangle)]
+pub extern "C" fn mysql_wire_skip(bytes: &[u8], at: &mut usize, count: usize) -> i32
+    ensures past { result ≡ OK → (at.new ≡ at.old + count) × (at.new ≤ length bytes.now) }
+    ensures missing { result ≡ MISSING_BYTES → length bytes.now < at.old + count }
+    ensures refused { (result ≡ OK) ⊎ (at.new ≡ at.old) }
+    ensures answers { (result ≡ OK) ⊎ (result ≡ MISSING_BYTES) }
+{
+    fields::skip(bytes, at, count)
+}
+
+/// Reads a `string<EOF>`: where the bytes up to the end stand. `MISSING_BYTES`: the place is behind
+/// the end.
+///
+/// <https://dev.mysql.com/doc/dev/mysql-server/latest/page_protocol_basic_dt_strings.html>
+#[unsafe(no_mangle)]
+pub extern "C" fn mysql_wire_read_rest(bytes: &[u8], at: &mut usize, text: &mut Span) -> i32
+    ensures read { result ≡ OK → (text.new.at ≡ at.old) × (at.new ≡ at.old + text.new.len)
+        × (at.new ≡ length bytes.now) }
+    ensures missing { result ≡ MISSING_BYTES → length bytes.now < at.old }
+    ensures refused { (result ≡ OK) ⊎ ((at.new ≡ at.old) × (text.new ≡ text.old)) }
+    ensures answers { (result ≡ OK) ⊎ (result ≡ MISSING_BYTES) }
+{
+    fields::read_rest(bytes, at, text)
+}
+
+/// Reads a `string<lenenc>` that may be NULL, as in a row of a text result. `NULL`: its one byte is
+/// `fb`, and the text has no bytes. `NOT_A_NUMBER`: its first byte is `ff`. `MISSING_BYTES`: it is
+/// cut short.
+///
+/// <https://dev.mysql.com/doc/dev/mysql-server/latest/page_protocol_com_query_response_text_resultset_row.html>
+#[unsafe(no_mangle)]
+pub extern "C" fn mysql_wire_read_nullable_bytes(
+    bytes: &[u8],
+    at: &mut usize,
+    text: &mut Span,
+) -> i32
+    ensures null { result ≡ NULL ↔ (slice_get (drop at.old bytes.now) 0 ≡ Some 0xfb) }
+    ensures past { result ≡ NULL → (at.new ≡ at.old + 1) × (at.new ≤ length bytes.now)
+        × (text.new.at ≡ at.new) × (text.new.len ≡ 0) }
+    ensures read { result ≡ OK → ReadsAt IsLenenc bytes.now at.old text.new.len text.new.at
+        × (at.new ≡ text.new.at + text.new.len) × (at.new ≤ length bytes.now) }
+    ensures missing { result ≡ MISSING_BYTES → IsCutShort bytes.now at.old }
+    ensures mark { result ≡ NOT_A_NUMBER → slice_get (drop at.old bytes.now) 0 ≡ Some 0xff }
+    ensures refused { (result ≡ OK) ⊎ (result ≡ NULL)
+        ⊎ ((at.new ≡ at.old) × (text.new ≡ text.old)) }
+    ensures answers { (result ≡ OK) ⊎ (result ≡ NULL) ⊎ (result ≡ MISSING_BYTES)
+        ⊎ (result ≡ NOT_A_NUMBER) }
+{
+    fields::read_nullable_bytes(bytes, at, text)
 }
 
 /// Writes the low `width` bytes of a number, 1 to 8, the least significant first. `NOT_A_NUMBER`:

@@ -27,12 +27,19 @@ static bool a_closed_connection_answers_so(void) {
     CHECK(mysql_wire_unread(&none) == 0);
     CHECK(mysql_wire_encode(&none, room, 4) == MYSQL_WIRE_CLOSED);
     CHECK(mysql_wire_output(&none, room, 4) == 0);
+    len = 7;
+    CHECK(mysql_wire_encode_to(&none, room, 0, room, 4, &len) == MYSQL_WIRE_CLOSED && len == 0);
     CHECK(memcmp(room, "....", 4) == 0);
+    view.len = 3;
+    len = 7;
+    CHECK(mysql_wire_decode(&none, ONE_TWO_THREE, 7, &len, &view) == MYSQL_WIRE_CLOSED);
+    CHECK(len == 0 && shows(view, "", 0));
     view.len = 3;
     mysql_wire_pending(&none, &view);
     CHECK(shows(view, "", 0));
     CHECK(mysql_wire_sent(&none, 4) == 0);
     CHECK(mysql_wire_reset(&none) == MYSQL_WIRE_CLOSED);
+    CHECK(mysql_wire_set_sequence_id(&none, 3) == MYSQL_WIRE_CLOSED);
     CHECK(mysql_wire_sequence_id(&none) == MYSQL_WIRE_CLOSED);
     mysql_wire_close(&none);
     CHECK(none == NULL);
@@ -314,6 +321,136 @@ static bool the_numbers_are_those_of_the_chunks(void) {
     return true;
 }
 
+static bool the_number_that_is_set_is_the_next(void) {
+    mysql_wire_connection one = opened(3);
+    mysql_wire_view view;
+    uint8_t room[8];
+    CHECK(mysql_wire_set_sequence_id(&one, 255) == MYSQL_WIRE_OK);
+    CHECK(mysql_wire_sequence_id(&one) == 255);
+    CHECK(mysql_wire_encode(&one, (const uint8_t *)"a", 1) == MYSQL_WIRE_OK);
+    CHECK(mysql_wire_output(&one, room, 8) == 5 && memcmp(room, "\1\0\0\xff" "a", 5) == 0);
+    CHECK(mysql_wire_sequence_id(&one) == 0);
+    CHECK(mysql_wire_set_sequence_id(&one, 5) == MYSQL_WIRE_OK);
+    CHECK(mysql_wire_feed(&one, (const uint8_t *)"\1\0\0\5b\1\0\0\5c", 10) == MYSQL_WIRE_OK);
+    CHECK(mysql_wire_peek(&one, &view) == MYSQL_WIRE_PACKET && shows(view, "b", 1));
+    /* Behind the packet that is lent. */
+    CHECK(mysql_wire_set_sequence_id(&one, 5) == MYSQL_WIRE_OK);
+    CHECK(mysql_wire_peek(&one, &view) == MYSQL_WIRE_PACKET && shows(view, "b", 1));
+    CHECK(mysql_wire_take(&one) == MYSQL_WIRE_OK);
+    CHECK(mysql_wire_peek(&one, &view) == MYSQL_WIRE_PACKET && shows(view, "c", 1));
+    CHECK(mysql_wire_sequence_id(&one) == 6);
+    mysql_wire_close(&one);
+    return true;
+}
+
+static bool framed_lengths_are_counted(void) {
+    static const size_t lens[][2] = {
+        {0, 4}, {16777214, 16777218}, {16777215, 16777223}, {33554430, 33554442},
+    };
+    size_t framed = 9;
+    for (size_t i = 0; i < LENGTH(lens); i++) {
+        CHECK(mysql_wire_framed_len(lens[i][0], &framed) == MYSQL_WIRE_OK);
+        CHECK(framed == lens[i][1]);
+    }
+    CHECK(mysql_wire_framed_len(SIZE_MAX, &framed) == MYSQL_WIRE_TOO_LARGE && framed == 0);
+    return true;
+}
+
+static bool a_packet_is_framed_into_the_room(void) {
+    mysql_wire_connection one = opened(3);
+    mysql_wire_view view;
+    uint8_t room[9] = "........";
+    size_t written = 9;
+    CHECK(mysql_wire_encode_to(&one, (const uint8_t *)"abcd", 4, room, 8, &written) ==
+          MYSQL_WIRE_TOO_LARGE && written == 0);
+    CHECK(mysql_wire_encode_to(&one, (const uint8_t *)"abc", 3, room, 6, &written) ==
+          MYSQL_WIRE_ROOM_TOO_SMALL && written == 7);
+    CHECK(mysql_wire_encode_to(&one, NULL, 0, NULL, 0, &written) == MYSQL_WIRE_ROOM_TOO_SMALL);
+    CHECK(written == 4 && memcmp(room, "........", 8) == 0);
+    CHECK(mysql_wire_sequence_id(&one) == 0);
+    size_t requests = requests_made();
+    CHECK(mysql_wire_encode_to(&one, (const uint8_t *)"abc", 3, room, 8, &written) ==
+          MYSQL_WIRE_OK && written == 7);
+    CHECK(memcmp(room, "\3\0\0\0abc.", 8) == 0 && mysql_wire_sequence_id(&one) == 1);
+    CHECK(mysql_wire_encode_to(&one, NULL, 0, room, 4, &written) == MYSQL_WIRE_OK);
+    CHECK(written == 4 && memcmp(room, "\0\0\0\1", 4) == 0 && requests_made() == requests);
+    /* Behind a packet that is lent. */
+    CHECK(mysql_wire_reset(&one) == MYSQL_WIRE_OK);
+    CHECK(mysql_wire_feed(&one, ONE_TWO_THREE, 7) == MYSQL_WIRE_OK);
+    CHECK(mysql_wire_peek(&one, &view) == MYSQL_WIRE_PACKET);
+    CHECK(mysql_wire_encode_to(&one, (const uint8_t *)"a", 1, room, 8, &written) == MYSQL_WIRE_OK);
+    CHECK(written == 5 && memcmp(room, "\1\0\0\1a", 5) == 0);
+    CHECK(mysql_wire_peek(&one, &view) == MYSQL_WIRE_PACKET && shows(view, "123", 3));
+    mysql_wire_pending(&one, &view);
+    CHECK(view.len == 0);
+    mysql_wire_close(&one);
+    return true;
+}
+
+/* Three packets that come whole are lent where they lie, and nothing is asked for. */
+static bool packets_are_lent_from_the_bytes(void) {
+    static const uint8_t three[] = {1, 0, 0, 0, 'a', 0, 0, 0, 1, 2, 0, 0, 2, 'b', 'c'};
+    static const size_t lens[] = {1, 0, 2}, starts[] = {4, 9, 13};
+    mysql_wire_connection one = opened(2);
+    mysql_wire_view view;
+    size_t at = 0, used = 9, requests = requests_made();
+    for (size_t i = 0; i < 3; i++) {
+        CHECK(mysql_wire_decode(&one, three + at, sizeof three - at, &used, &view) ==
+              MYSQL_WIRE_PACKET);
+        at += used;
+        CHECK(shows(view, three + starts[i], lens[i]) && at == starts[i] + lens[i]);
+        CHECK(lens[i] == 0 || view.at == three + starts[i]);
+        CHECK(mysql_wire_sequence_id(&one) == (int32_t)i + 1 && mysql_wire_unread(&one) == 0);
+        CHECK(mysql_wire_take(&one) == MYSQL_WIRE_NO_PACKET);
+    }
+    CHECK(mysql_wire_decode(&one, three + at, 0, &used, &view) == MYSQL_WIRE_WAITS);
+    CHECK(used == 0 && shows(view, "", 0) && requests_made() == requests);
+    mysql_wire_close(&one);
+    return true;
+}
+
+/* A packet that is cut is put together, of no byte more than it has; the next is lent from the bytes. */
+static bool a_packet_that_is_cut_is_put_together(void) {
+    static const uint8_t two[] = {3, 0, 0, 0, '1', '2', '3', 2, 0, 0, 1, 'a', 'b'};
+    for (size_t cut = 1; cut < 7; cut++) {
+        mysql_wire_connection one = opened(3);
+        mysql_wire_view view;
+        size_t used = 9;
+        CHECK(mysql_wire_decode(&one, two, cut, &used, &view) == MYSQL_WIRE_WAITS);
+        CHECK(used == cut && view.len == 0 && mysql_wire_unread(&one) == cut);
+        CHECK(mysql_wire_decode(&one, two + cut, sizeof two - cut, &used, &view) ==
+              MYSQL_WIRE_PACKET);
+        CHECK(used == 7 - cut && shows(view, "123", 3) && mysql_wire_unread(&one) == 0);
+        CHECK(mysql_wire_decode(&one, two + 7, 6, &used, &view) == MYSQL_WIRE_PACKET);
+        CHECK(used == 6 && view.at == two + 11 && shows(view, "ab", 2));
+        mysql_wire_close(&one);
+    }
+    return true;
+}
+
+/* What was fed before comes first, and what is refused stays in the connection. */
+static bool decoding_goes_on_behind_what_was_fed(void) {
+    static const uint8_t other[] = {1, 0, 0, 7, 'x'};
+    mysql_wire_connection one = opened(3);
+    mysql_wire_view view;
+    size_t used = 9;
+    CHECK(mysql_wire_feed(&one, ONE_TWO_THREE, 7) == MYSQL_WIRE_OK);
+    CHECK(mysql_wire_decode(&one, other, 5, &used, &view) == MYSQL_WIRE_PACKET);
+    CHECK(used == 0 && shows(view, "123", 3));
+    /* Of a packet that is too large no byte is taken but its header. */
+    CHECK(mysql_wire_decode(&one, (const uint8_t *)"\4\0\0", 3, &used, &view) == MYSQL_WIRE_WAITS);
+    CHECK(used == 3 && mysql_wire_decode(&one, (const uint8_t *)"\1abcd", 5, &used, &view) ==
+                           MYSQL_WIRE_TOO_LARGE && used == 1 && view.len == 0);
+    CHECK(mysql_wire_set_limit(&one, 4) == MYSQL_WIRE_OK);
+    CHECK(mysql_wire_decode(&one, (const uint8_t *)"abcd", 4, &used, &view) == MYSQL_WIRE_PACKET);
+    CHECK(used == 4 && shows(view, "abcd", 4));
+    CHECK(mysql_wire_decode(&one, other, 5, &used, &view) == MYSQL_WIRE_OUT_OF_SYNC);
+    CHECK(used == 5 && view.len == 0);
+    CHECK(mysql_wire_decode(&one, other, 5, &used, &view) == MYSQL_WIRE_OUT_OF_SYNC && used == 0);
+    mysql_wire_close(&one);
+    return true;
+}
+
 typedef struct code_text {
     int32_t code;
     const char *text;
@@ -335,7 +472,8 @@ static const code_text TEXTS[] = {
     {MYSQL_WIRE_MISSING_BYTES, "the bytes end inside a field"},
     {MYSQL_WIRE_NOT_A_NUMBER, "no number begins here, or no number has this width"},
     {MYSQL_WIRE_INVALID_STATE, "the record is of no stream"},
-    {MYSQL_WIRE_SPAN + 1, "unknown code"},
+    {MYSQL_WIRE_NULL, "the text is NULL"},
+    {MYSQL_WIRE_NULL + 1, "unknown code"},
     {MYSQL_WIRE_INVALID_STATE - 1, "unknown code"},
     {INT32_MIN, "unknown code"},
     {INT32_MAX, "unknown code"},
@@ -376,6 +514,12 @@ const test call_tests[] = {
     {"what is encoded goes out in parts", what_is_encoded_goes_out_in_parts},
     {"numbers go on behind a packet that is lent", numbers_go_on_behind_a_packet_that_is_lent},
     {"the numbers are those of the chunks", the_numbers_are_those_of_the_chunks},
+    {"the number that is set is the next", the_number_that_is_set_is_the_next},
+    {"framed lengths are counted", framed_lengths_are_counted},
+    {"a packet is framed into the room", a_packet_is_framed_into_the_room},
+    {"packets are lent from the bytes", packets_are_lent_from_the_bytes},
+    {"a packet that is cut is put together", a_packet_that_is_cut_is_put_together},
+    {"decoding goes on behind what was fed", decoding_goes_on_behind_what_was_fed},
     {"each code has its text", each_code_has_its_text},
     {"the version is that of the header", the_version_is_that_of_the_header},
     {NULL, NULL},

@@ -125,6 +125,77 @@ static bool texts_come_back(void) {
     return true;
 }
 
+/* What is read, how many bytes are asked for, the code, where the text stands, and where reading
+   goes on. */
+typedef struct text_row {
+    const char *bytes;
+    size_t len, at, count;
+    int32_t code;
+    mysql_wire_span text;
+    size_t end;
+} text_row;
+
+static const text_row BYTES_ROWS[] = {
+    {"abc", 3, 0, 2, MYSQL_WIRE_OK, {0, 2}, 2},
+    {"abc", 3, 3, 0, MYSQL_WIRE_OK, {3, 0}, 3},
+    {"abc", 3, 1, 3, MYSQL_WIRE_MISSING_BYTES, {7, 7}, 1},
+    {"abc", 3, 1, SIZE_MAX, MYSQL_WIRE_MISSING_BYTES, {7, 7}, 1},
+    {"abc", 3, 4, 0, MYSQL_WIRE_MISSING_BYTES, {7, 7}, 4},
+    {"abc", 3, SIZE_MAX, 2, MYSQL_WIRE_MISSING_BYTES, {7, 7}, SIZE_MAX},
+};
+
+static const text_row REST_ROWS[] = {
+    {"abc", 3, 1, 0, MYSQL_WIRE_OK, {1, 2}, 3},
+    {"abc", 3, 3, 0, MYSQL_WIRE_OK, {3, 0}, 3},
+    {"abc", 3, 4, 0, MYSQL_WIRE_MISSING_BYTES, {7, 7}, 4},
+    {"", 0, SIZE_MAX, 0, MYSQL_WIRE_MISSING_BYTES, {7, 7}, SIZE_MAX},
+};
+
+static const text_row NULLABLE_ROWS[] = {
+    {"\3abc", 4, 0, 0, MYSQL_WIRE_OK, {1, 3}, 4},
+    {"\0", 1, 0, 0, MYSQL_WIRE_OK, {1, 0}, 1},
+    {".\xfb.", 3, 1, 0, MYSQL_WIRE_NULL, {2, 0}, 2},
+    {"\xff.", 2, 0, 0, MYSQL_WIRE_NOT_A_NUMBER, {7, 7}, 0},
+    {"\3ab", 3, 0, 0, MYSQL_WIRE_MISSING_BYTES, {7, 7}, 0},
+    {"\xfc\1", 2, 0, 0, MYSQL_WIRE_MISSING_BYTES, {7, 7}, 0},
+    {"\xfb", 1, 1, 0, MYSQL_WIRE_MISSING_BYTES, {7, 7}, 1},
+    {"\xfb", 1, SIZE_MAX, 0, MYSQL_WIRE_MISSING_BYTES, {7, 7}, SIZE_MAX},
+};
+
+static bool reads_so(const text_row *row, int32_t code, size_t at, mysql_wire_span text) {
+    return code == row->code && at == row->end && text.at == row->text.at &&
+           text.len == row->text.len;
+}
+
+static bool other_texts_are_read(void) {
+    for (size_t i = 0; i < LENGTH(BYTES_ROWS); i++) {
+        const text_row *row = &BYTES_ROWS[i];
+        const uint8_t *bytes = (const uint8_t *)row->bytes;
+        mysql_wire_span text = {7, 7};
+        size_t at = row->at;
+        int32_t code = mysql_wire_read_bytes(bytes, row->len, &at, row->count, &text);
+        CHECK(reads_so(row, code, at, text));
+        at = row->at;
+        CHECK(mysql_wire_skip(bytes, row->len, &at, row->count) == row->code && at == row->end);
+    }
+    for (size_t i = 0; i < LENGTH(REST_ROWS); i++) {
+        const text_row *row = &REST_ROWS[i];
+        mysql_wire_span text = {7, 7};
+        size_t at = row->at;
+        int32_t code = mysql_wire_read_rest((const uint8_t *)row->bytes, row->len, &at, &text);
+        CHECK(reads_so(row, code, at, text));
+    }
+    for (size_t i = 0; i < LENGTH(NULLABLE_ROWS); i++) {
+        const text_row *row = &NULLABLE_ROWS[i];
+        mysql_wire_span text = {7, 7};
+        size_t at = row->at;
+        int32_t code =
+            mysql_wire_read_nullable_bytes((const uint8_t *)row->bytes, row->len, &at, &text);
+        CHECK(reads_so(row, code, at, text));
+    }
+    return true;
+}
+
 static bool hostile_lengths_and_places_are_refused(void) {
     static const uint8_t huge[] = {0xfe, 0xff, 0xff, 0xff, 0xff, 0xff, 0xff, 0xff, 0xff, 'a'};
     static const size_t places[] = {11, SIZE_MAX - 1, SIZE_MAX};
@@ -157,6 +228,7 @@ const test field_tests[] = {
     {"length-encoded integers come back", length_encoded_integers_come_back},
     {"marks are no numbers", marks_are_no_numbers},
     {"texts come back", texts_come_back},
+    {"other texts are read", other_texts_are_read},
     {"hostile lengths and places are refused", hostile_lengths_and_places_are_refused},
     {NULL, NULL},
 };

@@ -2,6 +2,7 @@
 
 #![no_std]
 
+use core::ffi::c_void;
 use core::marker::{PhantomData, PhantomPinned};
 
 /// What a connection points to.
@@ -44,6 +45,11 @@ pub struct Spans {
 
 extern "C" {
     pub fn mysql_wire_version() -> u32;
+    pub fn mysql_wire_set_memory(
+        allocates: extern "C" fn(usize) -> *mut c_void,
+        reallocates: extern "C" fn(*mut c_void, usize) -> *mut c_void,
+        releases: extern "C" fn(*mut c_void),
+    );
     pub fn mysql_wire_open(limit: usize, connection: *mut Handle) -> i32;
     pub fn mysql_wire_close(connection: *mut Handle);
     pub fn mysql_wire_feed(connection: *mut Handle, bytes: *const u8, len: usize) -> i32;
@@ -55,13 +61,30 @@ extern "C" {
         room_len: usize,
         len: *mut usize,
     ) -> i32;
+    pub fn mysql_wire_decode(
+        connection: *mut Handle,
+        bytes: *const u8,
+        len: usize,
+        used: *mut usize,
+        packet: *mut View,
+    ) -> i32;
     pub fn mysql_wire_set_limit(connection: *mut Handle, limit: usize) -> i32;
     pub fn mysql_wire_unread(connection: *mut Handle) -> usize;
     pub fn mysql_wire_encode(connection: *mut Handle, payload: *const u8, len: usize) -> i32;
+    pub fn mysql_wire_framed_len(len: usize, framed: *mut usize) -> i32;
+    pub fn mysql_wire_encode_to(
+        connection: *mut Handle,
+        payload: *const u8,
+        len: usize,
+        room: *mut u8,
+        room_len: usize,
+        written: *mut usize,
+    ) -> i32;
     pub fn mysql_wire_output(connection: *mut Handle, room: *mut u8, room_len: usize) -> usize;
     pub fn mysql_wire_pending(connection: *mut Handle, bytes: *mut View);
     pub fn mysql_wire_sent(connection: *mut Handle, count: usize) -> usize;
     pub fn mysql_wire_reset(connection: *mut Handle) -> i32;
+    pub fn mysql_wire_set_sequence_id(connection: *mut Handle, id: u8) -> i32;
     pub fn mysql_wire_sequence_id(connection: *mut Handle) -> i32;
     pub fn mysql_wire_spans_init(spans: *mut Spans, limit: usize, id: u8);
     pub fn mysql_wire_spans_next(
@@ -99,6 +122,26 @@ extern "C" {
         text: *mut Span,
     ) -> i32;
     pub fn mysql_wire_read_null_bytes(
+        bytes: *const u8,
+        len: usize,
+        at: *mut usize,
+        text: *mut Span,
+    ) -> i32;
+    pub fn mysql_wire_read_bytes(
+        bytes: *const u8,
+        len: usize,
+        at: *mut usize,
+        count: usize,
+        text: *mut Span,
+    ) -> i32;
+    pub fn mysql_wire_skip(bytes: *const u8, len: usize, at: *mut usize, count: usize) -> i32;
+    pub fn mysql_wire_read_rest(
+        bytes: *const u8,
+        len: usize,
+        at: *mut usize,
+        text: *mut Span,
+    ) -> i32;
+    pub fn mysql_wire_read_nullable_bytes(
         bytes: *const u8,
         len: usize,
         at: *mut usize,

@@ -1,0 +1,24 @@
+/* Where the library's memory comes from: the names that its requests go to. */
+#include "mysql_wire.h"
+#include <stdlib.h>
+
+void *mysql_wire_allocate(size_t size);
+void *mysql_wire_reallocate(void *block, size_t size);
+void mysql_wire_release(void *block);
+
+static void *(*allocate)(size_t) = malloc;
+static void *(*reallocate)(void *, size_t) = realloc;
+static void (*release)(void *) = free;
+
+void *mysql_wire_allocate(size_t size) { return allocate(size); }
+
+void *mysql_wire_reallocate(void *block, size_t size) { return reallocate(block, size); }
+
+void mysql_wire_release(void *block) { release(block); }
+
+void mysql_wire_set_memory(void *(*allocates)(size_t), void *(*reallocates)(void *, size_t),
+                           void (*releases)(void *)) {
+    allocate = allocates;
+    reallocate = reallocates;
+    release = releases;
+}
