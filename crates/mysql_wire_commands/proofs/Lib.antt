@@ -2,5 +2,5 @@ pub mod InputLemmas
 pub mod ReadLemmas
 pub mod UnframeLemmas
 pub mod NumberLemmas
-pub mod WordLemmas
+pub mod ArgumentLemmas
 pub mod ReframeLemmas

@@ -4,4 +4,4 @@ pub mod Reframe
 pub mod Status
 pub mod Texts
 pub mod Unframe
-pub mod Words
+pub mod Arguments

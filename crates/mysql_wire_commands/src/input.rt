@@ -5,7 +5,7 @@ ghost use Rattle.std.specs.Io.KnownBytes.{Consumes, IsAtEnd};
 ghost use Rattle.std.specs.Result.{result_unwrap_or};
 ghost use Rattle.mysql_wire_commands.specs.Reads.{Makes};
 
-use crate::noted::NotedRead;
+use crate::noted_read::NotedRead;
 use crate::status::Stop;
 use bytes::BytesMut;
 use std::alloc::Allocator;

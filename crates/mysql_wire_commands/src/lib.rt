@@ -1,14 +1,14 @@
 //! The commands of the program `mysql_wire_tool`, over any reader and any writer.
 #![tactic(auto)]
 
+pub mod arguments;
 pub mod chunk;
 pub mod frame;
 mod input;
 mod lines;
-pub mod noted;
+pub mod noted_read;
 mod output;
 pub mod reframe;
 pub mod status;
 mod std_readers;
 pub mod unframe;
-pub mod words;

@@ -6,7 +6,7 @@ ghost use Rattle.wire_codec.specs.Runs.{payloads};
 
 use crate::input::read_piece;
 use crate::lines::{push_payload, push_rest};
-use crate::noted::NotedRead;
+use crate::noted_read::NotedRead;
 use crate::output::write_whole;
 use crate::status::{Stop, exit_status};
 use bytes::BytesMut;

@@ -1,6 +1,6 @@
 use Rattle.std.proofs.Common.{ℕ, ap}
-use Rattle.mysql_wire_commands.proofs.WordLemmas.{two_asked, two_refused}
-use Rattle.mysql_wire_commands.proofs.words.Request.unframe_under.Goals as goal
+use Rattle.mysql_wire_commands.proofs.ArgumentLemmas.{two_asked, two_refused}
+use Rattle.mysql_wire_commands.proofs.arguments.Request.unframe_under.Goals as goal
 
 pub returns : goal.returns
 returns c =

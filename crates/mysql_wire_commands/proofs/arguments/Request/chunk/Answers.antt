@@ -1,6 +1,6 @@
 use Rattle.std.proofs.Common.{string_bytes, arith}
-use Rattle.mysql_wire_commands.proofs.WordLemmas.{chunk_asked, chunk_count}
-use Rattle.mysql_wire_commands.proofs.words.Request.chunk.Goals as goal
+use Rattle.mysql_wire_commands.proofs.ArgumentLemmas.{chunk_asked, chunk_count}
+use Rattle.mysql_wire_commands.proofs.arguments.Request.chunk.Goals as goal
 
 pub returns-in-empty : goal.returns-in-empty
 returns-in-empty g c = chunk_asked string_bytes c.args.words.now (omega arith)

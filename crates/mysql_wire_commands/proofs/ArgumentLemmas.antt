@@ -2,10 +2,10 @@
 use Rattle.std.proofs.Common.{◌≡◌, ◌<◌, ◌≤◌, ◌-◌, ℕ, List, [], ◌∷◌, length, map, get_or, drop, take, codes, Option, Some, None, IfSome, ◌↔◌, arith, ap, ap₂, sym, ◌∙◌, subst, refl, inl, inr, ◌⊎◌, ◌≢◌}
 use Rattle.std.proofs.lemmas.List.{length-map, take_all}
 use Rattle.std.specs.Str.Parse.{digits_value}
-use Rattle.mysql_wire_commands.specs.declared.words.Request.{Request}
-use Rattle.mysql_wire_commands.specs.declared.words.Request.TheVariants.{Frame, Chunk, Unframe, UnframeLimited, Reframe}
+use Rattle.mysql_wire_commands.specs.declared.arguments.Request.{Request}
+use Rattle.mysql_wire_commands.specs.declared.arguments.Request.TheVariants.{Frame, Chunk, Unframe, UnframeLimited, Reframe}
 use Rattle.mysql_wire_commands.specs.Numbers.{IsNumber, IsStep}
-use Rattle.mysql_wire_commands.specs.Words.{Asks, Asked, RequestEnds}
+use Rattle.mysql_wire_commands.specs.Arguments.{Asks, Asked, RequestEnds}
 use Rattle.std.specs.Io.KnownBytes.{Keeps}
 
 -- the letter that the words begin with: no two names have the same

@@ -4,7 +4,7 @@ ghost use Rattle.std.specs.Prelude.{List, [], ◌∷◌, length, Option, None};
 ghost use Rattle.std.specs.Io.{ReadsAtMost};
 ghost use Rattle.std.specs.Io.KnownBytes.{ReadConsumes};
 ghost use Rattle.std.specs.Result.{result_unwrap_or};
-ghost use Rattle.mysql_wire_commands.specs.declared.noted.OneRead.{OneRead};
+ghost use Rattle.mysql_wire_commands.specs.declared.noted_read.OneRead.{OneRead};
 ghost use Rattle.mysql_wire_commands.specs.Reads.{Makes};
 
 use std::io;

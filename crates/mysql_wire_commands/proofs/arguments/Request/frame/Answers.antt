@@ -1,6 +1,6 @@
 use Rattle.std.proofs.Common.{string_bytes, arith}
-use Rattle.mysql_wire_commands.proofs.WordLemmas.{frame_asked, frame_refused, frame_count, map_one}
-use Rattle.mysql_wire_commands.proofs.words.Request.frame.Goals as goal
+use Rattle.mysql_wire_commands.proofs.ArgumentLemmas.{frame_asked, frame_refused, frame_count, map_one}
+use Rattle.mysql_wire_commands.proofs.arguments.Request.frame.Goals as goal
 
 pub returns-in_ok-number-in-len1 : goal.returns-in_ok-number-in-len1
 returns-in_ok-number-in-len1 g c =

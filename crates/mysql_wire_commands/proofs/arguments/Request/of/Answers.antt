@@ -1,6 +1,6 @@
 use Rattle.std.proofs.Common.{string_bytes}
-use Rattle.mysql_wire_commands.proofs.WordLemmas.{named, nothing_named, other_name}
-use Rattle.mysql_wire_commands.proofs.words.Request.of.Goals as goal
+use Rattle.mysql_wire_commands.proofs.ArgumentLemmas.{named, nothing_named, other_name}
+use Rattle.mysql_wire_commands.proofs.arguments.Request.of.Goals as goal
 
 pub returns-in_default : goal.returns-in_default
 returns-in_default g c = nothing_named string_bytes c.args.words.now c.in_default.len_below

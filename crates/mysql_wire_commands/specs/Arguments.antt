@@ -1,8 +1,8 @@
 -- What the words on the command line ask for.
 use Rattle.std.specs.Prelude.{◌≡◌, ◌<◌, ℕ, List, [], ◌∷◌, codes, Option, Some, IfSome}
 use Rattle.std.specs.Str.Parse.{digits_value}
-use Rattle.mysql_wire_commands.specs.declared.words.Request.{Request}
-use Rattle.mysql_wire_commands.specs.declared.words.Request.TheVariants.{Frame, Chunk, Unframe, UnframeLimited, Reframe}
+use Rattle.mysql_wire_commands.specs.declared.arguments.Request.{Request}
+use Rattle.mysql_wire_commands.specs.declared.arguments.Request.TheVariants.{Frame, Chunk, Unframe, UnframeLimited, Reframe}
 use Rattle.mysql_wire_commands.specs.Numbers.{IsNumber}
 use Rattle.mysql_wire_commands.specs.Texts.{FrameEnds, ChunkEnds}
 use Rattle.mysql_wire_commands.specs.Reframe.{ReframeEnds}

@@ -1,6 +1,6 @@
 use Rattle.std.proofs.Common.{string_bytes, arith}
-use Rattle.mysql_wire_commands.proofs.WordLemmas.{unframe_count, of_two, of_four}
-use Rattle.mysql_wire_commands.proofs.words.Request.unframe.Goals as goal
+use Rattle.mysql_wire_commands.proofs.ArgumentLemmas.{unframe_count, of_two, of_four}
+use Rattle.mysql_wire_commands.proofs.arguments.Request.unframe.Goals as goal
 
 pub returns-in_default : goal.returns-in_default
 returns-in_default g c = unframe_count string_bytes c.args.words.now (omega arith) (omega arith)

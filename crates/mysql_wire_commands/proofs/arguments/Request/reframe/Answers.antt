@@ -1,6 +1,6 @@
 use Rattle.std.proofs.Common.{string_bytes, arith}
-use Rattle.mysql_wire_commands.proofs.WordLemmas.{reframe_asked, reframe_refused, reframe_count, map_one}
-use Rattle.mysql_wire_commands.proofs.words.Request.reframe.Goals as goal
+use Rattle.mysql_wire_commands.proofs.ArgumentLemmas.{reframe_asked, reframe_refused, reframe_count, map_one}
+use Rattle.mysql_wire_commands.proofs.arguments.Request.reframe.Goals as goal
 
 pub returns-in_ok-limit_number-in-len1 : goal.returns-in_ok-limit_number-in-len1
 returns-in_ok-limit_number-in-len1 g c =

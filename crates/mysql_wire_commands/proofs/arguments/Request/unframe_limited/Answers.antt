@@ -1,6 +1,6 @@
 use Rattle.std.proofs.Common.{ℕ, ap}
-use Rattle.mysql_wire_commands.proofs.WordLemmas.{four_asked, four_refused}
-use Rattle.mysql_wire_commands.proofs.words.Request.unframe_limited.Goals as goal
+use Rattle.mysql_wire_commands.proofs.ArgumentLemmas.{four_asked, four_refused}
+use Rattle.mysql_wire_commands.proofs.arguments.Request.unframe_limited.Goals as goal
 
 pub returns : goal.returns
 returns c =

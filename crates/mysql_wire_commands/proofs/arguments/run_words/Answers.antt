@@ -1,9 +1,9 @@
 use Rattle.std.proofs.Common.{Some, ap, ◌∙◌, map, string_bytes, arith}
-use Rattle.mysql_wire_commands.specs.declared.words.Request.{Request}
-use Rattle.mysql_wire_commands.specs.declared.words.Request.TheVariants.{Frame, Chunk, Unframe, UnframeLimited, Reframe}
-use Rattle.mysql_wire_commands.proofs.WordLemmas.{Runs, runs_request, runs_nothing}
-use Rattle.mysql_wire_commands.proofs.words.run_words.Given as given
-use Rattle.mysql_wire_commands.proofs.words.run_words.Goals as goal
+use Rattle.mysql_wire_commands.specs.declared.arguments.Request.{Request}
+use Rattle.mysql_wire_commands.specs.declared.arguments.Request.TheVariants.{Frame, Chunk, Unframe, UnframeLimited, Reframe}
+use Rattle.mysql_wire_commands.proofs.ArgumentLemmas.{Runs, runs_request, runs_nothing}
+use Rattle.mysql_wire_commands.proofs.arguments.run_words.Given as given
+use Rattle.mysql_wire_commands.proofs.arguments.run_words.Goals as goal
 use Rattle.std.proofs.KnownBytes.{Keeps-refl}
 
 joined : (g : given.Over) (c : goal.Joined-of g)

@@ -1,6 +1,6 @@
 use Rattle.std.proofs.Common.{rules, arith, sym, ◌∙◌}
 use Rattle.mysql_wire_commands.proofs.NumberLemmas.{read_number, no_number}
-use Rattle.mysql_wire_commands.proofs.words.number.Goals as goal
+use Rattle.mysql_wire_commands.proofs.arguments.number.Goals as goal
 
 pub returns-then-word-gt10 : goal.returns-then-word-gt10
 returns-then-word-gt10 c = search (rules, arith)

@@ -8,7 +8,7 @@ ghost use Rattle.mysql_wire_commands.specs.Numbers.{IsNumber, IsStep};
 
 use crate::chunk::run_chunk;
 use crate::frame::run_frame;
-use crate::noted::Unnoted;
+use crate::noted_read::Unnoted;
 use crate::reframe::run_reframe;
 use crate::unframe::{run_unframe, run_unframe_limited};
 use std::alloc::Allocator;
@@ -96,7 +96,7 @@ fn two_limits(first: &str, second: &str) -> Option<(usize, usize)>
 }
 
 impl Request {
-    ghost use Rattle.mysql_wire_commands.specs.Words.{Asked};
+    ghost use Rattle.mysql_wire_commands.specs.Arguments.{Asked};
 
     // What `frame` and the words behind it ask for.
     fn frame<A: Allocator>(words: &[String<A>]) -> Option<Request>
@@ -183,7 +183,7 @@ impl Request {
     }
 }
 
-ghost use Rattle.mysql_wire_commands.specs.Words.{Asks, RequestEnds};
+ghost use Rattle.mysql_wire_commands.specs.Arguments.{Asks, RequestEnds};
 
 /// Runs the command that the words after the program's name ask for. The answer is the exit status:
 /// that of the command, or 1 where the words ask for none, and then nothing was read or written.
