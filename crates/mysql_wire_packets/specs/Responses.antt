@@ -1,5 +1,5 @@
 -- The client's answer to the initial handshake.
-use Rattle.std.specs.Prelude.{ℕ, List, [], ◌∷◌, ◌++◌, replicate}
+use Rattle.std.specs.Prelude.{ℕ, List, [], ◌∷◌, ◌++◌}
 use Rattle.mysql_wire.specs.Numbers.{le_bytes}
 use Rattle.mysql_wire.specs.Rows.{by_side}
 use Rattle.mysql_wire_packets.specs.InOrder.{text_bytes, u8_text_bytes}
@@ -10,7 +10,8 @@ use Rattle.mysql_wire_packets.specs.declared.handshake_response.HandshakeRespons
 -- what is written up to the name of the user
 abbrev pub client_bytes : HandshakeResponse41 → List ℕ
 client_bytes h = le_bytes 4 h.client_flag.0 ++ (le_bytes 4 h.max_packet_size
-    ++ h.character_set ∷ (replicate 23 0 ++ (clean h.username.0 ++ 0 ∷ [])))
+    ++ h.character_set ∷ ((h.filler ++ le_bytes 4 h.mariadb_capabilities.0)
+    ++ (clean h.username.0 ++ 0 ∷ [])))
 
 -- and behind it
 abbrev pub answer_bytes : HandshakeResponse41 → List ℕ

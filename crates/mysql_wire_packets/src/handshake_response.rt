@@ -1,20 +1,20 @@
 //! The client's answer to the initial handshake.
 
-ghost use Rattle.std.specs.Prelude.{◌≡◌, ◌<◌, ◌^◌, ◌∷◌, ◌++◌, [], Some};
+ghost use Rattle.std.specs.Prelude.{◌≡◌, ◌<◌, ◌^◌, ◌∷◌, ◌++◌, [], Some, length};
 ghost use Rattle.std.proofs.Common.{subst};
 ghost use Rattle.std.specs.Cow.{cow_slice_items};
 ghost use Rattle.mysql_wire.specs.Reading.{Parses};
 ghost use Rattle.mysql_wire.specs.RawTexts.{IsText, IsBorrowedText};
 ghost use Rattle.mysql_wire.specs.Rows.{OnSide, SameSide, by_side};
-ghost use Rattle.mysql_wire_packets.specs.InOrder.{both, byte, number, skip, lenenc_text, u8_text, text_bytes, u8_text_bytes, u8_cut};
+ghost use Rattle.mysql_wire_packets.specs.InOrder.{both, array, byte, number, lenenc_text, u8_text, text_bytes, u8_text_bytes, u8_cut};
 ghost use Rattle.mysql_wire_packets.specs.NullTexts.{clean, null_text};
 ghost use Rattle.mysql_wire_packets.specs.Optional.{BothIf, bytes_if, IsSide, IsThere, OnIf, field, has, KeptField, kept_field, one_of, optional, side};
 ghost use Rattle.mysql_wire_packets.specs.Responses.{answer_bytes, client_bytes};
 ghost use Rattle.mysql_wire_packets.specs.Then.{ReadsThen, then_back};
 
 use crate::lent::{Lent, LentIf};
-use crate::optional::{Optional, under, value_of};
-use mysql_wire::constants::CapabilityFlags;
+use crate::optional::{Optional, byte_of, field_of_byte, known_text, under, value_of};
+use mysql_wire::constants::{CapabilityFlags, MariadbCapabilities};
 use mysql_wire::io::{ParseBuf, WireError};
 use mysql_wire::misc::raw::bytes::{LenEnc, NullBytes, U8Bytes};
 use mysql_wire::misc::raw::int::{LeU32, RawInt};
@@ -25,7 +25,9 @@ use std::alloc::{Allocator, Global};
 // The payload's fields up to the name of the user.
 type Client<'a> = Both<RawFlags<CapabilityFlags, LeU32>, Both<RawInt<LeU32>, User<'a>>>;
 
-type User<'a> = Both<RawInt<u8>, Both<Skip<23>, RawBytes<'a, NullBytes>>>;
+type User<'a> = Both<RawInt<u8>, Both<Reserved, RawBytes<'a, NullBytes>>>;
+
+type Reserved = Both<[u8; 19], RawFlags<MariadbCapabilities, LeU32>>;
 
 // And those behind it, on which the client's capabilities decide.
 type Answer<'a> = Both<AuthResponse<'a>, Both<Optional<RawBytes<'a, NullBytes>>, Plugin<'a>>>;
@@ -40,7 +42,8 @@ type Level = Optional<RawInt<u8>>;
 /// `CLIENT_PLUGIN_AUTH_LENENC_CLIENT_DATA`, and else behind one byte.
 pub type AuthResponse<'a> = Either<RawBytes<'a, LenEnc>, RawBytes<'a, U8Bytes>>;
 
-/// The client's answer under `CLIENT_PROTOCOL_41`: `Protocol::HandshakeResponse41`.
+/// The client's answer under `CLIENT_PROTOCOL_41`: `Protocol::HandshakeResponse41`. MariaDB's form
+/// of it is the same, with its own capabilities in the last four of the filler's bytes.
 ///
 /// <https://dev.mysql.com/doc/dev/mysql-server/latest/page_protocol_connection_phase_packets_protocol_handshake_response.html>
 #[derive(Drop, Debug, PartialEq, Eq)]
@@ -50,6 +53,11 @@ pub struct HandshakeResponse41<'a> {
     pub max_packet_size: u32,
     /// The low byte of a collation's number.
     pub character_set: u8,
+    /// Zeros, of each client so far.
+    pub filler: [u8; 19],
+    /// What the client can do of MariaDB, where it does not set `CLIENT_LONG_PASSWORD`; of others
+    /// four more zeros. <https://mariadb.com/kb/en/connection/>
+    pub mariadb_capabilities: RawFlags<MariadbCapabilities, LeU32>,
     pub username: RawBytes<'a, NullBytes>,
     pub auth_response: AuthResponse<'a>,
     /// There under `CLIENT_CONNECT_WITH_DB`.
@@ -62,34 +70,16 @@ pub struct HandshakeResponse41<'a> {
     pub zstd_compression_level: Option<u8>,
 }
 
-// The value of a level.
-fn level_of(part: Level) -> Option<u8>
-    ensures { field (λ level. (level, _)) _ result ≡ part }
-{
-    match part {
-        Either::Left(level) => Some(level.0),
-        Either::Right(_) => None,
-    }
-}
-
-// The field of a level.
-fn field_of(level: Option<u8>) -> Level
-    ensures { by_side (λ level. level.0 ∷ []) (λ _. []) result
-        ≡ bytes_if (λ level. level ∷ []) level }
-{
-    match level {
-        Some(level) => Either::Left(RawInt::new(level)),
-        None => Either::Right(Skip),
-    }
-}
-
 // An answer of its fields.
 fn of_fields<'a>(client: Client<'a>, answer: Answer<'a>) -> HandshakeResponse41<'a>
     ensures client { (
       result.client_flag,
       (
         (result.max_packet_size, _),
-        ((result.character_set, _), (_, result.username)),
+        (
+          (result.character_set, _),
+          ((result.filler, result.mariadb_capabilities), result.username),
+        ),
       ),
     ) ≡ client.entry }
     ensures answer { (
@@ -107,18 +97,21 @@ fn of_fields<'a>(client: Client<'a>, answer: Answer<'a>) -> HandshakeResponse41<
     ) ≡ answer.entry }
 {
     let Both(client_flag, Both(max_packet_size, Both(character_set, user))) = client;
-    let Both(_, username) = user;
+    let Both(reserved, username) = user;
+    let filler = reserved.0;
     let Both(auth_response, Both(database, Both(plugin, Both(attrs, level)))) = answer;
     HandshakeResponse41 {
         client_flag,
         max_packet_size: max_packet_size.0,
         character_set: character_set.0,
+        filler,
+        mariadb_capabilities: reserved.1,
         username,
         auth_response,
         database: value_of(database),
         client_plugin_name: value_of(plugin),
         connect_attrs: value_of(attrs),
-        zstd_compression_level: level_of(level),
+        zstd_compression_level: byte_of(level),
     }
 }
 
@@ -126,7 +119,7 @@ impl MySerialize for HandshakeResponse41<'_> {
     ghost bytes = { λ h. client_bytes h ++ answer_bytes h };
 
     fn serialize<A: Allocator>(&self, buf: &mut Vec<u8, A>) -> Result<(), WireError> {
-        let level = field_of(self.zstd_compression_level);
+        let level = field_of_byte(self.zstd_compression_level);
         let attrs = LentIf(&self.connect_attrs);
         let plugin = LentIf(&self.client_plugin_name);
         let database = LentIf(&self.database);
@@ -138,7 +131,8 @@ impl MySerialize for HandshakeResponse41<'_> {
         let username = Lent(&self.username);
         let character_set = RawInt::<u8>::new(self.character_set);
         let max_packet_size = RawInt::<LeU32>::new(self.max_packet_size);
-        let user = Both(character_set, Both(Skip::<23>, username));
+        let reserved = Both(self.filler, self.mariadb_capabilities);
+        let user = Both(character_set, Both(reserved, username));
         let client = Both(self.client_flag, Both(max_packet_size, user));
         Both(client, answer).serialize(buf)
     }
@@ -152,7 +146,13 @@ impl<'de> MyDeserialize<'de, Global> for HandshakeResponse41<'de> {
     type Ctx = ();
 
     ghost reads = { λ _. ReadsThen
-        (λ h. (h.client_flag, ((h.max_packet_size, _), ((h.character_set, _), (_, h.username)))))
+        (λ h. (
+          h.client_flag,
+          (
+            (h.max_packet_size, _),
+            ((h.character_set, _), ((h.filler, h.mariadb_capabilities), h.username)),
+          ),
+        ))
         (λ h. (
           h.auth_response,
           (
@@ -166,7 +166,7 @@ impl<'de> MyDeserialize<'de, Global> for HandshakeResponse41<'de> {
             ),
           ),
         ))
-        (⟦<Client<'de> as MyDeserialize<'de, Global>>⟧.reads (tt, (tt, (tt, (tt, tt)))))
+        (⟦<Client<'de> as MyDeserialize<'de, Global>>⟧.reads (tt, (tt, (tt, ((tt, tt), tt)))))
         (λ client. ⟦<Answer<'de> as MyDeserialize<'de, Global>>⟧.reads (
           side tt (has client.0.0 0x200000),
           (
@@ -182,7 +182,7 @@ impl<'de> MyDeserialize<'de, Global> for HandshakeResponse41<'de> {
         )) };
 
     fn deserialize(alloc: Global, _: (), buf: &mut ParseBuf<'de>) -> Result<Self, WireError> {
-        match buf.parse::<Client<'de>>(alloc, ((), ((), ((), ((), ()))))) {
+        match buf.parse::<Client<'de>>(alloc, ((), ((), ((), (((), ()), ()))))) {
             Ok(client) => {
                 let bits = client.0.0;
                 let answer = under(
@@ -205,20 +205,12 @@ impl<'de> MyDeserialize<'de, Global> for HandshakeResponse41<'de> {
     }
 }
 
-// Attributes in hand are a text.
-fn known_attrs(attrs: &Option<RawBytes<'_, LenEnc>>)
-    ensures { OnIf (λ attrs. IsText (cow_slice_items attrs.0)) attrs.now }
-{
-    match attrs {
-        Some(attrs) => Wire::<'_, Global>::known(attrs),
-        None => {}
-    }
-}
-
 impl<'de> Wire<'de, Global> for HandshakeResponse41<'de> {
     ghost is_value = { λ h. record {
       client_flag : h.client_flag.0 < 2 ^ 32;
       max_packet_size : h.max_packet_size < 2 ^ 32;
+      filler : length h.filler ≡ 19;
+      mariadb_capabilities : h.mariadb_capabilities.0 < 2 ^ 32;
       auth_response : OnSide (λ text. IsText (cow_slice_items text.0))
           (λ text. IsText (cow_slice_items text.0)) h.auth_response;
       connect_attrs : OnIf (λ attrs. IsText (cow_slice_items attrs.0)) h.connect_attrs;
@@ -237,6 +229,8 @@ impl<'de> Wire<'de, Global> for HandshakeResponse41<'de> {
       client_flag : back.client_flag.0 ≡ h.client_flag.0;
       max_packet_size : back.max_packet_size ≡ h.max_packet_size;
       character_set : back.character_set ≡ h.character_set;
+      filler : back.filler ≡ h.filler;
+      mariadb_capabilities : back.mariadb_capabilities.0 ≡ h.mariadb_capabilities.0;
       username : IsBorrowedText back.username.0 (clean h.username.0);
       auth_response : SameSide (λ text back. IsBorrowedText back.0 (cow_slice_items text.0))
           (λ text back. IsBorrowedText back.0 (u8_cut text.0)) h.auth_response
@@ -256,13 +250,15 @@ impl<'de> Wire<'de, Global> for HandshakeResponse41<'de> {
     fn known(&self) {
         let _flags = self.client_flag.0;
         let _size = self.max_packet_size;
+        <[u8; 19] as Wire<'_, Global>>::known(&self.filler);
+        let _mariadb = self.mariadb_capabilities.0;
         Wire::<'_, Global>::known(&self.auth_response);
-        known_attrs(&self.connect_attrs);
+        known_text(&self.connect_attrs);
     }
 
     ghost comes_back = { λ ctx h rest answer eaten value good read.
         then_back _ _ (⟦<Client<'de> as MyDeserialize<'de, Global>>⟧.reads
-        (tt, (tt, (tt, (tt, tt)))))
+        (tt, (tt, (tt, ((tt, tt), tt)))))
         (λ client. ⟦<Answer<'de> as MyDeserialize<'de, Global>>⟧.reads (
           side tt (has client.0.0 0x200000),
           (
@@ -290,6 +286,8 @@ impl<'de> Wire<'de, Global> for HandshakeResponse41<'de> {
           client_flag = client.0;
           max_packet_size = client.1.0;
           character_set = client.1.1.0;
+          filler = client.1.1.1.0.0;
+          mariadb_capabilities = client.1.1.1.0.1;
           username = client.1.1.1.1;
           auth_response = answer.0;
           database = kept_field (λ name field. IsBorrowedText field.0 (clean name.0)) _
@@ -310,7 +308,8 @@ impl<'de> Wire<'de, Global> for HandshakeResponse41<'de> {
         (both (number (λ flags. flags.0) 4 h.client_flag.0 value.client_flag)
         (both (number (λ int. int.0) 4 h.max_packet_size value.max_packet_size)
         (both (byte (λ int. int.0) h.character_set)
-        (both (skip 23) (null_text (λ text. text.0) (cow_slice_items h.username.0))))))
+        (both (both (array 19 h.filler value.filler) (number (λ flags. flags.0) 4
+        h.mariadb_capabilities.0 value.mariadb_capabilities)) (null_text (λ text. text.0) (cow_slice_items h.username.0))))))
         (λ client came. rw came.0
         (both (one_of (⟦<RawBytes<'de, LenEnc> as MyDeserialize<'de, Global>>⟧.reads)
         (⟦<RawBytes<'de, U8Bytes> as MyDeserialize<'de, Global>>⟧.reads) tt

@@ -1,11 +1,22 @@
 //! Fields that capabilities decide on.
 
-ghost use Rattle.std.specs.Prelude.{◌≡◌};
+ghost use Rattle.std.specs.Prelude.{◌≡◌, ◌∷◌, []};
+ghost use Rattle.std.specs.Cow.{cow_slice_items};
+ghost use Rattle.mysql_wire.specs.RawTexts.{IsText};
+ghost use Rattle.mysql_wire.specs.Rows.{by_side};
+ghost use Rattle.mysql_wire.specs.Reading.{Through};
+ghost use Rattle.mysql_wire_packets.specs.More.{if_more};
 ghost use Rattle.mysql_wire.specs.FlagSets.{capability_flags_bits};
-ghost use Rattle.mysql_wire_packets.specs.Optional.{field, has, side};
+ghost use Rattle.mysql_wire_packets.specs.Optional.{OnIf, bytes_if, field, has, side};
 
 use mysql_wire::constants::{CapabilityFlags, Flags};
-use mysql_wire::misc::raw::{Either, Skip};
+use mysql_wire::io::{ParseBuf, WireError};
+use mysql_wire::misc::raw::bytes::LenEnc;
+use mysql_wire::misc::raw::int::RawInt;
+use mysql_wire::misc::raw::{Either, RawBytes, Skip};
+use mysql_wire::proto::{HasSize, MyDeserialize, Varying, Wire};
+use std::alloc::Global;
+use std::marker::PhantomData;
 
 /// A field that is there, or no bytes.
 pub(crate) type Optional<T> = Either<T, Skip<0>>;
@@ -28,5 +39,65 @@ pub(crate) fn value_of<T>(part: Optional<T>) -> Option<T>
     match part {
         Either::Left(value) => Some(value),
         Either::Right(_) => None,
+    }
+}
+
+/// The value of a byte.
+pub(crate) fn byte_of(part: Optional<RawInt<u8>>) -> Option<u8>
+    ensures { field (λ byte. (byte, _)) _ result ≡ part }
+{
+    match part {
+        Either::Left(byte) => Some(byte.0),
+        Either::Right(_) => None,
+    }
+}
+
+/// The field of a byte.
+pub(crate) fn field_of_byte(byte: Option<u8>) -> Optional<RawInt<u8>>
+    ensures { by_side (λ byte. byte.0 ∷ []) (λ _. []) result ≡ bytes_if (λ byte. byte ∷ []) byte }
+{
+    match byte {
+        Some(byte) => Either::Left(RawInt::new(byte)),
+        None => Either::Right(Skip),
+    }
+}
+
+/// A text in hand that may be missing.
+pub(crate) fn known_text(text: &Option<RawBytes<'_, LenEnc>>)
+    ensures { OnIf (λ text. IsText (cow_slice_items text.0)) text.now }
+{
+    match text {
+        Some(text) => Wire::<'_, Global>::known(text),
+        None => {}
+    }
+}
+
+/// A field that is there under a condition, where the payload goes on.
+#[derive(Drop)]
+pub(crate) struct IfMore<T>(pub Optional<T>, pub PhantomData<T>);
+
+impl<T: HasSize> HasSize for IfMore<T> {
+    type Size = Varying<T::Size>;
+}
+
+impl<'de, T: MyDeserialize<'de, Global>> MyDeserialize<'de, Global> for IfMore<T> {
+    type Ctx = Either<T::Ctx, ()>;
+
+    ghost reads = { λ ctx input. Through (λ more. more.0)
+        (⟦<Optional<T> as MyDeserialize<'de, Global>>⟧.reads (if_more ctx input) input) };
+
+    fn deserialize(
+        alloc: Global,
+        ctx: Either<T::Ctx, ()>,
+        buf: &mut ParseBuf<'de>,
+    ) -> Result<Self, WireError> {
+        let part = match buf.0.first() {
+            Some(_) => buf.parse::<Optional<T>>(alloc, ctx),
+            None => buf.parse::<Optional<T>>(alloc, Either::Right(())),
+        };
+        match part {
+            Ok(part) => Ok(IfMore(part, PhantomData)),
+            Err(error) => Err(error),
+        }
     }
 }

@@ -4,5 +4,5 @@ pub returns-clause-ok : goal.returns-clause-ok
 returns-clause-ok g c = rw (
   c.new-max_packet_size.ensures,
   c.new-character_set.ensures,
-  c.field_of-level.ensures,
+  c.field_of_byte-level.ensures,
 ) at c.serialize.ensures.ok

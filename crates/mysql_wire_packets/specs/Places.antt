@@ -1,0 +1,40 @@
+-- A payload at a place of a connection.
+use Rattle.std.specs.Prelude.{ℕ, ◌≡◌, ◌<◌, ◌≤◌, ◌-◌, Bool, true, false, if◌then◌else◌, nat_lt, nat_eq, List, [], ◌∷◌, length, Result, Ok, Err}
+use Rattle.mysql_wire.specs.WireError.{WireError}
+use Rattle.mysql_wire.specs.WireError.TheVariants.{UnexpectedEof}
+use Rattle.mysql_wire_packets.specs.declared.places.PayloadError.{PayloadError}
+use Rattle.mysql_wire_packets.specs.declared.places.PayloadError.TheVariants.{Refused, Trailing, OtherHeader, OtherSpelling}
+
+-- the payload is one packet, read whole; or the packet's type refuses it; or bytes stand behind it
+abbrev pub ReadsWhole : {X : Type 0} → (List ℕ → Result X WireError → ℕ → Type 0) → List ℕ
+    → Result X PayloadError → Type 0
+ReadsWhole reads payload (Ok packet) = reads payload (Ok packet) (length payload)
+ReadsWhole reads payload (Err (Refused error)) =
+    (eaten : ℕ) × (eaten ≤ length payload) × reads payload (Err error) eaten
+ReadsWhole {X = X} reads payload (Err (Trailing count)) = (packet : X) × (0 < count)
+    × (count ≤ length payload) × reads payload (Ok packet) (length payload - count)
+ReadsWhole reads payload (Err (OtherHeader byte)) = ⊥
+ReadsWhole reads payload (Err OtherSpelling) = ⊥
+
+-- what is answered is such a packet, as this variant
+abbrev pub Wraps : {X Y : Type 0} → (X → Y) → (Result X PayloadError → Type 0)
+    → Result Y PayloadError → Type 0
+Wraps {X = X} variant says (Ok answer) = (packet : X) × (answer ≡ variant packet)
+    × says (Ok packet)
+Wraps variant says (Err error) = says (Err error)
+
+-- a payload that begins with fe is too short for a row
+abbrev pub is_short : Bool → ℕ → Bool
+is_short true len = nat_lt len 0xffffff
+is_short false len = nat_lt len 9
+
+-- the byte is one of the headers
+abbrev pub is_among : ℕ → List ℕ → Bool
+is_among byte [] = false
+is_among byte (header ∷ headers) = if nat_eq byte header then true else is_among byte headers
+
+-- an empty payload is refused as one that ends early, and one with another first byte by this byte
+abbrev pub IsOther : {Y : Type 0} → List ℕ → List ℕ → Result Y PayloadError → Type 0
+IsOther headers [] result = result ≡ Err (Refused UnexpectedEof)
+IsOther headers (byte ∷ bytes) result =
+    is_among byte headers ≡ false → result ≡ Err (OtherHeader byte)

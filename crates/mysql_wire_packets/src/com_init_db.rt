@@ -1,0 +1,76 @@
+//! `COM_INIT_DB`.
+
+ghost use Rattle.std.specs.Prelude.{◌≡◌, ◌∷◌, []};
+ghost use Rattle.std.specs.Cow.{cow_slice_items};
+ghost use Rattle.mysql_wire.specs.Reading.{Through};
+ghost use Rattle.mysql_wire.specs.RawTexts.{IsText, IsBorrowedText};
+ghost use Rattle.mysql_wire_packets.specs.InOrder.{packet, both, const_u8, eof_text};
+
+use crate::lent::Lent;
+use mysql_wire::io::{ParseBuf, WireError};
+use mysql_wire::misc::raw::Both;
+use mysql_wire::misc::raw::bytes::{EofBytes, RawBytes};
+use mysql_wire::misc::raw::int::ConstU8;
+use mysql_wire::proto::{HasSize, MyDeserialize, MySerialize, Varying, Wire};
+use std::alloc::{Allocator, Global};
+
+// The payload's fields, in order.
+type Fields<'a> = Both<ConstU8<(), 0x02>, RawBytes<'a, EofBytes>>;
+
+/// `COM_INIT_DB`: another database becomes the current one. Its name goes up to the end of the
+/// payload.
+///
+/// <https://dev.mysql.com/doc/dev/mysql-server/latest/page_protocol_com_init_db.html>
+#[derive(Drop, Debug, PartialEq, Eq)]
+pub struct ComInitDb<'a> {
+    pub schema: RawBytes<'a, EofBytes>,
+}
+
+impl MySerialize for ComInitDb<'_> {
+    ghost bytes = { λ command. 0x02 ∷ cow_slice_items command.schema.0 };
+
+    fn serialize<A: Allocator>(&self, buf: &mut Vec<u8, A>) -> Result<(), WireError> {
+        Both(ConstU8::<(), 0x02>::new(), Lent(&self.schema)).serialize(buf)
+    }
+}
+
+impl HasSize for ComInitDb<'_> {
+    type Size = Varying;
+}
+
+impl<'de> MyDeserialize<'de, Global> for ComInitDb<'de> {
+    type Ctx = ();
+
+    ghost reads = { λ _ input. Through (λ command. (_, command.schema))
+        (⟦<Fields<'de> as MyDeserialize<'de, Global>>⟧.reads (tt, tt) input) };
+
+    fn deserialize(alloc: Global, _: (), buf: &mut ParseBuf<'de>) -> Result<Self, WireError> {
+        match buf.parse::<Fields<'de>>(alloc, ((), ())) {
+            Ok(Both(_, schema)) => Ok(ComInitDb { schema }),
+            Err(error) => Err(error),
+        }
+    }
+}
+
+// The name takes all the rest, so it comes back where nothing stands behind it.
+impl<'de> Wire<'de, Global> for ComInitDb<'de> {
+    ghost is_value = { λ command. IsText (cow_slice_items command.schema.0) };
+
+    ghost good = { λ _ _ rest. rest ≡ [] };
+
+    ghost kept = { λ command back. IsBorrowedText back.schema.0 (cow_slice_items command.schema.0) };
+
+    ghost takes_memory = { ⊥ };
+
+    fn known(&self) {
+        self.schema.known();
+    }
+
+    ghost comes_back = { λ ctx command rest answer eaten value good read.
+        packet (⟦<Fields<'de> as MyDeserialize<'de, Global>>⟧.reads (tt, tt)) _ _
+        (λ back came. came.1)
+        (both const_u8 (eof_text (λ text. text.0) (cow_slice_items command.schema.0) good))
+        answer eaten read };
+
+    ghost of_size = { λ command size _ stated. Prim.cc };
+}

@@ -1,0 +1,64 @@
+//! A payload that is one packet, at a place where one of several may stand.
+
+ghost use Rattle.std.specs.Prelude.{◌≡◌, Ok, length, IfOk};
+ghost use Rattle.mysql_wire.specs.Reading.{Parses};
+ghost use Rattle.mysql_wire_packets.specs.Places.{ReadsWhole};
+
+use mysql_wire::io::{ParseBuf, WireError};
+use mysql_wire::proto::{MyDeserialize, MySerialize};
+use std::alloc::Global;
+
+/// Why a payload is no packet of its place.
+#[derive(Debug, Drop)]
+pub enum PayloadError {
+    /// The type that its first byte calls for refuses it, or there is no first byte.
+    Refused(WireError),
+    /// So many bytes stand behind the packet.
+    Trailing(usize),
+    /// No packet of the place begins with this byte.
+    OtherHeader(u8),
+    /// The packet is written as other bytes.
+    OtherSpelling,
+}
+
+/// Reads a payload that is one packet.
+pub fn read_whole<'de, T: MyDeserialize<'de, Global>>(
+    alloc: Global,
+    ctx: T::Ctx,
+    payload: &'de [u8],
+) -> Result<T, PayloadError>
+    ensures { ReadsWhole (Parses T.Size.SIZE (T.reads ctx)) payload.entry.now result }
+{
+    let mut buf = ParseBuf(payload);
+    match buf.parse::<T>(alloc, ctx) {
+        Ok(packet) => match buf.len() {
+            0 => Ok(packet),
+            left => Err(PayloadError::Trailing(left)),
+        },
+        Err(error) => Err(PayloadError::Refused(error)),
+    }
+}
+
+/// Reads a payload that is one packet, and just the bytes that this packet is written as. Where the
+/// packet is written as others, since a length in it is not in its shortest spelling, or begins with
+/// a byte that begins none, that is `OtherSpelling`.
+pub fn read_exact<'de, T: MySerialize + MyDeserialize<'de, Global>>(
+    alloc: Global,
+    ctx: T::Ctx,
+    payload: &'de [u8],
+) -> Result<T, PayloadError>
+    ensures read { IfOk result (λ packet. Parses T.Size.SIZE (T.reads ctx) payload.entry.now
+        (Ok packet) (length payload.entry.now)) }
+    ensures written { IfOk result (λ packet. T.bytes packet ≡ payload.entry.now) }
+{
+    let packet = match read_whole::<T>(alloc, ctx, payload) {
+        Ok(packet) => packet,
+        Err(error) => return Err(error),
+    };
+    let mut written = Vec::new(alloc);
+    match packet.serialize(&mut written) {
+        Ok(()) if written.as_slice() == payload => Ok(packet),
+        Ok(()) => Err(PayloadError::OtherSpelling),
+        Err(error) => Err(PayloadError::Refused(error)),
+    }
+}
