@@ -1,0 +1,7 @@
+use Rattle.std.proofs.Common.{[]}
+use Rattle.mysql_wire_statements.specs.Executed.{params_good}
+use Rattle.mysql_wire_statements.proofs.laws.execute_comes_back.Goals as goal
+
+pub returns : goal.returns
+returns c = λ command is_id is_flags is_count there are at. c.parse_back.ensures.back command []
+    (is_id, is_flags, is_count) (there, params_good c.args.num_params command.params are) at

@@ -1,0 +1,11 @@
+pub mod Again
+pub mod Bitmaps
+pub mod Executed
+pub mod InOrder
+pub mod Moments
+pub mod MomentsBack
+pub mod Params
+pub mod PrepareAnswers
+pub mod TypesBack
+pub mod Values
+pub mod ValuesBack

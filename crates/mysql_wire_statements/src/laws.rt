@@ -1,0 +1,226 @@
+//! What was written of each packet comes back, and what was read of it is written as it stood. Each
+//! function reads as `parse` does.
+
+ghost use Rattle.std.specs.Prelude.{◌≡◌, ◌<◌, ◌^◌, ℕ, List, [], ◌∷◌, ◌++◌, nat_lt, length, IfOk};
+ghost use Rattle.mysql_wire.specs.Law.{LeavesRest};
+ghost use Rattle.mysql_wire.specs.Numbers.{le_bytes};
+ghost use Rattle.mysql_wire_packets.specs.Optional.{BothIf, IsThere, OnIf, bytes_if};
+ghost use Rattle.mysql_wire_statements.specs.Bitmaps.{bitmap_len};
+ghost use Rattle.mysql_wire_statements.specs.Executed.{params_bytes, AreParams, SameParams};
+ghost use Rattle.mysql_wire_statements.specs.Values.{form_of, value_bytes, written_form, IsShortest, IsValue, SameValue};
+ghost use Rattle.mysql_wire_statements.specs.declared.com_stmt_execute.ComStmtExecute.{ComStmtExecute};
+ghost use Rattle.mysql_wire_statements.specs.declared.binary_value.BinaryValue.{BinaryValue};
+
+use crate::binary_row::BinaryRow;
+use crate::binary_value::BinaryValue;
+use crate::com_stmt_close::ComStmtClose;
+use crate::com_stmt_execute::ComStmtExecute;
+use crate::com_stmt_fetch::ComStmtFetch;
+use crate::com_stmt_prepare::ComStmtPrepare;
+use crate::com_stmt_reset::ComStmtReset;
+use crate::com_stmt_send_long_data::ComStmtSendLongData;
+pub use crate::written_back::is_written_back;
+use mysql_wire::constants::ColumnType;
+use mysql_wire::io::{ParseBuf, WireError};
+use mysql_wire::misc::raw::field_laws::parse_back;
+use std::alloc::Global;
+
+/// A `ComStmtPrepare` comes back, where nothing stands behind it.
+pub fn prepare_comes_back<'a>(
+    alloc: Global,
+    buf: &mut ParseBuf<'a>,
+) -> Result<ComStmtPrepare<'a>, WireError>
+    ensures { (query : List ℕ)
+        → buf.old.0.now ≡ (0x16 ∷ query) ++ []
+        → LeavesRest (λ back. back.query.now ≡ query) ⊥ [] result buf.new.0.now }
+{
+    parse_back(alloc, (), buf)
+}
+
+/// A `ComStmtPrepare` that was read is written as the bytes that were eaten.
+pub fn prepare_is_written_back<'a>(
+    alloc: Global,
+    buf: &mut ParseBuf<'a>,
+) -> Result<ComStmtPrepare<'a>, WireError>
+    ensures { IfOk result (λ command. (0x16 ∷ command.query.now)
+        ++ buf.new.0.now ≡ buf.old.0.now) }
+{
+    is_written_back(alloc, (), buf)
+}
+
+/// A `ComStmtSendLongData` comes back, where nothing stands behind it.
+pub fn send_long_data_comes_back<'a>(
+    alloc: Global,
+    buf: &mut ParseBuf<'a>,
+) -> Result<ComStmtSendLongData<'a>, WireError>
+    ensures { (id param : ℕ) (part : List ℕ)
+        → id < 2 ^ 32
+        → param < 2 ^ 16
+        → buf.old.0.now ≡ (0x18 ∷ (le_bytes 4 id ++ (le_bytes 2 param ++ part))) ++ []
+        → LeavesRest (λ back. (back.statement_id ≡ id) × (back.param_id ≡ param) × (back.data.now ≡ part)) ⊥ [] result buf.new.0.now }
+{
+    parse_back(alloc, (), buf)
+}
+
+/// A `ComStmtSendLongData` that was read is written as the bytes that were eaten.
+pub fn send_long_data_is_written_back<'a>(
+    alloc: Global,
+    buf: &mut ParseBuf<'a>,
+) -> Result<ComStmtSendLongData<'a>, WireError>
+    ensures { IfOk result (λ command. (0x18 ∷ (le_bytes 4 command.statement_id ++ (le_bytes 2 command.param_id ++ command.data.now)))
+        ++ buf.new.0.now ≡ buf.old.0.now) }
+{
+    is_written_back(alloc, (), buf)
+}
+
+/// A `ComStmtFetch` comes back, whatever stands behind it.
+pub fn fetch_comes_back(alloc: Global, buf: &mut ParseBuf<'_>) -> Result<ComStmtFetch, WireError>
+    ensures { (id rows : ℕ) (rest : List ℕ)
+        → id < 2 ^ 32
+        → rows < 2 ^ 32
+        → buf.old.0.now ≡ (0x1c ∷ (le_bytes 4 id ++ le_bytes 4 rows)) ++ rest
+        → LeavesRest (λ back. (back.statement_id ≡ id) × (back.num_rows ≡ rows)) ⊥ rest result buf.new.0.now }
+{
+    parse_back(alloc, (), buf)
+}
+
+/// A `ComStmtFetch` that was read is written as the bytes that were eaten.
+pub fn fetch_is_written_back(
+    alloc: Global,
+    buf: &mut ParseBuf<'_>,
+) -> Result<ComStmtFetch, WireError>
+    ensures { IfOk result (λ command. (0x1c ∷ (le_bytes 4 command.statement_id ++ le_bytes 4 command.num_rows))
+        ++ buf.new.0.now ≡ buf.old.0.now) }
+{
+    is_written_back(alloc, (), buf)
+}
+
+/// A `ComStmtReset` comes back, whatever stands behind it.
+pub fn reset_comes_back(alloc: Global, buf: &mut ParseBuf<'_>) -> Result<ComStmtReset, WireError>
+    ensures { (id : ℕ) (rest : List ℕ)
+        → id < 2 ^ 32
+        → buf.old.0.now ≡ (0x1a ∷ le_bytes 4 id) ++ rest
+        → LeavesRest (λ back. back.statement_id ≡ id) ⊥ rest result buf.new.0.now }
+{
+    parse_back(alloc, (), buf)
+}
+
+/// A `ComStmtReset` that was read is written as the bytes that were eaten.
+pub fn reset_is_written_back(
+    alloc: Global,
+    buf: &mut ParseBuf<'_>,
+) -> Result<ComStmtReset, WireError>
+    ensures { IfOk result (λ command. (0x1a ∷ le_bytes 4 command.statement_id)
+        ++ buf.new.0.now ≡ buf.old.0.now) }
+{
+    is_written_back(alloc, (), buf)
+}
+
+/// A `ComStmtClose` comes back, whatever stands behind it.
+pub fn close_comes_back(alloc: Global, buf: &mut ParseBuf<'_>) -> Result<ComStmtClose, WireError>
+    ensures { (id : ℕ) (rest : List ℕ)
+        → id < 2 ^ 32
+        → buf.old.0.now ≡ (0x19 ∷ le_bytes 4 id) ++ rest
+        → LeavesRest (λ back. back.statement_id ≡ id) ⊥ rest result buf.new.0.now }
+{
+    parse_back(alloc, (), buf)
+}
+
+/// A `ComStmtClose` that was read is written as the bytes that were eaten.
+pub fn close_is_written_back(
+    alloc: Global,
+    buf: &mut ParseBuf<'_>,
+) -> Result<ComStmtClose, WireError>
+    ensures { IfOk result (λ command. (0x19 ∷ le_bytes 4 command.statement_id)
+        ++ buf.new.0.now ≡ buf.old.0.now) }
+{
+    is_written_back(alloc, (), buf)
+}
+
+/// A `ComStmtExecute` comes back, where it has as many parameters as the context says, and nothing
+/// stands behind it.
+pub fn execute_comes_back<'a>(
+    alloc: Global,
+    num_params: u16,
+    buf: &mut ParseBuf<'a>,
+) -> Result<ComStmtExecute<'a>, WireError>
+    ensures { (command : ComStmtExecute) → command.statement_id < 2 ^ 32
+        → command.flags.0 < 2 ^ 8 → command.iteration_count < 2 ^ 32
+        → IsThere (nat_lt 0 num_params) command.params
+        → OnIf (AreParams num_params) command.params
+        → buf.old.0.now ≡ (0x17 ∷ (le_bytes 4 command.statement_id
+        ++ (command.flags.0 ∷ (le_bytes 4 command.iteration_count
+        ++ bytes_if params_bytes command.params)))) ++ []
+        → LeavesRest (λ back. (back.statement_id ≡ command.statement_id)
+        × (back.flags.0 ≡ command.flags.0)
+        × (back.iteration_count ≡ command.iteration_count)
+        × BothIf SameParams command.params back.params) ⊥ [] result buf.new.0.now }
+{
+    parse_back(alloc, num_params, buf)
+}
+
+/// A `ComStmtExecute` that was read is written as the bytes that were eaten.
+pub fn execute_is_written_back<'a>(
+    alloc: Global,
+    num_params: u16,
+    buf: &mut ParseBuf<'a>,
+) -> Result<ComStmtExecute<'a>, WireError>
+    ensures { IfOk result (λ command. (0x17 ∷ (le_bytes 4 command.statement_id
+        ++ (command.flags.0 ∷ (le_bytes 4 command.iteration_count
+        ++ bytes_if params_bytes command.params)))) ++ buf.new.0.now ≡ buf.old.0.now) }
+{
+    is_written_back(alloc, num_params, buf)
+}
+
+/// A `BinaryRow` comes back, where its bitmap has the bits of so many columns, and nothing stands
+/// behind it.
+pub fn row_comes_back<'a>(
+    alloc: Global,
+    columns: usize,
+    buf: &mut ParseBuf<'a>,
+) -> Result<BinaryRow<'a>, WireError>
+    ensures { (nulls values : List ℕ) → bitmap_len 2 columns ≡ length nulls
+        → buf.old.0.now ≡ (0x00 ∷ (nulls ++ values)) ++ []
+        → LeavesRest (λ back. (back.nulls.0.now ≡ nulls) × (back.values.now ≡ values)) ⊥ [] result
+        buf.new.0.now }
+{
+    parse_back(alloc, columns, buf)
+}
+
+/// A `BinaryRow` that was read is written as the bytes that were eaten.
+pub fn row_is_written_back<'a>(
+    alloc: Global,
+    columns: usize,
+    buf: &mut ParseBuf<'a>,
+) -> Result<BinaryRow<'a>, WireError>
+    ensures { IfOk result (λ row. (0x00 ∷ (row.nulls.0.now ++ row.values.now)) ++ buf.new.0.now
+        ≡ buf.old.0.now) }
+{
+    is_written_back(alloc, columns, buf)
+}
+
+/// A `BinaryValue` comes back where the type is one of its form, whatever stands behind it.
+pub fn value_comes_back<'a>(
+    alloc: Global,
+    column_type: ColumnType,
+    buf: &mut ParseBuf<'a>,
+) -> Result<BinaryValue<'a>, WireError>
+    ensures { (value : BinaryValue) (rest : List ℕ) → IsValue value
+        → form_of column_type ≡ written_form value → buf.old.0.now ≡ value_bytes value ++ rest
+        → LeavesRest (SameValue value) ⊥ rest result buf.new.0.now }
+{
+    parse_back(alloc, column_type, buf)
+}
+
+/// A `BinaryValue` that was read is written as the bytes that were eaten, where a text's length is
+/// spelled in the shortest form.
+pub fn value_is_written_back<'a>(
+    alloc: Global,
+    column_type: ColumnType,
+    buf: &mut ParseBuf<'a>,
+) -> Result<BinaryValue<'a>, WireError>
+    ensures { IfOk result (λ value. IsShortest (form_of column_type) buf.old.0.now
+        → value_bytes value ++ buf.new.0.now ≡ buf.old.0.now) }
+{
+    is_written_back(alloc, column_type, buf)
+}

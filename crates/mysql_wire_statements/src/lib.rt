@@ -1,0 +1,18 @@
+//! Packets of prepared statements, made of the wire types of `mysql_wire`.
+#![tactic(auto)]
+
+pub mod binary_row;
+pub mod binary_value;
+pub mod com_stmt_close;
+pub mod com_stmt_execute;
+pub mod com_stmt_fetch;
+pub mod com_stmt_prepare;
+pub mod com_stmt_reset;
+pub mod com_stmt_send_long_data;
+pub mod laws;
+pub mod moments;
+pub mod null_bitmap;
+pub mod params;
+pub mod prepare_answer;
+mod rest;
+pub mod written_back;
