@@ -1,0 +1,43 @@
+//! Goes through recorded sessions: each payload is read by the type that its place calls for, and
+//! written back.
+#![tactic(auto)]
+
+mod is_written;
+mod place;
+mod record;
+mod session;
+mod tally;
+
+use record::Record;
+use session::Session;
+use std::alloc::Global;
+use std::io::{self, Read, Write};
+use std::process::ExitCode;
+use tally::Tally;
+
+// Goes through the records, and writes what was found.
+fn go_through<W: Write>(alloc: Global, records: &[u8], output: &mut W) -> io::Result<()> {
+    let mut tally = Tally::new();
+    let mut session = Session::new();
+    let mut rest = records;
+    for _ in 0..records.len() {
+        let Some((record, behind)) = Record::first(rest) else {
+            break;
+        };
+        session.go_on(alloc, record, &mut tally);
+        rest = behind;
+    }
+    tally.write(output)?;
+    writeln!(output, "left {}", rest.len())
+}
+
+fn main(rt: HostRuntime) -> ExitCode {
+    let mut records = Vec::new(rt.alloc());
+    if rt.stdin().read_to_end(&mut records).is_err() {
+        return ExitCode::from(2);
+    }
+    match go_through(rt.alloc(), records.as_slice(), &mut rt.stdout()) {
+        Ok(()) => ExitCode::from(0),
+        Err(_) => ExitCode::from(2),
+    }
+}
