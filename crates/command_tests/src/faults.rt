@@ -1,7 +1,7 @@
 // The commands with each read, each write and each request for memory failing in turn.
 
 use crate::run::{Memory, each_goes, end_of, run};
-use refusing::NEVER;
+use refusing_allocator::NEVER;
 use std::io;
 use std::io::{ErrorKind, Write};
 use std::test::Fail;

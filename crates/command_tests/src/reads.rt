@@ -1,13 +1,13 @@
 // What `unframe` asks of a reader, with a reader that keeps each of its reads.
 
 ghost use Rattle.std.specs.Prelude.{◌≡◌, ◌<◌, List, [], Option, Some, None, IfSome, IsFalse, if◌then◌else◌};
-ghost use Rattle.mysql_wire_commands.specs.declared.noted.OneRead.{OneRead};
+ghost use Rattle.mysql_wire_commands.specs.declared.noted_read.OneRead.{OneRead};
 ghost use Rattle.mysql_wire_commands.specs.Reads.{EachAskedFor};
 
 use crate::run::{Memory, each_goes, run};
-use mysql_wire_commands::noted::{NotedRead, OneRead};
+use mysql_wire_commands::noted_read::{NotedRead, OneRead};
 use mysql_wire_commands::unframe::{run_unframe, run_unframe_limited};
-use refusing::NEVER;
+use refusing_allocator::NEVER;
 use std::alloc::{AllocError, Global};
 use std::io;
 use std::io::{BufReader, Cursor, Read};

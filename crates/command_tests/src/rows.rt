@@ -3,9 +3,9 @@
 ghost use Rattle.std.specs.Prelude.{◌<◌};
 
 use crate::run::{Memory, each_goes, end_of};
-use mysql_wire_commands::noted::NotedRead;
+use mysql_wire_commands::noted_read::NotedRead;
 use mysql_wire_commands::unframe::{run_unframe, run_unframe_limited};
-use refusing::NEVER;
+use refusing_allocator::NEVER;
 use std::alloc::{Allocator, Global};
 use std::io::Write;
 use std::test::Fail;

@@ -1,7 +1,7 @@
 // A command line, run.
 
-use mysql_wire_commands::words::run_words;
-use refusing::{NEVER, Refusing};
+use mysql_wire_commands::arguments::run_words;
+use refusing_allocator::{NEVER, Refusing};
 use std::alloc::{Allocator, Global};
 use std::io::{Read, Write};
 use std::test::Fail;

@@ -8,7 +8,7 @@ use mysql_wire::io::{InvalidReason, ParseBuf};
 use mysql_wire::misc::raw::Skip;
 use mysql_wire::misc::raw::bytes::{ConstBytes, ConstBytesValue};
 use mysql_wire::misc::raw::int::{ConstU8, ConstU32};
-use refusing::Refusing;
+use refusing_allocator::Refusing;
 use std::alloc::Allocator;
 use std::test::Fail;
 use test_support::answers::Fault;

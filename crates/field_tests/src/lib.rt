@@ -1,6 +1,6 @@
 //! Tests of `wire_repr` and `wire_field`: numbers, texts and constants as fields of packets, fields
 //! in a row, and lists; and of `wire_const`: the numbers of constants. What is made of such fields
-//! elsewhere, `mysql_wire_vectors` tests.
+//! elsewhere, `example_tests` and `mysql_wire_vectors` test.
 #![tactic(auto)]
 
 #[cfg(test)]

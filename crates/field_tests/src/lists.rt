@@ -10,7 +10,7 @@ use mysql_wire::misc::raw::int::{IntRepr, LeU16, LeU32, LeU64, VarLen};
 use mysql_wire::misc::raw::seq::{Seq, SeqRepr, Unknown};
 use mysql_wire::misc::raw::{Const, RawBytes, RawInt, Skip};
 use mysql_wire::proto::{MyDeserialize, MySerialize};
-use refusing::{NEVER, Refusing};
+use refusing_allocator::{NEVER, Refusing};
 use std::alloc::Allocator;
 use std::borrow::CowSlice;
 use std::test::Fail;

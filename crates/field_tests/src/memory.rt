@@ -5,7 +5,7 @@ use mysql_wire::misc::raw::bytes::{EofBytes, LenEnc, U8Bytes};
 use mysql_wire::misc::raw::int::{LeU16, LeU32};
 use mysql_wire::misc::raw::seq::Seq;
 use mysql_wire::misc::raw::{Both, RawBytes, RawInt};
-use refusing::Refusing;
+use refusing_allocator::Refusing;
 use std::alloc::Global;
 use std::borrow::CowSlice;
 use std::test::Fail;

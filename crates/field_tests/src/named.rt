@@ -8,7 +8,7 @@ use mysql_wire::constants::{
 use mysql_wire::io::InvalidReason;
 use mysql_wire::misc::raw::int::{IntRepr, LeU16, LeU24, LeU32, LeU32LowerHalf};
 use mysql_wire::misc::raw::{Const, RawConst, RawFlags};
-use refusing::Refusing;
+use refusing_allocator::Refusing;
 use std::alloc::Allocator;
 use std::test::Fail;
 use test_support::answers::Fault;

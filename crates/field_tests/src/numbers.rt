@@ -6,7 +6,7 @@ use mysql_wire::misc::raw::int::{
     LeI16, LeI24, LeI32, LeI56, LeI64, LeU16, LeU24, LeU32, LeU32LowerHalf, LeU32UpperHalf, LeU48,
     LeU56, LeU64, LenEnc, VarLen,
 };
-use refusing::Refusing;
+use refusing_allocator::Refusing;
 use std::alloc::Allocator;
 use std::test::Fail;
 use test_support::answers::Fault;

@@ -5,7 +5,7 @@ use crate::at::{Refused, are_refused, is_at};
 use crate::kind::Kind;
 use mysql_wire::io::InvalidReason;
 use mysql_wire::misc::raw::Const;
-use refusing::Refusing;
+use refusing_allocator::Refusing;
 use std::alloc::Allocator;
 use std::test::Fail;
 use test_support::answers::Fault;

@@ -6,7 +6,7 @@ use mysql_wire::constants::{ColumnType, SessionStateType};
 use mysql_wire::misc::raw::bytes::EofBytes;
 use mysql_wire::misc::raw::int::{LeU16, LeU32};
 use mysql_wire::misc::raw::{Both, Either, RawBytes, RawInt, RawSeq, Slice};
-use refusing::{NEVER, Refusing};
+use refusing_allocator::{NEVER, Refusing};
 use std::alloc::Allocator;
 use std::borrow::CowSlice;
 use std::test::Fail;

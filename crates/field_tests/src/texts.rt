@@ -8,7 +8,7 @@ use mysql_wire::misc::raw::bytes::{
     U8Bytes, U32Bytes,
 };
 use mysql_wire::misc::raw::int::VarLen;
-use refusing::Refusing;
+use refusing_allocator::Refusing;
 use std::alloc::Allocator;
 use std::test::Fail;
 use test_support::answers::Fault;

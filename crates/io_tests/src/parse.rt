@@ -4,7 +4,7 @@ ghost use Rattle.std.specs.Prelude.{◌≡◌, take, Ok, IfErr};
 
 use mysql_wire::io::{InvalidReason, ParseBuf, WireError};
 use mysql_wire::proto::{Binary, Fixed, HasSize, MyDeserialize, Text};
-use refusing::Refusing;
+use refusing_allocator::Refusing;
 use std::alloc::{Allocator, Global};
 use std::fmt::Debug;
 use std::hash::Hash;

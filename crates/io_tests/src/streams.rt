@@ -2,10 +2,9 @@
 
 use crate::lenenc::{Lenenc, WRITTEN};
 use crate::numbers::{self, Row};
-use crate::scripted::{Narrow, Slow};
 use mysql_wire::io::{BufMutExt, ReadMysqlExt, WriteMysqlExt};
 use mysql_wire::misc::lenenc_str_len;
-use refusing::{NEVER, Refusing};
+use refusing_allocator::{NEVER, Refusing};
 use std::alloc::{Allocator, Global};
 use std::io::{ErrorKind, Read};
 use std::test::Fail;
@@ -13,6 +12,7 @@ use test_support::answers::{Fault, told};
 use test_support::facts::{all_hold, same};
 use test_support::fields::{MORE, last};
 use test_support::fixture::Heap;
+use test_support::readers::{Narrow, Slow};
 use test_support::reference::between;
 
 // ---- numbers

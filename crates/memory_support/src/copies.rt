@@ -8,7 +8,7 @@ use mysql_wire::misc::raw::int::{LeU16, LeU32};
 use mysql_wire::misc::raw::seq::{RawSeq, Seq, SeqRepr};
 use mysql_wire::misc::raw::{Both, Const, Either, RawBytes, RawInt};
 use mysql_wire::proto::MyDeserialize;
-use refusing::NEVER;
+use refusing_allocator::NEVER;
 use std::alloc::Allocator;
 use std::borrow::CowSlice;
 use test_support::answers::Fault;

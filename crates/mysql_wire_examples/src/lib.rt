@@ -1,4 +1,4 @@
-//! The callers that CALLING.md shows, proved. The tests of `mysql_wire_vectors` run them.
+//! The callers that CALLING.md shows, proved. `example_tests` runs them.
 #![tactic(auto)]
 
 pub mod again;

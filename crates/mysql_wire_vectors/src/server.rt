@@ -3,18 +3,20 @@
 mod answers;
 mod columns;
 mod commands;
+mod connections;
 mod errors;
 mod handshakes;
-mod payload;
+pub mod payload;
 mod responses;
 mod rows;
 
 use answers::{are_eofs, are_oks, are_prepared};
 use columns::are_columns;
-use commands::are_queries;
+use commands::are_commands;
+use connections::are_of_connections;
 use errors::are_errors;
 use handshakes::are_greetings;
-use refusing::Refusing;
+use refusing_allocator::Refusing;
 use responses::are_responses;
 use rows::are_rows;
 use std::alloc::Global;
@@ -22,17 +24,18 @@ use std::test::Fail;
 use test_support::facts::all_hold;
 use test_support::fixture::Heap;
 
-fn are_packets(heap: &Heap, alloc: Global) -> [bool; 9] {
+fn are_packets(heap: &Heap, alloc: Global) -> [bool; 10] {
     [
         are_greetings(heap, alloc),
         are_responses(heap, alloc),
-        are_queries(heap, alloc),
+        are_commands(heap, alloc),
         are_oks(heap, alloc),
         are_eofs(heap, alloc),
         are_errors(heap, alloc),
         are_prepared(heap, alloc),
         are_columns(heap, alloc),
         are_rows(heap, alloc),
+        are_of_connections(heap, alloc),
     ]
 }
 

@@ -1,7 +1,6 @@
 //! One stream cut in many ways, and many streams: each run is compared with the reference reading
 //! of the whole stream.
 
-use crate::memory::agrees_refused;
 use mysql_wire::constants::MAX_PAYLOAD_LEN;
 use std::alloc::Global;
 use std::test::Fail;
@@ -10,6 +9,7 @@ use test_support::facts::{all_hold, no_row, wrong_row};
 use test_support::fixture::FILL;
 use test_support::generated::{Draws, Stream, pieces_of};
 use test_support::reference::{between, chunk_count, low_byte, put_framing, reading_of};
+use test_support::refused::agrees_refused;
 use test_support::told::Told;
 
 // The stream, cut behind its byte number i + 1 where bit i of the number is set, and an empty piece

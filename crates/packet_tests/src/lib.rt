@@ -1,13 +1,13 @@
-//! Tests of packets: framing, chunks, the codec, delivery, and every cutting; and of every call
-//! under refused memory.
+//! Tests of packets: framing, chunks, the codec, limits, lending, delivery, every cutting, and
+//! packets over readers and writers.
 #![tactic(auto)]
 
-#[cfg(test)]
-mod budget;
 #[cfg(test)]
 mod chunks;
 #[cfg(test)]
 mod codec;
+#[cfg(test)]
+mod copies;
 #[cfg(test)]
 mod delivery;
 #[cfg(test)]
@@ -15,8 +15,22 @@ mod fragmentation;
 #[cfg(test)]
 mod framing;
 #[cfg(test)]
-mod memory;
+mod generated;
 #[cfg(test)]
-mod requests;
+mod ids;
+#[cfg(test)]
+mod in_place;
+#[cfg(test)]
+mod limits;
+#[cfg(test)]
+mod reader;
+#[cfg(test)]
+mod relays;
+#[cfg(test)]
+mod said;
+#[cfg(test)]
+mod skips;
 #[cfg(test)]
 mod spans;
+#[cfg(test)]
+mod writer;

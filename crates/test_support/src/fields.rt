@@ -4,7 +4,7 @@
 use crate::answers::{Fault, told};
 use crate::fixture::Heap;
 use crate::reference::between;
-use refusing::NEVER;
+use refusing_allocator::NEVER;
 use std::alloc::{Allocator, Global};
 use wire_buf::io::{ParseBuf, parse_packet_in};
 use wire_buf::proto::{MyDeserialize, MySerialize};

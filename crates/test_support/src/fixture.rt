@@ -3,7 +3,7 @@
 use crate::targets::Target;
 use crate::told::Told;
 use bytes::BytesMut;
-use refusing::{NEVER, Refusing};
+use refusing_allocator::{NEVER, Refusing};
 use std::alloc::{Allocator, Global};
 use std::num::NonZeroUsize;
 use wire_codec::codec::{ChunkDecoder, PacketCodec};

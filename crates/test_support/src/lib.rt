@@ -12,6 +12,7 @@ pub mod numbers;
 pub mod readers;
 pub mod receiver;
 pub mod reference;
+pub mod refused;
 pub mod script;
 pub mod targets;
 pub mod texts;

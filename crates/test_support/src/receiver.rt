@@ -5,7 +5,7 @@ use crate::facts::are_parts;
 use crate::fixture::Heap;
 use crate::told::Told;
 use bytes::{Buf, BytesMut};
-use refusing::NEVER;
+use refusing_allocator::NEVER;
 use std::alloc::Allocator;
 use wire_codec::codec::{
     PacketCodec, Visit, deliver, deliver_each, deliver_each_limited, deliver_limited, encode_value,

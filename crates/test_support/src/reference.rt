@@ -88,12 +88,10 @@ impl Place {
 
 /// The length and the id that the header at this place states, if it is there whole.
 pub fn header_at(stream: &[u8], at: usize) -> Option<(usize, u8)> {
-    let header = between(stream, at, at.saturating_add(4));
-    if header.len() < 4 {
-        return None;
+    match *between(stream, at, at.saturating_add(4)) {
+        [low, middle, high, id] => Some((u32::from_le_bytes([low, middle, high, 0]) as usize, id)),
+        _ => None,
     }
-    let len = header[0] as usize + 256 * header[1] as usize + 65536 * header[2] as usize;
-    Some((len, header[3]))
 }
 
 // The chunk whose header stands at this place, if it is there whole.

@@ -1,11 +1,12 @@
 // Answers of a server that are one packet. Another header is refused, having been eaten.
 
-use crate::server::payload::{OTHER, Refused, is_payload};
-use mysql_wire::misc::raw::{RawBytes, RawFlags};
+use crate::server::payload::{OTHER, Refused, is_payload, text_if};
+use mysql_wire::misc::raw::{Either, RawBytes, RawFlags};
 use mysql_wire_packets::com_stmt_prepare_ok::ComStmtPrepareOk;
 use mysql_wire_packets::eof_packet::EofPacket;
-use mysql_wire_packets::ok_packet::OkPacket;
+use mysql_wire_packets::ok_packet::{InfoForm, OkForm, OkInfo};
 use std::alloc::Global;
+use test_support::fields::{gives, is_written, stops};
 use test_support::fixture::Heap;
 
 // https://dev.mysql.com/doc/dev/mysql-server/latest/page_protocol_basic_eof_packet.html: the
@@ -62,39 +63,133 @@ pub fn are_prepared(heap: &Heap, alloc: Global) -> bool {
     all
 }
 
+// An info and whether it stands behind its length, and the changes of the session.
+type Words = (Option<(&'static [u8], bool)>, Option<&'static [u8]>);
+
+type OkRow = (&'static [u8], InfoForm, [u64; 2], [u16; 2], Words);
+
 // https://dev.mysql.com/doc/dev/mysql-server/latest/page_protocol_basic_ok_packet.html: the page's
-// example; what an update of one row says; and counts of 3 and 9 bytes.
-const OKS: &[(&[u8], [u64; 2], [u16; 2], &[u8], usize)] = &[
-    (b"\0\0\0\x02\0\0\0", [0, 0], [2, 0], b"", 7),
+// example; what an update of one row says, in each form; and counts of 3 and 9 bytes. Then a change
+// of the session's database, and an info before it.
+const OKS: &[OkRow] = &[
+    (
+        b"\0\0\0\x02\0\0\0",
+        InfoForm::LengthEncoded,
+        [0, 0],
+        [2, 0],
+        (None, None),
+    ),
     (
         b"\0\x01\0\x02\0\0\0\x28Rows matched: 1  Changed: 1  Warnings: 0",
+        InfoForm::ToTheEnd,
         [1, 0],
         [2, 0],
-        b"\x28Rows matched: 1  Changed: 1  Warnings: 0",
-        7,
+        (
+            Some((b"\x28Rows matched: 1  Changed: 1  Warnings: 0", false)),
+            None,
+        ),
+    ),
+    (
+        b"\0\x01\0\x02\0\0\0\x28Rows matched: 1  Changed: 1  Warnings: 0",
+        InfoForm::LengthEncoded,
+        [1, 0],
+        [2, 0],
+        (
+            Some((b"Rows matched: 1  Changed: 1  Warnings: 0", true)),
+            None,
+        ),
     ),
     (
         b"\0\xfc\xfb\0\xfe\0\0\0\0\x01\0\0\0\x0a\0\x03\x01",
+        InfoForm::SessionTrack,
         [251, 1 << 32],
         [10, 259],
-        b"",
-        17,
+        (None, None),
     ),
 ];
 
-pub fn are_oks(heap: &Heap, alloc: Global) -> bool {
-    let eof: &[Refused<'_, ()>] = &[((), b"\xfe\0\0\x02\0\0\0", OTHER, 6)];
+const CHANGES: &[OkRow] = &[
+    (
+        b"\0\0\0\x02\x40\0\0\0\x04\x01\x02\x01d",
+        InfoForm::SessionTrack,
+        [0, 0],
+        [0x4002, 0],
+        (Some((b"", true)), Some(b"\x01\x02\x01d")),
+    ),
+    (
+        b"\0\0\0\x02\x40\0\0\x02ab\x04\x01\x02\x01d",
+        InfoForm::SessionTrack,
+        [0, 0],
+        [0x4002, 0],
+        (Some((b"ab", true)), Some(b"\x01\x02\x01d")),
+    ),
+];
+
+// And ends of rows, whose header is another.
+const ENDS: &[OkRow] = &[
+    (
+        b"\xfe\0\0\x02\0\0\0",
+        InfoForm::LengthEncoded,
+        [0, 0],
+        [2, 0],
+        (None, None),
+    ),
+    (
+        b"\xfe\0\0\x02\0\x01\0",
+        InfoForm::SessionTrack,
+        [0, 0],
+        [2, 1],
+        (None, None),
+    ),
+];
+
+fn info_of(info: (&[u8], bool)) -> OkInfo<'_> {
+    let (text, behind_length) = info;
+    if behind_length {
+        Either::Left(RawBytes::from(text))
+    } else {
+        Either::Right(RawBytes::from(text))
+    }
+}
+
+fn are_of_form<const HEADER: u8>(
+    heap: &Heap,
+    alloc: Global,
+    rows: &[OkRow],
+    others: &[Refused<'_, InfoForm>],
+) -> bool {
     let mut all = true;
-    for row in OKS {
-        let (payload, [affected_rows, last_insert_id], [status, warnings], info, least) = *row;
-        let ok = OkPacket {
+    for (form, input, fault, left) in others {
+        all &= stops::<OkForm<'_, HEADER>, InfoForm, Global>(alloc, *form, *input, *fault, *left);
+    }
+    for row in rows {
+        let (payload, form, [affected_rows, last_insert_id], [status, warnings], words) = *row;
+        let ok = OkForm::<HEADER> {
             affected_rows,
             last_insert_id,
             status_flags: RawFlags::new(status),
             warnings,
-            info: RawBytes::from(info),
+            info: match words.0 {
+                Some(info) => Some(info_of(info)),
+                None => None,
+            },
+            session_state: text_if(words.1),
         };
-        all &= is_payload(heap, alloc, (), ok, (payload, least), eof);
+        all &= is_written(heap, &ok, payload);
+        all &= gives::<OkForm<'_, HEADER>, InfoForm, Global>(alloc, form, payload, &ok, 0);
     }
     all
+}
+
+pub fn are_oks(heap: &Heap, alloc: Global) -> bool {
+    let end: &[Refused<'_, InfoForm>] = &[(
+        InfoForm::LengthEncoded,
+        b"\xfe\0\0\x02\0\0\0",
+        OTHER,
+        6,
+    )];
+    let ok: &[Refused<'_, InfoForm>] = &[(InfoForm::LengthEncoded, b"\0\0\0\x02\0\0\0", OTHER, 6)];
+    are_of_form::<0x00>(heap, alloc, OKS, end)
+        & are_of_form::<0x00>(heap, alloc, CHANGES, end)
+        & are_of_form::<0xfe>(heap, alloc, ENDS, ok)
 }

@@ -101,6 +101,8 @@ pub fn are_responses(heap: &Heap, alloc: Global) -> bool {
             client_flag: RawFlags::new(flags),
             max_packet_size: size,
             character_set: set,
+            filler: [0; 19],
+            mariadb_capabilities: RawFlags::new(0),
             username: RawBytes::from(user),
             auth_response: answer_of(flags, answer),
             database: text_if(schema),

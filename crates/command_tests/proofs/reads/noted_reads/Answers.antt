@@ -1,5 +1,5 @@
 use Rattle.std.proofs.Common.{◌≡◌, ◌∙◌, ℕ, List, [], ◌++◌, Some, None, Bool, true, false, if◌then◌else◌, IsFalse, sym, ap, subst}
-use Rattle.mysql_wire_commands.specs.declared.noted.OneRead.{OneRead}
+use Rattle.mysql_wire_commands.specs.declared.noted_read.OneRead.{OneRead}
 use Rattle.mysql_wire_commands.specs.Reads.{EachAskedFor, AsksUpTo}
 use Rattle.command_tests.proofs.reads.noted_reads.Goals as goal
 

@@ -1,0 +1,185 @@
+//! Values as packets, and packets as values.
+
+use bytes::BytesMut;
+use mysql_wire::misc::raw::Both;
+use mysql_wire::misc::raw::bytes::{BytesRepr, EofBytes, RawBytes, U8Bytes};
+use mysql_wire::misc::raw::int::{IntRepr, LeU16, LenEnc, RawInt};
+use mysql_wire::proto::MySerialize;
+use mysql_wire::proto::codec::{PacketCodec, encode_value, parse_packet};
+use mysql_wire_examples::values::{TransferError, send_and_read};
+use refusing_allocator::NEVER;
+use std::alloc::{Allocator, Global};
+use std::borrow::CowSlice;
+use std::test::Fail;
+use test_support::facts::{all_hold, ensure, same};
+use test_support::fixture::Heap;
+use test_support::receiver::Receiver;
+use test_support::told::Told;
+
+// A number, a text behind its length, and a text that takes the rest.
+type Row<'a> = Both<RawInt<LeU16>, Both<RawBytes<'a, LenEnc>, RawBytes<'a, EofBytes>>>;
+
+// What is answered where a value is put behind the packets in `src`.
+fn encode<T: MySerialize, A: Allocator + Copy>(to: &mut Receiver<A>, value: &T) -> Told {
+    Told::of_encode(encode_value(&mut to.codec, value, &mut to.src))
+}
+
+fn encode_byte<A: Allocator + Copy>(to: &mut Receiver<A>, number: u8) -> Told {
+    encode(to, &RawInt::<u8>::new(number))
+}
+
+// A number of the bytes 2 and 3.
+fn encode_two<A: Allocator + Copy>(to: &mut Receiver<A>) -> Told {
+    encode(to, &RawInt::<LeU16>::new(0x0302))
+}
+
+// Whether a value alone is these bytes.
+fn is_packet<T: MySerialize + Drop>(alloc: Global, value: T, packet: &[u8]) -> bool {
+    let mut codec = PacketCodec::default();
+    let mut wire = BytesMut::new(alloc);
+    let is_put = encode_value(&mut codec, &value, &mut wire).is_ok();
+    is_put & same(wire.as_slice(), packet)
+}
+
+#[test]
+fn values_are_numbered_as_packets(rt: HostRuntime) -> Result<(), Fail> {
+    let mut to = Receiver::new(rt.alloc(), 4194304);
+    let mut all = true;
+    for number in 1..4u8 {
+        all &= encode_byte(&mut to, number) == Told::Done;
+    }
+    all &= same(
+        to.src.as_slice(),
+        b"\x01\0\0\0\x01\x01\0\0\x01\x02\x01\0\0\x02\x03",
+    );
+    ensure(all, "three numbers")
+}
+
+// Whether the value lies in its payload.
+fn is_borrowed<T: BytesRepr>(text: &RawBytes<'_, T>, bytes: &[u8]) -> bool {
+    matches!(text.0, CowSlice::Borrowed(_)) & same(text.0.as_slice(), bytes)
+}
+
+// Whether a row is read from its payload, and borrows from it, and nothing is left.
+fn is_row(alloc: Global, payload: &[u8], number: u16, first: &[u8], second: &[u8]) -> bool {
+    match parse_packet::<Row<'_>>(alloc, ((), ((), ())), payload) {
+        Ok((back, rest)) => {
+            let all = (back.0.0 == number) & rest.is_empty();
+            all & is_borrowed(&back.1.0, first) & is_borrowed(&back.1.1, second)
+        }
+        Err(_) => false,
+    }
+}
+
+// The same of a number and a text, with these bytes left.
+fn is_pair<'de, T, U>(
+    alloc: Global,
+    payload: &'de [u8],
+    number: T::Primitive,
+    text: &[u8],
+    left: &[u8],
+) -> bool
+where
+    T: 'de + IntRepr<Primitive: PartialEq>,
+    U: 'de + BytesRepr<Ctx = ()>,
+{
+    match parse_packet::<Both<RawInt<T>, RawBytes<'de, U>>>(alloc, ((), ()), payload) {
+        Ok((back, rest)) => {
+            (back.0.0 == number) & is_borrowed(&back.1, text) & same(rest.0, left)
+        }
+        Err(_) => false,
+    }
+}
+
+#[test]
+fn a_row_comes_back_borrowed(rt: HostRuntime) -> Result<(), Fail> {
+    let alloc = rt.alloc();
+    let texts = Both(
+        RawBytes::new(CowSlice::Borrowed(b"a")),
+        RawBytes::new(CowSlice::Borrowed(b"b")),
+    );
+    let row: Row<'_> = Both(RawInt::new(1), texts);
+    let is_put = is_packet(alloc, row, b"\x05\0\0\0\x01\0\x01ab");
+    ensure(
+        is_put & is_row(alloc, b"\x01\0\x01ab", 1, b"a", b"b"),
+        "a row",
+    )
+}
+
+#[test]
+fn a_number_and_a_text_are_one_packet(rt: HostRuntime) -> Result<(), Fail> {
+    let alloc = rt.alloc();
+    let text = RawBytes::new(CowSlice::Borrowed(b"hi"));
+    let pair: Both<RawInt<LeU16>, RawBytes<'_, EofBytes>> = Both(RawInt::new(258), text);
+    all_hold(&[
+        is_packet(alloc, pair, b"\x04\0\0\0\x02\x01hi"),
+        is_pair::<LeU16, EofBytes>(alloc, b"\x02\x01hi", 258, b"hi", b""),
+        // What follows a value is left.
+        is_pair::<u8, U8Bytes>(alloc, b"\x07\x01a\xff", 7, b"a", b"\xff"),
+    ])
+}
+
+// Whether two bytes are refused under a limit of one, or where request number `nth` is, and the
+// buffer and the id stay.
+fn is_unchanged<A: Allocator + Copy>(heap: &Heap, alloc: A, limit: usize, nth: u64) -> bool {
+    heap.refuse(NEVER);
+    let mut to = Receiver::new(alloc, 4194304);
+    let mut all = encode_byte(&mut to, 1) == Told::Done;
+    to.codec.max_allowed_packet = limit;
+    heap.refuse(nth);
+    all &= match encode_two(&mut to) {
+        Told::TooLarge => limit == 1,
+        Told::OutOfMemory => heap.has_refused(),
+        _ => false,
+    };
+    all &= same(to.src.as_slice(), b"\x01\0\0\0\x01");
+    heap.refuse(NEVER);
+    to.codec.max_allowed_packet = 2;
+    all &= encode_two(&mut to) == Told::Done;
+    all & same(to.src.as_slice(), b"\x01\0\0\0\x01\x02\0\0\x01\x02\x03")
+}
+
+/// Whether a refused value changes nothing: too large, or refused the payload's room, or the
+/// buffer's.
+pub fn are_unchanged<A: Allocator + Copy>(heap: &Heap, alloc: A) -> [bool; 3] {
+    [
+        is_unchanged(heap, alloc, 1, NEVER),
+        is_unchanged(heap, alloc, 2, 0),
+        is_unchanged(heap, alloc, 2, 1),
+    ]
+}
+
+// Whether they are the same three texts.
+fn are_same(answer: &Result<Vec<RawBytes<'_, EofBytes>>, TransferError>) -> bool {
+    match answer {
+        Ok(texts) => match texts.as_slice() {
+            [first, second, third] => {
+                is_borrowed(first, b"ab") & is_borrowed(second, b"") & is_borrowed(third, b"c")
+            }
+            _ => false,
+        },
+        Err(_) => false,
+    }
+}
+
+// Whether three texts come back over bytes that are cut there.
+fn come_back(alloc: Global, cuts: (usize, usize)) -> bool {
+    let mut packets = Vec::new(alloc);
+    let texts: [RawBytes<'_, EofBytes>; 3] = [
+        RawBytes::new(CowSlice::Borrowed(b"ab")),
+        RawBytes::new(CowSlice::Borrowed(b"")),
+        RawBytes::new(CowSlice::Borrowed(b"c")),
+    ];
+    are_same(&send_and_read(alloc, 2, &texts, cuts, &mut packets))
+}
+
+#[test]
+fn values_come_back_wherever_they_are_cut(rt: HostRuntime) -> Result<(), Fail> {
+    let mut all = true;
+    for first in 0..16 {
+        for second in 0..16 {
+            all &= come_back(rt.alloc(), (first, second));
+        }
+    }
+    ensure(all, "three texts")
+}

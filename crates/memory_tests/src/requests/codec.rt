@@ -1,0 +1,352 @@
+//! The functions of the packet codec that take memory. Each is called again after a refusal, and
+//! then does what it does where none comes.
+
+use bytes::BytesMut;
+use memory_support::packets::{Outlet, Source};
+use mysql_wire::proto::codec::{PacketCodec, PacketDst};
+use mysql_wire::proto::packet_io::{PacketIoError, PacketReader, PacketWriter};
+use refusing_allocator::NEVER;
+use std::alloc::Allocator;
+use std::io;
+use test_support::facts::{are_parts, same};
+use test_support::fixture::{Fixture, Heap};
+use test_support::receiver::{Receiver, Run, Tally, frames, pieces_from};
+use test_support::told::Told;
+
+/// A call that takes memory.
+#[derive(Clone, Copy)]
+pub enum Taking {
+    PacketToChunks,
+    PiecesToChunks,
+    Encode,
+    EncodeValue,
+    Queue,
+    ChunkDecode,
+    Decode,
+    Reserve,
+    PutSlice,
+    Deliver(Runner),
+    NextPacket,
+    FillPacket,
+    SkipPacket,
+    CopyPacket,
+    RelayPacket,
+}
+
+/// What runs over pieces.
+#[derive(Clone, Copy)]
+pub enum Runner {
+    Deliver,
+    DeliverEach,
+    DeliverLimited,
+    DeliverEachLimited,
+}
+
+/// A function by its name, and how often it asks for memory where none is refused.
+pub type Row = (&'static str, Taking, u64);
+
+pub const ROWS: &[Row] = &[
+    ("packet_to_chunks", Taking::PacketToChunks, 1),
+    ("packet_to_chunks", Taking::PiecesToChunks, 1),
+    ("PacketCodec::encode", Taking::Encode, 1),
+    ("encode_value", Taking::EncodeValue, 2),
+    ("PacketWriter::queue", Taking::Queue, 1),
+    ("ChunkDecoder::decode", Taking::ChunkDecode, 1),
+    ("PacketCodec::decode", Taking::Decode, 1),
+    ("PacketDst::reserve", Taking::Reserve, 1),
+    ("PacketDst::put_slice", Taking::PutSlice, 1),
+    ("deliver", Taking::Deliver(Runner::Deliver), 6),
+    ("deliver_each", Taking::Deliver(Runner::DeliverEach), 3),
+    (
+        "deliver_limited",
+        Taking::Deliver(Runner::DeliverLimited),
+        6,
+    ),
+    (
+        "deliver_each_limited",
+        Taking::Deliver(Runner::DeliverEachLimited),
+        3,
+    ),
+    ("PacketReader::next_packet", Taking::NextPacket, 2),
+    ("PacketReader::fill_packet", Taking::FillPacket, 1),
+    ("PacketReader::skip_packet", Taking::SkipPacket, 1),
+    ("PacketReader::copy_packet", Taking::CopyPacket, 1),
+    ("PacketReader::relay_packet", Taking::RelayPacket, 3),
+];
+
+// More than a buffer has room for that holds a few bytes.
+const LEN: usize = 200;
+
+const TEXT: &[u8] = &[b'a'; LEN];
+
+const HEADER: &[u8] = b"\xc8\0\0\0";
+
+// Two bytes and, behind them, a header and the two pieces of a packet.
+const FRAMED: [&[u8]; 3] = [b"ab\xc8\0\0\0", TEXT, b""];
+
+const FRAMED_FROM_255: [&[u8]; 3] = [b"ab\x05\0\0\xff", b"123", b"45"];
+
+// ---- framing
+
+// A receiver whose `src` holds two bytes, with little room behind them.
+fn begun<A: Allocator + Copy>(heap: &Heap, alloc: A) -> Receiver<A> {
+    heap.refuse(NEVER);
+    Receiver::holding(alloc, LEN, b"ab")
+}
+
+fn encode_once<A>(to: &mut Receiver<A>, packet: &mut &[u8], as_value: bool) -> Told
+where
+    A: Allocator + Copy,
+{
+    if as_value {
+        to.encode_text(TEXT)
+    } else {
+        to.encode(packet)
+    }
+}
+
+// Whether a packet, or a value, was refused, and neither it nor the buffer is changed; it is then
+// framed from the id 0.
+fn encodes<A: Allocator + Copy>(heap: &Heap, alloc: A, as_value: bool, nth: u64) -> Option<bool> {
+    let mut to = begun(heap, alloc);
+    let mut packet = TEXT;
+    heap.refuse(nth);
+    let mut told = encode_once(&mut to, &mut packet, as_value);
+    let refused = told == Told::OutOfMemory;
+    let mut all = true;
+    if refused {
+        all &= same(to.src.as_slice(), b"ab") & (packet.len() == LEN);
+        told = encode_once(&mut to, &mut packet, as_value);
+    }
+    all &= (told == Told::Done) & (packet.is_empty() != as_value);
+    all &= are_parts(to.src.as_slice(), FRAMED);
+    all.then_some(refused)
+}
+
+fn queues<A: Allocator + Copy>(heap: &Heap, alloc: A, nth: u64) -> Option<bool> {
+    heap.refuse(NEVER);
+    let mut to = Outlet::new(alloc)?;
+    let mut packet = TEXT;
+    heap.refuse(nth);
+    let mut told = to.queue(&mut packet);
+    let refused = told == Told::OutOfMemory;
+    let mut all = true;
+    if refused {
+        all &= to.pending().is_empty() & (packet.len() == LEN);
+        told = to.queue(&mut packet);
+    }
+    all &= (told == Told::Done) & packet.is_empty();
+    all &= are_parts(to.pending(), [HEADER, TEXT, b""]);
+    all.then_some(refused)
+}
+
+// ---- decoding
+
+fn decode_once<A: Allocator + Copy>(to: &mut Fixture<'_, A, Vec<u8, A>>, one: bool) -> Told {
+    if one {
+        to.decode_chunk(LEN)
+    } else {
+        to.decode()
+    }
+}
+
+// Whether the request was refused, and nothing was eaten; the one chunk is then decoded.
+fn decodes<A: Allocator + Copy>(heap: &Heap, alloc: A, one: bool, nth: u64) -> Option<bool> {
+    heap.refuse(NEVER);
+    let mut to = Fixture::new(alloc, None, Vec::new(alloc));
+    let mut all = to.encode(TEXT) == Told::Done;
+    to.codec.reset_seq_id();
+    heap.refuse(nth);
+    let mut told = decode_once(&mut to, one);
+    let refused = told == Told::OutOfMemory;
+    if refused {
+        all &= (to.src.len() == LEN + 4) & to.dst.is_empty();
+        told = decode_once(&mut to, one);
+    }
+    let done = if one { Told::Last(0) } else { Told::Whole };
+    all &= (told == done) & to.src.is_empty() & same(to.dst.as_slice(), TEXT);
+    all.then_some(refused)
+}
+
+fn take_room<T: PacketDst>(dst: &mut T, puts: bool) -> bool {
+    if puts {
+        dst.put_slice(TEXT).is_ok()
+    } else {
+        dst.reserve(LEN).is_ok()
+    }
+}
+
+// Whether the request was refused, and the target is as it was; the bytes are then put.
+fn puts<T: PacketDst>(heap: &Heap, dst: &mut T, puts: bool, nth: u64) -> Option<bool> {
+    heap.refuse(nth);
+    let refused = !take_room(dst, puts);
+    let mut all = true;
+    if refused | !puts {
+        all &= dst.as_ref().is_empty();
+        all &= dst.put_slice(TEXT).is_ok();
+    }
+    all &= same(dst.as_ref(), TEXT);
+    all.then_some(refused)
+}
+
+// The same of both targets, which are refused the same requests.
+fn both_put<A: Allocator + Copy>(heap: &Heap, alloc: A, is_put: bool, nth: u64) -> Option<bool> {
+    let vec = puts(heap, &mut Vec::new(alloc), is_put, nth)?;
+    let bytes = puts(heap, &mut BytesMut::new(alloc), is_put, nth)?;
+    (vec == bytes).then_some(vec)
+}
+
+// ---- delivery
+
+const PIECES: [&[u8]; 3] = [b"\x03", b"\0\0\x001", b"23\x01\0\0\x01\xff\0"];
+
+const LIMITED: [(usize, &[u8]); 3] = [
+    (9, b"\x03"),
+    (9, b"\0\0\x001"),
+    (9, b"23\x01\0\0\x01\xff\0"),
+];
+
+fn run_once<A>(to: &mut Receiver<A>, runner: Runner, from: usize, tally: &mut Tally) -> Run
+where
+    A: Allocator + Copy,
+{
+    match runner {
+        Runner::Deliver => to.deliver(pieces_from(&PIECES, from)),
+        Runner::DeliverEach => to.visit(pieces_from(&PIECES, from), tally),
+        Runner::DeliverLimited => to.deliver_limited(&LIMITED[from.min(3)..]),
+        Runner::DeliverEachLimited => to.visit_limited(&LIMITED[from.min(3)..], tally),
+    }
+}
+
+// Whether the packets were handed out, or visited, and this is left.
+fn is_run<A: Allocator + Copy>(to: &Receiver<A>, runner: Runner, tally: &Tally) -> bool {
+    if matches!(runner, Runner::DeliverEach | Runner::DeliverEachLimited) {
+        (tally.bytes == 4) & to.shows(&[], b"\0", b"")
+    } else {
+        to.shows(&[b"123", b"\xff"], b"\0", b"")
+    }
+}
+
+// Whether the request was refused; the run that goes on with the pieces that were not appended then
+// ends as one without a refusal does.
+fn delivers<A>(heap: &Heap, alloc: A, runner: Runner, nth: u64) -> Option<bool>
+where
+    A: Allocator + Copy,
+{
+    heap.refuse(NEVER);
+    let mut to = Receiver::new(alloc, LEN);
+    let mut tally = Tally { bytes: 0 };
+    heap.refuse(nth);
+    let (mut count, mut told) = run_once(&mut to, runner, 0, &mut tally);
+    let refused = told == Told::OutOfMemory;
+    if refused {
+        let (more, again) = run_once(&mut to, runner, count, &mut tally);
+        count = count.wrapping_add(more);
+        told = again;
+    }
+    let all = (count == 3) & (told == Told::Waits) & is_run(&to, runner, &tally);
+    all.then_some(refused)
+}
+
+// ---- readers
+
+const PACKET: &[u8] = b"\x03\0\0\x00123";
+
+// Hands the packet out, or lends it.
+fn read_once<A: Allocator + Copy>(from: &mut Source<'_, A>, lends: bool) -> Result<bool, Told> {
+    if lends {
+        from.fill()
+    } else {
+        from.next_is(b"123")
+    }
+}
+
+// Whether the request was refused; the packet is then handed out, or lent where it stands.
+fn reads<A: Allocator + Copy>(heap: &Heap, alloc: A, lends: bool, nth: u64) -> Option<bool> {
+    heap.refuse(NEVER);
+    let mut from = Source::new(alloc, PACKET)?;
+    heap.refuse(nth);
+    let mut answer = read_once(&mut from, lends);
+    let refused = answer == Err(Told::OutOfMemory);
+    if refused {
+        answer = read_once(&mut from, lends);
+    }
+    ((answer == Ok(true)) & (from.lends(b"123") | !lends)).then_some(refused)
+}
+
+// Whether the request was refused; the packet is then skipped.
+fn skips<A: Allocator + Copy>(heap: &Heap, alloc: A, nth: u64) -> Option<bool> {
+    heap.refuse(NEVER);
+    let mut reader = PacketReader::new(alloc, PACKET).ok()?;
+    let mut codec = PacketCodec::default();
+    if !reader.fits(&codec) {
+        return None;
+    }
+    heap.refuse(nth);
+    let mut answer = reader.skip_packet(&mut codec);
+    let refused = matches!(answer, Err(PacketIoError::OutOfMemory));
+    if refused {
+        answer = reader.skip_packet(&mut codec);
+    }
+    (matches!(answer, Ok(true)) & reader.unread().is_empty()).then_some(refused)
+}
+
+// Whether the request was refused; the packet is then copied.
+fn copies<A: Allocator + Copy>(heap: &Heap, alloc: A, nth: u64) -> Option<bool> {
+    heap.refuse(NEVER);
+    let mut reader = PacketReader::new(alloc, PACKET).ok()?;
+    let mut codec = PacketCodec::default();
+    if !reader.can_copy(&codec) {
+        return None;
+    }
+    heap.refuse(nth);
+    let mut answer = reader.copy_packet(&mut codec, &mut io::sink());
+    let refused = matches!(answer, Err(PacketIoError::OutOfMemory));
+    if refused {
+        answer = reader.copy_packet(&mut codec, &mut io::sink());
+    }
+    (matches!(answer, Ok(true)) & reader.unread().is_empty()).then_some(refused)
+}
+
+// Whether the request was refused; the packet is then passed on, with the other codec's id.
+fn relays<A: Allocator + Copy>(heap: &Heap, alloc: A, nth: u64) -> Option<bool> {
+    heap.refuse(NEVER);
+    let mut reader = PacketReader::new(alloc, PACKET).ok()?;
+    let mut writer = PacketWriter::new(alloc, io::sink()).ok()?;
+    let mut codec = PacketCodec::default();
+    let mut other = PacketCodec::default();
+    if !reader.can_copy(&codec) {
+        return None;
+    }
+    heap.refuse(nth);
+    let mut answer = reader.relay_packet(&mut codec, &mut writer, &mut other);
+    let refused = matches!(answer, Err(PacketIoError::OutOfMemory));
+    if refused {
+        answer = reader.relay_packet(&mut codec, &mut writer, &mut other);
+    }
+    let all = matches!(answer, Ok(true)) & (writer.pending() == PACKET);
+    (all & (other.sequence_id() == 1)).then_some(refused)
+}
+
+// ---- all
+
+/// Whether the request was refused, and what stands then is right.
+pub fn tries<A: Allocator + Copy>(heap: &Heap, alloc: A, call: Taking, nth: u64) -> Option<bool> {
+    match call {
+        Taking::PacketToChunks => frames(heap, alloc, 0, FRAMED, nth),
+        Taking::PiecesToChunks => frames(heap, alloc, 255, FRAMED_FROM_255, nth),
+        Taking::Encode => encodes(heap, alloc, false, nth),
+        Taking::EncodeValue => encodes(heap, alloc, true, nth),
+        Taking::Queue => queues(heap, alloc, nth),
+        Taking::ChunkDecode => decodes(heap, alloc, true, nth),
+        Taking::Decode => decodes(heap, alloc, false, nth),
+        Taking::Reserve => both_put(heap, alloc, false, nth),
+        Taking::PutSlice => both_put(heap, alloc, true, nth),
+        Taking::Deliver(runner) => delivers(heap, alloc, runner, nth),
+        Taking::NextPacket => reads(heap, alloc, false, nth),
+        Taking::FillPacket => reads(heap, alloc, true, nth),
+        Taking::SkipPacket => skips(heap, alloc, nth),
+        Taking::CopyPacket => copies(heap, alloc, nth),
+        Taking::RelayPacket => relays(heap, alloc, nth),
+    }
+}

@@ -1,0 +1,73 @@
+//! Deliveries of which requests for memory are refused, and that go on.
+
+use crate::case::Case;
+use crate::fixture::Heap;
+use crate::receiver::{Receiver, pieces_from};
+use crate::told::Told;
+use refusing_allocator::{NEVER, Refusing};
+use std::alloc::{Allocator, Global};
+
+// No delivery that a test makes asks so often.
+const MOST: u64 = 100;
+
+// Delivers these pieces, and goes on with those that were not appended until no request is refused.
+// One request is refused, or `many`: one in each call, each time a later one. Says what all runs
+// together did, and how many were refused, if just those ran out of memory.
+fn deliver_on<A: Allocator + Copy>(
+    heap: &Heap,
+    receiver: &mut Receiver<A>,
+    pieces: &[&[u8]],
+    many: bool,
+) -> Option<(usize, Told, u64)> {
+    let mut count = 0usize;
+    for refused in 0..MOST {
+        let (more, told) = receiver.deliver(pieces_from(pieces, count));
+        count = count.wrapping_add(more);
+        let again = told == Told::OutOfMemory;
+        if heap.has_refused() != again {
+            return None;
+        }
+        if !again {
+            return Some((count, told, refused));
+        }
+        heap.refuse(if many { refused + 1 } else { NEVER });
+    }
+    None
+}
+
+/// Delivers a stream in pieces with request number `nth` refused, and goes on. Says how many
+/// requests were refused, if the end is that of the stream's reading.
+pub fn deliver_refused(
+    alloc: Global,
+    case: &Case,
+    pieces: &[&[u8]],
+    nth: u64,
+    many: bool,
+) -> Option<u64> {
+    let heap = Refusing::new(alloc, NEVER);
+    deliver_over(&heap, &heap, case, pieces, (nth, many))
+}
+
+fn deliver_over<A: Allocator + Copy>(
+    heap: &Heap,
+    alloc: A,
+    case: &Case,
+    pieces: &[&[u8]],
+    (nth, many): (u64, bool),
+) -> Option<u64> {
+    let mut receiver = case.receiver(alloc);
+    heap.refuse(nth);
+    let ended = deliver_on(heap, &mut receiver, pieces, many);
+    heap.refuse(NEVER);
+    let (count, told, refused) = ended?;
+    let is_ended = case.is_ended(&mut receiver, 0, pieces, (count, told));
+    is_ended.then_some(refused)
+}
+
+/// Whether a stream in pieces is delivered as it is read, with request number `nth` refused, and
+/// with later ones too.
+pub fn agrees_refused(alloc: Global, case: &Case, pieces: &[&[u8]], nth: u64) -> bool {
+    let one = deliver_refused(alloc, case, pieces, nth, false);
+    let many = deliver_refused(alloc, case, pieces, nth, true);
+    one.is_some() & many.is_some()
+}
