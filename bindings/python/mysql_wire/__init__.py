@@ -115,6 +115,7 @@ _CALLS = {
     "sent": (c_size_t, [_HANDLE, c_size_t]),
     "reset": (c_int32, [_HANDLE]),
     "sequence_id": (c_int32, [_HANDLE]),
+    "set_sequence_id": (c_int32, [_HANDLE, c_uint8]),
     "spans_init": (None, [POINTER(_Spans), c_size_t, c_uint8]),
     "spans_next": (c_int32, [
         POINTER(_Spans), c_void_p, c_size_t, POINTER(c_size_t), POINTER(_View), POINTER(c_uint8),
@@ -224,6 +225,10 @@ class Connection:
     def sequence_id(self) -> int:
         """The number of the next packet: 0 to 255."""
         return _checked(_library.sequence_id(byref(self._handle)))
+
+    @sequence_id.setter
+    def sequence_id(self, number: int) -> None:
+        _checked(_library.set_sequence_id(byref(self._handle), number))
 
     def reset(self) -> None:
         """Numbers the next packet 0, as at the start of a command."""

@@ -56,6 +56,12 @@ class Packets(unittest.TestCase):
                 with self.assertRaises(mysql_wire.PacketsOutOfSync):
                     connection.next_packet()
 
+    def test_a_stream_is_read_from_its_midst(self):
+        with Connection() as connection:
+            connection.sequence_id = 7
+            self.assertEqual(list(connection.receive(framed(7, b"a"))), [b"a"])
+            self.assertEqual(connection.sequence_id, 8)
+
     def test_what_is_sent_is_numbered_on(self):
         with Connection() as connection:
             self.assertEqual(connection.encode(b"\x03DO 1"), framed(0, b"\x03DO 1"))

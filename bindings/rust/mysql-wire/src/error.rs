@@ -12,6 +12,8 @@ pub enum Error {
     PacketsOutOfSync,
     /// Memory was refused. Nothing is lost, and the call may be made again.
     OutOfMemory,
+    /// The room is shorter than the packet with its headers.
+    RoomTooSmall,
     /// A packet stands whole, and has to be taken first.
     PacketWaits,
     /// There is no packet to take.
@@ -24,11 +26,12 @@ pub enum Error {
 
 impl Error {
     /// A code below 0, as `mysql_wire.h` lists them. Those of a closed connection, of one that is
-    /// opened twice, of too little room and of an invalid place in a stream don't come here.
-    fn of(code: i32) -> Error {
+    /// opened twice and of an invalid place in a stream don't come here.
+    pub(crate) fn of(code: i32) -> Error {
         match code {
             -1 => Error::PacketTooLarge,
             -2 => Error::PacketsOutOfSync,
+            -4 => Error::RoomTooSmall,
             -7 => Error::PacketWaits,
             -8 => Error::NoPacket,
             -9 => Error::MissingBytes,
@@ -53,6 +56,7 @@ impl fmt::Display for Error {
             Error::PacketTooLarge => "the packet is above the limit",
             Error::PacketsOutOfSync => "a packet bears another number than the expected one",
             Error::OutOfMemory => "memory was refused",
+            Error::RoomTooSmall => "the room is too small",
             Error::PacketWaits => "a packet has to be taken first",
             Error::NoPacket => "there is no packet to take",
             Error::MissingBytes => "the bytes end inside a field",

@@ -1,11 +1,11 @@
 //! The fields of a payload.
 
+use crate::calls;
 use crate::error::{checked, Error};
 use mysql_wire_sys as c;
 
 /// Reads the fields of a payload, one after another. A refusal reads nothing.
-// In each call below the bytes are a slice, and the places are locals or the reader's own; the
-// library checks that a field ends inside the bytes, wherever `at` stands.
+// The library checks that a field ends inside the bytes, wherever `at` stands.
 #[derive(Clone, Debug)]
 pub struct Fields<'a> {
     bytes: &'a [u8],
@@ -41,27 +41,21 @@ impl<'a> Fields<'a> {
     /// A number of `width` bytes, 1 to 8, the least significant first.
     pub fn int(&mut self, width: usize) -> Result<u64, Error> {
         let mut value = 0;
-        let (bytes, len) = (self.bytes.as_ptr(), self.bytes.len());
-        // SAFETY: the slice is valid for its length, the others are places of their types.
-        checked(unsafe { c::mysql_wire_read_int(bytes, len, &mut self.at, width, &mut value) })?;
+        checked(calls::read_int(self.bytes, &mut self.at, width, &mut value))?;
         Ok(value)
     }
 
     /// A length-encoded integer.
     pub fn lenenc_int(&mut self) -> Result<u64, Error> {
         let mut value = 0;
-        let (bytes, len) = (self.bytes.as_ptr(), self.bytes.len());
-        // SAFETY: as of `int`.
-        checked(unsafe { c::mysql_wire_read_lenenc_int(bytes, len, &mut self.at, &mut value) })?;
+        checked(calls::read_lenenc_int(self.bytes, &mut self.at, &mut value))?;
         Ok(value)
     }
 
     /// A text behind its length.
     pub fn lenenc_bytes(&mut self) -> Result<&'a [u8], Error> {
         let mut text = c::Span { at: 0, len: 0 };
-        let (bytes, len) = (self.bytes.as_ptr(), self.bytes.len());
-        // SAFETY: as of `int`.
-        checked(unsafe { c::mysql_wire_read_lenenc_bytes(bytes, len, &mut self.at, &mut text) })?;
+        checked(calls::read_lenenc_bytes(self.bytes, &mut self.at, &mut text))?;
         Ok(self.text(text))
     }
 
@@ -77,9 +71,7 @@ impl<'a> Fields<'a> {
     /// The text before the next zero, which is read with it.
     pub fn null_bytes(&mut self) -> Result<&'a [u8], Error> {
         let mut text = c::Span { at: 0, len: 0 };
-        let (bytes, len) = (self.bytes.as_ptr(), self.bytes.len());
-        // SAFETY: as of `int`.
-        checked(unsafe { c::mysql_wire_read_null_bytes(bytes, len, &mut self.at, &mut text) })?;
+        checked(calls::read_null_bytes(self.bytes, &mut self.at, &mut text))?;
         Ok(self.text(text))
     }
 
@@ -92,10 +84,7 @@ impl<'a> Fields<'a> {
 /// Appends the low `width` bytes of a number, 1 to 8, the least significant first.
 pub fn put_int(out: &mut Vec<u8>, value: u64, width: usize) -> Result<(), Error> {
     let (mut room, mut at) = ([0; 8], 0);
-    // SAFETY: the room is valid for its length, and `at` is a place.
-    checked(unsafe {
-        c::mysql_wire_write_int(room.as_mut_ptr(), room.len(), &mut at, width, value)
-    })?;
+    checked(calls::write_int(&mut room, &mut at, width, value))?;
     out.extend_from_slice(&room[..at]);
     Ok(())
 }
@@ -103,8 +92,8 @@ pub fn put_int(out: &mut Vec<u8>, value: u64, width: usize) -> Result<(), Error>
 /// Appends a length-encoded integer, in as few bytes as hold the number.
 pub fn put_lenenc_int(out: &mut Vec<u8>, value: u64) {
     let (mut room, mut at) = ([0; 9], 0);
-    // SAFETY: as of `put_int`. Nine bytes hold each number, so that it isn't refused.
-    unsafe { c::mysql_wire_write_lenenc_int(room.as_mut_ptr(), room.len(), &mut at, value) };
+    // Nine bytes hold each number, so that it isn't refused.
+    calls::write_lenenc_int(&mut room, &mut at, value);
     out.extend_from_slice(&room[..at]);
 }
 

@@ -25,12 +25,16 @@
 //!
 //! <https://dev.mysql.com/doc/dev/mysql-server/latest/page_protocol_basic_packets.html>
 
+#![deny(unsafe_code)]
+
+#[allow(unsafe_code)]
+mod calls;
 mod connection;
 mod error;
 mod fields;
 mod spans;
 
-pub use connection::Connection;
+pub use connection::{framed_len, Connection};
 pub use error::Error;
 pub use fields::{put_int, put_lenenc_bytes, put_lenenc_int, put_null_bytes, Fields};
 pub use spans::{Span, Spans};

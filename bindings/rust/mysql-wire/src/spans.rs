@@ -1,8 +1,8 @@
 //! Packets in spans of the bytes that bring them.
 
+use crate::calls;
 use crate::error::{checked, Error};
 use mysql_wire_sys as c;
-use std::ptr;
 
 /// Bytes of a packet, borrowed from the piece that brought them.
 #[derive(Clone, Copy, Debug, PartialEq, Eq)]
@@ -36,28 +36,15 @@ pub struct Span<'a> {
 /// # Ok(())
 /// # }
 /// ```
-// In each call below the record is one that `mysql_wire_spans_init` set, and only calls and the
-// numbers that may be set have changed it: it is the place of some stream, and never refused as
-// none.
+// Only calls and the numbers that may be set change the record: it is the place of some stream, and
+// never refused as none.
 #[derive(Clone, Debug)]
 pub struct Spans(c::Spans);
 
 impl Spans {
     /// Between two packets of at most `limit` payload bytes each, the next of them numbered `id`.
     pub fn new(limit: usize, id: u8) -> Spans {
-        let mut spans = c::Spans {
-            limit: 0,
-            size: 0,
-            left: 0,
-            header: [0; 3],
-            header_len: 0,
-            id: 0,
-            next_id: 0,
-            reserved: [0; 34],
-        };
-        // SAFETY: the record is a local.
-        unsafe { c::mysql_wire_spans_init(&mut spans, limit, id) };
-        Spans(spans)
+        Spans(calls::new_spans(limit, id))
     }
 
     /// Eats the front of the piece: the next bytes of a packet, or `None` where the piece is used
@@ -67,24 +54,12 @@ impl Spans {
     /// A refusal changes nothing: after `PacketTooLarge` a larger limit goes on, and after
     /// `PacketsOutOfSync` the answer stays.
     pub fn next_span<'a>(&mut self, piece: &mut &'a [u8]) -> Result<Option<Span<'a>>, Error> {
-        let bytes: &'a [u8] = piece;
-        let (mut used, mut ends) = (0, 0);
-        let mut span = c::View {
-            at: ptr::null(),
-            len: 0,
-        };
-        // SAFETY: the slice is valid for its length, the others are places of their types.
-        let code = checked(unsafe {
-            let (at, len) = (bytes.as_ptr(), bytes.len());
-            c::mysql_wire_spans_next(&mut self.0, at, len, &mut used, &mut span, &mut ends)
-        })?;
-        let (eaten, rest) = bytes.split_at(used.min(bytes.len()));
+        let (code, used, len, ends_packet) = calls::next_span(&mut self.0, piece);
+        let code = checked(code)?;
+        let (eaten, rest) = piece.split_at(used.min(piece.len()));
         *piece = rest;
-        // The span is the end of what was eaten.
-        Ok((code > 0).then(|| Span {
-            bytes: &eaten[eaten.len().saturating_sub(span.len)..],
-            ends_packet: ends == 1,
-        }))
+        let bytes = &eaten[eaten.len().saturating_sub(len)..];
+        Ok((code > 0).then_some(Span { bytes, ends_packet }))
     }
 
     /// Writes other numbers over those of the packets in the piece, from `next_id` on. Nothing else
@@ -92,11 +67,8 @@ impl Spans {
     /// there, and what is left may be given again. It is 0 where earlier pieces brought
     /// `partial_header_len` bytes of that header, which have gone.
     pub fn renumber(&mut self, piece: &mut [u8]) -> Result<(), (usize, Error)> {
-        let mut used = 0;
-        let (at, len) = (piece.as_mut_ptr(), piece.len());
-        // SAFETY: the slice is valid for its length, and `used` is a place.
-        let code = unsafe { c::mysql_wire_spans_renumber(&mut self.0, at, len, &mut used) };
-        checked(code).map(|_| ()).map_err(|error| (used, error))
+        let (code, used) = calls::renumber(&mut self.0, piece);
+        checked(code).map(drop).map_err(|error| (used, error))
     }
 
     /// The most payload bytes of a packet.

@@ -1,25 +1,9 @@
 //! Packets in spans, beside what is written plainly.
 
+mod plain;
+
 use mysql_wire::{Error, Spans};
-
-const FULL: usize = 16777215;
-
-/// The chunks of a payload, numbered from `number`.
-fn framed(mut number: u8, payload: &[u8]) -> Vec<u8> {
-    let mut out = Vec::new();
-    let mut rest = payload;
-    loop {
-        let len = rest.len().min(FULL);
-        out.extend_from_slice(&(len as u32).to_le_bytes()[..3]);
-        out.push(number);
-        out.extend_from_slice(&rest[..len]);
-        rest = &rest[len..];
-        if len < FULL {
-            return out;
-        }
-        number = number.wrapping_add(1);
-    }
-}
+use plain::{framed, FULL};
 
 /// The packets of a stream that comes in pieces of `step` bytes, and the open one.
 fn gathered(spans: &mut Spans, stream: &[u8], step: usize) -> (Vec<Vec<u8>>, Result<(), Error>) {

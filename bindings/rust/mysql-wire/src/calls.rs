@@ -1,0 +1,208 @@
+//! The calls of the library as safe functions: all `unsafe` code of this crate. Each answers the
+//! library's code, which `mysql_wire.h` explains.
+//!
+//! What the library asks of a caller holds of all of them: a slice is valid for its length, a place
+//! is borrowed for the call alone, and a handle is one that `mysql_wire_open` made, on which one call
+//! is made at a time.
+
+use mysql_wire_sys as c;
+use std::mem::MaybeUninit;
+use std::ptr;
+use std::slice;
+
+const NOTHING: c::View = c::View { at: ptr::null(), len: 0 };
+
+/// A connection's handle. It is closed where it is dropped.
+pub struct Handle(c::Handle);
+
+// SAFETY: a connection has no state beside its own memory, so it may move to another thread; each
+// call takes `&mut Handle`, so that one thread makes them at a time.
+unsafe impl Send for Handle {}
+
+impl Drop for Handle {
+    fn drop(&mut self) {
+        // SAFETY: the handle is open. NULL is left.
+        unsafe { c::mysql_wire_close(&mut self.0) }
+    }
+}
+
+pub fn open(limit: usize) -> Result<Handle, i32> {
+    let mut handle = ptr::null_mut();
+    // SAFETY: the handle is NULL, as it has to be.
+    match unsafe { c::mysql_wire_open(limit, &mut handle) } {
+        0 => Ok(Handle(handle)),
+        code => Err(code),
+    }
+}
+
+pub fn feed(handle: &mut Handle, bytes: &[u8]) -> i32 {
+    // SAFETY: the handle is open, and the slice valid for its length.
+    unsafe { c::mysql_wire_feed(&mut handle.0, bytes.as_ptr(), bytes.len()) }
+}
+
+/// The code, and the packet where the code is above 0. It borrows from the connection.
+pub fn peek(handle: &mut Handle) -> (i32, &[u8]) {
+    let mut packet = NOTHING;
+    // SAFETY: the handle is open, and the view a local. Where the code is above 0 the view is set, to
+    // bytes that stay until the next call on the handle, which is borrowed as long as they are.
+    unsafe {
+        let code = c::mysql_wire_peek(&mut handle.0, &mut packet);
+        (code, if code > 0 { slice::from_raw_parts(packet.at, packet.len) } else { &[] })
+    }
+}
+
+pub fn take(handle: &mut Handle) -> i32 {
+    // SAFETY: the handle is open.
+    unsafe { c::mysql_wire_take(&mut handle.0) }
+}
+
+pub fn set_limit(handle: &mut Handle, limit: usize) -> i32 {
+    // SAFETY: the handle is open.
+    unsafe { c::mysql_wire_set_limit(&mut handle.0, limit) }
+}
+
+pub fn unread(handle: &mut Handle) -> usize {
+    // SAFETY: the handle is open.
+    unsafe { c::mysql_wire_unread(&mut handle.0) }
+}
+
+pub fn encode(handle: &mut Handle, payload: &[u8]) -> i32 {
+    // SAFETY: the handle is open, and the slice valid for its length.
+    unsafe { c::mysql_wire_encode(&mut handle.0, payload.as_ptr(), payload.len()) }
+}
+
+pub fn pending(handle: &mut Handle) -> &[u8] {
+    let mut bytes = NOTHING;
+    // SAFETY: the handle is open, and the view a local, which the call sets, to bytes that stay until
+    // the next call on the handle.
+    unsafe {
+        c::mysql_wire_pending(&mut handle.0, &mut bytes);
+        slice::from_raw_parts(bytes.at, bytes.len)
+    }
+}
+
+pub fn sent(handle: &mut Handle, count: usize) {
+    // SAFETY: the handle is open.
+    unsafe { c::mysql_wire_sent(&mut handle.0, count) };
+}
+
+pub fn reset(handle: &mut Handle) -> i32 {
+    // SAFETY: the handle is open.
+    unsafe { c::mysql_wire_reset(&mut handle.0) }
+}
+
+pub fn sequence_id(handle: &mut Handle) -> i32 {
+    // SAFETY: the handle is open.
+    unsafe { c::mysql_wire_sequence_id(&mut handle.0) }
+}
+
+pub fn new_spans(limit: usize, id: u8) -> c::Spans {
+    let mut spans = c::Spans {
+        limit: 0,
+        size: 0,
+        left: 0,
+        header: [0; 3],
+        header_len: 0,
+        id: 0,
+        next_id: 0,
+        reserved: [0; 34],
+    };
+    // SAFETY: the record is a local.
+    unsafe { c::mysql_wire_spans_init(&mut spans, limit, id) };
+    spans
+}
+
+/// The code, how many bytes were used, and how many of these, at their end, are the span; whether it
+/// ends its packet.
+pub fn next_span(spans: &mut c::Spans, bytes: &[u8]) -> (i32, usize, usize, bool) {
+    let (mut used, mut ends, mut span) = (0, 0, NOTHING);
+    // SAFETY: the slice is valid for its length, the others are places of their types.
+    let code = unsafe {
+        let (at, len) = (bytes.as_ptr(), bytes.len());
+        c::mysql_wire_spans_next(spans, at, len, &mut used, &mut span, &mut ends)
+    };
+    (code, used, span.len, ends == 1)
+}
+
+/// The code, and how many bytes may go.
+pub fn renumber(spans: &mut c::Spans, bytes: &mut [u8]) -> (i32, usize) {
+    let mut used = 0;
+    let (at, len) = (bytes.as_mut_ptr(), bytes.len());
+    // SAFETY: the slice is valid for its length, the others are places of their types.
+    let code = unsafe { c::mysql_wire_spans_renumber(spans, at, len, &mut used) };
+    (code, used)
+}
+
+pub fn read_int(bytes: &[u8], at: &mut usize, width: usize, value: &mut u64) -> i32 {
+    // SAFETY: the slice is valid for its length, the others are places of their types.
+    unsafe { c::mysql_wire_read_int(bytes.as_ptr(), bytes.len(), at, width, value) }
+}
+
+pub fn read_lenenc_int(bytes: &[u8], at: &mut usize, value: &mut u64) -> i32 {
+    // SAFETY: as of `read_int`.
+    unsafe { c::mysql_wire_read_lenenc_int(bytes.as_ptr(), bytes.len(), at, value) }
+}
+
+pub fn read_lenenc_bytes(bytes: &[u8], at: &mut usize, text: &mut c::Span) -> i32 {
+    // SAFETY: as of `read_int`.
+    unsafe { c::mysql_wire_read_lenenc_bytes(bytes.as_ptr(), bytes.len(), at, text) }
+}
+
+pub fn read_null_bytes(bytes: &[u8], at: &mut usize, text: &mut c::Span) -> i32 {
+    // SAFETY: as of `read_int`.
+    unsafe { c::mysql_wire_read_null_bytes(bytes.as_ptr(), bytes.len(), at, text) }
+}
+
+pub fn write_int(room: &mut [u8], at: &mut usize, width: usize, value: u64) -> i32 {
+    // SAFETY: the room is valid for its length, and `at` is a place.
+    unsafe { c::mysql_wire_write_int(room.as_mut_ptr(), room.len(), at, width, value) }
+}
+
+pub fn write_lenenc_int(room: &mut [u8], at: &mut usize, value: u64) -> i32 {
+    // SAFETY: as of `write_int`.
+    unsafe { c::mysql_wire_write_lenenc_int(room.as_mut_ptr(), room.len(), at, value) }
+}
+
+/// The code, how many of the bytes were used, and the packet where the code is above 0. It borrows
+/// from the connection, or from the bytes.
+pub fn decode<'a>(handle: &'a mut Handle, bytes: &'a [u8]) -> (i32, usize, &'a [u8]) {
+    let (mut used, mut packet) = (0, NOTHING);
+    // SAFETY: the handle is open, the slice valid for its length, the others are places of their
+    // types. Where the code is above 0 the view is set, to bytes that stay until the next call on the
+    // handle and as long as the slice, which are borrowed as long as they are.
+    unsafe {
+        let (at, len) = (bytes.as_ptr(), bytes.len());
+        let code = c::mysql_wire_decode(&mut handle.0, at, len, &mut used, &mut packet);
+        (code, used, if code > 0 { slice::from_raw_parts(packet.at, packet.len) } else { &[] })
+    }
+}
+
+/// The code, and how many bytes.
+pub fn framed_len(len: usize) -> (i32, usize) {
+    let mut framed = 0;
+    // SAFETY: `framed` is a place.
+    let code = unsafe { c::mysql_wire_framed_len(len, &mut framed) };
+    (code, framed)
+}
+
+/// The code, and how many bytes stand in the room, or are needed.
+pub fn encode_to(
+    handle: &mut Handle,
+    payload: &[u8],
+    room: &mut [MaybeUninit<u8>],
+) -> (i32, usize) {
+    let mut written = 0;
+    // SAFETY: the handle is open, the slices are valid for their lengths, and what is written is not
+    // read.
+    let code = unsafe {
+        let (at, len) = (payload.as_ptr(), payload.len());
+        let (room, room_len) = (room.as_mut_ptr().cast(), room.len());
+        c::mysql_wire_encode_to(&mut handle.0, at, len, room, room_len, &mut written)
+    };
+    (code, written)
+}
+
+pub fn set_sequence_id(handle: &mut Handle, id: u8) -> i32 {
+    // SAFETY: the handle is open.
+    unsafe { c::mysql_wire_set_sequence_id(&mut handle.0, id) }
+}
