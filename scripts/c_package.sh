@@ -74,12 +74,48 @@ constants_compile() {
         quiet gcc -x c++ -std=c++11 -Wall -Werror -fsyntax-only -I"$1/include" "$work/constants.c"
 }
 
+# client_compiles ROOT: the client in C99 and in C++17, with all warnings.
+client_compiles() {
+    local warnings=(-Wall -Wextra -Wpedantic -Werror "-I$1/include")
+    quiet gcc -std=c99 -D_POSIX_C_SOURCE=200809L "${warnings[@]}" -o "$work/client" \
+        "$top/examples/c/client.c" "$1/lib/libmysql_wire.a" &&
+        quiet gcc -x c++ -std=c++17 "${warnings[@]}" -fsyntax-only "$top/examples/c/client.c"
+}
+
+# The client prints what it must, beside the server of the proxy's tests.
+client_asks() {
+    local port
+    coproc server { exec python3 -B "$top/examples/proxy/server.py"; }
+    read -r port <&"${server[0]}"
+    {
+        "$work/client" "$port" user 'select 1'
+        "$work/client" "$port" user nulls
+        "$work/client" "$port" user 'wait 0'
+        "$work/client" "$port" user 'half 16' 2>&1
+        echo "status $?"
+    } > "$work/printed"
+    kill "$server_PID"
+    printf '%s\n' 'select 1' NULL '' 'client: the server is gone' 'status 1' |
+        diff - "$work/printed"
+}
+
+# A program whose own functions are asked for all memory, with the archive: malloc, realloc and free
+# are never called.
+memory_is_set() {
+    quiet gcc -std=c11 -Wall -Wextra -Werror -I"$1/include" -o "$work/own_memory" \
+        "$tests/programs/own_memory.c" -Wl,--wrap=malloc,--wrap=realloc,--wrap=free \
+        "$1/lib/libmysql_wire.a" && "$work/own_memory"
+}
+
 check 'the constants are those of wire_const' "$top/scripts/c_constants.py" --check
 check 'the libraries are made' quiet make -C "$package" || finish
 check 'their symbols are the calls of the header' quiet make -C "$package" check
 check 'it is installed' quiet make -C "$package" install PREFIX="$work/root"
 check 'the tests pass with the archive' tested "$work/root"
 check 'the constants are compiled' constants_compile "$work/root"
+check 'the client is compiled' client_compiles "$work/root"
+command -v python3 > /dev/null && check 'the client asks a server' client_asks
+check 'memory comes from where a program says' memory_is_set "$work/root"
 if command -v pkg-config > /dev/null; then
     check 'a program is built by pkg-config' built "$work/root" "-Wl,-rpath,$work/root/lib"
     check 'it runs with the shared library' dumps "$work/dump"

@@ -1,6 +1,6 @@
 //! The packets of an answer to a command.
 
-use crate::log::{Log, count};
+use crate::log::{count, ClientLog};
 use crate::stream::Front;
 use mysql_wire::{Error, Fields};
 
@@ -49,7 +49,7 @@ pub enum After {
 
 /// Goes past a packet of an answer, by its front. `ends_by_ok` is whether both sides agreed on
 /// `CLIENT_DEPRECATE_EOF`: no EOF stands behind definitions, and an OK ends the rows.
-pub fn hear(next: Next, packet: &Front, ends_by_ok: bool, log: &Log) -> Result<After, Error> {
+pub fn hear(next: Next, packet: &Front, ends_by_ok: bool, log: &ClientLog) -> Result<After, Error> {
     let first = packet.first();
     match next {
         Next::Text => Ok(After::Done),
@@ -80,7 +80,7 @@ pub fn hear(next: Next, packet: &Front, ends_by_ok: bool, log: &Log) -> Result<A
 }
 
 /// Logs an error by its number.
-pub fn hear_error(packet: &Front, log: &Log) -> Result<(), Error> {
+pub fn hear_error(packet: &Front, log: &ClientLog) -> Result<(), Error> {
     log.say(format_args!("  error {}", error_number(packet)?));
     Ok(())
 }
@@ -89,7 +89,7 @@ fn error_number(packet: &Front) -> Result<u64, Error> {
     Fields::starting_at(packet.bytes, 1).int(2)
 }
 
-fn hear_first(packet: &Front, log: &Log) -> Result<After, Error> {
+fn hear_first(packet: &Front, log: &ClientLog) -> Result<After, Error> {
     match packet.first() {
         Some(OK) => {
             let rows = Fields::starting_at(packet.bytes, 1).lenenc_int()?;
@@ -108,7 +108,7 @@ fn hear_first(packet: &Front, log: &Log) -> Result<After, Error> {
 }
 
 /// A row may begin with the byte of an EOF, but is then longer than one.
-fn hear_row(rows: u64, packet: &Front, ends_by_ok: bool, log: &Log) -> Result<After, Error> {
+fn hear_row(rows: u64, packet: &Front, ends_by_ok: bool, log: &ClientLog) -> Result<After, Error> {
     let end_below = if ends_by_ok { 0xff_ffff } else { 9 };
     if packet.first() != Some(EOF) || packet.len >= end_below {
         return Ok(After::Comes(Next::Rows(rows + 1)));
@@ -119,7 +119,11 @@ fn hear_row(rows: u64, packet: &Front, ends_by_ok: bool, log: &Log) -> Result<Af
 
 /// An OK, EOF or rows' end may announce another result of the same command.
 fn behind_result(status: u64) -> After {
-    if status & MORE_RESULTS != 0 { After::Comes(Next::ResultSet) } else { After::Done }
+    if status & MORE_RESULTS != 0 {
+        After::Comes(Next::ResultSet)
+    } else {
+        After::Done
+    }
 }
 
 /// The status of an OK (also of one that begins as an EOF does), or of an EOF.
@@ -135,7 +139,7 @@ fn status(packet: &Front, is_ok: bool) -> Result<u64, Error> {
 }
 
 /// Parameters and columns are defined behind the first packet, with an EOF behind each of both.
-fn hear_prepared(packet: &Front, ends_by_ok: bool, log: &Log) -> Result<After, Error> {
+fn hear_prepared(packet: &Front, ends_by_ok: bool, log: &ClientLog) -> Result<After, Error> {
     let mut fields = Fields::starting_at(packet.bytes, 1);
     let (statement, columns, parameters) = (fields.int(4)?, fields.int(2)?, fields.int(2)?);
     log.say(format_args!(
@@ -148,5 +152,9 @@ fn hear_prepared(packet: &Front, ends_by_ok: bool, log: &Log) -> Result<After, E
 }
 
 fn definitions(left: u64) -> After {
-    if left == 0 { After::Done } else { After::Comes(Next::Definitions(left)) }
+    if left == 0 {
+        After::Done
+    } else {
+        After::Comes(Next::Definitions(left))
+    }
 }

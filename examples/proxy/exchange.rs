@@ -3,8 +3,8 @@
 //! The pages "Connection Phase", "Command Phase" and "Text Resultset" of MySQL's documentation have
 //! the packets.
 
-use crate::answer::{self, After, ERR, Next, OK};
-use crate::log::{Log, front};
+use crate::answer::{self, After, Next, ERR, OK};
+use crate::log::{front, ClientLog};
 use crate::stream::Front;
 use mysql_wire::{Error, Fields};
 use std::fmt;
@@ -82,6 +82,8 @@ const COMMANDS: [(u8, &str, Phase); 26] = [
 /// Why a packet isn't one that can stand where it does.
 pub enum Misread {
     Field(Error),
+    /// A login is cut short.
+    Login(Error),
     OldProtocol,
     /// A login asks for TLS or compression.
     NotOffered,
@@ -97,6 +99,7 @@ impl fmt::Display for Misread {
     fn fmt(&self, f: &mut fmt::Formatter<'_>) -> fmt::Result {
         match self {
             Misread::Field(refusal) => write!(f, "a malformed packet: {refusal}"),
+            Misread::Login(refusal) => write!(f, "a malformed login: {refusal}"),
             Misread::OldProtocol => f.write_str("a protocol older than 4.1"),
             Misread::NotOffered => f.write_str("a login that asks for TLS or compression"),
         }
@@ -105,7 +108,7 @@ impl fmt::Display for Misread {
 
 /// Follows the packets of one connection.
 pub struct Exchange {
-    log: Log,
+    log: ClientLog,
     phase: Phase,
     offered: u64,
     agreed: u64,
@@ -114,7 +117,7 @@ pub struct Exchange {
 
 impl Exchange {
     /// A connection on which nothing was said yet.
-    pub fn new(log: Log) -> Exchange {
+    pub fn new(log: ClientLog) -> Exchange {
         Exchange { log, phase: Phase::Greeting, offered: 0, agreed: 0, logged_in: false }
     }
 
@@ -154,11 +157,11 @@ impl Exchange {
     /// Clears what the server doesn't offer. The flag of MySQL's clients stays: MariaDB's servers
     /// don't offer it, and read by it what a client is.
     fn hear_login(&mut self, packet: &mut [u8]) -> Result<(), Misread> {
-        let mut asked = Fields::new(packet).int(4)?;
+        let mut asked = Fields::new(packet).int(4).map_err(Misread::Login)?;
         if asked & self.offered & PROTOCOL_41 == 0 {
             return Err(Misread::OldProtocol);
         }
-        asked |= Fields::starting_at(packet, LOGIN_MARIADB).int(4)? << 32;
+        asked |= Fields::starting_at(packet, LOGIN_MARIADB).int(4).map_err(Misread::Login)? << 32;
         if asked & NOT_PLAIN != 0 {
             return Err(Misread::NotOffered);
         }
@@ -184,24 +187,24 @@ impl Exchange {
         };
         let detail = match name {
             "COM_QUERY" => self.statement(packet),
-            "COM_STMT_PREPARE" | "COM_INIT_DB" => front(text),
-            _ if known.is_none() => format!("{number:#04x}"),
+            "COM_STMT_PREPARE" | "COM_INIT_DB" => self.log.statement(text),
+            _ if known.is_none() => format!(" {number:#04x}"),
             _ => String::new(),
         };
-        self.log.say(format_args!("{}", format!("{name} {detail}").trim_end()));
+        self.log.say(format_args!("{name}{detail}"));
         self.phase = phase;
     }
 
-    /// The front of a `COM_QUERY`'s statement. Attributes of a query stand in front of it.
+    /// The front of a `COM_QUERY`'s statement, where it is asked for. Attributes of a query stand in front of it.
     fn statement(&self, packet: &[u8]) -> String {
         let mut fields = Fields::starting_at(packet, 1);
         if self.agreed & QUERY_ATTRIBUTES != 0 {
             match (fields.lenenc_int(), fields.lenenc_int()) {
                 (Ok(0), Ok(_)) => {}
-                _ => return String::from("(with attributes)"),
+                _ => return String::from(" (with attributes)"),
             }
         }
-        front(fields.rest())
+        self.log.statement(fields.rest())
     }
 
     /// Goes past a packet of the server, by its front.

@@ -1,9 +1,9 @@
-//! Waiting for two sockets at once, by the C library's `poll`.
+//! Waiting for several files at once, by the C library's `poll`.
 
 use std::ffi::{c_int, c_short, c_ulong};
 use std::io::{self, ErrorKind};
-use std::net::TcpStream;
 use std::os::fd::{AsRawFd, RawFd};
+use std::time::{Duration, Instant};
 
 const READABLE: c_short = 0x001;
 const WRITABLE: c_short = 0x004;
@@ -12,7 +12,7 @@ const HUNG_UP: c_short = 0x2000;
 
 #[repr(C)]
 struct Entry {
-    socket: RawFd,
+    file: RawFd,
     events: c_short,
     returned: c_short,
 }
@@ -21,7 +21,7 @@ extern "C" {
     fn poll(entries: *mut Entry, count: c_ulong, timeout: c_int) -> c_int;
 }
 
-/// What to wait for at a socket.
+/// What to wait for at a file.
 #[derive(Clone, Copy)]
 pub struct Interest {
     pub read: bool,
@@ -30,26 +30,39 @@ pub struct Interest {
 }
 
 impl Interest {
-    fn entry(self, socket: &TcpStream) -> Entry {
+    /// That it can be read from.
+    pub const READ: Interest = Interest { read: true, write: false, hang_up: false };
+
+    fn entry(self, file: &dyn AsRawFd) -> Entry {
         let read = if self.read { READABLE } else { 0 };
         let write = if self.write { WRITABLE } else { 0 };
         let hang_up = if self.hang_up { HUNG_UP } else { 0 };
         let events = read | write | hang_up;
         // An entry of a negative number is left out.
-        let socket = if events == 0 { -1 } else { socket.as_raw_fd() };
-        Entry { socket, events, returned: 0 }
+        let file = if events == 0 { -1 } else { file.as_raw_fd() };
+        Entry { file, events, returned: 0 }
     }
 }
 
-/// Waits until one of both has what it was asked for. The answer is whether to read from each: its
-/// bytes came, or its end or an error did.
-pub fn wait(sockets: [(&TcpStream, Interest); 2]) -> io::Result<[bool; 2]> {
-    let mut entries = sockets.map(|(socket, interest)| interest.entry(socket));
+/// Waits until one of them has what it was asked for, or this instant has come. The answer is
+/// whether to read from each: its bytes came, or its end or an error did.
+pub fn wait<const N: usize>(
+    files: [(&dyn AsRawFd, Interest); N],
+    until: Option<Instant>,
+) -> io::Result<[bool; N]> {
+    let mut entries = files.map(|(file, interest)| interest.entry(file));
     // SAFETY: the pointer is to as many entries as are said.
-    let answer = unsafe { poll(entries.as_mut_ptr(), entries.len() as c_ulong, -1) };
+    let answer =
+        unsafe { poll(entries.as_mut_ptr(), entries.len() as c_ulong, until.map_or(-1, millis)) };
     if answer < 0 {
         let error = io::Error::last_os_error();
-        return if error.kind() == ErrorKind::Interrupted { Ok([false; 2]) } else { Err(error) };
+        return if error.kind() == ErrorKind::Interrupted { Ok([false; N]) } else { Err(error) };
     }
     Ok(entries.map(|entry| entry.returned & !WRITABLE != 0))
+}
+
+/// The milliseconds up to an instant, and one more so that it has come then.
+fn millis(until: Instant) -> c_int {
+    let left = until.saturating_duration_since(Instant::now()) + Duration::from_millis(1);
+    c_int::try_from(left.as_millis()).unwrap_or(c_int::MAX)
 }

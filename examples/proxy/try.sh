@@ -83,7 +83,8 @@ as_root() {
 start_proxy() {
     local name=$1 words=$2
     shift 2
-    "$@" "$work/proxy" 127.0.0.1:0 "127.0.0.1:$server_port" $words > "$work/$name.log" &
+    "$@" "$work/proxy" --statements $words 127.0.0.1:0 "127.0.0.1:$server_port" \
+        > "$work/$name.log" &
     started+=($!)
     printf -v "${name}_id" '%s' $!
     until_it grep -q 'listens on' "$work/$name.log"
@@ -227,10 +228,10 @@ leaves_early() {
         --password=sesame --execute="SELECT SLEEP(8)" > "$work/killed" 2>&1 &
     local waits=$! number
     logged narrow 'COM_QUERY SELECT SLEEP'
-    number=$(sed -n 's/^\([0-9]*\) COM_QUERY SELECT SLEEP.*/\1/p' "$work/narrow.log")
+    number=$(sed -n 's/^[^ ]* \([0-9]*\) .* COM_QUERY SELECT SLEEP.*/\1/p' "$work/narrow.log")
     kill -9 "$waits"
     wait "$waits" 2> "$work/errors"
-    logged narrow "^$number the client hung up"
+    logged narrow "^[^ ]* $number .* the client hung up before its answer"
 }
 
 # one_too_many: a second client at a proxy for one, and the next one behind the first.
@@ -244,6 +245,7 @@ one_too_many() {
 
 # no_descriptor: a proxy without a free descriptor goes on once it may have more.
 no_descriptor() {
+    : < "/dev/tcp/127.0.0.1/$scarce_port"
     logged scarce "isn't served: Too many open files" &&
         prlimit --pid="$scarce_id" --nofile=64 && says "$scarce_port" '^7$' <<< 'SELECT 7'
 }
@@ -282,10 +284,10 @@ fi
 as_root "CREATE DATABASE probe; CREATE USER probe@'127.0.0.1' IDENTIFIED BY 'sesame';
     GRANT ALL ON *.* TO probe@'127.0.0.1'; CREATE USER plain@'127.0.0.1';
     GRANT ALL ON probe.* TO plain@'127.0.0.1';"
-start_proxy proxy $((32 << 20))
-start_proxy narrow $((1 << 20))
-start_proxy wide $((1 << 30))
-start_proxy middle 20000000
+start_proxy proxy "--limit $((32 << 20))"
+start_proxy narrow "--limit $((1 << 20)) --stalled 2"
+start_proxy wide "--limit $((1 << 30))"
+start_proxy middle '--limit 20000000'
 
 check 'a login with a password' same <<< 'SELECT USER()'
 check 'a login with a wrong password' same --password=wrong <<< 'SELECT 1'
@@ -355,7 +357,7 @@ if command -v python3 > "$work/errors"; then
     direct_port=$server_port
     start_pieces far "$server_port"
     server_port=$far_port
-    start_proxy between $((32 << 20))
+    start_proxy between "--limit $((32 << 20))"
     server_port=$direct_port
     start_pieces near "$between_port"
     check 'the same cut into pieces' same_statements "$near_port"
@@ -379,17 +381,17 @@ check 'a result above the limit in its second chunk' says "$middle_port" 'ERROR 
     "SELECT REPEAT('a', 30000000)"
 check 'the next client after these' says "$narrow_port" '^7$' <<< 'SELECT 7'
 check 'a client that goes away while it waits' leaves_early
-start_proxy lone "$((1 << 20)) 1"
+start_proxy lone '--clients 1'
 check 'one client too many' one_too_many
 if command -v prlimit > "$work/errors"; then
-    start_proxy scarce $((1 << 20)) prlimit --nofile=4:
+    start_proxy scarce '' prlimit --nofile=6:
     check 'no descriptor for a client' no_descriptor
 fi
 # Root has all the threads that it wants, so a user runs it who runs nothing else.
 as_other=(setpriv --reuid=54321 --clear-groups)
 if [ "$(id -u)" = 0 ] && "${as_other[@]}" prlimit > "$work/errors" 2>&1; then
     chmod a+x "$work"
-    start_proxy threadless $((1 << 20)) "${as_other[@]}" prlimit --nproc=1:
+    start_proxy threadless '' "${as_other[@]}" prlimit --nproc=2:
     check 'no thread for a client' no_thread
 fi
 check 'the server is left by all' until_it alone

@@ -1,0 +1,185 @@
+"""A server of tests, with plain sockets: it lets everyone in, and answers statements by their words.
+
+    python3 server.py    serves until its standard input ends; the first line says its port
+
+- `wait N`: OK after so many seconds
+- `row N`: one row, of a text of so many zeros
+- `nulls`: a row of NULL and one of an empty text
+- `half N`: a row of so many zeros, cut in the middle; `leave`: nothing; then the connection is
+  closed
+- `another`: an OK of another number
+- any other: one row, of the statement
+"""
+
+import contextlib
+import socket
+import struct
+import sys
+import threading
+import time
+
+# CONNECT_WITH_DB, PROTOCOL_41, TRANSACTIONS, SECURE_CONNECTION, PLUGIN_AUTH
+PLAIN = 0x8 | 0x200 | 0x2000 | 0x8000 | 1 << 19
+COMPRESS, SSL, OPTIONAL_METADATA, ZSTD = 1 << 5, 1 << 11, 1 << 25, 1 << 26
+CACHE_METADATA = 1 << 4  # of MariaDB's own
+
+FULL = 0xFFFFFF
+PIECE = bytes(1 << 16)
+OK = bytes([0, 0, 0, 2, 0, 0, 0])
+EOF = bytes([0xFE, 0, 0, 2, 0])
+PING, QUIT = b"\x0e", b"\x01"
+
+
+def greeting():
+    flags = PLAIN | COMPRESS | SSL | OPTIONAL_METADATA | ZSTD
+    return b"".join(
+        [
+            b"\x0a5.5.5-tests\0" + struct.pack("<I", 1) + b"12345678\0",
+            struct.pack("<HBHHB", flags & 0xFFFF, 45, 2, flags >> 16, 21),
+            bytes(6) + struct.pack("<I", CACHE_METADATA) + b"123456789012\0",
+            b"mysql_native_password\0",
+        ]
+    )
+
+
+def login(flags=PLAIN, mariadb=0):
+    fields = struct.pack("<IIB19xI", flags, 1 << 24, 45, mariadb)
+    return fields + b"user\0\0probe\0mysql_native_password\0"
+
+
+def text(value):
+    return bytes([len(value)]) + value
+
+
+def column():
+    names = b"".join(text(name) for name in [b"def", b"", b"", b"", b"a", b""])
+    return names + b"\x0c" + struct.pack("<HIBHBxx", 45, 255, 253, 0, 0)
+
+
+class Peer:
+    """One end of a connection. Each packet that goes or comes has the next number."""
+
+    def __init__(self, stream):
+        self.stream = stream
+        self.number = 0
+
+    def send(self, *packets):
+        framed = []
+        for packet in packets:
+            framed += [len(packet).to_bytes(3, "little"), bytes([self.number]), packet]
+            self.number = self.number + 1 & 255
+        self.stream.sendall(b"".join(framed))
+
+    def send_long(self, front, length):
+        """A packet of this many bytes, with others than zero at its front alone."""
+        while True:
+            chunk = min(length, FULL)
+            self.stream.sendall(chunk.to_bytes(3, "little") + bytes([self.number]) + front)
+            self.number = self.number + 1 & 255
+            for at in range(len(front), chunk, len(PIECE)):
+                self.stream.sendall(PIECE[: chunk - at])
+            length -= chunk
+            front = b""
+            if chunk < FULL:
+                return
+
+    def bytes(self, count):
+        came = self.stream.recv(count, socket.MSG_WAITALL) if count else b""
+        if len(came) < count:
+            raise EOFError
+        return came
+
+    def receive(self):
+        """The next packet. It has one chunk."""
+        header = self.bytes(4)
+        self.number = header[3] + 1 & 255
+        return self.bytes(int.from_bytes(header[:3], "little"))
+
+    def receive_long(self):
+        """The length of the next packet."""
+        total, room = 0, bytearray(1 << 16)
+        while True:
+            header = self.bytes(4)
+            length = left = int.from_bytes(header[:3], "little")
+            self.number = header[3] + 1 & 255
+            while left:
+                came = self.stream.recv_into(room, min(left, len(room)))
+                if not came:
+                    raise EOFError
+                left -= came
+            total += length
+            if length < FULL:
+                return total
+
+    def command(self, packet):
+        self.number = 0
+        self.send(packet)
+
+
+class Server:
+    """A server that answers statements by their words."""
+
+    def __init__(self):
+        self.listener = socket.create_server(("127.0.0.1", 0))
+        self.port = self.listener.getsockname()[1]
+        self.logins = []
+        self.left = 0
+        threading.Thread(target=self.serve, daemon=True).start()
+
+    def close(self):
+        # (a thread that waits in `accept` isn't woken by `close`)
+        with contextlib.suppress(OSError):
+            self.listener.shutdown(socket.SHUT_RDWR)
+        self.listener.close()
+
+    def serve(self):
+        with contextlib.suppress(OSError):
+            while True:
+                stream, _ = self.listener.accept()
+                threading.Thread(target=self.talk, args=[stream], daemon=True).start()
+
+    def talk(self, stream):
+        peer = Peer(stream)
+        with contextlib.suppress(EOFError, OSError), stream:
+            peer.send(greeting())
+            self.logins.append(peer.receive())
+            peer.send(OK)
+            while self.answer(peer, peer.receive()):
+                pass
+        self.left += 1
+
+    def answer(self, peer, command):
+        word, _, value = command[1:].partition(b" ")
+        if command == PING:
+            peer.send(OK)
+        elif word == b"wait":
+            time.sleep(float(value))
+            peer.send(OK)
+        elif word == b"row":
+            peer.send(b"\x01", column(), EOF)
+            peer.send_long(b"\xfe" + struct.pack("<Q", int(value)), int(value) + 9)
+            peer.send(EOF)
+        elif word == b"nulls":
+            peer.send(b"\x01", column(), EOF, b"\xfb", b"\0", EOF)
+        elif word == b"half":
+            peer.send(b"\x01", column(), EOF)
+            peer.stream.sendall(int(value).to_bytes(3, "little") + b"\x04" + bytes(int(value) // 2))
+            return False
+        elif word == b"leave" or command == QUIT:
+            return False
+        elif word == b"another":
+            peer.number = 7
+            peer.send(OK)
+        else:
+            peer.send(b"\x01", column(), EOF, text(command[1:]), EOF)
+        return True
+
+
+def main():
+    server = Server()
+    print(server.port, flush=True)
+    sys.stdin.read()
+
+
+if __name__ == "__main__":
+    main()
