@@ -15,8 +15,5 @@ pub fn summary(bytes: &[u8]) -> u64 {
 
 /// The summaries of all texts, added up.
 pub fn total(texts: &[Vec<u8>]) -> u64 {
-    texts
-        .iter()
-        .map(|text| summary(text))
-        .fold(0, u64::wrapping_add)
+    texts.iter().map(|text| summary(text)).fold(0, u64::wrapping_add)
 }

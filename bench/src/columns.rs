@@ -106,14 +106,8 @@ impl<'a> Reader<'a> {
     }
 
     fn definition(&mut self) -> Result<Definition<'a>> {
-        let names = [
-            self.text()?,
-            self.text()?,
-            self.text()?,
-            self.text()?,
-            self.text()?,
-            self.text()?,
-        ];
+        let names =
+            [self.text()?, self.text()?, self.text()?, self.text()?, self.text()?, self.text()?];
         let block = self.checked_eat(13)?;
         if block[0] != 0x0c || !is_type(block[7]) {
             return Err(Error::from(ErrorKind::InvalidData));
@@ -163,11 +157,11 @@ pub fn rows(rows: &mut Vec<Row>) {
     let read: u64 = definitions.iter().map(Definition::value).sum();
     let mut row = |name: &str, want, call: Box<dyn Fn(&[u8], u64) -> u64>| {
         let name = format!("column definition, {name}");
-        rows.push(parts_row(name, &parts, &bytes, want, call));
+        let rust = (want == read).then_some(read_in_rust as fn(&[u8], u64) -> u64);
+        rows.push(parts_row(name, &parts, &bytes, want, call, rust));
     };
     row("parse", read, Box::new(library::coldef));
     row("by hand", read, Box::new(library::coldef_by_hand));
-    row("Rust", read, Box::new(read_in_rust));
     for (form, name) in COPIES.iter().enumerate() {
         let call = move |bytes: &[u8], reps| library::coldef_copy(bytes, form as u64, reps);
         row(name, summary(&bytes), Box::new(call));

@@ -1,10 +1,13 @@
 //! Packets through the C library, beside `decode` of the same bytes appended to a buffer.
 
 use crate::check::summary;
-use crate::inputs::size_name;
+#[cfg(with_bytes)]
+use crate::in_rust;
+use crate::inputs::{Numbers, framing, size_name};
 use crate::library;
 use crate::packets::{count_for, stream_of};
 use crate::timing::Row;
+use std::cell::RefCell;
 use std::ptr;
 use std::slice;
 
@@ -30,15 +33,27 @@ unsafe extern "C" {
         room_len: usize,
         len: *mut usize,
     ) -> i32;
+    fn mysql_wire_decode(
+        connection: *mut *mut u8,
+        bytes: *const u8,
+        len: usize,
+        used: *mut usize,
+        packet: *mut View,
+    ) -> i32;
+    fn mysql_wire_encode_to(
+        connection: *mut *mut u8,
+        payload: *const u8,
+        len: usize,
+        room: *mut u8,
+        room_len: usize,
+        written: *mut usize,
+    ) -> i32;
     fn mysql_wire_reset(connection: *mut *mut u8) -> i32;
 }
 
 // The sum over the packets that are there, each lent and taken.
 fn lent(connection: &mut *mut u8) -> u64 {
-    let mut view = View {
-        at: ptr::null(),
-        len: 0,
-    };
+    let mut view = View { at: ptr::null(), len: 0 };
     let mut sum = 0u64;
     unsafe {
         while mysql_wire_peek(connection, &mut view) == PACKET {
@@ -85,7 +100,7 @@ fn received(stream: &[u8], size: usize, lends: bool, reps: u64) -> u64 {
 fn receive_row(rows: &mut Vec<Row>, size: usize, lends: bool) {
     let count = count_for(size);
     let (stream, want) = stream_of(size as u64 * 11, size);
-    let decoded = stream.clone();
+    let (decoded, plain) = (stream.clone(), stream.clone());
     let way = if lends { "peek and take" } else { "next" };
     rows.push(Row {
         name: format!("C: feed, {way} {}, of decode", size_name(size)),
@@ -94,6 +109,97 @@ fn receive_row(rows: &mut Vec<Row>, size: usize, lends: bool) {
         call: Box::new(move |reps| received(&stream, size, lends, reps)),
         want,
         copy: Box::new(move |reps| library::decode(&decoded, 0, size as u64, false, reps)),
+        rust: in_rust!(move |reps| in_rust::decode(&plain, plain.len(), size, false, reps)),
+    });
+}
+
+// A stream whose packets are lent out of the caller's bytes, so many times over one connection.
+fn decoded(stream: &[u8], size: usize, reps: u64) -> u64 {
+    let mut connection = ptr::null_mut();
+    let mut view = View { at: ptr::null(), len: 0 };
+    let mut sum = 0u64;
+    unsafe {
+        mysql_wire_open(size, &mut connection);
+        for _ in 0..reps {
+            mysql_wire_reset(&mut connection);
+            let (mut at, mut used) = (0, 0);
+            while mysql_wire_decode(
+                &mut connection,
+                stream.as_ptr().add(at),
+                stream.len() - at,
+                &mut used,
+                &mut view,
+            ) == PACKET
+            {
+                sum = sum.wrapping_add(summary(slice::from_raw_parts(view.at, view.len)));
+                at += used;
+            }
+        }
+        mysql_wire_close(&mut connection);
+    }
+    sum
+}
+
+// A payload framed into the caller's room, one packet behind the other.
+fn encoded(payload: &[u8], count: usize, room: &mut [u8], reps: u64) -> u64 {
+    let mut connection = ptr::null_mut();
+    let mut sum = 0u64;
+    unsafe {
+        mysql_wire_open(payload.len(), &mut connection);
+        for _ in 0..reps {
+            mysql_wire_reset(&mut connection);
+            let mut at = 0;
+            for _ in 0..count {
+                let mut written = 0;
+                mysql_wire_encode_to(
+                    &mut connection,
+                    payload.as_ptr(),
+                    payload.len(),
+                    room.as_mut_ptr().add(at),
+                    room.len() - at,
+                    &mut written,
+                );
+                at += written;
+            }
+            sum = sum.wrapping_add(summary(&room[..at]));
+        }
+        mysql_wire_close(&mut connection);
+    }
+    sum
+}
+
+fn decode_row(rows: &mut Vec<Row>, size: usize) {
+    let count = count_for(size);
+    let (stream, want) = stream_of(size as u64 * 23, size);
+    let (beside, plain) = (stream.clone(), stream.clone());
+    rows.push(Row {
+        name: format!("C: decode {}, of decode", size_name(size)),
+        items: count as u64,
+        bytes: (size * count) as u64,
+        call: Box::new(move |reps| decoded(&stream, size, reps)),
+        want,
+        copy: Box::new(move |reps| library::decode(&beside, 0, size as u64, false, reps)),
+        rust: in_rust!(move |reps| in_rust::decode(&plain, plain.len(), size, false, reps)),
+    });
+}
+
+fn encode_row(rows: &mut Vec<Row>, size: usize) {
+    let payload = Numbers::new(size as u64 * 29 + 1).bytes(size);
+    let count = count_for(size);
+    let (mut framed, mut id) = (Vec::new(), 0);
+    for _ in 0..count {
+        id = framing(id, &payload, &mut framed);
+    }
+    let (beside, plain) = (payload.clone(), payload.clone());
+    let room = RefCell::new(vec![0; framed.len()]);
+    rows.push(Row {
+        name: format!("C: encode_to {}, of encode", size_name(size)),
+        items: count as u64,
+        bytes: (size * count) as u64,
+        call: Box::new(move |reps| encoded(&payload, count, &mut room.borrow_mut(), reps)),
+        want: summary(&framed),
+        copy: Box::new(move |reps| library::frame(&beside, count as u64, 1, reps)),
+        rust: in_rust!(move |reps| in_rust::frame(&plain, count as u64, true, reps)),
     });
 }
 
@@ -101,5 +207,7 @@ pub fn rows(rows: &mut Vec<Row>) {
     for size in SIZES {
         receive_row(rows, size, true);
         receive_row(rows, size, false);
+        decode_row(rows, size);
+        encode_row(rows, size);
     }
 }

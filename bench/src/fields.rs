@@ -1,11 +1,27 @@
 //! Texts and numbers in rows.
 
 use crate::check::{summary, total};
+#[cfg(with_bytes)]
+use crate::in_rust;
 use crate::inputs::{Numbers, size_name};
 use crate::library;
 use crate::timing::Row;
 use std::hint::black_box;
 use std::iter::repeat_with;
+
+// A function in Rust, where the crate `bytes` was found.
+#[cfg(with_bytes)]
+macro_rules! plain {
+    ($call:expr) => {
+        Some($call as fn(&[u8], u64) -> u64)
+    };
+}
+#[cfg(not(with_bytes))]
+macro_rules! plain {
+    ($call:expr) => {
+        None
+    };
+}
 
 /// How many columns a row has, and how many texts are read in all.
 const COLUMNS: u64 = 20;
@@ -58,8 +74,9 @@ pub fn parts_row(
     input: &[u8],
     want: u64,
     call: impl Fn(&[u8], u64) -> u64 + 'static,
+    rust: Option<fn(&[u8], u64) -> u64>,
 ) -> Row {
-    let input = input.to_vec();
+    let (input, plain) = (input.to_vec(), input.to_vec());
     Row {
         name,
         items: parts.len() as u64,
@@ -67,6 +84,7 @@ pub fn parts_row(
         call: Box::new(move |reps| call(&input, reps)),
         want,
         copy: copy_parts(parts),
+        rust: rust.map(|call| Box::new(move |reps| call(&plain, reps)) as Box<dyn Fn(u64) -> u64>),
     }
 }
 
@@ -83,13 +101,17 @@ fn lenenc_rows(rows: &mut Vec<Row>, len: usize) {
     for (form, reader) in LENENC_READERS.iter().enumerate() {
         let name = format!("{reader} {size}");
         let call = move |bytes: &[u8], reps| library::row(bytes, COLUMNS, form as u64, reps);
-        rows.push(parts_row(name, &texts, &spelled, read, call));
+        rows.push(parts_row(name, &texts, &spelled, read, call, plain!(in_rust::row)));
     }
     let written = summary(&spelled);
     for (form, target) in TARGETS.iter().enumerate() {
         let name = format!("read and put_lenenc_str {size}, {target}");
         let call = move |bytes: &[u8], reps| library::row_copy(bytes, form as u64, reps);
-        rows.push(parts_row(name, &texts, &spelled, written, call));
+        let rust = match form {
+            0 => plain!(|bytes, reps| in_rust::row_copy(bytes, false, reps)),
+            _ => plain!(|bytes, reps| in_rust::row_copy(bytes, true, reps)),
+        };
+        rows.push(parts_row(name, &texts, &spelled, written, call, rust));
     }
 }
 
@@ -107,7 +129,7 @@ fn null_rows(rows: &mut Vec<Row>, len: usize) {
     for (form, reader) in NULL_READERS.iter().enumerate() {
         let name = format!("{reader} {size}");
         let call = move |bytes: &[u8], reps| library::null(bytes, form as u64, reps);
-        rows.push(parts_row(name, &texts, &spelled, want, call));
+        rows.push(parts_row(name, &texts, &spelled, want, call, plain!(in_rust::null)));
     }
 }
 
@@ -130,16 +152,20 @@ fn number_rows(rows: &mut Vec<Row>) {
     for (form, target) in TARGETS.iter().enumerate() {
         let name = format!("put_lenenc_int, {target}");
         let call = move |bytes: &[u8], reps| library::put_lenenc(bytes, form as u64, reps);
-        rows.push(parts_row(name, &spellings, &fixed, written, call));
+        let rust = match form {
+            0 => plain!(|bytes, reps| in_rust::put_lenenc(bytes, false, reps)),
+            _ => plain!(|bytes, reps| in_rust::put_lenenc(bytes, true, reps)),
+        };
+        rows.push(parts_row(name, &spellings, &fixed, written, call, rust));
     }
     let name = "checked_eat_lenenc_int".to_string();
     let sum = values.iter().copied().fold(0, u64::wrapping_add);
     let call = library::eat_lenenc;
-    rows.push(parts_row(name, &spellings, &spelled, sum, call));
+    rows.push(parts_row(name, &spellings, &spelled, sum, call, plain!(in_rust::eat_lenenc)));
 }
 
 pub fn rows(rows: &mut Vec<Row>) {
-    for len in [8, 100, 2000] {
+    for len in [1, 4, 8, 100, 2000] {
         lenenc_rows(rows, len);
         null_rows(rows, len);
     }

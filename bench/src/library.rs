@@ -9,22 +9,8 @@ unsafe extern "C" {
     fn mw_place(ptr: *const u8, len: usize, piece: u64, limit: u64, reps: u64) -> u64;
     fn mw_spans(ptr: *const u8, len: usize, piece: u64, limit: u64, reps: u64) -> u64;
     fn mw_renumber(ptr: *const u8, len: usize, piece: u64, limit: u64, reps: u64) -> u64;
-    fn mw_relay(
-        ptr: *const u8,
-        len: usize,
-        piece: u64,
-        limit: u64,
-        form: u64,
-        reps: u64,
-    ) -> u64;
-    fn mw_place_row(
-        ptr: *const u8,
-        len: usize,
-        cols: u64,
-        row: u64,
-        form: u64,
-        reps: u64,
-    ) -> u64;
+    fn mw_relay(ptr: *const u8, len: usize, piece: u64, limit: u64, form: u64, reps: u64) -> u64;
+    fn mw_place_row(ptr: *const u8, len: usize, cols: u64, row: u64, form: u64, reps: u64) -> u64;
     fn mw_read(ptr: *const u8, len: usize, limit: u64, form: u64, reps: u64) -> u64;
     fn mw_write(ptr: *const u8, len: usize, count: u64, reps: u64) -> u64;
     fn mw_row(ptr: *const u8, len: usize, cols: u64, form: u64, reps: u64) -> u64;

@@ -1,25 +1,47 @@
 //! Times the library of workloads against a plain copy of the same bytes in the same steps, and
-//! checks each answer.
+//! against the same work in plain Rust, and checks each answer.
 //!
 //! A workload is timed over 1 + n repetitions, less the time of one, so that what is made once a
-//! call isn't counted; workload and copy take turns, and the best of several rounds stands.
+//! call isn't counted; workload, copy and Rust take turns, and the best of several rounds stands.
 //!
-//! `driver` runs all, `driver WORD` the rows whose name holds the word, and `driver memory` the
-//! measurement of memory alone.
+//! `driver` runs all, `driver WORD` the rows whose name holds the word. Before the word,
+//! `--ratios FILE` writes the ratios, and `--against FILE` lists the rows that are a fifth slower
+//! than those of such a file. `driver memory` is the measurement of memory alone, and
+//! `driver plot FILE` draws times by packet size.
+#![cfg_attr(not(with_bytes), allow(unused))]
+
+/// The same work in Rust, where the crate `bytes` was found.
+#[cfg(with_bytes)]
+macro_rules! in_rust {
+    ($call:expr) => {
+        Some(Box::new($call) as Box<dyn Fn(u64) -> u64>)
+    };
+}
+#[cfg(not(with_bytes))]
+macro_rules! in_rust {
+    ($call:expr) => {
+        None
+    };
+}
 
 mod check;
 mod columns;
 mod connections;
 mod fields;
+#[cfg(with_bytes)]
+mod in_rust;
 mod inputs;
 mod library;
 mod memory;
 mod packets;
 mod place;
+mod plot;
 mod spans;
 mod streams;
+mod summary;
 mod timing;
 
+use crate::summary::Run;
 use std::env;
 use std::error::Error;
 use std::fs;
@@ -28,20 +50,17 @@ use std::process::ExitCode;
 // The processor's name, and how many of it there are.
 fn machine() -> Result<String, Box<dyn Error>> {
     let cpus = fs::read_to_string("/proc/cpuinfo")?;
-    let mut names = cpus
-        .lines()
-        .filter_map(|line| line.strip_prefix("model name")?.split_once(": "));
-    let name = names
-        .next()
-        .map_or("an unnamed processor", |(_, name)| name);
+    let mut names =
+        cpus.lines().filter_map(|line| line.strip_prefix("model name")?.split_once(": "));
+    let name = names.next().map_or("an unnamed processor", |(_, name)| name);
     Ok(format!("{name}, {} processors", 1 + names.count()))
 }
 
 // Measures the rows whose name holds the word. Whether all answers were right is answered.
-fn measure_rows(word: &str) -> bool {
+fn measure_rows(word: &str, run: &mut Run) -> bool {
     println!(
-        "{:<44} {:>12} {:>9} {:>9} {:>9}",
-        "workload", "ns an item", "GB/s", "of copy", "spread"
+        "{:<44} {:>12} {:>8} {:>8} {:>8} {:>7}",
+        "workload", "ns an item", "GB/s", "of copy", "of Rust", "spread"
     );
     let mut rows = Vec::new();
     packets::rows(&mut rows);
@@ -52,9 +71,16 @@ fn measure_rows(word: &str) -> bool {
     columns::rows(&mut rows);
     connections::rows(&mut rows);
     let mut passed = true;
-    for row in rows.iter_mut().filter(|row| row.name.contains(word)) {
-        match timing::measure(row) {
-            Ok(line) => println!("{line}"),
+    for mut row in rows.into_iter().filter(|row| row.name.contains(word)) {
+        match timing::measure(&mut row) {
+            Ok(took) => {
+                let of_rust = took.of_rust.map_or(String::new(), |ratio| format!("{ratio:.2}"));
+                println!(
+                    "{:<44} {:>12.2} {:>8.2} {:>8.2} {of_rust:>8} {:>7.2}",
+                    row.name, took.nanos, took.gigabytes, took.of_copy, took.spread
+                );
+                run.push(row.name, took);
+            }
             Err(why) => {
                 passed = false;
                 println!("{:<44} MISMATCH: {why}", row.name);
@@ -64,21 +90,44 @@ fn measure_rows(word: &str) -> bool {
     passed
 }
 
+// All rows, or those that hold a word, with what is to be done with their ratios.
+fn rows(words: &[&str]) -> Result<bool, Box<dyn Error>> {
+    let (mut word, mut ratios, mut against) = (None, None, None);
+    let mut words = words.iter().copied();
+    while let Some(each) = words.next() {
+        match each {
+            "--ratios" => ratios = Some(words.next().ok_or("--ratios wants a file")?),
+            "--against" => against = Some(words.next().ok_or("--against wants a file")?),
+            each if word.is_none() => word = Some(each),
+            _ => return Err("at most one word is taken".into()),
+        }
+    }
+    println!("{}\n", machine()?);
+    let mut run = Run::default();
+    let mut passed = measure_rows(word.unwrap_or(""), &mut run);
+    run.print();
+    if let Some(path) = ratios {
+        run.write(path)?;
+    }
+    if let Some(path) = against {
+        passed &= run.is_as_fast_as(path)?;
+    }
+    if word.is_none() {
+        println!();
+        passed &= memory::table()?;
+    }
+    Ok(passed)
+}
+
 fn run(words: &[&str]) -> Result<bool, Box<dyn Error>> {
     match words {
-        [] => {
-            println!("{}\n", machine()?);
-            let passed = measure_rows("");
-            println!();
-            Ok(memory::table()? && passed)
-        }
         ["memory"] => memory::table(),
         ["memory", how, size, count] => {
             println!("{}", memory::measure(how, size.parse()?, count.parse()?)?);
             Ok(true)
         }
-        [word] => Ok(measure_rows(word)),
-        _ => Err("at most one word is taken".into()),
+        ["plot", path] => plot::draw(path).map(|()| true),
+        words => rows(words),
     }
 }
 

@@ -17,11 +17,8 @@ const TOTAL: usize = 4 << 30;
 const DECODE: (&str, usize) = ("decode", 1460);
 const SPANS: (&str, usize) = ("spans", 64 << 10);
 /// The sizes of packets, and how many the stream has.
-const CASES: [(&str, usize, usize); 3] = [
-    (DECODE.0, 1 << 10, 4096),
-    (DECODE.0, 20 << 20, 1),
-    (SPANS.0, 64 << 20, 1),
-];
+const CASES: [(&str, usize, usize); 3] =
+    [(DECODE.0, 1 << 10, 4096), (DECODE.0, 20 << 20, 1), (SPANS.0, 64 << 20, 1)];
 /// A loop over spans may take so many MiB.
 const SPANS_MAY_TAKE: f64 = 1.0;
 
@@ -84,19 +81,11 @@ pub fn measure(how: &str, size: usize, count: usize) -> Result<String, Box<dyn E
 
 /// Measures each size in a new process. Whether all went well is answered.
 pub fn table() -> Result<bool, Box<dyn Error>> {
-    println!(
-        "{:<44} {:>12} {:>9} {:>9} {:>9}",
-        "4 GiB by", "peak MiB", "stream", "rest", "grown"
-    );
+    println!("{:<44} {:>12} {:>9} {:>9} {:>9}", "4 GiB by", "peak MiB", "stream", "rest", "grown");
     let driver = env::current_exe()?;
     let mut passed = true;
     for (how, size, count) in CASES {
-        let words = [
-            "memory".to_string(),
-            how.to_string(),
-            size.to_string(),
-            count.to_string(),
-        ];
+        let words = ["memory".to_string(), how.to_string(), size.to_string(), count.to_string()];
         passed &= Command::new(&driver).args(words).status()?.success();
     }
     Ok(passed)

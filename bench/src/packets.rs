@@ -1,6 +1,8 @@
 //! Framing and decoding.
 
 use crate::check::{ends, summary};
+#[cfg(with_bytes)]
+use crate::in_rust;
 use crate::inputs::{MAX_PAYLOAD_LEN, Numbers, chunk_lens, framing, size_name};
 use crate::library;
 use crate::timing::Row;
@@ -24,6 +26,7 @@ fn frame_row(rows: &mut Vec<Row>, size: usize, form: u64) {
     }
     let want = summary(&framed) + if form == 0 { id as u64 } else { 0 };
     let (copied, mut out) = (payload.clone(), Vec::with_capacity(framed.len()));
+    let plain = payload.clone();
     rows.push(Row {
         name: format!("{} {}", WRITERS[form as usize], size_name(size)),
         items: count as u64,
@@ -39,6 +42,7 @@ fn frame_row(rows: &mut Vec<Row>, size: usize, form: u64) {
             }
             out.len() as u64
         }),
+        rust: in_rust!(move |reps| in_rust::frame(&plain, count as u64, form == 1, reps)),
     });
 }
 
@@ -116,7 +120,7 @@ fn decode_row(rows: &mut Vec<Row>, size: usize, piece: usize, fresh: bool) {
     let limit = size.max(1) as u64;
     let name = decode_name(size, piece, fresh);
     let step = if piece == 0 { stream.len() } else { piece };
-    let copied = stream.clone();
+    let (copied, plain) = (stream.clone(), stream.clone());
     let (mut src, mut dst) = (Vec::new(), Vec::new());
     rows.push(Row {
         name,
@@ -131,13 +135,14 @@ fn decode_row(rows: &mut Vec<Row>, size: usize, piece: usize, fresh: bool) {
             }
             sum
         }),
+        rust: in_rust!(move |reps| in_rust::decode(&plain, step, size.max(1), fresh, reps)),
     });
 }
 
 fn append_row(rows: &mut Vec<Row>, piece: usize) {
     let stream = Numbers::new(piece as u64).bytes(1 << 18);
     let want = stream.chunks(piece).map(ends).fold(0u64, u64::wrapping_add);
-    let copied = stream.clone();
+    let (copied, plain) = (stream.clone(), stream.clone());
     let mut src = Vec::with_capacity(piece);
     rows.push(Row {
         name: format!("append and advance by {}", size_name(piece)),
@@ -156,6 +161,7 @@ fn append_row(rows: &mut Vec<Row>, piece: usize) {
             }
             sum
         }),
+        rust: in_rust!(move |reps| in_rust::append(&plain, piece, reps)),
     });
 }
 
@@ -172,6 +178,9 @@ pub fn rows(rows: &mut Vec<Row>) {
     for size in [16, 256, 4 << 10, 64 << 10, 1 << 20, 20 << 20] {
         decode_row(rows, size, 0, false);
         decode_row(rows, size, 1460, false);
+    }
+    for size in [4 << 10, 27_427] {
+        decode_row(rows, size, 8 << 10, false);
     }
     for size in [16, 4 << 10, 1 << 20] {
         decode_row(rows, size, 0, true);

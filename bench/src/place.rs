@@ -2,6 +2,8 @@
 
 use crate::check::summary;
 use crate::fields::lenenc;
+#[cfg(with_bytes)]
+use crate::in_rust;
 use crate::inputs::{Numbers, framing, size_name};
 use crate::library;
 use crate::packets::{count_for, stream_of};
@@ -19,7 +21,8 @@ const TEXT: usize = 8;
 fn place_row(rows: &mut Vec<Row>, size: usize, piece: usize, decoded: bool) {
     let count = count_for(size);
     let (stream, want) = stream_of((size * 11 + piece) as u64, size);
-    let copied = stream.clone();
+    let (copied, plain) = (stream.clone(), stream.clone());
+    let step = if piece == 0 { stream.len() } else { piece };
     let (limit, piece) = (size as u64, piece as u64);
     let by = if piece == 0 { "all".to_string() } else { size_name(piece as usize) };
     let beside = if decoded { "decode" } else { "append" };
@@ -33,6 +36,10 @@ fn place_row(rows: &mut Vec<Row>, size: usize, piece: usize, decoded: bool) {
             true => library::decode(&copied, piece, limit, false, reps),
             false => library::append(&copied, piece, reps),
         }),
+        rust: match decoded {
+            true => in_rust!(move |reps| in_rust::decode(&plain, step, size, false, reps)),
+            false => None,
+        },
     });
 }
 
@@ -60,6 +67,7 @@ fn columns_row(rows: &mut Vec<Row>) {
         call: Box::new(move |reps| library::place_row(&stream, COLUMNS as u64, row, 0, reps)),
         want,
         copy: Box::new(move |reps| library::place_row(&copied, COLUMNS as u64, row, 2, reps)),
+        rust: None,
     });
 }
 

@@ -52,15 +52,7 @@ struct Decoder {
 
 impl Decoder {
     fn new(limit: usize) -> Self {
-        Decoder {
-            limit,
-            next_id: 0,
-            size: 0,
-            header: [0; 4],
-            came: 0,
-            left: 0,
-            is_full: false,
-        }
+        Decoder { limit, next_id: 0, size: 0, header: [0; 4], came: 0, left: 0, is_full: false }
     }
 
     // Judges the header, and opens its chunk.
@@ -143,7 +135,7 @@ fn plain_spans(stream: &[u8], piece: usize, limit: usize, reps: u64) -> u64 {
 }
 
 /// A stream copied piece by piece to one buffer.
-fn copied(stream: &[u8], piece: usize, out: &mut Vec<u8>, reps: u64) -> u64 {
+pub fn copied(stream: &[u8], piece: usize, out: &mut Vec<u8>, reps: u64) -> u64 {
     for _ in 0..reps {
         for part in stream.chunks(piece) {
             out.clear();
@@ -158,17 +150,15 @@ fn copied(stream: &[u8], piece: usize, out: &mut Vec<u8>, reps: u64) -> u64 {
 enum Beside {
     Decode,
     InPlace,
-    Rust,
 }
 
 fn spans_row(rows: &mut Vec<Row>, size: usize, piece: usize, beside: Beside) {
     let stream = Stream::new(size * 13 + piece, size);
-    let copied = stream.bytes.clone();
+    let (copied, plain) = (stream.bytes.clone(), stream.bytes.clone());
     let limit = size as u64;
     let name = match beside {
         Beside::Decode => "decode",
         Beside::InPlace => "front_packet",
-        Beside::Rust => "Rust",
     };
     rows.push(Row {
         name: format!("spans {} by {}, of {name}", size_name(size), size_name(piece)),
@@ -179,8 +169,11 @@ fn spans_row(rows: &mut Vec<Row>, size: usize, piece: usize, beside: Beside) {
         copy: Box::new(move |reps| match beside {
             Beside::Decode => library::decode(&copied, piece as u64, limit, false, reps),
             Beside::InPlace => library::place(&copied, piece as u64, limit, reps),
-            Beside::Rust => plain_spans(&copied, piece, size, reps),
         }),
+        rust: match beside {
+            Beside::Decode => Some(Box::new(move |reps| plain_spans(&plain, piece, size, reps))),
+            Beside::InPlace => None,
+        },
     });
 }
 
@@ -199,6 +192,7 @@ fn renumber_row(rows: &mut Vec<Row>, size: usize, piece: usize, of_spans: bool) 
             true => library::spans(&other, piece as u64, limit, reps),
             false => copied(&other, piece, &mut out, reps),
         }),
+        rust: None,
     });
 }
 
@@ -213,6 +207,7 @@ fn relay_row(rows: &mut Vec<Row>, size: usize, piece: usize) {
         want: 2 * (stream.bytes.len() as u64 + stream.sum),
         call: Box::new(move |reps| library::relay(&stream.bytes, piece as u64, limit, 0, reps)),
         copy: Box::new(move |reps| library::relay(&copied, piece as u64, limit, 1, reps)),
+        rust: None,
     });
 }
 
@@ -224,7 +219,6 @@ pub fn rows(rows: &mut Vec<Row>) {
             if size < MAX_PAYLOAD_LEN {
                 spans_row(rows, size, piece, Beside::InPlace);
             }
-            spans_row(rows, size, piece, Beside::Rust);
         }
     }
     // Each call makes its own copy of the stream, which is dearer than the ids of few packets.

@@ -1,6 +1,8 @@
 //! Packets over a reader and a writer, beside the same work on a buffer and one copy more.
 
 use crate::check::summary;
+#[cfg(with_bytes)]
+use crate::in_rust;
 use crate::inputs::{Numbers, framing, size_name};
 use crate::library;
 use crate::packets::{count_for, stream_of};
@@ -15,7 +17,7 @@ const READERS: [&str; 2] = ["next_packet", "fill_packet"];
 fn read_row(rows: &mut Vec<Row>, size: usize, form: u64) {
     let count = count_for(size);
     let (stream, want) = stream_of(size as u64 * 5, size);
-    let copied = stream.clone();
+    let (copied, plain) = (stream.clone(), stream.clone());
     let limit = size as u64;
     rows.push(Row {
         name: format!("{} {}, of append and decode", READERS[form as usize], size_name(size)),
@@ -24,6 +26,7 @@ fn read_row(rows: &mut Vec<Row>, size: usize, form: u64) {
         call: Box::new(move |reps| library::read(&stream, limit, form, reps)),
         want,
         copy: Box::new(move |reps| library::decode(&copied, 0, limit, true, reps)),
+        rust: in_rust!(move |reps| in_rust::decode(&plain, 8 << 10, size, true, reps)),
     });
 }
 
@@ -44,6 +47,7 @@ fn write_row(rows: &mut Vec<Row>, size: usize) {
         call: Box::new(move |reps| library::write(&payload, count as u64, reps)),
         want: summary(&framed),
         copy: Box::new(move |reps| library::frame(&copied, count as u64, 2, reps)),
+        rust: None,
     });
 }
 
