@@ -24,6 +24,8 @@ macro_rules! in_rust {
     };
 }
 
+#[cfg(with_bytes)]
+mod cargo_crate;
 mod check;
 mod columns;
 mod connections;
@@ -70,6 +72,8 @@ fn measure_rows(word: &str, run: &mut Run) -> bool {
     fields::rows(&mut rows);
     columns::rows(&mut rows);
     connections::rows(&mut rows);
+    #[cfg(with_bytes)]
+    cargo_crate::rows(&mut rows);
     let mut passed = true;
     for mut row in rows.into_iter().filter(|row| row.name.contains(word)) {
         match timing::measure(&mut row) {

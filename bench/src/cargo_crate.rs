@@ -1,0 +1,110 @@
+//! The codec of bindings/rust over `BytesMut`, beside the steps of `mysql_common` in plain Rust.
+
+use crate::check::summary;
+use crate::in_rust;
+use crate::inputs::{Numbers, framing, size_name};
+use crate::library;
+use crate::packets::{count_for, stream_of};
+use crate::timing::Row;
+use bytes::BytesMut;
+use mysql_wire_bytes::{Error, PacketCodec};
+use std::hint::black_box;
+
+const SIZES: [usize; 4] = [16, 256, 4 << 10, 1 << 20];
+
+fn codec(limit: usize) -> PacketCodec {
+    let mut codec = PacketCodec::default();
+    codec.max_allowed_packet = limit;
+    codec
+}
+
+// A payload framed so many times, once.
+fn frame_once(
+    codec: &mut PacketCodec,
+    payload: &[u8],
+    count: usize,
+    dst: &mut BytesMut,
+) -> Result<u64, Error> {
+    dst.clear();
+    codec.reset_seq_id();
+    for _ in 0..count {
+        codec.encode(&mut black_box(payload), dst)?;
+    }
+    Ok(summary(dst))
+}
+
+// A stream appended in pieces and decoded, once.
+fn decode_once(
+    codec: &mut PacketCodec,
+    stream: &[u8],
+    piece: usize,
+    src: &mut BytesMut,
+    dst: &mut Vec<u8>,
+) -> Result<u64, Error> {
+    let mut sum = 0u64;
+    codec.reset_seq_id();
+    for part in stream.chunks(piece) {
+        src.extend_from_slice(black_box(part));
+        while codec.decode(src, dst)? {
+            sum = sum.wrapping_add(summary(dst));
+            dst.clear();
+        }
+    }
+    Ok(sum)
+}
+
+// So many times over; what was refused is answered as a number that no work has.
+fn repeated(reps: u64, mut once: impl FnMut() -> Result<u64, Error>) -> u64 {
+    let sums: Result<Vec<u64>, Error> = (0..reps).map(|_| once()).collect();
+    sums.map_or(u64::MAX, |sums| sums.into_iter().fold(0, u64::wrapping_add))
+}
+
+fn encode_row(rows: &mut Vec<Row>, size: usize) {
+    let payload = Numbers::new(size as u64 * 31 + 1).bytes(size);
+    let count = count_for(size);
+    let (mut framed, mut id) = (Vec::new(), 0);
+    for _ in 0..count {
+        id = framing(id, &payload, &mut framed);
+    }
+    let (beside, plain) = (payload.clone(), payload.clone());
+    rows.push(Row {
+        name: format!("cargo: encode {}, of encode", size_name(size)),
+        items: count as u64,
+        bytes: (size * count) as u64,
+        call: Box::new(move |reps| {
+            let (mut codec, mut dst) = (codec(size), BytesMut::new());
+            repeated(reps, || frame_once(&mut codec, &payload, count, &mut dst))
+        }),
+        want: summary(&framed),
+        copy: Box::new(move |reps| library::frame(&beside, count as u64, 1, reps)),
+        rust: in_rust!(move |reps| in_rust::frame(&plain, count as u64, true, reps)),
+    });
+}
+
+fn decode_row(rows: &mut Vec<Row>, size: usize, piece: usize) {
+    let count = count_for(size);
+    let (stream, want) = stream_of(size as u64 * 37 + piece as u64, size);
+    let (beside, plain) = (stream.clone(), stream.clone());
+    let by = if piece == 0 { String::new() } else { format!(" by {}", size_name(piece)) };
+    let step = if piece == 0 { stream.len() } else { piece };
+    rows.push(Row {
+        name: format!("cargo: decode {}{by}, of decode", size_name(size)),
+        items: count as u64,
+        bytes: (size * count) as u64,
+        call: Box::new(move |reps| {
+            let (mut codec, mut src, mut dst) = (codec(size), BytesMut::new(), Vec::new());
+            repeated(reps, || decode_once(&mut codec, &stream, step, &mut src, &mut dst))
+        }),
+        want,
+        copy: Box::new(move |reps| library::decode(&beside, piece as u64, size as u64, false, reps)),
+        rust: in_rust!(move |reps| in_rust::decode(&plain, step, size, false, reps)),
+    });
+}
+
+pub fn rows(rows: &mut Vec<Row>) {
+    for size in SIZES {
+        encode_row(rows, size);
+        decode_row(rows, size, 0);
+        decode_row(rows, size, 8 << 10);
+    }
+}
