@@ -4,3 +4,4 @@ pub mod UnframeLemmas
 pub mod NumberLemmas
 pub mod ArgumentLemmas
 pub mod ReframeLemmas
+pub mod PacketLineLemmas

@@ -1,5 +1,5 @@
 -- One read after another.
-use Rattle.std.proofs.Common.{◌≡◌, ◌⊎◌, ◌+◌, ◌-◌, ◌<◌, ◌≤◌, ℕ, List, [], ◌∷◌, ◌++◌, ◌∙◌, All, Option, Some, None, IfSome, length, take, take_all, refl, sym, ap, subst, arith, inl, inr, append_assoc, append-nil}
+use Rattle.std.proofs.Common.{◌≡◌, ◌⊎◌, ◌+◌, ◌-◌, ◌<◌, ◌≤◌, ℕ, List, [], ◌∷◌, ◌++◌, ◌∙◌, All, Option, Some, None, IfSome, length, take, refl, sym, ap, subst, arith, inl, inr, append_assoc, append-nil}
 use Rattle.std.proofs.lemmas.Bool.{cases_lt}
 use Rattle.std.proofs.lemmas.List.{take-append-le, take_at, length-append}
 use Rattle.std.proofs.lemmas.List.Elements.{All-nil, All-cons}

@@ -5,3 +5,4 @@ pub mod Status
 pub mod Texts
 pub mod Unframe
 pub mod Arguments
+pub mod PacketLines

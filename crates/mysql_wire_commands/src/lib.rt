@@ -8,6 +8,7 @@ mod input;
 mod lines;
 pub mod noted_read;
 mod output;
+mod packet_lines;
 pub mod reframe;
 pub mod status;
 mod std_readers;

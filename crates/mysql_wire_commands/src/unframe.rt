@@ -5,9 +5,10 @@ ghost use Rattle.mysql_wire_commands.specs.declared.unframe.Verdict.TheVariants.
 ghost use Rattle.wire_codec.specs.Runs.{payloads};
 
 use crate::input::read_piece;
-use crate::lines::{push_payload, push_rest};
+use crate::lines::push_rest;
 use crate::noted_read::NotedRead;
 use crate::output::write_whole;
+use crate::packet_lines::write_packets;
 use crate::status::{Stop, exit_status};
 use bytes::BytesMut;
 use std::alloc::{AllocError, Allocator};
@@ -35,6 +36,8 @@ struct Run<A: Allocator + Copy> {
     src: BytesMut<A>,
     dst: Vec<u8, A>,
     packets: Vec<Vec<u8, A>, A>,
+    // Lines that are not yet written.
+    text: Vec<u8, A>,
     // The limit of so many bytes more, and that of those behind them.
     limit: usize,
     ahead: usize,
@@ -53,6 +56,7 @@ impl<A: Allocator + Copy> Run<A> {
             src: BytesMut::new(alloc),
             dst: Vec::new(alloc),
             packets: Vec::new(alloc),
+            text: Vec::new(alloc),
             limit,
             ahead: at,
             later,
@@ -129,20 +133,6 @@ impl<A: Allocator + Copy> Run<A> {
 
 ghost use Rattle.mysql_wire_commands.specs.Unframe.{packet_lines, verdict_line};
 
-// Appends a line for each packet.
-fn push_packets<A: Allocator + Copy>(
-    text: &mut String<A>,
-    packets: &[Vec<u8, A>],
-) -> Result<(), AllocError>
-    ensures { OnOk result (string_bytes text.new
-        ≡ string_bytes text.old ++ packet_lines (payloads packets.now)) }
-{
-    for packet in packets {
-        push_payload(text, packet.as_slice())?;
-    }
-    Ok(())
-}
-
 // The line that says why packets stop, where they do.
 fn verdict_text(verdict: Verdict) -> &'static str
     ensures { result.now ≡ verdict_line verdict }
@@ -154,21 +144,6 @@ fn verdict_text(verdict: Verdict) -> &'static str
     }
 }
 
-// The lines for one piece.
-fn piece_text<A: Allocator + Copy>(
-    alloc: A,
-    packets: &[Vec<u8, A>],
-    verdict: Verdict,
-) -> Result<String<A>, AllocError>
-    ensures { IfOk result (λ text. string_bytes text
-        ≡ packet_lines (payloads packets.now) ++ verdict_line verdict) }
-{
-    let mut text = String::new(alloc);
-    push_packets(&mut text, packets)?;
-    text.push_str(verdict_text(verdict))?;
-    Ok(text)
-}
-
 ghost use Rattle.mysql_wire_commands.specs.Unframe.{StartsRun, StopsOver, TakesPiece, UnframeEnds, UnframeEndsOver, UnframeLimitedEnds, bytes_left, ending_line, ending_status, next_limit, place_limits, run_state};
 ghost use Rattle.mysql_wire_commands.specs.Reads.{AsksStep, AsksUpTo, ReadsWhile};
 ghost use Rattle.std.specs.Io.KnownBytes.{Appends};
@@ -178,7 +153,6 @@ ghost use Rattle.wire_codec.specs.Runs.{WaitsFrom};
 
 // Takes the packets of one more piece, which comes under one limit, and writes their lines.
 fn take_piece<A: Allocator + Copy, W: Write>(
-    alloc: A,
     run: &mut Run<A>,
     piece: &[u8],
     output: &mut W,
@@ -195,8 +169,11 @@ fn take_piece<A: Allocator + Copy, W: Write>(
     ensures later { run.new.later ≡ run.old.later }
 {
     let verdict = run.take(piece)?;
-    let text = piece_text(alloc, run.packets.as_slice(), verdict)?;
-    write_whole(output, text.as_bytes())?;
+    run.text.clear();
+    write_packets(&mut run.text, run.packets.as_slice(), output)?;
+    run.text
+        .extend_from_slice(verdict_text(verdict).as_bytes())?;
+    write_whole(output, run.text.as_slice())?;
     Ok(verdict)
 }
 
@@ -293,7 +270,7 @@ fn take_pieces<A: Allocator + Copy, R: NotedRead, W: Write>(
         if count == 0 {
             return write_rest(alloc, run, output);
         }
-        match take_piece(alloc, run, &piece[..count], output)? {
+        match take_piece(run, &piece[..count], output)? {
             Verdict::Waits => {}
             Verdict::TooLarge => return Ok(4),
             Verdict::OutOfSync => return Ok(5),

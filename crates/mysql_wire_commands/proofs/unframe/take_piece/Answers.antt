@@ -2,6 +2,7 @@ use Rattle.std.proofs.Common.{ℕ, List, ◌++◌, ap, subst, ◌∙◌}
 use Rattle.std.specs.Io.KnownBytes.{Appends}
 use Rattle.wire_codec.specs.Runs.{payloads}
 use Rattle.mysql_wire_commands.specs.Unframe.{packet_lines, verdict_line}
+use Rattle.mysql_wire_commands.proofs.PacketLineLemmas.{all_written}
 use Rattle.mysql_wire_commands.proofs.unframe.take_piece.Goals as goal
 
 pub returns-clause-takes : goal.returns-clause-takes
@@ -9,6 +10,9 @@ returns-clause-takes g c = (
   payloads c.take.new.self.packets.items,
   c.in_ok-verdict.ensures.takes,
   subst (λ (z : List ℕ). Appends (g.W.Write.contents c.args.output.now) (g.W.Write.contents c.write_whole.new.output) z)
-      (c.as_bytes.ensures.value ∙ c.in_ok-text.ensures ∙ ap (λ z. packet_lines (payloads z) ++ verdict_line c.in_ok-verdict.verdict) c.as_slice.ensures.value)
-      c.in_ok-write_whole.ensures,
+      (ap (λ z. packet_lines (payloads z) ++ verdict_line c.in_ok-verdict.verdict) c.as_slice.ensures.value)
+      (all_written _ _ _ (verdict_line c.in_ok-verdict.verdict) _ _ _ _ c.clear.ensures.items c.in_ok-write_packets.ensures
+      (c.as_slice-2.ensures.value ∙ c.in_ok-extend_from_slice.ensures.items
+      ∙ ap (λ (z : List ℕ). c.write_packets.new.text.items ++ z) (c.as_bytes.ensures.value ∙ c.verdict_text.ensures))
+      c.in_ok-write_whole.ensures),
 )

@@ -1,0 +1,101 @@
+-- Lines that are written in parts.
+use Rattle.std.proofs.Common.{arith, ◌≡◌, ◌+◌, ◌<◌, ℕ, List, [], ◌∷◌, ◌++◌, length, take, get_or, Option, Vec, refl, sym, ap, subst, ◌∙◌, append-nil, append_assoc}
+use Rattle.std.proofs.Math.Numerals.{add-one}
+use Rattle.std.proofs.Math.Seq.{take-suc}
+use Rattle.std.proofs.lemmas.Grind.{flat_map-append}
+use Rattle.std.proofs.lemmas.List.{map-append}
+use Rattle.wire_codec.specs.Runs.{payloads}
+use Rattle.mysql_wire_commands.specs.Unframe.{packet_lines}
+use Rattle.std.proofs.KnownBytes.{Appends-nil, Appends-trans}
+use Rattle.std.specs.Io.KnownBytes.{Appends}
+use Rattle.std.specs.Fmt.{decimal}
+use Rattle.std.specs.Prelude.{codes, slice_index, ◌/◌, ◌%◌}
+use Rattle.hex.specs.Hex.{encode_lower, encode_with, lower_digits}
+use Rattle.mysql_wire_commands.specs.PacketLines.{Goes}
+use Rattle.mysql_wire_commands.specs.Texts.{hex_or_dash, payload_line}
+
+-- one part behind the other
+pub goes_on : (held text middle more left : List ℕ) (before between after : Option (List ℕ)) → Goes held text middle before between → Goes middle more left between after
+    → Goes held (text ++ more) left before after
+goes_on held text middle more left before between after first second = (
+  first.0 ++ second.0,
+  Appends-trans _ _ _ first.0 second.0 first.1 second.1,
+  append_assoc first.0 second.0 left ∙ ap (λ (z : List ℕ). first.0 ++ z) second.2 ∙ sym (append_assoc first.0 middle more)
+      ∙ ap (λ (z : List ℕ). z ++ more) first.2 ∙ append_assoc held text more,
+)
+
+-- a part that is only held
+pub goes_held : (held text left : List ℕ) (written : Option (List ℕ)) → left ≡ held ++ text → Goes held text left written written
+goes_held held text left written is = ([], Appends-nil written, is)
+
+-- the digits of one part behind those of another
+pub digits_more : (table first second : List ℕ) → encode_with table (first ++ second) ≡ encode_with table first ++ encode_with table second
+unfolding encode_with
+digits_more table [] second = refl
+digits_more table (b ∷ rest) second = ap (λ (z : List ℕ). slice_index table (b / 16) ∷ slice_index table (b % 16) ∷ z) (digits_more table rest second)
+
+no_digits : encode_lower [] ≡ []
+unfolding encode_with
+no_digits = refl
+
+pub digits_begin : (held : List ℕ) (written : Option (List ℕ)) → Goes held (encode_lower []) held written written
+digits_begin held written = goes_held held (encode_lower []) held written (sym (ap (λ (z : List ℕ). held ++ z) no_digits ∙ append-nil held))
+
+-- the digits of some bytes more, of which some may have been written
+pub digits_on : (held done bytes text pushed left : List ℕ) (before between after : Option (List ℕ)) → Goes held (encode_lower done) text before between
+    → pushed ≡ text ++ encode_lower bytes → Goes pushed [] left between after → Goes held (encode_lower (done ++ bytes)) left before after
+digits_on held done bytes text pushed left before between after so_far is goes =
+    let more = goes_on held (encode_lower done) text (encode_lower bytes) pushed before between between so_far (goes_held text (encode_lower bytes) pushed between is) in
+    subst (λ (z : List ℕ). Goes held z left before after)
+    (append-nil (encode_lower done ++ encode_lower bytes) ∙ sym (digits_more lower_digits done bytes))
+    (goes_on held (encode_lower done ++ encode_lower bytes) pushed [] left before between after more goes)
+
+-- the line of a packet, part by part
+pub line_goes : (held count mark payload one two three four : List ℕ) (before after : Option (List ℕ)) → one ≡ held ++ count → two ≡ one ++ mark
+    → Goes two (encode_lower payload) three before after → four ≡ three ++ codes "\n" → count ≡ decimal (length payload)
+    → mark ++ encode_lower payload ≡ codes " " ++ hex_or_dash payload → Goes held (payload_line payload) four before after
+line_goes held count mark payload one two three four before after one_is two_is goes four_is count_is mark_is =
+    let digits : List ℕ = encode_lower payload in (
+      goes.0,
+      goes.1,
+      ap (λ (z : List ℕ). goes.0 ++ z) four_is ∙ sym (append_assoc goes.0 three (codes "\n")) ∙ ap (λ (z : List ℕ). z ++ codes "\n") goes.2
+          ∙ ap (λ (z : List ℕ). (z ++ digits) ++ codes "\n") (two_is ∙ ap (λ (z : List ℕ). z ++ mark) one_is)
+          ∙ ap (λ (z : List ℕ). z ++ codes "\n") (append_assoc (held ++ count) mark digits)
+          ∙ ap (λ (z : List ℕ). ((held ++ count) ++ z) ++ codes "\n") mark_is
+          ∙ ap (λ (z : List ℕ). z ++ codes "\n") (append_assoc held count (codes " " ++ hex_or_dash payload))
+          ∙ ap (λ (z : List ℕ). (held ++ z) ++ codes "\n") (sym (append_assoc count (codes " ") (hex_or_dash payload)))
+          ∙ append_assoc held ((count ++ codes " ") ++ hex_or_dash payload) (codes "\n")
+          ∙ ap (λ (z : List ℕ). held ++ (((z ++ codes " ") ++ hex_or_dash payload) ++ codes "\n")) count_is,
+    )
+
+-- a dash, where there are no digits
+pub dash_alone : (payload : List ℕ) → length payload ≡ 0 → codes " -" ++ encode_lower payload ≡ codes " " ++ hex_or_dash payload
+unfolding encode_with
+dash_alone [] is = refl
+dash_alone (b ∷ rest) is = absurd (omega (arith, is))
+
+-- the lines of one packet more
+lines_more : {A : Type 0} (packets : List (Vec ℕ A)) (i : ℕ) (packet : Vec ℕ A) → packet ≡ get_or packets i packet → i < length packets
+    → packet_lines (payloads (take (i + 1) packets)) ≡ packet_lines (payloads (take i packets)) ++ payload_line packet.items
+lines_more packets i packet is inside =
+    ap (λ (n : ℕ). packet_lines (payloads (take n packets))) (add-one i) ∙ ap (λ z. packet_lines (payloads z)) (take-suc packets i packet inside)
+    ∙ ap (λ z. packet_lines (payloads (take i packets ++ z ∷ []))) (sym is) ∙ ap packet_lines (map-append (λ p. p.items) (take i packets) (packet ∷ []))
+    ∙ flat_map-append payload_line (payloads (take i packets)) (packet.items ∷ [])
+    ∙ ap (λ (z : List ℕ). packet_lines (payloads (take i packets)) ++ z) (append-nil (payload_line packet.items))
+
+pub packets_on : {A : Type 0} (packets : List (Vec ℕ A)) (i : ℕ) (packet : Vec ℕ A) (held shown text left : List ℕ) (before between after : Option (List ℕ))
+    → packet ≡ get_or packets i packet → i < length packets → shown ≡ packet.items → Goes held (packet_lines (payloads (take i packets))) text before between
+    → Goes text (payload_line shown) left between after → Goes held (packet_lines (payloads (take (i + 1) packets))) left before after
+packets_on packets i packet held shown text left before between after is inside same so_far goes =
+    let lines : List ℕ = packet_lines (payloads (take i packets)) in
+    subst (λ (z : List ℕ). Goes held z left before after)
+    (ap (λ (z : List ℕ). lines ++ payload_line z) same ∙ sym (lines_more packets i packet is inside))
+    (goes_on held lines text (payload_line shown) left before between after so_far goes)
+
+-- nothing was held, and all of it is written
+pub all_written : (held text left line shown : List ℕ) (before between after : Option (List ℕ)) → held ≡ [] → Goes held text left before between → shown ≡ left ++ line
+    → Appends between after shown → Appends before after (text ++ line)
+all_written held text left line shown before between after empty goes is written =
+    subst (λ (z : List ℕ). Appends before after z)
+    (ap (λ (z : List ℕ). goes.0 ++ z) is ∙ sym (append_assoc goes.0 left line) ∙ ap (λ (z : List ℕ). z ++ line) (goes.2 ∙ ap (λ (z : List ℕ). z ++ text) empty))
+    (Appends-trans _ _ _ goes.0 shown goes.1 written)

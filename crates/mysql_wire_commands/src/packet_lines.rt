@@ -1,0 +1,102 @@
+//! The lines of packets, written as they are made: a text holds no more than some bytes of a packet
+//! at a time.
+
+ghost use Rattle.std.specs.Prelude.{◌≡◌, ◌≤◌, ◌++◌, [], codes, length, OnOk};
+ghost use Rattle.hex.specs.Hex.{encode_lower};
+ghost use Rattle.mysql_wire_commands.specs.PacketLines.{Goes};
+ghost use Rattle.mysql_wire_commands.specs.Texts.{hex_or_dash, payload_line};
+ghost use Rattle.mysql_wire_commands.specs.Unframe.{packet_lines};
+ghost use Rattle.wire_codec.specs.Runs.{payloads};
+
+use crate::status::Stop;
+use itoa::Buffer;
+use std::alloc::{AllocError, Allocator};
+use std::io;
+use std::io::Write;
+
+// How many bytes become digits at once.
+const BYTES_AT_ONCE: usize = 4096;
+
+// How many bytes of text are written at once, at least.
+const TEXT_AT_ONCE: usize = 32768;
+
+// Appends the digits of some bytes.
+fn push_digits<A: Allocator>(text: &mut Vec<u8, A>, bytes: &[u8]) -> Result<(), AllocError>
+    requires { length bytes.now ≤ 4096 }
+    ensures { OnOk result (text.new.items ≡ text.old.items ++ encode_lower bytes.now) }
+{
+    let start = text.len();
+    text.resize(start + 2 * bytes.len(), 0)?;
+    let _ = hex::encode_to_slice(bytes, &mut text.as_mut_slice()[start..]);
+    Ok(())
+}
+
+// Writes the text, where it is long.
+fn write_long<A: Allocator, W: Write>(text: &mut Vec<u8, A>, output: &mut W) -> io::Result<()>
+    ensures { OnOk result (Goes text.old.items [] text.new.items
+        (W.contents output.old) (W.contents output.new)) }
+{
+    if text.len() >= TEXT_AT_ONCE {
+        output.write_all(text.as_slice())?;
+        text.clear();
+    }
+    Ok(())
+}
+
+// The digits of a payload.
+fn write_digits<A: Allocator, W: Write>(
+    text: &mut Vec<u8, A>,
+    payload: &[u8],
+    output: &mut W,
+) -> Result<(), Stop>
+    ensures { OnOk result (Goes text.old.items (encode_lower payload.now) text.new.items
+        (W.contents output.old) (W.contents output.new)) }
+{
+    let mut rest = payload;
+    while !rest.is_empty() {
+        let (bytes, behind) = rest.split_at(rest.len().min(BYTES_AT_ONCE));
+        push_digits(text, bytes)?;
+        write_long(text, output)?;
+        rest = behind;
+    }
+    Ok(())
+}
+
+// What stands between the count and the digits: where there are none, a dash does in their place.
+fn separator(payload: &[u8]) -> &'static [u8]
+    ensures { result.now ++ encode_lower payload.now ≡ codes " " ++ hex_or_dash payload.now }
+{
+    if payload.is_empty() { b" -" } else { b" " }
+}
+
+// The line of a packet.
+fn write_packet<A: Allocator, W: Write>(
+    text: &mut Vec<u8, A>,
+    payload: &[u8],
+    output: &mut W,
+) -> Result<(), Stop>
+    ensures { OnOk result (Goes text.old.items (payload_line payload.now) text.new.items
+        (W.contents output.old) (W.contents output.new)) }
+{
+    let mut buffer = Buffer::new();
+    text.extend_from_slice(buffer.format(payload.len()).as_bytes())?;
+    text.extend_from_slice(separator(payload))?;
+    write_digits(text, payload, output)?;
+    text.extend_from_slice(b"\n")?;
+    Ok(())
+}
+
+/// Writes a line for each packet. What is not yet written stands in `text`, behind what stood there.
+pub fn write_packets<A: Allocator + Copy, W: Write>(
+    text: &mut Vec<u8, A>,
+    packets: &[Vec<u8, A>],
+    output: &mut W,
+) -> Result<(), Stop>
+    ensures { OnOk result (Goes text.old.items (packet_lines (payloads packets.now))
+        text.new.items (W.contents output.old) (W.contents output.new)) }
+{
+    for packet in packets {
+        write_packet(text, packet.as_slice(), output)?;
+    }
+    Ok(())
+}
