@@ -360,3 +360,40 @@ pub fn eat_lenenc(bytes: &[u8], reps: u64) -> u64 {
         Some(sum)
     })
 }
+
+fn ok_fields(buf: &mut ParseBuf<'_>) -> Option<u64> {
+    if buf.checked_eat(1)? != [0] {
+        return None;
+    }
+    let counts = buf.lenenc_int()?.wrapping_add(buf.lenenc_int()?);
+    let flags = buf.number(2)?.wrapping_add(buf.number(2)?);
+    Some(counts.wrapping_add(flags).wrapping_add(summary(buf.lenenc_str()?)))
+}
+
+/// `OK_Packet`s with words, one after another.
+pub fn ok(bytes: &[u8], reps: u64) -> u64 {
+    sum_of(reps, || {
+        let mut buf = ParseBuf(black_box(bytes));
+        let mut sum = 0u64;
+        while !buf.0.is_empty() {
+            sum = sum.wrapping_add(ok_fields(&mut buf)?);
+        }
+        Some(sum)
+    })
+}
+
+/// Values of rows, one after another, where `fb` is NULL.
+pub fn values(bytes: &[u8], reps: u64) -> u64 {
+    sum_of(reps, || {
+        let mut buf = ParseBuf(black_box(bytes));
+        let mut sum = 0u64;
+        while let Some(first) = buf.0.first() {
+            let value = match first {
+                0xfb => u64::from(buf.eat(1) == [0xfb]),
+                _ => summary(buf.lenenc_str()?),
+            };
+            sum = sum.wrapping_add(value);
+        }
+        Some(sum)
+    })
+}

@@ -18,6 +18,8 @@ unsafe extern "C" {
     fn mw_null(ptr: *const u8, len: usize, form: u64, reps: u64) -> u64;
     fn mw_put_lenenc(ptr: *const u8, len: usize, form: u64, reps: u64) -> u64;
     fn mw_eat_lenenc(ptr: *const u8, len: usize, reps: u64) -> u64;
+    fn mw_ok(ptr: *const u8, len: usize, form: u64, reps: u64) -> u64;
+    fn mw_values(ptr: *const u8, len: usize, form: u64, reps: u64) -> u64;
     fn mw_coldef(ptr: *const u8, len: usize, reps: u64) -> u64;
     fn mw_coldef_by_hand(ptr: *const u8, len: usize, reps: u64) -> u64;
     fn mw_coldef_copy(ptr: *const u8, len: usize, form: u64, reps: u64) -> u64;
@@ -120,4 +122,14 @@ pub fn coldef_by_hand(bytes: &[u8], reps: u64) -> u64 {
 /// The same read and written again, form 0 by `parse` and `serialize`, form 1 each part by hand.
 pub fn coldef_copy(bytes: &[u8], form: u64, reps: u64) -> u64 {
     unsafe { mw_coldef_copy(bytes.as_ptr(), bytes.len(), form, reps) }
+}
+
+/// `OK_Packet`s one after another, form 0 by `OkPacket`, form 1 field by field.
+pub fn ok(bytes: &[u8], form: u64, reps: u64) -> u64 {
+    unsafe { mw_ok(bytes.as_ptr(), bytes.len(), form, reps) }
+}
+
+/// Values of rows one after another, form 0 by `TextValue`, form 1 by hand.
+pub fn values(bytes: &[u8], form: u64, reps: u64) -> u64 {
+    unsafe { mw_values(bytes.as_ptr(), bytes.len(), form, reps) }
 }

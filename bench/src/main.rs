@@ -42,6 +42,7 @@ mod spans;
 mod streams;
 mod summary;
 mod timing;
+mod typed;
 
 use crate::summary::Run;
 use std::env;
@@ -71,6 +72,7 @@ fn measure_rows(word: &str, run: &mut Run) -> bool {
     streams::rows(&mut rows);
     fields::rows(&mut rows);
     columns::rows(&mut rows);
+    typed::rows(&mut rows);
     connections::rows(&mut rows);
     #[cfg(with_bytes)]
     cargo_crate::rows(&mut rows);

@@ -331,6 +331,8 @@ class Ends(ProxyTests):
         self.assertTrue(proxy.logged("ends with 1 client$"))
 
     def test_sigint(self):
+        # Where a shell runs this in the background it is ignored, and that is inherited.
+        signal.signal(signal.SIGINT, signal.default_int_handler)
         proxy = self.proxy()
         self.logged_in(proxy)
         proxy.process.send_signal(signal.SIGINT)

@@ -10,3 +10,4 @@ mod in_place;
 mod packets;
 mod spans;
 mod streams;
+mod typed;
