@@ -69,14 +69,21 @@ impl PacketCodec {
         T: AsRef<[u8]> + BufMut,
     {
         let connection = self.connection()?;
+        let bytes = src.as_ptr_range();
         let (used, answer) = connection.decode(src);
-        let answer = answer.map(|packet| packet.map(|packet| dst.put_slice(packet)).is_some());
+        let taken_from_src = answer.map(|packet| {
+            packet.map(|packet| {
+                dst.put_slice(packet);
+                bytes.contains(&packet.as_ptr())
+            })
+        });
         src.advance(used);
-        if answer == Ok(true) {
-            // It was copied. One that lay in `src` is not there to be taken.
+        if taken_from_src == Ok(Some(false)) {
+            // It was put together by the connection, and copied to `dst`. Where it is empty it may
+            // have lain at the end of `src`, and then there is none to take.
             let _ = connection.take();
         }
-        answer
+        taken_from_src.map(|packet| packet.is_some())
     }
 
     /// Frames a packet behind what `dst` holds, and empties it. After a refusal nothing has changed.
