@@ -27,13 +27,13 @@ const SIZES: [usize; 12] = [
 ];
 const PIECE: usize = 64 << 10;
 
-// Each line's name and color.
-const LINES: [(&str, &str); 5] = [
-    ("plain copy", "#999999"),
-    ("mysql_common", "#d55e00"),
-    ("decode", "#0072b2"),
-    ("in place", "#009e73"),
-    ("in spans", "#cc79a7"),
+// Each line's name and color, and how far its name stands below its end.
+const LINES: [(&str, &str, f64); 5] = [
+    ("plain copy", "#999999", 4.0),
+    ("mysql_common", "#d55e00", -1.0),
+    ("decode", "#0072b2", 8.0),
+    ("in place", "#009e73", 4.0),
+    ("in spans", "#cc79a7", 4.0),
 ];
 
 // The picture, and its part in which lines are drawn.
@@ -119,7 +119,13 @@ fn axes(svg: &mut String) -> std::fmt::Result {
     )
 }
 
-fn line(svg: &mut String, name: &str, color: &str, points: &[(f64, f64)]) -> std::fmt::Result {
+fn line(
+    svg: &mut String,
+    name: &str,
+    color: &str,
+    label: f64,
+    points: &[(f64, f64)],
+) -> std::fmt::Result {
     let Some((x, y)) = points.last() else { return Ok(()) };
     let path: Vec<String> = points.iter().map(|(x, y)| format!("{x:.1} {y:.1}")).collect();
     writeln!(
@@ -127,7 +133,7 @@ fn line(svg: &mut String, name: &str, color: &str, points: &[(f64, f64)]) -> std
         r#"<path d="M{}" fill="none" stroke="{color}" stroke-width="2"/>"#,
         path.join("L")
     )?;
-    writeln!(svg, r#"<text x="{:.1}" y="{:.1}" fill="{color}">{name}</text>"#, x + 8.0, y + 4.0)
+    writeln!(svg, r#"<text x="{:.1}" y="{:.1}" fill="{color}">{name}</text>"#, x + 8.0, y + label)
 }
 
 /// Measures all, and writes the picture as SVG.
@@ -140,14 +146,14 @@ pub fn draw(path: &str) -> Result<(), Box<dyn Error>> {
     )?;
     writeln!(svg, r#"<rect width="{WIDTH}" height="{HEIGHT}" fill="white"/>"#)?;
     axes(&mut svg)?;
-    for (at, (name, color)) in LINES.into_iter().enumerate() {
+    for (at, (name, color, label)) in LINES.into_iter().enumerate() {
         let points: Vec<(f64, f64)> = SIZES
             .into_iter()
             .zip(&times)
             .filter(|(_, times)| times[at].is_finite())
             .map(|(size, times)| (across(size), down(times[at])))
             .collect();
-        line(&mut svg, name, color, &points)?;
+        line(&mut svg, name, color, label, &points)?;
     }
     svg.push_str("</svg>\n");
     fs::write(path, svg)?;
