@@ -1,5 +1,5 @@
 -- What is read is written again as the bytes that were eaten.
-use Rattle.std.specs.Prelude.{ℕ, ◌≡◌, ◌<◌, ◌≤◌, ◌+◌, ◌*◌, ◌≢◌, Bool, true, false, not, slice_index, List, [], ◌∷◌, ◌++◌, length, take, drop, Some, Result, Ok, Err}
+use Rattle.std.specs.Prelude.{ℕ, ◌≡◌, ◌<◌, ◌≤◌, ◌+◌, ◌*◌, ◌/◌, ◌≢◌, Bool, true, false, not, slice_index, List, [], ◌∷◌, ◌++◌, length, take, drop, Option, Some, None, Result, Ok}
 use Rattle.std.proofs.Common.{zero, suc, refl, sym, ap, subst, ◌∙◌, inl, inr, arith}
 use Rattle.std.proofs.lemmas.List.{append_assoc, get_or-drop, length-append, length-drop, length-take-le, take_all, take_at}
 use Rattle.std.proofs.lemmas.Bool.{eqb-true}
@@ -10,7 +10,9 @@ use Rattle.std.specs.List.{before_first, position_or_len}
 use Rattle.std.specs.declared.borrow.CowSlice.{CowSlice}
 use Rattle.std.specs.declared.borrow.CowSlice.TheVariants.{Borrowed, Owned}
 use Rattle.mysql_wire.specs.Both.{Both}
-use Rattle.mysql_wire.specs.Constants.{ReadsConst}
+use Rattle.mysql_wire.specs.Constants.{ReadsAny, ReadsConst}
+use Rattle.mysql_wire.specs.Either.{Either}
+use Rattle.mysql_wire.specs.Either.TheVariants.{Left, Right}
 use Rattle.mysql_wire.specs.Law.{ReadsFixed}
 use Rattle.mysql_wire.specs.NullText.{is_zero}
 use Rattle.mysql_wire.specs.NullTexts.{HasNoZero, ReadsNull}
@@ -18,9 +20,10 @@ use Rattle.mysql_wire.specs.Numbers.{IsBytes, le_bytes, le_number}
 use Rattle.mysql_wire.specs.NumberLemmas.{IsBytes-cons, IsBytes-nil, le_bytes-le_number}
 use Rattle.mysql_wire.specs.RawTexts.{Borrows}
 use Rattle.mysql_wire.specs.Reading.{Answers, Parses, Through}
-use Rattle.mysql_wire.specs.Rows.{ReadsBoth}
+use Rattle.mysql_wire.specs.Rows.{ReadsBoth, ReadsEither}
 use Rattle.mysql_wire.specs.Spelled.{Leaves}
 use Rattle.mysql_wire.specs.WireError.{WireError}
+use Rattle.mysql_wire_packets.specs.Optional.{bytes_if, field}
 
 -- of an input of bytes, what is read is written as just the bytes that were eaten
 pub record Again {X : Type 0} (reads : List ℕ → Result X WireError → ℕ → Type 0)
@@ -30,17 +33,17 @@ pub record Again {X : Type 0} (reads : List ℕ → Result X WireError → ℕ �
 
 -- ---- lemmas
 
-IsBytes-drop : (count : ℕ) (bytes : List ℕ) → IsBytes bytes → IsBytes (drop count bytes)
+pub IsBytes-drop : (count : ℕ) (bytes : List ℕ) → IsBytes bytes → IsBytes (drop count bytes)
 IsBytes-drop count bytes is = λ i.
     subst (λ byte. byte < 256) (sym (get_or-drop count bytes i 0)) (is (count + i))
 
-IsBytes-take : (count : ℕ) (bytes : List ℕ) → IsBytes bytes → IsBytes (take count bytes)
+pub IsBytes-take : (count : ℕ) (bytes : List ℕ) → IsBytes bytes → IsBytes (take count bytes)
 IsBytes-take zero bytes is = IsBytes-nil
 IsBytes-take (suc count) [] is = IsBytes-nil
 IsBytes-take (suc count) (byte ∷ bytes) is =
     IsBytes-cons byte (take count bytes) (is 0) (IsBytes-take count bytes (λ i. is (suc i)))
 
-take_twice : (count : ℕ) (bytes : List ℕ) → count ≤ length bytes
+pub take_twice : (count : ℕ) (bytes : List ℕ) → count ≤ length bytes
     → take count (take count bytes) ≡ take count bytes
 take_twice count bytes there =
     take_all count (take count bytes) (omega (arith, length-take-le count bytes there))
@@ -188,3 +191,77 @@ pub byte_again : {Y : Type 0} (part : Y → ℕ)
     → Again (Parses (Some 1) (λ input. Through part (ReadsFixed 1 le_number input)))
     (λ y. part y ∷ [])
 byte_again part = record { law = byte_law part }
+
+upper_law : {Y : Type 0} (part : Y → ℕ) (input : List ℕ) → IsBytes input → (y : Y) (eaten : ℕ)
+    → Parses (Some 2) (λ input. Through part (ReadsFixed 2 (λ bytes. 65536 * le_number bytes)
+    input)) input (Ok y) eaten
+    → le_bytes 2 (part y / 65536) ≡ take eaten input
+upper_law part input is y eaten (inl (_, failed, _)) = absurd (cc failed)
+upper_law part input is y eaten (inr (there, all, looked_at, (answered, _))) =
+    let front = take 2 input in
+    let number : part y ≡ 65536 * le_number (take 2 front) = cc answered in
+    let half : part y / 65536 ≡ le_number front =
+    omega (arith, number, ap le_number (take_twice 2 input there)) in
+    let len : length front ≡ 2 = length-take-le 2 input there in
+    let back : le_bytes (length front) (le_number front) ≡ front =
+    le_bytes-le_number front (IsBytes-take 2 input is) in
+    let told : le_bytes 2 (le_number front) ≡ front =
+    subst (λ n. le_bytes n (le_number front) ≡ front) len back in
+    ap (le_bytes 2) half ∙ told ∙ ap (λ n. take n input) (sym all)
+
+-- the upper half of a number
+pub upper_again : {Y : Type 0} (part : Y → ℕ)
+    → Again (Parses (Some 2) (λ input. Through part (ReadsFixed 2
+    (λ bytes. 65536 * le_number bytes) input)))
+    (λ y. le_bytes 2 (part y / 65536))
+upper_again part = record { law = upper_law part }
+
+-- fields of a value, one after another
+pub both_again_of : {Y : Type 0} {reads_a reads_b : List ℕ → Result Y WireError → ℕ → Type 0}
+    {bytes_a bytes_b : Y → List ℕ} → Again reads_a bytes_a → Again reads_b bytes_b
+    → Again (ReadsBoth {A = Y} {B = Y} {Y = Y} (λ y. y) (λ y. y) reads_a reads_b)
+    (λ y. bytes_a y ++ bytes_b y)
+both_again_of {bytes_b = bytes_b} again_a again_b = record {
+  law = λ input is y eaten read.
+      (let (taken, after, fits, read_a, read_b, all) = read in
+      let front = again_a.law input is y taken read_a in
+      let more = again_b.law (drop taken input) (IsBytes-drop taken input is) y after read_b in
+      ap (λ bytes. bytes ++ bytes_b y) front ∙ ap (λ bytes. take taken input ++ bytes) more
+      ∙ sym (take-add taken after input) ∙ ap (λ count. take count input) (sym all));
+}
+
+-- no bytes
+pub nothing_law : {X : Type 0} (input : List ℕ) (x : X) (eaten : ℕ)
+    → Parses (Some 0) (ReadsAny 0) input (Ok x) eaten → [] ≡ take eaten input
+nothing_law input x eaten (inl (_, failed, _)) = absurd (cc failed)
+nothing_law input x eaten (inr (there, none, looked_at, read)) =
+    ap (λ n. take n input) (sym none)
+
+-- a field of it that may be missing
+optional_again_law : {A B C X : Type 0} (reads : C → List ℕ → Result A WireError → ℕ → Type 0)
+    (bytes : A → List ℕ) (of_value : X → A) (none : B) → ((c : C) → Again (reads c) bytes)
+    → (ctx : Either C (Unit {0})) (input : List ℕ) → IsBytes input → (value : Option X)
+    (eaten : ℕ)
+    → ReadsEither {C = C} {D = Unit {0}} {A = A} {B = B} reads
+    (λ _. Parses (Some 0) (ReadsAny 0)) ctx input (Ok (field of_value none value)) eaten
+    → bytes_if (λ x. bytes (of_value x)) value ≡ take eaten input
+optional_again_law reads bytes of_value none law (Left c) input is (Some x) eaten read =
+    (law c).law input is (of_value x) eaten read
+optional_again_law reads bytes of_value none law (Left c) input is None eaten read = absurd read
+optional_again_law reads bytes of_value none law (Right d) input is (Some x) eaten read =
+    absurd read
+optional_again_law reads bytes of_value none law (Right d) input is None eaten read =
+    nothing_law input none eaten read
+
+pub optional_again_of : {A B C X Y : Type 0}
+    {reads : C → List ℕ → Result A WireError → ℕ → Type 0} {bytes : A → List ℕ}
+    (value : Y → Option X) (of_value : X → A) (none : B) → ((c : C) → Again (reads c) bytes)
+    → (ctx : Either C (Unit {0}))
+    → Again (λ input. Through (λ y. field of_value none (value y))
+    (ReadsEither {C = C} {D = Unit {0}} {A = A} {B = B} reads
+    (λ _. Parses (Some 0) (ReadsAny 0)) ctx input))
+    (λ y. bytes_if (λ x. bytes (of_value x)) (value y))
+optional_again_of {reads = reads} {bytes = bytes} value of_value none law ctx = record {
+  law = λ input is y eaten read.
+      optional_again_law reads bytes of_value none law ctx input is (value y) eaten read;
+}

@@ -8,5 +8,6 @@ pub mod Oks
 pub mod Optional
 pub mod Places
 pub mod Responses
+pub mod Shortest
 pub mod TextValues
 pub mod Then
