@@ -1,13 +1,19 @@
 //! Goes through recorded sessions: each payload is read by the type that its place calls for, and
-//! written back.
+//! written back; its fields are compared with those that other programs read.
 #![tactic(auto)]
 
-mod is_written;
+mod commands_shown;
+mod found;
 mod place;
 mod record;
 mod session;
+mod shown;
+mod statement;
+mod statements;
+mod statements_shown;
 mod tally;
 
+use found::Payload;
 use record::Record;
 use session::Session;
 use std::alloc::Global;
@@ -18,14 +24,27 @@ use tally::Tally;
 // Goes through the records, and writes what was found.
 fn go_through<W: Write>(alloc: Global, records: &[u8], output: &mut W) -> io::Result<()> {
     let mut tally = Tally::new();
-    let mut session = Session::new();
+    let mut session = Session::new(alloc);
+    let mut listed = None;
     let mut rest = records;
     for _ in 0..records.len() {
         let Some((record, behind)) = Record::first(rest) else {
             break;
         };
-        session.go_on(alloc, record, &mut tally);
         rest = behind;
+        match record {
+            Record::Session => session = Session::new(alloc),
+            Record::Reset => session.begin_command(),
+            Record::Listed(fields) => listed = Some(fields),
+            Record::Client(bytes) => {
+                tally.note(session.client(alloc, Payload { bytes, listed }));
+                listed = None;
+            }
+            Record::Server(bytes) => {
+                tally.note(session.server(alloc, Payload { bytes, listed }));
+                listed = None;
+            }
+        }
     }
     tally.write(output)?;
     writeln!(output, "left {}", rest.len())

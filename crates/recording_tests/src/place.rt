@@ -9,21 +9,34 @@ pub enum Place {
     Command,
     /// The first packet of an answer.
     Answer,
-    /// So many definitions of columns.
-    Columns(u64),
-    ColumnsEnd,
-    /// The answer to an option.
+    /// The first packet of the answer to `COM_STMT_PREPARE`.
+    PrepareAnswer,
+    /// So many definitions.
+    Definitions(Defined, u64),
+    DefinitionsEnd(Defined),
+    /// The answer to `COM_SET_OPTION`.
     Option,
+    /// The answer to `COM_STATISTICS`.
+    Statistics,
     Rows,
     /// A file of the client, which an empty payload ends.
     File,
-    /// The packets of commands that `mysql_wire_packets` has not.
-    Statement,
     /// Nothing.
     End,
 }
 
-/// What was read.
+/// What definitions are of.
+#[derive(Clone, Copy)]
+pub enum Defined {
+    /// The columns of rows, which follow.
+    Rows,
+    /// The parameters of a statement that is prepared.
+    Parameters,
+    /// Its columns.
+    Columns,
+}
+
+/// What a payload is.
 #[derive(Clone, Copy)]
 pub enum Kind {
     Greeting = 0,
@@ -40,15 +53,29 @@ pub enum Kind {
     Quit = 11,
     ChangeUser = 12,
     LocalInfile = 13,
-    File = 14,
-    /// A command that `mysql_wire_packets` has not, or what answers it.
-    Other = 15,
-    AuthSwitch = 16,
-    AuthAnswer = 17,
+    AuthSwitch = 14,
+    AuthAnswer = 15,
+    Prepare = 16,
+    Prepared = 17,
+    Execute = 18,
+    LongData = 19,
+    ResetStatement = 20,
+    CloseStatement = 21,
+    BinaryRow = 22,
+    /// The bytes of a file.
+    File = 23,
+    SetOption = 24,
+    /// `COM_STATISTICS`, and the text that answers it.
+    Statistics = 25,
+    /// What its place does not allow.
+    Unexpected = 26,
 }
 
+/// How many kinds there are.
+pub const KINDS: usize = 27;
+
 /// The names of the kinds, in order.
-pub const NAMES: [&str; 18] = [
+pub const NAMES: [&str; KINDS] = [
     "greeting",
     "login",
     "ok",
@@ -63,8 +90,17 @@ pub const NAMES: [&str; 18] = [
     "quit",
     "change user",
     "local infile",
-    "file",
-    "other",
     "auth switch",
     "auth answer",
+    "prepare",
+    "prepared",
+    "execute",
+    "long data",
+    "reset statement",
+    "close statement",
+    "binary row",
+    "file",
+    "set option",
+    "statistics",
+    "unexpected",
 ];

@@ -12,6 +12,8 @@ pub enum Record<'a> {
     Server(&'a [u8]),
     /// The client begins a new command.
     Reset,
+    /// The fields of the payload that comes next, as other programs read it.
+    Listed(&'a [u8]),
 }
 
 impl<'a> Record<'a> {
@@ -26,6 +28,7 @@ impl<'a> Record<'a> {
             1 => Record::Client(payload),
             2 => Record::Server(payload),
             3 => Record::Reset,
+            4 => Record::Listed(payload),
             _ => return None,
         };
         Some((record, buf.0))

@@ -1,10 +1,10 @@
 //! A session, payload by payload.
 
-use crate::is_written::is_written;
-use crate::place::{Kind, Place};
-use crate::record::Record;
-use crate::tally::Tally;
-use mysql_wire::constants::{CapabilityFlags, Flags, MariadbCapabilities, StatusFlags};
+use crate::found::{Found, Payload};
+use crate::place::{Defined, Kind, Place};
+use crate::statement::has_columns;
+use crate::statements::Statements;
+use mysql_wire::constants::{CapabilityFlags, ColumnType, Flags, MariadbCapabilities, StatusFlags};
 use mysql_wire::misc::raw::RawFlags;
 use mysql_wire::misc::raw::int::LeU16;
 use mysql_wire_packets::auth_answer::AuthAnswer;
@@ -13,9 +13,12 @@ use mysql_wire_packets::client_command::ClientCommand;
 use mysql_wire_packets::column_definition::ColumnDefinition41;
 use mysql_wire_packets::eof_packet::EofPacket;
 use mysql_wire_packets::first_packet::{ClientFirst, ServerFirst};
-use mysql_wire_packets::places::{PayloadError, read_exact};
+use mysql_wire_packets::places::{PayloadError, read_whole};
 use mysql_wire_packets::query_answer::QueryAnswer;
 use mysql_wire_packets::row_answer::RowAnswer;
+use mysql_wire_statements::binary_row::BinaryRow;
+use mysql_wire_statements::com_stmt_prepare::ComStmtPrepare;
+use mysql_wire_statements::prepare_answer::PrepareAnswer;
 use std::alloc::Global;
 
 /// What both sides have said so far.
@@ -23,81 +26,93 @@ use std::alloc::Global;
 pub struct Session {
     capabilities: CapabilityFlags,
     mariadb: MariadbCapabilities,
+    statements: Statements,
+    // How many columns the rows have, or the statement that is prepared.
     columns: u64,
+    // Their types, of rows.
+    types: Vec<ColumnType>,
+    // Whether the rows are in the binary form.
+    is_binary: bool,
     place: Place,
 }
 
 impl Session {
     /// A session that begins.
-    pub fn new() -> Session {
+    pub fn new(alloc: Global) -> Session {
         Session {
             capabilities: CapabilityFlags::empty(),
             mariadb: MariadbCapabilities::empty(),
+            statements: Statements::new(alloc),
             columns: 0,
+            types: Vec::new(alloc),
+            is_binary: false,
             place: Place::Greeting,
         }
     }
 
-    /// Reads a record as its place says, notes it, and goes to the next place.
-    pub fn go_on(&mut self, alloc: Global, record: Record<'_>, tally: &mut Tally) {
-        match record {
-            Record::Session => *self = Session::new(),
-            Record::Reset => self.place = Place::Command,
-            Record::Client(payload) => {
-                let (kind, same) = self.client(alloc, payload);
-                tally.note(kind, same);
-            }
-            Record::Server(payload) => {
-                let (kind, same) = self.server(alloc, payload);
-                tally.note(kind, same);
-            }
-        }
+    /// The client begins a new command.
+    pub fn begin_command(&mut self) {
+        self.place = Place::Command;
     }
 
-    fn client(&mut self, alloc: Global, payload: &[u8]) -> (Kind, bool) {
+    /// Reads a payload of the client as its place says, and goes to the next place.
+    pub fn client(&mut self, alloc: Global, payload: Payload<'_>) -> Found {
         match self.place {
             Place::Login => self.login(alloc, payload),
             Place::Command => self.command(alloc, payload),
             Place::Authentication => {
-                let answer = read_exact::<AuthSwitchResponse<'_>>(alloc, (), payload);
-                (Kind::AuthAnswer, answer.is_ok())
+                Found::exact::<AuthSwitchResponse<'_>>(alloc, Kind::AuthAnswer, (), payload)
             }
             Place::File => {
-                if payload.is_empty() {
+                if payload.bytes.is_empty() {
                     self.place = Place::Answer;
                 }
-                (Kind::File, true)
+                Found::passed_over(Kind::File, payload)
             }
-            _ => (Kind::Other, true),
+            _ => Found::refused(Kind::Unexpected, payload),
         }
     }
 
-    fn server(&mut self, alloc: Global, payload: &[u8]) -> (Kind, bool) {
+    /// Reads a payload of the server as its place says, and goes to the next place.
+    pub fn server(&mut self, alloc: Global, payload: Payload<'_>) -> Found {
         match self.place {
             Place::Greeting => self.greeting(alloc, payload),
             Place::Authentication => self.authentication(alloc, payload),
             Place::Answer => self.answer(alloc, payload),
-            Place::Option | Place::ColumnsEnd => self.eof(alloc, payload),
-            Place::Columns(left) => self.column(alloc, left, payload),
-            Place::Rows => self.row(alloc, payload),
-            _ => (Kind::Other, true),
-        }
-    }
-
-    fn greeting(&mut self, alloc: Global, payload: &[u8]) -> (Kind, bool) {
-        self.place = Place::Login;
-        match ServerFirst::read(alloc, payload) {
-            Ok(ServerFirst::Greeting(greeting)) => {
-                (Kind::Greeting, is_written(alloc, &greeting, payload))
+            Place::PrepareAnswer => self.prepare_answer(alloc, payload),
+            Place::Definitions(of, left) => self.definition(alloc, of, left, payload),
+            Place::DefinitionsEnd(of) => {
+                self.place = self.behind_definitions(of);
+                Found::exact::<EofPacket>(alloc, Kind::Eof, (), payload)
             }
-            Ok(ServerFirst::Failed(error)) => (Kind::Error, is_written(alloc, &error, payload)),
-            Err(_) => (Kind::Greeting, false),
+            Place::Option => {
+                self.place = Place::Command;
+                Found::exact::<EofPacket>(alloc, Kind::Eof, (), payload)
+            }
+            Place::Statistics => {
+                self.place = Place::Command;
+                Found::passed_over(Kind::Statistics, payload)
+            }
+            Place::Rows if self.is_binary => self.binary_row(alloc, payload),
+            Place::Rows => self.row(alloc, payload),
+            _ => Found::refused(Kind::Unexpected, payload),
         }
     }
 
-    fn login(&mut self, alloc: Global, payload: &[u8]) -> (Kind, bool) {
+    fn greeting(&mut self, alloc: Global, payload: Payload<'_>) -> Found {
+        self.place = Place::Login;
+        match ServerFirst::read(alloc, payload.bytes) {
+            Ok(ServerFirst::Greeting(greeting)) => {
+                Found::of(alloc, Kind::Greeting, &greeting, payload)
+            }
+            Ok(ServerFirst::Failed(error)) => Found::of(alloc, Kind::Error, &error, payload),
+            Err(_) => Found::refused(Kind::Greeting, payload),
+        }
+    }
+
+    fn login(&mut self, alloc: Global, payload: Payload<'_>) -> Found {
         self.place = Place::Authentication;
-        match ClientFirst::read(alloc, payload) {
+        match ClientFirst::read(alloc, payload.bytes) {
             Ok(ClientFirst::Login(login)) => {
                 self.capabilities = login.client_flag.get();
                 if !self
@@ -106,128 +121,194 @@ impl Session {
                 {
                     self.mariadb = login.mariadb_capabilities.get();
                 }
-                (Kind::Login, is_written(alloc, &login, payload))
+                Found::of(alloc, Kind::Login, &login, payload)
             }
-            Ok(ClientFirst::Tls(_)) | Err(_) => (Kind::Login, false),
+            Ok(ClientFirst::Tls(_)) | Err(_) => Found::refused(Kind::Login, payload),
         }
     }
 
-    fn authentication(&mut self, alloc: Global, payload: &[u8]) -> (Kind, bool) {
-        match AuthAnswer::read(alloc, self.capabilities, payload) {
+    fn authentication(&mut self, alloc: Global, payload: Payload<'_>) -> Found {
+        match AuthAnswer::read(alloc, self.capabilities, payload.bytes) {
             Ok(AuthAnswer::Done(ok)) => {
                 self.end(ok.status_flags);
-                (Kind::Ok, is_written(alloc, &ok, payload))
+                Found::of(alloc, Kind::Ok, &ok, payload)
             }
-            Ok(AuthAnswer::Failed(error)) => (Kind::Error, is_written(alloc, &error, payload)),
+            Ok(AuthAnswer::Failed(error)) => Found::of(alloc, Kind::Error, &error, payload),
             Ok(AuthAnswer::Switch(request)) => {
-                (Kind::AuthSwitch, is_written(alloc, &request, payload))
+                Found::of(alloc, Kind::AuthSwitch, &request, payload)
             }
-            Ok(AuthAnswer::MoreData(_)) | Err(_) => (Kind::AuthSwitch, false),
+            Ok(AuthAnswer::MoreData(_)) | Err(_) => Found::refused(Kind::AuthSwitch, payload),
         }
     }
 
-    fn command(&mut self, alloc: Global, payload: &[u8]) -> (Kind, bool) {
+    fn command(&mut self, alloc: Global, payload: Payload<'_>) -> Found {
         self.place = Place::Answer;
-        match ClientCommand::read(alloc, self.capabilities, payload) {
+        self.is_binary = false;
+        match ClientCommand::read(alloc, self.capabilities, payload.bytes) {
             Ok(ClientCommand::Quit(quit)) => {
                 self.place = Place::End;
-                (Kind::Quit, is_written(alloc, &quit, payload))
+                Found::of(alloc, Kind::Quit, &quit, payload)
             }
             Ok(ClientCommand::InitDb(init)) => {
-                (Kind::InitDatabase, is_written(alloc, &init, payload))
+                Found::of(alloc, Kind::InitDatabase, &init, payload)
             }
-            Ok(ClientCommand::Query(query)) => (Kind::Query, is_written(alloc, &query, payload)),
+            Ok(ClientCommand::Query(query)) => Found::of(alloc, Kind::Query, &query, payload),
             Ok(ClientCommand::AttributedQuery(query)) => {
-                (Kind::Query, is_written(alloc, &query, payload))
+                Found::of(alloc, Kind::Query, &query, payload)
             }
-            Ok(ClientCommand::Ping(ping)) => (Kind::Ping, is_written(alloc, &ping, payload)),
+            Ok(ClientCommand::Ping(ping)) => Found::of(alloc, Kind::Ping, &ping, payload),
             Ok(ClientCommand::ChangeUser(change)) => {
                 self.place = Place::Authentication;
-                (Kind::ChangeUser, is_written(alloc, &change, payload))
+                Found::of(alloc, Kind::ChangeUser, &change, payload)
             }
-            Err(PayloadError::OtherHeader(0x1b)) => {
-                self.place = Place::Option;
-                (Kind::Other, true)
-            }
-            Err(PayloadError::OtherHeader(_)) => {
-                self.place = Place::Statement;
-                (Kind::Other, true)
-            }
-            Err(_) => (Kind::Query, false),
+            Err(PayloadError::OtherHeader(header)) => self.other_command(alloc, header, payload),
+            Err(_) => Found::refused(Kind::Query, payload),
         }
     }
 
-    fn answer(&mut self, alloc: Global, payload: &[u8]) -> (Kind, bool) {
+    // The commands of prepared statements, and those for which there is no type.
+    fn other_command(&mut self, alloc: Global, header: u8, payload: Payload<'_>) -> Found {
+        match header {
+            0x16 => {
+                self.place = Place::PrepareAnswer;
+                Found::exact::<ComStmtPrepare<'_>>(alloc, Kind::Prepare, (), payload)
+            }
+            0x17 => {
+                self.is_binary = true;
+                self.statements.execute(alloc, payload)
+            }
+            0x18 => {
+                self.place = Place::Command;
+                self.statements.send_long_data(alloc, payload)
+            }
+            0x19 => {
+                self.place = Place::Command;
+                self.statements.close(alloc, payload)
+            }
+            0x1a => self.statements.reset(alloc, payload),
+            0x1b => {
+                self.place = Place::Option;
+                Found::passed_over(Kind::SetOption, payload)
+            }
+            0x09 => {
+                self.place = Place::Statistics;
+                Found::passed_over(Kind::Statistics, payload)
+            }
+            _ => Found::refused(Kind::Unexpected, payload),
+        }
+    }
+
+    fn answer(&mut self, alloc: Global, payload: Payload<'_>) -> Found {
         self.place = Place::Command;
-        match QueryAnswer::read(alloc, self.capabilities, payload) {
+        match QueryAnswer::read(alloc, self.capabilities, payload.bytes) {
             Ok(QueryAnswer::Done(ok)) => {
                 self.end(ok.status_flags);
-                (Kind::Ok, is_written(alloc, &ok, payload))
+                Found::of(alloc, Kind::Ok, &ok, payload)
             }
-            Ok(QueryAnswer::Failed(error)) => (Kind::Error, is_written(alloc, &error, payload)),
+            Ok(QueryAnswer::Failed(error)) => Found::of(alloc, Kind::Error, &error, payload),
             Ok(QueryAnswer::File(request)) => {
                 self.place = Place::File;
-                (Kind::LocalInfile, is_written(alloc, &request, payload))
+                Found::of(alloc, Kind::LocalInfile, &request, payload)
             }
             Ok(QueryAnswer::Columns(count)) => {
                 self.columns = count.column_count;
-                self.place = Place::Columns(count.column_count);
-                (Kind::ColumnCount, is_written(alloc, &count, payload))
+                self.types.clear();
+                self.place = self.definitions(Defined::Rows, count.column_count);
+                Found::of(alloc, Kind::ColumnCount, &count, payload)
             }
-            Err(_) => (Kind::ColumnCount, false),
+            Err(_) => Found::refused(Kind::ColumnCount, payload),
         }
     }
 
-    fn column(&mut self, alloc: Global, left: u64, payload: &[u8]) -> (Kind, bool) {
+    fn prepare_answer(&mut self, alloc: Global, payload: Payload<'_>) -> Found {
+        self.place = Place::Command;
+        match read_whole::<PrepareAnswer<'_>>(alloc, self.capabilities, payload.bytes) {
+            Ok(PrepareAnswer::Prepared(prepared)) => {
+                self.columns = prepared.num_columns.into();
+                self.place = self.definitions(Defined::Parameters, prepared.num_params.into());
+                Found::of(alloc, Kind::Prepared, &prepared, payload).and(
+                    self.statements.add(alloc, prepared),
+                )
+            }
+            Ok(PrepareAnswer::Failed(error)) => Found::of(alloc, Kind::Error, &error, payload),
+            Err(_) => Found::refused(Kind::Prepared, payload),
+        }
+    }
+
+    // Where so many definitions are left.
+    fn definitions(&self, of: Defined, left: u64) -> Place {
+        match left {
+            0 => self.behind_definitions(of),
+            left => Place::Definitions(of, left),
+        }
+    }
+
+    // Behind the last definition, where the end of definitions is not told.
+    fn behind_definitions(&self, of: Defined) -> Place {
+        match of {
+            Defined::Rows => Place::Rows,
+            Defined::Parameters if self.columns > 0 => {
+                Place::Definitions(Defined::Columns, self.columns)
+            }
+            Defined::Parameters | Defined::Columns => Place::Command,
+        }
+    }
+
+    fn definition(&mut self, alloc: Global, of: Defined, left: u64, payload: Payload<'_>) -> Found {
+        let deprecate_eof = CapabilityFlags::CLIENT_DEPRECATE_EOF;
         self.place = match left {
-            0 | 1 => self.behind_columns(),
-            left => Place::Columns(left - 1),
+            0 | 1 if self.capabilities.contains(deprecate_eof) => self.behind_definitions(of),
+            0 | 1 => Place::DefinitionsEnd(of),
+            left => Place::Definitions(of, left - 1),
         };
-        let column = read_exact::<ColumnDefinition41<'_>>(alloc, self.mariadb, payload);
-        (Kind::Column, column.is_ok())
-    }
-
-    fn behind_columns(&self) -> Place {
-        if self
-            .capabilities
-            .contains(CapabilityFlags::CLIENT_DEPRECATE_EOF)
-        {
-            Place::Rows
-        } else {
-            Place::ColumnsEnd
+        match read_whole::<ColumnDefinition41<'_>>(alloc, self.mariadb, payload.bytes) {
+            Ok(column) => {
+                let is_known = match column.column_type.get() {
+                    Ok(column_type) => self.types.push(column_type).is_ok(),
+                    Err(_) => false,
+                };
+                Found::of(alloc, Kind::Column, &column, payload).and(is_known)
+            }
+            Err(_) => Found::refused(Kind::Column, payload),
         }
     }
 
-    fn row(&mut self, alloc: Global, payload: &[u8]) -> (Kind, bool) {
+    fn row(&mut self, alloc: Global, payload: Payload<'_>) -> Found {
         let count = self.columns as usize;
-        match RowAnswer::read(alloc, self.capabilities, count, payload) {
-            Ok(RowAnswer::Row(row)) => (Kind::Row, is_written(alloc, &row, payload)),
+        match RowAnswer::read(alloc, self.capabilities, count, payload.bytes) {
+            Ok(RowAnswer::Row(row)) => {
+                Found::of(alloc, Kind::Row, &row, payload).and(!self.is_binary)
+            }
             Ok(RowAnswer::Eof(eof)) => {
                 self.end(eof.status_flags);
-                (Kind::Eof, is_written(alloc, &eof, payload))
+                Found::of(alloc, Kind::Eof, &eof, payload)
             }
             Ok(RowAnswer::End(end)) => {
                 self.end(end.status_flags);
-                (Kind::Eof, is_written(alloc, &end, payload))
+                Found::of(alloc, Kind::Eof, &end, payload)
             }
             Ok(RowAnswer::Failed(error)) => {
                 self.place = Place::Command;
-                (Kind::Error, is_written(alloc, &error, payload))
+                Found::of(alloc, Kind::Error, &error, payload)
             }
-            Err(_) => (Kind::Row, false),
+            Err(_) => Found::refused(Kind::Row, payload),
         }
     }
 
-    // What ends the definitions of columns, or answers an option.
-    fn eof(&mut self, alloc: Global, payload: &[u8]) -> (Kind, bool) {
-        self.place = match self.place {
-            Place::ColumnsEnd => Place::Rows,
-            _ => Place::Command,
-        };
-        (
-            Kind::Eof,
-            read_exact::<EofPacket>(alloc, (), payload).is_ok(),
-        )
+    // A row in the binary form, or what ends such rows.
+    fn binary_row(&mut self, alloc: Global, payload: Payload<'_>) -> Found {
+        match payload.bytes.first() {
+            Some(0x00) => {
+                let types = self.types.as_slice();
+                match read_whole::<BinaryRow<'_>>(alloc, types.len(), payload.bytes) {
+                    Ok(row) => Found::of(alloc, Kind::BinaryRow, &row, payload).and(has_columns(
+                        alloc, &row, types,
+                    )),
+                    Err(_) => Found::refused(Kind::BinaryRow, payload),
+                }
+            }
+            _ => self.row(alloc, payload),
+        }
     }
 
     // An answer has ended, and the status says whether another follows.

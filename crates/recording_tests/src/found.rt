@@ -1,0 +1,117 @@
+//! What was found of a payload.
+
+use crate::place::Kind;
+use crate::shown::{Fields, Shown};
+use mysql_wire::proto::{MyDeserialize, MySerialize};
+use mysql_wire_packets::places::read_exact;
+use std::alloc::Global;
+
+/// A payload, and its first fields as other programs read them, where they are listed.
+#[derive(Clone, Copy)]
+pub struct Payload<'a> {
+    pub bytes: &'a [u8],
+    pub listed: Option<&'a [u8]>,
+}
+
+/// What became of a payload.
+#[derive(Clone, Copy)]
+pub enum Outcome {
+    WrittenBack,
+    Refused,
+    /// There is no type for it.
+    PassedOver,
+}
+
+/// What was found.
+#[derive(Clone, Copy)]
+pub struct Found {
+    pub kind: Kind,
+    pub outcome: Outcome,
+    /// Whether the fields are those that are listed, where some are.
+    pub is_as_listed: Option<bool>,
+}
+
+// Whether the packet is written as these bytes.
+fn is_written<T: MySerialize>(alloc: Global, packet: &T, bytes: &[u8]) -> bool {
+    let mut written = Vec::new(alloc);
+    packet.serialize(&mut written).is_ok() & (written.as_slice() == bytes)
+}
+
+// Whether the packet's first fields are these.
+fn has_fields<T: Shown>(alloc: Global, packet: &T, listed: &[u8]) -> bool {
+    let mut fields = Fields::new(alloc);
+    packet.show(alloc, &mut fields);
+    fields.begin_with(listed)
+}
+
+impl Found {
+    /// Of a payload that was read as this packet.
+    pub fn of<T: MySerialize + Shown>(
+        alloc: Global,
+        kind: Kind,
+        packet: &T,
+        payload: Payload<'_>,
+    ) -> Found {
+        let outcome = if is_written(alloc, packet, payload.bytes) {
+            Outcome::WrittenBack
+        } else {
+            Outcome::Refused
+        };
+        let is_as_listed = match payload.listed {
+            Some(listed) => Some(has_fields(alloc, packet, listed)),
+            None => None,
+        };
+        Found {
+            kind,
+            outcome,
+            is_as_listed,
+        }
+    }
+
+    /// Of a payload that is one packet of this type.
+    pub fn exact<'a, T: MySerialize + Shown + MyDeserialize<'a, Global>>(
+        alloc: Global,
+        kind: Kind,
+        ctx: T::Ctx,
+        payload: Payload<'a>,
+    ) -> Found {
+        match read_exact::<T>(alloc, ctx, payload.bytes) {
+            Ok(packet) => Found::of(alloc, kind, &packet, payload),
+            Err(_) => Found::refused(kind, payload),
+        }
+    }
+
+    /// Of a payload that is refused.
+    pub fn refused(kind: Kind, payload: Payload<'_>) -> Found {
+        let is_as_listed = if payload.listed.is_some() {
+            Some(false)
+        } else {
+            None
+        };
+        Found {
+            kind,
+            outcome: Outcome::Refused,
+            is_as_listed,
+        }
+    }
+
+    /// Of a payload for which there is no type.
+    pub fn passed_over(kind: Kind, payload: Payload<'_>) -> Found {
+        Found {
+            outcome: Outcome::PassedOver,
+            ..Found::refused(kind, payload)
+        }
+    }
+
+    /// The same, where this holds too; else the payload is refused.
+    pub fn and(self, holds: bool) -> Found {
+        if holds {
+            self
+        } else {
+            Found {
+                outcome: Outcome::Refused,
+                ..self
+            }
+        }
+    }
+}
