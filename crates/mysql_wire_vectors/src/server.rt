@@ -10,8 +10,8 @@ pub mod payload;
 mod responses;
 mod rows;
 
-use answers::{are_eofs, are_oks, are_prepared};
-use columns::are_columns;
+use answers::{are_eofs, are_oks, are_prepared, is_session_change};
+use columns::{are_columns, is_type_detail};
 use commands::are_commands;
 use connections::are_of_connections;
 use errors::are_errors;
@@ -24,16 +24,18 @@ use std::test::Fail;
 use test_support::facts::all_hold;
 use test_support::fixture::Heap;
 
-fn are_packets(heap: &Heap, alloc: Global) -> [bool; 10] {
+fn are_packets(heap: &Heap, alloc: Global) -> [bool; 12] {
     [
         are_greetings(heap, alloc),
         are_responses(heap, alloc),
         are_commands(heap, alloc),
         are_oks(heap, alloc),
+        is_session_change(heap, alloc),
         are_eofs(heap, alloc),
         are_errors(heap, alloc),
         are_prepared(heap, alloc),
         are_columns(heap, alloc),
+        is_type_detail(heap, alloc),
         are_rows(heap, alloc),
         are_of_connections(heap, alloc),
     ]

@@ -1,10 +1,11 @@
 // Answers of a server that are one packet. Another header is refused, having been eaten.
 
 use crate::server::payload::{OTHER, Refused, is_payload, text_if};
-use mysql_wire::misc::raw::{Either, RawBytes, RawFlags};
+use mysql_wire::misc::raw::{Either, RawBytes, RawConst, RawFlags};
 use mysql_wire_packets::com_stmt_prepare_ok::ComStmtPrepareOk;
 use mysql_wire_packets::eof_packet::EofPacket;
 use mysql_wire_packets::ok_packet::{InfoForm, OkForm, OkInfo};
+use mysql_wire_packets::session_change::SessionChange;
 use std::alloc::Global;
 use test_support::fields::{gives, is_written, stops};
 use test_support::fixture::Heap;
@@ -192,4 +193,13 @@ pub fn are_oks(heap: &Heap, alloc: Global) -> bool {
     are_of_form::<0x00>(heap, alloc, OKS, end)
         & are_of_form::<0x00>(heap, alloc, CHANGES, end)
         & are_of_form::<0xfe>(heap, alloc, ENDS, ok)
+}
+
+// The change of the database that stands in an OK, of the kind `SESSION_TRACK_SCHEMA`.
+pub fn is_session_change(heap: &Heap, alloc: Global) -> bool {
+    let change = SessionChange {
+        kind: RawConst::new(1),
+        data: RawBytes::from(b"\x01d".as_slice()),
+    };
+    is_payload(heap, alloc, (), change, (b"\x01\x02\x01d", 4), &[])
 }

@@ -4,6 +4,7 @@ use crate::server::payload::{is_payload, text_if};
 use mysql_wire::constants::{Flags, MariadbCapabilities};
 use mysql_wire::misc::raw::{RawBytes, RawConst, RawFlags};
 use mysql_wire_packets::column_definition::ColumnDefinition41;
+use mysql_wire_packets::type_detail::TypeDetail;
 use std::alloc::Global;
 use test_support::fixture::Heap;
 
@@ -90,4 +91,13 @@ pub fn are_columns(heap: &Heap, alloc: Global) -> bool {
         );
     }
     all
+}
+
+// The detail that stands in a definition, of the format `json`.
+pub fn is_type_detail(heap: &Heap, alloc: Global) -> bool {
+    let detail = TypeDetail {
+        kind: 1,
+        value: RawBytes::from(b"json".as_slice()),
+    };
+    is_payload(heap, alloc, (), detail, (b"\x01\x04json", 6), &[])
 }

@@ -1,0 +1,2 @@
+pub mod ClientSteps
+pub mod ServerSteps

@@ -1,0 +1,255 @@
+//! `connection_examples`: both ends of a connection, and the client's side on a recorded greeting.
+
+ghost use Rattle.std.specs.Prelude.{◌++◌};
+
+use bytes::BytesMut;
+use connection_examples::client::{Connecting, Greeted, Greeting, Outcome, Waiting};
+use connection_examples::secret::Secret;
+use connection_examples::server::{self, Accepted, Asking, Deciding, First};
+use mysql_wire::constants::Flags;
+use mysql_wire::io::ParseBuf;
+use mysql_wire::misc::raw::{Either, RawBytes, RawFlags};
+use mysql_wire_packets::auth_switch::AuthSwitchRequest;
+use mysql_wire_packets::handshake::HandshakeV10;
+use mysql_wire_packets::handshake_response::HandshakeResponse41;
+use mysql_wire_packets::ok_packet::OkForm;
+use std::alloc::{AllocError, Global};
+use std::test::Fail;
+use test_support::facts::all_hold;
+
+const LIMIT: usize = 1024;
+
+// CLIENT_PROTOCOL_41, CLIENT_SECURE_CONNECTION and CLIENT_PLUGIN_AUTH.
+const FLAGS: u32 = 0x0008_8200;
+
+// What MariaDB 10.11 said to PyMySQL, framed.
+const RECORDED: &[u8] =
+    b"\x64\0\0\0\x0a5.5.5-10.11.19-MariaDB-0+deb12u1\0\x17\0\0\0pf1^feHv\0\xfe\xf7\x2d\x02\0\xff\x81\
+    \x15\0\0\0\0\0\0\x1d\0\0\0<dfUT&_/g>>[\0mysql_native_password\0";
+
+// Answers with the plugin's name and data.
+struct Echo;
+
+impl Secret for Echo {
+    ghost answer_of = { λ _ plugin plugin_data. plugin ++ plugin_data };
+
+    fn answer(
+        &self,
+        alloc: Global,
+        plugin: &[u8],
+        plugin_data: &[u8],
+    ) -> Result<Vec<u8>, AllocError> {
+        let mut answer = Vec::new(alloc);
+        answer.extend_from_slice(plugin)?;
+        answer.extend_from_slice(plugin_data)?;
+        Ok(answer)
+    }
+}
+
+fn greeting() -> HandshakeV10<'static> {
+    HandshakeV10 {
+        server_version: RawBytes::from(b"8".as_slice()),
+        thread_id: 7,
+        auth_plugin_data_part_1: *b"abcdefgh",
+        filler: 0,
+        capability_flags_1: RawFlags::new(FLAGS & 0xffff),
+        character_set: 45,
+        status_flags: RawFlags::new(2),
+        capability_flags_2: RawFlags::new(FLAGS & 0xffff_0000),
+        auth_plugin_data_len: 21,
+        reserved: [0; 6],
+        mariadb_capabilities: RawFlags::new(0),
+        auth_plugin_data_part_2: RawBytes::from(b"ijklmnopqrst\0".as_slice()),
+        auth_plugin_name: Some(Either::Left(RawBytes::from(b"first".as_slice()))),
+    }
+}
+
+fn login(answer: &[u8]) -> HandshakeResponse41<'_> {
+    HandshakeResponse41 {
+        client_flag: RawFlags::new(FLAGS),
+        max_packet_size: 1024,
+        character_set: 45,
+        filler: [0; 19],
+        mariadb_capabilities: RawFlags::new(0),
+        username: RawBytes::from(b"u".as_slice()),
+        auth_response: Either::Right(RawBytes::from(answer)),
+        database: None,
+        client_plugin_name: Some(RawBytes::from(b"first".as_slice())),
+        connect_attrs: None,
+        zstd_compression_level: None,
+    }
+}
+
+// The client's first step, on a packet that has come whole.
+fn is_greeted<'a>(alloc: Global, input: &mut ParseBuf<'a>) -> Option<Greeted<'a>> {
+    let connecting = Connecting::new(LIMIT);
+    if !connecting.line.has_packet(input) {
+        return None;
+    }
+    match connecting.receive(alloc, input) {
+        Ok(Greeting::Greeted(greeted)) => Some(greeted),
+        _ => None,
+    }
+}
+
+// What is answered to the plugin that the server begins with.
+fn answer_of(alloc: Global, greeted: &Greeted<'_>) -> Result<Vec<u8>, AllocError> {
+    let plugin_data = greeted.plugin_data(alloc)?;
+    Echo.answer(alloc, greeted.plugin_name(), plugin_data.as_slice())
+}
+
+fn logs_in(alloc: Global, greeted: Greeted<'_>, wire: &mut BytesMut) -> Option<Waiting> {
+    let answer = answer_of(alloc, &greeted).ok()?;
+    greeted.log_in(&login(answer.as_slice()), wire).ok()
+}
+
+// The server takes the login, and asks for another plugin.
+fn asks(
+    alloc: Global,
+    greeting: server::Greeting,
+    input: &mut ParseBuf<'_>,
+    wire: &mut BytesMut,
+) -> Option<Asking> {
+    if !greeting.line.has_packet(input) {
+        return None;
+    }
+    let request = AuthSwitchRequest {
+        plugin_name: RawBytes::from(b"other".as_slice()),
+        plugin_data: RawBytes::from(b"uvw".as_slice()),
+    };
+    match greeting.receive(alloc, input) {
+        Ok(First::Login(deciding, sent)) if sent == login(b"firstabcdefghijklmnopqrst") => {
+            deciding.switch(&request, wire).ok()
+        }
+        _ => None,
+    }
+}
+
+fn answers(
+    alloc: Global,
+    waiting: Waiting,
+    input: &mut ParseBuf<'_>,
+    wire: &mut BytesMut,
+) -> Option<Waiting> {
+    if !waiting.line.has_packet(input) {
+        return None;
+    }
+    match waiting.receive(alloc, input) {
+        Ok(Outcome::Switch(asked, request)) => {
+            let plugin_data = request.plugin_data.as_bytes();
+            let plugin = request.plugin_name.as_bytes();
+            asked.answer(alloc, &Echo, plugin, plugin_data, wire).ok()
+        }
+        _ => None,
+    }
+}
+
+fn takes_answer(alloc: Global, asking: Asking, input: &mut ParseBuf<'_>) -> Option<Deciding> {
+    if !asking.line.has_packet(input) {
+        return None;
+    }
+    match asking.receive(alloc, input) {
+        Ok((deciding, response)) if response.data.as_bytes() == b"otheruvw".as_slice() => Some(
+            deciding,
+        ),
+        _ => None,
+    }
+}
+
+fn accepts(deciding: Deciding, wire: &mut BytesMut) -> Option<server::LoggedIn> {
+    let ok = OkForm {
+        affected_rows: 0,
+        last_insert_id: 0,
+        status_flags: RawFlags::new(2),
+        warnings: 0,
+        info: None,
+        session_state: None,
+    };
+    deciding.accept(&ok, wire).ok()
+}
+
+fn is_in(alloc: Global, waiting: Waiting, input: &mut ParseBuf<'_>) -> bool {
+    if !waiting.line.has_packet(input) {
+        return false;
+    }
+    match waiting.receive(alloc, input) {
+        Ok(Outcome::Done(logged_in, ok)) => {
+            (logged_in.line.codec.sequence_id() == 0)
+                & (logged_in.capabilities.bits() == FLAGS)
+                & (ok.status_flags.0 == 2)
+        }
+        _ => false,
+    }
+}
+
+// The id in the first header.
+fn id_of(wire: &BytesMut) -> Option<u8> {
+    wire.as_slice().get(3).copied()
+}
+
+// Both ends, each over what the other sent.
+fn both_ends(alloc: Global) -> Option<[bool; 7]> {
+    let mut hello = BytesMut::new(alloc);
+    let mut first = BytesMut::new(alloc);
+    let mut request = BytesMut::new(alloc);
+    let mut second = BytesMut::new(alloc);
+    let mut verdict = BytesMut::new(alloc);
+    let greeting = Accepted::new(LIMIT).greet(&greeting(), &mut hello).ok()?;
+    let greeted = is_greeted(alloc, &mut ParseBuf(hello.as_slice()))?;
+    let waiting = logs_in(alloc, greeted, &mut first)?;
+    let asking = asks(
+        alloc,
+        greeting,
+        &mut ParseBuf(first.as_slice()),
+        &mut request,
+    )?;
+    let waiting = answers(
+        alloc,
+        waiting,
+        &mut ParseBuf(request.as_slice()),
+        &mut second,
+    )?;
+    let deciding = takes_answer(alloc, asking, &mut ParseBuf(second.as_slice()))?;
+    let logged_in = accepts(deciding, &mut verdict)?;
+    Some([
+        id_of(&hello) == Some(0),
+        id_of(&first) == Some(1),
+        id_of(&request) == Some(2),
+        id_of(&second) == Some(3),
+        id_of(&verdict) == Some(4),
+        is_in(alloc, waiting, &mut ParseBuf(verdict.as_slice())),
+        logged_in.line.codec.sequence_id() == 0,
+    ])
+}
+
+#[test]
+fn both_ends_go_through_the_connection_phase(rt: HostRuntime) -> Result<(), Fail> {
+    match both_ends(rt.alloc()) {
+        Some(facts) => all_hold(&facts),
+        None => Err(Fail::new("a step was refused")),
+    }
+}
+
+// The client on a greeting that was recorded.
+fn recorded(alloc: Global) -> Option<[bool; 4]> {
+    let mut input = ParseBuf(RECORDED);
+    let mut wire = BytesMut::new(alloc);
+    let greeted = is_greeted(alloc, &mut input)?;
+    let left = input.len();
+    let answer = answer_of(alloc, &greeted).ok()?;
+    let waiting = greeted.log_in(&login(answer.as_slice()), &mut wire).ok()?;
+    Some([
+        left == 0,
+        answer.as_slice() == b"mysql_native_passwordpf1^feHv<dfUT&_/g>>[".as_slice(),
+        id_of(&wire) == Some(1),
+        waiting.capabilities.bits() == FLAGS,
+    ])
+}
+
+#[test]
+fn a_recorded_greeting_is_answered(rt: HostRuntime) -> Result<(), Fail> {
+    match recorded(rt.alloc()) {
+        Some(facts) => all_hold(&facts),
+        None => Err(Fail::new("a step was refused")),
+    }
+}
