@@ -1,0 +1,2 @@
+pub mod SourceLemmas
+pub mod DumpLemmas

@@ -1,0 +1,24 @@
+use Rattle.std.proofs.Common.{◌≡◌, ◌++◌, ◌∙◌, ℕ, List, refl, string_bytes, subst, sym, Option}
+use Rattle.mysql_wire_dump_commands.specs.declared.side.Side.TheVariants.{Client}
+use Rattle.mysql_wire_dump_commands.specs.declared.source.Next.{Next}
+use Rattle.mysql_wire_dump_commands.specs.Lines.{packet_line}
+use Rattle.mysql_wire_dump_commands.specs.Sources.{AtEnd}
+use Rattle.mysql_wire_dump_commands.proofs.DumpLemmas.{packet_of, client_shown}
+use Rattle.mysql_wire_dump_commands.proofs.dump.Dump.show_client.Goals as goal
+
+pub returns : goal.returns
+returns c =
+    let old = c.args.self.now in
+    let is = packet_of old.client.next c.in-Some.id (sym c.next_id.ensures ∙ c.in-Some.is) in
+    let text = subst (λ (n : ℕ). string_bytes c.push_packet.new.text ≡ string_bytes old.text
+    ++ packet_line old.options.form (record { side = Client; id = c.in-Some.id; len = n; kind = c.in_ok-kind.kind }) c.shown_payload-payload.result.now c.shown_fields-fields.result.now)
+    c.payload_len.ensures c.in_ok-push_packet.ensures in
+    record {
+      more = λ shown client server written dumping is_turn looked.
+          client_shown old _ c.in-Some.id c.in_ok-kind.kind c.shown_payload-payload.result.now c.shown_fields-fields.result.now is c.in_ok-kind.ensures.large
+          c.in_ok-kind.ensures.named c.shown_payload-payload.ensures c.shown_fields-fields.ensures text c.id_behind-self.ensures refl refl
+          c.in_ok-pass.ensures.limit c.in_ok-pass.ensures.passes shown client server written dumping is_turn looked;
+      options_are = refl;
+      client_end = λ left ended. subst (λ (n : Next). AtEnd n left) (sym c.in_ok-pass.ensures.next) tt;
+      server_end = λ left ended. ended;
+    }

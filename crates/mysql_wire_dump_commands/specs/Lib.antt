@@ -1,0 +1,9 @@
+pub mod Names
+pub mod Naming
+pub mod Moments
+pub mod Status
+pub mod Sources
+pub mod Turns
+pub mod Lines
+pub mod Dumped
+pub mod Dumping

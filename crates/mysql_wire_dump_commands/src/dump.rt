@@ -1,0 +1,348 @@
+//! A session, packet by packet.
+
+ghost use Rattle.std.specs.Prelude.{◌≡◌, ◌≢◌, ◌<◌, ◌≤◌, ◌⊎◌, ◌++◌, ◌∷◌, ℕ, List, [], length, IfOk, IfSome, OnOk, string_bytes, false};
+ghost use Rattle.std.specs.Io.KnownBytes.{Appends};
+ghost use Rattle.mysql_wire_dump_commands.specs.Dumped.{ending_lines, status_of};
+ghost use Rattle.mysql_wire_dump_commands.specs.Moments.{moment_of};
+ghost use Rattle.mysql_wire_dump_commands.specs.Naming.{IsOrBytes, kind_at};
+ghost use Rattle.mysql_wire_dump_commands.specs.Status.{end_status};
+ghost use Rattle.mysql_wire_dump_commands.specs.declared.kind.Kind.TheVariants.{TooLarge};
+
+use crate::fields::{FieldForm, Fields};
+use crate::kind::Kind;
+use crate::lines::{LineForm, Seen, push_ending, push_packet};
+use crate::place::Place;
+use crate::session::Session;
+use crate::side::Side;
+use crate::source::{End, Next, Source};
+use crate::status::{Stop, exit_status};
+use crate::turn::turn;
+use std::alloc::{AllocError, Global};
+use std::io::{Read, Write};
+
+/// How a session is shown.
+#[derive(Debug, Clone, Copy, PartialEq, Eq)]
+pub struct Options {
+    pub form: LineForm,
+    /// Whether packets are shown with their fields.
+    pub has_fields: bool,
+    /// The most payload bytes of a packet that is not passed over.
+    pub limit: usize,
+}
+
+/// Which directions are shown.
+#[derive(Debug, Clone, Copy, PartialEq, Eq)]
+pub enum Sides {
+    Client,
+    Server,
+    Both,
+}
+
+// How many bytes of text are written at a time.
+const WRITE_SIZE: usize = 65536;
+
+// Both directions, the session, and the text that is not written yet.
+#[derive(Drop)]
+struct Dump {
+    alloc: Global,
+    options: Options,
+    client: Source<Global>,
+    server: Source<Global>,
+    session: Session,
+    fields: Fields,
+    // The id behind the last packet.
+    next_id: u8,
+    text: String,
+}
+
+fn field_form(options: Options) -> FieldForm {
+    match (options.has_fields, options.form) {
+        (false, _) => FieldForm::Hidden,
+        (true, LineForm::Text) => FieldForm::Text,
+        (true, LineForm::Json) => FieldForm::Json,
+    }
+}
+
+// What a source's next packet is: its fields are put, and the session goes on behind it.
+fn name_packet(
+    alloc: Global,
+    side: Side,
+    id: u8,
+    source: &Source<Global>,
+    session: &mut Session,
+    fields: &mut Fields,
+) -> Result<Kind, Stop>
+    ensures large { IfOk result (λ kind. source.now.limit < source.now.len → kind ≡ TooLarge) }
+    ensures named { IfOk result (λ kind. source.now.len ≤ source.now.limit
+        → IsOrBytes (kind_at (moment_of session.old) side id source.now.held.items) kind) }
+{
+    fields.clear();
+    let Some(payload) = source.payload() else {
+        session.pass(side, id);
+        return Ok(Kind::TooLarge);
+    };
+    let kind = session.name(alloc, side, id, payload, fields)?;
+    fields.end();
+    if fields.is_short_of_memory() {
+        return Err(Stop::Memory);
+    }
+    Ok(kind)
+}
+
+// The fields that are shown.
+fn shown_fields(options: Options, fields: &Fields) -> &str
+    ensures { options.has_fields ≡ false → result.now ≡ [] }
+{
+    if options.has_fields {
+        fields.text()
+    } else {
+        ""
+    }
+}
+
+// The payload of which bytes may be shown.
+fn shown_payload(source: &Source<Global>) -> &[u8]
+    ensures { source.now.len ≤ source.now.limit → result.now ≡ source.now.held.items }
+{
+    match source.payload() {
+        Some(payload) => payload,
+        None => &[],
+    }
+}
+
+impl Dump {
+    ghost use Rattle.mysql_wire_dump_commands.specs.Dumping.{Shows, StartsDump};
+    ghost use Rattle.mysql_wire_dump_commands.specs.Turns.{turn};
+    ghost use Rattle.mysql_wire_dump_commands.specs.declared.side.Side.TheVariants.{Client, Server};
+    ghost use Rattle.mysql_wire_dump_commands.specs.Sources.{id_of};
+    ghost use Rattle.mysql_wire_dump_commands.specs.declared.source.Next.TheVariants.{Ended};
+
+    fn new(alloc: Global, options: Options) -> Self
+        ensures starts { StartsDump options result }
+    {
+        Dump {
+            alloc,
+            options,
+            client: Source::new(alloc, options.limit),
+            server: Source::new(alloc, options.limit),
+            session: Session::new(alloc),
+            fields: Fields::new(alloc, field_form(options)),
+            next_id: 0,
+            text: String::new(alloc),
+        }
+    }
+
+    // Whose packet is next.
+    fn turn(&self) -> Option<Side>
+        ensures { result ≡ turn self.now.session.place self.now.next_id
+            (id_of self.now.client.next) (id_of self.now.server.next) }
+    {
+        turn(
+            self.session.place(),
+            self.next_id,
+            self.client.next_id(),
+            self.server.next_id(),
+        )
+    }
+
+    // Shows the client's next packet, and goes on behind it.
+    fn show_client(&mut self) -> Result<(), Stop>
+        ensures { OnOk result (Shows Client self.old self.new) }
+    {
+        let Some(id) = self.client.next_id() else {
+            return Err(Stop::Io);
+        };
+        let source = &self.client;
+        let session = &mut self.session;
+        let kind = name_packet(
+            self.alloc,
+            Side::Client,
+            id,
+            source,
+            session,
+            &mut self.fields,
+        )?;
+        let seen = Seen {
+            side: Side::Client,
+            id,
+            len: source.payload_len(),
+            kind,
+        };
+        let fields = shown_fields(self.options, &self.fields);
+        let payload = shown_payload(source);
+        push_packet(&mut self.text, self.options.form, &seen, payload, fields)?;
+        self.next_id = self.client.id_behind();
+        self.client.pass()?;
+        Ok(())
+    }
+
+    // Shows the server's next packet, and goes on behind it.
+    fn show_server(&mut self) -> Result<(), Stop>
+        ensures { OnOk result (Shows Server self.old self.new) }
+    {
+        let Some(id) = self.server.next_id() else {
+            return Err(Stop::Io);
+        };
+        let source = &self.server;
+        let session = &mut self.session;
+        let kind = name_packet(
+            self.alloc,
+            Side::Server,
+            id,
+            source,
+            session,
+            &mut self.fields,
+        )?;
+        let seen = Seen {
+            side: Side::Server,
+            id,
+            len: source.payload_len(),
+            kind,
+        };
+        let fields = shown_fields(self.options, &self.fields);
+        let payload = shown_payload(source);
+        push_packet(&mut self.text, self.options.form, &seen, payload, fields)?;
+        self.next_id = self.server.id_behind();
+        self.server.pass()?;
+        Ok(())
+    }
+
+    // Shows the next packet of a side.
+    fn show(&mut self, side: Side) -> Result<(), Stop>
+        ensures { OnOk result (Shows side self.old self.new) }
+    {
+        match side {
+            Side::Client => self.show_client(),
+            Side::Server => self.show_server(),
+        }
+    }
+
+    // Writes the text, where there is much of it.
+    fn write_much<W: Write>(&mut self, output: &mut W) -> Result<(), Stop>
+        ensures { OnOk result ((written : List ℕ)
+            × Appends (W.contents output.old) (W.contents output.new) written
+            × (string_bytes self.old.text ≡ written ++ string_bytes self.new.text)
+            × (self.new ≡ record self.old { text = self.new.text })) }
+    {
+        if self.text.len() >= WRITE_SIZE {
+            output.write_all(self.text.as_bytes())?;
+            self.text.clear();
+        }
+        Ok(())
+    }
+
+    // Why the client has no more packets, and the server.
+    fn ends(&self) -> Option<(End, End)>
+        ensures { IfSome result (λ ends. (self.now.client.next ≡ Ended ends.0)
+            × (self.now.server.next ≡ Ended ends.1)) }
+    {
+        match (self.client.next(), self.server.next()) {
+            (Next::Ended(client), Next::Ended(server)) => Some((client, server)),
+            _ => None,
+        }
+    }
+}
+
+// Shows all packets of both sides.
+fn show_all<R: Read, S: Read, W: Write>(
+    dump: &mut Dump,
+    client: &mut R,
+    server: &mut S,
+    output: &mut W,
+) -> Result<(), Stop> {
+    'packets: for _ in 0..u64::MAX {
+        dump.client.look(client)?;
+        dump.server.look(server)?;
+        let Some(side) = dump.turn() else {
+            return Ok(());
+        };
+        dump.show(side)?;
+        dump.write_much(output)?;
+        if dump.session.place() == Place::Encrypted {
+            dump.client.hide();
+            dump.server.hide();
+            return Ok(());
+        }
+    }
+    Err(Stop::Io)
+}
+
+// The status of a side that ends so.
+fn end_status(end: End) -> u8
+    ensures { result ≡ end_status end }
+{
+    match end {
+        End::Between | End::Encrypted => 0,
+        End::Unfinished => 3,
+        End::OutOfSync => 5,
+    }
+}
+
+// Appends how the sides end.
+fn push_endings(
+    text: &mut String,
+    form: LineForm,
+    sides: Sides,
+    client: (End, u64),
+    server: (End, u64),
+) -> Result<(), AllocError>
+    ensures { OnOk result (string_bytes text.new ≡ string_bytes text.old
+        ++ ending_lines form sides client.0 client.1 server.0 server.1) }
+{
+    match sides {
+        Sides::Client => push_ending(text, form, Side::Client, client.0, client.1),
+        Sides::Server => push_ending(text, form, Side::Server, server.0, server.1),
+        Sides::Both => {
+            push_ending(text, form, Side::Client, client.0, client.1)?;
+            push_ending(text, form, Side::Server, server.0, server.1)
+        }
+    }
+}
+
+// The exit status where the sides end so.
+fn status_of(sides: Sides, client: End, server: End) -> u8
+    ensures { result ≡ status_of sides client server }
+{
+    match sides {
+        Sides::Client => end_status(client),
+        Sides::Server => end_status(server),
+        Sides::Both => end_status(client).max(end_status(server)),
+    }
+}
+
+// Shows a session, and how each of its sides ends. The answer is the exit status.
+fn show_session<R: Read, S: Read, W: Write>(
+    alloc: Global,
+    options: Options,
+    sides: Sides,
+    client: &mut R,
+    server: &mut S,
+    output: &mut W,
+) -> Result<u8, Stop> {
+    let mut dump = Dump::new(alloc, options);
+    show_all(&mut dump, client, server, output)?;
+    let Some((client_end, server_end)) = dump.ends() else {
+        return Err(Stop::Io);
+    };
+    let of_client = (client_end, dump.client.place());
+    let of_server = (server_end, dump.server.place());
+    push_endings(&mut dump.text, options.form, sides, of_client, of_server)?;
+    output.write_all(dump.text.as_bytes())?;
+    output.flush()?;
+    Ok(status_of(sides, client_end, server_end))
+}
+
+/// Shows a session whose directions are these inputs, packet by packet. The answer is the exit
+/// status: 0 where each input ended between two packets, 3 where one ended inside a packet, 5 where
+/// the chunks of a packet are out of sync, 2 where a read or a write failed, 6 where memory was
+/// refused.
+pub fn run_dump<R: Read, S: Read, W: Write>(
+    alloc: Global,
+    options: Options,
+    sides: Sides,
+    client: &mut R,
+    server: &mut S,
+    output: &mut W,
+) -> u8 {
+    exit_status(show_session(alloc, options, sides, client, server, output))
+}

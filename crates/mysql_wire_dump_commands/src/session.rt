@@ -1,0 +1,174 @@
+//! A session, packet by packet: what each is at its place, and the place behind it.
+
+mod answers;
+mod commands;
+mod connection;
+mod rows;
+
+ghost use Rattle.std.specs.Prelude.{◌≡◌, IfOk};
+ghost use Rattle.mysql_wire_dump_commands.specs.Naming.{IsOrBytes, kind_at};
+ghost use Rattle.mysql_wire_dump_commands.specs.Moments.{moment_of};
+ghost use Rattle.mysql_wire_dump_commands.specs.declared.place.Place.TheVariants.{Greeting};
+ghost use Rattle.mysql_wire_dump_commands.specs.declared.kind.Kind.{Kind};
+
+use crate::fields::Fields;
+use crate::kind::Kind;
+use crate::naming::{Moment, kind_at};
+use crate::place::{Place, RowForm};
+use crate::refusal::Refusal;
+use crate::side::Side;
+use crate::statements::Statements;
+use crate::status::Stop;
+use mysql_wire::constants::{CapabilityFlags, Flags, MariadbCapabilities};
+use mysql_wire_packets::places::PayloadError;
+use std::alloc::Global;
+
+// How many columns' types are kept, at most: as many as a table may have.
+const MOST_COLUMNS: usize = 4096;
+
+/// What both sides have said so far.
+#[derive(Drop)]
+pub struct Session {
+    place: Place,
+    is_eof_deprecated: bool,
+    row_form: RowForm,
+    capabilities: CapabilityFlags,
+    mariadb: MariadbCapabilities,
+    columns: u64,
+    types: Vec<u8>,
+    statements: Statements,
+}
+
+// The kind of a payload that its type refuses.
+fn refused(error: PayloadError) -> Result<Kind, Stop>
+    ensures { (kind : Kind) → IfOk result (λ named. IsOrBytes kind named) }
+{
+    match Refusal::of(error) {
+        Ok(refusal) => Ok(Kind::Bytes(refusal)),
+        Err(stop) => Err(stop),
+    }
+}
+
+impl Session {
+    /// A session that begins. Until the client has said what it can do, `CLIENT_PROTOCOL_41` alone
+    /// is taken to be in force.
+    pub fn new(alloc: Global) -> Self
+        ensures { result.place ≡ Greeting }
+    {
+        Session {
+            place: Place::Greeting,
+            is_eof_deprecated: false,
+            row_form: RowForm::Unknown,
+            capabilities: CapabilityFlags::CLIENT_PROTOCOL_41,
+            mariadb: MariadbCapabilities::empty(),
+            columns: 0,
+            types: Vec::new(alloc),
+            statements: Statements::new(),
+        }
+    }
+
+    /// What is waited for.
+    pub fn place(&self) -> Place
+        ensures { result ≡ self.now.place }
+    {
+        self.place
+    }
+
+    // What is known of the next packet.
+    fn moment(&self) -> Moment
+        ensures { result ≡ moment_of self.now }
+    {
+        Moment {
+            place: self.place,
+            is_eof_deprecated: self.is_eof_deprecated,
+            row_form: self.row_form,
+        }
+    }
+
+    /// What a packet is, whose first chunk bears this id: its fields are put, and the session goes
+    /// on behind it.
+    pub fn name(
+        &mut self,
+        alloc: Global,
+        side: Side,
+        id: u8,
+        payload: &[u8],
+        fields: &mut Fields,
+    ) -> Result<Kind, Stop>
+        ensures { IfOk result (λ named.
+            IsOrBytes (kind_at (moment_of self.old) side id payload.now) named) }
+    {
+        let kind = kind_at(self.moment(), side, id, payload);
+        match side {
+            Side::Client => self.read_client(alloc, kind, id, payload, fields),
+            Side::Server => self.read_server(alloc, kind, payload, fields),
+        }
+    }
+
+    /// Goes on behind a packet whose payload was passed over.
+    pub fn pass(&mut self, side: Side, id: u8) {
+        match (side, self.place) {
+            (Side::Client, _) if id == 0 => {
+                self.row_form = RowForm::Unknown;
+                self.place = Place::Answer;
+            }
+            (Side::Server, Place::Columns { left, behind }) => self.pass_column(left, behind),
+            _ => {}
+        }
+    }
+
+    // Reads a client's packet of this kind.
+    fn read_client(
+        &mut self,
+        alloc: Global,
+        kind: Kind,
+        id: u8,
+        payload: &[u8],
+        fields: &mut Fields,
+    ) -> Result<Kind, Stop>
+        ensures { IfOk result (λ named. IsOrBytes kind named) }
+    {
+        if id == 0 {
+            return self.read_command(alloc, kind, payload, fields);
+        }
+        match kind {
+            Kind::TlsRequest | Kind::Login => self.read_login(alloc, kind, payload, fields),
+            Kind::AuthAnswer => self.read_auth_answer(alloc, kind, payload, fields),
+            _ => {
+                if payload.is_empty() {
+                    self.place = Place::Answer;
+                }
+                Ok(kind)
+            }
+        }
+    }
+
+    // Reads a server's packet of this kind, at its place.
+    fn read_server(
+        &mut self,
+        alloc: Global,
+        kind: Kind,
+        payload: &[u8],
+        fields: &mut Fields,
+    ) -> Result<Kind, Stop>
+        ensures { IfOk result (λ named. IsOrBytes kind named) }
+    {
+        match (kind, self.place) {
+            (Kind::Bytes(_), _) => Ok(kind),
+            (Kind::Error, Place::Greeting) => self.read_greeting(alloc, kind, payload, fields),
+            (Kind::Error, _) => self.read_error(alloc, kind, payload, fields),
+            (Kind::Greeting, _) => self.read_greeting(alloc, kind, payload, fields),
+            (_, Place::Login | Place::Authentication) => {
+                self.read_outcome(alloc, kind, payload, fields)
+            }
+            (Kind::Eof, Place::ColumnsEnd(behind)) => {
+                self.read_columns_end(alloc, kind, behind, payload, fields)
+            }
+            (Kind::Eof, _) => self.read_end(alloc, kind, payload, fields),
+            (Kind::Column | Kind::Row | Kind::BinaryRow, _) => {
+                self.read_table(alloc, kind, payload, fields)
+            }
+            _ => self.read_first(alloc, kind, payload, fields),
+        }
+    }
+}

@@ -1,0 +1,179 @@
+//! The first packets of answers.
+
+ghost use Rattle.std.specs.Prelude.{IfOk};
+ghost use Rattle.mysql_wire_dump_commands.specs.Naming.{IsOrBytes};
+
+use super::{Session, refused};
+use crate::fields::Fields;
+use crate::kind::Kind;
+use crate::place::{Behind, Place};
+use crate::show;
+use crate::status::Stop;
+use mysql_wire::constants::{Flags, StatusFlags};
+use mysql_wire::misc::raw::RawFlags;
+use mysql_wire::misc::raw::int::LeU16;
+use mysql_wire_packets::column_count::ColumnCount;
+use mysql_wire_packets::com_stmt_prepare_ok::ComStmtPrepareOk;
+use mysql_wire_packets::err_packet::ErrPacket;
+use mysql_wire_packets::places::read_whole;
+use mysql_wire_packets::query_answer::QueryAnswer;
+use mysql_wire_statements::prepare_answer::PrepareAnswer;
+use std::alloc::Global;
+
+impl Session {
+    // An answer has ended, and the status says whether another follows.
+    pub(super) fn end_answer(&mut self, status: RawFlags<StatusFlags, LeU16>) {
+        self.place = if status
+            .get()
+            .contains(StatusFlags::SERVER_MORE_RESULTS_EXISTS)
+        {
+            Place::Answer
+        } else {
+            Place::Command
+        };
+    }
+
+    pub(super) fn read_error(
+        &mut self,
+        alloc: Global,
+        kind: Kind,
+        payload: &[u8],
+        fields: &mut Fields,
+    ) -> Result<Kind, Stop>
+        ensures { IfOk result (λ named. IsOrBytes kind named) }
+    {
+        self.place = Place::Command;
+        match read_whole::<ErrPacket<'_>>(alloc, self.capabilities, payload) {
+            Ok(packet) => {
+                show::error(fields, &packet);
+                Ok(kind)
+            }
+            Err(error) => refused(error),
+        }
+    }
+
+    // The first packet of an answer, or what is no packet of a table.
+    pub(super) fn read_first(
+        &mut self,
+        alloc: Global,
+        kind: Kind,
+        payload: &[u8],
+        fields: &mut Fields,
+    ) -> Result<Kind, Stop>
+        ensures { IfOk result (λ named. IsOrBytes kind named) }
+    {
+        match kind {
+            Kind::Prepared => self.read_prepared(alloc, kind, payload, fields),
+            Kind::Statistics => {
+                self.place = Place::Command;
+                fields.words("statistics", payload);
+                Ok(kind)
+            }
+            Kind::BinaryLogEvent => {
+                fields.bytes("event", payload);
+                Ok(kind)
+            }
+            _ => self.read_answer(alloc, kind, payload, fields),
+        }
+    }
+
+    fn read_answer(
+        &mut self,
+        alloc: Global,
+        kind: Kind,
+        payload: &[u8],
+        fields: &mut Fields,
+    ) -> Result<Kind, Stop>
+        ensures { IfOk result (λ named. IsOrBytes kind named) }
+    {
+        self.place = Place::Command;
+        match QueryAnswer::read(alloc, self.capabilities, payload) {
+            Ok(QueryAnswer::Done(packet)) => {
+                self.end_answer(packet.status_flags);
+                show::ok(fields, &packet);
+                Ok(kind)
+            }
+            Ok(QueryAnswer::Failed(packet)) => {
+                show::error(fields, &packet);
+                Ok(kind)
+            }
+            Ok(QueryAnswer::File(packet)) => {
+                self.place = Place::File;
+                show::local_infile(fields, &packet);
+                Ok(kind)
+            }
+            Ok(QueryAnswer::Columns(packet)) => {
+                self.expect_columns(&packet);
+                show::column_count(fields, &packet);
+                Ok(kind)
+            }
+            Err(error) => refused(error),
+        }
+    }
+
+    // The definitions of columns follow, where the count says so.
+    fn expect_columns(&mut self, packet: &ColumnCount) {
+        self.columns = packet.column_count;
+        self.types.clear();
+        self.place = if packet.metadata_follows == Some(0) {
+            Place::Rows
+        } else if packet.column_count == 0 {
+            self.behind_columns(Behind::Rows)
+        } else {
+            Place::Columns {
+                left: packet.column_count,
+                behind: Behind::Rows,
+            }
+        };
+    }
+
+    // The definitions of a statement's parameters and columns follow, where it has some.
+    fn expect_definitions(&mut self, packet: &ComStmtPrepareOk) {
+        self.statements.put(*packet);
+        self.types.clear();
+        self.place = if packet.num_params > 0 {
+            Place::Columns {
+                left: packet.num_params as u64,
+                behind: Behind::StatementColumns(packet.num_columns),
+            }
+        } else {
+            self.statement_columns(packet.num_columns)
+        };
+    }
+
+    // The definitions of a statement's columns follow, where it has some.
+    pub(super) fn statement_columns(&self, count: u16) -> Place {
+        if count > 0 {
+            Place::Columns {
+                left: count as u64,
+                behind: Behind::Command,
+            }
+        } else {
+            Place::Command
+        }
+    }
+
+    fn read_prepared(
+        &mut self,
+        alloc: Global,
+        kind: Kind,
+        payload: &[u8],
+        fields: &mut Fields,
+    ) -> Result<Kind, Stop>
+        ensures { IfOk result (λ named. IsOrBytes kind named) }
+    {
+        self.place = Place::Command;
+        match read_whole::<PrepareAnswer<'_>>(alloc, self.capabilities, payload) {
+            Ok(PrepareAnswer::Prepared(packet)) => {
+                self.expect_definitions(&packet);
+                show::prepared(fields, &packet);
+                Ok(kind)
+            }
+            Ok(PrepareAnswer::Failed(packet)) => {
+                show::error(fields, &packet);
+                Ok(kind)
+            }
+            Err(error) => refused(error),
+        }
+    }
+}

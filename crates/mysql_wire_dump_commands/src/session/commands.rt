@@ -1,0 +1,250 @@
+//! Commands.
+
+ghost use Rattle.std.specs.Prelude.{IfOk};
+ghost use Rattle.mysql_wire_dump_commands.specs.Naming.{IsOrBytes};
+
+use super::{Session, refused};
+use crate::fields::Fields;
+use crate::kind::Kind;
+use crate::place::{Place, RowForm};
+use crate::show;
+use crate::status::Stop;
+use mysql_wire_packets::client_command::ClientCommand;
+use mysql_wire_packets::places::{PayloadError, read_whole};
+use mysql_wire_statements::com_stmt_close::ComStmtClose;
+use mysql_wire_statements::com_stmt_execute::ComStmtExecute;
+use mysql_wire_statements::com_stmt_fetch::ComStmtFetch;
+use mysql_wire_statements::com_stmt_prepare::ComStmtPrepare;
+use mysql_wire_statements::com_stmt_reset::ComStmtReset;
+use mysql_wire_statements::com_stmt_send_long_data::ComStmtSendLongData;
+use std::alloc::Global;
+
+// The number of the statement that a payload executes, where it has come.
+fn statement_of(payload: &[u8]) -> Option<u32> {
+    match payload {
+        [_, a, b, c, d, ..] => Some(u32::from_le_bytes([*a, *b, *c, *d])),
+        _ => None,
+    }
+}
+
+// The fields of a command without prepared statements.
+fn show_plain(fields: &mut Fields, command: &ClientCommand<'_>) {
+    match command {
+        ClientCommand::InitDb(packet) => show::init_db(fields, packet),
+        ClientCommand::Query(packet) => show::query(fields, packet),
+        ClientCommand::AttributedQuery(packet) => show::attributed_query(fields, packet),
+        ClientCommand::ChangeUser(packet) => show::change_user(fields, packet),
+        ClientCommand::Quit(_) | ClientCommand::Ping(_) => {}
+    }
+}
+
+// What is waited for behind a command.
+fn place_behind(kind: Kind) -> Place {
+    match kind {
+        Kind::Quit => Place::Closed,
+        Kind::ChangeUser => Place::Authentication,
+        Kind::Prepare => Place::PrepareAnswer,
+        Kind::LongData | Kind::CloseStatement => Place::Command,
+        Kind::Fetch => Place::Rows,
+        Kind::FieldList => Place::FieldList,
+        Kind::StatisticsRequest => Place::Statistics,
+        Kind::BinaryLogRequest => Place::BinaryLog,
+        Kind::SetOption | Kind::OtherCommand => Place::OptionAnswer,
+        _ => Place::Answer,
+    }
+}
+
+impl Session {
+    pub(super) fn read_command(
+        &mut self,
+        alloc: Global,
+        kind: Kind,
+        payload: &[u8],
+        fields: &mut Fields,
+    ) -> Result<Kind, Stop>
+        ensures { IfOk result (λ named. IsOrBytes kind named) }
+    {
+        self.place = place_behind(kind);
+        self.row_form = RowForm::Text;
+        match kind {
+            Kind::Quit | Kind::InitDatabase | Kind::Query | Kind::Ping | Kind::ChangeUser =>
+                self.read_plain(alloc, kind, payload, fields),
+            Kind::Prepare
+            | Kind::Execute
+            | Kind::LongData
+            | Kind::CloseStatement
+            | Kind::ResetStatement
+            | Kind::Fetch => self.read_statement(alloc, kind, payload, fields),
+            _ => {
+                fields.bytes("payload", payload);
+                Ok(kind)
+            }
+        }
+    }
+
+    // A command without prepared statements.
+    fn read_plain(
+        &mut self,
+        alloc: Global,
+        kind: Kind,
+        payload: &[u8],
+        fields: &mut Fields,
+    ) -> Result<Kind, Stop>
+        ensures { IfOk result (λ named. IsOrBytes kind named) }
+    {
+        match ClientCommand::read(alloc, self.capabilities, payload) {
+            Ok(command) => {
+                show_plain(fields, &command);
+                Ok(kind)
+            }
+            Err(error) => refused(error),
+        }
+    }
+
+    // A command of a prepared statement.
+    fn read_statement(
+        &mut self,
+        alloc: Global,
+        kind: Kind,
+        payload: &[u8],
+        fields: &mut Fields,
+    ) -> Result<Kind, Stop>
+        ensures { IfOk result (λ named. IsOrBytes kind named) }
+    {
+        match kind {
+            Kind::Prepare => self.read_prepare(alloc, kind, payload, fields),
+            Kind::Execute => self.read_execute(alloc, kind, payload, fields),
+            Kind::LongData => self.read_long_data(alloc, kind, payload, fields),
+            Kind::CloseStatement => self.read_close(alloc, kind, payload, fields),
+            Kind::ResetStatement => self.read_reset(alloc, kind, payload, fields),
+            _ => self.read_fetch(alloc, kind, payload, fields),
+        }
+    }
+
+    fn read_prepare(
+        &mut self,
+        alloc: Global,
+        kind: Kind,
+        payload: &[u8],
+        fields: &mut Fields,
+    ) -> Result<Kind, Stop>
+        ensures { IfOk result (λ named. IsOrBytes kind named) }
+    {
+        match read_whole::<ComStmtPrepare<'_>>(alloc, (), payload) {
+            Ok(packet) => {
+                fields.words("query", packet.query);
+                Ok(kind)
+            }
+            Err(error) => refused(error),
+        }
+    }
+
+    fn read_execute(
+        &mut self,
+        alloc: Global,
+        kind: Kind,
+        payload: &[u8],
+        fields: &mut Fields,
+    ) -> Result<Kind, Stop>
+        ensures { IfOk result (λ named. IsOrBytes kind named) }
+    {
+        self.row_form = RowForm::Binary;
+        let Some(statement_id) = statement_of(payload) else {
+            return refused(PayloadError::OtherHeader(0x17));
+        };
+        let Some(statement) = self.statements.get(statement_id) else {
+            show::number_of_statement(fields, statement_id);
+            return Ok(kind);
+        };
+        match read_whole::<ComStmtExecute<'_>>(alloc, statement.num_params, payload) {
+            Ok(packet) => {
+                show::execute(fields, &packet);
+                Ok(kind)
+            }
+            Err(error) => refused(error),
+        }
+    }
+
+    fn read_long_data(
+        &mut self,
+        alloc: Global,
+        kind: Kind,
+        payload: &[u8],
+        fields: &mut Fields,
+    ) -> Result<Kind, Stop>
+        ensures { IfOk result (λ named. IsOrBytes kind named) }
+    {
+        match read_whole::<ComStmtSendLongData<'_>>(alloc, (), payload) {
+            Ok(packet) => {
+                show::long_data(fields, &packet);
+                Ok(kind)
+            }
+            Err(error) => refused(error),
+        }
+    }
+
+    fn read_close(
+        &mut self,
+        alloc: Global,
+        kind: Kind,
+        payload: &[u8],
+        fields: &mut Fields,
+    ) -> Result<Kind, Stop>
+        ensures { IfOk result (λ named. IsOrBytes kind named) }
+    {
+        match read_whole::<ComStmtClose>(alloc, (), payload) {
+            Ok(packet) => {
+                show::number_of_statement(fields, packet.statement_id);
+                Ok(kind)
+            }
+            Err(error) => refused(error),
+        }
+    }
+
+    fn read_reset(
+        &mut self,
+        alloc: Global,
+        kind: Kind,
+        payload: &[u8],
+        fields: &mut Fields,
+    ) -> Result<Kind, Stop>
+        ensures { IfOk result (λ named. IsOrBytes kind named) }
+    {
+        match read_whole::<ComStmtReset>(alloc, (), payload) {
+            Ok(packet) => {
+                show::number_of_statement(fields, packet.statement_id);
+                Ok(kind)
+            }
+            Err(error) => refused(error),
+        }
+    }
+
+    fn read_fetch(
+        &mut self,
+        alloc: Global,
+        kind: Kind,
+        payload: &[u8],
+        fields: &mut Fields,
+    ) -> Result<Kind, Stop>
+        ensures { IfOk result (λ named. IsOrBytes kind named) }
+    {
+        self.row_form = RowForm::Unknown;
+        match read_whole::<ComStmtFetch>(alloc, (), payload) {
+            Ok(packet) => {
+                self.expect_rows_of(packet.statement_id);
+                show::fetch(fields, &packet);
+                Ok(kind)
+            }
+            Err(error) => refused(error),
+        }
+    }
+
+    // The rows of a statement. Their types are those of the definitions that came last, where there
+    // are as many.
+    fn expect_rows_of(&mut self, statement_id: u32) {
+        if let Some(statement) = self.statements.get(statement_id) {
+            self.row_form = RowForm::Binary;
+            self.columns = statement.num_columns as u64;
+        }
+    }
+}

@@ -1,0 +1,137 @@
+//! How a connection begins.
+
+ghost use Rattle.std.specs.Prelude.{IfOk};
+ghost use Rattle.mysql_wire_dump_commands.specs.Naming.{IsOrBytes};
+
+use super::{Session, refused};
+use crate::fields::Fields;
+use crate::kind::Kind;
+use crate::place::Place;
+use crate::show;
+use crate::status::Stop;
+use mysql_wire::constants::{CapabilityFlags, Flags};
+use mysql_wire_packets::auth_answer::AuthAnswer;
+use mysql_wire_packets::auth_switch_response::AuthSwitchResponse;
+use mysql_wire_packets::first_packet::{ClientFirst, ServerFirst};
+use mysql_wire_packets::handshake_response::HandshakeResponse41;
+use mysql_wire_packets::places::read_whole;
+use std::alloc::Global;
+
+impl Session {
+    pub(super) fn read_greeting(
+        &mut self,
+        alloc: Global,
+        kind: Kind,
+        payload: &[u8],
+        fields: &mut Fields,
+    ) -> Result<Kind, Stop>
+        ensures { IfOk result (λ named. IsOrBytes kind named) }
+    {
+        match ServerFirst::read(alloc, payload) {
+            Ok(ServerFirst::Greeting(packet)) => {
+                self.place = Place::Login;
+                show::greeting(fields, &packet);
+                Ok(kind)
+            }
+            Ok(ServerFirst::Failed(packet)) => {
+                self.place = Place::Closed;
+                show::error(fields, &packet);
+                Ok(kind)
+            }
+            Err(error) => {
+                self.place = Place::Login;
+                refused(error)
+            }
+        }
+    }
+
+    // What a client can do, and wants, from its answer on.
+    fn log_in(&mut self, packet: &HandshakeResponse41<'_>) {
+        let capabilities = packet.client_flag.get();
+        self.place = Place::Authentication;
+        self.is_eof_deprecated = capabilities.contains(CapabilityFlags::CLIENT_DEPRECATE_EOF);
+        if !capabilities.contains(CapabilityFlags::CLIENT_LONG_PASSWORD) {
+            self.mariadb = packet.mariadb_capabilities.get();
+        }
+        self.capabilities = capabilities;
+    }
+
+    pub(super) fn read_login(
+        &mut self,
+        alloc: Global,
+        kind: Kind,
+        payload: &[u8],
+        fields: &mut Fields,
+    ) -> Result<Kind, Stop>
+        ensures { IfOk result (λ named. IsOrBytes kind named) }
+    {
+        match ClientFirst::read(alloc, payload) {
+            Ok(ClientFirst::Tls(packet)) => {
+                self.place = Place::Encrypted;
+                show::tls_request(fields, &packet);
+                Ok(kind)
+            }
+            Ok(ClientFirst::Login(packet)) => {
+                self.log_in(&packet);
+                show::login(fields, &packet);
+                Ok(kind)
+            }
+            Err(error) => {
+                self.place = Place::Authentication;
+                refused(error)
+            }
+        }
+    }
+
+    pub(super) fn read_auth_answer(
+        &mut self,
+        alloc: Global,
+        kind: Kind,
+        payload: &[u8],
+        fields: &mut Fields,
+    ) -> Result<Kind, Stop>
+        ensures { IfOk result (λ named. IsOrBytes kind named) }
+    {
+        match read_whole::<AuthSwitchResponse<'_>>(alloc, (), payload) {
+            Ok(packet) => {
+                show::auth_answer(fields, &packet);
+                Ok(kind)
+            }
+            Err(error) => refused(error),
+        }
+    }
+
+    // What a server says of the login.
+    pub(super) fn read_outcome(
+        &mut self,
+        alloc: Global,
+        kind: Kind,
+        payload: &[u8],
+        fields: &mut Fields,
+    ) -> Result<Kind, Stop>
+        ensures { IfOk result (λ named. IsOrBytes kind named) }
+    {
+        self.place = Place::Authentication;
+        match AuthAnswer::read(alloc, self.capabilities, payload) {
+            Ok(AuthAnswer::Done(packet)) => {
+                self.place = Place::Command;
+                show::ok(fields, &packet);
+                Ok(kind)
+            }
+            Ok(AuthAnswer::Failed(packet)) => {
+                self.place = Place::Command;
+                show::error(fields, &packet);
+                Ok(kind)
+            }
+            Ok(AuthAnswer::Switch(packet)) => {
+                show::auth_switch(fields, &packet);
+                Ok(kind)
+            }
+            Ok(AuthAnswer::MoreData(packet)) => {
+                show::auth_more_data(fields, &packet);
+                Ok(kind)
+            }
+            Err(error) => refused(error),
+        }
+    }
+}

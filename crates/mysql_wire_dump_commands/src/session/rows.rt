@@ -1,0 +1,231 @@
+//! Definitions of columns, and rows.
+
+ghost use Rattle.std.specs.Prelude.{IfOk};
+ghost use Rattle.mysql_wire_dump_commands.specs.Naming.{IsOrBytes};
+
+use super::{MOST_COLUMNS, Session, refused};
+use crate::fields::Fields;
+use crate::kind::Kind;
+use crate::place::{Behind, Place, RowForm};
+use crate::show;
+use crate::status::Stop;
+use mysql_wire::constants::{CapabilityFlags, Flags, StatusFlags};
+use mysql_wire_packets::column_definition::ColumnDefinition41;
+use mysql_wire_packets::eof_packet::EofPacket;
+use mysql_wire_packets::ok_packet::{InfoForm, RowsEnd};
+use mysql_wire_packets::places::read_whole;
+use mysql_wire_statements::binary_row::BinaryRow;
+use std::alloc::Global;
+
+impl Session {
+    // What is waited for where no definition is left.
+    pub(super) fn behind_columns(&self, behind: Behind) -> Place {
+        if self.is_eof_deprecated {
+            self.behind_definitions(behind)
+        } else {
+            Place::ColumnsEnd(behind)
+        }
+    }
+
+    // What is waited for behind the end of the definitions.
+    fn behind_definitions(&self, behind: Behind) -> Place {
+        match behind {
+            Behind::Rows => Place::Rows,
+            Behind::StatementColumns(count) => self.statement_columns(count),
+            Behind::Command => Place::Command,
+        }
+    }
+
+    // Goes on behind one of so many definitions.
+    pub(super) fn pass_column(&mut self, left: u64, behind: Behind) {
+        self.place = match left {
+            0 | 1 => self.behind_columns(behind),
+            left => Place::Columns {
+                left: left - 1,
+                behind,
+            },
+        };
+    }
+
+    // Keeps the type of one more column.
+    fn note_type(&mut self, number: u8) -> Result<(), Stop> {
+        if self.types.len() < MOST_COLUMNS {
+            self.types.push(number)?;
+        }
+        Ok(())
+    }
+
+    // Where no EOF stands behind definitions, the client wants none.
+    fn skip_columns_end(&mut self) {
+        if let Place::ColumnsEnd(behind) = self.place {
+            self.is_eof_deprecated = true;
+            self.capabilities = self
+                .capabilities
+                .union(CapabilityFlags::CLIENT_DEPRECATE_EOF);
+            self.place = self.behind_definitions(behind);
+        }
+    }
+
+    // A definition of a column, or a row.
+    pub(super) fn read_table(
+        &mut self,
+        alloc: Global,
+        kind: Kind,
+        payload: &[u8],
+        fields: &mut Fields,
+    ) -> Result<Kind, Stop>
+        ensures { IfOk result (λ named. IsOrBytes kind named) }
+    {
+        self.skip_columns_end();
+        match (kind, self.place) {
+            (Kind::Column, Place::Columns { left, behind }) => {
+                self.pass_column(left, behind);
+                self.read_column(alloc, kind, payload, fields)
+            }
+            (Kind::Row, _) => self.read_row(alloc, kind, payload, fields),
+            (Kind::BinaryRow, _) => self.read_binary_row(alloc, kind, payload, fields),
+            _ => {
+                // One of the columns of a table, with its default behind it.
+                fields.bytes("column", payload);
+                Ok(kind)
+            }
+        }
+    }
+
+    fn read_column(
+        &mut self,
+        alloc: Global,
+        kind: Kind,
+        payload: &[u8],
+        fields: &mut Fields,
+    ) -> Result<Kind, Stop>
+        ensures { IfOk result (λ named. IsOrBytes kind named) }
+    {
+        match read_whole::<ColumnDefinition41<'_>>(alloc, self.mariadb, payload) {
+            Ok(packet) => {
+                show::column(fields, &packet);
+                match self.note_type(packet.column_type.0) {
+                    Ok(()) => Ok(kind),
+                    Err(stop) => Err(stop),
+                }
+            }
+            Err(error) => refused(error),
+        }
+    }
+
+    // The EOF that ends definitions. Behind it are no rows where a cursor has them.
+    pub(super) fn read_columns_end(
+        &mut self,
+        alloc: Global,
+        kind: Kind,
+        behind: Behind,
+        payload: &[u8],
+        fields: &mut Fields,
+    ) -> Result<Kind, Stop>
+        ensures { IfOk result (λ named. IsOrBytes kind named) }
+    {
+        self.place = self.behind_definitions(behind);
+        match read_whole::<EofPacket>(alloc, (), payload) {
+            Ok(packet) => {
+                let status = packet.status_flags.get();
+                if behind == Behind::Rows
+                    && status.contains(StatusFlags::SERVER_STATUS_CURSOR_EXISTS)
+                {
+                    self.place = Place::Command;
+                }
+                show::eof(fields, &packet);
+                Ok(kind)
+            }
+            Err(error) => refused(error),
+        }
+    }
+
+    // The end of rows, or of what else an EOF ends.
+    pub(super) fn read_end(
+        &mut self,
+        alloc: Global,
+        kind: Kind,
+        payload: &[u8],
+        fields: &mut Fields,
+    ) -> Result<Kind, Stop>
+        ensures { IfOk result (λ named. IsOrBytes kind named) }
+    {
+        self.place = Place::Command;
+        if self.is_eof_deprecated && payload.len() != 5 {
+            return self.read_rows_end(alloc, kind, payload, fields);
+        }
+        match read_whole::<EofPacket>(alloc, (), payload) {
+            Ok(packet) => {
+                self.end_answer(packet.status_flags);
+                show::eof(fields, &packet);
+                Ok(kind)
+            }
+            Err(error) => refused(error),
+        }
+    }
+
+    // The OK in place of an EOF.
+    fn read_rows_end(
+        &mut self,
+        alloc: Global,
+        kind: Kind,
+        payload: &[u8],
+        fields: &mut Fields,
+    ) -> Result<Kind, Stop>
+        ensures { IfOk result (λ named. IsOrBytes kind named) }
+    {
+        let form = InfoForm::of(self.capabilities);
+        match read_whole::<RowsEnd<'_>>(alloc, form, payload) {
+            Ok(packet) => {
+                self.end_answer(packet.status_flags);
+                show::ok(fields, &packet);
+                Ok(kind)
+            }
+            Err(error) => refused(error),
+        }
+    }
+
+    // A row of texts. One of a command that was not seen is not read.
+    fn read_row(
+        &mut self,
+        alloc: Global,
+        kind: Kind,
+        payload: &[u8],
+        fields: &mut Fields,
+    ) -> Result<Kind, Stop>
+        ensures { IfOk result (λ named. IsOrBytes kind named) }
+    {
+        match self.row_form {
+            RowForm::Text => match show::text_row(alloc, fields, self.columns, payload) {
+                Ok(None) => Ok(kind),
+                Ok(Some(refusal)) => Ok(Kind::Bytes(refusal)),
+                Err(stop) => Err(stop),
+            },
+            RowForm::Binary | RowForm::Unknown => {
+                fields.bytes("values", payload);
+                Ok(kind)
+            }
+        }
+    }
+
+    fn read_binary_row(
+        &mut self,
+        alloc: Global,
+        kind: Kind,
+        payload: &[u8],
+        fields: &mut Fields,
+    ) -> Result<Kind, Stop>
+        ensures { IfOk result (λ named. IsOrBytes kind named) }
+    {
+        let row = match read_whole::<BinaryRow<'_>>(alloc, self.columns as usize, payload) {
+            Ok(row) => row,
+            Err(error) => return refused(error),
+        };
+        let types = self.types.as_slice();
+        match show::binary_row(alloc, fields, self.columns, types, &row) {
+            Ok(None) => Ok(kind),
+            Ok(Some(refusal)) => Ok(Kind::Bytes(refusal)),
+            Err(stop) => Err(stop),
+        }
+    }
+}

@@ -1,0 +1,99 @@
+#!/usr/bin/env python3
+"""Dumps the recorded sessions of crates/recording_tests, or those of another file of this form.
+
+    scripts/dump_recordings.py [RECORDINGS]
+
+Each payload gets the header that it came with; the dump has to show both sides' packets in the order
+in which they were recorded, each named, with and without their fields. The last line is
+'N passed, M failed'.
+"""
+
+import json
+import pathlib
+import subprocess
+import sys
+import tempfile
+
+TOP = pathlib.Path(__file__).resolve().parent.parent
+PROGRAM = TOP / "crates/mysql_wire_dump/out/mysql_wire_dump"
+SESSION, CLIENT, SERVER, RESET = range(4)
+SIDES = {CLIENT: "client", SERVER: "server"}
+
+
+def records(data):
+    at = 0
+    while at < len(data):
+        length, kind = int.from_bytes(data[at : at + 3], "little"), data[at + 3]
+        yield kind, data[at + 4 : at + 4 + length]
+        at += 4 + length
+
+
+def sessions(data):
+    """The name of each session, and its packets: who, id, payload."""
+    name, packets, number = None, [], 0
+    for kind, payload in records(data):
+        if kind == SESSION:
+            if name:
+                yield name, packets
+            name, packets, number = payload.decode(), [], 0
+        elif kind == RESET:
+            number = 0
+        else:
+            packets.append((SIDES[kind], number % 256, payload))
+            number += len(payload) // 0xFFFFFF + 1
+    yield name, packets
+
+
+def framed(packets, side):
+    """The bytes of one side."""
+    data = bytearray()
+    for who, number, payload in packets:
+        if who == side:
+            for at in range(0, len(payload) + 1, 0xFFFFFF):
+                piece = payload[at : at + 0xFFFFFF]
+                data += len(piece).to_bytes(3, "little") + bytes([number % 256]) + piece
+                number += 1
+    return bytes(data)
+
+
+def dump(*words):
+    """The packets that are shown: who, id, length, what."""
+    run = subprocess.run([PROGRAM, "--json", *words], stdout=subprocess.PIPE, check=True)
+    shown = [json.loads(line) for line in run.stdout.splitlines()]
+    return [(p["from"], p["id"], p["length"], p["packet"]) for p in shown if "packet" in p]
+
+
+def faults(packets, folder):
+    """What is wrong with the dumps of a session."""
+    for side in SIDES.values():
+        (folder / side).write_bytes(framed(packets, side))
+    both = ["client", folder / "client", "server", folder / "server"]
+    wanted = [(who, number, len(payload)) for who, number, payload in packets]
+    for options in ([], ["--fields"]):
+        shown = dump(*options, *both)
+        if [packet[:3] for packet in shown] != wanted:
+            yield "other packets, or another order"
+        for packet in shown:
+            if packet[3] in ("bytes", "too large", "other command"):
+                yield "not named: %s" % (packet,)
+    for side in SIDES.values():
+        alone = [packet[:3] for packet in dump(side, folder / side)]
+        if alone != [packet for packet in wanted if packet[0] == side]:
+            yield "other packets of the %s alone" % side
+
+
+def main():
+    given = sys.argv[1] if len(sys.argv) > 1 else TOP / "crates/recording_tests/stdin"
+    passed = failed = 0
+    for name, packets in sessions(pathlib.Path(given).read_bytes()):
+        with tempfile.TemporaryDirectory() as folder:
+            found = list(faults(packets, pathlib.Path(folder)))
+        print(name, len(packets), "packets", *found[:5], sep="; " if found else " ")
+        failed += bool(found)
+        passed += not found
+    print("%d passed, %d failed" % (passed, failed))
+    sys.exit(failed > 0)
+
+
+if __name__ == "__main__":
+    main()
