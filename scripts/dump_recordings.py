@@ -16,7 +16,7 @@ import tempfile
 
 TOP = pathlib.Path(__file__).resolve().parent.parent
 PROGRAM = TOP / "crates/mysql_wire_dump/out/mysql_wire_dump"
-SESSION, CLIENT, SERVER, RESET = range(4)
+SESSION, CLIENT, SERVER, RESET, FIELDS = range(5)
 SIDES = {CLIENT: "client", SERVER: "server"}
 
 
@@ -38,7 +38,7 @@ def sessions(data):
             name, packets, number = payload.decode(), [], 0
         elif kind == RESET:
             number = 0
-        else:
+        elif kind != FIELDS:
             packets.append((SIDES[kind], number % 256, payload))
             number += len(payload) // 0xFFFFFF + 1
     yield name, packets
@@ -83,6 +83,9 @@ def faults(packets, folder):
 
 
 def main():
+    if "--help" in sys.argv:
+        print(__doc__.strip())
+        return
     given = sys.argv[1] if len(sys.argv) > 1 else TOP / "crates/recording_tests/stdin"
     passed = failed = 0
     for name, packets in sessions(pathlib.Path(given).read_bytes()):

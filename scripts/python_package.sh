@@ -9,6 +9,10 @@ package=$top/bindings/python
 work=$(mktemp -d)
 trap 'rm -rf "$work"' EXIT
 export PYTHONDONTWRITEBYTECODE=1
+if python3 --version > "$work/log" 2>&1; then
+    check 'a capture is split into its two directions' quiet env -C "$top/examples/python" \
+        python3 -B -m unittest test_pcap
+fi
 if ! python3 -m pip --version > "$work/log" 2>&1 || ! make --version > "$work/log" 2>&1; then
     echo 'there is no python3 with pip, or no make here'
     finish
