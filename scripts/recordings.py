@@ -72,4 +72,11 @@ def records(folder):
             sys.exit(f"{name}: no payload for {len(left)} lists of fields")
 
 
-sys.stdout.buffer.write(b"".join(records(pathlib.Path(sys.argv[1]))))
+def main():
+    if len(sys.argv) != 2 or sys.argv[1] == "--help":
+        sys.exit(__doc__.strip())
+    sys.stdout.buffer.write(b"".join(records(pathlib.Path(sys.argv[1]))))
+
+
+if __name__ == "__main__":
+    main()
