@@ -7,6 +7,7 @@ use crate::inputs::{Numbers, framing, size_name};
 use crate::library;
 use crate::packets::{count_for, stream_of};
 use crate::timing::Row;
+use mysql_wire_sys::*;
 use std::cell::RefCell;
 use std::ptr;
 use std::slice;
@@ -15,45 +16,11 @@ const SIZES: [usize; 3] = [16, 4 << 10, 1 << 20];
 
 const PACKET: i32 = 1;
 
-#[repr(C)]
-struct View {
-    at: *const u8,
-    len: usize,
-}
-
-unsafe extern "C" {
-    fn mysql_wire_open(limit: usize, connection: *mut *mut u8) -> i32;
-    fn mysql_wire_close(connection: *mut *mut u8);
-    fn mysql_wire_feed(connection: *mut *mut u8, bytes: *const u8, len: usize) -> i32;
-    fn mysql_wire_peek(connection: *mut *mut u8, packet: *mut View) -> i32;
-    fn mysql_wire_take(connection: *mut *mut u8) -> i32;
-    fn mysql_wire_next(
-        connection: *mut *mut u8,
-        room: *mut u8,
-        room_len: usize,
-        len: *mut usize,
-    ) -> i32;
-    fn mysql_wire_decode(
-        connection: *mut *mut u8,
-        bytes: *const u8,
-        len: usize,
-        used: *mut usize,
-        packet: *mut View,
-    ) -> i32;
-    fn mysql_wire_encode_to(
-        connection: *mut *mut u8,
-        payload: *const u8,
-        len: usize,
-        room: *mut u8,
-        room_len: usize,
-        written: *mut usize,
-    ) -> i32;
-    fn mysql_wire_reset(connection: *mut *mut u8) -> i32;
-}
+const NOTHING: View = View { at: ptr::null(), len: 0 };
 
 // The sum over the packets that are there, each lent and taken.
-fn lent(connection: &mut *mut u8) -> u64 {
-    let mut view = View { at: ptr::null(), len: 0 };
+fn lent(connection: &mut Handle) -> u64 {
+    let mut view = NOTHING;
     let mut sum = 0u64;
     unsafe {
         while mysql_wire_peek(connection, &mut view) == PACKET {
@@ -65,7 +32,7 @@ fn lent(connection: &mut *mut u8) -> u64 {
 }
 
 // The same, each copied to room of the caller's.
-fn copied(connection: &mut *mut u8, room: &mut [u8]) -> u64 {
+fn copied(connection: &mut Handle, room: &mut [u8]) -> u64 {
     let mut len = 0;
     let mut sum = 0u64;
     unsafe {
@@ -116,7 +83,7 @@ fn receive_row(rows: &mut Vec<Row>, size: usize, lends: bool) {
 // A stream whose packets are lent out of the caller's bytes, so many times over one connection.
 fn decoded(stream: &[u8], size: usize, reps: u64) -> u64 {
     let mut connection = ptr::null_mut();
-    let mut view = View { at: ptr::null(), len: 0 };
+    let mut view = NOTHING;
     let mut sum = 0u64;
     unsafe {
         mysql_wire_open(size, &mut connection);

@@ -9,20 +9,6 @@ use crate::timing::Row;
 use std::hint::black_box;
 use std::iter::repeat_with;
 
-// A function in Rust, where the crate `bytes` was found.
-#[cfg(with_bytes)]
-macro_rules! plain {
-    ($call:expr) => {
-        Some($call as fn(&[u8], u64) -> u64)
-    };
-}
-#[cfg(not(with_bytes))]
-macro_rules! plain {
-    ($call:expr) => {
-        None
-    };
-}
-
 /// How many columns a row has, and how many texts are read in all.
 const COLUMNS: u64 = 20;
 const TEXTS: usize = 10_000;

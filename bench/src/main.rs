@@ -24,6 +24,20 @@ macro_rules! in_rust {
     };
 }
 
+/// A function in Rust, where the crate `bytes` was found.
+#[cfg(with_bytes)]
+macro_rules! plain {
+    ($call:expr) => {
+        Some($call as fn(&[u8], u64) -> u64)
+    };
+}
+#[cfg(not(with_bytes))]
+macro_rules! plain {
+    ($call:expr) => {
+        None
+    };
+}
+
 #[cfg(with_bytes)]
 mod cargo_crate;
 mod check;

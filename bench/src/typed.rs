@@ -19,6 +19,28 @@ fn lenenc_text(text: &[u8], out: &mut Vec<u8>) {
     out.extend_from_slice(text);
 }
 
+// A row of `items`, read by their types: form 0 of a workload, beside its form 1, by hand.
+fn beside_by_hand(
+    rows: &mut Vec<Row>,
+    name: &str,
+    items: usize,
+    bytes: Vec<u8>,
+    want: u64,
+    workload: fn(&[u8], u64, u64) -> u64,
+    rust: Option<fn(&[u8], u64) -> u64>,
+) {
+    let (by_hand, plain) = (bytes.clone(), bytes.clone());
+    rows.push(Row {
+        name: format!("{name}, of by hand"),
+        items: items as u64,
+        bytes: bytes.len() as u64,
+        call: Box::new(move |reps| workload(&bytes, 0, reps)),
+        want,
+        copy: Box::new(move |reps| workload(&by_hand, 1, reps)),
+        rust: rust.map(|call| Box::new(move |reps| call(&plain, reps)) as Box<dyn Fn(u64) -> u64>),
+    });
+}
+
 // `OK_Packet`s with words of 40 bytes.
 fn ok_row(rows: &mut Vec<Row>) {
     let mut numbers = Numbers::new(41);
@@ -36,16 +58,8 @@ fn ok_row(rows: &mut Vec<Row>) {
         want += affected_rows + last_insert_id + u64::from(status) + u64::from(warnings);
         want += summary(&info);
     }
-    let (by_hand, plain) = (bytes.clone(), bytes.clone());
-    rows.push(Row {
-        name: "OkPacket, of by hand".to_string(),
-        items: PACKETS as u64,
-        bytes: bytes.len() as u64,
-        call: Box::new(move |reps| library::ok(&bytes, 0, reps)),
-        want,
-        copy: Box::new(move |reps| library::ok(&by_hand, 1, reps)),
-        rust: in_rust!(move |reps| in_rust::ok(&plain, reps)),
-    });
+    let rust = plain!(in_rust::ok);
+    beside_by_hand(rows, "OkPacket", PACKETS, bytes, want, library::ok, rust);
 }
 
 fn values_row(rows: &mut Vec<Row>) {
@@ -61,16 +75,8 @@ fn values_row(rows: &mut Vec<Row>) {
             want += summary(&text);
         }
     }
-    let (by_hand, plain) = (bytes.clone(), bytes.clone());
-    rows.push(Row {
-        name: "row of 20 TextValues, of by hand".to_string(),
-        items: ROWS as u64,
-        bytes: bytes.len() as u64,
-        call: Box::new(move |reps| library::values(&bytes, 0, reps)),
-        want,
-        copy: Box::new(move |reps| library::values(&by_hand, 1, reps)),
-        rust: in_rust!(move |reps| in_rust::values(&plain, reps)),
-    });
+    let rust = plain!(in_rust::values);
+    beside_by_hand(rows, "row of 20 TextValues", ROWS, bytes, want, library::values, rust);
 }
 
 pub fn rows(rows: &mut Vec<Row>) {

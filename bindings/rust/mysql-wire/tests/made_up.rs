@@ -3,25 +3,9 @@
 mod plain;
 
 use mysql_wire::{Connection, Error, Spans};
-use plain::{read, Numbers};
+use plain::{fed, read, Numbers};
 
 const STREAMS: u64 = 20_000;
-
-fn fed(limit: usize, pieces: &[&[u8]]) -> (Vec<Vec<u8>>, Result<(), Error>) {
-    let mut connection = Connection::new(limit).unwrap();
-    let mut packets = Vec::new();
-    for piece in pieces {
-        connection.feed(piece).unwrap();
-        loop {
-            match connection.next_packet() {
-                Ok(Some(packet)) => packets.push(packet),
-                Ok(None) => break,
-                Err(error) => return (packets, Err(error)),
-            }
-        }
-    }
-    (packets, Ok(()))
-}
 
 fn spanned(limit: usize, pieces: &[&[u8]]) -> (Vec<Vec<u8>>, Result<(), Error>) {
     let mut spans = Spans::new(limit, 0);
@@ -44,24 +28,26 @@ fn spanned(limit: usize, pieces: &[&[u8]]) -> (Vec<Vec<u8>>, Result<(), Error>) 
     (packets, Ok(()))
 }
 
-#[test]
-fn a_connection_reads_each_stream_as_the_whole() {
+type Reader = fn(usize, &[&[u8]]) -> (Vec<Vec<u8>>, Result<(), Error>);
+
+// `waits` is as of `read`.
+fn reads_each_stream_as_the_whole(reader: Reader, waits: bool) {
     for seed in 0..STREAMS {
         let mut numbers = Numbers::new(seed);
         let (stream, limit) = (numbers.stream(), numbers.below(60));
         let pieces = numbers.pieces(&stream);
-        assert_eq!(fed(limit, &pieces), read(limit, &stream, true), "seed {seed}");
+        assert_eq!(reader(limit, &pieces), read(limit, &stream, waits), "seed {seed}");
     }
 }
 
 #[test]
+fn a_connection_reads_each_stream_as_the_whole() {
+    reads_each_stream_as_the_whole(fed, true);
+}
+
+#[test]
 fn spans_read_each_stream_as_the_whole() {
-    for seed in 0..STREAMS {
-        let mut numbers = Numbers::new(seed);
-        let (stream, limit) = (numbers.stream(), numbers.below(60));
-        let pieces = numbers.pieces(&stream);
-        assert_eq!(spanned(limit, &pieces), read(limit, &stream, false), "seed {seed}");
-    }
+    reads_each_stream_as_the_whole(spanned, false);
 }
 
 #[test]

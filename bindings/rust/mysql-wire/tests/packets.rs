@@ -3,25 +3,11 @@
 mod plain;
 
 use mysql_wire::{put_int, put_lenenc_bytes, put_lenenc_int, put_null_bytes, Connection, Error, Fields};
-use plain::{framed, FULL};
+use plain::{fed, framed, FULL};
 
 /// The packets of a stream that comes in pieces of `step` bytes.
 fn packets(limit: usize, stream: &[u8], step: usize) -> (Vec<Vec<u8>>, Result<(), Error>) {
-    let mut connection = Connection::new(limit).unwrap();
-    let mut packets = Vec::new();
-    for piece in stream.chunks(step) {
-        if let Err(error) = connection.feed(piece) {
-            return (packets, Err(error));
-        }
-        loop {
-            match connection.next_packet() {
-                Ok(Some(packet)) => packets.push(packet),
-                Ok(None) => break,
-                Err(error) => return (packets, Err(error)),
-            }
-        }
-    }
-    (packets, Ok(()))
+    fed(limit, &stream.chunks(step).collect::<Vec<_>>())
 }
 
 #[test]

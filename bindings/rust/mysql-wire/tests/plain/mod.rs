@@ -1,7 +1,7 @@
 //! Packets once more, written plainly: what a stream of chunks has to give.
 #![allow(dead_code)] // (no test uses all of it)
 
-use mysql_wire::Error;
+use mysql_wire::{Connection, Error};
 
 pub const FULL: usize = 16777215;
 
@@ -41,6 +41,25 @@ pub fn read(limit: usize, stream: &[u8], waits: bool) -> (Vec<Vec<u8>>, Result<(
         }
         packets.push(behind[..len].to_vec());
         rest = &behind[len..];
+    }
+    (packets, Ok(()))
+}
+
+/// The packets that a connection hands out of pieces, and how it ends.
+pub fn fed(limit: usize, pieces: &[&[u8]]) -> (Vec<Vec<u8>>, Result<(), Error>) {
+    let mut connection = Connection::new(limit).unwrap();
+    let mut packets = Vec::new();
+    for piece in pieces {
+        if let Err(error) = connection.feed(piece) {
+            return (packets, Err(error));
+        }
+        loop {
+            match connection.next_packet() {
+                Ok(Some(packet)) => packets.push(packet),
+                Ok(None) => break,
+                Err(error) => return (packets, Err(error)),
+            }
+        }
     }
     (packets, Ok(()))
 }
