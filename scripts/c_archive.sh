@@ -3,8 +3,7 @@
 crates=$top/crates
 folder=$crates/mysql_wire_c
 archive=$folder/out/libmysql_wire_c.a
-layers=(wire_const wire_buf wire_ext wire_repr wire_field wire_codec wire_span wire_packet_io
-    mysql_wire)
+layers=(wire_const wire_buf wire_codec wire_span)
 kit=$(dirname "$(rt doc)")
 
 # Whether the layers stand as `rt ci` leaves them, which has just proved them. `rt lib` would build
@@ -23,14 +22,13 @@ left_by_gate() {
 build_over_gate() {
     local layer found=()
     for layer in "${layers[@]}"; do
-        found+=(-L "dependency=$crates/$layer/out/rlib")
+        found+=(--extern "$layer=$crates/$layer/out/rlib/$layer.rlib")
     done
     for library in std bytes std_heap; do
         found+=(--extern "$library=$kit/rlibs/$library.rlib")
     done
     cd "$folder" && mkdir -p out && "$kit/bin/rattle" build --crate-name mysql_wire_c src/lib.rt \
         --crate-type staticlib --links mysql_wire_c= --jobs "$(nproc)" "${found[@]}" \
-        --extern "mysql_wire=$crates/mysql_wire/out/rlib/mysql_wire.rlib" \
         -L "dependency=$kit/rlibs" --logic-built "$kit/logic_built" \
         --antt-project "$kit/rattle/logic/antt-project.json" --toolchain "$kit/toolchain" \
         --backend llvm -o "$archive"

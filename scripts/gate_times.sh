@@ -40,9 +40,9 @@ done
 wait "$gate"
 status=$?
 
-echo '| crate | functions | tests | edits | proof, s | tests, s | edits, s |'
-echo '|---|---|---|---|---|---|---|'
-awk -v log_file="$log" '
+row='%-26s %9s %6s %6s %9s %9s %9s\n'
+printf "$row" crate functions tests edits 'proof, s' 'tests, s' 'edits, s'
+awk -v log_file="$log" -v row="$row" '
     BEGIN {
         while ((getline line < log_file) > 0) {
             if (line ~ /^== /) { split(line, part, /[ :]+/); crate = part[2]; of_tests = line ~ /its tests/ }
@@ -58,8 +58,8 @@ awk -v log_file="$log" '
             edits = tests = 0
             ("ls crates/" crate "/must-fail 2> /dev/null | grep -c edit$") | getline edits
             ("grep -rho \"#.test.\" crates/" crate "/src | wc -l") | getline tests
-            printf "| `%s` | %s | %s | %s | %d | %d | %d |\n", crate, functions[crate], tests, edits, \
-                sum[crate " proof"], sum[crate " tests"], sum[crate " edits"]
+            printf row, crate, functions[crate], tests, edits, int(sum[crate " proof"]), \
+                int(sum[crate " tests"]), int(sum[crate " edits"])
         }
     }' "$samples" | sort
 awk '{ if ($4 > most[$2 " " $3]) most[$2 " " $3] = $4 }

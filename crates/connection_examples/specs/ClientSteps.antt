@@ -7,14 +7,14 @@ use Rattle.mysql_wire.specs.Rows.{by_side}
 use Rattle.mysql_wire.specs.WireError.{WireError}
 use Rattle.mysql_wire_packets.specs.Optional.{bytes_if}
 use Rattle.mysql_wire_packets.specs.Places.{ReadsWhole, Wraps}
-use Rattle.mysql_wire_packets.specs.declared.auth_answer.AuthAnswer.{AuthAnswer}
-use Rattle.mysql_wire_packets.specs.declared.auth_answer.AuthAnswer.TheVariants as answer
-use Rattle.mysql_wire_packets.specs.declared.first_packet.ServerFirst.{ServerFirst}
-use Rattle.mysql_wire_packets.specs.declared.first_packet.ServerFirst.TheVariants as first
-use Rattle.mysql_wire_packets.specs.declared.auth_more_data.AuthMoreData.{AuthMoreData}
-use Rattle.mysql_wire_packets.specs.declared.auth_switch.AuthSwitchRequest.{AuthSwitchRequest}
+use Rattle.mysql_wire_connection.specs.declared.auth_answer.AuthAnswer.{AuthAnswer}
+use Rattle.mysql_wire_connection.specs.declared.auth_answer.AuthAnswer.TheVariants as answer
+use Rattle.mysql_wire_connection.specs.declared.first_packet.ServerFirst.{ServerFirst}
+use Rattle.mysql_wire_connection.specs.declared.first_packet.ServerFirst.TheVariants as first
+use Rattle.mysql_wire_connection.specs.declared.auth_more_data.AuthMoreData.{AuthMoreData}
+use Rattle.mysql_wire_connection.specs.declared.auth_switch.AuthSwitchRequest.{AuthSwitchRequest}
 use Rattle.mysql_wire_packets.specs.declared.err_packet.ErrPacket.{ErrPacket}
-use Rattle.mysql_wire_packets.specs.declared.handshake.HandshakeV10.{HandshakeV10}
+use Rattle.mysql_wire_connection.specs.declared.handshake.HandshakeV10.{HandshakeV10}
 use Rattle.mysql_wire_packets.specs.declared.ok_packet.OkForm.{OkForm}
 use Rattle.mysql_wire_packets.specs.declared.places.PayloadError.{PayloadError}
 use Rattle.connection_examples.specs.declared.client.Greeting.{Greeting}

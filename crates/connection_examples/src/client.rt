@@ -16,17 +16,17 @@ use mysql_wire::io::ParseBuf;
 use mysql_wire::misc::raw::{Either, RawBytes};
 use mysql_wire::proto::codec::error::PacketCodecError;
 use mysql_wire::proto::{MyDeserialize, MySerialize};
-use mysql_wire_packets::auth_answer::AuthAnswer;
-use mysql_wire_packets::auth_more_data::AuthMoreData;
-use mysql_wire_packets::auth_switch::AuthSwitchRequest;
-use mysql_wire_packets::auth_switch_response::AuthSwitchResponse;
+use mysql_wire_connection::auth_answer::AuthAnswer;
+use mysql_wire_connection::auth_more_data::AuthMoreData;
+use mysql_wire_connection::auth_switch::AuthSwitchRequest;
+use mysql_wire_connection::auth_switch_response::AuthSwitchResponse;
+use mysql_wire_connection::first_packet::ServerFirst;
+use mysql_wire_connection::handshake::HandshakeV10;
+use mysql_wire_connection::handshake_response::HandshakeResponse41;
+use mysql_wire_connection::ssl_request::SslRequest;
 use mysql_wire_packets::err_packet::ErrPacket;
-use mysql_wire_packets::first_packet::ServerFirst;
-use mysql_wire_packets::handshake::HandshakeV10;
-use mysql_wire_packets::handshake_response::HandshakeResponse41;
 use mysql_wire_packets::ok_packet::OkPacket;
 use mysql_wire_packets::places::PayloadError;
-use mysql_wire_packets::ssl_request::SslRequest;
 use std::alloc::{AllocError, Allocator, Global};
 
 // All bytes but the last.

@@ -14,16 +14,16 @@ use mysql_wire::constants::{CapabilityFlags, Flags};
 use mysql_wire::io::ParseBuf;
 use mysql_wire::proto::codec::error::PacketCodecError;
 use mysql_wire::proto::{MyDeserialize, MySerialize};
-use mysql_wire_packets::auth_more_data::AuthMoreData;
-use mysql_wire_packets::auth_switch::AuthSwitchRequest;
-use mysql_wire_packets::auth_switch_response::AuthSwitchResponse;
+use mysql_wire_connection::auth_more_data::AuthMoreData;
+use mysql_wire_connection::auth_switch::AuthSwitchRequest;
+use mysql_wire_connection::auth_switch_response::AuthSwitchResponse;
+use mysql_wire_connection::first_packet::ClientFirst;
+use mysql_wire_connection::handshake::HandshakeV10;
+use mysql_wire_connection::handshake_response::HandshakeResponse41;
+use mysql_wire_connection::ssl_request::SslRequest;
 use mysql_wire_packets::err_packet::ErrPacket;
-use mysql_wire_packets::first_packet::ClientFirst;
-use mysql_wire_packets::handshake::HandshakeV10;
-use mysql_wire_packets::handshake_response::HandshakeResponse41;
 use mysql_wire_packets::ok_packet::OkPacket;
 use mysql_wire_packets::places::{PayloadError, read_whole};
-use mysql_wire_packets::ssl_request::SslRequest;
 use std::alloc::{Allocator, Global};
 
 /// A client has connected, and nothing was said.

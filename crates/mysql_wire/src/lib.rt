@@ -1,6 +1,7 @@
 //! MySQL's packet codec and wire primitives, under the paths of `mysql_common`.
 #![tactic(auto)]
 
+pub mod field_laws;
 pub mod laws;
 
 /// Buffers, readers and writers, and errors.
@@ -22,16 +23,16 @@ pub mod misc {
         pub use wire_field::converted::{Const, IntoNumber, Numbered, RawConst, RawFlags};
         pub use wire_field::raw_seq::RawSeq;
         pub use wire_field::row::{Both, Either, Slice};
-        pub use wire_repr::constant::Skip;
+        pub use wire_forms::constant::Skip;
         pub use wire_repr::int::RawInt;
         pub use wire_repr::text::RawBytes;
 
         /// What was written is read back, and how wrappers are compared, as functions.
         pub mod field_laws {
-            pub use wire_field::field_laws::{compared, converted, lists, rows};
+            pub use crate::field_laws::{constants, converted, lists, numbers, rows, texts};
+            pub use wire_field::field_laws::compared;
             pub use wire_repr::field_laws::{
-                constants, number_back, number_comes_back, numbers, parse_back, text_comes_back,
-                texts,
+                number_back, number_comes_back, parse_back, text_comes_back,
             };
         }
 
@@ -53,21 +54,24 @@ pub mod misc {
 
         /// Numbers, by their representations.
         pub mod int {
-            pub use wire_repr::constant::{ConstU8, ConstU32};
-            pub use wire_repr::int::{
-                IntRepr, LeI16, LeI24, LeI32, LeI56, LeI64, LeU16, LeU24, LeU32, LeU32LowerHalf,
-                LeU32UpperHalf, LeU48, LeU56, LeU64, LenEnc, RawInt, VarLen,
-            };
+            pub use wire_forms::constant::{ConstU8, ConstU32};
+            pub use wire_forms::halves::{LeU32LowerHalf, LeU32UpperHalf};
+            pub use wire_forms::lenenc::LenEnc;
+            pub use wire_forms::truncated::{LeI24, LeI56, LeU24, LeU48, LeU56};
+            pub use wire_forms::varlen::VarLen;
+            pub use wire_repr::int::{IntRepr, LeI16, LeI32, LeI64, LeU16, LeU32, LeU64, RawInt};
         }
 
         /// Texts, by their representations.
         pub mod bytes {
-            pub use wire_repr::constant::{ConstBytes, ConstBytesValue};
-            pub use wire_repr::int::LenEnc;
-            pub use wire_repr::text::{
-                BareBytes, BareU8Bytes, BareU16Bytes, BytesRepr, EofBytes, FixedLengthText,
-                NullBytes, RawBytes, U8Bytes, U32Bytes,
+            pub use wire_forms::constant::{ConstBytes, ConstBytesValue};
+            pub use wire_forms::lenenc::LenEnc;
+            pub use wire_forms::null::NullBytes;
+            pub use wire_forms::prefixed::{U8Bytes, U32Bytes};
+            pub use wire_forms::undelimited::{
+                BareBytes, BareU8Bytes, BareU16Bytes, EofBytes, FixedLengthText,
             };
+            pub use wire_repr::text::{BytesRepr, RawBytes};
         }
     }
 }

@@ -4,7 +4,7 @@ use crate::check::{REFUSED, summary};
 use mysql_wire::io::ParseBuf;
 use mysql_wire::misc::raw::Either;
 use mysql_wire_packets::ok_packet::{InfoForm, OkPacket};
-use mysql_wire_packets::text_row::TextValue;
+use mysql_wire_queries::text_row::TextValue;
 use std::alloc::Global;
 
 // What NULL adds to a sum.

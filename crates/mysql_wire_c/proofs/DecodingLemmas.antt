@@ -4,10 +4,10 @@ use Rattle.std.proofs.Math.Seq.{take-add}
 use Rattle.std.proofs.lemmas.List.{length-take-le}
 use Rattle.std.proofs.lemmas.Grind.{flat_map-append}
 use Rattle.std.specs.List.{flat_map}
-use Rattle.mysql_wire.specs.Delivery.{chunk_len}
-use Rattle.mysql_wire.specs.Codec.{CodecState}
-use Rattle.mysql_wire.specs.InPlace.{HasFront, front_payload, behind_front}
-use Rattle.mysql_wire.specs.LimitedRuns.{DecodesAligned}
+use Rattle.wire_codec.specs.Delivery.{chunk_len}
+use Rattle.wire_codec.specs.Codec.{CodecState}
+use Rattle.wire_codec.specs.InPlace.{HasFront, front_payload, behind_front}
+use Rattle.wire_codec.specs.LimitedRuns.{DecodesAligned}
 use Rattle.mysql_wire_c.specs.declared.codes.TheConstants.{OK, WAITS, PACKET, NO_MEMORY}
 use Rattle.mysql_wire_c.specs.declared.connection.Front.TheVariants.{Unfinished}
 use Rattle.mysql_wire_c.specs.Side.{Side, side_of}

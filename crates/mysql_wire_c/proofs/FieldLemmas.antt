@@ -2,8 +2,8 @@
 use Rattle.std.proofs.Common.{◌≡◌, ℕ, ◌+◌, ◌-◌, ◌≤◌, List, [], ◌∷◌, ◌++◌, length, take, drop, sym, ap, ap₂, ◌∙◌, arith, inl, inr, length-drop, append_assoc, slice_get}
 use Rattle.std.proofs.lemmas.List.{length-append, length-take-le, drop-drop}
 use Rattle.std.proofs.Math.Seq.{take-append_seam, drop-append_seam}
-use Rattle.mysql_wire.specs.Spelling.{EatsSpelling}
-use Rattle.mysql_wire.specs.Lenenc.{IsLenenc, IsLenencOrMark}
+use Rattle.wire_buf.specs.Spelling.{EatsSpelling}
+use Rattle.wire_buf.specs.Lenenc.{IsLenenc, IsLenencOrMark}
 use Rattle.mysql_wire_c.specs.Fields.{IsMark, ReadsAt, WritesAt}
 
 -- a number whose first byte is no mark

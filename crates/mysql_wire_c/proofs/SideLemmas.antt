@@ -1,12 +1,12 @@
 -- More bytes behind what is to be read.
 use Rattle.std.proofs.Common.{◌≡◌, ℕ, ◌+◌, ◌-◌, ◌≤◌, List, ◌++◌, length, take, drop, refl, sym, ap, ap₂, ◌∙◌, arith, subst, Some, IfSome, false, length-drop, ◌-◌}
 use Rattle.std.proofs.lemmas.List.{take-append-le, drop-append-le, length-take-le}
-use Rattle.mysql_wire.specs.Numbers.{le_number}
-use Rattle.mysql_wire.specs.Framing.{max_payload, max_payload_is}
-use Rattle.mysql_wire.specs.Delivery.{chunk_len}
-use Rattle.mysql_wire.specs.Codec.{CodecState}
-use Rattle.mysql_wire.specs.InPlace.{HasFront, front_payload, behind_front}
-use Rattle.mysql_wire.specs.Laws.{appended}
+use Rattle.wire_buf.specs.Numbers.{le_number}
+use Rattle.wire_codec.specs.Framing.{max_payload, max_payload_is}
+use Rattle.wire_codec.specs.Delivery.{chunk_len}
+use Rattle.wire_codec.specs.Codec.{CodecState}
+use Rattle.wire_codec.specs.InPlace.{HasFront, front_payload, behind_front}
+use Rattle.wire_codec.specs.Laws.{appended}
 use Rattle.mysql_wire_c.specs.declared.connection.Front.{Front}
 use Rattle.mysql_wire_c.specs.declared.connection.Front.TheVariants.{Unfinished, InPlace, Copied, Lost}
 use Rattle.mysql_wire_c.specs.Side.{Side, side_of, IsReady, emptied}

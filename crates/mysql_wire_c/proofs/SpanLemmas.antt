@@ -1,12 +1,12 @@
 -- A call of a decoder of spans, and of a renumbering, over a record.
 use Rattle.std.proofs.Common.{rules, to_z, of_z, w32, ◌≡◌, ℕ, ℤ, pos, ◌+◌, ◌-◌, ◌<◌, ◌≤◌, ◌==◌, ◌⊎◌, List, [], ◌∷◌, ◌++◌, length, take, drop, refl, sym, ap, ap₂, ◌∙◌, subst, arith, inl, inr, Bool, true, false, length-append, append-nil}
 use mir.Val.{bool_byte}
-use Rattle.mysql_wire.specs.SpanError.{SpanError}
-use Rattle.mysql_wire.specs.SpanError.TheVariants.{PacketTooLarge, PacketsOutOfSync}
-use Rattle.mysql_wire.specs.Parts.{IsTidy, CanStand, SpansStand}
-use Rattle.mysql_wire.specs.Spans.{SpanState, header_came, EatsSpans, SpansOn, StopsBefore, IsBetween}
-use Rattle.mysql_wire.specs.SpanLaws.{SpansBegin}
-use Rattle.mysql_wire.specs.Renumbering.{RenumbersFront}
+use Rattle.wire_span.specs.declared.span.SpanError.{SpanError}
+use Rattle.wire_span.specs.declared.span.SpanError.TheVariants.{PacketTooLarge, PacketsOutOfSync}
+use Rattle.wire_span.specs.Parts.{IsTidy, CanStand, SpansStand}
+use Rattle.wire_span.specs.Spans.{SpanState, header_came, EatsSpans, SpansOn, StopsBefore, IsBetween}
+use Rattle.wire_span.specs.SpanLaws.{SpansBegin}
+use Rattle.wire_span.specs.Renumbering.{RenumbersFront}
 use Rattle.mysql_wire_c.specs.declared.spans.Spans.{Spans}
 use Rattle.mysql_wire_c.specs.Spans.{parts_of, state_of, IsValid, error_code, NextSpan, Renumbers}
 

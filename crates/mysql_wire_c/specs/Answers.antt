@@ -1,11 +1,11 @@
 -- What the calls of a connection do to its side.
 use Rattle.std.specs.Prelude.{◌≡◌, ℕ, ◌⊎◌, List, [], None, MatchOption, Ok, Err, true, false}
-use Rattle.mysql_wire.specs.PacketCodecError.{PacketCodecError}
-use Rattle.mysql_wire.specs.PacketCodecError.TheVariants.{PacketsOutOfSync}
-use Rattle.mysql_wire.specs.Codec.{CodecState, Stands}
-use Rattle.mysql_wire.specs.InPlace.{HasFront}
-use Rattle.mysql_wire.specs.LimitedRuns.{DecodesAligned}
-use Rattle.mysql_wire.specs.Laws.{empty_state}
+use Rattle.wire_codec.specs.declared.codec.error.PacketCodecError.{PacketCodecError}
+use Rattle.wire_codec.specs.declared.codec.error.PacketCodecError.TheVariants.{PacketsOutOfSync}
+use Rattle.wire_codec.specs.Codec.{CodecState, Stands}
+use Rattle.wire_codec.specs.InPlace.{HasFront}
+use Rattle.wire_codec.specs.LimitedRuns.{DecodesAligned}
+use Rattle.wire_codec.specs.Laws.{empty_state}
 use Rattle.mysql_wire_c.specs.Side.{Side, ConnectionState}
 
 -- a connection to which nothing has come, with this limit

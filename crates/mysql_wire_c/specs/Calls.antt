@@ -1,8 +1,8 @@
 -- What each call of a connection does, by its answer. Each answer but these is none that it gives.
 use Rattle.std.specs.Prelude.{◌≡◌, ℕ, ℤ, pos, ◌+◌, ◌^◌, ◌-◌, ◌<◌, ◌≤◌, ◌⊎◌, List, ◌++◌, length, take, drop, min, Option, None, IsSome, IfSome, true, false}
-use Rattle.mysql_wire.specs.PacketCodecError.TheVariants.{OutOfMemory, PacketTooLarge}
-use Rattle.mysql_wire.specs.Framing.{framing, next_id}
-use Rattle.mysql_wire.specs.Laws.{appended}
+use Rattle.wire_codec.specs.declared.codec.error.PacketCodecError.TheVariants.{OutOfMemory, PacketTooLarge}
+use Rattle.wire_codec.specs.Framing.{framing, next_id}
+use Rattle.wire_codec.specs.Laws.{appended}
 use Rattle.mysql_wire_c.specs.declared.codes.TheConstants.{OK, WAITS, PACKET, TOO_LARGE, OUT_OF_SYNC, NO_MEMORY, ROOM_TOO_SMALL, PACKET_WAITS, NO_PACKET}
 use Rattle.mysql_wire_c.specs.Side.{Side, ConnectionState}
 use Rattle.mysql_wire_c.specs.Answers.{HandsOut, HasPacket, Waits, Stops, LosesSync}

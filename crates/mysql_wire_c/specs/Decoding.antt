@@ -1,10 +1,10 @@
 -- Packets that are lent from the caller's bytes, or put together of them.
 use Rattle.std.specs.Prelude.{◌≡◌, ℕ, ℤ, ◌+◌, ◌%◌, ◌≤◌, ◌⊎◌, List, [], ◌∷◌, length, take, drop, None, IfSome, Ok, true, false}
 use Rattle.std.specs.List.{flat_map}
-use Rattle.mysql_wire.specs.Delivery.{chunk_len}
-use Rattle.mysql_wire.specs.InPlace.{HasFront, front_payload}
-use Rattle.mysql_wire.specs.Laws.{appended}
-use Rattle.mysql_wire.specs.LimitedRuns.{DecodesAligned}
+use Rattle.wire_codec.specs.Delivery.{chunk_len}
+use Rattle.wire_codec.specs.InPlace.{HasFront, front_payload}
+use Rattle.wire_codec.specs.Laws.{appended}
+use Rattle.wire_codec.specs.LimitedRuns.{DecodesAligned}
 use Rattle.mysql_wire_c.specs.declared.codes.TheConstants.{WAITS, PACKET, NO_MEMORY}
 use Rattle.mysql_wire_c.specs.Side.{Side}
 use Rattle.mysql_wire_c.specs.Answers.{Waits, holding}

@@ -1,7 +1,7 @@
 -- Numbers and texts at a place in bytes.
 use Rattle.std.specs.Prelude.{◌≡◌, ℕ, ◌+◌, ◌<◌, ◌≤◌, ◌⊎◌, List, ◌++◌, length, take, drop, slice_get, Some}
-use Rattle.mysql_wire.specs.Spelling.{EatsSpelling, SpellsNothing}
-use Rattle.mysql_wire.specs.Lenenc.{IsLenenc, IsLenencOrMark}
+use Rattle.wire_buf.specs.Spelling.{EatsSpelling, SpellsNothing}
+use Rattle.wire_buf.specs.Lenenc.{IsLenenc, IsLenencOrMark}
 use Rattle.mysql_wire_c.specs.declared.fields.Span.{Span}
 
 -- the bytes from one place to another are a spelling of the number

@@ -1,9 +1,9 @@
 -- One side of a connection, as contracts see it.
 use Rattle.std.specs.Prelude.{◌≡◌, ℕ, List, [], Option, Some, None, Bool, true, false, ⊤}
-use Rattle.mysql_wire.specs.PacketCodec.{PacketCodec}
-use Rattle.mysql_wire.specs.Codec.{CodecState, expected_id}
-use Rattle.mysql_wire.specs.LimitedRuns.{Aligned}
-use Rattle.mysql_wire.specs.InPlace.{HasFront, front_payload, behind_front}
+use Rattle.wire_codec.specs.declared.codec.packet.PacketCodec.{PacketCodec}
+use Rattle.wire_codec.specs.Codec.{CodecState, expected_id}
+use Rattle.wire_codec.specs.LimitedRuns.{Aligned}
+use Rattle.wire_codec.specs.InPlace.{HasFront, front_payload, behind_front}
 use Rattle.mysql_wire_c.specs.declared.connection.Front.{Front}
 use Rattle.mysql_wire_c.specs.declared.connection.Front.TheVariants.{Unfinished, InPlace, Copied, Lost}
 

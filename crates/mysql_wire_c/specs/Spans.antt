@@ -1,11 +1,11 @@
 -- Packets that come in spans, with the place in their stream in a record of the caller's.
 use Rattle.std.specs.Prelude.{◌≡◌, ◌≢◌, ℕ, ℤ, ◌+◌, ◌-◌, ◌<◌, ◌≤◌, ◌==◌, ◌⊎◌, ◌↔◌, List, [], ◌∷◌, length, take, drop}
-use Rattle.mysql_wire.specs.SpanError.{SpanError}
-use Rattle.mysql_wire.specs.SpanError.TheVariants.{PacketTooLarge, PacketsOutOfSync}
-use Rattle.mysql_wire.specs.SpanParts.{SpanParts}
-use Rattle.mysql_wire.specs.Parts.{parts_state, IsTidy, CanStand}
-use Rattle.mysql_wire.specs.Spans.{SpanState, header_came, SpansOn, StopsBefore}
-use Rattle.mysql_wire.specs.Renumbering.{RenumbersFront}
+use Rattle.wire_span.specs.declared.span.SpanError.{SpanError}
+use Rattle.wire_span.specs.declared.span.SpanError.TheVariants.{PacketTooLarge, PacketsOutOfSync}
+use Rattle.wire_span.specs.declared.span.parts.SpanParts.{SpanParts}
+use Rattle.wire_span.specs.Parts.{parts_state, IsTidy, CanStand}
+use Rattle.wire_span.specs.Spans.{SpanState, header_came, SpansOn, StopsBefore}
+use Rattle.wire_span.specs.Renumbering.{RenumbersFront}
 use Rattle.mysql_wire_c.specs.declared.codes.TheConstants.{WAITS, SPAN, TOO_LARGE, OUT_OF_SYNC, INVALID_STATE}
 use Rattle.mysql_wire_c.specs.declared.spans.Spans.{Spans}
 

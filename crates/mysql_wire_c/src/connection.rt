@@ -1,11 +1,11 @@
 //! One side of a connection: a codec with its buffers.
 
 ghost use Rattle.std.specs.Prelude.{◌≡◌, ◌≢◌, ◌⊎◌, ◌↔◌, ℕ, ◌+◌, ◌-◌, ◌/◌, ◌%◌, ◌<◌, ◌++◌, length, take, drop, min, None, Ok, Err, true, false, IfSome, IfNone, IsSome, OnOk, OnErr};
-ghost use Rattle.mysql_wire.specs.PacketCodecError.TheVariants.{OutOfMemory, PacketTooLarge, PacketsOutOfSync};
-ghost use Rattle.mysql_wire.specs.Codec.{codec_state, Stands};
-ghost use Rattle.mysql_wire.specs.Framing.{max_payload};
-ghost use Rattle.mysql_wire.specs.LimitedRuns.{DecodesAligned};
-ghost use Rattle.mysql_wire.specs.InPlace.{HasFront};
+ghost use Rattle.wire_codec.specs.declared.codec.error.PacketCodecError.TheVariants.{OutOfMemory, PacketTooLarge, PacketsOutOfSync};
+ghost use Rattle.wire_codec.specs.Codec.{codec_state, Stands};
+ghost use Rattle.wire_codec.specs.Framing.{max_payload};
+ghost use Rattle.wire_codec.specs.LimitedRuns.{DecodesAligned};
+ghost use Rattle.wire_codec.specs.InPlace.{HasFront};
 ghost use Rattle.mysql_wire_c.specs.Side.{IsReady, IsNumbered, is_lost_at, lent_at, behind_lent};
 ghost use Rattle.mysql_wire_c.specs.Answers.{new_connection, holding};
 ghost use Rattle.mysql_wire_c.specs.Decoding.{Decodes, FeedsFront, HasPacketIn, LendsFrom};
@@ -16,13 +16,13 @@ use crate::codes::{
 };
 use crate::view::View;
 use bytes::{Buf, BytesMut};
-use mysql_wire::constants::MAX_PAYLOAD_LEN;
-use mysql_wire::io::ParseBuf;
-use mysql_wire::laws;
-use mysql_wire::proto::codec::error::PacketCodecError;
-use mysql_wire::proto::codec::{PacketCodec, framed_len, packet_to_slice};
 use std::alloc::{AllocError, Global};
 use std::marker::Model;
+use wire_buf::io::ParseBuf;
+use wire_codec::codec::error::PacketCodecError;
+use wire_codec::codec::{PacketCodec, framed_len, packet_to_slice};
+use wire_codec::laws;
+use wire_const::MAX_PAYLOAD_LEN;
 
 // The bytes of a chunk's header.
 const HEADER_LEN: usize = 4;
@@ -57,7 +57,7 @@ pub struct Connection {
 }
 
 impl Model for Connection {
-    ghost use Rattle.mysql_wire.specs.Codec.{codec_state};
+    ghost use Rattle.wire_codec.specs.Codec.{codec_state};
     ghost use Rattle.mysql_wire_c.specs.Side.{ConnectionState, connection_of, IsReady, IsNumbered};
 
     ghost Value = { ConnectionState };

@@ -3,15 +3,15 @@
 
 ghost use Rattle.std.specs.Prelude.{◌≡◌, ◌⊎◌, ◌+◌, ◌-◌, ◌<◌, ◌≤◌, [], ◌∷◌, ◌++◌, length, take, drop, slice_get, Some, IsTrue, ◌↔◌, MatchOption};
 ghost use Rattle.std.specs.List.{before_first, after_first};
-ghost use Rattle.mysql_wire.specs.Numbers.{le_bytes, le_number};
-ghost use Rattle.mysql_wire.specs.NullText.{is_zero};
-ghost use Rattle.mysql_wire.specs.Reading.{EatsIfThere};
-ghost use Rattle.mysql_wire.specs.Spelling.{SpellsNothing};
-ghost use Rattle.mysql_wire.specs.Lenenc.{IsLenenc, IsLenencOrMark, lenenc_bytes};
+ghost use Rattle.wire_buf.specs.Numbers.{le_bytes, le_number};
+ghost use Rattle.wire_buf.specs.NullText.{is_zero};
+ghost use Rattle.wire_buf.specs.Reading.{EatsIfThere};
+ghost use Rattle.wire_buf.specs.Spelling.{SpellsNothing};
+ghost use Rattle.wire_buf.specs.Lenenc.{IsLenenc, IsLenencOrMark, lenenc_bytes};
 ghost use Rattle.mysql_wire_c.specs.Fields.{IsCutShort, IsMark, ReadsAt, WritesAt, text_at};
 
 use crate::codes::{MISSING_BYTES, NOT_A_NUMBER, NULL, OK, ROOM_TOO_SMALL};
-use mysql_wire::io::ParseBuf;
+use wire_buf::io::ParseBuf;
 
 /// Where a text stands in the bytes that were read.
 #[repr(C)]

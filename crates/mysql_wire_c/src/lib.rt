@@ -5,17 +5,17 @@
 
 ghost use Rattle.std.specs.Prelude.{◌≡◌, ◌↔◌, ◌⊎◌, ℕ, List, ◌+◌, ◌^◌, ◌≤◌, ◌<◌, [], ◌∷◌, ◌++◌, slice_get, IsSome, IfSome, MatchOption, Some, None, is_some, length, take, drop, min};
 ghost use Rattle.std.specs.List.{before_first};
-ghost use Rattle.mysql_wire.specs.Numbers.{le_bytes, le_number};
-ghost use Rattle.mysql_wire.specs.NullText.{is_zero};
-ghost use Rattle.mysql_wire.specs.Spelling.{SpellsNothing};
-ghost use Rattle.mysql_wire.specs.Lenenc.{IsLenenc, IsLenencOrMark, lenenc_bytes};
+ghost use Rattle.wire_buf.specs.Numbers.{le_bytes, le_number};
+ghost use Rattle.wire_buf.specs.NullText.{is_zero};
+ghost use Rattle.wire_buf.specs.Spelling.{SpellsNothing};
+ghost use Rattle.wire_buf.specs.Lenenc.{IsLenenc, IsLenencOrMark, lenenc_bytes};
 ghost use Rattle.mysql_wire_c.specs.declared.codes.TheConstants.{MISSING_BYTES, NOT_A_NUMBER, NULL, ROOM_TOO_SMALL};
 ghost use Rattle.mysql_wire_c.specs.Answers.{new_connection};
 ghost use Rattle.mysql_wire_c.specs.Calls.{Both, BothStates, Feeds, Peeks, LendsInPlace, Takes, CopiesNext, SetsLimit, unread_count, Encodes, EncodesTo, Sends, Resets, SetsId, Numbers};
 ghost use Rattle.mysql_wire_c.specs.Decoding.{Decodes};
-ghost use Rattle.mysql_wire.specs.Framing.{framing};
+ghost use Rattle.wire_codec.specs.Framing.{framing};
 ghost use Rattle.mysql_wire_c.specs.Messages.{message};
-ghost use Rattle.mysql_wire.specs.Spans.{IsBetween};
+ghost use Rattle.wire_span.specs.Spans.{IsBetween};
 ghost use Rattle.mysql_wire_c.specs.Spans.{state_of, IsValid, NextSpan, Renumbers};
 ghost use Rattle.mysql_wire_c.specs.Fields.{IsCutShort, IsMark, ReadsAt, WritesAt, text_at};
 
@@ -32,10 +32,10 @@ use crate::fields::Span;
 use crate::handle::Handle;
 use crate::spans::Spans;
 use crate::view::View;
-use mysql_wire::laws;
-use mysql_wire::proto::codec::framed_len;
 use std::alloc::Global;
 use std::mem;
+use wire_codec::codec::framed_len;
+use wire_codec::laws;
 
 // 0.1.0: 10000 times the first number, 100 times the second, and the third.
 const VERSION: u32 = 100;

@@ -2,14 +2,14 @@
 //! stream in a record of the caller's.
 
 ghost use Rattle.std.specs.Prelude.{◌≡◌, ◌↔◌, length, IsSome, IfSome};
-ghost use Rattle.mysql_wire.specs.Parts.{IsTidy, CanStand};
-ghost use Rattle.mysql_wire.specs.Spans.{span_state, IsBetween};
+ghost use Rattle.wire_span.specs.Parts.{IsTidy, CanStand};
+ghost use Rattle.wire_span.specs.Spans.{span_state, IsBetween};
 ghost use Rattle.mysql_wire_c.specs.Spans.{parts_of, state_of, IsValid, error_code, NextSpan, Renumbers};
 
 use crate::codes::{INVALID_STATE, OUT_OF_SYNC, SPAN, TOO_LARGE, WAITS};
 use crate::view::View;
-use mysql_wire::laws::{spans_begin, spans_stand};
-use mysql_wire::proto::codec::{Renumber, SpanDecoder, SpanError, SpanParts};
+use wire_span::laws::{spans_begin, spans_stand};
+use wire_span::{Renumber, SpanDecoder, SpanError, SpanParts};
 
 /// The place in a stream of packets, in plain numbers. Whatever it is filled with, a call either
 /// takes it for a place where some stream stands, or refuses it.

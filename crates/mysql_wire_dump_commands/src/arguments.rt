@@ -3,12 +3,12 @@
 use crate::dump::{Options, Sides, run_dump};
 use crate::lines::LineForm;
 use crate::status::{Stop, USAGE, exit_status};
-use mysql_wire::constants::DEFAULT_MAX_ALLOWED_PACKET;
 use std::alloc::{Allocator, Global};
 use std::fs::File;
 use std::io;
 use std::io::Write;
 use std::rt::Files;
+use wire_const::DEFAULT_MAX_ALLOWED_PACKET;
 
 /// A session to be shown: how, and the files of its directions.
 #[derive(Debug, Clone, Copy, PartialEq, Eq)]

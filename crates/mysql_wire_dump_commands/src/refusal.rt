@@ -4,8 +4,8 @@ ghost use Rattle.std.specs.Prelude.{◌≡◌};
 ghost use Rattle.mysql_wire_dump_commands.specs.Names.{refusal_name};
 
 use crate::status::Stop;
-use mysql_wire::io::{InvalidReason, WireError};
 use mysql_wire_packets::places::PayloadError;
+use wire_buf::error::{InvalidReason, WireError};
 
 /// Why a payload is no packet of its place.
 #[derive(Debug, Clone, Copy, PartialEq, Eq)]

@@ -19,9 +19,9 @@ use crate::refusal::Refusal;
 use crate::side::Side;
 use crate::statements::Statements;
 use crate::status::Stop;
-use mysql_wire::constants::{CapabilityFlags, Flags, MariadbCapabilities};
 use mysql_wire_packets::places::PayloadError;
 use std::alloc::Global;
+use wire_const::{CapabilityFlags, Flags, MariadbCapabilities};
 
 // How many columns' types are kept, at most: as many as a table may have.
 const MOST_COLUMNS: usize = 4096;

@@ -9,10 +9,9 @@ ghost use Rattle.mysql_wire_dump_commands.specs.Sources.{AtEnd, Found, HasPacket
 
 use crate::status::Stop;
 use bytes::BytesMut;
-use mysql_wire::laws;
-use mysql_wire::proto::codec::{SpanDecoder, SpanError};
 use std::alloc::Allocator;
 use std::io::Read;
+use wire_span::{SpanDecoder, SpanError, laws};
 
 // The room for one read, in bytes.
 const READ_SIZE: usize = 16384;

@@ -1,6 +1,6 @@
 //! The statements that were prepared.
 
-use mysql_wire_packets::com_stmt_prepare_ok::ComStmtPrepareOk;
+use mysql_wire_statements::com_stmt_prepare_ok::ComStmtPrepareOk;
 
 // How many statements are known at a time.
 const COUNT: usize = 64;

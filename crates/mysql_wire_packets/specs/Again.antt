@@ -9,20 +9,20 @@ use Rattle.std.specs.Cow.{cow_slice_items}
 use Rattle.std.specs.List.{before_first, position_or_len}
 use Rattle.std.specs.declared.borrow.CowSlice.{CowSlice}
 use Rattle.std.specs.declared.borrow.CowSlice.TheVariants.{Borrowed, Owned}
-use Rattle.mysql_wire.specs.Both.{Both}
-use Rattle.mysql_wire.specs.Constants.{ReadsAny, ReadsConst}
-use Rattle.mysql_wire.specs.Either.{Either}
-use Rattle.mysql_wire.specs.Either.TheVariants.{Left, Right}
-use Rattle.mysql_wire.specs.Law.{ReadsFixed}
-use Rattle.mysql_wire.specs.NullText.{is_zero}
-use Rattle.mysql_wire.specs.NullTexts.{HasNoZero, ReadsNull}
-use Rattle.mysql_wire.specs.Numbers.{IsBytes, le_bytes, le_number}
-use Rattle.mysql_wire.specs.NumberLemmas.{IsBytes-cons, IsBytes-nil, le_bytes-le_number}
-use Rattle.mysql_wire.specs.RawTexts.{Borrows}
-use Rattle.mysql_wire.specs.Reading.{Answers, Parses, Through}
-use Rattle.mysql_wire.specs.Rows.{ReadsBoth, ReadsEither}
-use Rattle.mysql_wire.specs.Spelled.{Leaves}
-use Rattle.mysql_wire.specs.WireError.{WireError}
+use Rattle.wire_field.specs.declared.row.Both.{Both}
+use Rattle.wire_forms.specs.Constants.{ReadsAny, ReadsConst}
+use Rattle.wire_field.specs.declared.row.Either.{Either}
+use Rattle.wire_field.specs.declared.row.Either.TheVariants.{Left, Right}
+use Rattle.wire_repr.specs.Law.{ReadsFixed}
+use Rattle.wire_buf.specs.NullText.{is_zero}
+use Rattle.wire_forms.specs.NullTexts.{HasNoZero, ReadsNull}
+use Rattle.wire_buf.specs.Numbers.{IsBytes, le_bytes, le_number}
+use Rattle.wire_buf.specs.NumberLemmas.{IsBytes-cons, IsBytes-nil, le_bytes-le_number}
+use Rattle.wire_repr.specs.Texts.{Borrows}
+use Rattle.wire_buf.specs.Reading.{Answers, Parses, Through}
+use Rattle.wire_field.specs.Rows.{ReadsBoth, ReadsEither}
+use Rattle.wire_forms.specs.Spelled.{Leaves}
+use Rattle.wire_buf.specs.declared.error.WireError.{WireError}
 use Rattle.mysql_wire_packets.specs.Optional.{bytes_if, field}
 
 -- of an input of bytes, what is read is written as just the bytes that were eaten

@@ -3,23 +3,23 @@ use Rattle.std.specs.Prelude.{take, min, replicate, ℕ, ◌≡◌, ◌<◌, ◌
 use Rattle.std.proofs.Common.{refl, inl, inr, arith}
 use Rattle.std.specs.Cow.{cow_slice_items}
 use Rattle.std.specs.declared.borrow.CowSlice.{CowSlice}
-use Rattle.mysql_wire.specs.WireError.{WireError}
-use Rattle.mysql_wire.specs.Law.{ComesBack, ReadsFixed, Through-back, ReadsFixed-back, Parses-back, size-is}
-use Rattle.mysql_wire.specs.Reading.{Answers, Parses, Through, front_at}
-use Rattle.mysql_wire.specs.Numbers.{le_number, le_bytes}
-use Rattle.mysql_wire.specs.NumberLemmas.{length-le_bytes, le_number-le_bytes_fits}
-use Rattle.mysql_wire.specs.Constants.{ReadsConst, ReadsAny, ReadsConst-back, ReadsAny-back, length-zeros, array-back}
-use Rattle.mysql_wire.specs.Both.{Both}
-use Rattle.mysql_wire.specs.Rows.{ReadsBoth, both-back}
-use Rattle.mysql_wire.specs.RawTexts.{IsText, Borrows, IsBorrowedText, Borrows-back}
-use Rattle.mysql_wire.specs.BareTexts.{all-back, front-back}
-use Rattle.mysql_wire.specs.PrefixedTexts.{lenenc_text-back, fixed_text-back_1}
-use Rattle.mysql_wire.specs.Texts.{u8_max}
-use Rattle.mysql_wire.specs.Spelling.{IsFixed}
-use Rattle.mysql_wire.specs.Spelled.{Leaves, NumberOrEof, TextBehind, Leaves-back, NumberOrEof-back}
-use Rattle.mysql_wire.specs.Lenenc.{IsLenencOrMark, lenenc_bytes}
-use Rattle.mysql_wire.specs.LenencLemmas.{IsLenencOrMark-free}
-use Rattle.mysql_wire.specs.LenencWritten.{lenenc_bytes-is}
+use Rattle.wire_buf.specs.declared.error.WireError.{WireError}
+use Rattle.wire_repr.specs.Law.{ComesBack, array-back, ReadsFixed, Through-back, ReadsFixed-back, Parses-back, size-is}
+use Rattle.wire_buf.specs.Reading.{Answers, Parses, Through, front_at}
+use Rattle.wire_buf.specs.Numbers.{le_number, le_bytes}
+use Rattle.wire_buf.specs.NumberLemmas.{length-le_bytes, le_number-le_bytes_fits}
+use Rattle.wire_forms.specs.Constants.{ReadsConst, ReadsAny, ReadsConst-back, ReadsAny-back, length-zeros}
+use Rattle.wire_field.specs.declared.row.Both.{Both}
+use Rattle.wire_field.specs.Rows.{ReadsBoth, both-back}
+use Rattle.wire_repr.specs.Texts.{IsText, Borrows, IsBorrowedText, Borrows-back}
+use Rattle.wire_forms.specs.BareTexts.{all-back, front-back}
+use Rattle.wire_forms.specs.PrefixedTexts.{lenenc_text-back, fixed_text-back_1}
+use Rattle.wire_ext.specs.Texts.{u8_max}
+use Rattle.wire_buf.specs.Spelling.{IsFixed}
+use Rattle.wire_forms.specs.Spelled.{Leaves, NumberOrEof, TextBehind, Leaves-back, NumberOrEof-back}
+use Rattle.wire_buf.specs.Lenenc.{IsLenencOrMark, lenenc_bytes}
+use Rattle.wire_buf.specs.LenencLemmas.{IsLenencOrMark-free}
+use Rattle.wire_buf.specs.LenencWritten.{lenenc_bytes-is}
 
 -- a text behind its length, as a length-encoded integer
 abbrev pub text_bytes : {Z : Type 0} → CowSlice ℕ Z → List ℕ

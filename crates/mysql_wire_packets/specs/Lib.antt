@@ -1,13 +1,10 @@
 pub mod Again
-pub mod Changes
-pub mod Handshakes
 pub mod InOrder
 pub mod More
 pub mod NullTexts
 pub mod Oks
 pub mod Optional
 pub mod Places
-pub mod Responses
 pub mod Shortest
-pub mod TextValues
 pub mod Then
+pub mod Written

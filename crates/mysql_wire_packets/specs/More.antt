@@ -1,13 +1,13 @@
 -- Fields that are there where a payload goes on.
 use Rattle.std.specs.Prelude.{ℕ, ◌≡◌, Bool, false, List, [], ◌∷◌, ◌++◌, length, Option, Some, Result, Ok, Err}
 use Rattle.std.proofs.Common.{refl, subst}
-use Rattle.mysql_wire.specs.Constants.{ReadsAny}
-use Rattle.mysql_wire.specs.Either.{Either}
-use Rattle.mysql_wire.specs.Either.TheVariants.{Right}
-use Rattle.mysql_wire.specs.Law.{ComesBack}
-use Rattle.mysql_wire.specs.Reading.{Parses, Through}
-use Rattle.mysql_wire.specs.Rows.{ReadsEither}
-use Rattle.mysql_wire.specs.WireError.{WireError}
+use Rattle.wire_forms.specs.Constants.{ReadsAny}
+use Rattle.wire_field.specs.declared.row.Either.{Either}
+use Rattle.wire_field.specs.declared.row.Either.TheVariants.{Right}
+use Rattle.wire_repr.specs.Law.{ComesBack}
+use Rattle.wire_buf.specs.Reading.{Parses, Through}
+use Rattle.wire_field.specs.Rows.{ReadsEither}
+use Rattle.wire_buf.specs.declared.error.WireError.{WireError}
 use Rattle.mysql_wire_packets.specs.InOrder.{Back}
 use Rattle.mysql_wire_packets.specs.Optional.{IsThere, KeptField, bytes_if, optional, side}
 

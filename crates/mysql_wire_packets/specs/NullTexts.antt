@@ -6,10 +6,10 @@ use Rattle.std.proofs.lemmas.List.Sums.{fails_before_first}
 use Rattle.std.specs.Cow.{cow_slice_items}
 use Rattle.std.specs.List.{before_first, position_or_len}
 use Rattle.std.specs.declared.borrow.CowSlice.{CowSlice}
-use Rattle.mysql_wire.specs.NullText.{is_zero}
-use Rattle.mysql_wire.specs.NullTexts.{HasNoZero, ReadsNull}
-use Rattle.mysql_wire.specs.RawTexts.{Borrows, IsBorrowedText, Borrows-back}
-use Rattle.mysql_wire.specs.Spelled.{Leaves, TellsBack, Leaves-back}
+use Rattle.wire_buf.specs.NullText.{is_zero}
+use Rattle.wire_forms.specs.NullTexts.{HasNoZero, ReadsNull}
+use Rattle.wire_repr.specs.Texts.{Borrows, IsBorrowedText, Borrows-back}
+use Rattle.wire_forms.specs.Spelled.{Leaves, TellsBack, Leaves-back}
 use Rattle.mysql_wire_packets.specs.InOrder.{Back}
 
 -- the text before its first zero

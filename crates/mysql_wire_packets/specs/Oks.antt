@@ -1,12 +1,12 @@
 -- What stands behind the warnings of an OK packet.
 use Rattle.std.specs.Prelude.{ℕ, ◌≡◌, Bool, true, false, List, [], ◌∷◌, ◌++◌, if◌then◌else◌, Option, None, Result}
-use Rattle.mysql_wire.specs.Lenenc.{lenenc_bytes}
-use Rattle.mysql_wire.specs.Numbers.{le_bytes}
-use Rattle.mysql_wire.specs.Either.{Either}
+use Rattle.wire_buf.specs.Lenenc.{lenenc_bytes}
+use Rattle.wire_buf.specs.Numbers.{le_bytes}
+use Rattle.wire_field.specs.declared.row.Either.{Either}
 use Rattle.std.proofs.Common.{refl}
 use Rattle.std.specs.Cow.{cow_slice_items}
-use Rattle.mysql_wire.specs.Rows.{by_side}
-use Rattle.mysql_wire.specs.WireError.{WireError}
+use Rattle.wire_field.specs.Rows.{by_side}
+use Rattle.wire_buf.specs.declared.error.WireError.{WireError}
 use Rattle.mysql_wire_packets.specs.InOrder.{Back, text_bytes}
 use Rattle.mysql_wire_packets.specs.Optional.{bytes_if, has, side}
 use Rattle.mysql_wire_packets.specs.declared.ok_packet.OkForm.{OkForm}

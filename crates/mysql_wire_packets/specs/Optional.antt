@@ -1,13 +1,13 @@
 -- Fields that capabilities decide on.
 use Rattle.std.specs.Prelude.{ℕ, ◌≡◌, ◌==◌, Bool, true, false, bit_and, List, [], ◌++◌, length, Option, Some, None, Result, Ok, Err}
 use Rattle.std.proofs.Common.{refl}
-use Rattle.mysql_wire.specs.WireError.{WireError}
-use Rattle.mysql_wire.specs.Law.{ComesBack}
-use Rattle.mysql_wire.specs.Reading.{Parses}
-use Rattle.mysql_wire.specs.Constants.{ReadsAny}
-use Rattle.mysql_wire.specs.Either.{Either}
-use Rattle.mysql_wire.specs.Either.TheVariants.{Left, Right}
-use Rattle.mysql_wire.specs.Rows.{ReadsEither, SameSide, by_side}
+use Rattle.wire_buf.specs.declared.error.WireError.{WireError}
+use Rattle.wire_repr.specs.Law.{ComesBack}
+use Rattle.wire_buf.specs.Reading.{Parses}
+use Rattle.wire_forms.specs.Constants.{ReadsAny}
+use Rattle.wire_field.specs.declared.row.Either.{Either}
+use Rattle.wire_field.specs.declared.row.Either.TheVariants.{Left, Right}
+use Rattle.wire_field.specs.Rows.{ReadsEither, SameSide, by_side}
 use Rattle.mysql_wire_packets.specs.InOrder.{Back, skip}
 
 -- the flag is among the flags

@@ -6,28 +6,25 @@ use Rattle.std.proofs.Math.Seq.{take-add}
 use Rattle.std.proofs.lemmas.Bool.{cases_lt, le-ltb, lt-ltb}
 use Rattle.std.proofs.lemmas.List.{append_assoc, length-append, length-drop, length-take, take_all, take_at}
 use Rattle.std.specs.Cow.{cow_slice_items}
-use Rattle.std.specs.List.{flat_map}
 use Rattle.std.specs.declared.borrow.CowSlice.{CowSlice}
 use Rattle.std.specs.declared.borrow.CowSlice.TheVariants.{Borrowed, Owned}
-use Rattle.mysql_wire.specs.Constants.{ReadsAny}
-use Rattle.mysql_wire.specs.Either.{Either}
-use Rattle.mysql_wire.specs.Either.TheVariants.{Left, Right}
-use Rattle.mysql_wire.specs.Elements.{ReadsEach, behind}
-use Rattle.mysql_wire.specs.Lenenc.{IsLenencOrMark, lenenc_bytes}
-use Rattle.mysql_wire.specs.Numbers.{IsBytes, le_bytes, le_number}
-use Rattle.mysql_wire.specs.NumberLemmas.{le_bytes-le_number, le_number-lt}
-use Rattle.mysql_wire.specs.RawTexts.{Borrows}
-use Rattle.mysql_wire.specs.Reading.{Answers, Parses, Through, front_at}
-use Rattle.mysql_wire.specs.Rows.{ReadsBoth, ReadsEither, by_side}
-use Rattle.mysql_wire.specs.Spelled.{Leaves, NumberOrEof, TextBehind}
-use Rattle.mysql_wire.specs.Spelling.{IsBehind, IsFixed}
-use Rattle.mysql_wire.specs.Texts.{u8_max}
-use Rattle.mysql_wire.specs.WireError.{WireError}
-use Rattle.mysql_wire.specs.WireError.TheVariants.{Other, UnexpectedEof}
+use Rattle.wire_forms.specs.Constants.{ReadsAny}
+use Rattle.wire_field.specs.declared.row.Either.{Either}
+use Rattle.wire_field.specs.declared.row.Either.TheVariants.{Left, Right}
+use Rattle.wire_buf.specs.Lenenc.{IsLenencOrMark, lenenc_bytes}
+use Rattle.wire_buf.specs.Numbers.{IsBytes, le_bytes, le_number}
+use Rattle.wire_buf.specs.NumberLemmas.{le_bytes-le_number, le_number-lt}
+use Rattle.wire_repr.specs.Texts.{Borrows}
+use Rattle.wire_buf.specs.Reading.{Answers, Parses, Through, front_at}
+use Rattle.wire_field.specs.Rows.{ReadsBoth, ReadsEither, by_side}
+use Rattle.wire_forms.specs.Spelled.{Leaves, NumberOrEof, TextBehind}
+use Rattle.wire_buf.specs.Spelling.{IsBehind, IsFixed}
+use Rattle.wire_ext.specs.Texts.{u8_max}
+use Rattle.wire_buf.specs.declared.error.WireError.{WireError}
+use Rattle.wire_buf.specs.declared.error.WireError.TheVariants.{Other, UnexpectedEof}
 use Rattle.mysql_wire_packets.specs.Again.{Again, IsBytes-drop, IsBytes-take, nothing_law}
 use Rattle.mysql_wire_packets.specs.InOrder.{text_bytes, u8_text_bytes}
 use Rattle.mysql_wire_packets.specs.Optional.{bytes_if, field}
-use Rattle.mysql_wire_packets.specs.TextValues.{ReadsValue, value_bytes}
 use Rattle.mysql_wire_packets.specs.Then.{ReadsThen}
 
 -- a byte that begins no length, and is read as the length 0
@@ -88,7 +85,7 @@ pub record Shortest {X : Type 0} (reads : List ℕ → Result X WireError → �
   pub law : (input : List ℕ) → IsBytes input → (x : X) (eaten : ℕ) → reads input (Ok x) eaten
       → Told (bytes x) (take eaten input)
 
-told_same : (written came : List ℕ) → written ≡ came → Told written came
+pub told_same : (written came : List ℕ) → written ≡ came → Told written came
 told_same written came same = (omega (arith, ap length same), λ short. same)
 
 told_less : (written came : List ℕ) → length written < length came → Told written came
@@ -110,7 +107,7 @@ no_mark_split (head ∷ a) b (other ∷ c) d len none =
     let more = no_mark_split a b c d (omega (arith, len)) none.1 in
     ((none.0, more.0), more.1)
 
-told_both : (a b c d : List ℕ) → Told a c → Told b d → Told (a ++ b) (c ++ d)
+pub told_both : (a b c d : List ℕ) → Told a c → Told b d → Told (a ++ b) (c ++ d)
 told_both a b c d first second = (
   omega (arith, first.0, second.0, length-append a b, length-append c d),
   λ short.
@@ -489,81 +486,3 @@ pub bare_of : {Y Z : Type 0} (part : Y → CowSlice ℕ Z) (most count : ℕ)
 bare_of part most count = record {
   law = λ input are y eaten read. bare_law most count (part y) input eaten read;
 }
-
--- a value of a row
-value_law : (value : Option (List ℕ)) (input : List ℕ) → IsBytes input → (eaten : ℕ)
-    → ReadsValue input (Ok value) eaten
-    → Told (value_bytes value) (take eaten input)
-value_law None input are eaten (inl (at, (answered, all))) =
-    told_same (0xfb ∷ []) (take eaten input) (sym at ∙ ap (λ n. take n input) (sym all))
-value_law (Some text) input are eaten (inl (at, (answered, all))) =
-    let differs : ◌≡◌ {A = Result (Option (List ℕ)) WireError} (Ok (Some text)) (Ok None) =
-    answered in
-    absurd (cc differs)
-value_law value input are eaten (inr (inl (at, (answered, all)))) =
-    let failed : ◌≡◌ {A = Result (Option (List ℕ)) WireError} (Ok value) (Err (Other (record {})))
-    = answered in
-    absurd (cc failed)
-value_law None input are eaten (inr (inr (apart, differs, read))) = absurd read
-value_law (Some text) input are eaten (inr (inr (apart, differs, read))) =
-    text_law text input are eaten read
-
-pub value_shortest : {Y : Type 0} (part : Y → Option (List ℕ))
-    → Shortest (λ input. Through part (ReadsValue input)) (λ y. value_bytes (part y))
-value_shortest part = record {
-  law = λ input are y eaten read. value_law (part y) input are eaten read;
-}
-
--- ---- values one after another
-
-each_next : {X : Type 0} (reads : List ℕ → Result X WireError → ℕ → Type 0) (bytes : X → List ℕ)
-    → Shortest reads bytes
-    → (input : List ℕ) → IsBytes input → (value : X) (taken after eaten : ℕ)
-    → (others : Result (List X) WireError) (values : List X)
-    → ((more : List X) → others ≡ Ok more
-    → Told (flat_map bytes more) (take after (drop taken input)))
-    → reads input (Ok value) taken → Ok values ≡ behind (value ∷ []) others
-    → eaten ≡ taken + after → Told (flat_map bytes values) (take eaten input)
-each_next reads bytes law input are value taken after eaten (Ok more) values told read answered all =
-    let same : values ≡ value ∷ more = cc answered in
-    let shape : take eaten input ≡ take taken input ++ take after (drop taken input) =
-    ap (λ count. take count input) all ∙ take-add taken after input in
-    subst (λ values. Told (flat_map bytes values) (take eaten input)) (sym same)
-    (subst (Told (bytes value ++ flat_map bytes more)) (sym shape)
-    (told_both (bytes value) (flat_map bytes more) (take taken input)
-    (take after (drop taken input)) (law.law input are value taken read) (told more refl)))
-each_next {X = X} reads bytes law input are value taken after eaten (Err error) values told read
-    answered all =
-    let failed : ◌≡◌ {A = Result (List X) WireError} (Ok values) (Err error) = answered in
-    absurd (cc failed)
-
-each_law : {X : Type 0} (reads : List ℕ → Result X WireError → ℕ → Type 0) (bytes : X → List ℕ)
-    → Shortest reads bytes → (count : ℕ) (input : List ℕ) → IsBytes input → (values : List X)
-    (eaten : ℕ) (answer : Result (List X) WireError) → answer ≡ Ok values
-    → ReadsEach (Unit {0}) reads count input answer eaten
-    → Told (flat_map bytes values) (take eaten input)
-each_law reads bytes law zero input are values eaten answer is (answered, none) =
-    let same : values ≡ [] = cc (is, answered) in
-    told_same (flat_map bytes values) (take eaten input)
-    (ap (flat_map bytes) same ∙ ap (λ n. take n input) (sym none))
-each_law reads bytes law (suc count) input are values eaten answer is (inl (_, failed, _)) =
-    absurd (cc (is, failed))
-each_law reads bytes law (suc count) input are values eaten answer is (inr (inl (_, failed, _))) =
-    absurd (cc (is, failed))
-each_law reads bytes law (suc count) input are values eaten answer is
-    (inr (inr (value, taken, after, others, fits, read, rest, answered, all))) =
-    each_next reads bytes law input are value taken after eaten others values
-    (λ more same. each_law reads bytes law count (drop taken input) (IsBytes-drop taken input are)
-    more after others same rest)
-    read (sym is ∙ answered) all
-
--- the values of a row
-pub row_law : {X : Type 0} {reads : List ℕ → Result X WireError → ℕ → Type 0} {bytes : X → List ℕ}
-    (count : ℕ) → Shortest reads bytes → (values : List X) (input : List ℕ) → IsBytes input
-    → (eaten : ℕ)
-    → ((taken : ℕ) × ReadsEach (Unit {0}) reads count input (Ok values) taken × (eaten ≡ 0 + taken))
-    → Told (flat_map bytes values) (take eaten input)
-row_law {reads = reads} {bytes = bytes} count law values input are eaten (taken, read, all) =
-    let same : taken ≡ eaten = omega (arith, all) in
-    subst (λ n. Told (flat_map bytes values) (take n input)) same
-    (each_law reads bytes law count input are values taken (Ok values) refl read)

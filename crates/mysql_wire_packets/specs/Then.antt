@@ -2,8 +2,8 @@
 use Rattle.std.specs.Prelude.{ℕ, ◌≡◌, ◌≤◌, ◌+◌, ◌⊎◌, List, ◌++◌, length, drop, Result, Ok, Err}
 use Rattle.std.proofs.Common.{inl, inr, sym, ap, subst, ◌∙◌, arith}
 use Rattle.std.proofs.lemmas.List.{drop_at, drop-drop, length-drop, length-append, append_assoc}
-use Rattle.mysql_wire.specs.WireError.{WireError}
-use Rattle.mysql_wire.specs.Law.{ComesBack}
+use Rattle.wire_buf.specs.declared.error.WireError.{WireError}
+use Rattle.wire_repr.specs.Law.{ComesBack}
 use Rattle.mysql_wire_packets.specs.InOrder.{Back}
 
 -- the first fields are read, and then, as they say, the second in what the first left

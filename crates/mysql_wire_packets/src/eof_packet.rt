@@ -1,16 +1,20 @@
 //! The `EOF_Packet`.
 
 ghost use Rattle.std.specs.Prelude.{◌≡◌, ◌<◌, ◌^◌, ◌∷◌, ◌++◌};
-ghost use Rattle.mysql_wire.specs.Numbers.{le_bytes};
-ghost use Rattle.mysql_wire.specs.Reading.{Through};
+ghost use Rattle.wire_buf.specs.Numbers.{le_bytes};
+ghost use Rattle.wire_buf.specs.Reading.{Through};
 ghost use Rattle.mysql_wire_packets.specs.InOrder.{packet, both, const_u8, number};
 
-use mysql_wire::constants::StatusFlags;
-use mysql_wire::io::{ParseBuf, WireError};
-use mysql_wire::misc::raw::int::{ConstU8, LeU16, RawInt};
-use mysql_wire::misc::raw::{Both, RawFlags};
-use mysql_wire::proto::{HasSize, MyDeserialize, MySerialize, Varying, Wire};
 use std::alloc::Allocator;
+use wire_buf::error::WireError;
+use wire_buf::io::ParseBuf;
+use wire_buf::proto::{HasSize, MyDeserialize, MySerialize, Varying};
+use wire_const::StatusFlags;
+use wire_field::converted::RawFlags;
+use wire_field::row::Both;
+use wire_forms::constant::ConstU8;
+use wire_repr::int::{LeU16, RawInt};
+use wire_repr::wire::Wire;
 
 // The payload's fields, in order.
 type Fields = Both<ConstU8<(), 0xfe>, Both<RawInt<LeU16>, RawFlags<StatusFlags, LeU16>>>;

@@ -3,22 +3,26 @@
 ghost use Rattle.std.specs.Prelude.{◌≡◌, ◌<◌, ◌^◌, ◌∷◌, ◌++◌, [], length};
 ghost use Rattle.std.proofs.Common.{subst};
 ghost use Rattle.std.specs.Cow.{cow_slice_items};
-ghost use Rattle.mysql_wire.specs.FlagSets.{capability_flags_bits};
-ghost use Rattle.mysql_wire.specs.Numbers.{le_bytes};
-ghost use Rattle.mysql_wire.specs.RawTexts.{IsText, IsBorrowedText};
-ghost use Rattle.mysql_wire.specs.Reading.{Through};
+ghost use Rattle.wire_const.specs.FlagSets.{capability_flags_bits};
+ghost use Rattle.wire_buf.specs.Numbers.{le_bytes};
+ghost use Rattle.wire_repr.specs.Texts.{IsText, IsBorrowedText};
+ghost use Rattle.wire_buf.specs.Reading.{Through};
 ghost use Rattle.mysql_wire_packets.specs.InOrder.{packet, both, const_u8, number, array, eof_text};
 ghost use Rattle.mysql_wire_packets.specs.Optional.{BothIf, IsThere, OnIf, bytes_if, field, has, kept_field, optional, side};
 
 use crate::lent::Lent;
 use crate::optional::{Optional, under};
-use mysql_wire::constants::{CapabilityFlags, Flags};
-use mysql_wire::io::{ParseBuf, WireError};
-use mysql_wire::misc::raw::bytes::EofBytes;
-use mysql_wire::misc::raw::int::{ConstU8, LeU16, RawInt};
-use mysql_wire::misc::raw::{Both, Either, RawBytes, Skip};
-use mysql_wire::proto::{HasSize, MyDeserialize, MySerialize, Varying, Wire};
 use std::alloc::{Allocator, Global};
+use wire_buf::error::WireError;
+use wire_buf::io::ParseBuf;
+use wire_buf::proto::{HasSize, MyDeserialize, MySerialize, Varying};
+use wire_const::{CapabilityFlags, Flags};
+use wire_field::row::{Both, Either};
+use wire_forms::constant::{ConstU8, Skip};
+use wire_forms::undelimited::EofBytes;
+use wire_repr::int::{LeU16, RawInt};
+use wire_repr::text::RawBytes;
+use wire_repr::wire::Wire;
 
 // The payload's fields, in order.
 type Fields<'a> = Both<ConstU8<(), 0xff>, Both<RawInt<LeU16>, Message<'a>>>;

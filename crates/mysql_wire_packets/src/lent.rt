@@ -2,13 +2,13 @@
 
 ghost use Rattle.mysql_wire_packets.specs.Optional.{bytes_if};
 
-use mysql_wire::io::WireError;
-use mysql_wire::proto::MySerialize;
 use std::alloc::Allocator;
+use wire_buf::error::WireError;
+use wire_buf::proto::MySerialize;
 
 /// A field of a packet, lent as a part of what is written of it.
 #[derive(Drop)]
-pub(crate) struct Lent<'b, T>(pub &'b T);
+pub struct Lent<'b, T>(pub &'b T);
 
 impl<T: MySerialize> MySerialize for Lent<'_, T> {
     ghost bytes = { λ lent. T.bytes lent.0.now };
@@ -20,7 +20,7 @@ impl<T: MySerialize> MySerialize for Lent<'_, T> {
 
 /// A field that may be missing, lent likewise.
 #[derive(Drop)]
-pub(crate) struct LentIf<'b, T>(pub &'b Option<T>);
+pub struct LentIf<'b, T>(pub &'b Option<T>);
 
 impl<T: MySerialize> MySerialize for LentIf<'_, T> {
     ghost bytes = { λ lent. bytes_if T.bytes lent.0.now };

@@ -3,9 +3,9 @@
 ghost use Rattle.std.specs.Prelude.{◌≡◌, ◌<◌, ◌^◌, ◌∷◌, ◌++◌, [], None};
 ghost use Rattle.std.proofs.Common.{subst};
 ghost use Rattle.std.specs.Cow.{cow_slice_items};
-ghost use Rattle.mysql_wire.specs.FlagSets.{capability_flags_bits};
-ghost use Rattle.mysql_wire.specs.RawTexts.{IsText, IsBorrowedText};
-ghost use Rattle.mysql_wire.specs.Rows.{OnSide, SameSide, by_side};
+ghost use Rattle.wire_const.specs.FlagSets.{capability_flags_bits};
+ghost use Rattle.wire_repr.specs.Texts.{IsText, IsBorrowedText};
+ghost use Rattle.wire_field.specs.Rows.{OnSide, SameSide, by_side};
 ghost use Rattle.mysql_wire_packets.specs.InOrder.{both, const_u8, eof_text, lenenc_int, lenenc_text, number, text_bytes};
 ghost use Rattle.mysql_wire_packets.specs.Oks.{at_input, counts_bytes, form_of, has_state, is_lenenc, is_more, none_behind, words_bytes, words_ctx};
 ghost use Rattle.mysql_wire_packets.specs.Optional.{BothIf, IsSide, IsThere, KeptField, OnIf, field, kept_field, one_of, optional, side};
@@ -13,13 +13,19 @@ ghost use Rattle.mysql_wire_packets.specs.Then.{ReadsThen, then_back};
 
 use crate::lent::{Lent, LentIf};
 use crate::optional::{Optional, known_text, value_of};
-use mysql_wire::constants::{CapabilityFlags, Flags, StatusFlags};
-use mysql_wire::io::{ParseBuf, WireError};
-use mysql_wire::misc::raw::bytes::EofBytes;
-use mysql_wire::misc::raw::int::{ConstU8, LeU16, LenEnc, RawInt};
-use mysql_wire::misc::raw::{Both, Either, RawBytes, RawFlags, Skip};
-use mysql_wire::proto::{HasSize, MyDeserialize, MySerialize, Varying, Wire};
 use std::alloc::{Allocator, Global};
+use wire_buf::error::WireError;
+use wire_buf::io::ParseBuf;
+use wire_buf::proto::{HasSize, MyDeserialize, MySerialize, Varying};
+use wire_const::{CapabilityFlags, Flags, StatusFlags};
+use wire_field::converted::RawFlags;
+use wire_field::row::{Both, Either};
+use wire_forms::constant::{ConstU8, Skip};
+use wire_forms::lenenc::LenEnc;
+use wire_forms::undelimited::EofBytes;
+use wire_repr::int::{LeU16, RawInt};
+use wire_repr::text::RawBytes;
+use wire_repr::wire::Wire;
 
 // The payload's fields up to the warnings.
 type Counts<const HEADER: u8> = Both<ConstU8<(), HEADER>, Both<RawInt<LenEnc>, Rest>>;

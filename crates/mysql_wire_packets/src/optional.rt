@@ -2,27 +2,31 @@
 
 ghost use Rattle.std.specs.Prelude.{◌≡◌, ◌∷◌, []};
 ghost use Rattle.std.specs.Cow.{cow_slice_items};
-ghost use Rattle.mysql_wire.specs.RawTexts.{IsText};
-ghost use Rattle.mysql_wire.specs.Rows.{by_side};
-ghost use Rattle.mysql_wire.specs.Reading.{Through};
+ghost use Rattle.wire_repr.specs.Texts.{IsText};
+ghost use Rattle.wire_field.specs.Rows.{by_side};
+ghost use Rattle.wire_buf.specs.Reading.{Through};
 ghost use Rattle.mysql_wire_packets.specs.More.{if_more};
-ghost use Rattle.mysql_wire.specs.FlagSets.{capability_flags_bits};
+ghost use Rattle.wire_const.specs.FlagSets.{capability_flags_bits};
 ghost use Rattle.mysql_wire_packets.specs.Optional.{OnIf, bytes_if, field, has, side};
 
-use mysql_wire::constants::{CapabilityFlags, Flags};
-use mysql_wire::io::{ParseBuf, WireError};
-use mysql_wire::misc::raw::bytes::LenEnc;
-use mysql_wire::misc::raw::int::RawInt;
-use mysql_wire::misc::raw::{Either, RawBytes, Skip};
-use mysql_wire::proto::{HasSize, MyDeserialize, Varying, Wire};
 use std::alloc::Global;
 use std::marker::PhantomData;
+use wire_buf::error::WireError;
+use wire_buf::io::ParseBuf;
+use wire_buf::proto::{HasSize, MyDeserialize, Varying};
+use wire_const::{CapabilityFlags, Flags};
+use wire_field::row::Either;
+use wire_forms::constant::Skip;
+use wire_forms::lenenc::LenEnc;
+use wire_repr::int::RawInt;
+use wire_repr::text::RawBytes;
+use wire_repr::wire::Wire;
 
 /// A field that is there, or no bytes.
-pub(crate) type Optional<T> = Either<T, Skip<0>>;
+pub type Optional<T> = Either<T, Skip<0>>;
 
 /// The context of a field that is there under a flag, where these are the capabilities' bits.
-pub(crate) fn under<C: Drop>(bits: u32, flag: CapabilityFlags, ctx: C) -> Either<C, ()>
+pub fn under<C: Drop>(bits: u32, flag: CapabilityFlags, ctx: C) -> Either<C, ()>
     ensures { result ≡ side ctx (has bits (capability_flags_bits flag)) }
 {
     if CapabilityFlags::from_bits_retain(bits).contains(flag) {
@@ -33,7 +37,7 @@ pub(crate) fn under<C: Drop>(bits: u32, flag: CapabilityFlags, ctx: C) -> Either
 }
 
 /// The value of a field.
-pub(crate) fn value_of<T>(part: Optional<T>) -> Option<T>
+pub fn value_of<T>(part: Optional<T>) -> Option<T>
     ensures { field (λ x. x) _ result ≡ part }
 {
     match part {
@@ -43,7 +47,7 @@ pub(crate) fn value_of<T>(part: Optional<T>) -> Option<T>
 }
 
 /// The value of a byte.
-pub(crate) fn byte_of(part: Optional<RawInt<u8>>) -> Option<u8>
+pub fn byte_of(part: Optional<RawInt<u8>>) -> Option<u8>
     ensures { field (λ byte. (byte, _)) _ result ≡ part }
 {
     match part {
@@ -53,7 +57,7 @@ pub(crate) fn byte_of(part: Optional<RawInt<u8>>) -> Option<u8>
 }
 
 /// The field of a byte.
-pub(crate) fn field_of_byte(byte: Option<u8>) -> Optional<RawInt<u8>>
+pub fn field_of_byte(byte: Option<u8>) -> Optional<RawInt<u8>>
     ensures { by_side (λ byte. byte.0 ∷ []) (λ _. []) result ≡ bytes_if (λ byte. byte ∷ []) byte }
 {
     match byte {
@@ -63,7 +67,7 @@ pub(crate) fn field_of_byte(byte: Option<u8>) -> Optional<RawInt<u8>>
 }
 
 /// A text in hand that may be missing.
-pub(crate) fn known_text(text: &Option<RawBytes<'_, LenEnc>>)
+pub fn known_text(text: &Option<RawBytes<'_, LenEnc>>)
     ensures { OnIf (λ text. IsText (cow_slice_items text.0)) text.now }
 {
     match text {
@@ -74,7 +78,7 @@ pub(crate) fn known_text(text: &Option<RawBytes<'_, LenEnc>>)
 
 /// A field that is there under a condition, where the payload goes on.
 #[derive(Drop)]
-pub(crate) struct IfMore<T>(pub Optional<T>, pub PhantomData<T>);
+pub struct IfMore<T>(pub Optional<T>, pub PhantomData<T>);
 
 impl<T: HasSize> HasSize for IfMore<T> {
     type Size = Varying<T::Size>;

@@ -1,12 +1,13 @@
 //! A payload that is one packet, at a place where one of several may stand.
 
 ghost use Rattle.std.specs.Prelude.{◌≡◌, Ok, length, IfOk};
-ghost use Rattle.mysql_wire.specs.Reading.{Parses};
+ghost use Rattle.wire_buf.specs.Reading.{Parses};
 ghost use Rattle.mysql_wire_packets.specs.Places.{ReadsWhole};
 
-use mysql_wire::io::{ParseBuf, WireError};
-use mysql_wire::proto::{MyDeserialize, MySerialize};
 use std::alloc::Global;
+use wire_buf::error::WireError;
+use wire_buf::io::ParseBuf;
+use wire_buf::proto::{MyDeserialize, MySerialize};
 
 /// Why a payload is no packet of its place.
 #[derive(Debug, Drop)]

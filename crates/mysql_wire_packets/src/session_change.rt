@@ -2,17 +2,21 @@
 
 ghost use Rattle.std.specs.Prelude.{◌≡◌, ◌∷◌};
 ghost use Rattle.std.specs.Cow.{cow_slice_items};
-ghost use Rattle.mysql_wire.specs.RawTexts.{IsText, IsBorrowedText};
-ghost use Rattle.mysql_wire.specs.Reading.{Through};
+ghost use Rattle.wire_repr.specs.Texts.{IsText, IsBorrowedText};
+ghost use Rattle.wire_buf.specs.Reading.{Through};
 ghost use Rattle.mysql_wire_packets.specs.InOrder.{packet, both, byte, lenenc_text, text_bytes};
 
 use crate::lent::Lent;
-use mysql_wire::constants::SessionStateType;
-use mysql_wire::io::{ParseBuf, WireError};
-use mysql_wire::misc::raw::bytes::LenEnc;
-use mysql_wire::misc::raw::{Both, RawBytes, RawConst};
-use mysql_wire::proto::{HasSize, MyDeserialize, MySerialize, Varying, Wire};
 use std::alloc::{Allocator, Global};
+use wire_buf::error::WireError;
+use wire_buf::io::ParseBuf;
+use wire_buf::proto::{HasSize, MyDeserialize, MySerialize, Varying};
+use wire_const::SessionStateType;
+use wire_field::converted::RawConst;
+use wire_field::row::Both;
+use wire_forms::lenenc::LenEnc;
+use wire_repr::text::RawBytes;
+use wire_repr::wire::Wire;
 
 // The fields, in order.
 type Fields<'a> = Both<RawConst<u8, SessionStateType>, RawBytes<'a, LenEnc>>;

@@ -5,17 +5,17 @@ use Rattle.std.proofs.Common.{zero, suc, inl, inr, refl, sym, ap, subst, ◌∙�
 use Rattle.std.proofs.Math.Seq.{take-add}
 use Rattle.std.proofs.lemmas.List.{length-take, length-take-le, take-append-drop, take_all}
 use Rattle.std.proofs.lemmas.Bool.{cases_lt, le-ltb, lt-ltb}
-use Rattle.mysql_wire.specs.WireError.{WireError}
-use Rattle.mysql_wire.specs.WireError.TheVariants.{UnexpectedEof}
-use Rattle.mysql_wire.specs.Law.{ReadsFixed}
-use Rattle.mysql_wire.specs.Reading.{Answers, Parses, Reads, Through, front_at}
-use Rattle.mysql_wire.specs.Numbers.{le_number, le_bytes, IsBytes}
-use Rattle.mysql_wire.specs.NumberLemmas.{le_bytes-le_number, le_number-lt}
-use Rattle.mysql_wire.specs.Constants.{ReadsAny, ReadsConst}
-use Rattle.mysql_wire.specs.Both.{Both}
-use Rattle.mysql_wire.specs.Either.{Either}
-use Rattle.mysql_wire.specs.Either.TheVariants.{Left, Right}
-use Rattle.mysql_wire.specs.Rows.{ReadsBoth, ReadsEither, by_side}
+use Rattle.wire_buf.specs.declared.error.WireError.{WireError}
+use Rattle.wire_buf.specs.declared.error.WireError.TheVariants.{UnexpectedEof}
+use Rattle.wire_repr.specs.Law.{ReadsFixed}
+use Rattle.wire_buf.specs.Reading.{Answers, Parses, Reads, Through, front_at}
+use Rattle.wire_buf.specs.Numbers.{le_number, le_bytes, IsBytes}
+use Rattle.wire_buf.specs.NumberLemmas.{le_bytes-le_number, le_number-lt}
+use Rattle.wire_forms.specs.Constants.{ReadsAny, ReadsConst}
+use Rattle.wire_field.specs.declared.row.Both.{Both}
+use Rattle.wire_field.specs.declared.row.Either.{Either}
+use Rattle.wire_field.specs.declared.row.Either.TheVariants.{Left, Right}
+use Rattle.wire_field.specs.Rows.{ReadsBoth, ReadsEither, by_side}
 use Rattle.mysql_wire_packets.specs.Optional.{bytes_if, field, side}
 
 -- what is read of bytes is written as those of them that were eaten

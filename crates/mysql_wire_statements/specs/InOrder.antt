@@ -1,9 +1,9 @@
 -- Fields that are lent from a payload are read back.
 use Rattle.std.specs.Prelude.{ℕ, ◌≡◌, List, [], ◌++◌, length, Ok}
-use Rattle.mysql_wire.specs.Law.{Through-back}
-use Rattle.mysql_wire.specs.Reading.{Answers, Through, front_at}
-use Rattle.mysql_wire.specs.BareTexts.{all-back}
-use Rattle.mysql_wire.specs.Borrowed.{front-through}
+use Rattle.wire_repr.specs.Law.{Through-back}
+use Rattle.wire_buf.specs.Reading.{Answers, Through, front_at}
+use Rattle.wire_forms.specs.BareTexts.{all-back}
+use Rattle.wire_field.specs.Borrowed.{front-through}
 use Rattle.mysql_wire_packets.specs.InOrder.{Back}
 
 -- ---- lemmas

@@ -1,11 +1,11 @@
 -- Dates and times in their binary form. Each begins with the count of the bytes behind it.
 use Rattle.std.specs.Prelude.{ℕ, ◌≡◌, ◌≢◌, ◌⊎◌, List, [], ◌∷◌, ◌++◌, length, take, drop, slice_index, Result, Ok, Err, nat_lt, if◌then◌else◌}
 use Rattle.std.proofs.Common.{suc}
-use Rattle.mysql_wire.specs.WireError.{WireError}
-use Rattle.mysql_wire.specs.WireError.TheVariants.{UnexpectedEof, InvalidData}
-use Rattle.mysql_wire.specs.InvalidReason.TheVariants.{UnknownValue}
-use Rattle.mysql_wire.specs.Numbers.{le_number, le_bytes}
-use Rattle.mysql_wire.specs.Reading.{Answers}
+use Rattle.wire_buf.specs.declared.error.WireError.{WireError}
+use Rattle.wire_buf.specs.declared.error.WireError.TheVariants.{UnexpectedEof, InvalidData}
+use Rattle.wire_buf.specs.declared.error.InvalidReason.TheVariants.{UnknownValue}
+use Rattle.wire_buf.specs.Numbers.{le_number, le_bytes}
+use Rattle.wire_buf.specs.Reading.{Answers}
 use Rattle.mysql_wire_statements.specs.declared.moments.Clock.{Clock}
 use Rattle.mysql_wire_statements.specs.declared.moments.Day.{Day}
 use Rattle.mysql_wire_statements.specs.declared.moments.Span.{Span}

@@ -3,13 +3,13 @@ use Rattle.std.specs.Prelude.{ℕ, ◌≡◌, ◌≤◌, ◌<◌, ◌^◌, List,
 use Rattle.std.proofs.Common.{zero, suc, inl, inr, refl, sym, ap, subst, ◌∙◌, arith}
 use Rattle.std.proofs.lemmas.Bool.{cases_lt, le-ltb, lt-ltb}
 use Rattle.std.proofs.lemmas.List.{length-append, length-take-le, take_at, take-take}
-use Rattle.mysql_wire.specs.WireError.{WireError}
-use Rattle.mysql_wire.specs.WireError.TheVariants.{UnexpectedEof, InvalidData}
-use Rattle.mysql_wire.specs.InvalidReason.TheVariants.{UnknownValue}
-use Rattle.mysql_wire.specs.Law.{ComesBack}
-use Rattle.mysql_wire.specs.Numbers.{le_bytes, IsBytes}
-use Rattle.mysql_wire.specs.NumberLemmas.{le_bytes-le_number, le_number-le_bytes_fits, IsBytes-cons, IsBytes-nil}
-use Rattle.mysql_wire.specs.Reading.{Answers}
+use Rattle.wire_buf.specs.declared.error.WireError.{WireError}
+use Rattle.wire_buf.specs.declared.error.WireError.TheVariants.{UnexpectedEof, InvalidData}
+use Rattle.wire_buf.specs.declared.error.InvalidReason.TheVariants.{UnknownValue}
+use Rattle.wire_repr.specs.Law.{ComesBack}
+use Rattle.wire_buf.specs.Numbers.{le_bytes, IsBytes}
+use Rattle.wire_buf.specs.NumberLemmas.{le_bytes-le_number, le_number-le_bytes_fits, IsBytes-cons, IsBytes-nil}
+use Rattle.wire_buf.specs.Reading.{Answers}
 use Rattle.mysql_wire_statements.specs.Again.{take_are}
 use Rattle.mysql_wire_statements.specs.Moments.{behind, clock_bytes, date_bytes, date_micros_at, day_at, micros_at, day_bytes, seconds_at, span_at, span_bytes, time_bytes, time_micros_at, ReadsDate, ReadsTime}
 use Rattle.mysql_wire_statements.specs.declared.moments.Day.{Day}

@@ -1,10 +1,10 @@
 -- The types of a statement's parameters.
 use Rattle.std.specs.Prelude.{ℕ, ◌≡◌, ◌≢◌, ◌*◌, ◌⊎◌, List, [], ◌∷◌, length, take, drop, Option, Some, None, Result, Ok, Err, nat_lt, if◌then◌else◌}
 use Rattle.std.proofs.Common.{suc}
-use Rattle.mysql_wire.specs.WireError.{WireError}
-use Rattle.mysql_wire.specs.WireError.TheVariants.{UnexpectedEof, InvalidData}
-use Rattle.mysql_wire.specs.InvalidReason.TheVariants.{UnknownValue}
-use Rattle.mysql_wire.specs.Reading.{Answers}
+use Rattle.wire_buf.specs.declared.error.WireError.{WireError}
+use Rattle.wire_buf.specs.declared.error.WireError.TheVariants.{UnexpectedEof, InvalidData}
+use Rattle.wire_buf.specs.declared.error.InvalidReason.TheVariants.{UnknownValue}
+use Rattle.wire_buf.specs.Reading.{Answers}
 use Rattle.mysql_wire_statements.specs.declared.params.ParamTypes.{ParamTypes}
 
 -- the types, if there are any

@@ -3,11 +3,11 @@ use Rattle.std.specs.Prelude.{ℕ, ◌≡◌, ◌≤◌, ◌<◌, ◌*◌, List,
 use Rattle.std.proofs.Common.{suc, inl, inr, refl, sym, ap, subst, ◌∙◌, arith}
 use Rattle.std.proofs.lemmas.Bool.{cases_lt, le-ltb, lt-ltb}
 use Rattle.std.proofs.lemmas.List.{length-append, take_at, take-take, take-append-drop}
-use Rattle.mysql_wire.specs.WireError.{WireError}
-use Rattle.mysql_wire.specs.WireError.TheVariants.{UnexpectedEof, InvalidData}
-use Rattle.mysql_wire.specs.InvalidReason.TheVariants.{UnknownValue}
-use Rattle.mysql_wire.specs.Law.{Through-back}
-use Rattle.mysql_wire.specs.Reading.{Answers, Through}
+use Rattle.wire_buf.specs.declared.error.WireError.{WireError}
+use Rattle.wire_buf.specs.declared.error.WireError.TheVariants.{UnexpectedEof, InvalidData}
+use Rattle.wire_buf.specs.declared.error.InvalidReason.TheVariants.{UnknownValue}
+use Rattle.wire_repr.specs.Law.{Through-back}
+use Rattle.wire_buf.specs.Reading.{Answers, Through}
 use Rattle.mysql_wire_packets.specs.InOrder.{Back}
 use Rattle.mysql_wire_statements.specs.Again.{Again}
 use Rattle.mysql_wire_statements.specs.Params.{types_bytes, HaveTypes, types_behind, ReadsTypes}

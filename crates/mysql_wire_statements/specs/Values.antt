@@ -1,16 +1,16 @@
 -- Values in their binary form.
 use Rattle.std.specs.Prelude.{ℕ, ◌≡◌, ◌≢◌, ◌<◌, ◌^◌, ◌⊎◌, List, [], ◌∷◌, ◌++◌, length, take, Option, Some, None, Result, Ok, Err, nat_lt, if◌then◌else◌, MatchOption}
-use Rattle.mysql_wire.specs.WireError.{WireError}
-use Rattle.mysql_wire.specs.WireError.TheVariants.{UnexpectedEof, InvalidData, Other}
-use Rattle.mysql_wire.specs.InvalidReason.TheVariants.{UnknownValue}
-use Rattle.mysql_wire.specs.Lenenc.{IsLenencOrMark, lenenc_bytes}
-use Rattle.mysql_wire.specs.Numbers.{le_number, le_bytes}
-use Rattle.mysql_wire.specs.RawTexts.{IsText}
-use Rattle.mysql_wire.specs.Reading.{Answers}
-use Rattle.mysql_wire.specs.Spelling.{EatsSpelling}
-use Rattle.mysql_wire.specs.Spelled.{Leaves, NumberOrEof, TextBehind}
-use Rattle.mysql_wire.specs.ColumnType.{ColumnType}
-use Rattle.mysql_wire.specs.ColumnType.TheVariants as kind
+use Rattle.wire_buf.specs.declared.error.WireError.{WireError}
+use Rattle.wire_buf.specs.declared.error.WireError.TheVariants.{UnexpectedEof, InvalidData, Other}
+use Rattle.wire_buf.specs.declared.error.InvalidReason.TheVariants.{UnknownValue}
+use Rattle.wire_buf.specs.Lenenc.{IsLenencOrMark, lenenc_bytes}
+use Rattle.wire_buf.specs.Numbers.{le_number, le_bytes}
+use Rattle.wire_repr.specs.Texts.{IsText}
+use Rattle.wire_buf.specs.Reading.{Answers}
+use Rattle.wire_buf.specs.Spelling.{EatsSpelling}
+use Rattle.wire_forms.specs.Spelled.{Leaves, NumberOrEof, TextBehind}
+use Rattle.wire_const.specs.declared.column_type.ColumnType.{ColumnType}
+use Rattle.wire_const.specs.declared.column_type.ColumnType.TheVariants as kind
 use Rattle.mysql_wire_statements.specs.Moments.{date_bytes, time_bytes, ReadsDate, ReadsTime}
 use Rattle.mysql_wire_statements.specs.MomentsBack.{IsDate, IsTime}
 use Rattle.mysql_wire_statements.specs.declared.moments.BinaryDate.{BinaryDate}

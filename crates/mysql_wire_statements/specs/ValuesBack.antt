@@ -3,18 +3,18 @@ use Rattle.std.specs.Prelude.{ℕ, ◌≡◌, ◌≢◌, ◌≤◌, ◌<◌, ◌
 use Rattle.std.proofs.Common.{inl, inr, refl, sym, ap, subst, ◌∙◌, arith}
 use Rattle.std.proofs.lemmas.Bool.{cases_lt, le-ltb, lt-ltb}
 use Rattle.std.proofs.lemmas.List.{append_assoc, length-append, length-drop, length-take-le, take_at}
-use Rattle.mysql_wire.specs.WireError.{WireError}
-use Rattle.mysql_wire.specs.WireError.TheVariants.{UnexpectedEof, InvalidData, Other}
-use Rattle.mysql_wire.specs.InvalidReason.TheVariants.{UnknownValue}
-use Rattle.mysql_wire.specs.Law.{ComesBack}
-use Rattle.mysql_wire.specs.Lenenc.{IsLenenc, IsLenencOrMark, lenenc_bytes}
-use Rattle.mysql_wire.specs.LenencWritten.{lenenc_bytes-is}
-use Rattle.mysql_wire.specs.Numbers.{le_number, le_bytes, IsBytes}
-use Rattle.mysql_wire.specs.NumberLemmas.{le_bytes-le_number, le_number-le_bytes_fits, length-le_bytes}
-use Rattle.mysql_wire.specs.PrefixedTexts.{lenenc_text-back}
-use Rattle.mysql_wire.specs.RawTexts.{IsText}
-use Rattle.mysql_wire.specs.Reading.{Answers}
-use Rattle.mysql_wire.specs.Spelled.{Leaves, NumberOrEof, TextBehind}
+use Rattle.wire_buf.specs.declared.error.WireError.{WireError}
+use Rattle.wire_buf.specs.declared.error.WireError.TheVariants.{UnexpectedEof, InvalidData, Other}
+use Rattle.wire_buf.specs.declared.error.InvalidReason.TheVariants.{UnknownValue}
+use Rattle.wire_repr.specs.Law.{ComesBack}
+use Rattle.wire_buf.specs.Lenenc.{IsLenenc, IsLenencOrMark, lenenc_bytes}
+use Rattle.wire_buf.specs.LenencWritten.{lenenc_bytes-is}
+use Rattle.wire_buf.specs.Numbers.{le_number, le_bytes, IsBytes}
+use Rattle.wire_buf.specs.NumberLemmas.{le_bytes-le_number, le_number-le_bytes_fits, length-le_bytes}
+use Rattle.wire_forms.specs.PrefixedTexts.{lenenc_text-back}
+use Rattle.wire_repr.specs.Texts.{IsText}
+use Rattle.wire_buf.specs.Reading.{Answers}
+use Rattle.wire_forms.specs.Spelled.{Leaves, NumberOrEof, TextBehind}
 use Rattle.mysql_wire_statements.specs.Again.{take_are}
 use Rattle.mysql_wire_statements.specs.Moments.{date_bytes, time_bytes, ReadsDate, ReadsTime}
 use Rattle.mysql_wire_statements.specs.MomentsBack.{date-back, date_law, time-back, time_law}

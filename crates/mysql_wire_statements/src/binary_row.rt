@@ -1,7 +1,7 @@
 //! A row of a binary resultset.
 
 ghost use Rattle.std.specs.Prelude.{◌≡◌, ◌+◌, [], ◌∷◌, ◌++◌, length, Ok};
-ghost use Rattle.mysql_wire.specs.Reading.{Reads, Through};
+ghost use Rattle.wire_buf.specs.Reading.{Reads, Through};
 ghost use Rattle.mysql_wire_packets.specs.InOrder.{packet, both, const_u8};
 ghost use Rattle.mysql_wire_statements.specs.Again.{packet_again, both_again, const_again, rest_again, slice_again};
 ghost use Rattle.mysql_wire_statements.specs.Bitmaps.{bitmap_len, IsSet};
@@ -13,12 +13,14 @@ use crate::binary_value::BinaryValue;
 use crate::null_bitmap::RowNulls;
 use crate::rest::Rest;
 use crate::written_back::WrittenBack;
-use mysql_wire::constants::ColumnType;
-use mysql_wire::io::{ParseBuf, WireError};
-use mysql_wire::misc::raw::Both;
-use mysql_wire::misc::raw::int::ConstU8;
-use mysql_wire::proto::{HasSize, MyDeserialize, MySerialize, Varying, Wire};
 use std::alloc::{Allocator, Global};
+use wire_buf::error::WireError;
+use wire_buf::io::ParseBuf;
+use wire_buf::proto::{HasSize, MyDeserialize, MySerialize, Varying};
+use wire_const::ColumnType;
+use wire_field::row::Both;
+use wire_forms::constant::ConstU8;
+use wire_repr::wire::Wire;
 
 // The payload's fields, in order.
 type Fields<'a> = Both<ConstU8<(), 0x00>, Both<RowNulls<'a>, Rest<'a>>>;

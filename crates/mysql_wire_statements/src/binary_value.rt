@@ -2,20 +2,22 @@
 
 ghost use Rattle.std.specs.Prelude.{◌≡◌, ◌++◌};
 ghost use Rattle.std.proofs.Common.{subst};
-ghost use Rattle.mysql_wire.specs.Reading.{Reads, Through};
+ghost use Rattle.wire_buf.specs.Reading.{Reads, Through};
 ghost use Rattle.mysql_wire_statements.specs.Values.{form_of, value_bytes, written_form, IsPlain, IsShortest, IsValue, ReadsForm, ReadsText, SameValue};
 ghost use Rattle.mysql_wire_statements.specs.ValuesBack.{value-back, value_law};
 
 use crate::moments::{BinaryDate, BinaryTime};
 use crate::written_back::WrittenBack;
-use mysql_wire::constants::ColumnType;
-use mysql_wire::io::{InvalidLengthEncodedInteger, InvalidReason, ParseBuf, WireError};
-use mysql_wire::misc::raw::RawBytes;
-use mysql_wire::misc::raw::bytes::LenEnc;
-use mysql_wire::misc::raw::int::{LeU16, LeU32, LeU64, RawInt};
-use mysql_wire::proto::{HasSize, MyDeserialize, MySerialize, Varying, Wire};
 use std::alloc::{Allocator, Global};
 use std::borrow::CowSlice;
+use wire_buf::error::{InvalidLengthEncodedInteger, InvalidReason, WireError};
+use wire_buf::io::ParseBuf;
+use wire_buf::proto::{HasSize, MyDeserialize, MySerialize, Varying};
+use wire_const::ColumnType;
+use wire_forms::lenenc::LenEnc;
+use wire_repr::int::{LeU16, LeU32, LeU64, RawInt};
+use wire_repr::text::RawBytes;
+use wire_repr::wire::Wire;
 
 /// How the values of a type are written in their binary form.
 ///

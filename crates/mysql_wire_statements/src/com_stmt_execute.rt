@@ -2,8 +2,8 @@
 
 ghost use Rattle.std.specs.Prelude.{◌≡◌, ◌<◌, ◌^◌, [], ◌∷◌, ◌++◌, nat_lt};
 ghost use Rattle.std.proofs.Common.{ap, subst, sym, ◌∙◌};
-ghost use Rattle.mysql_wire.specs.Numbers.{le_bytes};
-ghost use Rattle.mysql_wire.specs.Reading.{Through};
+ghost use Rattle.wire_buf.specs.Numbers.{le_bytes};
+ghost use Rattle.wire_buf.specs.Reading.{Through};
 ghost use Rattle.mysql_wire_packets.specs.InOrder.{packet, both, byte, const_u8, number};
 ghost use Rattle.mysql_wire_packets.specs.Optional.{BothIf, IsThere, OnIf, bytes_if, field, kept_field, optional, side};
 ghost use Rattle.mysql_wire_statements.specs.Again.{packet_again, both_again, byte_again, const_again, number_again, optional_again, rest_again, slice_again, by_field};
@@ -15,12 +15,16 @@ ghost use Rattle.mysql_wire_statements.specs.Params.{types_of};
 
 use crate::params::{Fields as ParamsFields, StmtParams};
 use crate::written_back::WrittenBack;
-use mysql_wire::constants::CursorType;
-use mysql_wire::io::{ParseBuf, WireError};
-use mysql_wire::misc::raw::int::{ConstU8, LeU32, RawInt};
-use mysql_wire::misc::raw::{Both, Either, RawFlags, Skip};
-use mysql_wire::proto::{HasSize, MyDeserialize, MySerialize, Varying, Wire};
 use std::alloc::Allocator;
+use wire_buf::error::WireError;
+use wire_buf::io::ParseBuf;
+use wire_buf::proto::{HasSize, MyDeserialize, MySerialize, Varying};
+use wire_const::CursorType;
+use wire_field::converted::RawFlags;
+use wire_field::row::{Both, Either};
+use wire_forms::constant::{ConstU8, Skip};
+use wire_repr::int::{LeU32, RawInt};
+use wire_repr::wire::Wire;
 
 // The payload's fields, in order.
 type Fields<'a> = Both<ConstU8<(), 0x17>, Both<RawInt<LeU32>, Cursor<'a>>>;

@@ -1,24 +1,25 @@
 //! `COM_STMT_PREPARE`.
 
 ghost use Rattle.std.specs.Prelude.{◌≡◌, [], ◌∷◌, ◌++◌};
-ghost use Rattle.mysql_wire.specs.Reading.{Through};
+ghost use Rattle.wire_buf.specs.Reading.{Through};
 ghost use Rattle.mysql_wire_packets.specs.InOrder.{packet, both, const_u8};
 ghost use Rattle.mysql_wire_statements.specs.InOrder.{rest_of};
 ghost use Rattle.mysql_wire_statements.specs.Again.{packet_again, both_again, const_again, rest_again};
 
 use crate::rest::Rest;
 use crate::written_back::WrittenBack;
-use mysql_wire::io::{ParseBuf, WireError};
-use mysql_wire::misc::raw::Both;
-use mysql_wire::misc::raw::int::ConstU8;
-use mysql_wire::proto::{HasSize, MyDeserialize, MySerialize, Varying, Wire};
 use std::alloc::Allocator;
+use wire_buf::error::WireError;
+use wire_buf::io::ParseBuf;
+use wire_buf::proto::{HasSize, MyDeserialize, MySerialize, Varying};
+use wire_field::row::Both;
+use wire_forms::constant::ConstU8;
+use wire_repr::wire::Wire;
 
 // The payload's fields, in order.
 type Fields<'a> = Both<ConstU8<(), 0x16>, Rest<'a>>;
 
-/// A statement is to be prepared. The answer is a `ComStmtPrepareOk` of `mysql_wire_packets`, or an
-/// error.
+/// A statement is to be prepared. The answer is a `ComStmtPrepareOk`, or an error.
 ///
 /// <https://dev.mysql.com/doc/dev/mysql-server/latest/page_protocol_com_stmt_prepare.html>
 #[derive(Clone, Copy, Debug, PartialEq, Eq)]

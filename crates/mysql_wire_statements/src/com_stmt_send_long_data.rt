@@ -1,19 +1,22 @@
 //! `COM_STMT_SEND_LONG_DATA`.
 
 ghost use Rattle.std.specs.Prelude.{◌≡◌, ◌<◌, ◌^◌, [], ◌∷◌, ◌++◌};
-ghost use Rattle.mysql_wire.specs.Numbers.{le_bytes};
-ghost use Rattle.mysql_wire.specs.Reading.{Through};
+ghost use Rattle.wire_buf.specs.Numbers.{le_bytes};
+ghost use Rattle.wire_buf.specs.Reading.{Through};
 ghost use Rattle.mysql_wire_packets.specs.InOrder.{packet, both, const_u8, number};
 ghost use Rattle.mysql_wire_statements.specs.InOrder.{rest_of};
 ghost use Rattle.mysql_wire_statements.specs.Again.{packet_again, both_again, const_again, number_again, rest_again};
 
 use crate::rest::Rest;
 use crate::written_back::WrittenBack;
-use mysql_wire::io::{ParseBuf, WireError};
-use mysql_wire::misc::raw::Both;
-use mysql_wire::misc::raw::int::{ConstU8, LeU16, LeU32, RawInt};
-use mysql_wire::proto::{HasSize, MyDeserialize, MySerialize, Varying, Wire};
 use std::alloc::Allocator;
+use wire_buf::error::WireError;
+use wire_buf::io::ParseBuf;
+use wire_buf::proto::{HasSize, MyDeserialize, MySerialize, Varying};
+use wire_field::row::Both;
+use wire_forms::constant::ConstU8;
+use wire_repr::int::{LeU16, LeU32, RawInt};
+use wire_repr::wire::Wire;
 
 // The payload's fields, in order.
 type Fields<'a> = Both<ConstU8<(), 0x18>, Both<RawInt<LeU32>, Both<RawInt<LeU16>, Rest<'a>>>>;

@@ -2,8 +2,8 @@
 //! function reads as `parse` does.
 
 ghost use Rattle.std.specs.Prelude.{◌≡◌, ◌<◌, ◌^◌, ℕ, List, [], ◌∷◌, ◌++◌, nat_lt, length, IfOk};
-ghost use Rattle.mysql_wire.specs.Law.{LeavesRest};
-ghost use Rattle.mysql_wire.specs.Numbers.{le_bytes};
+ghost use Rattle.wire_repr.specs.Law.{LeavesRest};
+ghost use Rattle.wire_buf.specs.Numbers.{le_bytes};
 ghost use Rattle.mysql_wire_packets.specs.Optional.{BothIf, IsThere, OnIf, bytes_if};
 ghost use Rattle.mysql_wire_statements.specs.Bitmaps.{bitmap_len};
 ghost use Rattle.mysql_wire_statements.specs.Executed.{params_bytes, AreParams, SameParams};
@@ -20,10 +20,11 @@ use crate::com_stmt_prepare::ComStmtPrepare;
 use crate::com_stmt_reset::ComStmtReset;
 use crate::com_stmt_send_long_data::ComStmtSendLongData;
 pub use crate::written_back::is_written_back;
-use mysql_wire::constants::ColumnType;
-use mysql_wire::io::{ParseBuf, WireError};
-use mysql_wire::misc::raw::field_laws::parse_back;
 use std::alloc::Global;
+use wire_buf::error::WireError;
+use wire_buf::io::ParseBuf;
+use wire_const::ColumnType;
+use wire_repr::field_laws::parse_back;
 
 /// A `ComStmtPrepare` comes back, where nothing stands behind it.
 pub fn prepare_comes_back<'a>(

@@ -7,6 +7,7 @@ pub mod com_stmt_close;
 pub mod com_stmt_execute;
 pub mod com_stmt_fetch;
 pub mod com_stmt_prepare;
+pub mod com_stmt_prepare_ok;
 pub mod com_stmt_reset;
 pub mod com_stmt_send_long_data;
 pub mod laws;

@@ -5,11 +5,14 @@ ghost use Rattle.mysql_wire_statements.specs.Moments.{clock_at, clock_bytes, dat
 ghost use Rattle.mysql_wire_statements.specs.MomentsBack.{date-back, date_law, time-back, time_law, IsDate, IsTime};
 
 use crate::written_back::WrittenBack;
-use mysql_wire::io::{InvalidReason, ParseBuf, WireError};
-use mysql_wire::misc::raw::Both;
-use mysql_wire::misc::raw::int::{ConstU8, LeU16, LeU32, RawInt};
-use mysql_wire::proto::{HasSize, MyDeserialize, MySerialize, Varying, Wire};
 use std::alloc::Allocator;
+use wire_buf::error::{InvalidReason, WireError};
+use wire_buf::io::ParseBuf;
+use wire_buf::proto::{HasSize, MyDeserialize, MySerialize, Varying};
+use wire_field::row::Both;
+use wire_forms::constant::ConstU8;
+use wire_repr::int::{LeU16, LeU32, RawInt};
+use wire_repr::wire::Wire;
 
 /// A day. MySQL has days whose month or day is 0.
 ///

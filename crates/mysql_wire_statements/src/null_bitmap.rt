@@ -1,13 +1,15 @@
 //! Bitmaps of what is NULL.
 
 ghost use Rattle.std.specs.Prelude.{◌≡◌, ◌+◌, ◌↔◌, length, IsTrue};
-ghost use Rattle.mysql_wire.specs.Borrowed.{front-through};
-ghost use Rattle.mysql_wire.specs.Reading.{Answers, Through, front_at};
+ghost use Rattle.wire_field.specs.Borrowed.{front-through};
+ghost use Rattle.wire_buf.specs.Reading.{Answers, Through, front_at};
 ghost use Rattle.mysql_wire_statements.specs.Bitmaps.{bitmap_len, IsSet};
 
-use mysql_wire::io::{ParseBuf, WireError};
-use mysql_wire::proto::{HasSize, MyDeserialize, MySerialize, Varying, Wire};
 use std::alloc::Allocator;
+use wire_buf::error::WireError;
+use wire_buf::io::ParseBuf;
+use wire_buf::proto::{HasSize, MyDeserialize, MySerialize, Varying};
+use wire_repr::wire::Wire;
 
 /// A bit for each of a list of values, which is set where the value is NULL. The bits stand behind
 /// the `FIRST` ones, from the least significant of the first byte on: `FIRST` is 0 for the

@@ -1,7 +1,7 @@
 //! The parameters of a statement that is executed.
 
 ghost use Rattle.std.specs.Prelude.{◌≡◌, ◌<◌, ◌≤◌, ◌+◌, ◌*◌, [], ◌++◌, length, slice_index, MatchOption};
-ghost use Rattle.mysql_wire.specs.Reading.{Through};
+ghost use Rattle.wire_buf.specs.Reading.{Through};
 ghost use Rattle.mysql_wire_packets.specs.InOrder.{packet, both};
 ghost use Rattle.mysql_wire_statements.specs.Again.{packet_again, both_again, rest_again, slice_again};
 ghost use Rattle.mysql_wire_statements.specs.Executed.{params_bytes, AreParams, SameParams};
@@ -13,12 +13,15 @@ ghost use Rattle.mysql_wire_statements.specs.TypesBack.{types_again, types_field
 use crate::null_bitmap::ParamNulls;
 use crate::rest::Rest;
 use crate::written_back::WrittenBack;
-use mysql_wire::constants::{ColumnType, StmtExecuteParamFlags};
-use mysql_wire::io::{InvalidReason, ParseBuf, WireError};
-use mysql_wire::misc::raw::int::ConstU8;
-use mysql_wire::misc::raw::{Both, RawConst, RawFlags, Slice};
-use mysql_wire::proto::{HasSize, MyDeserialize, MySerialize, Varying, Wire};
 use std::alloc::Allocator;
+use wire_buf::error::{InvalidReason, WireError};
+use wire_buf::io::ParseBuf;
+use wire_buf::proto::{HasSize, MyDeserialize, MySerialize, Varying};
+use wire_const::{ColumnType, StmtExecuteParamFlags};
+use wire_field::converted::{RawConst, RawFlags};
+use wire_field::row::{Both, Slice};
+use wire_forms::constant::ConstU8;
+use wire_repr::wire::Wire;
 
 /// The type of a parameter's value.
 ///

@@ -2,12 +2,13 @@
 
 ghost use Rattle.mysql_wire_statements.specs.PrepareAnswers.{by_answer, ReadsAnswer};
 
-use mysql_wire::constants::CapabilityFlags;
-use mysql_wire::io::{InvalidReason, ParseBuf, WireError};
-use mysql_wire::proto::{HasSize, MyDeserialize, MySerialize, Varying};
-use mysql_wire_packets::com_stmt_prepare_ok::ComStmtPrepareOk;
+use crate::com_stmt_prepare_ok::ComStmtPrepareOk;
 use mysql_wire_packets::err_packet::ErrPacket;
 use std::alloc::{Allocator, Global};
+use wire_buf::error::{InvalidReason, WireError};
+use wire_buf::io::ParseBuf;
+use wire_buf::proto::{HasSize, MyDeserialize, MySerialize, Varying};
+use wire_const::CapabilityFlags;
 
 /// The first packet of the answer to a `ComStmtPrepare`. Read, the context are the capabilities that
 /// are in force, as of an `ErrPacket`. Another header than those of the two is refused as

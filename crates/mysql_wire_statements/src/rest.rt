@@ -1,11 +1,12 @@
 //! What stands up to the end of a payload.
 
 ghost use Rattle.std.specs.Prelude.{◌≡◌, length, Ok};
-ghost use Rattle.mysql_wire.specs.Reading.{Answers, Through};
+ghost use Rattle.wire_buf.specs.Reading.{Answers, Through};
 
-use mysql_wire::io::{ParseBuf, WireError};
-use mysql_wire::proto::{HasSize, MyDeserialize, MySerialize, Varying};
 use std::alloc::Allocator;
+use wire_buf::error::WireError;
+use wire_buf::io::ParseBuf;
+use wire_buf::proto::{HasSize, MyDeserialize, MySerialize, Varying};
 
 /// All bytes that are left, lent from the payload: a `string<EOF>`.
 ///

@@ -1,12 +1,14 @@
 //! What is read is written as it stood.
 
 ghost use Rattle.std.specs.Prelude.{◌≡◌, ℕ, List, ◌++◌, take, Ok, IfOk};
-ghost use Rattle.mysql_wire.specs.Numbers.{IsBytes};
-ghost use Rattle.mysql_wire.specs.Reading.{Reads, Parses};
+ghost use Rattle.wire_buf.specs.Numbers.{IsBytes};
+ghost use Rattle.wire_buf.specs.Reading.{Reads, Parses};
 
-use mysql_wire::io::{ParseBuf, WireError};
-use mysql_wire::proto::{MyDeserialize, MySerialize, Wire};
 use std::alloc::Allocator;
+use wire_buf::error::WireError;
+use wire_buf::io::ParseBuf;
+use wire_buf::proto::{MyDeserialize, MySerialize};
+use wire_repr::wire::Wire;
 
 /// A type whose values are written as the very bytes that they were read from, where these bytes
 /// spell their lengths in the shortest form.

@@ -113,3 +113,16 @@ parse-back stated reads kept takes_memory bytes rest old new of_size law is (Err
     (eaten, there, left, read) =
     Parses-back stated reads kept takes_memory bytes rest of_size law (Err error) eaten
     (subst (λ input. Parses stated reads input (Err error) eaten) is read)
+
+-- an array
+pub array-back : (count : ℕ) (bytes rest : List ℕ) → length bytes ≡ count
+    → (answer : Result (List ℕ) WireError) (eaten : ℕ)
+    → Answers (Ok (take count (bytes ++ rest)), count) answer eaten
+    → ComesBack (λ back. back ≡ bytes) ⊥ (length bytes) answer eaten
+array-back count bytes rest len (Ok back) eaten read =
+    let same : back ≡ take count (bytes ++ rest) = cc read.0 in
+    (same ∙ take_at bytes rest count len, read.1 ∙ sym len)
+array-back count bytes rest len (Err error) eaten read =
+    let answered : ◌≡◌ {A = Result (List ℕ) WireError} (Err error) (Ok (take count (bytes ++ rest)))
+    = read.0 in
+    cc answered

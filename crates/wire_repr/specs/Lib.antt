@@ -1,13 +1,4 @@
 pub mod Law
 pub mod Numbers
 pub mod SignedNumbers
-pub mod Spelled
-pub mod Lenenc
-pub mod Groups
-pub mod GroupsLemmas
 pub mod Texts
-pub mod BareTexts
-pub mod NullTexts
-pub mod NullTextLemmas
-pub mod PrefixedTexts
-pub mod Constants

@@ -1,5 +1,5 @@
-//! What was written is read back, as functions: of any type with the law, of a number by any
-//! representation, and in the modules, spelled out, of each type of this crate.
+//! What was written is read back, as functions: of any type with the law, and of a number and a
+//! text by any representation.
 //!
 //! A function named `.._comes_back` says when a value is good, and which may come back of it: what
 //! the members `good` and `kept` of its law are. It does nothing.
@@ -9,10 +9,6 @@ ghost use Rattle.std.specs.Cow.{cow_slice_items};
 ghost use Rattle.wire_buf.specs.Reading.{Reads, Parses, Through};
 ghost use Rattle.wire_repr.specs.Law.{LeavesRest, seen};
 ghost use Rattle.wire_repr.specs.Texts.{IsBorrowedText};
-
-pub mod constants;
-pub mod numbers;
-pub mod texts;
 
 use crate::int::{IntRepr, RawInt};
 use crate::text::{BytesRepr, RawBytes};

@@ -7,22 +7,13 @@ ghost use Rattle.wire_buf.specs.Reading.{HasBytes, Reads, Answers, Through};
 ghost use Rattle.wire_repr.specs.Law.{Through-back};
 
 mod fixed;
-mod halves;
-mod lenenc;
-mod truncated;
-mod varlen;
 
 use crate::wire::Wire;
 pub use fixed::{LeI16, LeI32, LeI64, LeU16, LeU32, LeU64};
-pub use halves::{LeU32LowerHalf, LeU32UpperHalf};
-pub use lenenc::LenEnc;
 use std::alloc::Allocator;
 use std::fmt::Debug;
 use std::hash::Hash;
 use std::marker::PhantomData;
-pub use truncated::{LeI24, LeI56, LeU24, LeU48, LeU56};
-pub use varlen::VarLen;
-pub(crate) use varlen::put_groups;
 use wire_buf::error::WireError;
 use wire_buf::io::ParseBuf;
 use wire_buf::proto::{HasSize, MyDeserialize, MySerialize, ReadSize};

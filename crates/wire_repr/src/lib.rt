@@ -1,9 +1,8 @@
-//! Numbers and texts as they stand in packets: how each is written, how it is read, and the law
-//! that what is written is read back.
+//! Numbers and texts as they stand in packets: what a way to write them has to have, numbers of a
+//! fixed size, and the law that what is written is read back.
 #![tactic(auto)]
 
-mod append;
-pub mod constant;
+pub mod append;
 pub mod field_laws;
 pub mod int;
 pub mod text;

@@ -7,18 +7,11 @@ ghost use Rattle.wire_buf.specs.declared.error.WireError.TheVariants.{OutOfMemor
 ghost use Rattle.wire_buf.specs.Reading.{HasBytes, Reads, Answers};
 ghost use Rattle.wire_repr.specs.Texts.{IsText, IsOwned, IsNotOwned, IsBorrowedText, Borrows, Borrows-back};
 
-mod null;
-mod prefixed;
-mod undelimited;
-
 use crate::wire::Wire;
-pub use null::NullBytes;
-pub use prefixed::{U8Bytes, U32Bytes};
 use std::alloc::{Allocator, Global};
 use std::borrow::CowSlice;
 use std::cmp::min;
 use std::marker::PhantomData;
-pub use undelimited::{BareBytes, BareU8Bytes, BareU16Bytes, EofBytes, FixedLengthText};
 use wire_buf::error::WireError;
 use wire_buf::io::ParseBuf;
 use wire_buf::proto::{HasSize, MyDeserialize, MySerialize, ReadSize};
@@ -77,20 +70,6 @@ pub trait BytesRepr {
 
     ghost of_size: { (text : List ℕ) (size : ℕ) → Self.Size.SIZE ≡ Some size
         → length (bytes text) ≡ size };
-}
-
-// Where a part of what was to be appended was refused, takes away what was: all behind this length.
-fn all_or_nothing<A: Allocator>(all: bool, at: usize, buf: &mut Vec<u8, A>) -> Result<(), WireError>
-    ensures all { IsTrue all → (result ≡ Ok tt) × (buf.new.items ≡ buf.old.items) }
-    ensures nothing { IsFalse all → (result ≡ Err OutOfMemory)
-        × (buf.new.items ≡ take at buf.old.items) }
-{
-    if all {
-        Ok(())
-    } else {
-        buf.truncate(at);
-        Err(WireError::OutOfMemory)
-    }
 }
 
 // A text in hand is one.

@@ -2,7 +2,7 @@
 
 ghost use Rattle.std.specs.Prelude.{◌≡◌, ℕ, List, ◌++◌, length, Some, Result};
 ghost use Rattle.wire_buf.specs.declared.error.WireError.{WireError};
-ghost use Rattle.wire_repr.specs.Law.{ComesBack};
+ghost use Rattle.wire_repr.specs.Law.{ComesBack, array-back, size-is};
 
 use std::alloc::Allocator;
 use wire_buf::proto::{MyDeserialize, MySerialize};
@@ -37,4 +37,21 @@ pub trait Wire<'de, A: Allocator + Copy>: MySerialize + MyDeserialize<'de, A> {
 
     ghost of_size: { (value : Self) (size : ℕ) → is_value value → Self.Size.SIZE ≡ Some size
         → length (Self.bytes value) ≡ size };
+}
+
+impl<'de, A: Allocator + Copy, const LEN: usize> Wire<'de, A> for [u8; LEN] {
+    ghost is_value = { λ bytes. length bytes ≡ LEN };
+
+    ghost good = { λ _ _ _. Unit {0} };
+
+    ghost kept = { λ bytes back. back ≡ bytes };
+
+    ghost takes_memory = { ⊥ };
+
+    fn known(&self) {}
+
+    ghost comes_back = { λ ctx bytes rest answer eaten is good read.
+        array-back LEN bytes rest is answer eaten read };
+
+    ghost of_size = { λ bytes size is stated. size-is LEN size (length bytes) stated (is) };
 }

@@ -9,16 +9,16 @@ use crate::kind::Kind;
 use crate::place::{Behind, Place};
 use crate::show;
 use crate::status::Stop;
-use mysql_wire::constants::{Flags, StatusFlags};
-use mysql_wire::misc::raw::RawFlags;
-use mysql_wire::misc::raw::int::LeU16;
-use mysql_wire_packets::column_count::ColumnCount;
-use mysql_wire_packets::com_stmt_prepare_ok::ComStmtPrepareOk;
 use mysql_wire_packets::err_packet::ErrPacket;
 use mysql_wire_packets::places::read_whole;
-use mysql_wire_packets::query_answer::QueryAnswer;
+use mysql_wire_queries::column_count::ColumnCount;
+use mysql_wire_queries::query_answer::QueryAnswer;
+use mysql_wire_statements::com_stmt_prepare_ok::ComStmtPrepareOk;
 use mysql_wire_statements::prepare_answer::PrepareAnswer;
 use std::alloc::Global;
+use wire_const::{Flags, StatusFlags};
+use wire_field::converted::RawFlags;
+use wire_repr::int::LeU16;
 
 impl Session {
     // An answer has ended, and the status says whether another follows.

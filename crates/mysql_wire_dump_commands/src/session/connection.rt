@@ -9,13 +9,13 @@ use crate::kind::Kind;
 use crate::place::Place;
 use crate::show;
 use crate::status::Stop;
-use mysql_wire::constants::{CapabilityFlags, Flags};
-use mysql_wire_packets::auth_answer::AuthAnswer;
-use mysql_wire_packets::auth_switch_response::AuthSwitchResponse;
-use mysql_wire_packets::first_packet::{ClientFirst, ServerFirst};
-use mysql_wire_packets::handshake_response::HandshakeResponse41;
+use mysql_wire_connection::auth_answer::AuthAnswer;
+use mysql_wire_connection::auth_switch_response::AuthSwitchResponse;
+use mysql_wire_connection::first_packet::{ClientFirst, ServerFirst};
+use mysql_wire_connection::handshake_response::HandshakeResponse41;
 use mysql_wire_packets::places::read_whole;
 use std::alloc::Global;
+use wire_const::{CapabilityFlags, Flags};
 
 impl Session {
     pub(super) fn read_greeting(

@@ -9,13 +9,13 @@ use crate::kind::Kind;
 use crate::place::{Behind, Place, RowForm};
 use crate::show;
 use crate::status::Stop;
-use mysql_wire::constants::{CapabilityFlags, Flags, StatusFlags};
-use mysql_wire_packets::column_definition::ColumnDefinition41;
 use mysql_wire_packets::eof_packet::EofPacket;
 use mysql_wire_packets::ok_packet::{InfoForm, RowsEnd};
 use mysql_wire_packets::places::read_whole;
+use mysql_wire_queries::column_definition::ColumnDefinition41;
 use mysql_wire_statements::binary_row::BinaryRow;
 use std::alloc::Global;
+use wire_const::{CapabilityFlags, Flags, StatusFlags};
 
 impl Session {
     // What is waited for where no definition is left.

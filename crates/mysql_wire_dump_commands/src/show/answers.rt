@@ -1,14 +1,14 @@
 //! Answers to commands.
 
 use crate::fields::Fields;
-use mysql_wire::misc::raw::Either;
-use mysql_wire_packets::column_count::ColumnCount;
-use mysql_wire_packets::column_definition::ColumnDefinition41;
-use mysql_wire_packets::com_stmt_prepare_ok::ComStmtPrepareOk;
 use mysql_wire_packets::eof_packet::EofPacket;
 use mysql_wire_packets::err_packet::ErrPacket;
-use mysql_wire_packets::local_infile::LocalInfileRequest;
 use mysql_wire_packets::ok_packet::{OkForm, OkInfo};
+use mysql_wire_queries::column_count::ColumnCount;
+use mysql_wire_queries::column_definition::ColumnDefinition41;
+use mysql_wire_queries::local_infile::LocalInfileRequest;
+use mysql_wire_statements::com_stmt_prepare_ok::ComStmtPrepareOk;
+use wire_field::row::Either;
 
 fn info(fields: &mut Fields, info: &Option<OkInfo<'_>>) {
     match info {

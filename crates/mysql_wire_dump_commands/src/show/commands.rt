@@ -1,10 +1,10 @@
 //! Commands.
 
 use crate::fields::Fields;
-use mysql_wire_packets::com_change_user::ComChangeUser;
-use mysql_wire_packets::com_init_db::ComInitDb;
-use mysql_wire_packets::com_query::ComQuery;
-use mysql_wire_packets::com_query_attributes::ComQueryWithAttributes;
+use mysql_wire_queries::com_change_user::ComChangeUser;
+use mysql_wire_queries::com_init_db::ComInitDb;
+use mysql_wire_queries::com_query::ComQuery;
+use mysql_wire_queries::com_query_attributes::ComQueryWithAttributes;
 use mysql_wire_statements::com_stmt_execute::ComStmtExecute;
 use mysql_wire_statements::com_stmt_fetch::ComStmtFetch;
 use mysql_wire_statements::com_stmt_send_long_data::ComStmtSendLongData;

@@ -1,13 +1,13 @@
 //! The packets that a connection begins with.
 
 use crate::fields::Fields;
-use mysql_wire::misc::raw::Either;
-use mysql_wire_packets::auth_more_data::AuthMoreData;
-use mysql_wire_packets::auth_switch::AuthSwitchRequest;
-use mysql_wire_packets::auth_switch_response::AuthSwitchResponse;
-use mysql_wire_packets::handshake::{HandshakeV10, PluginName};
-use mysql_wire_packets::handshake_response::{AuthResponse, HandshakeResponse41};
-use mysql_wire_packets::ssl_request::SslRequest;
+use mysql_wire_connection::auth_more_data::AuthMoreData;
+use mysql_wire_connection::auth_switch::AuthSwitchRequest;
+use mysql_wire_connection::auth_switch_response::AuthSwitchResponse;
+use mysql_wire_connection::handshake::{HandshakeV10, PluginName};
+use mysql_wire_connection::handshake_response::{AuthResponse, HandshakeResponse41};
+use mysql_wire_connection::ssl_request::SslRequest;
+use wire_field::row::Either;
 
 fn plugin_name(fields: &mut Fields, name: &Option<PluginName<'_>>) {
     match name {

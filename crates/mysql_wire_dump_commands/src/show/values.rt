@@ -3,12 +3,13 @@
 use crate::fields::{FieldValue, Fields};
 use crate::refusal::Refusal;
 use crate::status::Stop;
-use mysql_wire::constants::ColumnType;
-use mysql_wire::io::{ParseBuf, WireError};
-use mysql_wire_packets::text_row::TextValue;
+use mysql_wire_queries::text_row::TextValue;
 use mysql_wire_statements::binary_row::BinaryRow;
 use mysql_wire_statements::binary_value::BinaryValue;
 use std::alloc::Global;
+use wire_buf::error::WireError;
+use wire_buf::io::ParseBuf;
+use wire_const::ColumnType;
 
 /// Reads a row of so many columns, value by value, and puts each. The answer is why it is none.
 pub fn text_row(

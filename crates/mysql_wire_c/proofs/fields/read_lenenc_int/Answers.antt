@@ -1,6 +1,6 @@
 use Rattle.std.proofs.Common.{sym, subst, List, ℕ, ◌-◌, length}
-use Rattle.mysql_wire.specs.Spelling.{EatsSpelling, SpellsNothing}
-use Rattle.mysql_wire.specs.Lenenc.{IsLenenc, IsLenencOrMark}
+use Rattle.wire_buf.specs.Spelling.{EatsSpelling, SpellsNothing}
+use Rattle.wire_buf.specs.Lenenc.{IsLenenc, IsLenencOrMark}
 use Rattle.mysql_wire_c.specs.Fields.{ReadsAt}
 use Rattle.mysql_wire_c.proofs.FieldLemmas.{unmarked, reads_at}
 use Rattle.mysql_wire_c.proofs.fields.read_lenenc_int.Goals as goal

@@ -1,6 +1,6 @@
 use Rattle.std.proofs.Common.{rules, ◌≡◌, ◌∙◌, ap, subst, List, ℕ, take}
-use Rattle.mysql_wire.specs.Numbers.{le_bytes}
-use Rattle.mysql_wire.specs.NumberLemmas.{bytes_low_first-is, take-le_bytes}
+use Rattle.wire_buf.specs.Numbers.{le_bytes}
+use Rattle.wire_buf.specs.NumberLemmas.{bytes_low_first-is, take-le_bytes}
 use Rattle.mysql_wire_c.specs.Fields.{WritesAt}
 use Rattle.mysql_wire_c.proofs.fields.write_int.Goals as goal
 

@@ -1,7 +1,7 @@
 use Rattle.std.proofs.Common.{refl, ap, subst, ◌≡◌, ◌<◌, ◌≤◌, ◌⊎◌, ◌++◌, List, ℕ, length, true, Ok}
 use Rattle.std.specs.Prelude.{Option, IfSome}
-use Rattle.mysql_wire.specs.Span.{Span}
-use Rattle.mysql_wire.specs.Spans.{span_state, spans_of, EatsSpans}
+use Rattle.wire_span.specs.declared.span.Span.{Span}
+use Rattle.wire_span.specs.Spans.{span_state, spans_of, EatsSpans}
 use Rattle.mysql_wire_c.proofs.SpanLemmas.{span_taken, span_waits, span_stops, code_back}
 use Rattle.mysql_wire_c.proofs.spans.next_span.Goals as goal
 

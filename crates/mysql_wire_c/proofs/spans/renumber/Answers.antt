@@ -1,5 +1,5 @@
 use Rattle.std.proofs.Common.{refl, ◌∙◌}
-use Rattle.mysql_wire.specs.Spans.{span_state}
+use Rattle.wire_span.specs.Spans.{span_state}
 use Rattle.mysql_wire_c.proofs.SpanLemmas.{renumbered, renumber_stops, code_back}
 use Rattle.mysql_wire_c.proofs.spans.renumber.Goals.{in-Ok, in-Err}
 use Rattle.mysql_wire_c.proofs.spans.renumber.Goals as goal

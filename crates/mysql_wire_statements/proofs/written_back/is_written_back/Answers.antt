@@ -1,4 +1,4 @@
-use Rattle.mysql_wire.specs.Reading.{Parses}
+use Rattle.wire_buf.specs.Reading.{Parses}
 use Rattle.mysql_wire_statements.specs.Again.{again_of}
 use Rattle.mysql_wire_statements.proofs.written_back.is_written_back.Goals as goal
 

@@ -1,5 +1,5 @@
 use Rattle.std.proofs.Common.{rules, ◌∙◌, ap, inl, List, ℕ}
-use Rattle.mysql_wire.specs.Codec.{codec_state}
+use Rattle.wire_codec.specs.Codec.{codec_state}
 use Rattle.mysql_wire_c.specs.Side.{Side, ConnectionState, side_of}
 use Rattle.mysql_wire_c.proofs.SideLemmas.{side_of-appended, found, fed}
 use Rattle.mysql_wire_c.proofs.connection.Connection.feed.Goals as goal

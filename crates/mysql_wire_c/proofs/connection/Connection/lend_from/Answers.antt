@@ -1,5 +1,5 @@
 use Rattle.std.proofs.Common.{ℕ, ◌+◌, ◌==◌, ◌∙◌, length, ap, sym, subst, refl}
-use Rattle.mysql_wire.specs.Codec.{codec_state}
+use Rattle.wire_codec.specs.Codec.{codec_state}
 use Rattle.mysql_wire_c.specs.declared.connection.Front.{Front}
 use Rattle.mysql_wire_c.specs.declared.codes.TheConstants.{PACKET}
 use Rattle.mysql_wire_c.specs.Side.{ConnectionState, side_of}

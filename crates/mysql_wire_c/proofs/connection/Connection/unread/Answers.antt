@@ -1,5 +1,5 @@
 use Rattle.std.proofs.Common.{arith, ap}
-use Rattle.mysql_wire.specs.Codec.{codec_state}
+use Rattle.wire_codec.specs.Codec.{codec_state}
 use Rattle.mysql_wire_c.specs.Side.{ConnectionState}
 use Rattle.mysql_wire_c.proofs.SideLemmas.{unread_behind}
 use Rattle.mysql_wire_c.proofs.connection.Connection.unread.Goals as goal

@@ -1,0 +1,42 @@
+use Rattle.mysql_wire_packets.specs.Again.{array_again, both_again, byte_again, null_text_again, number_again}
+use Rattle.mysql_wire_packets.specs.Optional.{has, side}
+use Rattle.mysql_wire_packets.specs.Shortest.{both_at, either_of, exact, optional_of, part_of, text_of, then_at, u8_text_again, written_back}
+use Rattle.mysql_wire_connection.proofs.laws.handshake_response_is_written_back.Goals as goal
+
+pub returns : goal.returns
+returns c = λ input packet eaten is read.
+    written_back _ _ ((then_at (λ h. (
+      h.client_flag,
+      (
+        (h.max_packet_size, _),
+        ((h.character_set, _), ((h.filler, h.mariadb_capabilities), h.username)),
+      ),
+    ))
+    (λ client input. (
+      side tt (has client.0.0 0x200000),
+      (
+        side tt (has client.0.0 0x8),
+        (
+          side tt (has client.0.0 0x80000),
+          (
+            side tt (has client.0.0 0x100000),
+            side tt (has client.0.0 0x4000000),
+          ),
+        ),
+      ),
+    ))
+    (exact (both_again (number_again (λ flags. flags.0) 4)
+    (both_again (number_again (λ int. int.0) 4) (both_again (byte_again (λ int. int.0))
+    (both_again (both_again (array_again 19) (number_again (λ flags. flags.0) 4))
+    (null_text_again (λ text. text.0)))))))
+    (both_at (λ ctx. part_of (λ h. h.auth_response)
+    (either_of (λ left. text_of (λ text. text.0))
+    (λ right. exact (u8_text_again (λ text. text.0))) ctx))
+    (both_at (optional_of (λ h. h.database) (λ name. name) _
+    (λ there. exact (null_text_again (λ text. text.0))))
+    (both_at (optional_of (λ h. h.client_plugin_name) (λ name. name) _
+    (λ there. exact (null_text_again (λ text. text.0))))
+    (both_at (optional_of (λ h. h.connect_attrs) (λ attrs. attrs) _
+    (λ there. text_of (λ text. text.0)))
+    (optional_of (λ h. h.zstd_compression_level) (λ level. (level, _)) _
+    (λ there. exact (byte_again (λ int. int.0))))))))).law input is packet eaten read)

@@ -1,0 +1,15 @@
+use Rattle.mysql_wire_packets.specs.Again.{array_again, both_again, byte_again, number_again, packet_again}
+use Rattle.mysql_wire_connection.proofs.laws.ssl_request_is_written_back.Goals as goal
+
+pub returns : goal.returns
+returns c = λ input packet eaten is read. (packet_again
+    (λ request. (
+      request.client_flag,
+      (
+        (request.max_packet_size, _),
+        ((request.character_set, _), (request.filler, request.mariadb_capabilities)),
+      ),
+    ))
+    (both_again (number_again (λ flags. flags.0) 4) (both_again (number_again (λ int. int.0) 4)
+    (both_again (byte_again (λ int. int.0)) (both_again (array_again 19)
+    (number_again (λ flags. flags.0) 4)))))).law input is packet eaten read

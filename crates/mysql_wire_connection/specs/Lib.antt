@@ -1,0 +1,2 @@
+pub mod Handshakes
+pub mod Responses

@@ -1,0 +1,22 @@
+-- The client's answer to the initial handshake.
+use Rattle.std.specs.Prelude.{ℕ, List, [], ◌∷◌, ◌++◌}
+use Rattle.wire_buf.specs.Numbers.{le_bytes}
+use Rattle.wire_field.specs.Rows.{by_side}
+use Rattle.mysql_wire_packets.specs.InOrder.{text_bytes, u8_text_bytes}
+use Rattle.mysql_wire_packets.specs.NullTexts.{clean}
+use Rattle.mysql_wire_packets.specs.Optional.{bytes_if}
+use Rattle.mysql_wire_connection.specs.declared.handshake_response.HandshakeResponse41.{HandshakeResponse41}
+
+-- what is written up to the name of the user
+abbrev pub client_bytes : HandshakeResponse41 → List ℕ
+client_bytes h = le_bytes 4 h.client_flag.0 ++ (le_bytes 4 h.max_packet_size
+    ++ h.character_set ∷ ((h.filler ++ le_bytes 4 h.mariadb_capabilities.0)
+    ++ (clean h.username.0 ++ 0 ∷ [])))
+
+-- and behind it
+abbrev pub answer_bytes : HandshakeResponse41 → List ℕ
+answer_bytes h = by_side (λ text. text_bytes text.0) (λ text. u8_text_bytes text.0) h.auth_response
+    ++ (bytes_if (λ name. clean name.0 ++ 0 ∷ []) h.database
+    ++ (bytes_if (λ name. clean name.0 ++ 0 ∷ []) h.client_plugin_name
+    ++ (bytes_if (λ attrs. text_bytes attrs.0) h.connect_attrs
+    ++ bytes_if (λ level. level ∷ []) h.zstd_compression_level)))

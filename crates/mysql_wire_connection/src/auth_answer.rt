@@ -1,0 +1,80 @@
+//! What a server may send while a client authenticates itself.
+
+ghost use Rattle.std.specs.Prelude.{◌≡◌, ◌≢◌, ◌∷◌, [], take, Err};
+ghost use Rattle.wire_const.specs.FlagSets.{capability_flags_bits};
+ghost use Rattle.wire_buf.specs.declared.error.WireError.TheVariants.{UnexpectedEof};
+ghost use Rattle.mysql_wire_packets.specs.Oks.{form_of};
+ghost use Rattle.mysql_wire_packets.specs.Places.{IsOther, ReadsWhole, Wraps};
+ghost use Rattle.mysql_wire_connection.specs.declared.auth_answer.AuthAnswer.TheVariants.{Done, Failed, Switch, MoreData};
+
+use crate::auth_more_data::AuthMoreData;
+use crate::auth_switch::AuthSwitchRequest;
+use mysql_wire_packets::err_packet::ErrPacket;
+use mysql_wire_packets::ok_packet::{InfoForm, OkPacket};
+use mysql_wire_packets::places::{PayloadError, read_whole};
+use std::alloc::Global;
+use wire_buf::error::WireError;
+use wire_buf::proto::MyDeserialize;
+use wire_const::CapabilityFlags;
+
+/// A server's packet in the authentication.
+///
+/// <https://dev.mysql.com/doc/dev/mysql-server/latest/page_protocol_connection_phase.html>
+#[derive(Drop, Debug, PartialEq, Eq)]
+pub enum AuthAnswer<'a> {
+    /// The client is in.
+    Done(OkPacket<'a>),
+    Failed(ErrPacket<'a>),
+    /// Another plugin is asked for. The byte `fe` alone, which asks for the plugin of servers before
+    /// 4.1, is refused as `NoNullTerminator`.
+    Switch(AuthSwitchRequest<'a>),
+    MoreData(AuthMoreData<'a>),
+}
+
+impl<'a> AuthAnswer<'a> {
+    /// Reads a payload where the client waits for the outcome of its authentication. `00` begins an
+    /// OK, `ff` an error, `fe` the request for another plugin, and `01` more data of the plugin.
+    pub fn read(
+        alloc: Global,
+        capabilities: CapabilityFlags,
+        payload: &'a [u8],
+    ) -> Result<AuthAnswer<'a>, PayloadError>
+        ensures done { take 1 payload.entry.now ≡ 0x00 ∷ [] → Wraps Done
+            (ReadsWhole (⟦<OkPacket<'a> as MyDeserialize<'a, Global>>⟧.reads (form_of (capability_flags_bits capabilities)))
+            payload.entry.now) result }
+        ensures failed { take 1 payload.entry.now ≡ 0xff ∷ [] → Wraps Failed
+            (ReadsWhole (⟦<ErrPacket<'a> as MyDeserialize<'a, Global>>⟧.reads capabilities)
+            payload.entry.now) result }
+        ensures switch { take 1 payload.entry.now ≡ 0xfe ∷ [] → Wraps Switch
+            (ReadsWhole (⟦<AuthSwitchRequest<'a> as MyDeserialize<'a, Global>>⟧.reads tt)
+            payload.entry.now) result }
+        ensures more { take 1 payload.entry.now ≡ 0x01 ∷ [] → Wraps MoreData
+            (ReadsWhole (⟦<AuthMoreData<'a> as MyDeserialize<'a, Global>>⟧.reads tt)
+            payload.entry.now) result }
+        ensures other { IsOther (0x00 ∷ 0xff ∷ 0xfe ∷ 0x01 ∷ []) payload.entry.now result }
+    {
+        match payload.first() {
+            Some(0x00) => {
+                let form = InfoForm::of(capabilities);
+                match read_whole::<OkPacket<'a>>(alloc, form, payload) {
+                    Ok(packet) => Ok(AuthAnswer::Done(packet)),
+                    Err(error) => Err(error),
+                }
+            }
+            Some(0xff) => match read_whole::<ErrPacket<'a>>(alloc, capabilities, payload) {
+                Ok(packet) => Ok(AuthAnswer::Failed(packet)),
+                Err(error) => Err(error),
+            },
+            Some(0xfe) => match read_whole::<AuthSwitchRequest<'a>>(alloc, (), payload) {
+                Ok(packet) => Ok(AuthAnswer::Switch(packet)),
+                Err(error) => Err(error),
+            },
+            Some(0x01) => match read_whole::<AuthMoreData<'a>>(alloc, (), payload) {
+                Ok(packet) => Ok(AuthAnswer::MoreData(packet)),
+                Err(error) => Err(error),
+            },
+            Some(byte) => Err(PayloadError::OtherHeader(*byte)),
+            None => Err(PayloadError::Refused(WireError::UnexpectedEof)),
+        }
+    }
+}

@@ -1,0 +1,90 @@
+//! What may begin a connection.
+
+ghost use Rattle.std.specs.Prelude.{◌≡◌, ◌≢◌, ◌∷◌, [], take, length};
+ghost use Rattle.wire_const.specs.FlagSets.{capability_flags_bits};
+ghost use Rattle.mysql_wire_packets.specs.Places.{IsOther, ReadsWhole, Wraps};
+ghost use Rattle.mysql_wire_connection.specs.declared.first_packet.ServerFirst.TheVariants.{Greeting, Failed};
+ghost use Rattle.mysql_wire_connection.specs.declared.first_packet.ClientFirst.TheVariants.{Tls, Login};
+
+use crate::handshake::HandshakeV10;
+use crate::handshake_response::HandshakeResponse41;
+use crate::ssl_request::SslRequest;
+use mysql_wire_packets::err_packet::ErrPacket;
+use mysql_wire_packets::places::{PayloadError, read_whole};
+use std::alloc::Global;
+use wire_buf::error::WireError;
+use wire_buf::proto::MyDeserialize;
+use wire_const::{CapabilityFlags, Flags};
+
+/// A server's first packet.
+///
+/// <https://dev.mysql.com/doc/dev/mysql-server/latest/page_protocol_connection_phase.html>
+#[derive(Drop, Debug, PartialEq, Eq)]
+pub enum ServerFirst<'a> {
+    Greeting(HandshakeV10<'a>),
+    /// The server refuses the connection. No capabilities are in force, so there is no state.
+    Failed(ErrPacket<'a>),
+}
+
+impl<'a> ServerFirst<'a> {
+    /// Reads the first payload of a server: `0a` begins a greeting, `ff` an error.
+    pub fn read(alloc: Global, payload: &'a [u8]) -> Result<ServerFirst<'a>, PayloadError>
+        ensures greeting { take 1 payload.entry.now ≡ 0x0a ∷ [] → Wraps Greeting
+            (ReadsWhole (⟦<HandshakeV10<'a> as MyDeserialize<'a, Global>>⟧.reads tt)
+            payload.entry.now) result }
+        ensures failed { take 1 payload.entry.now ≡ 0xff ∷ [] → (none : CapabilityFlags)
+            × (capability_flags_bits none ≡ 0) × Wraps Failed
+            (ReadsWhole (⟦<ErrPacket<'a> as MyDeserialize<'a, Global>>⟧.reads none)
+            payload.entry.now) result }
+        ensures other { IsOther (0x0a ∷ 0xff ∷ []) payload.entry.now result }
+    {
+        match payload.first() {
+            Some(0x0a) => match read_whole::<HandshakeV10<'a>>(alloc, (), payload) {
+                Ok(packet) => Ok(ServerFirst::Greeting(packet)),
+                Err(error) => Err(error),
+            },
+            Some(0xff) => {
+                let none = CapabilityFlags::empty();
+                match read_whole::<ErrPacket<'a>>(alloc, none, payload) {
+                    Ok(packet) => Ok(ServerFirst::Failed(packet)),
+                    Err(error) => Err(error),
+                }
+            }
+            Some(byte) => Err(PayloadError::OtherHeader(*byte)),
+            None => Err(PayloadError::Refused(WireError::UnexpectedEof)),
+        }
+    }
+}
+
+/// A client's first packet.
+///
+/// <https://dev.mysql.com/doc/dev/mysql-server/latest/page_protocol_connection_phase.html>
+#[derive(Drop, Debug, PartialEq, Eq)]
+pub enum ClientFirst<'a> {
+    Tls(SslRequest),
+    Login(HandshakeResponse41<'a>),
+}
+
+impl<'a> ClientFirst<'a> {
+    /// Reads the first payload of a client: of 32 bytes it asks for TLS, and any other is a login.
+    pub fn read(alloc: Global, payload: &'a [u8]) -> Result<ClientFirst<'a>, PayloadError>
+        ensures tls { length payload.entry.now ≡ 32 → Wraps Tls
+            (ReadsWhole (⟦<SslRequest as MyDeserialize<'a, Global>>⟧.reads tt)
+            payload.entry.now) result }
+        ensures login { length payload.entry.now ≢ 32 → Wraps Login
+            (ReadsWhole (⟦<HandshakeResponse41<'a> as MyDeserialize<'a, Global>>⟧.reads tt)
+            payload.entry.now) result }
+    {
+        if payload.len() == 32 {
+            match read_whole::<SslRequest>(alloc, (), payload) {
+                Ok(packet) => Ok(ClientFirst::Tls(packet)),
+                Err(error) => Err(error),
+            }
+        } else {
+            match read_whole::<HandshakeResponse41<'a>>(alloc, (), payload) {
+                Ok(packet) => Ok(ClientFirst::Login(packet)),
+                Err(error) => Err(error),
+            }
+        }
+    }
+}

@@ -1,6 +1,0 @@
-use Rattle.std.proofs.Common.{ap, sym, take, ◌∙◌}
-use Rattle.mysql_wire_packets.proofs.laws.com_ping_is_written_back.Goals as goal
-
-pub returns : goal.returns
-returns c = λ input packet eaten is read.
-    sym (ap (λ count. take count input) read.1 ∙ read.0)

@@ -1,7 +1,0 @@
-use Rattle.mysql_wire_packets.specs.Again.{both_again, const_again, eof_text_again, packet_again}
-use Rattle.mysql_wire_packets.proofs.laws.com_query_is_written_back.Goals as goal
-
-pub returns : goal.returns
-returns c = λ input packet eaten is read. (packet_again (λ command. (_, command.query))
-    (both_again (const_again 0x03) (eof_text_again (λ text. text.0)))).law input is packet
-    eaten read

@@ -1,8 +1,0 @@
-use Rattle.std.specs.Cow.{cow_slice_items}
-use Rattle.mysql_wire_packets.specs.TextValues.{value_of}
-use Rattle.mysql_wire_packets.specs.Shortest.{written_back, row_law, value_shortest}
-use Rattle.mysql_wire_packets.proofs.laws.text_row_is_written_back.Goals as goal
-
-pub returns : goal.returns
-returns c = λ count input packet eaten is read.
-    written_back _ _ (row_law count (value_shortest value_of) (cow_slice_items packet.values.0) input is eaten read.1)

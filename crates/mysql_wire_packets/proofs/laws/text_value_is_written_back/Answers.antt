@@ -1,7 +1,0 @@
-use Rattle.mysql_wire_packets.specs.TextValues.{value_of}
-use Rattle.mysql_wire_packets.specs.Shortest.{written_back, value_shortest}
-use Rattle.mysql_wire_packets.proofs.laws.text_value_is_written_back.Goals as goal
-
-pub returns : goal.returns
-returns c = λ input packet eaten is read.
-    written_back _ _ ((value_shortest value_of).law input is packet eaten read)

@@ -1,0 +1,6 @@
+use Rattle.std.proofs.Common.{ap, sym, take, ◌∙◌}
+use Rattle.mysql_wire_queries.proofs.laws.com_quit_is_written_back.Goals as goal
+
+pub returns : goal.returns
+returns c = λ input packet eaten is read.
+    sym (ap (λ count. take count input) read.1 ∙ read.0)

@@ -1,0 +1,7 @@
+use Rattle.mysql_wire_packets.specs.Again.{both_again, const_again, eof_text_again, packet_again}
+use Rattle.mysql_wire_queries.proofs.laws.local_infile_request_is_written_back.Goals as goal
+
+pub returns : goal.returns
+returns c = λ input packet eaten is read. (packet_again (λ request. (_, request.file_name))
+    (both_again (const_again 0xfb) (eof_text_again (λ text. text.0)))).law input is packet
+    eaten read

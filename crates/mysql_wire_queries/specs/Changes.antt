@@ -1,0 +1,22 @@
+-- What is written of a command to change the user.
+use Rattle.std.specs.Prelude.{ℕ, List, [], ◌∷◌, ◌++◌}
+use Rattle.wire_buf.specs.Numbers.{le_bytes}
+use Rattle.mysql_wire_packets.specs.InOrder.{text_bytes, u8_text_bytes}
+use Rattle.mysql_wire_packets.specs.NullTexts.{clean}
+use Rattle.mysql_wire_packets.specs.Optional.{bytes_if}
+use Rattle.mysql_wire_queries.specs.declared.com_change_user.ComChangeUser.{ComChangeUser}
+
+-- up to the name of the database
+abbrev pub user_bytes : ComChangeUser → List ℕ
+user_bytes command = 0x11 ∷ ((clean command.user.0 ++ 0 ∷ [])
+    ++ (u8_text_bytes command.auth_plugin_data.0 ++ (clean command.database.0 ++ 0 ∷ [])))
+
+-- and behind it, each where it is there
+abbrev pub set_bytes : ComChangeUser → List ℕ
+set_bytes command = bytes_if (λ set. le_bytes 2 set.0) command.character_set
+
+abbrev pub name_bytes : ComChangeUser → List ℕ
+name_bytes command = bytes_if (λ name. clean name.0 ++ 0 ∷ []) command.auth_plugin_name
+
+abbrev pub attrs_bytes : ComChangeUser → List ℕ
+attrs_bytes command = bytes_if (λ attrs. text_bytes attrs.0) command.connect_attrs

@@ -1,0 +1,3 @@
+pub mod Changes
+pub mod ShortestRows
+pub mod TextValues

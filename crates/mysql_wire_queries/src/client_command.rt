@@ -1,0 +1,116 @@
+//! What may stand where a server waits for a command.
+
+ghost use Rattle.std.specs.Prelude.{◌≡◌, ◌∷◌, [], take, true, false};
+ghost use Rattle.wire_const.specs.FlagSets.{capability_flags_bits};
+ghost use Rattle.mysql_wire_packets.specs.Optional.{has};
+ghost use Rattle.mysql_wire_packets.specs.Places.{IsOther, ReadsWhole, Wraps};
+ghost use Rattle.mysql_wire_queries.specs.declared.client_command.ClientCommand.TheVariants.{Quit, InitDb, Query, AttributedQuery, Ping, ChangeUser};
+
+use crate::com_change_user::ComChangeUser;
+use crate::com_init_db::ComInitDb;
+use crate::com_ping::ComPing;
+use crate::com_query::ComQuery;
+use crate::com_query_attributes::ComQueryWithAttributes;
+use crate::com_quit::ComQuit;
+use mysql_wire_packets::places::{PayloadError, read_whole};
+use std::alloc::Global;
+use wire_buf::error::WireError;
+use wire_buf::proto::MyDeserialize;
+use wire_const::{CapabilityFlags, Flags};
+
+/// A client's command, of those without prepared statements.
+///
+/// <https://dev.mysql.com/doc/dev/mysql-server/latest/page_protocol_command_phase.html>
+#[derive(Drop, Debug, PartialEq, Eq)]
+pub enum ClientCommand<'a> {
+    Quit(ComQuit),
+    InitDb(ComInitDb<'a>),
+    /// A query, without `CLIENT_QUERY_ATTRIBUTES`.
+    Query(ComQuery<'a>),
+    /// A query, under `CLIENT_QUERY_ATTRIBUTES`.
+    AttributedQuery(ComQueryWithAttributes<'a>),
+    Ping(ComPing),
+    ChangeUser(ComChangeUser<'a>),
+}
+
+// The query of a payload.
+fn read_query<'a>(
+    alloc: Global,
+    capabilities: CapabilityFlags,
+    payload: &'a [u8],
+) -> Result<ClientCommand<'a>, PayloadError>
+    ensures plain { has (capability_flags_bits capabilities) 0x8000000 ≡ false → Wraps Query
+        (ReadsWhole (⟦<ComQuery<'a> as MyDeserialize<'a, Global>>⟧.reads tt) payload.entry.now)
+        result }
+    ensures attributed { has (capability_flags_bits capabilities) 0x8000000 ≡ true
+        → Wraps AttributedQuery
+        (ReadsWhole (⟦<ComQueryWithAttributes<'a> as MyDeserialize<'a, Global>>⟧.reads tt)
+        payload.entry.now) result }
+{
+    if capabilities.contains(CapabilityFlags::CLIENT_QUERY_ATTRIBUTES) {
+        match read_whole::<ComQueryWithAttributes<'a>>(alloc, (), payload) {
+            Ok(command) => Ok(ClientCommand::AttributedQuery(command)),
+            Err(error) => Err(error),
+        }
+    } else {
+        match read_whole::<ComQuery<'a>>(alloc, (), payload) {
+            Ok(command) => Ok(ClientCommand::Query(command)),
+            Err(error) => Err(error),
+        }
+    }
+}
+
+impl<'a> ClientCommand<'a> {
+    /// Reads a payload where a command is waited for, on a connection of these capabilities. The
+    /// first byte is the command's number; another number than `01`, `02`, `03`, `0e` and `11` is
+    /// refused as `OtherHeader`.
+    pub fn read(
+        alloc: Global,
+        capabilities: CapabilityFlags,
+        payload: &'a [u8],
+    ) -> Result<ClientCommand<'a>, PayloadError>
+        ensures quit { take 1 payload.entry.now ≡ 0x01 ∷ [] → Wraps Quit
+            (ReadsWhole (⟦<ComQuit as MyDeserialize<'a, Global>>⟧.reads tt)
+            payload.entry.now) result }
+        ensures init_db { take 1 payload.entry.now ≡ 0x02 ∷ [] → Wraps InitDb
+            (ReadsWhole (⟦<ComInitDb<'a> as MyDeserialize<'a, Global>>⟧.reads tt)
+            payload.entry.now) result }
+        ensures query { take 1 payload.entry.now ≡ 0x03 ∷ []
+            → has (capability_flags_bits capabilities) 0x8000000 ≡ false → Wraps Query
+            (ReadsWhole (⟦<ComQuery<'a> as MyDeserialize<'a, Global>>⟧.reads tt)
+            payload.entry.now) result }
+        ensures attributed { take 1 payload.entry.now ≡ 0x03 ∷ []
+            → has (capability_flags_bits capabilities) 0x8000000 ≡ true → Wraps AttributedQuery
+            (ReadsWhole (⟦<ComQueryWithAttributes<'a> as MyDeserialize<'a, Global>>⟧.reads tt)
+            payload.entry.now) result }
+        ensures ping { take 1 payload.entry.now ≡ 0x0e ∷ [] → Wraps Ping
+            (ReadsWhole (⟦<ComPing as MyDeserialize<'a, Global>>⟧.reads tt)
+            payload.entry.now) result }
+        ensures change_user { take 1 payload.entry.now ≡ 0x11 ∷ [] → Wraps ChangeUser
+            (ReadsWhole (⟦<ComChangeUser<'a> as MyDeserialize<'a, Global>>⟧.reads capabilities)
+            payload.entry.now) result }
+        ensures other { IsOther (0x01 ∷ 0x02 ∷ 0x03 ∷ 0x0e ∷ 0x11 ∷ []) payload.entry.now result }
+    {
+        match payload.first() {
+            Some(0x01) => match read_whole::<ComQuit>(alloc, (), payload) {
+                Ok(command) => Ok(ClientCommand::Quit(command)),
+                Err(error) => Err(error),
+            },
+            Some(0x02) => match read_whole::<ComInitDb<'a>>(alloc, (), payload) {
+                Ok(command) => Ok(ClientCommand::InitDb(command)),
+                Err(error) => Err(error),
+            },
+            Some(0x03) => read_query(alloc, capabilities, payload),
+            Some(0x0e) => match read_whole::<ComPing>(alloc, (), payload) {
+                Ok(command) => Ok(ClientCommand::Ping(command)),
+                Err(error) => Err(error),
+            },
+            Some(0x11) => match read_whole::<ComChangeUser<'a>>(alloc, capabilities, payload) {
+                Ok(command) => Ok(ClientCommand::ChangeUser(command)),
+                Err(error) => Err(error),
+            },
+            Some(byte) => Err(PayloadError::OtherHeader(*byte)),
+            None => Err(PayloadError::Refused(WireError::UnexpectedEof)),
+        }
+    }
+}

@@ -1,0 +1,112 @@
+//! The count of columns that begins a result set.
+
+ghost use Rattle.std.specs.Prelude.{◌≡◌, ◌<◌, ◌^◌, ◌∷◌, ◌++◌, [], Some};
+ghost use Rattle.wire_const.specs.FlagSets.{capability_flags_bits};
+ghost use Rattle.wire_buf.specs.Lenenc.{lenenc_bytes};
+ghost use Rattle.wire_buf.specs.Reading.{Parses, Through};
+ghost use Rattle.mysql_wire_packets.specs.InOrder.{packet, both, byte, lenenc_int};
+ghost use Rattle.mysql_wire_packets.specs.Optional.{BothIf, IsThere, bytes_if, field, has, kept_field, optional, side};
+
+use mysql_wire_packets::optional::{Optional, byte_of, field_of_byte, under};
+use std::alloc::Allocator;
+use wire_buf::error::WireError;
+use wire_buf::io::ParseBuf;
+use wire_buf::proto::{HasSize, MyDeserialize, MySerialize, Varying};
+use wire_const::{CapabilityFlags, Flags};
+use wire_field::row::Both;
+use wire_forms::lenenc::LenEnc;
+use wire_repr::int::RawInt;
+use wire_repr::wire::Wire;
+
+// The payload's fields, in order.
+type Fields = Both<Optional<RawInt<u8>>, RawInt<LenEnc>>;
+
+/// How many columns a result set has, the first packet of it. The context are the capabilities of
+/// the connection.
+///
+/// <https://dev.mysql.com/doc/dev/mysql-server/latest/page_protocol_com_query_response_text_resultset.html>
+#[derive(Clone, Copy, Debug, PartialEq, Eq)]
+pub struct ColumnCount {
+    /// 1 where the definitions of the columns follow, 0 where they don't. There under
+    /// `CLIENT_OPTIONAL_RESULTSET_METADATA`; without it they follow.
+    pub metadata_follows: Option<u8>,
+    pub column_count: u64,
+}
+
+impl MySerialize for ColumnCount {
+    ghost bytes = { λ count. bytes_if (λ follows. follows ∷ []) count.metadata_follows
+        ++ lenenc_bytes count.column_count };
+
+    fn serialize<A: Allocator>(&self, buf: &mut Vec<u8, A>) -> Result<(), WireError> {
+        let column_count = RawInt::<LenEnc>::new(self.column_count);
+        Both(field_of_byte(self.metadata_follows), column_count).serialize(buf)
+    }
+}
+
+impl HasSize for ColumnCount {
+    type Size = Varying;
+}
+
+impl<'de, A: Allocator + Copy> MyDeserialize<'de, A> for ColumnCount {
+    type Ctx = CapabilityFlags;
+
+    ghost reads = { λ ctx input. Through
+        (λ count. (field (λ follows. (follows, _)) _ count.metadata_follows, (count.column_count, _)))
+        (⟦<Fields as MyDeserialize<'de, A>>⟧.reads
+        (side tt (has (capability_flags_bits ctx) 0x2000000), tt) input) };
+
+    fn deserialize(
+        alloc: A,
+        capabilities: CapabilityFlags,
+        buf: &mut ParseBuf<'de>,
+    ) -> Result<Self, WireError> {
+        let follows = under(
+            capabilities.bits(),
+            CapabilityFlags::CLIENT_OPTIONAL_RESULTSET_METADATA,
+            (),
+        );
+        match buf.parse_in::<Fields, A>(alloc, (follows, ())) {
+            Ok(Both(follows, column_count)) => Ok(ColumnCount {
+                metadata_follows: byte_of(follows),
+                column_count: column_count.0,
+            }),
+            Err(error) => Err(error),
+        }
+    }
+}
+
+impl<'de, A: Allocator + Copy> Wire<'de, A> for ColumnCount {
+    ghost is_value = { λ count. count.column_count < 2 ^ 64 };
+
+    ghost good = { λ ctx count _. IsThere (has (capability_flags_bits ctx) 0x2000000)
+        count.metadata_follows };
+
+    ghost kept = { λ count back.
+        BothIf (λ follows back. back ≡ follows) count.metadata_follows back.metadata_follows
+        × (back.column_count ≡ count.column_count) };
+
+    ghost takes_memory = { ⊥ };
+
+    fn known(&self) {
+        let _count = self.column_count;
+    }
+
+    ghost comes_back = { λ ctx count rest answer eaten value good read.
+        packet (⟦<Fields as MyDeserialize<'de, A>>⟧.reads
+        (side tt (has (capability_flags_bits ctx) 0x2000000), tt)) _ _
+        (λ back came. (
+          kept_field (λ follows field. field.0 ≡ follows) _ (λ follows. (follows, _))
+              (λ follows back. back ≡ follows) count.metadata_follows back.metadata_follows
+              (λ follows back same. same) came.0,
+          came.1,
+        ))
+        (both (optional (λ ctx. Parses (Some 1)
+        (⟦<RawInt<u8> as MyDeserialize<'de, A>>⟧.reads ctx)) tt
+        (has (capability_flags_bits ctx) 0x2000000) count.metadata_follows
+        (λ follows field. field.0 ≡ follows) (λ follows. follows ∷ []) good
+        (λ follows is. byte (λ int. int.0) follows))
+        (lenenc_int (λ int. int.0) count.column_count value))
+        answer eaten read };
+
+    ghost of_size = { λ count size _ stated. Prim.cc };
+}

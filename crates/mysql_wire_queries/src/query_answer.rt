@@ -1,0 +1,77 @@
+//! What may answer a command.
+
+ghost use Rattle.std.specs.Prelude.{◌≡◌, ◌≢◌, ◌∷◌, [], take};
+ghost use Rattle.wire_const.specs.FlagSets.{capability_flags_bits};
+ghost use Rattle.mysql_wire_packets.specs.Oks.{form_of};
+ghost use Rattle.mysql_wire_packets.specs.Places.{ReadsWhole, Wraps};
+ghost use Rattle.mysql_wire_queries.specs.declared.query_answer.QueryAnswer.TheVariants.{Done, Failed, File, Columns};
+
+use crate::column_count::ColumnCount;
+use crate::local_infile::LocalInfileRequest;
+use mysql_wire_packets::err_packet::ErrPacket;
+use mysql_wire_packets::ok_packet::{InfoForm, OkPacket};
+use mysql_wire_packets::places::{PayloadError, read_whole};
+use std::alloc::Global;
+use wire_buf::proto::MyDeserialize;
+use wire_const::CapabilityFlags;
+
+/// The first packet of the answer to a command.
+///
+/// <https://dev.mysql.com/doc/dev/mysql-server/latest/page_protocol_com_query_response.html>
+#[derive(Drop, Debug, PartialEq, Eq)]
+pub enum QueryAnswer<'a> {
+    /// The command was done, and has no rows.
+    Done(OkPacket<'a>),
+    Failed(ErrPacket<'a>),
+    /// The server asks for a file.
+    File(LocalInfileRequest<'a>),
+    /// Rows follow, of so many columns.
+    Columns(ColumnCount),
+}
+
+impl<'a> QueryAnswer<'a> {
+    /// Reads the answer from a payload, on a connection of these capabilities: `00` begins an OK,
+    /// `ff` an error, `fb` the request for a file, and any other byte a count of columns.
+    pub fn read(
+        alloc: Global,
+        capabilities: CapabilityFlags,
+        payload: &'a [u8],
+    ) -> Result<QueryAnswer<'a>, PayloadError>
+        ensures done { take 1 payload.entry.now ≡ 0x00 ∷ [] → Wraps Done
+            (ReadsWhole (⟦<OkPacket<'a> as MyDeserialize<'a, Global>>⟧.reads
+            (form_of (capability_flags_bits capabilities))) payload.entry.now) result }
+        ensures failed { take 1 payload.entry.now ≡ 0xff ∷ [] → Wraps Failed
+            (ReadsWhole (⟦<ErrPacket<'a> as MyDeserialize<'a, Global>>⟧.reads capabilities)
+            payload.entry.now) result }
+        ensures file { take 1 payload.entry.now ≡ 0xfb ∷ [] → Wraps File
+            (ReadsWhole (⟦<LocalInfileRequest<'a> as MyDeserialize<'a, Global>>⟧.reads tt)
+            payload.entry.now) result }
+        ensures columns { take 1 payload.entry.now ≢ 0x00 ∷ []
+            → take 1 payload.entry.now ≢ 0xff ∷ [] → take 1 payload.entry.now ≢ 0xfb ∷ []
+            → Wraps Columns
+            (ReadsWhole (⟦<ColumnCount as MyDeserialize<'a, Global>>⟧.reads capabilities)
+            payload.entry.now) result }
+    {
+        match payload.first() {
+            Some(0x00) => {
+                let form = InfoForm::of(capabilities);
+                match read_whole::<OkPacket<'a>>(alloc, form, payload) {
+                    Ok(packet) => Ok(QueryAnswer::Done(packet)),
+                    Err(error) => Err(error),
+                }
+            }
+            Some(0xff) => match read_whole::<ErrPacket<'a>>(alloc, capabilities, payload) {
+                Ok(packet) => Ok(QueryAnswer::Failed(packet)),
+                Err(error) => Err(error),
+            },
+            Some(0xfb) => match read_whole::<LocalInfileRequest<'a>>(alloc, (), payload) {
+                Ok(packet) => Ok(QueryAnswer::File(packet)),
+                Err(error) => Err(error),
+            },
+            _ => match read_whole::<ColumnCount>(alloc, capabilities, payload) {
+                Ok(packet) => Ok(QueryAnswer::Columns(packet)),
+                Err(error) => Err(error),
+            },
+        }
+    }
+}

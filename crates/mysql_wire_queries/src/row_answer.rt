@@ -1,0 +1,100 @@
+//! What may stand where a row is waited for.
+
+ghost use Rattle.std.specs.Prelude.{◌≡◌, ◌≢◌, ◌∷◌, [], take, true, false, length};
+ghost use Rattle.wire_const.specs.FlagSets.{capability_flags_bits};
+ghost use Rattle.mysql_wire_packets.specs.Oks.{form_of};
+ghost use Rattle.mysql_wire_packets.specs.Optional.{has};
+ghost use Rattle.mysql_wire_packets.specs.Places.{ReadsWhole, Wraps, is_short};
+ghost use Rattle.mysql_wire_queries.specs.declared.row_answer.RowAnswer.TheVariants.{Row, Eof, End, Failed};
+
+use crate::text_row::TextRow;
+use mysql_wire_packets::eof_packet::EofPacket;
+use mysql_wire_packets::err_packet::ErrPacket;
+use mysql_wire_packets::ok_packet::{InfoForm, RowsEnd};
+use mysql_wire_packets::places::{PayloadError, read_whole};
+use std::alloc::Global;
+use wire_buf::proto::MyDeserialize;
+use wire_const::{CapabilityFlags, Flags};
+
+/// What comes behind the definitions of columns, in the text protocol.
+///
+/// <https://dev.mysql.com/doc/dev/mysql-server/latest/page_protocol_com_query_response_text_resultset.html>
+#[derive(Drop, Debug, PartialEq, Eq)]
+pub enum RowAnswer<'a> {
+    Row(TextRow<'a>),
+    /// The rows are at their end, without `CLIENT_DEPRECATE_EOF`.
+    Eof(EofPacket),
+    /// The rows are at their end, under `CLIENT_DEPRECATE_EOF`.
+    End(RowsEnd<'a>),
+    Failed(ErrPacket<'a>),
+}
+
+// Whether a payload that begins with `fe` is an end, and no row.
+fn is_end(is_deprecated: bool, len: usize) -> bool
+    ensures { result ≡ is_short is_deprecated len }
+{
+    if is_deprecated {
+        len < 0xff_ffff
+    } else {
+        len < 9
+    }
+}
+
+impl<'a> RowAnswer<'a> {
+    /// Reads a payload where a row of so many columns is waited for, on a connection of these
+    /// capabilities. `ff` begins an error. `fe` begins the end of the rows, where the payload is
+    /// shorter than 9 bytes, or, under `CLIENT_DEPRECATE_EOF`, than a full chunk; else it is a row
+    /// whose first text has 16 MiB or more. All others are rows.
+    pub fn read(
+        alloc: Global,
+        capabilities: CapabilityFlags,
+        column_count: usize,
+        payload: &'a [u8],
+    ) -> Result<RowAnswer<'a>, PayloadError>
+        ensures failed { take 1 payload.entry.now ≡ 0xff ∷ [] → Wraps Failed
+            (ReadsWhole (⟦<ErrPacket<'a> as MyDeserialize<'a, Global>>⟧.reads capabilities)
+            payload.entry.now) result }
+        ensures eof { take 1 payload.entry.now ≡ 0xfe ∷ []
+            → has (capability_flags_bits capabilities) 0x1000000 ≡ false
+            → is_short false (length payload.entry.now) ≡ true → Wraps Eof
+            (ReadsWhole (⟦<EofPacket as MyDeserialize<'a, Global>>⟧.reads tt)
+            payload.entry.now) result }
+        ensures end { take 1 payload.entry.now ≡ 0xfe ∷ []
+            → has (capability_flags_bits capabilities) 0x1000000 ≡ true
+            → is_short true (length payload.entry.now) ≡ true → Wraps End
+            (ReadsWhole (⟦<RowsEnd<'a> as MyDeserialize<'a, Global>>⟧.reads (form_of (capability_flags_bits capabilities)))
+            payload.entry.now) result }
+        ensures row { take 1 payload.entry.now ≢ 0xff ∷ []
+            → (take 1 payload.entry.now ≡ 0xfe ∷ []
+            → is_short (has (capability_flags_bits capabilities) 0x1000000)
+            (length payload.entry.now) ≡ false) → Wraps Row
+            (ReadsWhole (⟦<TextRow<'a> as MyDeserialize<'a, Global>>⟧.reads column_count)
+            payload.entry.now) result }
+    {
+        let is_deprecated = capabilities.contains(CapabilityFlags::CLIENT_DEPRECATE_EOF);
+        match payload.first() {
+            Some(0xff) => match read_whole::<ErrPacket<'a>>(alloc, capabilities, payload) {
+                Ok(packet) => Ok(RowAnswer::Failed(packet)),
+                Err(error) => Err(error),
+            },
+            Some(0xfe) if is_end(is_deprecated, payload.len()) => {
+                if is_deprecated {
+                    let form = InfoForm::of(capabilities);
+                    match read_whole::<RowsEnd<'a>>(alloc, form, payload) {
+                        Ok(packet) => Ok(RowAnswer::End(packet)),
+                        Err(error) => Err(error),
+                    }
+                } else {
+                    match read_whole::<EofPacket>(alloc, (), payload) {
+                        Ok(packet) => Ok(RowAnswer::Eof(packet)),
+                        Err(error) => Err(error),
+                    }
+                }
+            }
+            _ => match read_whole::<TextRow<'a>>(alloc, column_count, payload) {
+                Ok(packet) => Ok(RowAnswer::Row(packet)),
+                Err(error) => Err(error),
+            },
+        }
+    }
+}

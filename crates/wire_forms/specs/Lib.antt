@@ -1,0 +1,9 @@
+pub mod Spelled
+pub mod Lenenc
+pub mod Groups
+pub mod GroupsLemmas
+pub mod BareTexts
+pub mod NullTexts
+pub mod NullTextLemmas
+pub mod PrefixedTexts
+pub mod Constants

@@ -1,0 +1,212 @@
+//! Texts behind their length.
+//!
+//! <https://dev.mysql.com/doc/dev/mysql-server/latest/page_protocol_basic_dt_strings.html>
+
+ghost use Rattle.std.specs.Prelude.{◌++◌, length, take};
+ghost use Rattle.wire_buf.specs.Lenenc.{IsLenencOrMark, lenenc_bytes};
+ghost use Rattle.wire_buf.specs.Numbers.{le_bytes};
+ghost use Rattle.wire_buf.specs.Reading.{Reads};
+ghost use Rattle.wire_buf.specs.Spelling.{IsFixed};
+ghost use Rattle.wire_ext.specs.Texts.{u8_max, u32_max};
+ghost use Rattle.wire_forms.specs.Groups.{ReadsGroups, groups_bytes};
+ghost use Rattle.wire_forms.specs.PrefixedTexts.{lenenc_text-back, fixed_text-back_1, fixed_text-back_4, groups_text-back};
+ghost use Rattle.wire_forms.specs.Spelled.{Leaves, NumberOrEof, TextBehind};
+
+use crate::lenenc::{LenEnc, eat_lenenc};
+use crate::undelimited::eat_text;
+use crate::varlen::{VarLen, eat_groups, put_groups};
+use std::alloc::Allocator;
+use std::borrow::CowSlice;
+use wire_buf::error::WireError;
+use wire_buf::io::ParseBuf;
+use wire_buf::proto::Varying;
+use wire_ext::io::BufMutExt;
+use wire_ext::text::{first_bytes, longest_u32_str};
+use wire_repr::append::{all_or_nothing, append};
+use wire_repr::int::IntRepr;
+use wire_repr::text::BytesRepr;
+
+/// A `string<lenenc>`. A length that is cut short has eaten its first byte, a text its length.
+impl BytesRepr for LenEnc {
+    const MAX_LEN: usize = usize::MAX;
+
+    type Size = Varying;
+
+    type Ctx = ();
+
+    ghost MAX_LEN = { 0xffff_ffff_ffff_ffff };
+
+    ghost bytes = { λ text. lenenc_bytes (length text) ++ text };
+
+    ghost reads = { λ _. Leaves (TextBehind (NumberOrEof IsLenencOrMark 1)) };
+
+    ghost good = { λ _ _ _. Unit {0} };
+
+    ghost kept = { λ text. text };
+
+    fn serialize<A: Allocator>(text: &[u8], buf: &mut Vec<u8, A>) -> Result<(), WireError> {
+        let at = buf.len();
+        let put = buf.put_lenenc_str(text).is_ok();
+        all_or_nothing(put, at, buf)
+    }
+
+    fn deserialize<'de, A: Allocator>(
+        _: (),
+        buf: &mut ParseBuf<'de>,
+    ) -> Result<CowSlice<'de, u8, A>, WireError> {
+        let len = <LenEnc as IntRepr>::deserialize(buf)?;
+        eat_text(len as usize, buf)
+    }
+
+    ghost comes_back = { λ _ text rest value _. lenenc_text-back text rest value };
+
+    ghost of_size = { λ text size stated. Prim.cc };
+}
+
+/// One byte of length and a text, of a longer one its first 255 bytes. A text that is cut short has
+/// eaten its length.
+///
+/// As the answer to a challenge:
+/// <https://dev.mysql.com/doc/dev/mysql-server/latest/page_protocol_connection_phase_packets_protocol_handshake_response.html>
+#[derive(Clone, Copy, Debug, PartialEq, Eq, Hash, Default)]
+pub struct U8Bytes;
+
+// Eats a length of one byte.
+fn eat_u8_len(buf: &mut ParseBuf<'_>) -> Result<usize, WireError>
+    ensures { Reads (Leaves (NumberOrEof (IsFixed 1) 0)) buf.old.0.now result buf.new.0.now }
+{
+    match buf.checked_eat_u8() {
+        Some(len) => Ok(len as usize),
+        None => Err(WireError::UnexpectedEof),
+    }
+}
+
+impl BytesRepr for U8Bytes {
+    const MAX_LEN: usize = 255;
+
+    type Size = Varying;
+
+    type Ctx = ();
+
+    ghost MAX_LEN = { 255 };
+
+    ghost bytes = { λ text. le_bytes 1 (length (take u8_max text)) ++ take u8_max text };
+
+    ghost reads = { λ _. Leaves (TextBehind (NumberOrEof (IsFixed 1) 0)) };
+
+    ghost good = { λ _ _ _. Unit {0} };
+
+    ghost kept = { λ text. take u8_max text };
+
+    fn serialize<A: Allocator>(text: &[u8], buf: &mut Vec<u8, A>) -> Result<(), WireError> {
+        let at = buf.len();
+        let put = buf.put_u8_str(text).is_ok();
+        all_or_nothing(put, at, buf)
+    }
+
+    fn deserialize<'de, A: Allocator>(
+        _: (),
+        buf: &mut ParseBuf<'de>,
+    ) -> Result<CowSlice<'de, u8, A>, WireError> {
+        let len = eat_u8_len(buf)?;
+        eat_text(len, buf)
+    }
+
+    ghost comes_back = { λ _ text rest _ _. fixed_text-back_1 text rest };
+
+    ghost of_size = { λ text size stated. Prim.cc };
+}
+
+/// Four bytes of length, the least significant first, and a text, of a longer one its first
+/// 4294967295 bytes. A text that is cut short has eaten its length.
+///
+/// As the name of a log's file:
+/// <https://dev.mysql.com/doc/dev/mysql-server/latest/page_protocol_com_binlog_dump_gtid.html>
+#[derive(Clone, Copy, Debug, PartialEq, Eq, Hash, Default)]
+pub struct U32Bytes;
+
+// Eats a length of four bytes.
+fn eat_u32_len(buf: &mut ParseBuf<'_>) -> Result<usize, WireError>
+    ensures { Reads (Leaves (NumberOrEof (IsFixed 4) 0)) buf.old.0.now result buf.new.0.now }
+{
+    match buf.checked_eat_u32_le() {
+        Some(len) => Ok(len as usize),
+        None => Err(WireError::UnexpectedEof),
+    }
+}
+
+impl BytesRepr for U32Bytes {
+    const MAX_LEN: usize = 4294967295;
+
+    type Size = Varying;
+
+    type Ctx = ();
+
+    ghost MAX_LEN = { 4294967295 };
+
+    ghost bytes = { λ text. le_bytes 4 (length (take u32_max text)) ++ take u32_max text };
+
+    ghost reads = { λ _. Leaves (TextBehind (NumberOrEof (IsFixed 4) 0)) };
+
+    ghost good = { λ _ _ _. Unit {0} };
+
+    ghost kept = { λ text. take u32_max text };
+
+    fn serialize<A: Allocator>(text: &[u8], buf: &mut Vec<u8, A>) -> Result<(), WireError> {
+        let at = buf.len();
+        let put = buf.put_u32_str(text).is_ok();
+        all_or_nothing(put, at, buf)
+    }
+
+    fn deserialize<'de, A: Allocator>(
+        _: (),
+        buf: &mut ParseBuf<'de>,
+    ) -> Result<CowSlice<'de, u8, A>, WireError> {
+        let len = eat_u32_len(buf)?;
+        eat_text(len, buf)
+    }
+
+    ghost comes_back = { λ _ text rest _ _. fixed_text-back_4 text rest };
+
+    ghost of_size = { λ text size stated. Prim.cc };
+}
+
+/// A length in groups of seven bits and a text, of a longer one its first 4294967295 bytes. A
+/// length that is refused has eaten what was looked at, a text that is cut short its length.
+impl BytesRepr for VarLen {
+    const MAX_LEN: usize = 4294967295;
+
+    type Size = Varying;
+
+    type Ctx = ();
+
+    ghost MAX_LEN = { 4294967295 };
+
+    ghost bytes = { λ text. groups_bytes (length (take u32_max text)) ++ take u32_max text };
+
+    ghost reads = { λ _. Leaves (TextBehind ReadsGroups) };
+
+    ghost good = { λ _ _ _. Unit {0} };
+
+    ghost kept = { λ text. take u32_max text };
+
+    fn serialize<A: Allocator>(text: &[u8], buf: &mut Vec<u8, A>) -> Result<(), WireError> {
+        let at = buf.len();
+        let cut = first_bytes(text, longest_u32_str());
+        put_groups(cut.len() as u32, buf)?;
+        let put = append(cut, buf).is_ok();
+        all_or_nothing(put, at, buf)
+    }
+
+    fn deserialize<'de, A: Allocator>(
+        _: (),
+        buf: &mut ParseBuf<'de>,
+    ) -> Result<CowSlice<'de, u8, A>, WireError> {
+        let len = <VarLen as IntRepr>::deserialize(buf)?;
+        eat_text(len as usize, buf)
+    }
+
+    ghost comes_back = { λ _ text rest _ _. groups_text-back text rest };
+
+    ghost of_size = { λ text size stated. Prim.cc };
+}

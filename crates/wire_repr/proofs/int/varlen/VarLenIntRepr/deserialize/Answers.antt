@@ -1,6 +1,0 @@
-use Rattle.wire_repr.specs.GroupsLemmas.{ReadsGroups-left}
-use Rattle.wire_repr.proofs.int.varlen.VarLenIntRepr.deserialize.Goals as goal
-
-pub returns : goal.returns
-returns c = ReadsGroups-left c.args.buf.now.0.now c.eat_groups.result c.eat_groups.new.buf.0.now
-    c.eat_groups.ensures
