@@ -16,32 +16,42 @@ const FIRST: u16 = 0x0003;
 
 const SECOND: u16 = 0x000e;
 
+// Whether the sets have these bits.
+fn are(sets: &[StatusFlags], wanted: &[u16]) -> bool {
+    let mut all = sets.len() == wanted.len();
+    for (flags, number) in sets.iter().zip(wanted) {
+        all &= bits(*flags) == *number;
+    }
+    all
+}
+
 #[test]
 fn sets_are_made_and_joined(rt: HostRuntime) {
     let first = from_bits_retain(FIRST);
     let second = from_bits_retain(SECOND);
+    let both = union(
+        StatusFlags::SERVER_STATUS_IN_TRANS,
+        StatusFlags::SERVER_STATUS_AUTOCOMMIT,
+    );
     let made = [
-        bits(first),
-        bits(union(
-            StatusFlags::SERVER_STATUS_IN_TRANS,
-            StatusFlags::SERVER_STATUS_AUTOCOMMIT,
-        )),
-        bits(second),
-        bits(empty()),
-        bits(default()),
-        bits(all()),
-        bits(from_bits_truncate(SECOND)),
-        bits(union(first, second)),
-        bits(intersection(first, second)),
-        bits(difference(first, second)),
-        bits(symmetric_difference(first, second)),
-        bits(complement(second)),
+        first,
+        both,
+        second,
+        empty(),
+        default(),
+        all(),
+        from_bits_truncate(SECOND),
+        union(first, second),
+        intersection(first, second),
+        difference(first, second),
+        symmetric_difference(first, second),
+        complement(second),
     ];
     let wanted = [
         3, 3, 0x000e, 0, 0, 0xfffb, 0x000a, 0x000f, 2, 1, 0x000d, 0xfff1,
     ];
     let known = [from_bits(FIRST), from_bits(SECOND)];
-    assert!(rt; (made == wanted) & (known == [Some(first), None]));
+    assert!(rt; are(&made, &wanted) & (known == [Some(first), None]));
 }
 
 #[test]
@@ -73,31 +83,18 @@ fn sets_are_changed(rt: HostRuntime) {
     let second = from_bits_retain(SECOND);
     let mut flags = first;
     insert(&mut flags, second);
-    let inserted = bits(flags);
+    let inserted = flags;
     remove(&mut flags, StatusFlags::SERVER_STATUS_IN_TRANS);
-    let removed = bits(flags);
+    let removed = flags;
     toggle(&mut flags, first);
-    let toggled = bits(flags);
+    let toggled = flags;
     set(&mut flags, first, true);
-    let set_first = bits(flags);
+    let set_first = flags;
     set(&mut flags, second, false);
-    let unset = bits(flags);
+    let unset = flags;
     set(&mut flags, second, true);
-    let set_second = bits(flags);
-    remove(&mut flags, first);
-    let less = bits(flags);
-    toggle(&mut flags, first);
-    let changed = [
-        inserted,
-        removed,
-        toggled,
-        set_first,
-        unset,
-        set_second,
-        less,
-        bits(flags),
-    ];
-    assert!(rt; changed == [0x000f, 0x000e, 0x000d, 0x000f, 1, 0x000f, 0x000c, 0x000f]);
+    let changed = [inserted, removed, toggled, set_first, unset, flags];
+    assert!(rt; are(&changed, &[0x000f, 0x000e, 0x000d, 0x000f, 1, 0x000f]));
 }
 
 #[test]

@@ -30,18 +30,6 @@ fn payloads_are_read(_: HostRuntime) -> Result<(), Fail> {
     ])
 }
 
-#[test]
-fn fields_are_put(rt: HostRuntime) -> Result<(), Fail> {
-    let mut buf = Vec::new(rt.alloc());
-    let mut put = put_schema(&mut buf, 0x030201, b"ab").is_ok();
-    put &= same(buf.as_slice(), b"\x01\x02\x03\x02ab");
-    put &= matches!(write_name(&mut buf, b"abc"), Ok(4));
-    put &= same(buf.as_slice(), b"\x01\x02\x03\x02ab\x03abc");
-    put &= put_named(&mut buf, 0x0201, b"id").is_ok();
-    put &= same(buf.as_slice(), b"\x01\x02\x03\x02ab\x03abc\x01\x02\x02id");
-    ensure(put, "a field is put otherwise")
-}
-
 fn is_named(alloc: Global) -> bool {
     let named = match read_named(alloc, b"\x01\x02\x02id") {
         Ok((id, name)) => (id.0 == 0x0201) & same(name.as_bytes(), b"id"),
@@ -51,8 +39,15 @@ fn is_named(alloc: Global) -> bool {
 }
 
 #[test]
-fn a_name_is_read(rt: HostRuntime) -> Result<(), Fail> {
-    ensure(is_named(rt.alloc()), "an id and a name")
+fn fields_are_put_and_read(rt: HostRuntime) -> Result<(), Fail> {
+    let mut buf = Vec::new(rt.alloc());
+    let mut put = put_schema(&mut buf, 0x030201, b"ab").is_ok();
+    put &= same(buf.as_slice(), b"\x01\x02\x03\x02ab");
+    put &= matches!(write_name(&mut buf, b"abc"), Ok(4));
+    put &= same(buf.as_slice(), b"\x01\x02\x03\x02ab\x03abc");
+    put &= put_named(&mut buf, 0x0201, b"id").is_ok();
+    put &= same(buf.as_slice(), b"\x01\x02\x03\x02ab\x03abc\x01\x02\x02id");
+    ensure(put & is_named(rt.alloc()), "a field is put otherwise")
 }
 
 fn is_own(alloc: Global, bytes: &[u8]) -> bool {

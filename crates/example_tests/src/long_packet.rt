@@ -4,7 +4,7 @@ use bytes::BytesMut;
 use mysql_wire_examples::long_packet::send_in_two;
 use std::alloc::Global;
 use std::test::Fail;
-use test_support::facts::{all_hold, are_parts, no_row, wrong_row};
+use test_support::facts::{are_parts, ensure, no_row, wrong_row};
 
 // An id, both parts of a packet, and the packet as it goes out.
 const PACKETS: &[(u8, &[u8], &[u8], &[u8])] = &[
@@ -26,11 +26,6 @@ fn goes(alloc: Global, row: (u8, &'static [u8], &'static [u8], &'static [u8])) -
     (next == Ok(id.wrapping_add(1))) & (output.as_slice() == framed)
 }
 
-#[test]
-fn a_packet_goes_out_in_two(rt: HostRuntime) -> Result<(), Fail> {
-    no_row(wrong_row(rt.alloc(), PACKETS, goes))
-}
-
 // A full chunk ends in an empty one.
 fn is_full_chunk_sent(alloc: Global, len: usize) -> bool {
     let mut long = Vec::new(alloc);
@@ -46,6 +41,7 @@ fn is_full_chunk_sent(alloc: Global, len: usize) -> bool {
 }
 
 #[test]
-fn a_full_chunk_goes_out_in_two(rt: HostRuntime) -> Result<(), Fail> {
-    all_hold(&[is_full_chunk_sent(rt.alloc(), 16777214)])
+fn a_packet_goes_out_in_two(rt: HostRuntime) -> Result<(), Fail> {
+    no_row(wrong_row(rt.alloc(), PACKETS, goes))?;
+    ensure(is_full_chunk_sent(rt.alloc(), 16777214), "a full chunk")
 }

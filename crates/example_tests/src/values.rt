@@ -3,7 +3,7 @@
 use bytes::BytesMut;
 use mysql_wire::misc::raw::Both;
 use mysql_wire::misc::raw::bytes::{BytesRepr, EofBytes, RawBytes, U8Bytes};
-use mysql_wire::misc::raw::int::{IntRepr, LeU16, LenEnc, RawInt};
+use mysql_wire::misc::raw::int::{LeU16, LenEnc, RawInt};
 use mysql_wire::proto::MySerialize;
 use mysql_wire::proto::codec::{PacketCodec, encode_value, parse_packet};
 use mysql_wire_examples::values::{TransferError, send_and_read};
@@ -11,7 +11,7 @@ use refusing_allocator::NEVER;
 use std::alloc::{Allocator, Global};
 use std::borrow::CowSlice;
 use std::test::Fail;
-use test_support::facts::{all_hold, ensure, same};
+use test_support::facts::{all_hold, same};
 use test_support::fixture::Heap;
 use test_support::receiver::Receiver;
 use test_support::told::Told;
@@ -41,18 +41,15 @@ fn is_packet<T: MySerialize + Drop>(alloc: Global, value: T, packet: &[u8]) -> b
     is_put & same(wire.as_slice(), packet)
 }
 
-#[test]
-fn values_are_numbered_as_packets(rt: HostRuntime) -> Result<(), Fail> {
-    let mut to = Receiver::new(rt.alloc(), 4194304);
+// Whether three numbers are three packets.
+fn are_numbered(alloc: Global) -> bool {
+    let mut to = Receiver::new(alloc, 4194304);
     let mut all = true;
     for number in 1..4u8 {
         all &= encode_byte(&mut to, number) == Told::Done;
     }
-    all &= same(
-        to.src.as_slice(),
-        b"\x01\0\0\0\x01\x01\0\0\x01\x02\x01\0\0\x02\x03",
-    );
-    ensure(all, "three numbers")
+    let wire = b"\x01\0\0\0\x01\x01\0\0\x01\x02\x01\0\0\x02\x03";
+    all & same(to.src.as_slice(), wire)
 }
 
 // Whether the value lies in its payload.
@@ -71,52 +68,22 @@ fn is_row(alloc: Global, payload: &[u8], number: u16, first: &[u8], second: &[u8
     }
 }
 
-// The same of a number and a text, with these bytes left.
-fn is_pair<'de, T, U>(
-    alloc: Global,
-    payload: &'de [u8],
-    number: T::Primitive,
-    text: &[u8],
-    left: &[u8],
-) -> bool
-where
-    T: 'de + IntRepr<Primitive: PartialEq>,
-    U: 'de + BytesRepr<Ctx = ()>,
-{
-    match parse_packet::<Both<RawInt<T>, RawBytes<'de, U>>>(alloc, ((), ()), payload) {
-        Ok((back, rest)) => {
-            (back.0.0 == number) & is_borrowed(&back.1, text) & same(rest.0, left)
-        }
+// Whether the number 7 and the text `a` are read, and `ff` is left.
+fn is_pair(alloc: Global, payload: &[u8]) -> bool {
+    match parse_packet::<Both<RawInt<u8>, RawBytes<'_, U8Bytes>>>(alloc, ((), ()), payload) {
+        Ok((back, rest)) => { (back.0.0 == 7) & is_borrowed(&back.1, b"a") & same(rest.0, b"\xff") }
         Err(_) => false,
     }
 }
 
-#[test]
-fn a_row_comes_back_borrowed(rt: HostRuntime) -> Result<(), Fail> {
-    let alloc = rt.alloc();
+// Whether a row is these bytes.
+fn is_row_put(alloc: Global) -> bool {
     let texts = Both(
         RawBytes::new(CowSlice::Borrowed(b"a")),
         RawBytes::new(CowSlice::Borrowed(b"b")),
     );
     let row: Row<'_> = Both(RawInt::new(1), texts);
-    let is_put = is_packet(alloc, row, b"\x05\0\0\0\x01\0\x01ab");
-    ensure(
-        is_put & is_row(alloc, b"\x01\0\x01ab", 1, b"a", b"b"),
-        "a row",
-    )
-}
-
-#[test]
-fn a_number_and_a_text_are_one_packet(rt: HostRuntime) -> Result<(), Fail> {
-    let alloc = rt.alloc();
-    let text = RawBytes::new(CowSlice::Borrowed(b"hi"));
-    let pair: Both<RawInt<LeU16>, RawBytes<'_, EofBytes>> = Both(RawInt::new(258), text);
-    all_hold(&[
-        is_packet(alloc, pair, b"\x04\0\0\0\x02\x01hi"),
-        is_pair::<LeU16, EofBytes>(alloc, b"\x02\x01hi", 258, b"hi", b""),
-        // What follows a value is left.
-        is_pair::<u8, U8Bytes>(alloc, b"\x07\x01a\xff", 7, b"a", b"\xff"),
-    ])
+    is_packet(alloc, row, b"\x05\0\0\0\x01\0\x01ab")
 }
 
 // Whether two bytes are refused under a limit of one, or where request number `nth` is, and the
@@ -173,13 +140,26 @@ fn come_back(alloc: Global, cuts: (usize, usize)) -> bool {
     are_same(&send_and_read(alloc, 2, &texts, cuts, &mut packets))
 }
 
-#[test]
-fn values_come_back_wherever_they_are_cut(rt: HostRuntime) -> Result<(), Fail> {
+// Wherever they are cut.
+fn come_back_wherever(alloc: Global) -> bool {
     let mut all = true;
     for first in 0..16 {
         for second in 0..16 {
-            all &= come_back(rt.alloc(), (first, second));
+            all &= come_back(alloc, (first, second));
         }
     }
-    ensure(all, "three texts")
+    all
+}
+
+#[test]
+fn values_are_packets_and_come_back(rt: HostRuntime) -> Result<(), Fail> {
+    let alloc = rt.alloc();
+    all_hold(&[
+        are_numbered(alloc),
+        is_row_put(alloc),
+        is_row(alloc, b"\x01\0\x01ab", 1, b"a", b"b"),
+        // What follows a value is left.
+        is_pair(alloc, b"\x07\x01a\xff"),
+        come_back_wherever(alloc),
+    ])
 }

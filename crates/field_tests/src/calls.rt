@@ -33,7 +33,7 @@ fn a_text_shows_what_is_written_of_it(rt: HostRuntime) -> Result<(), Fail> {
     all_hold(&[
         is_shown::<BareBytes<2>>(alloc, b"abc", b"ab", "ab"),
         is_shown::<BareBytes<0>>(alloc, b"abc", b"", ""),
-        is_shown::<BareBytes<1>>(alloc, b"a\xff", b"a", "a"),
+        is_shown::<BareBytes<2>>(alloc, b"ab\xff", b"ab", "ab"),
         is_shown::<EofBytes>(alloc, polish.as_bytes(), polish.as_bytes(), polish),
         is_shown::<EofBytes>(alloc, b"a\xffb", b"a\xffb", "a\u{fffd}b"),
     ])

@@ -8,9 +8,7 @@ use test_support::answers::shows;
 use wire_const::{
     CapabilityFlags, ColumnFlags, CursorType, Flags, Flags2, MariadbCapabilities, SqlMode,
     StatusFlags, StmtBulkExecuteFlags, StmtExecuteParamFlags, StmtExecuteParamsFlags,
-    UnknownCapabilityFlags, UnknownColumnFlags, UnknownCursorType, UnknownFlags2,
-    UnknownMariadbCapabilityFlags, UnknownSqlMode, UnknownStatusFlags,
-    UnknownStmtBulkExecuteParamsFlags, UnknownStmtExecuteParamFlags, UnknownStmtExecuteParamsFlags,
+    UnknownCapabilityFlags, UnknownColumnFlags,
 };
 
 // Whether the flags are the single bits of `known`, from the lowest to the highest, and `known` is
@@ -191,14 +189,20 @@ const SQL_MODES: &[SqlMode] = flags! {
     MODE_LAST,
 };
 
+// Whether an error is shown with the set's name and the number.
+fn is_shown<E: Display>(alloc: Global, error: &E, name: &str, number: u64) -> bool {
+    match format!(in alloc; "Unknown flags in the raw value of {name} (raw={number:b})") {
+        Ok(wanted) => shows(alloc, error, wanted.as_str()),
+        Err(_) => false,
+    }
+}
+
 // Whether a raw number, where the set's type has it, converts there and back if its bits are all
-// known, and else stands in the error.
-fn is_converted<F, U>(number: u64, known: u64, unknown: U) -> bool
+// known, and else is shown in the error.
+fn is_converted<F>(alloc: Global, name: &str, known: u64, number: u64) -> bool
 where
-    F: Flags + TryFrom<F::Bits, Error: Copy + PartialEq>,
+    F: Flags + TryFrom<F::Bits, Error: Drop + Display>,
     F::Bits: TryFrom<u64, Error: Drop> + From<F>,
-    U: Copy + FnOnce(F::Bits) -> F::Error,
-    requires { U.IsAlwaysCallable unknown }
 {
     let Ok(raw) = F::Bits::try_from(number) else {
         return true;
@@ -206,125 +210,82 @@ where
     let is_known = number & known == number;
     match F::try_from(raw) {
         Ok(flags) => is_known & (F::Bits::from(flags) == raw),
-        Err(error) => !is_known & (error == unknown(raw)),
+        Err(error) => !is_known & is_shown(alloc, &error, name, number),
     }
 }
 
 // Whether the raw numbers are converted rightly: those below 65536, and those that have one bit, or
 // all but one, or differ in one from what is known.
-fn are_converted<F, U>(known: u64, unknown: U) -> bool
+fn are_converted<F>(alloc: Global, name: &str, known: u64, whole: u64) -> bool
 where
-    F: Flags + TryFrom<F::Bits, Error: Copy + PartialEq>,
-    F::Bits: TryFrom<u64, Error: Drop> + From<F> + Into<u64>,
-    U: Copy + FnOnce(F::Bits) -> F::Error,
-    requires { U.IsAlwaysCallable unknown }
+    F: Flags + TryFrom<F::Bits, Error: Drop + Display>,
+    F::Bits: TryFrom<u64, Error: Drop> + From<F>,
 {
-    let whole: u64 = <F::Bits as Bits>::all().into();
     let mut all = true;
     for number in 0..65_536u64 {
-        all &= is_converted::<F, U>(number, known, unknown);
+        all &= is_converted::<F>(alloc, name, known, number);
     }
     for place in 0..64u32 {
         let bit = 1u64.wrapping_shl(place);
-        all &= is_converted::<F, U>(bit, known, unknown);
-        all &= is_converted::<F, U>(whole ^ bit, known, unknown);
-        all &= is_converted::<F, U>(known ^ bit, known, unknown);
+        all &= is_converted::<F>(alloc, name, known, bit);
+        all &= is_converted::<F>(alloc, name, known, whole ^ bit);
+        all &= is_converted::<F>(alloc, name, known, known ^ bit);
     }
     all
 }
 
 // Whether the flags are the single bits of `known`, each number converts as they say, and the error
-// of the set shows a raw number so.
-fn is_set<F, U>(alloc: Global, flags: &[F], known: u64, unknown: U, row: (F::Bits, &str)) -> bool
+// of the set, whose name this is, shows a raw number.
+fn is_set<F>(alloc: Global, name: &str, flags: &[F], known: u64) -> bool
 where
-    F: Flags + Default + TryFrom<F::Bits, Error: Copy + PartialEq + Display>,
+    F: Flags + Default + TryFrom<F::Bits, Error: Drop + Display>,
     F::Bits: TryFrom<u64, Error: Drop> + From<F> + Into<u64>,
-    U: Copy + FnOnce(F::Bits) -> F::Error,
-    requires { U.IsAlwaysCallable unknown }
 {
-    let (raw, text) = row;
-    let is_shown = shows(alloc, &unknown(raw), text);
-    is_shown & are_the_bits_of(flags, known) & are_converted::<F, U>(known, unknown)
+    let whole: u64 = <F::Bits as Bits>::all().into();
+    are_the_bits_of(flags, known) & are_converted::<F>(alloc, name, known, whole)
 }
 
 #[test]
 fn sets_of_the_protocol(rt: HostRuntime) {
     let alloc = rt.alloc();
-    let status = "Unknown flags in the raw value of StatusFlags (raw=100)";
-    let capabilities = "Unknown flags in the raw value of CapabilityFlags (raw=101)";
-    let mariadb = "Unknown flags in the raw value of MariadbCapabilities (raw=1000000)";
     let sets = [
-        is_set(alloc, STATUS, 0xfffb, UnknownStatusFlags, (4, status)),
-        is_set(
+        is_set(alloc, "StatusFlags", STATUS, 0xfffb),
+        is_set(alloc, "CapabilityFlags", CAPABILITIES, 0xffff_ffff),
+        is_set(alloc, "MariadbCapabilities", MARIADB_CAPABILITIES, 0x3f),
+        is_set(alloc, "ColumnFlags", COLUMNS, 0xffff),
+        shows(
             alloc,
-            CAPABILITIES,
-            0xffff_ffff,
-            UnknownCapabilityFlags,
-            (5, capabilities),
+            &UnknownCapabilityFlags(5),
+            "Unknown flags in the raw value of CapabilityFlags (raw=101)",
         ),
-        is_set(
+        shows(
             alloc,
-            MARIADB_CAPABILITIES,
-            0x3f,
-            UnknownMariadbCapabilityFlags,
-            (64, mariadb),
+            &UnknownColumnFlags(6),
+            "Unknown flags in the raw value of ColumnFlags (raw=110)",
         ),
-    ];
-    assert!(rt; sets == [true; 3]);
-}
-
-#[test]
-fn sets_of_statements_and_columns(rt: HostRuntime) {
-    let alloc = rt.alloc();
-    let cursor = "Unknown flags in the raw value of CursorType (raw=1000)";
-    let params = "Unknown flags in the raw value of StmtExecuteParamsFlags (raw=10)";
-    let param = "Unknown flags in the raw value of StmtExecuteParamFlags (raw=1)";
-    let bulk = "Unknown flags in the raw value of StmtBulkExecuteParamsFlags (raw=1)";
-    let column = "Unknown flags in the raw value of ColumnFlags (raw=110)";
-    let sets = [
-        is_set(alloc, CURSORS, 0x07, UnknownCursorType, (8, cursor)),
-        is_set(
-            alloc,
-            EXECUTE_PARAMS,
-            0x01,
-            UnknownStmtExecuteParamsFlags,
-            (2, params),
-        ),
-        is_set(
-            alloc,
-            EXECUTE_PARAM,
-            0x80,
-            UnknownStmtExecuteParamFlags,
-            (1, param),
-        ),
-        is_set(
-            alloc,
-            BULK_EXECUTE,
-            0xc0,
-            UnknownStmtBulkExecuteParamsFlags,
-            (1, bulk),
-        ),
-        is_set(alloc, COLUMNS, 0xffff, UnknownColumnFlags, (6, column)),
-        CursorType::CURSOR_TYPE_NO_CURSOR.bits() == 0,
     ];
     assert!(rt; sets == [true; 6]);
 }
 
 #[test]
+fn sets_of_statements(rt: HostRuntime) {
+    let alloc = rt.alloc();
+    let sets = [
+        is_set(alloc, "CursorType", CURSORS, 0x07),
+        is_set(alloc, "StmtExecuteParamsFlags", EXECUTE_PARAMS, 0x01),
+        is_set(alloc, "StmtExecuteParamFlags", EXECUTE_PARAM, 0x80),
+        is_set(alloc, "StmtBulkExecuteParamsFlags", BULK_EXECUTE, 0xc0),
+        CursorType::CURSOR_TYPE_NO_CURSOR.bits() == 0,
+    ];
+    assert!(rt; sets == [true; 5]);
+}
+
+#[test]
 fn sets_of_the_binary_log(rt: HostRuntime) {
     let alloc = rt.alloc();
-    let flags2 = "Unknown flags in the raw value of Flags2 (raw=1)";
-    let mode =
-        "Unknown flags in the raw value of SqlMode (raw=10000000000000000000000000000000000)";
     let sets = [
-        is_set(alloc, FLAGS2, 0x0c08_4000, UnknownFlags2, (1, flags2)),
-        is_set(
-            alloc,
-            SQL_MODES,
-            0x3_ffff_ffff,
-            UnknownSqlMode,
-            (0x4_0000_0000, mode),
-        ),
+        is_set(alloc, "Flags2", FLAGS2, 0x0c08_4000),
+        is_set(alloc, "SqlMode", SQL_MODES, 0x3_ffff_ffff),
     ];
     assert!(rt; sets == [true; 2]);
 }

@@ -12,9 +12,9 @@ mod const_traits;
 #[cfg(test)]
 mod constants;
 #[cfg(test)]
-mod entry;
-#[cfg(test)]
 mod enums;
+#[cfg(test)]
+mod fields;
 #[cfg(test)]
 mod flag_sets;
 pub mod kind;

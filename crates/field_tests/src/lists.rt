@@ -2,7 +2,6 @@
 // elements that are refused, and memory that is.
 
 use crate::at::{Refused, UNCUT, WHOLE, is_field};
-use crate::entry::Entry;
 use mysql_wire::constants::ColumnType;
 use mysql_wire::io::{InvalidReason, ParseBuf};
 use mysql_wire::misc::raw::bytes::U8Bytes;
@@ -58,15 +57,14 @@ const FOUR: &[Refused<()>] = &[
     ((), 0, b"\x02\0\0\0\x01\0\x02\0", OUT_OF_MEMORY, 4),
 ];
 
-const MOST: &[u8] = b"\xff\xff\xff\xff\xff\xff\xff\xff\x01\x02";
-
+// As many bytes as no machine counts, and as many as it counts.
 const EIGHT: &[Refused<()>] = &[
-    ((), 0, MOST, EOF, 2),
+    ((), 0, b"\xff\xff\xff\xff\xff\xff\xff\xff\x01\x02", EOF, 2),
     ((), 0, b"\0\0\0\0\0\0\0\x80\x01\x02", EOF, 2),
+    ((), 0, b"\0\0\0\0\0\0\0\x80", EOF, 0),
+    ((), 0, b"\xff\xff\xff\xff\xff\xff\xff\x7f\x01\x02", EOF, 2),
     ((), 0, b"\x01\0\0\0\0\0\0", EOF, 7),
 ];
-
-const BYTES: &[Refused<()>] = &[((), 0, MOST, EOF, 2)];
 
 const BARE: &[Refused<usize>] = &[(usize::MAX, 0, b"\x01\x02", EOF, 2)];
 
@@ -94,7 +92,7 @@ where
 
 // Each count, with its numbers and without. What is called once for each type is generic in the
 // allocator, since each call at a type proves anew that it is one.
-fn are_numbers<'de, A>(heap: &Heap, alloc: A, two: &'de [RawInt<LeU16>]) -> [bool; 6]
+fn are_numbers<'de, A>(heap: &Heap, alloc: A, two: &'de [RawInt<LeU16>]) -> [bool; 5]
 where
     A: 'de + Allocator + Copy,
 {
@@ -102,12 +100,10 @@ where
     let none: List<'de, RawInt<LeU16>> = (&[], b"\0\0\0\0\xff", 4, WHOLE);
     let eight: List<'de, RawInt<LeU16>> = (two, b"\x02\0\0\0\0\0\0\0\x01\0\x02\0\xff", 12, 8);
     let bare: List<'de, RawInt<LeU16>> = (two, b"\x01\0\x02\0\xff", 4, WHOLE);
-    let bytes: List<'de, RawInt<u8>> = (&[], b"\0\0\0\0\0\0\0\0\xff", 8, WHOLE);
     let varying: List<'de, RawInt<VarLen>> = (&[], b"\0\0\0\0\xff", 4, WHOLE);
     let no_four: &[Refused<'de, ()>] = FOUR;
     let no_eight: &[Refused<'de, ()>] = EIGHT;
     let no_bare: &[Refused<'de, usize>] = BARE;
-    let no_bytes: &[Refused<'de, ()>] = BYTES;
     let no_varying: &[Refused<'de, ()>] = VARYING;
     let nothing: &[Refused<'de, ()>] = &[];
     [
@@ -115,18 +111,11 @@ where
         is_list_of_numbers::<LeU16, LeU32, A>(heap, alloc, (), none, nothing),
         is_list_of_numbers::<LeU16, LeU64, A>(heap, alloc, (), eight, no_eight),
         is_list_of_numbers::<LeU16, Unknown, A>(heap, alloc, 2, bare, no_bare),
-        is_list_of_numbers::<u8, LeU64, A>(heap, alloc, (), bytes, no_bytes),
         is_list_of_numbers::<VarLen, LeU32, A>(heap, alloc, (), varying, no_varying),
     ]
 }
 
 // ---- lists of other elements
-
-const NO_ARRAYS: &[Refused<()>] = &[
-    ((), 0, MOST, EOF, 2),
-    ((), 0, b"\xff\xff\xff\xff\xff\xff\xff\xff\x01", EOF, 1),
-    ((), 0, b"\0\0\0\0\0\0\0\x10", EOF, 0),
-];
 
 // The block of elements of a size is eaten, whichever is refused.
 const NO_TYPES: &[Refused<()>] = &[
@@ -139,30 +128,18 @@ const NO_TEXTS: &[Refused<()>] = &[
     ((), NEVER, b"\x02\0\0\0\x01", EOF, 0),
 ];
 
-type Pair = Entry<RawInt<u8>, RawInt<LeU16>>;
-
-// Arrays that aren't there, elements of no bytes, constants, and records of a type of one's own.
-fn are_others<'de, A>(
-    heap: &Heap,
-    alloc: A,
-    types: &'de [Const<ColumnType, u8>],
-    pairs: &'de [Pair],
-) -> [bool; 4]
+// Elements of no bytes, and constants.
+fn are_others<'de, A>(heap: &Heap, alloc: A, types: &'de [Const<ColumnType, u8>]) -> [bool; 2]
 where
     A: 'de + Allocator + Copy,
 {
     let none: List<'de, Skip<0>> = (&[Skip, Skip, Skip], b"\x03\0\0\0", 4, WHOLE);
     let types: List<'de, Const<ColumnType, u8>> = (types, b"\x01\0\0\0\xf5\0", 5, 4);
-    let pairs: List<'de, Pair> = (pairs, b"\x02\0\0\0\x01\x02\0\x03\x05\x04", 10, UNCUT);
-    let arrays: List<'de, [u8; 16]> = (&[], b"\0\0\0\0\0\0\0\0\xff", 8, WHOLE);
-    let no_arrays: &[Refused<'de, ()>] = NO_ARRAYS;
     let no_types: &[Refused<'de, ()>] = NO_TYPES;
     let nothing: &[Refused<'de, ()>] = &[];
     [
-        is_list::<[u8; 16], LeU64, A>(heap, alloc, (), arrays, no_arrays),
         is_list::<Skip<0>, LeU32, A>(heap, alloc, (), none, nothing),
         is_list::<Const<ColumnType, u8>, LeU32, A>(heap, alloc, (), types, no_types),
-        is_list::<Pair, LeU32, A>(heap, alloc, (), pairs, nothing),
     ]
 }
 
@@ -181,19 +158,9 @@ where
 {
     let two = [RawInt::<LeU16>::new(1), RawInt::<LeU16>::new(2)];
     let types = [Const::<ColumnType, u8>::new(ColumnType::MYSQL_TYPE_JSON)];
-    let pairs = [
-        Entry {
-            key: RawInt::<u8>::new(1),
-            value: RawInt::<LeU16>::new(2),
-        },
-        Entry {
-            key: RawInt::<u8>::new(3),
-            value: RawInt::<LeU16>::new(0x0405),
-        },
-    ];
     [
-        are_numbers(heap, alloc, &two) == [true; 6],
-        are_others(heap, alloc, &types, &pairs) == [true; 4],
+        are_numbers(heap, alloc, &two) == [true; 5],
+        are_others(heap, alloc, &types) == [true; 2],
         are_texts(heap, alloc, texts),
     ]
 }

@@ -1,7 +1,7 @@
 // Memory that is refused leaves nothing half written: the buffer is as it was, whichever request is
 // refused. `packet_tests` has copies and pushes; the texts of two puts stand with the texts.
 
-use mysql_wire::misc::raw::bytes::{EofBytes, LenEnc, U8Bytes};
+use mysql_wire::misc::raw::bytes::{EofBytes, LenEnc};
 use mysql_wire::misc::raw::int::{LeU16, LeU32};
 use mysql_wire::misc::raw::seq::Seq;
 use mysql_wire::misc::raw::{Both, RawBytes, RawInt};
@@ -22,9 +22,6 @@ type List<'a> = Seq<'a, RawInt<LeU16>, LeU32, Global>;
 const NUMBERS: &[u8; 84] =
     b"\x28\0\0\0BBBBBBBBBBBBBBBBBBBBBBBBBBBBBBBBBBBBBBBBBBBBBBBBBBBBBBBBBBBBBBBBBBBBBBBBBBBBBBBB";
 
-// Two texts, one after the other, and behind their lengths.
-const TEXTS: &[u8; 44] = b"\x28aaaaaaaaaaaaaaaaaaaaaaaaaaaaaaaaaaaaaaaa\x02bb";
-
 // A number, a text of 40 bytes behind its length, and a text to the end.
 const ROW: &[u8; 103] =
     b"\x02\x01\x28aaaaaaaaaaaaaaaaaaaaaaaaaaaaaaaaaaaaaaaabbbbbbbbbbbbbbbbbbbbbbbbbbbbbbbbbbbbbbbbbbbbbbbbbbbbbbbbbbbb";
@@ -37,17 +34,12 @@ fn row<'a>(text: &'a [u8], end: &'a [u8]) -> Row<'a> {
 
 // An element in the middle is refused too, and the second of two texts. An owned text is written
 // like a borrowed one, and its own memory is another's.
-fn are_refused(heap: &Heap, owned: &RawBytes<'_, LenEnc>, list: &List<'_>) -> [bool; 4] {
-    let texts = Both(
-        RawBytes::<U8Bytes>::from([b'a'; 40].as_slice()),
-        RawBytes::<U8Bytes>::from(b"bb".as_slice()),
-    );
+fn are_refused(heap: &Heap, owned: &RawBytes<'_, LenEnc>, list: &List<'_>) -> [bool; 3] {
     let mut text = [b'a'; 201];
     text[0] = 0xc8;
     [
         is_refused_at_least(heap, owned, &text, 2),
         is_refused_at_least(heap, list, NUMBERS, 3),
-        is_refused_at_least(heap, &texts, TEXTS, 2),
         is_refused_at_least(heap, &row(&[b'a'; 40], &[b'b'; 60]), ROW, 3),
     ]
 }

@@ -5,11 +5,8 @@ use crate::at::{Refused, are_refused, is_at};
 use crate::kind::Kind;
 use mysql_wire::io::InvalidReason;
 use mysql_wire::misc::raw::Const;
-use refusing_allocator::Refusing;
 use std::alloc::Allocator;
-use std::test::Fail;
 use test_support::answers::Fault;
-use test_support::facts::all_hold;
 use test_support::fields::gives;
 use test_support::fixture::Heap;
 
@@ -38,7 +35,8 @@ const NO_KIND: &[Refused<()>] = &[
 
 const NO_ONCE: &[Refused<()>] = &[((), 0, b"\x02\x01", UNKNOWN, 1)];
 
-fn are_read<A: Allocator + Copy>(heap: &Heap, alloc: A) -> [bool; 4] {
+/// Whether they are.
+pub fn are_read<A: Allocator + Copy>(heap: &Heap, alloc: A) -> [bool; 4] {
     let row = Const::<Kind, u8>::new(Kind::Row);
     let end = Const::<Kind, u8>::new(Kind::End);
     let once = Const::<Once, u8>::new(Once(1));
@@ -48,10 +46,4 @@ fn are_read<A: Allocator + Copy>(heap: &Heap, alloc: A) -> [bool; 4] {
         gives(alloc, (), b"\x01\x02", &once, 1),
         are_refused::<Const<Once, u8>, (), A>(heap, alloc, Some(1), NO_ONCE),
     ]
-}
-
-#[test]
-fn constants_of_ones_own_are_written_and_read(rt: HostRuntime) -> Result<(), Fail> {
-    let heap = &Refusing::new(rt.alloc(), 0);
-    all_hold(&are_read(heap, heap))
 }

@@ -2,17 +2,13 @@
 
 use crate::at::{Refused, UNCUT, WHOLE, is_field};
 use crate::traits::is_copied;
-use mysql_wire::constants::{ColumnType, SessionStateType};
-use mysql_wire::misc::raw::bytes::EofBytes;
+use mysql_wire::constants::SessionStateType;
 use mysql_wire::misc::raw::int::{LeU16, LeU32};
-use mysql_wire::misc::raw::{Both, Either, RawBytes, RawInt, RawSeq, Slice};
-use refusing_allocator::{NEVER, Refusing};
+use mysql_wire::misc::raw::{Both, Either, RawInt, RawSeq, Slice};
+use refusing_allocator::NEVER;
 use std::alloc::Allocator;
 use std::borrow::CowSlice;
-use std::test::Fail;
 use test_support::answers::Fault;
-use test_support::facts::all_hold;
-use test_support::fields::{gives, is_written};
 use test_support::fixture::Heap;
 use test_support::reference::between;
 
@@ -21,23 +17,21 @@ const NO_BYTES: &[Refused<usize>] = &[(usize::MAX, 0, b"ab", Fault::UnexpectedEo
 // Bytes whose number the context says.
 fn are_bytes<A: Allocator + Copy>(heap: &Heap, alloc: A) -> bool {
     let two = (&Slice(b"ab"), 2, 0, b"ab\xff".as_slice(), 2, WHOLE);
-    let one = (&Slice(b"a"), 1, 0, b"ab".as_slice(), 1, WHOLE);
     let none = (&Slice(b""), 0, 0, b"ab".as_slice(), 0, WHOLE);
     let are_two = is_field(heap, alloc, None, &two, NO_BYTES);
-    let is_one = is_field(heap, alloc, None, &one, &[]);
-    are_two & is_one & is_field(heap, alloc, None, &none, &[])
-}
-
-// Whether numbers of one byte in a row are written and read, and one byte is left.
-fn is_row_of<U, A: Allocator + Copy>(heap: &Heap, alloc: A, input: &[u8]) -> bool {
-    let len = input.len().saturating_sub(1);
-    let numbers: RawSeq<'_, u8, U, A> = RawSeq::new(CowSlice::Borrowed(between(input, 0, len)));
-    let value = (&numbers, len, 0, input, len, WHOLE);
-    is_field(heap, alloc, None, &value, &[])
+    are_two & is_field(heap, alloc, None, &none, &[])
 }
 
 // Numbers that name changes of a session's state.
 type States<'a, A> = RawSeq<'a, u8, SessionStateType, A>;
+
+// Whether numbers of one byte in a row are written and read, and one byte is left.
+fn is_row_of_states<A: Allocator + Copy>(heap: &Heap, alloc: A, input: &[u8]) -> bool {
+    let len = input.len().saturating_sub(1);
+    let numbers: States<'_, A> = RawSeq::new(CowSlice::Borrowed(between(input, 0, len)));
+    let value = (&numbers, len, 0, input, len, WHOLE);
+    is_field(heap, alloc, None, &value, &[])
+}
 
 fn is_owned<A: Allocator + Copy>(alloc: A, states: States<'_, A>, bytes: &[u8]) -> bool {
     match states.into_owned(alloc) {
@@ -82,43 +76,22 @@ fn is_either<A: Allocator + Copy>(heap: &Heap, alloc: A) -> bool {
     is_left & is_field(heap, alloc, None, &one, &[])
 }
 
-// A number, and behind it the rest as a text.
-type Row<'a, A> = Both<RawInt<LeU16>, RawBytes<'a, EofBytes, A>>;
-
-// Whether a row is written, and read from all of an input, which takes no memory: its text is
-// borrowed.
-fn is_row<A: Allocator + Copy>(heap: &Heap, alloc: A, input: &[u8]) -> bool {
-    let row: Row<'_, A> = Both(RawInt::new(258), RawBytes::from(b"hi".as_slice()));
-    let is_written = is_written(heap, &row, input);
-    heap.refuse(0);
-    is_written & gives(alloc, ((), ()), input, &row, 0) & (heap.left() == 0)
-}
-
 fn are_numbers<A: Allocator + Copy>(heap: &Heap, alloc: A) -> bool {
     let numbers = Both(RawInt::<LeU16>::new(258), RawInt::<u8>::new(3));
     let value = (&numbers, ((), ()), 0, b"\x02\x01\x03\xff".as_slice(), 3, 2);
     is_field(heap, alloc, None, &value, &[])
 }
 
-// Bytes and numbers in a row, one of two values by each side, and two one after the other.
-fn are_rows<A: Allocator + Copy>(heap: &Heap, alloc: A) -> [bool; 11] {
+/// Bytes and numbers in a row, one of two values by each side, and two one after the other.
+pub fn are_rows<A: Allocator + Copy>(heap: &Heap, alloc: A) -> [bool; 8] {
     [
         are_bytes(heap, alloc),
-        is_row_of::<SessionStateType, A>(heap, alloc, b"\0\x05\x09\xff"),
-        is_row_of::<ColumnType, A>(heap, alloc, b"\xf4\xff"),
-        is_row_of::<(), A>(heap, alloc, b"a\xff"),
-        is_row_of::<(), A>(heap, alloc, b"\xff"),
+        is_row_of_states(heap, alloc, b"\0\x05\x09\xff"),
+        is_row_of_states(heap, alloc, b"\xff"),
         are_shown(heap, alloc, b"\0\x05\x09"),
         is_either(heap, alloc),
         Number::Left(RawInt::new(1)).unwrap_left().0 == 1,
         Number::Right(RawInt::new(1)).unwrap_right().0 == 1,
         are_numbers(heap, alloc),
-        is_row(heap, alloc, b"\x02\x01hi"),
     ]
-}
-
-#[test]
-fn values_in_a_row_are_written_and_read(rt: HostRuntime) -> Result<(), Fail> {
-    let heap = &Refusing::new(rt.alloc(), 0);
-    all_hold(&are_rows(heap, heap))
 }

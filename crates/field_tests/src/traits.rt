@@ -148,7 +148,7 @@ fn numbers_are_compared_by_their_field(rt: HostRuntime) -> Result<(), Fail> {
     all_hold(&[
         are_same(one, RawInt::new(1)),
         is_less(less, one),
-        are_same(RawInt::<LeI16>::default(), RawInt::new(0)),
+        RawInt::<LeI16>::default().0 == 0,
         is_less(zero, wide),
         is_shown(rt.alloc(), less, "RawInt(-1, PhantomData<_>)"),
         is_shown(rt.alloc(), raw, "RawConst(7, PhantomData<_>)"),
@@ -200,9 +200,7 @@ fn texts_are_compared_by_their_field(rt: HostRuntime) -> Result<(), Fail> {
     let short = RawBytes::<FixedLengthText<1>>::from(b"a".as_slice());
     all_hold(&[
         is_less(text(b"ab"), text(b"b")),
-        is_less(RawBytes::default(), text(b"ab")),
         is_less(short, RawBytes::from(b"ab".as_slice())),
-        is_shown(alloc, text(b"b"), "RawBytes([98], PhantomData<_>)"),
         are_same(text(b"ab"), owned(alloc)),
         is_shown(alloc, owned(alloc), "RawBytes([97, 98], PhantomData<_>)"),
         is_copied(owned(alloc)),

@@ -7,8 +7,8 @@ use std::alloc::Global;
 use std::fmt::{Debug, Display};
 use std::io::{self, ErrorKind};
 use std::test::Fail;
-use test_support::answers;
-use test_support::facts::{all_hold, no_row, wrong_row};
+use test_support::answers::{self, shows_debug};
+use test_support::facts::all_hold;
 
 // Whether an error shows as this text, and has some text for its programmers.
 fn shows<E: Display + Debug>(alloc: Global, error: &E, text: &str) -> bool {
@@ -19,33 +19,20 @@ fn shows<E: Display + Debug>(alloc: Global, error: &E, text: &str) -> bool {
     answers::shows(alloc, error, text) & is_debugged
 }
 
-// Whether a value is debugged as this text.
-fn is_debugged<T: Debug>(alloc: Global, value: &T, text: &str) -> bool {
-    match format!(in alloc; "{value:?}") {
-        Ok(debugged) => debugged.as_str() == text,
-        Err(_) => false,
-    }
-}
-
 const READER: &str =
     "PacketReader { reader: [97], unread: 0, is_lent: false, is_lost: false, reads: 0, .. }";
 
-#[test]
-fn readers_and_writers_are_debugged(rt: HostRuntime) -> Result<(), Fail> {
-    let alloc = rt.alloc();
-    let reader = PacketReader::new(alloc, b"a".as_slice());
-    let writer = PacketWriter::new(alloc, Vec::<u8>::new(alloc));
-    all_hold(&[
-        reader.is_ok_and(|reader| is_debugged(alloc, &reader, READER)),
-        writer.is_ok_and(|writer| {
-            is_debugged(alloc, &writer, "PacketWriter { writer: [], pending: 0 }")
-        }),
-    ])
+fn reader_is_debugged(alloc: Global) -> bool {
+    let reader = PacketReader::new(alloc, b"a".as_slice()).unwrap();
+    shows_debug(alloc, &reader, READER)
 }
 
-type Reason = (InvalidReason, &'static str);
+fn writer_is_debugged(alloc: Global) -> bool {
+    let writer = PacketWriter::new(alloc, Vec::<u8>::new(alloc)).unwrap();
+    shows_debug(alloc, &writer, "PacketWriter { writer: [], pending: 0 }")
+}
 
-const REASONS: &[Reason] = &[
+const REASONS: &[(InvalidReason, &str)] = &[
     (InvalidReason::UnknownValue, "unknown value"),
     (InvalidReason::ConstMismatch, "constant mismatch"),
     (
@@ -62,33 +49,19 @@ const REASONS: &[Reason] = &[
     ),
 ];
 
+// Whether each reason shows as its text, alone and as an error.
+fn reasons_show(alloc: Global) -> bool {
+    let mut all = true;
+    for (reason, text) in REASONS {
+        all &= shows(alloc, reason, *text);
+        all &= shows(alloc, &WireError::InvalidData(*reason), *text);
+    }
+    all
+}
+
+const EOF: &str = "can't parse: buf doesn't have enough data";
+
 const LENGTH: &str = "Invalid length-encoded integer value (starts with 0xfb|0xff)";
-
-// Whether a reason shows as its text, alone and as an error.
-fn is_shown(alloc: Global, row: Reason) -> bool {
-    let (reason, text) = row;
-    shows(alloc, &reason, text) & shows(alloc, &WireError::InvalidData(reason), text)
-}
-
-#[test]
-fn reasons_show_their_texts(rt: HostRuntime) -> Result<(), Fail> {
-    no_row(wrong_row(rt.alloc(), REASONS, is_shown))
-}
-
-#[test]
-fn wire_errors_show_their_texts(rt: HostRuntime) -> Result<(), Fail> {
-    let alloc = rt.alloc();
-    let eof = "can't parse: buf doesn't have enough data";
-    let other = WireError::Other(InvalidLengthEncodedInteger);
-    let gone = WireError::Io(io::Error::other("gone"));
-    all_hold(&[
-        shows(alloc, &InvalidLengthEncodedInteger, LENGTH),
-        shows(alloc, &other, LENGTH),
-        shows(alloc, &WireError::UnexpectedEof, eof),
-        shows(alloc, &WireError::OutOfMemory, MEMORY),
-        shows(alloc, &gone, "gone"),
-    ])
-}
 
 const MEMORY: &str = "Out of memory";
 
@@ -96,25 +69,35 @@ const SYNC: &str = "Packets out of sync";
 
 const TOO_LARGE: &str = "Packet is larger than max_allowed_packet";
 
-#[test]
-fn codec_errors_show_their_texts(rt: HostRuntime) -> Result<(), Fail> {
-    let alloc = rt.alloc();
-    let gone = PacketCodecError::Io(io::Error::other("gone"));
-    all_hold(&[
-        shows(alloc, &PacketCodecError::PacketTooLarge, TOO_LARGE),
-        shows(alloc, &PacketCodecError::PacketsOutOfSync, SYNC),
-        shows(alloc, &PacketCodecError::OutOfMemory, MEMORY),
-        shows(alloc, &gone, "IO error: `gone'"),
-    ])
-}
-
 const END: &str = "unexpected end of input inside a packet";
 
 #[test]
-fn errors_of_readers_and_writers_show_their_texts(rt: HostRuntime) -> Result<(), Fail> {
+fn errors_show_their_texts(rt: HostRuntime) -> Result<(), Fail> {
+    let alloc = rt.alloc();
+    let other = WireError::Other(InvalidLengthEncodedInteger);
+    let gone = WireError::Io(io::Error::other("gone"));
+    let codec_gone = PacketCodecError::Io(io::Error::other("gone"));
+    all_hold(&[
+        reasons_show(alloc),
+        shows(alloc, &InvalidLengthEncodedInteger, LENGTH),
+        shows(alloc, &other, LENGTH),
+        shows(alloc, &WireError::UnexpectedEof, EOF),
+        shows(alloc, &WireError::OutOfMemory, MEMORY),
+        shows(alloc, &gone, "gone"),
+        shows(alloc, &PacketCodecError::PacketTooLarge, TOO_LARGE),
+        shows(alloc, &PacketCodecError::PacketsOutOfSync, SYNC),
+        shows(alloc, &PacketCodecError::OutOfMemory, MEMORY),
+        shows(alloc, &codec_gone, "IO error: `gone'"),
+    ])
+}
+
+#[test]
+fn readers_and_writers_show_their_texts(rt: HostRuntime) -> Result<(), Fail> {
     let alloc = rt.alloc();
     let eof = PacketIoError::Io(io::Error::from(ErrorKind::UnexpectedEof));
     all_hold(&[
+        reader_is_debugged(alloc),
+        writer_is_debugged(alloc),
         shows(alloc, &eof, "IO error: `unexpected end of file'"),
         shows(alloc, &PacketIoError::UnexpectedEnd, END),
         shows(alloc, &PacketIoError::WriteZero, "write accepted no bytes"),

@@ -7,8 +7,9 @@ use mysql_wire::io::{BufMutExt, ParseBuf, WireError, WriteMysqlExt};
 use mysql_wire::misc::{lenenc_int_len, lenenc_str_len};
 use std::alloc::Global;
 use std::convert::AsSlice;
+use std::test::Fail;
 use test_support::answers::{Fault, told};
-use test_support::facts::{same, same_if_any};
+use test_support::facts::{all_hold, same, same_if_any};
 use test_support::reference::between;
 
 // ---- length-encoded integers
@@ -184,20 +185,21 @@ fn answer<B: BufMutExt>(buf: &mut B, text: Option<&[u8]>, number: u64) -> Result
     })
 }
 
-// What it answers in so much room, and what it leaves.
-fn put(
-    alloc: Global,
-    text: Option<&[u8]>,
-    number: u64,
-    room: usize,
-) -> (Result<(), Fault>, Vec<u8>) {
-    let mut buf = Vec::new(alloc).limit(room);
-    let put = answer(&mut buf, text, number);
-    (put, buf.into_inner())
+// How much is left of a put that writes so many bytes, of which so many are in front of a text:
+// all where there is room for that, and else its length, where there is room for that, and else
+// nothing.
+fn left_of(front: usize, whole: usize, room: usize) -> usize {
+    if room >= whole {
+        whole
+    } else if room >= front {
+        front
+    } else {
+        0
+    }
 }
 
-// Whether a put of a text, or else of a number, leaves all that it writes where there is room for
-// that, and else its length, where there is room for that, and else nothing.
+// Whether a put of a text, or else of a number, leaves so much of all that it writes in so much
+// room, and no memory is the answer where that is not all.
 fn leaves(
     alloc: Global,
     text: Option<&[u8]>,
@@ -206,47 +208,66 @@ fn leaves(
     front: usize,
     whole: &[u8],
 ) -> bool {
-    let (answer, left) = put(alloc, text, number, room);
-    let len = if room >= whole.len() {
-        whole.len()
-    } else if room >= front {
-        front
+    let len = left_of(front, whole.len(), room);
+    let wanted = if len == whole.len() {
+        Ok(())
     } else {
-        0
+        Err(Fault::OutOfMemory)
     };
-    let is_whole = len == whole.len();
-    let mut all = (answer == Ok(())) == is_whole;
-    all &= (answer == Err(Fault::OutOfMemory)) == !is_whole;
-    all & same(left.as_slice(), between(whole, 0, len))
+    let mut buf = Vec::new(alloc).limit(room);
+    let is_answered = answer(&mut buf, text, number) == wanted;
+    is_answered & same(buf.into_inner().as_slice(), between(whole, 0, len))
 }
 
 // Whether a text leaves so much in a buffer of each size.
 fn is_text_left(alloc: Global, text: &[u8]) -> bool {
-    let (_, whole) = put(alloc, Some(text), 0, usize::MAX);
+    let mut whole = Vec::new(alloc);
+    let mut all = whole.put_lenenc_str(text).is_ok() & whole.ends_with(text);
     let front = whole.len().saturating_sub(text.len());
-    let mut all = lenenc_int_len(text.len() as u64) == front as u64;
+    all &= lenenc_int_len(text.len() as u64) == front as u64;
     all &= lenenc_str_len(text) == whole.len() as u64;
-    all &= whole.ends_with(text);
     for room in 0..whole.len().saturating_add(2) {
         all &= leaves(alloc, Some(text), 0, room, front, whole.as_slice());
     }
     all
 }
 
-#[test]
-fn numbers_and_texts_are_put_and_eaten(rt: HostRuntime) {
-    let alloc = rt.alloc();
-    let mut all = all_are_put(alloc);
+fn numbers_are_spelled(alloc: Global) -> bool {
+    let mut all = true;
     for row in WRITTEN {
         all &= is_spelled(alloc, row);
     }
+    all
+}
+
+fn texts_are_eaten() -> bool {
+    let mut all = true;
     for row in EATEN {
         all &= is_eaten(row);
     }
-    let bytes = [b'a'; 300];
-    for len in [0usize, 1, 3, 250, 251, 300] {
-        all &= is_text_left(alloc, &bytes[..len]);
+    all
+}
+
+// How long texts are.
+const LENGTHS: &[usize] = &[0, 1, 3, 250, 251, 300];
+
+fn texts_are_left(alloc: Global) -> bool {
+    let mut all = true;
+    for len in LENGTHS {
+        all &= is_text_left(alloc, between(&[b'a'; 300], 0, *len));
     }
-    // The length of a refused text is left.
-    assert!(rt; all & leaves(alloc, Some(b"abc"), 0, 2, 1, b"\x03abc"));
+    all
+}
+
+#[test]
+fn numbers_and_texts_are_put_and_eaten(rt: HostRuntime) -> Result<(), Fail> {
+    let alloc = rt.alloc();
+    all_hold(&[
+        all_are_put(alloc),
+        numbers_are_spelled(alloc),
+        texts_are_eaten(),
+        texts_are_left(alloc),
+        // The length of a refused text is left.
+        leaves(alloc, Some(b"abc"), 0, 2, 1, b"\x03abc"),
+    ])
 }

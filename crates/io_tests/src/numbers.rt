@@ -4,7 +4,7 @@
 use crate::lenenc::{Lenenc, MARKS, WRITTEN};
 use mysql_wire::io::ParseBuf;
 use std::test::Fail;
-use test_support::facts::{no_row, same};
+use test_support::facts::{all_hold, same};
 use test_support::fields::last;
 use test_support::reference::between;
 
@@ -211,15 +211,13 @@ pub fn is_read<R: Readers>(row: &Row<'_, R::Number>, eaten: usize) -> bool {
     all
 }
 
-/// The first row whose number isn't read so.
-pub fn wrong_row<R: Readers>(rows: &[Row<'_, R::Number>], eaten: usize) -> Option<usize> {
-    let mut wrong = None;
-    for (i, row) in rows.iter().enumerate() {
-        if !is_read::<R>(row, eaten) && wrong.is_none() {
-            wrong = Some(i);
-        }
+// Whether each row's number is read so.
+fn are_read<R: Readers>(rows: &[Row<'_, R::Number>], eaten: usize) -> bool {
+    let mut all = true;
+    for row in rows {
+        all &= is_read::<R>(row, eaten);
     }
-    wrong
+    all
 }
 
 const UNSIGNED_LE: &[Row<u128>] = &[
@@ -382,11 +380,12 @@ const SIGNED_BE: &[Row<i128>] = &[
 
 #[test]
 fn numbers_are_read(_: HostRuntime) -> Result<(), Fail> {
-    let wrong = wrong_row::<UnsignedLe>(UNSIGNED_LE, 0)
-        .or(wrong_row::<UnsignedBe>(UNSIGNED_BE, 0))
-        .or(wrong_row::<SignedLe>(SIGNED_LE, 0))
-        .or(wrong_row::<SignedBe>(SIGNED_BE, 0))
-        .or(wrong_row::<Lenenc>(WRITTEN, 1))
-        .or(wrong_row::<Lenenc>(MARKS, 1));
-    no_row(wrong)
+    all_hold(&[
+        are_read::<UnsignedLe>(UNSIGNED_LE, 0),
+        are_read::<UnsignedBe>(UNSIGNED_BE, 0),
+        are_read::<SignedLe>(SIGNED_LE, 0),
+        are_read::<SignedBe>(SIGNED_BE, 0),
+        are_read::<Lenenc>(WRITTEN, 1),
+        are_read::<Lenenc>(MARKS, 1),
+    ])
 }

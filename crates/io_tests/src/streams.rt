@@ -12,7 +12,7 @@ use test_support::answers::{Fault, told};
 use test_support::facts::{all_hold, same};
 use test_support::fields::{MORE, last};
 use test_support::fixture::Heap;
-use test_support::readers::{Narrow, Slow};
+use test_support::readers::{Narrow, Parts};
 use test_support::reference::between;
 
 // ---- numbers
@@ -132,13 +132,8 @@ fn is_text_read(
     until_fault: usize,
     kind: ErrorKind,
 ) -> bool {
-    let mut reader = Slow {
-        bytes,
-        at_once,
-        until_fault,
-        kind,
-        odd_reads: 0,
-    };
+    let parts = [(bytes, 0)];
+    let mut reader = Parts::new(&parts, at_once, until_fault, kind);
     let read = reads(alloc, &mut reader, &[b'a'; 300]);
     let is_met = reader.until_fault > until_fault;
     if ends(is_met, kind).is_ok() {

@@ -92,6 +92,42 @@ impl<'a, A: Allocator + Copy> Source<'a, A> {
         }
     }
 
+    /// Whether a packet was skipped, or there is none.
+    pub fn skip(&mut self) -> Result<bool, Told> {
+        if !self.reader.can_skip(&self.codec) {
+            return Err(Told::Fallen);
+        }
+        match self.reader.skip_packet(&mut self.codec) {
+            Ok(is_there) => Ok(is_there),
+            Err(error) => Err(told(&error)),
+        }
+    }
+
+    /// Whether a packet was copied to nowhere, or there is none.
+    pub fn copy(&mut self) -> Result<bool, Told> {
+        if !self.reader.can_copy(&self.codec) {
+            return Err(Told::Fallen);
+        }
+        match self.reader.copy_packet(&mut self.codec, &mut io::sink()) {
+            Ok(is_there) => Ok(is_there),
+            Err(error) => Err(told(&error)),
+        }
+    }
+
+    /// Whether a packet was passed on, or there is none.
+    pub fn relay(&mut self, to: &mut Outlet<A>) -> Result<bool, Told> {
+        if !self.reader.can_copy(&self.codec) {
+            return Err(Told::Fallen);
+        }
+        match self
+            .reader
+            .relay_packet(&mut self.codec, &mut to.writer, &mut to.codec)
+        {
+            Ok(is_there) => Ok(is_there),
+            Err(error) => Err(told(&error)),
+        }
+    }
+
     /// Whether this packet stands ready.
     pub fn lends(&self, packet: &[u8]) -> bool {
         self.reader.is_ready(&self.codec) && self.reader.packet() == packet

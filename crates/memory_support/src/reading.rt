@@ -9,7 +9,7 @@ use mysql_wire::misc::raw::{Both, Either, RawInt};
 use mysql_wire::proto::Wire;
 use mysql_wire::proto::codec::parse_packet_in;
 use std::alloc::Allocator;
-use test_support::answers::Fault;
+use test_support::answers::{Fault, told};
 
 /// What reads it.
 #[derive(Clone, Copy)]
@@ -26,37 +26,28 @@ pub enum Reading {
     Both,
 }
 
-fn read_row<'de, T, A>(alloc: A, reading: Reading, buf: &mut ParseBuf<'de>) -> Result<T, WireError>
+fn read_side<'de, T, A>(alloc: A, buf: &mut ParseBuf<'de>) -> Result<T, WireError>
 where
     A: Allocator + Copy,
     T: Wire<'de, A, Ctx = ()>,
 {
-    if matches!(reading, Reading::Either) {
-        match rows::either::<RawInt<u8>, T, A>(alloc, Either::Right(()), buf)? {
-            Either::Right(value) => Ok(value),
-            Either::Left(_) => Err(WireError::UnexpectedEof),
-        }
-    } else {
-        let Both(value, number) = rows::both::<T, RawInt<u8>, A>(alloc, ((), ()), buf)?;
-        if number.0 == 2 {
-            Ok(value)
-        } else {
-            Err(WireError::UnexpectedEof)
-        }
+    match rows::either::<RawInt<u8>, T, A>(alloc, Either::Right(()), buf) {
+        Ok(Either::Right(value)) => Ok(value),
+        Ok(Either::Left(_)) => Err(WireError::UnexpectedEof),
+        Err(error) => Err(error),
     }
 }
 
-fn read_packet<'de, T, A>(alloc: A, by_law: bool, input: &'de [u8]) -> Result<(T, usize), WireError>
+fn read_first<'de, T, A>(alloc: A, buf: &mut ParseBuf<'de>) -> Result<T, WireError>
 where
     A: Allocator + Copy,
     T: Wire<'de, A, Ctx = ()>,
 {
-    let (value, rest) = if by_law {
-        laws::packet_back::<T, A>(alloc, (), input)?
-    } else {
-        parse_packet_in::<T, A>(alloc, (), input)?
-    };
-    Ok((value, rest.len()))
+    match rows::both::<T, RawInt<u8>, A>(alloc, ((), ()), buf) {
+        Ok(Both(value, number)) if number.0 == 2 => Ok(value),
+        Ok(_) => Err(WireError::UnexpectedEof),
+        Err(error) => Err(error),
+    }
 }
 
 fn read_front<'de, T, A>(
@@ -74,8 +65,20 @@ where
         Reading::ParseIn => buf.parse_in(alloc, ()),
         Reading::ParseUncheckedIn => buf.parse_unchecked_in(alloc, ()),
         Reading::ParseBack => field_laws::parse_back(alloc, (), buf),
-        row => read_row(alloc, row, buf),
+        Reading::Either => read_side(alloc, buf),
+        _ => read_first(alloc, buf),
     }
+}
+
+fn read_buf<'de, T, A>(alloc: A, reading: Reading, input: &'de [u8]) -> (Result<T, Fault>, usize)
+where
+    A: Allocator + Copy,
+    T: Wire<'de, A, Ctx = ()>,
+    requires { HasBytes T.Size.SIZE input.now }
+{
+    let mut buf = ParseBuf(input);
+    let answer = told(read_front(alloc, reading, &mut buf));
+    (answer, buf.len())
 }
 
 /// Reads a value from the front of the input. The answer has it, or what was missing, and how many
@@ -86,17 +89,14 @@ where
     T: Wire<'de, A, Ctx = ()>,
     requires { HasBytes T.Size.SIZE input.now }
 {
-    if matches!(reading, Reading::ParsePacketIn | Reading::PacketBack) {
-        let by_law = matches!(reading, Reading::PacketBack);
-        return match read_packet(alloc, by_law, input) {
-            Ok((value, left)) => (Ok(value), left),
-            Err(error) => (Err(Fault::of(&error)), input.len()),
-        };
-    }
-    let mut buf = ParseBuf(input);
-    match read_front(alloc, reading, &mut buf) {
-        Ok(value) => (Ok(value), buf.len()),
-        Err(error) => (Err(Fault::of(&error)), buf.len()),
+    let packet = match reading {
+        Reading::ParsePacketIn => parse_packet_in::<T, A>(alloc, (), input),
+        Reading::PacketBack => laws::packet_back::<T, A>(alloc, (), input),
+        _ => return read_buf(alloc, reading, input),
+    };
+    match packet {
+        Ok((value, rest)) => (Ok(value), rest.len()),
+        Err(error) => (Err(Fault::of(&error)), input.len()),
     }
 }
 

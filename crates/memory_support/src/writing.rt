@@ -32,12 +32,17 @@ pub enum Writing {
 
 const TEXT: &[u8] = b"0123456789012345678901234567890123456789";
 
-fn put<A: Allocator>(writing: Writing, buf: &mut Vec<u8, A>) -> Result<(), WireError> {
+fn put_text<A: Allocator>(writing: Writing, buf: &mut Vec<u8, A>) -> Result<(), WireError> {
     match writing {
         Writing::LenencInt => buf.put_lenenc_int(0x1_02_03),
         Writing::LenencStr => buf.put_lenenc_str(TEXT),
         Writing::U8Str => buf.put_u8_str(TEXT),
-        Writing::U32Str => buf.put_u32_str(TEXT),
+        _ => buf.put_u32_str(TEXT),
+    }
+}
+
+fn put_number<A: Allocator>(writing: Writing, buf: &mut Vec<u8, A>) -> Result<(), WireError> {
+    match writing {
         Writing::U24 => buf.put_u24_le(0x1_02_03),
         Writing::I24 => buf.put_i24_le(-1),
         Writing::U48 => buf.put_u48_le(0x1_02_03),
@@ -46,16 +51,26 @@ fn put<A: Allocator>(writing: Writing, buf: &mut Vec<u8, A>) -> Result<(), WireE
     }
 }
 
-/// Writes it behind what the vector holds; where that fails, why.
-pub fn write<A: Allocator>(writing: Writing, buf: &mut Vec<u8, A>) -> Option<Fault> {
-    let written = match writing {
+fn serialize<A: Allocator>(writing: Writing, buf: &mut Vec<u8, A>) -> Result<(), WireError> {
+    match writing {
         Writing::Value => RawInt::<LeU16>::new(0x201).serialize(buf),
         Writing::Number => <LeU16 as IntRepr>::serialize(0x201, buf),
         Writing::Text => <U8Bytes as BytesRepr>::serialize(TEXT, buf),
         Writing::List => <LeU32 as SeqRepr>::serialize(&[RawInt::<LeU16>::new(0x201)], buf),
-        Writing::EmptyText => RawBytes::<U8Bytes>::default().serialize(buf),
+        _ => RawBytes::<U8Bytes>::default().serialize(buf),
+    }
+}
+
+/// Writes it behind what the vector holds; where that fails, why.
+pub fn write<A: Allocator>(writing: Writing, buf: &mut Vec<u8, A>) -> Option<Fault> {
+    let written = match writing {
+        Writing::Value | Writing::Number | Writing::Text | Writing::List | Writing::EmptyText =>
+            serialize(writing, buf),
+        Writing::LenencInt | Writing::LenencStr | Writing::U8Str | Writing::U32Str => {
+            put_text(writing, buf)
+        }
         Writing::VarlenUint(number) => write_varlen_uint(buf, number),
-        other => put(other, buf),
+        _ => put_number(writing, buf),
     };
     told(written).err()
 }

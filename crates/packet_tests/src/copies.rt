@@ -1,46 +1,18 @@
-//! Packets from readers that are copied to a writer: whole, cut, ended, failing, refused.
+//! Packets from readers that are copied to a writer: whole, cut, ended, failing, refused. And long
+//! ones that are copied or passed on.
 
-use crate::said::{Said, said_of};
-use mysql_wire::proto::codec::PacketCodec;
-use mysql_wire::proto::packet_io::PacketReader;
-use refusing_allocator::{NEVER, Refusing};
-use std::alloc::{Allocator, Global};
-use std::io::{ErrorKind, Read, Write};
+use crate::said::Said;
+use crate::taken::{self, Row, Way, goes, wrong_row};
+use std::alloc::Global;
 use std::test::Fail;
-use test_support::facts::{all_hold, no_row, same};
-use test_support::readers::{Count, Narrow, Parts, Slow};
-
-// A reader of these bytes under a limit, a writer, and what they say as packets are copied, call
-// after call.
-#[derive(Clone, Copy)]
-struct Row<'a> {
-    bytes: &'a [u8],
-    at_once: usize,
-    until_fault: usize,
-    // How many bytes a write takes, and which write fails.
-    room: usize,
-    until_refusal: usize,
-    limit: usize,
-    first_id: u8,
-    said: &'a [Said],
-    written: &'a [u8],
-    unread: &'a [u8],
-    id: u8,
-}
+use test_support::facts::no_row;
 
 // A packet, and the end.
 const ROW: Row = Row {
-    bytes: b"\x03\0\0\0abc",
-    at_once: usize::MAX,
-    until_fault: usize::MAX,
-    room: usize::MAX,
-    until_refusal: usize::MAX,
-    limit: 3,
-    first_id: 0,
+    parts: &[(b"\x03\0\0\0abc", 0)],
     said: &[Said::Packet, Said::End],
-    written: b"abc",
-    unread: b"",
-    id: 1,
+    out: b"abc",
+    ..taken::ROW
 };
 
 const ROWS: &[Row] = &[
@@ -53,35 +25,36 @@ const ROWS: &[Row] = &[
     },
     // Nothing.
     Row {
-        bytes: b"",
+        parts: &[(b"", 0)],
         said: &[Said::End],
-        written: b"",
-        id: 0,
+        out: b"",
+        ids_after: (0, 7),
         ..ROW
     },
     // Empty packets, and the id behind 255.
     Row {
-        bytes: b"\0\0\0\xff\0\0\0\0",
+        parts: &[(b"\0\0\0\xff\0\0\0\0", 0)],
         limit: 0,
-        first_id: 255,
+        later_limit: 0,
+        ids: (255, 7),
         said: &[Said::Packet, Said::Packet, Said::End],
-        written: b"",
+        out: b"",
         ..ROW
     },
     // Two packets in one read, and the front of one more.
     Row {
-        bytes: b"\x01\0\0\0a\x02\0\0\x01bc\x01\0",
+        parts: &[(b"\x01\0\0\0a\x02\0\0\x01bc\x01\0", 0)],
         said: &[Said::Packet, Said::Packet, Said::UnexpectedEnd],
         unread: b"\x01\0",
-        id: 2,
+        ids_after: (2, 7),
         ..ROW
     },
     // The end inside a packet.
     Row {
-        bytes: b"\x03\0\0\0ab",
+        parts: &[(b"\x03\0\0\0ab", 0)],
         said: &[Said::UnexpectedEnd, Said::UnexpectedEnd],
-        written: b"ab",
-        id: 0,
+        out: b"ab",
+        ids_after: (0, 7),
         ..ROW
     },
     // A read fails inside the packet, and the copy goes on.
@@ -102,104 +75,39 @@ const ROWS: &[Row] = &[
     Row {
         room: 0,
         said: &[Said::WriteZero, Said::WriteZero],
-        written: b"",
+        out: b"",
         unread: b"abc",
-        id: 0,
+        ids_after: (0, 7),
         ..ROW
     },
     // Another id, and past the limit: nothing of the chunk is written, and its header stays.
     Row {
-        bytes: b"\x01\0\0\x05a",
+        parts: &[(b"\x01\0\0\x05a", 0)],
         said: &[Said::OutOfSync, Said::OutOfSync],
-        written: b"",
+        out: b"",
         unread: b"\x01\0\0\x05a",
-        id: 0,
+        ids_after: (0, 7),
         ..ROW
     },
     Row {
-        bytes: b"\x04\0\0\0abcd",
+        parts: &[(b"\x04\0\0\0abcd", 0)],
         said: &[Said::TooLarge, Said::TooLarge],
-        written: b"",
+        out: b"",
         unread: b"\x04\0\0\0abcd",
-        id: 0,
+        ids_after: (0, 7),
         ..ROW
     },
 ];
 
-// Copies a packet, where it can be copied.
-fn copies<R: Read, W: Write, A: Allocator + Copy>(
-    codec: &mut PacketCodec,
-    reader: &mut PacketReader<R, A>,
-    writer: &mut W,
-) -> Said {
-    if !reader.can_copy(codec) {
-        return Said::Wrong;
-    }
-    match reader.copy_packet(codec, writer) {
-        Ok(true) => Said::Packet,
-        Ok(false) => Said::End,
-        Err(error) => said_of(&error),
-    }
-}
-
-// Whether a reader goes as the row says, where this request for memory is refused, and whether one
-// was.
-fn goes_without(alloc: Global, nth: u64, row: &Row) -> (bool, bool) {
-    let heap = Refusing::new(alloc, nth);
-    let input = Slow {
-        bytes: row.bytes,
-        at_once: row.at_once,
-        until_fault: row.until_fault,
-        kind: ErrorKind::Interrupted,
-        odd_reads: 0,
-    };
-    let Ok(mut reader) = PacketReader::new(&heap, input) else {
-        return (false, false);
-    };
-    let mut writer = Narrow::new(alloc, row.room, row.until_refusal, ErrorKind::BrokenPipe);
-    let mut codec = PacketCodec::default();
-    codec.max_allowed_packet = row.limit;
-    codec.begin_at(row.first_id);
-    let mut all = true;
-    for wanted in row.said {
-        let mut said = copies(&mut codec, &mut reader, &mut writer);
-        if said == Said::OutOfMemory {
-            said = copies(&mut codec, &mut reader, &mut writer);
-        }
-        all &= said == *wanted;
-    }
-    all &= same(writer.taken.as_slice(), row.written) & same(reader.unread(), row.unread);
-    all &= (codec.sequence_id() == row.id) & (writer.flushes == 0);
-    (all, heap.has_refused())
-}
-
-// Whether a reader goes as the row says, whichever request for memory is refused: there are the
-// buffer of a read, and its growth where a part of a header is unread.
-fn goes(alloc: Global, row: &Row) -> bool {
-    let (mut all, _) = goes_without(alloc, NEVER, row);
-    for nth in 0..4 {
-        let (is_right, refused) = goes_without(alloc, nth, row);
-        all &= is_right & (!refused | (nth < 2));
-    }
-    all
-}
-
 #[test]
 fn each_packet_is_copied(rt: HostRuntime) -> Result<(), Fail> {
-    let alloc = rt.alloc();
-    let mut wrong = None;
-    for (i, row) in ROWS.iter().enumerate() {
-        if !goes(alloc, row) {
-            wrong = Some(i);
-        }
-    }
-    no_row(wrong)
+    no_row(wrong_row(rt.alloc(), Way::Copied, ROWS, 3, 16384))
 }
 
 // ---- packets of any size
 
-// A packet's parts, as they are read, and how many bytes it has.
-pub const LONG_ROWS: &[(&[(&[u8], usize)], usize, u8)] = &[
+// A packet's parts, as they are read, how many bytes it has, and the id behind it.
+const LONG_ROWS: &[(&[(&[u8], usize)], usize, u8)] = &[
     (&[(b"\x00\x20\0\0", 8192)], 8192, 1),
     (&[(b"\xff\x3f\0\0", 16383)], 16383, 1),
     (&[(b"\x00\x40\0\0", 16384)], 16384, 1),
@@ -218,29 +126,34 @@ pub const LONG_ROWS: &[(&[(&[u8], usize)], usize, u8)] = &[
     ),
 ];
 
-// Whether such a packet is copied whole.
-fn goes_long<A: Allocator + Copy>(alloc: A, parts: &[(&[u8], usize)], len: usize, id: u8) -> bool {
-    let Ok(mut reader) = PacketReader::new(alloc, Parts::new(parts, usize::MAX)) else {
-        return false;
+// Whether such a packet is copied whole, and passed on in chunks of the same lengths.
+fn goes_long(alloc: Global, (parts, zeros, id): (&[(&[u8], usize)], usize, u8)) -> bool {
+    let copied = Row {
+        parts,
+        limit: 16777216,
+        later_limit: 16777216,
+        ids_after: (id, 7),
+        said: &[Said::Packet, Said::End],
+        zeros,
+        ..taken::ROW
     };
-    let mut codec = PacketCodec::default();
-    codec.max_allowed_packet = 16777216;
-    let mut writer = Count { bytes: 0 };
-    let all = copies(&mut codec, &mut reader, &mut writer) == Said::Packet;
-    all & (writer.bytes == len) & (codec.sequence_id() == id)
+    let passed_on = Row {
+        ids_after: (id, id.wrapping_add(7)),
+        zeros: zeros.wrapping_add(4 * usize::from(id)),
+        ..copied
+    };
+    goes(alloc, Way::Copied, &copied, 3, 16384) & goes(alloc, Way::PassedOn, &passed_on, 3, 16384)
 }
 
-// No request is larger than the buffer of one read and its growth.
+// No request is larger than the buffer of one read and its growth, or what is pending of it.
 #[test]
-fn long_packets_are_copied_with_little_memory(rt: HostRuntime) -> Result<(), Fail> {
-    let heap = Refusing::new(rt.alloc(), NEVER);
+fn long_packets_go_with_little_memory(rt: HostRuntime) -> Result<(), Fail> {
+    let alloc = rt.alloc();
     let mut wrong = None;
-    for (i, row) in LONG_ROWS.iter().enumerate() {
-        let (parts, len, id) = *row;
-        if !goes_long(&heap, parts, len, id) {
+    for i in 0..LONG_ROWS.len() {
+        if !goes_long(alloc, LONG_ROWS[i]) {
             wrong = Some(i);
         }
     }
-    no_row(wrong)?;
-    all_hold(&[heap.largest() <= 16384])
+    no_row(wrong)
 }

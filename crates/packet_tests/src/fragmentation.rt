@@ -427,14 +427,18 @@ fn drawn_agrees(alloc: Global, draws: &mut Draws, case: &Case, at: usize) -> boo
     }
 }
 
-// Whether it agrees in these pieces where requests for memory are refused; and where a run stops at
-// the limit, and goes on without one as if it had begun so.
-fn stops_agree(alloc: Global, case: &Case, pieces: &[&[u8]], nth: u64) -> bool {
-    let is_refused = agrees_refused(alloc, case, pieces, nth);
+// Whether a run that stops at the limit goes on without one as if it had begun so.
+fn raised_agrees(alloc: Global, case: &Case, pieces: &[&[u8]]) -> bool {
     match Case::new(alloc, case.first_id, usize::MAX, case.stream) {
-        Ok(unlimited) => is_refused & unlimited.agrees_raised(alloc, case.limit, pieces),
+        Ok(unlimited) => unlimited.agrees_raised(alloc, case.limit, pieces),
         Err(_) => false,
     }
+}
+
+// Whether it agrees in these pieces where requests for memory are refused, and where a run stops at
+// the limit.
+fn stops_agree(alloc: Global, case: &Case, pieces: &[&[u8]], nth: u64) -> bool {
+    agrees_refused(alloc, case, pieces, nth) & raised_agrees(alloc, case, pieces)
 }
 
 fn drawn_stops_agree(alloc: Global, draws: &mut Draws, case: &Case) -> bool {

@@ -4,6 +4,7 @@ use mysql_wire::proto::codec::Visit;
 use refusing_allocator::{NEVER, Refusing};
 use std::alloc::{AllocError, Allocator, Global};
 use std::test::Fail;
+use test_support::case::are_same;
 use test_support::facts::{ensure, same};
 use test_support::receiver::{Receiver, Run, pieces_from};
 use test_support::told::Told;
@@ -83,17 +84,6 @@ fn is_visited<A: Allocator + Copy>(
     let run = visit_all(&mut to, pieces, &mut kept);
     let all = (run == wanted) & !kept.refused & left_alike(decoded, &to);
     all & are_same(decoded.out.as_slice(), kept.packets.as_slice())
-}
-
-fn are_same(some: &[Vec<u8>], others: &[Vec<u8>]) -> bool {
-    if some.len() != others.len() {
-        return false;
-    }
-    let mut all = true;
-    for i in 0..some.len() {
-        all &= same(some[i].as_slice(), others[i].as_slice());
-    }
-    all
 }
 
 // Whether they are the same where each that can be lent is.

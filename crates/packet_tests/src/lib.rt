@@ -31,6 +31,6 @@ mod said;
 #[cfg(test)]
 mod skips;
 #[cfg(test)]
-mod spans;
+mod taken;
 #[cfg(test)]
 mod writer;

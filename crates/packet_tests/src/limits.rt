@@ -169,26 +169,32 @@ fn is_visited(alloc: Global, given: &Limited, packets: &[&[u8]], run: Run) -> bo
     (visited == run) & (tally.bytes == bytes)
 }
 
-// Whether the run over the pieces is what the plain reading of the whole stream says.
-fn agrees(alloc: Global, stream: &[u8], given: &Limited) -> bool {
-    let mut packets = Vec::new(alloc);
+// The packets of a stream as they are plainly read, why there are no more, and how many bytes show
+// that.
+fn read_plainly<'a>(
+    stream: &'a [u8],
+    limits: &[usize],
+    packets: &mut Vec<&'a [u8]>,
+) -> (Told, usize) {
     let mut at = 0;
-    let mut next = (Told::Whole, 0);
     for id in 0..stream.len() + 1 {
-        if next.0 == Told::Whole {
-            next = packet_at(stream, given.limits.as_slice(), at, low_byte(id));
-            if next.0 == Told::Whole {
-                let _ = packets.push(between(stream, at.wrapping_add(4), next.1));
-                at = next.1;
-            }
+        let (told, end) = packet_at(stream, limits, at, low_byte(id));
+        if told != Told::Whole {
+            return (told, end);
         }
+        let _ = packets.push(between(stream, at.wrapping_add(4), end));
+        at = end;
     }
+    (Told::Whole, at)
+}
+
+// Whether the run over the pieces delivers these packets, and stops so.
+fn agrees(alloc: Global, given: &Limited, packets: &[&[u8]], told: Told, shown_at: usize) -> bool {
     let mut to = Receiver::new(alloc, 0);
     let run = to.deliver_limited(given.pieces.as_slice());
-    let appended = pieces_with(given.pieces.as_slice(), next.1);
-    (run == (appended, next.0))
-        & are_packets(to.out.as_slice(), packets.as_slice())
-        & is_visited(alloc, given, packets.as_slice(), run)
+    (run == (pieces_with(given.pieces.as_slice(), shown_at), told))
+        & are_packets(to.out.as_slice(), packets)
+        & is_visited(alloc, given, packets, run)
 }
 
 /// Whether a run over these pieces of the stream, each with a limit, is what the reference says.
@@ -198,5 +204,7 @@ pub fn agrees_under(alloc: Global, draws: &mut Draws, stream: &[u8], pieces: &[&
         limits: Vec::new(alloc),
     };
     give_limits(draws, pieces, &mut given);
-    agrees(alloc, stream, &given)
+    let mut packets = Vec::new(alloc);
+    let (told, shown_at) = read_plainly(stream, given.limits.as_slice(), &mut packets);
+    agrees(alloc, &given, packets.as_slice(), told, shown_at)
 }

@@ -19,11 +19,6 @@ pub enum Said {
     Wrong,
 }
 
-/// Whether these were answered, call after call.
-pub fn are_said(said: &[Said], wanted: &[Said]) -> bool {
-    said == wanted
-}
-
 /// What an error says.
 pub fn said_of(error: &PacketIoError) -> Said {
     match error {

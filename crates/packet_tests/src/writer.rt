@@ -10,6 +10,7 @@ use std::test::Fail;
 use test_support::facts::{no_row, same};
 use test_support::fixture::Heap;
 use test_support::readers::Narrow;
+use test_support::reference::between;
 
 const FRAMED: &[u8] = b"\x03\0\0\0123";
 
@@ -20,24 +21,25 @@ fn is_written<A: Allocator + Copy>(
     output: Narrow,
     first: Said,
     second: Said,
-    between: &[u8],
+    left: &[u8],
 ) -> bool {
-    let Ok(mut writer) = PacketWriter::new(alloc, output) else {
-        return false;
-    };
+    let mut writer = PacketWriter::new(alloc, output).unwrap();
     let mut codec = PacketCodec::default();
     let mut packet = b"123".as_slice();
     let mut all = writer.queue(&mut codec, &mut packet).is_ok();
     all &= same(writer.pending(), FRAMED);
     all &= said_by(writer.write_pending()) == first;
-    all &= same(writer.pending(), between);
+    all &= same(writer.pending(), left);
     all &= said_by(writer.write_pending()) == second;
     let pending = writer.pending().len();
-    let output = writer.into_inner();
     let sent = FRAMED.len().saturating_sub(pending);
-    all &= same(output.taken.as_slice(), &FRAMED[..sent]);
     let done = usize::from(first == Said::Done) + usize::from(second == Said::Done);
-    all & (output.flushes == done)
+    all & is_sent(writer.into_inner(), sent, done)
+}
+
+// Whether so many bytes of the packet were taken, and there were so many flushes.
+fn is_sent(output: Narrow, sent: usize, flushes: usize) -> bool {
+    same(output.taken.as_slice(), between(FRAMED, 0, sent)) & (output.flushes == flushes)
 }
 
 // Whether a packet is refused under this limit, or where this request for memory is, and what was
@@ -50,9 +52,7 @@ fn is_unchanged<A: Allocator + Copy>(
     nth: u64,
     wanted: Said,
 ) -> bool {
-    let Ok(mut writer) = PacketWriter::new(alloc, output) else {
-        return false;
-    };
+    let mut writer = PacketWriter::new(alloc, output).unwrap();
     let mut codec = PacketCodec::default();
     let mut first = b"123".as_slice();
     let mut all = writer.queue(&mut codec, &mut first).is_ok();
@@ -83,9 +83,9 @@ const CALLS: &[(usize, usize, Said, Said, &[u8]); COUNT] = &[
 fn wrong_row<A: Allocator + Copy>(heap: &Heap, alloc: A, kept: Global) -> Option<usize> {
     let mut wrong = None;
     for (i, row) in CALLS.iter().enumerate() {
-        let (at_once, until_fault, first, second, between) = *row;
+        let (at_once, until_fault, first, second, left) = *row;
         let output = Narrow::new(kept, at_once, until_fault, ErrorKind::Other);
-        if !is_written(alloc, output, first, second, between) {
+        if !is_written(alloc, output, first, second, left) {
             wrong = Some(i);
         }
     }

@@ -1,56 +1,50 @@
 //! The fields of commands.
 
 use crate::shown::{Fields, Shown};
-use mysql_wire_packets::com_change_user::ComChangeUser;
-use mysql_wire_packets::com_init_db::ComInitDb;
-use mysql_wire_packets::com_ping::ComPing;
-use mysql_wire_packets::com_query::ComQuery;
-use mysql_wire_packets::com_query_attributes::ComQueryWithAttributes;
-use mysql_wire_packets::com_quit::ComQuit;
-use std::alloc::Global;
+use mysql_wire_queries::com_change_user::ComChangeUser;
+use mysql_wire_queries::com_init_db::ComInitDb;
+use mysql_wire_queries::com_ping::ComPing;
+use mysql_wire_queries::com_query::ComQuery;
+use mysql_wire_queries::com_query_attributes::ComQueryWithAttributes;
+use mysql_wire_queries::com_quit::ComQuit;
 
 impl Shown for ComQuit {
-    fn show(&self, _: Global, fields: &mut Fields) {
+    fn show(&self, fields: &mut Fields) {
         fields.number(0x01);
-        fields.end();
     }
 }
 
 impl Shown for ComInitDb<'_> {
-    fn show(&self, _: Global, fields: &mut Fields) {
+    fn show(&self, fields: &mut Fields) {
         fields.number(0x02);
         fields.text(self.schema.as_bytes());
-        fields.end();
     }
 }
 
 impl Shown for ComQuery<'_> {
-    fn show(&self, _: Global, fields: &mut Fields) {
+    fn show(&self, fields: &mut Fields) {
         fields.number(0x03);
         fields.text(self.query.as_bytes());
-        fields.end();
     }
 }
 
 impl Shown for ComQueryWithAttributes<'_> {
-    fn show(&self, _: Global, fields: &mut Fields) {
+    fn show(&self, fields: &mut Fields) {
         fields.number(0x03);
         fields.number(self.parameter_count);
         fields.number(self.parameter_set_count);
         fields.text(self.attributes_and_query.as_bytes());
-        fields.end();
     }
 }
 
 impl Shown for ComPing {
-    fn show(&self, _: Global, fields: &mut Fields) {
+    fn show(&self, fields: &mut Fields) {
         fields.number(0x0e);
-        fields.end();
     }
 }
 
 impl Shown for ComChangeUser<'_> {
-    fn show(&self, alloc: Global, fields: &mut Fields) {
+    fn show(&self, fields: &mut Fields) {
         fields.number(0x11);
         fields.text(self.user.as_bytes());
         fields.text(self.auth_plugin_data.as_bytes());
@@ -58,12 +52,9 @@ impl Shown for ComChangeUser<'_> {
         if let Some(set) = &self.character_set {
             fields.number(set.0.into());
         }
-        if let Some(name) = &self.auth_plugin_name {
-            fields.text(name.as_bytes());
-        }
+        fields.text_if(&self.auth_plugin_name);
         if let Some(attributes) = &self.connect_attrs {
-            fields.texts(alloc, attributes.as_bytes());
+            fields.texts(attributes.as_bytes());
         }
-        fields.end();
     }
 }

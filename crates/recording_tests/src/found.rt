@@ -40,7 +40,7 @@ fn is_written<T: MySerialize>(alloc: Global, packet: &T, bytes: &[u8]) -> bool {
 // Whether the packet's first fields are these.
 fn has_fields<T: Shown>(alloc: Global, packet: &T, listed: &[u8]) -> bool {
     let mut fields = Fields::new(alloc);
-    packet.show(alloc, &mut fields);
+    fields.all_of(packet);
     fields.begin_with(listed)
 }
 

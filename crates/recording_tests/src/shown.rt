@@ -2,25 +2,25 @@
 //! and a text as `x` and its bytes in hex. The word `end` stands behind the last.
 
 use mysql_wire::io::ParseBuf;
-use mysql_wire::misc::raw::bytes::LenEnc;
+use mysql_wire::misc::raw::bytes::{BytesRepr, LenEnc};
 use mysql_wire::misc::raw::{Either, RawBytes};
-use mysql_wire_packets::auth_more_data::AuthMoreData;
-use mysql_wire_packets::auth_switch::AuthSwitchRequest;
-use mysql_wire_packets::auth_switch_response::AuthSwitchResponse;
-use mysql_wire_packets::column_count::ColumnCount;
-use mysql_wire_packets::column_definition::ColumnDefinition41;
+use mysql_wire_connection::auth_switch::AuthSwitchRequest;
+use mysql_wire_connection::auth_switch_response::AuthSwitchResponse;
+use mysql_wire_connection::handshake::HandshakeV10;
+use mysql_wire_connection::handshake_response::HandshakeResponse41;
 use mysql_wire_packets::eof_packet::EofPacket;
 use mysql_wire_packets::err_packet::ErrPacket;
-use mysql_wire_packets::handshake::{HandshakeV10, PluginName};
-use mysql_wire_packets::handshake_response::{AuthResponse, HandshakeResponse41};
-use mysql_wire_packets::local_infile::LocalInfileRequest;
-use mysql_wire_packets::ok_packet::{OkForm, OkInfo};
-use mysql_wire_packets::text_row::{TextRow, TextValue};
+use mysql_wire_packets::ok_packet::OkForm;
+use mysql_wire_queries::column_count::ColumnCount;
+use mysql_wire_queries::column_definition::ColumnDefinition41;
+use mysql_wire_queries::local_infile::LocalInfileRequest;
+use mysql_wire_queries::text_row::{TextRow, TextValue};
 use std::alloc::Global;
 
 /// Fields that were shown.
 #[derive(Drop)]
 pub struct Fields {
+    alloc: Global,
     words: String,
     // Whether memory was found for all of them.
     is_whole: bool,
@@ -29,6 +29,7 @@ pub struct Fields {
 impl Fields {
     pub fn new(alloc: Global) -> Fields {
         Fields {
+            alloc,
             words: String::new(alloc),
             is_whole: true,
         }
@@ -46,12 +47,30 @@ impl Fields {
         self.is_whole &= self.words.push(' ').is_ok();
     }
 
+    /// A text that may be missing.
+    pub fn text_if<T: BytesRepr>(&mut self, text: &Option<RawBytes<'_, T>>) {
+        if let Some(text) = text {
+            self.text(text.as_bytes());
+        }
+    }
+
+    /// A text in one of two forms.
+    pub fn side<T: BytesRepr, U: BytesRepr>(
+        &mut self,
+        text: &Either<RawBytes<'_, T>, RawBytes<'_, U>>,
+    ) {
+        match text {
+            Either::Left(text) => self.text(text.as_bytes()),
+            Either::Right(text) => self.text(text.as_bytes()),
+        }
+    }
+
     /// Keys and values in turn, each behind its length: how many bytes they have, and each.
-    pub fn texts(&mut self, alloc: Global, texts: &[u8]) {
+    pub fn texts(&mut self, texts: &[u8]) {
         self.number(texts.len() as u64);
         let mut rest = ParseBuf(texts);
         for _ in 0..texts.len() {
-            match rest.parse::<RawBytes<'_, LenEnc>>(alloc, ()) {
+            match rest.parse::<RawBytes<'_, LenEnc>>(self.alloc, ()) {
                 Ok(text) => self.text(text.as_bytes()),
                 Err(_) => break,
             }
@@ -59,7 +78,9 @@ impl Fields {
         self.is_whole &= rest.is_empty();
     }
 
-    pub fn end(&mut self) {
+    /// Those of a packet, and the word behind the last.
+    pub fn all_of<T: Shown>(&mut self, packet: &T) {
+        packet.show(self);
         self.is_whole &= self.words.push_str("end ").is_ok();
     }
 
@@ -73,32 +94,11 @@ impl Fields {
 pub trait Shown {
     /// Shows the fields in order, a constant of the format as its number, and leaves out what is
     /// reserved.
-    fn show(&self, alloc: Global, fields: &mut Fields);
-}
-
-fn plugin_name<'a>(name: &'a PluginName<'_>) -> &'a [u8] {
-    match name {
-        Either::Left(name) => name.as_bytes(),
-        Either::Right(name) => name.as_bytes(),
-    }
-}
-
-fn auth_response<'a>(response: &'a AuthResponse<'_>) -> &'a [u8] {
-    match response {
-        Either::Left(response) => response.as_bytes(),
-        Either::Right(response) => response.as_bytes(),
-    }
-}
-
-fn info_text<'a>(info: &'a OkInfo<'_>) -> &'a [u8] {
-    match info {
-        Either::Left(info) => info.as_bytes(),
-        Either::Right(info) => info.as_bytes(),
-    }
+    fn show(&self, fields: &mut Fields);
 }
 
 impl Shown for HandshakeV10<'_> {
-    fn show(&self, _: Global, fields: &mut Fields) {
+    fn show(&self, fields: &mut Fields) {
         fields.number(0x0a);
         fields.text(self.server_version.as_bytes());
         fields.number(self.thread_id.into());
@@ -112,54 +112,45 @@ impl Shown for HandshakeV10<'_> {
         fields.number(self.mariadb_capabilities.0.into());
         fields.text(self.auth_plugin_data_part_2.as_bytes());
         if let Some(name) = &self.auth_plugin_name {
-            fields.text(plugin_name(name));
+            fields.side(name);
         }
-        fields.end();
     }
 }
 
 impl Shown for HandshakeResponse41<'_> {
-    fn show(&self, alloc: Global, fields: &mut Fields) {
+    fn show(&self, fields: &mut Fields) {
         fields.number(self.client_flag.0.into());
         fields.number(self.max_packet_size.into());
         fields.number(self.character_set.into());
         fields.text(self.username.as_bytes());
-        fields.text(auth_response(&self.auth_response));
-        if let Some(database) = &self.database {
-            fields.text(database.as_bytes());
-        }
-        if let Some(name) = &self.client_plugin_name {
-            fields.text(name.as_bytes());
-        }
+        fields.side(&self.auth_response);
+        fields.text_if(&self.database);
+        fields.text_if(&self.client_plugin_name);
         if let Some(attributes) = &self.connect_attrs {
-            fields.texts(alloc, attributes.as_bytes());
+            fields.texts(attributes.as_bytes());
         }
         if let Some(level) = self.zstd_compression_level {
             fields.number(level.into());
         }
-        fields.end();
     }
 }
 
 impl<const HEADER: u8> Shown for OkForm<'_, HEADER> {
-    fn show(&self, _: Global, fields: &mut Fields) {
+    fn show(&self, fields: &mut Fields) {
         fields.number(HEADER.into());
         fields.number(self.affected_rows);
         fields.number(self.last_insert_id);
         fields.number(self.status_flags.0.into());
         fields.number(self.warnings.into());
         if let Some(info) = &self.info {
-            fields.text(info_text(info));
+            fields.side(info);
         }
-        if let Some(state) = &self.session_state {
-            fields.text(state.as_bytes());
-        }
-        fields.end();
+        fields.text_if(&self.session_state);
     }
 }
 
 impl Shown for ErrPacket<'_> {
-    fn show(&self, _: Global, fields: &mut Fields) {
+    fn show(&self, fields: &mut Fields) {
         fields.number(0xff);
         fields.number(self.error_code.into());
         if let Some(state) = &self.sql_state {
@@ -167,90 +158,72 @@ impl Shown for ErrPacket<'_> {
             fields.text(state);
         }
         fields.text(self.error_message.as_bytes());
-        fields.end();
     }
 }
 
 impl Shown for EofPacket {
-    fn show(&self, _: Global, fields: &mut Fields) {
+    fn show(&self, fields: &mut Fields) {
         fields.number(0xfe);
         fields.number(self.warnings.into());
         fields.number(self.status_flags.0.into());
-        fields.end();
     }
 }
 
 impl Shown for ColumnCount {
-    fn show(&self, _: Global, fields: &mut Fields) {
+    fn show(&self, fields: &mut Fields) {
         if let Some(follows) = self.metadata_follows {
             fields.number(follows.into());
         }
         fields.number(self.column_count);
-        fields.end();
     }
 }
 
 impl Shown for ColumnDefinition41<'_> {
-    fn show(&self, _: Global, fields: &mut Fields) {
+    fn show(&self, fields: &mut Fields) {
         fields.text(self.catalog.as_bytes());
         fields.text(self.schema.as_bytes());
         fields.text(self.table.as_bytes());
         fields.text(self.org_table.as_bytes());
         fields.text(self.name.as_bytes());
         fields.text(self.org_name.as_bytes());
-        if let Some(metadata) = &self.extended_metadata {
-            fields.text(metadata.as_bytes());
-        }
+        fields.text_if(&self.extended_metadata);
         fields.number(0x0c);
         fields.number(self.character_set.into());
         fields.number(self.column_length.into());
         fields.number(self.column_type.0.into());
         fields.number(self.flags.0.into());
         fields.number(self.decimals.into());
-        fields.end();
     }
 }
 
 impl Shown for TextRow<'_> {
-    fn show(&self, _: Global, fields: &mut Fields) {
+    fn show(&self, fields: &mut Fields) {
         for value in self.values.as_slice() {
             match value {
                 TextValue::Null => fields.number(0xfb),
                 TextValue::Text(text) => fields.text(text),
             }
         }
-        fields.end();
     }
 }
 
 impl Shown for LocalInfileRequest<'_> {
-    fn show(&self, _: Global, fields: &mut Fields) {
+    fn show(&self, fields: &mut Fields) {
         fields.number(0xfb);
         fields.text(self.file_name.as_bytes());
-        fields.end();
     }
 }
 
 impl Shown for AuthSwitchRequest<'_> {
-    fn show(&self, _: Global, fields: &mut Fields) {
+    fn show(&self, fields: &mut Fields) {
         fields.number(0xfe);
         fields.text(self.plugin_name.as_bytes());
         fields.text(self.plugin_data.as_bytes());
-        fields.end();
     }
 }
 
 impl Shown for AuthSwitchResponse<'_> {
-    fn show(&self, _: Global, fields: &mut Fields) {
+    fn show(&self, fields: &mut Fields) {
         fields.text(self.data.as_bytes());
-        fields.end();
-    }
-}
-
-impl Shown for AuthMoreData<'_> {
-    fn show(&self, _: Global, fields: &mut Fields) {
-        fields.number(0x01);
-        fields.text(self.data.as_bytes());
-        fields.end();
     }
 }

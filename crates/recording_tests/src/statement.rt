@@ -3,10 +3,10 @@
 use mysql_wire::constants::ColumnType;
 use mysql_wire::io::{ParseBuf, WireError};
 use mysql_wire::proto::MySerialize;
-use mysql_wire_packets::com_stmt_prepare_ok::ComStmtPrepareOk;
 use mysql_wire_statements::binary_row::BinaryRow;
 use mysql_wire_statements::binary_value::BinaryValue;
 use mysql_wire_statements::com_stmt_execute::ComStmtExecute;
+use mysql_wire_statements::com_stmt_prepare_ok::ComStmtPrepareOk;
 use mysql_wire_statements::params::{ParamTypes, StmtParams};
 use std::alloc::Global;
 

@@ -1,36 +1,33 @@
 //! The fields of the packets of prepared statements.
 
 use crate::shown::{Fields, Shown};
-use mysql_wire_packets::com_stmt_prepare_ok::ComStmtPrepareOk;
 use mysql_wire_statements::binary_row::BinaryRow;
 use mysql_wire_statements::com_stmt_close::ComStmtClose;
 use mysql_wire_statements::com_stmt_execute::ComStmtExecute;
 use mysql_wire_statements::com_stmt_prepare::ComStmtPrepare;
+use mysql_wire_statements::com_stmt_prepare_ok::ComStmtPrepareOk;
 use mysql_wire_statements::com_stmt_reset::ComStmtReset;
 use mysql_wire_statements::com_stmt_send_long_data::ComStmtSendLongData;
-use std::alloc::Global;
 
 impl Shown for ComStmtPrepare<'_> {
-    fn show(&self, _: Global, fields: &mut Fields) {
+    fn show(&self, fields: &mut Fields) {
         fields.number(0x16);
         fields.text(self.query);
-        fields.end();
     }
 }
 
 impl Shown for ComStmtPrepareOk {
-    fn show(&self, _: Global, fields: &mut Fields) {
+    fn show(&self, fields: &mut Fields) {
         fields.number(0x00);
         fields.number(self.statement_id.into());
         fields.number(self.num_columns.into());
         fields.number(self.num_params.into());
         fields.number(self.warning_count.into());
-        fields.end();
     }
 }
 
 impl Shown for ComStmtExecute<'_> {
-    fn show(&self, _: Global, fields: &mut Fields) {
+    fn show(&self, fields: &mut Fields) {
         fields.number(0x17);
         fields.number(self.statement_id.into());
         fields.number(self.flags.0.into());
@@ -42,41 +39,36 @@ impl Shown for ComStmtExecute<'_> {
             }
             fields.text(params.values);
         }
-        fields.end();
     }
 }
 
 impl Shown for ComStmtSendLongData<'_> {
-    fn show(&self, _: Global, fields: &mut Fields) {
+    fn show(&self, fields: &mut Fields) {
         fields.number(0x18);
         fields.number(self.statement_id.into());
         fields.number(self.param_id.into());
         fields.text(self.data);
-        fields.end();
     }
 }
 
 impl Shown for ComStmtReset {
-    fn show(&self, _: Global, fields: &mut Fields) {
+    fn show(&self, fields: &mut Fields) {
         fields.number(0x1a);
         fields.number(self.statement_id.into());
-        fields.end();
     }
 }
 
 impl Shown for ComStmtClose {
-    fn show(&self, _: Global, fields: &mut Fields) {
+    fn show(&self, fields: &mut Fields) {
         fields.number(0x19);
         fields.number(self.statement_id.into());
-        fields.end();
     }
 }
 
 impl Shown for BinaryRow<'_> {
-    fn show(&self, _: Global, fields: &mut Fields) {
+    fn show(&self, fields: &mut Fields) {
         fields.number(0x00);
         fields.text(self.nulls.0);
         fields.text(self.values);
-        fields.end();
     }
 }

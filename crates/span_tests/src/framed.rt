@@ -1,15 +1,14 @@
-//! Packets framed as their bytes come: each cutting of a short packet, long ones by their headers,
-//! ids over 255, and a packet begun inside another.
+//! Packets framed as their bytes come: each cutting of a short packet, long ones beside
+//! `packet_to_chunks`, ids over 255, and a packet begun inside another.
 
+use crate::spanned::each_cut;
 use bytes::BytesMut;
+use mysql_wire::constants::MAX_PAYLOAD_LEN;
+use mysql_wire::proto::codec::{FrameWriter, UnfinishedPacket, packet_to_chunks};
 use std::alloc::Global;
 use std::test::Fail;
-use wire_codec::codec::packet_to_chunks;
-use wire_span::{FrameWriter, UnfinishedPacket};
-
-fn ensure(holds: bool, words: &str) -> Result<(), Fail> {
-    if holds { Ok(()) } else { Err(Fail::new(words)) }
-}
+use test_support::facts::{all_hold, no_row, same, wrong_row};
+use test_support::reference::{between, low_byte};
 
 fn writer_from(seq_id: u8) -> FrameWriter {
     let mut writer = FrameWriter::default();
@@ -34,127 +33,96 @@ fn send(writer: &mut FrameWriter, piece: &mut &[u8], out: &mut Vec<u8>) -> bool 
     false
 }
 
-const PAYLOAD: &[u8] = b"select";
+// Sends a packet in these pieces, behind what was sent. Whether each went whole, and the last byte
+// ended the packet.
+fn goes_in(writer: &mut FrameWriter, pieces: &[&[u8]], out: &mut Vec<u8>) -> bool {
+    let mut all = true;
+    for piece in pieces {
+        let mut rest = *piece;
+        let left = writer.payload_left().saturating_sub(rest.len());
+        let is_ended = writer.is_between_packets() || send(writer, &mut rest, out);
+        all &= (is_ended == (left == 0)) & (writer.payload_left() == left) & rest.is_empty();
+    }
+    all & writer.is_between_packets()
+}
 
-const FRAMED: &[u8] = b"\x06\0\0\xffselect";
-
-// The packet in pieces that end at these two places: whether it went out whole, at its last byte.
-fn goes(alloc: Global, first: usize, second: usize) -> bool {
+// Whether a short packet goes in these pieces.
+fn is_cut(alloc: Global, pieces: &[&[u8]]) -> bool {
     let mut writer = writer_from(255);
     let mut out = Vec::new(alloc);
-    let mut right = writer.begin(PAYLOAD.len()).is_ok();
-    for i in 0..3u8 {
-        let part = match i {
-            0 => PAYLOAD.get(..first),
-            1 => PAYLOAD.get(first..second),
-            _ => PAYLOAD.get(second..),
-        };
-        let Some(mut piece) = part else {
-            return false;
-        };
-        let is_last = second == PAYLOAD.len() || i == 2;
-        right &= writer.payload_left() >= piece.len();
-        right &= writer.is_between_packets() || send(&mut writer, &mut piece, &mut out) == is_last;
-        right &= piece.is_empty();
-    }
-    right && out.as_slice() == FRAMED && writer.is_between_packets() && writer.sequence_id() == 0
+    let mut all = writer.begin(6) == Ok(());
+    all &= (writer.payload_left() == 6) & goes_in(&mut writer, pieces, &mut out);
+    all & same(out.as_slice(), b"\x06\0\0\xffselect") & (writer.sequence_id() == 0)
 }
 
-#[test]
-fn every_cut(rt: HostRuntime) -> Result<(), Fail> {
-    let mut wrong = 0usize;
-    for first in 0..PAYLOAD.len() {
-        for second in first..PAYLOAD.len() {
-            if !goes(rt.alloc(), first, second) {
-                wrong = wrong.wrapping_add(1);
-            }
-        }
-    }
-    ensure(wrong == 0, "a cutting differs")
-}
-
-#[test]
-fn byte_by_byte(rt: HostRuntime) -> Result<(), Fail> {
-    let mut writer = writer_from(255);
-    let mut out = Vec::new(rt.alloc());
-    ensure(writer.begin(PAYLOAD.len()) == Ok(()), "begun")?;
-    let mut left = PAYLOAD.len();
-    let mut right = true;
-    for part in PAYLOAD.chunks(1) {
-        right &= writer.payload_left() == left;
-        let mut piece = part;
-        left = left.wrapping_sub(1);
-        right &= send(&mut writer, &mut piece, &mut out) == (left == 0);
-    }
-    ensure(right && out.as_slice() == FRAMED, "the framing")
+fn is_cut_in_three(alloc: Global, pieces: [&[u8]; 3]) -> bool {
+    is_cut(alloc, &pieces)
 }
 
 // Payloads of one stream, from the id 254 on.
 const PAYLOADS: &[&[u8]] = &[b"abc", b"", b"z", b"hello"];
 
-const MORE: &[u8] = b", and more";
-
 const STREAM: &[u8] = b"\x03\0\0\xfeabc\0\0\0\xff\x01\0\0\0z\x05\0\0\x01hello";
 
-#[test]
-fn packets_in_one_piece(rt: HostRuntime) -> Result<(), Fail> {
+// Whether packets go in one piece, and the bytes behind them stay.
+fn they_go_in_one_piece(alloc: Global) -> bool {
     let mut writer = writer_from(254);
-    let mut out = Vec::new(rt.alloc());
-    let mut piece: &[u8] = b"abczhello, and more";
-    let mut right = true;
+    let mut out = Vec::new(alloc);
+    let mut piece = b"abczhello, and more".as_slice();
+    let mut all = true;
     for payload in PAYLOADS {
-        right &= writer.begin(payload.len()).is_ok();
-        right &= send(&mut writer, &mut piece, &mut out);
+        all &= writer.begin(payload.len()).is_ok();
+        all &= send(&mut writer, &mut piece, &mut out);
     }
-    ensure(right && out.as_slice() == STREAM, "the stream")?;
-    ensure(piece == MORE, "bytes behind the packets stay")?;
-    ensure(writer.sequence_id() == 2, "the id behind them")?;
-    ensure(
-        writer.next_part(&mut piece).is_none() && piece == MORE,
-        "no packet is begun",
-    )
+    all &= same(out.as_slice(), STREAM) & (writer.sequence_id() == 2);
+    all & writer.next_part(&mut piece).is_none() & same(piece, b", and more")
 }
 
-#[test]
-fn many_empty_packets() -> Result<(), Fail> {
+// Whether 300 empty packets go with no byte of a piece, and ids begin again behind 255.
+fn empty_ones_go() -> bool {
     let mut writer = FrameWriter::default();
-    let mut wrong = 0usize;
-    for i in 0..300u32 {
-        let begun = writer.begin(0);
-        let part = writer.next_part(&mut b"more".as_slice());
-        let right = part.is_some_and(|part| {
-            part.header == Some([0, 0, 0, (i % 256) as u8])
-                && part.bytes.is_empty()
-                && part.ends_packet
-        });
-        if begun.is_err() || !right {
-            wrong = wrong.wrapping_add(1);
-        }
+    let mut all = true;
+    for i in 0..300usize {
+        all &= writer.begin(0).is_ok();
+        all &= match writer.next_part(&mut b"more".as_slice()) {
+            Some(part) => {
+                let is_header = part.header == Some([0, 0, 0, low_byte(i)]);
+                is_header & part.bytes.is_empty() & part.ends_packet
+            }
+            None => false,
+        };
     }
-    ensure(wrong == 0, "300 empty packets")?;
-    ensure(writer.sequence_id() == 44, "ids begin again behind 255")
+    all & (writer.sequence_id() == 44)
+}
+
+// Whether no packet is begun here, and nothing changes.
+fn is_inside(writer: &mut FrameWriter) -> bool {
+    let before = *writer;
+    (writer.begin(1) == Err(UnfinishedPacket)) & (*writer == before)
+}
+
+// Whether none is begun in front of a header and inside a chunk, and one is behind it.
+fn none_is_begun_inside(alloc: Global) -> bool {
+    let mut writer = writer_from(7);
+    let mut out = Vec::new(alloc);
+    let mut all = (writer.begin(2) == Ok(())) & is_inside(&mut writer);
+    let mut piece = b"a".as_slice();
+    all &= !send(&mut writer, &mut piece, &mut out) & same(out.as_slice(), b"\x02\0\0\x07a");
+    all &= is_inside(&mut writer);
+    all &= goes_in(&mut writer, &[b"b"], &mut out);
+    all & (writer.begin(0) == Ok(()))
 }
 
 #[test]
-fn begun_inside() -> Result<(), Fail> {
-    let mut writer = writer_from(7);
-    ensure(writer.begin(2) == Ok(()), "begun")?;
-    let begun = writer;
-    ensure(
-        writer.begin(1) == Err(UnfinishedPacket),
-        "in front of its header",
-    )?;
-    ensure(writer == begun, "nothing changes")?;
-    let mut piece: &[u8] = b"a";
-    ensure(writer.next_part(&mut piece).is_some(), "a byte goes")?;
-    let inside = writer;
-    ensure(writer.begin(0) == Err(UnfinishedPacket), "inside its chunk")?;
-    ensure(writer == inside, "nothing changes there")?;
-    ensure(writer.next_part(&mut piece).is_none(), "no bytes are there")?;
-    let mut rest: &[u8] = b"b";
-    let part = writer.next_part(&mut rest);
-    ensure(part.is_some_and(|part| part.ends_packet), "it goes on")?;
-    ensure(writer.begin(0) == Ok(()), "and then another begins")
+fn packets_are_framed_as_they_come(rt: HostRuntime) -> Result<(), Fail> {
+    let alloc = rt.alloc();
+    all_hold(&[
+        each_cut(alloc, b"select", is_cut_in_three),
+        is_cut(alloc, &[b"s", b"e", b"l", b"e", b"c", b"t"]),
+        they_go_in_one_piece(alloc),
+        empty_ones_go(),
+        none_is_begun_inside(alloc),
+    ])
 }
 
 // Lengths, and the headers of their chunks from the id 254 on.
@@ -169,69 +137,58 @@ const LENGTHS: &[(usize, &[u8])] = &[
     (33554435, b"\xff\xff\xff\xfe\xff\xff\xff\xff\x05\0\0\0"),
 ];
 
-// Sends a packet of zeros, so many in a piece; its headers, and whether it went whole.
-fn headers(alloc: Global, len: usize, zeros: &[u8]) -> (Vec<u8>, bool) {
-    let mut writer = writer_from(254);
-    let mut shown = Vec::new(alloc);
-    let mut came = 0usize;
-    let mut ended = writer.begin(len).is_err();
-    let mut piece = zeros;
-    'parts: for _ in 0..u64::MAX {
-        let Some(part) = writer.next_part(&mut piece) else {
-            if writer.is_between_packets() {
-                break 'parts;
-            }
-            piece = zeros;
-            continue 'parts;
-        };
-        if let Some(header) = part.header {
-            let _ = shown.extend_from_slice(&header);
-        }
-        came = came.wrapping_add(part.bytes.len());
-        ended |= part.ends_packet;
+// Whether these headers stand in front of the chunks, and the bytes are so many.
+fn has_headers(bytes: &[u8], headers: &[u8], len: usize) -> bool {
+    let mut all = bytes.len() == len.wrapping_add(headers.len());
+    let mut at = 0usize;
+    for i in 0..headers.len() / 4 {
+        let start = i.wrapping_mul(4);
+        let header = between(headers, start, start.wrapping_add(4));
+        all &= same(between(bytes, at, at.wrapping_add(4)), header);
+        at = at.wrapping_add(MAX_PAYLOAD_LEN + 4);
     }
-    (shown, ended && came == len)
+    all
 }
 
-#[test]
-fn long_packets(rt: HostRuntime) -> Result<(), Fail> {
-    let Ok(zeros) = Vec::from_elem(rt.alloc(), 0u8, 1 << 20) else {
-        return Ok(());
-    };
-    let mut wrong = 0usize;
-    for (len, wanted) in LENGTHS {
-        let (shown, whole) = headers(rt.alloc(), *len, zeros.as_slice());
-        if !whole || shown.as_slice() != *wanted {
-            wrong = wrong.wrapping_add(1);
-        }
-    }
-    ensure(wrong == 0, "a header differs")
-}
-
-// Whether a packet of so many bytes goes out as `packet_to_chunks` frames it.
-fn same_framing(alloc: Global, len: usize) -> bool {
-    let Ok(payload) = Vec::from_elem(alloc, 7u8, len) else {
-        return false;
-    };
+// Whether a payload goes in pieces of so many bytes, from the id 254 on, as it is framed.
+fn goes_as(alloc: Global, payload: &[u8], at_once: usize, framed: &[u8], next_id: u8) -> bool {
     let mut writer = writer_from(254);
     let mut out = Vec::new(alloc);
-    let begun = writer.begin(len).is_ok();
-    let whole = send(&mut writer, &mut payload.as_slice(), &mut out);
+    let mut all = writer.begin(payload.len()).is_ok();
+    let mut ended = 0usize;
+    for i in 0..34usize {
+        let start = i.saturating_mul(at_once);
+        let mut piece = between(payload, start, start.saturating_add(at_once));
+        let is_ended = send(&mut writer, &mut piece, &mut out);
+        ended = ended.wrapping_add(usize::from(is_ended));
+    }
+    all &= (ended == 1) & same(out.as_slice(), framed);
+    all & (writer.sequence_id() == next_id)
+}
+
+// Whether a payload is framed with these headers, at once and as it comes.
+fn is_framed(alloc: Global, payload: &[u8], headers: &[u8]) -> bool {
     let mut framed = BytesMut::new(alloc);
-    let next = packet_to_chunks(254, &mut payload.as_slice(), &mut framed);
-    begun
-        && whole
-        && out.as_slice() == framed.as_slice()
-        && next.is_ok_and(|id| id == writer.sequence_id())
+    let mut packet = payload;
+    match packet_to_chunks(254, &mut packet, &mut framed) {
+        Ok(next_id) => {
+            let framed = framed.as_slice();
+            has_headers(framed, headers, payload.len())
+                & goes_as(alloc, payload, 1 << 20, framed, next_id)
+                & goes_as(alloc, payload, usize::MAX, framed, next_id)
+        }
+        Err(_) => false,
+    }
+}
+
+fn is_length(alloc: Global, row: (usize, &[u8])) -> bool {
+    match Vec::from_elem(alloc, 7u8, row.0) {
+        Ok(payload) => is_framed(alloc, payload.as_slice(), row.1),
+        Err(_) => false,
+    }
 }
 
 #[test]
-fn as_packet_to_chunks(rt: HostRuntime) -> Result<(), Fail> {
-    let mut wrong = 0usize;
-    for len in [0, 1, 5, 16777214, 16777215, 16777216] {
-        if !same_framing(rt.alloc(), len) {
-            wrong = wrong.wrapping_add(1);
-        }
-    }
-    ensure(wrong == 0, "a framing differs")
+fn long_packets_are_framed_as_they_come(rt: HostRuntime) -> Result<(), Fail> {
+    no_row(wrong_row(rt.alloc(), LENGTHS, is_length))
 }

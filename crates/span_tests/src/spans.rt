@@ -1,277 +1,277 @@
-//! Packets in spans: each cutting of small streams, and rows of their own.
+//! Generated streams in spans, and with other ids: each run is compared with the reference reading
+//! of the whole stream, in the pieces in which `deliver` is; what is renumbered, with `encode` of
+//! the packets. Spans behind a codec, and a codec behind spans.
 
+use crate::spanned::{Renumbered, Spanned, decoder_of};
+use mysql_wire::proto::codec::{Renumber, SpanError};
 use std::alloc::Global;
 use std::test::Fail;
-use wire_const::MAX_PAYLOAD_LEN;
-use wire_span::{SpanDecoder, SpanError};
+use test_support::case::{Case, are_same};
+use test_support::facts::{all_hold, no_row, same};
+use test_support::fixture::raise_to;
+use test_support::generated::{Draws, Stream, pieces_of};
+use test_support::receiver::Receiver;
+use test_support::reference::{between, header_at, low_byte};
+use test_support::told::Told;
 
-fn ensure(holds: bool, words: &str) -> Result<(), Fail> {
-    if holds { Ok(()) } else { Err(Fail::new(words)) }
+// ---- what a decoder of spans must do with a stream of small packets
+
+// Where it stops, or what stands behind the packets.
+#[derive(Clone, Copy)]
+struct Place {
+    // Where the chunk begins that is refused, or isn't whole.
+    at: usize,
+    stop: Option<SpanError>,
+    // Whether the header of a chunk that isn't whole was accepted.
+    is_open: bool,
 }
 
-// What came of a stream: the bytes of all spans, and behind each a mark where a packet ended.
-#[derive(Drop)]
-struct Shown {
-    text: Vec<u8>,
-    spans: usize,
-    error: Option<SpanError>,
-    left: usize,
+// The reading of a chunk of another id is behind it.
+fn chunk_at(case: &Case) -> usize {
+    let reading = &case.reading;
+    match reading.told {
+        Told::OutOfSync => reading
+            .left
+            .saturating_sub(reading.held.len())
+            .saturating_sub(4),
+        _ => reading.left,
+    }
 }
 
-// One piece after another, until a refusal.
-fn run(alloc: Global, decoder: &mut SpanDecoder, pieces: &[&[u8]]) -> Shown {
-    let mut shown = Shown {
-        text: Vec::new(alloc),
-        spans: 0,
-        error: None,
-        left: 0,
+// By the header there: another id is told as soon as the header has come.
+fn place_of(case: &Case) -> Place {
+    let at = chunk_at(case);
+    let header = header_at(case.stream, at);
+    let is_next = match header {
+        Some((_, id)) => id == case.reading.next_id,
+        None => true,
     };
-    for piece in pieces {
-        let mut rest = *piece;
-        'spans: for _ in 0..u64::MAX {
-            match decoder.next_span(&mut rest) {
-                Ok(Some(span)) => {
-                    let _ = shown.text.extend_from_slice(span.bytes);
-                    if span.ends_packet {
-                        let _ = shown.text.push(b'|');
-                    }
-                    shown.spans = shown.spans.wrapping_add(1);
-                }
-                Ok(None) => break 'spans,
-                Err(error) => {
-                    shown.error = Some(error);
-                    shown.left = rest.len();
-                    return shown;
-                }
-            }
-        }
-    }
-    shown
-}
-
-const STREAM: &[u8] = b"\x03\0\0\0abc\0\0\0\x01\x01\0\0\x02z\x02\0";
-
-#[test]
-fn whole(rt: HostRuntime) -> Result<(), Fail> {
-    let mut decoder = SpanDecoder::default();
-    let shown = run(rt.alloc(), &mut decoder, &[STREAM]);
-    ensure(
-        shown.text.as_slice() == b"abc||z|".as_slice(),
-        "the packets",
-    )?;
-    ensure(shown.spans == 3, "a span each")?;
-    ensure(shown.error.is_none(), "no refusal")?;
-    ensure(decoder.sequence_id() == 3, "the id")?;
-    ensure(!decoder.is_between_packets(), "in a header")
-}
-
-#[test]
-fn byte_by_byte(rt: HostRuntime) -> Result<(), Fail> {
-    let mut decoder = SpanDecoder::default();
-    let mut pieces = Vec::new(rt.alloc());
-    for piece in STREAM.chunks(1) {
-        let _ = pieces.push(piece);
-    }
-    let shown = run(rt.alloc(), &mut decoder, pieces.as_slice());
-    ensure(
-        shown.text.as_slice() == b"abc||z|".as_slice(),
-        "the packets",
-    )?;
-    ensure(shown.spans == 5, "a span a byte, and the empty packet")?;
-    ensure(decoder.sequence_id() == 3, "the id")
-}
-
-#[test]
-fn every_cut(rt: HostRuntime) -> Result<(), Fail> {
-    let mut wrong = 0usize;
-    for first in 0..STREAM.len() {
-        for second in first..STREAM.len() {
-            let (front, rest) = STREAM.split_at(first);
-            let (middle, end) = rest.split_at(second - first);
-            let mut decoder = SpanDecoder::default();
-            let shown = run(rt.alloc(), &mut decoder, &[front, middle, b"", end]);
-            if shown.text.as_slice() != b"abc||z|".as_slice() || decoder.sequence_id() != 3 {
-                wrong = wrong.wrapping_add(1);
-            }
-        }
-    }
-    ensure(wrong == 0, "a cutting differs")
-}
-
-#[test]
-fn many_empty_packets() -> Result<(), Fail> {
-    let mut decoder = SpanDecoder::default();
-    decoder.max_allowed_packet = 0;
-    let mut ended = 0usize;
-    for i in 0..257u32 {
-        let header = [0, 0, 0, (i % 256) as u8];
-        let mut piece: &[u8] = &header;
-        match decoder.next_span(&mut piece) {
-            Ok(Some(span)) => {
-                if span.ends_packet && span.bytes.is_empty() {
-                    ended = ended.wrapping_add(1);
-                }
-            }
-            _ => {}
-        }
-    }
-    ensure(ended == 257, "257 empty packets")?;
-    ensure(decoder.sequence_id() == 1, "ids begin again behind 255")?;
-    ensure(decoder.is_between_packets(), "between packets")
-}
-
-// Eats the piece; how many bytes came, and how many packets ended.
-fn count(decoder: &mut SpanDecoder, piece: &[u8], came: &mut usize, ended: &mut usize) -> bool {
-    let mut rest = piece;
-    'spans: for _ in 0..u64::MAX {
-        match decoder.next_span(&mut rest) {
-            Ok(Some(span)) => {
-                *came = came.wrapping_add(span.bytes.len());
-                if span.ends_packet {
-                    *ended = ended.wrapping_add(1);
-                }
-            }
-            Ok(None) => return true,
-            Err(_) => return false,
-        }
-    }
-    false
-}
-
-#[test]
-fn two_full_chunks(rt: HostRuntime) -> Result<(), Fail> {
-    let Ok(fill) = Vec::from_elem(rt.alloc(), 7u8, 65793) else {
-        return Ok(());
+    let stop = match case.reading.told {
+        Told::TooLarge => Some(SpanError::PacketTooLarge),
+        _ if is_next => None,
+        _ => Some(SpanError::PacketsOutOfSync),
     };
-    let mut decoder = SpanDecoder::default();
-    decoder.max_allowed_packet = 2 * MAX_PAYLOAD_LEN;
-    let (mut came, mut ended) = (0usize, 0usize);
-    let mut goes = true;
-    for id in 0..2u8 {
-        goes &= count(&mut decoder, &[255, 255, 255, id], &mut came, &mut ended);
-        for _ in 0..255u32 {
-            goes &= count(&mut decoder, fill.as_slice(), &mut came, &mut ended);
+    Place {
+        at,
+        stop,
+        is_open: header.is_some() & stop.is_none(),
+    }
+}
+
+// ---- spans
+
+impl Spanned {
+    // Whether it stands where it must.
+    fn stands_at(&self, case: &Case, place: Place) -> bool {
+        let next_id = case.reading.next_id.wrapping_add(place.is_open as u8);
+        let eaten = if place.stop.is_some() {
+            place.at.saturating_add(self.decoder.partial_header_len())
+        } else {
+            case.stream.len()
+        };
+        (self.stop == place.stop) & (self.eaten == eaten) & (self.decoder.sequence_id() == next_id)
+    }
+
+    // Whether the packets came, and the bytes of the open one.
+    fn has_packets(&self, case: &Case, place: Place) -> bool {
+        let opened = if place.is_open {
+            between(case.stream, place.at.saturating_add(4), case.stream.len())
+        } else {
+            b""
+        };
+        are_same(self.packets.as_slice(), case.reading.packets.as_slice())
+            & (self.opened.as_slice() == opened)
+    }
+
+    fn agrees(&self, case: &Case) -> bool {
+        let place = place_of(case);
+        self.stands_at(case, place) & self.has_packets(case, place)
+    }
+}
+
+// Whether the stream comes in these pieces as its reading says, both by `deliver` and in spans.
+fn spans_agree(alloc: Global, case: &Case, pieces: &[&[u8]]) -> bool {
+    let mut spanned = Spanned::new(alloc, decoder_of(case.first_id, case.limit));
+    spanned.feed_all(alloc, pieces);
+    spanned.agrees(case) & case.agrees(alloc, b"", pieces, 0)
+}
+
+// Whether what stops at the limit goes on without one, from the same header on, as if it had begun
+// so.
+fn raised_agrees(alloc: Global, case: &Case, pieces: &[&[u8]]) -> bool {
+    let Ok(unlimited) = Case::new(alloc, case.first_id, usize::MAX, case.stream) else {
+        return false;
+    };
+    let mut spanned = Spanned::new(alloc, decoder_of(case.first_id, case.limit));
+    spanned.feed_all(alloc, pieces);
+    if spanned.stop == Some(SpanError::PacketTooLarge) {
+        spanned.decoder.max_allowed_packet = usize::MAX;
+        spanned.stop = None;
+        let left = between(case.stream, spanned.eaten, case.stream.len());
+        spanned.feed(alloc, left);
+        spanned.agrees(&unlimited)
+    } else {
+        spanned.agrees(case)
+    }
+}
+
+// ---- a codec and spans, one behind the other
+
+// Whether a codec goes on where spans have brought these bytes. True where they don't end between
+// two packets.
+fn codec_goes_on(alloc: Global, case: &Case, front: &[u8], pieces: &[&[u8]]) -> bool {
+    let mut spanned = Spanned::new(alloc, decoder_of(case.first_id, case.limit));
+    spanned.feed(alloc, front);
+    let ends_between = spanned.stop.is_none() && spanned.decoder.is_between_packets();
+    !ends_between || codec_ends(alloc, case, spanned, front.len(), pieces)
+}
+
+// Whether a codec ends as the stream's reading says, where spans have brought so many bytes.
+fn codec_ends(alloc: Global, case: &Case, came: Spanned, there: usize, pieces: &[&[u8]]) -> bool {
+    let mut receiver = Receiver::new(alloc, case.limit);
+    raise_to(&mut receiver.codec, alloc, came.decoder.sequence_id());
+    let Spanned { packets, .. } = came;
+    receiver.out = packets;
+    let run = receiver.deliver(pieces);
+    case.is_ended(&mut receiver, there, pieces, run)
+}
+
+// Whether spans go on where a codec has taken these bytes. True where they don't end between two
+// packets.
+fn spans_go_on(alloc: Global, case: &Case, front: &[u8], pieces: &[&[u8]]) -> bool {
+    let mut receiver = case.receiver(alloc);
+    let (_, told) = receiver.deliver(&[front]);
+    let ends_between = receiver.src.is_empty() & receiver.dst.is_empty() & (told == Told::Waits);
+    !ends_between || spans_end(alloc, case, receiver, front.len(), pieces)
+}
+
+// Whether spans end as the stream's reading says, where a codec has taken so many bytes.
+fn spans_end(
+    alloc: Global,
+    case: &Case,
+    came: Receiver<Global>,
+    there: usize,
+    pieces: &[&[u8]],
+) -> bool {
+    let mut spanned = Spanned::new(alloc, decoder_of(came.codec.sequence_id(), case.limit));
+    let Receiver { out, .. } = came;
+    spanned.packets = out;
+    spanned.eaten = there;
+    spanned.feed_all(alloc, pieces);
+    spanned.agrees(case)
+}
+
+// Whether both go on behind these bytes, in drawn pieces.
+fn go_on(alloc: Global, draws: &mut Draws, case: &Case, at: usize) -> bool {
+    let (front, rest) = case.stream.split_at(at.min(case.stream.len()));
+    match pieces_of(alloc, draws, rest) {
+        Ok(pieces) => {
+            codec_goes_on(alloc, case, front, pieces.as_slice())
+                & spans_go_on(alloc, case, front, pieces.as_slice())
+        }
+        Err(_) => false,
+    }
+}
+
+// ---- other ids
+
+impl Renumbered {
+    // Whether it stopped where it must.
+    fn stands_at(&self, case: &Case, place: Place) -> bool {
+        let gone = if place.stop.is_some() {
+            let came = self.renumber.decoder.partial_header_len();
+            place.at.saturating_add(came)
+        } else {
+            case.stream.len()
+        };
+        (self.stop == place.stop) & (self.gone == gone)
+    }
+}
+
+// Encodes these packets, and tells the next id.
+fn encode_all(to: &mut Receiver<Global>, packets: &[Vec<u8>]) -> u8 {
+    for packet in packets {
+        let mut payload = packet.as_slice();
+        let _ = to.encode(&mut payload);
+    }
+    to.codec.sequence_id()
+}
+
+// The packets encoded from this id on, and the bytes behind them, of which a header that is
+// accepted bears the next id; and the id after it.
+fn encoded(to: &mut Receiver<Global>, case: &Case, place: Place, end: usize) -> u8 {
+    let next_id = encode_all(to, case.reading.packets.as_slice());
+    let _ = to
+        .src
+        .extend_from_slice(between(case.stream, place.at, end));
+    let at = place.at.saturating_add(3);
+    if place.is_open && at < to.src.len() {
+        to.src[at] = next_id;
+    }
+    next_id.wrapping_add(place.is_open as u8)
+}
+
+// Whether the stream goes out in these pieces as `encode` writes its packets.
+fn renumbered_agrees(alloc: Global, case: &Case, id: u8, pieces: &[&[u8]]) -> bool {
+    let renumber = Renumber {
+        decoder: decoder_of(case.first_id, case.limit),
+        next_id: id,
+    };
+    let mut renumbered = Renumbered::new(alloc, renumber);
+    renumbered.pass_all(alloc, pieces);
+    let place = place_of(case);
+    let mut wanted = Receiver::new(alloc, usize::MAX);
+    raise_to(&mut wanted.codec, alloc, id);
+    let next_id = encoded(&mut wanted, case, place, renumbered.out.len());
+    renumbered.stands_at(case, place)
+        & same(renumbered.out.as_slice(), wanted.src.as_slice())
+        & (renumbered.renumber.next_id == next_id)
+}
+
+// ---- the streams
+
+// Whether a stream agrees, cut at drawn places.
+fn drawn_agrees(alloc: Global, draws: &mut Draws, case: &Case) -> bool {
+    let id = low_byte(draws.below(256));
+    match pieces_of(alloc, draws, case.stream) {
+        Ok(pieces) => {
+            spans_agree(alloc, case, pieces.as_slice())
+                & raised_agrees(alloc, case, pieces.as_slice())
+                & renumbered_agrees(alloc, case, id, pieces.as_slice())
+        }
+        Err(_) => false,
+    }
+}
+
+// How the generated stream of this seed stops in spans, if it agrees.
+fn generated_agrees(alloc: Global, seed: u64) -> Option<Option<SpanError>> {
+    let mut draws = Draws::new(seed);
+    let first_id = low_byte(draws.one_of(&[0, 0, 1, 253, 255]));
+    let Ok(stream) = Stream::damaged(alloc, &mut draws, first_id) else {
+        return None;
+    };
+    let limit = stream.limit(&mut draws);
+    let at = draws.one_of(stream.headers.as_slice());
+    let Ok(case) = Case::new(alloc, first_id, limit, stream.bytes.as_slice()) else {
+        return None;
+    };
+    let agrees = drawn_agrees(alloc, &mut draws, &case) & go_on(alloc, &mut draws, &case, at);
+    agrees.then_some(place_of(&case).stop)
+}
+
+#[test]
+fn generated_streams_agree_in_spans(rt: HostRuntime) -> Result<(), Fail> {
+    let (mut whole, mut too_large, mut out_of_sync) = (0u64, 0u64, 0u64);
+    let mut wrong = None;
+    for seed in 0..2000usize {
+        match generated_agrees(rt.alloc(), seed as u64) {
+            Some(None) => whole = whole.wrapping_add(1),
+            Some(Some(SpanError::PacketTooLarge)) => too_large = too_large.wrapping_add(1),
+            Some(Some(SpanError::PacketsOutOfSync)) => out_of_sync = out_of_sync.wrapping_add(1),
+            None => wrong = Some(seed),
         }
     }
-    ensure(goes, "no refusal")?;
-    ensure(
-        came == 2 * MAX_PAYLOAD_LEN && ended == 0,
-        "the packet is open",
-    )?;
-    ensure(!decoder.is_between_packets(), "an empty chunk is to come")?;
-    goes &= count(&mut decoder, &[0, 0, 0, 2], &mut came, &mut ended);
-    ensure(goes && came == 2 * MAX_PAYLOAD_LEN && ended == 1, "it ends")?;
-    ensure(
-        decoder.is_between_packets() && decoder.sequence_id() == 3,
-        "and the next begins",
-    )
-}
-
-#[test]
-fn past_the_limit(rt: HostRuntime) -> Result<(), Fail> {
-    let mut decoder = SpanDecoder::default();
-    decoder.max_allowed_packet = 3;
-    let shown = run(
-        rt.alloc(),
-        &mut decoder,
-        &[b"\x03\0\0\0abc\x04\0", b"\0\x01defg"],
-    );
-    ensure(
-        shown.text.as_slice() == b"abc|".as_slice(),
-        "the first packet",
-    )?;
-    ensure(
-        shown.error == Some(SpanError::PacketTooLarge) && shown.left == 6,
-        "the piece stays",
-    )?;
-    let again = run(rt.alloc(), &mut decoder, &[b"\0\x01defg"]);
-    ensure(again.error == Some(SpanError::PacketTooLarge), "again")?;
-    decoder.max_allowed_packet = 4;
-    let more = run(rt.alloc(), &mut decoder, &[b"\0\x01defg"]);
-    ensure(
-        more.text.as_slice() == b"defg|".as_slice() && more.error.is_none(),
-        "a larger limit goes on",
-    )
-}
-
-#[test]
-fn of_another_id(rt: HostRuntime) -> Result<(), Fail> {
-    let mut decoder = SpanDecoder::default();
-    let shown = run(
-        rt.alloc(),
-        &mut decoder,
-        &[b"\x03\0\0\0abc\x02\0\0\x05", b"de"],
-    );
-    ensure(
-        shown.text.as_slice() == b"abc|".as_slice() && shown.left == 4,
-        "in front of the header",
-    )?;
-    ensure(shown.error == Some(SpanError::PacketsOutOfSync), "lost")?;
-    let again = run(rt.alloc(), &mut decoder, &[b"\x02\0\0\x05"]);
-    ensure(
-        again.error == Some(SpanError::PacketsOutOfSync),
-        "it stays lost",
-    )?;
-    // The limit is judged first.
-    decoder.max_allowed_packet = 1;
-    let large = run(rt.alloc(), &mut decoder, &[b"\x02\0\0\x05"]);
-    ensure(
-        large.error == Some(SpanError::PacketTooLarge),
-        "the limit first",
-    )?;
-    decoder.set_sequence_id(5);
-    decoder.max_allowed_packet = 2;
-    let set = run(rt.alloc(), &mut decoder, &[b"\x02\0\0\x05", b"de"]);
-    ensure(
-        set.text.as_slice() == b"de|".as_slice() && decoder.sequence_id() == 6,
-        "from another id",
-    )
-}
-
-#[test]
-fn no_byte_within_the_limit(rt: HostRuntime) -> Result<(), Fail> {
-    let mut decoder = SpanDecoder::default();
-    decoder.max_allowed_packet = 0;
-    let shown = run(rt.alloc(), &mut decoder, &[b"\0\0\0\0\x01\0\0\x01a"]);
-    ensure(
-        shown.text.as_slice() == b"|".as_slice() && shown.left == 5,
-        "an empty packet alone",
-    )?;
-    ensure(
-        shown.error == Some(SpanError::PacketTooLarge) && decoder.is_between_packets(),
-        "in front of the header",
-    )?;
-    decoder.max_allowed_packet = 1;
-    let more = run(rt.alloc(), &mut decoder, &[b"\x01\0\0\x01a"]);
-    ensure(
-        more.text.as_slice() == b"a|".as_slice() && more.error.is_none(),
-        "at the same header under a larger limit",
-    )
-}
-
-#[test]
-fn another_id_in_the_second_chunk(rt: HostRuntime) -> Result<(), Fail> {
-    let Ok(fill) = Vec::from_elem(rt.alloc(), 7u8, 65793) else {
-        return Ok(());
-    };
-    let mut decoder = SpanDecoder::default();
-    decoder.max_allowed_packet = MAX_PAYLOAD_LEN + 1;
-    let (mut came, mut ended) = (0usize, 0usize);
-    let mut goes = count(&mut decoder, &[255, 255, 255, 0], &mut came, &mut ended);
-    for _ in 0..255u32 {
-        goes &= count(&mut decoder, fill.as_slice(), &mut came, &mut ended);
-    }
-    ensure(goes && came == MAX_PAYLOAD_LEN, "the first chunk")?;
-    let mut other: &[u8] = b"\x01\0\0\x02z";
-    ensure(
-        decoder.next_span(&mut other) == Err(SpanError::PacketsOutOfSync) && other.len() == 5,
-        "another id",
-    )?;
-    let mut large: &[u8] = b"\x02\0\0\x01zz";
-    ensure(
-        decoder.next_span(&mut large) == Err(SpanError::PacketTooLarge),
-        "the limit is the packet's",
-    )?;
-    goes &= count(&mut decoder, b"\x01\0\0\x01z", &mut came, &mut ended);
-    ensure(goes && ended == 1, "the id that is expected")
+    no_row(wrong)?;
+    // Each end comes often.
+    all_hold(&[whole > 200, too_large > 200, out_of_sync > 200])
 }

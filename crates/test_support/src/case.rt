@@ -28,8 +28,8 @@ fn least_count(shown_at: usize, there: usize, pieces: &[&[u8]]) -> usize {
     pieces.len()
 }
 
-// Whether two lists, each with an allocator of its own, have the same packets.
-fn are_same<A: Allocator>(packets: &[Vec<u8, A>], wanted: &[Vec<u8>]) -> bool {
+/// Whether two lists, each with an allocator of its own, have the same packets.
+pub fn are_same<A: Allocator>(packets: &[Vec<u8, A>], wanted: &[Vec<u8>]) -> bool {
     if packets.len() != wanted.len() {
         return false;
     }

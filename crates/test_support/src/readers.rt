@@ -1,5 +1,7 @@
 //! Readers that go a few bytes at a time and fail once, and such a writer.
 
+ghost use Rattle.std.specs.Prelude.{◌≤◌, length};
+
 use std::alloc::Global;
 use std::io::{self, ErrorKind, Read, Write};
 
@@ -31,71 +33,77 @@ impl Read for OneByOne<'_> {
     }
 }
 
-/// Gives so many bytes a read at most, and fails once, at the read of this number. Counts the reads
-/// that are asked for another number of bytes than 8192.
-#[derive(Drop)]
-pub struct Slow<'a> {
-    pub bytes: &'a [u8],
-    pub at_once: usize,
-    pub until_fault: usize,
-    pub kind: ErrorKind,
-    pub odd_reads: usize,
-}
-
-impl Read for Slow<'_> {
-    fn read(&mut self, buf: &mut [u8]) -> io::Result<usize> {
-        self.odd_reads = self
-            .odd_reads
-            .saturating_add(usize::from(buf.len() != 8192));
-        self.until_fault = self.until_fault.wrapping_sub(1);
-        if self.until_fault == usize::MAX {
-            return Err(io::Error::from(self.kind));
-        }
-        let room = buf.len().min(self.at_once);
-        self.bytes.read(&mut buf[..room])
-    }
-}
-
 /// Gives parts, each in reads of its own: these bytes, and so many zeros behind them, which take no
-/// memory. Fails once, at the read of this number.
+/// memory. Gives so many bytes a read at most, and fails once, at the read of this number. Counts the
+/// reads that are asked for another number of bytes than 8192.
 #[derive(Drop)]
 pub struct Parts<'a> {
     parts: &'a [(&'a [u8], usize)],
     bytes: &'a [u8],
     zeros: usize,
-    until_fault: usize,
+    at_once: usize,
+    pub until_fault: usize,
+    kind: ErrorKind,
+    pub odd_reads: usize,
 }
 
 impl<'a> Parts<'a> {
     /// Nothing is read yet.
-    pub fn new(parts: &'a [(&'a [u8], usize)], until_fault: usize) -> Parts<'a> {
+    pub fn new(
+        parts: &'a [(&'a [u8], usize)],
+        at_once: usize,
+        until_fault: usize,
+        kind: ErrorKind,
+    ) -> Self {
         Parts {
             parts,
             bytes: b"",
             zeros: 0,
+            at_once,
             until_fault,
+            kind,
+            odd_reads: 0,
         }
     }
-}
 
-impl Read for Parts<'_> {
-    fn read(&mut self, buf: &mut [u8]) -> io::Result<usize> {
-        self.until_fault = self.until_fault.wrapping_sub(1);
-        if self.until_fault == usize::MAX {
-            return Err(io::Error::from(ErrorKind::Interrupted));
-        }
-        if self.zeros > 0 {
-            let count = self.zeros.min(buf.len());
-            buf[..count].fill(0);
-            self.zeros -= count;
-            return Ok(count);
+    // Begins the next part behind a part's end.
+    fn begin(&mut self) {
+        if !self.bytes.is_empty() | (self.zeros > 0) {
+            return;
         }
         if let [(bytes, zeros), rest @ ..] = self.parts {
             self.bytes = *bytes;
             self.zeros = *zeros;
             self.parts = rest;
         }
-        self.bytes.read(buf)
+    }
+
+    // Gives zeros, and tells how many.
+    fn fill(&mut self, buf: &mut [u8]) -> usize
+        ensures { result ≤ length buf.new }
+    {
+        let count = self.zeros.min(buf.len());
+        buf[..count].fill(0);
+        self.zeros -= count;
+        count
+    }
+}
+
+impl Read for Parts<'_> {
+    fn read(&mut self, buf: &mut [u8]) -> io::Result<usize> {
+        let is_odd = usize::from(buf.len() != 8192);
+        self.odd_reads = self.odd_reads.saturating_add(is_odd);
+        self.until_fault = self.until_fault.wrapping_sub(1);
+        if self.until_fault == usize::MAX {
+            return Err(io::Error::from(self.kind));
+        }
+        let room = buf.len().min(self.at_once);
+        self.begin();
+        if self.bytes.is_empty() {
+            Ok(self.fill(&mut buf[..room]))
+        } else {
+            self.bytes.read(&mut buf[..room])
+        }
     }
 }
 
@@ -138,23 +146,6 @@ impl Write for Narrow {
             return Err(io::Error::from(self.kind));
         }
         self.flushes = self.flushes.wrapping_add(1);
-        Ok(())
-    }
-}
-
-/// Counts what it takes.
-#[derive(Drop)]
-pub struct Count {
-    pub bytes: usize,
-}
-
-impl Write for Count {
-    fn write(&mut self, buf: &[u8]) -> io::Result<usize> {
-        self.bytes = self.bytes.wrapping_add(buf.len());
-        Ok(buf.len())
-    }
-
-    fn flush(&mut self) -> io::Result<()> {
         Ok(())
     }
 }

@@ -11,7 +11,8 @@ use wire_codec::codec::{
     PacketCodec, Visit, deliver, deliver_each, deliver_each_limited, deliver_limited, encode_value,
     packet_to_chunks,
 };
-use wire_repr::text::{EofBytes, RawBytes};
+use wire_forms::undelimited::EofBytes;
+use wire_repr::text::RawBytes;
 
 /// Counts the bytes of packets.
 #[derive(Drop)]

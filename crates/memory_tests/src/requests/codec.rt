@@ -3,11 +3,9 @@
 
 use bytes::BytesMut;
 use memory_support::packets::{Outlet, Source};
-use mysql_wire::proto::codec::{PacketCodec, PacketDst};
-use mysql_wire::proto::packet_io::{PacketIoError, PacketReader, PacketWriter};
+use mysql_wire::proto::codec::PacketDst;
 use refusing_allocator::NEVER;
 use std::alloc::Allocator;
-use std::io;
 use test_support::facts::{are_parts, same};
 use test_support::fixture::{Fixture, Heap};
 use test_support::receiver::{Receiver, Run, Tally, frames, pieces_from};
@@ -26,11 +24,7 @@ pub enum Taking {
     Reserve,
     PutSlice,
     Deliver(Runner),
-    NextPacket,
-    FillPacket,
-    SkipPacket,
-    CopyPacket,
-    RelayPacket,
+    Read(Way),
 }
 
 /// What runs over pieces.
@@ -67,11 +61,11 @@ pub const ROWS: &[Row] = &[
         Taking::Deliver(Runner::DeliverEachLimited),
         3,
     ),
-    ("PacketReader::next_packet", Taking::NextPacket, 2),
-    ("PacketReader::fill_packet", Taking::FillPacket, 1),
-    ("PacketReader::skip_packet", Taking::SkipPacket, 1),
-    ("PacketReader::copy_packet", Taking::CopyPacket, 1),
-    ("PacketReader::relay_packet", Taking::RelayPacket, 3),
+    ("PacketReader::next_packet", Taking::Read(Way::Next), 2),
+    ("PacketReader::fill_packet", Taking::Read(Way::Fill), 1),
+    ("PacketReader::skip_packet", Taking::Read(Way::Skip), 1),
+    ("PacketReader::copy_packet", Taking::Read(Way::Copy), 1),
+    ("PacketReader::relay_packet", Taking::Read(Way::Relay), 3),
 ];
 
 // More than a buffer has room for that holds a few bytes.
@@ -252,80 +246,64 @@ where
 
 const PACKET: &[u8] = b"\x03\0\0\x00123";
 
-// Hands the packet out, or lends it.
-fn read_once<A: Allocator + Copy>(from: &mut Source<'_, A>, lends: bool) -> Result<bool, Told> {
-    if lends {
-        from.fill()
-    } else {
-        from.next_is(b"123")
+/// What a reader does with the packet.
+#[derive(Clone, Copy)]
+pub enum Way {
+    Next,
+    Fill,
+    Skip,
+    Copy,
+    Relay,
+}
+
+// Hands the packet out, lends it, skips it, copies it, or passes it on.
+fn read_once<A>(from: &mut Source<'_, A>, to: &mut Outlet<A>, way: Way) -> Result<bool, Told>
+where
+    A: Allocator + Copy,
+{
+    match way {
+        Way::Next => from.next_is(b"123"),
+        Way::Fill => from.fill(),
+        Way::Skip => from.skip(),
+        Way::Copy => from.copy(),
+        Way::Relay => from.relay(to),
     }
 }
 
-// Whether the request was refused; the packet is then handed out, or lent where it stands.
-fn reads<A: Allocator + Copy>(heap: &Heap, alloc: A, lends: bool, nth: u64) -> Option<bool> {
-    heap.refuse(NEVER);
-    let mut from = Source::new(alloc, PACKET)?;
+// Whether the packet stands ready, or is eaten, or was passed on with the other codec's id.
+fn is_read<A: Allocator + Copy>(from: &Source<'_, A>, to: &Outlet<A>, way: Way) -> bool {
+    match way {
+        Way::Fill => from.lends(b"123"),
+        Way::Relay => (to.pending() == PACKET) & (to.codec.sequence_id() == 1),
+        _ => from.unread().is_empty(),
+    }
+}
+
+fn reads_from<A>(
+    heap: &Heap,
+    from: &mut Source<'_, A>,
+    to: &mut Outlet<A>,
+    way: Way,
+    nth: u64,
+) -> Option<bool>
+where
+    A: Allocator + Copy,
+{
     heap.refuse(nth);
-    let mut answer = read_once(&mut from, lends);
+    let mut answer = read_once(from, to, way);
     let refused = answer == Err(Told::OutOfMemory);
     if refused {
-        answer = read_once(&mut from, lends);
+        answer = read_once(from, to, way);
     }
-    ((answer == Ok(true)) & (from.lends(b"123") | !lends)).then_some(refused)
+    ((answer == Ok(true)) & is_read(from, to, way)).then_some(refused)
 }
 
-// Whether the request was refused; the packet is then skipped.
-fn skips<A: Allocator + Copy>(heap: &Heap, alloc: A, nth: u64) -> Option<bool> {
+// Whether the request was refused; the packet is then read so.
+fn reads<A: Allocator + Copy>(heap: &Heap, alloc: A, way: Way, nth: u64) -> Option<bool> {
     heap.refuse(NEVER);
-    let mut reader = PacketReader::new(alloc, PACKET).ok()?;
-    let mut codec = PacketCodec::default();
-    if !reader.fits(&codec) {
-        return None;
-    }
-    heap.refuse(nth);
-    let mut answer = reader.skip_packet(&mut codec);
-    let refused = matches!(answer, Err(PacketIoError::OutOfMemory));
-    if refused {
-        answer = reader.skip_packet(&mut codec);
-    }
-    (matches!(answer, Ok(true)) & reader.unread().is_empty()).then_some(refused)
-}
-
-// Whether the request was refused; the packet is then copied.
-fn copies<A: Allocator + Copy>(heap: &Heap, alloc: A, nth: u64) -> Option<bool> {
-    heap.refuse(NEVER);
-    let mut reader = PacketReader::new(alloc, PACKET).ok()?;
-    let mut codec = PacketCodec::default();
-    if !reader.can_copy(&codec) {
-        return None;
-    }
-    heap.refuse(nth);
-    let mut answer = reader.copy_packet(&mut codec, &mut io::sink());
-    let refused = matches!(answer, Err(PacketIoError::OutOfMemory));
-    if refused {
-        answer = reader.copy_packet(&mut codec, &mut io::sink());
-    }
-    (matches!(answer, Ok(true)) & reader.unread().is_empty()).then_some(refused)
-}
-
-// Whether the request was refused; the packet is then passed on, with the other codec's id.
-fn relays<A: Allocator + Copy>(heap: &Heap, alloc: A, nth: u64) -> Option<bool> {
-    heap.refuse(NEVER);
-    let mut reader = PacketReader::new(alloc, PACKET).ok()?;
-    let mut writer = PacketWriter::new(alloc, io::sink()).ok()?;
-    let mut codec = PacketCodec::default();
-    let mut other = PacketCodec::default();
-    if !reader.can_copy(&codec) {
-        return None;
-    }
-    heap.refuse(nth);
-    let mut answer = reader.relay_packet(&mut codec, &mut writer, &mut other);
-    let refused = matches!(answer, Err(PacketIoError::OutOfMemory));
-    if refused {
-        answer = reader.relay_packet(&mut codec, &mut writer, &mut other);
-    }
-    let all = matches!(answer, Ok(true)) & (writer.pending() == PACKET);
-    (all & (other.sequence_id() == 1)).then_some(refused)
+    let mut from = Source::new(alloc, PACKET)?;
+    let mut to = Outlet::new(alloc)?;
+    reads_from(heap, &mut from, &mut to, way, nth)
 }
 
 // ---- all
@@ -343,10 +321,6 @@ pub fn tries<A: Allocator + Copy>(heap: &Heap, alloc: A, call: Taking, nth: u64)
         Taking::Reserve => both_put(heap, alloc, false, nth),
         Taking::PutSlice => both_put(heap, alloc, true, nth),
         Taking::Deliver(runner) => delivers(heap, alloc, runner, nth),
-        Taking::NextPacket => reads(heap, alloc, false, nth),
-        Taking::FillPacket => reads(heap, alloc, true, nth),
-        Taking::SkipPacket => skips(heap, alloc, nth),
-        Taking::CopyPacket => copies(heap, alloc, nth),
-        Taking::RelayPacket => relays(heap, alloc, nth),
+        Taking::Read(way) => reads(heap, alloc, way, nth),
     }
 }

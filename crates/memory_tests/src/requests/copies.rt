@@ -2,7 +2,7 @@
 //! memory.
 
 use memory_support::copies::{
-    Copying, Holding, Onto, Owner, clones_owner, copies_held, pushes, pushes_text, reads_elements,
+    Copying, Holding, Onto, Owner, clones_owner, copies_held, pushes_text, reads_elements,
     reads_list, reads_stream, shows_text,
 };
 use memory_support::reading::Reading;
@@ -15,7 +15,6 @@ pub enum Taking {
     // With so many bytes left where it is refused, and where it isn't.
     Read(Reading, usize, usize),
     Elements,
-    Push,
     PushText(Onto),
     Copy(Holding, Copying),
     CloneOwner(Owner),
@@ -57,26 +56,6 @@ pub const ROWS_READ: &[Row] = &[
 
 /// Those of a list, numbers or a text in hand.
 pub const ROWS_HELD: &[Row] = &[
-    (
-        "Seq::clone",
-        Taking::Copy(Holding::List, Copying::CloneLent),
-        0,
-    ),
-    (
-        "Seq::clone",
-        Taking::Copy(Holding::List, Copying::CloneOwned),
-        1,
-    ),
-    (
-        "Seq::into_owned",
-        Taking::Copy(Holding::List, Copying::OwnLent),
-        1,
-    ),
-    (
-        "Seq::into_owned",
-        Taking::Copy(Holding::List, Copying::OwnOwned),
-        0,
-    ),
     // Two texts that are owned are cloned with the list.
     (
         "Seq::clone",
@@ -119,26 +98,6 @@ pub const ROWS_HELD: &[Row] = &[
         0,
     ),
     (
-        "RawSeq::clone",
-        Taking::Copy(Holding::Read, Copying::CloneLent),
-        0,
-    ),
-    (
-        "RawSeq::clone",
-        Taking::Copy(Holding::Read, Copying::CloneOwned),
-        1,
-    ),
-    (
-        "RawSeq::into_owned",
-        Taking::Copy(Holding::Read, Copying::OwnLent),
-        1,
-    ),
-    (
-        "RawSeq::into_owned",
-        Taking::Copy(Holding::Read, Copying::OwnOwned),
-        0,
-    ),
-    (
         "RawBytes::clone",
         Taking::Copy(Holding::Text, Copying::CloneLent),
         0,
@@ -163,7 +122,6 @@ pub const ROWS_HELD: &[Row] = &[
 /// The others.
 pub const ROWS_OTHER: &[Row] = &[
     ("SeqRepr::deserialize", Taking::Elements, 1),
-    ("Seq::push", Taking::Push, 2),
     ("Seq::push", Taking::PushText(Onto::Lent), 4),
     ("Seq::push", Taking::PushText(Onto::Read), 0),
     ("Both::clone", Taking::CloneOwner(Owner::Both), 2),
@@ -180,7 +138,6 @@ pub fn tries<A: Allocator + Copy>(heap: &Heap, alloc: A, call: Taking, nth: u64)
     match call {
         Taking::Read(reading, if_refused, left) => reads_list(alloc, reading, if_refused, left),
         Taking::Elements => reads_elements(alloc),
-        Taking::Push => pushes(heap, alloc),
         Taking::PushText(onto) => pushes_text(heap, alloc, onto, nth),
         Taking::Copy(holding, copying) => copies_held(heap, alloc, holding, copying, nth),
         Taking::AsStr(bytes, string) => shows_text(alloc, bytes, string),

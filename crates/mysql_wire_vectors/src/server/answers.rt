@@ -2,10 +2,10 @@
 
 use crate::server::payload::{OTHER, Refused, is_payload, text_if};
 use mysql_wire::misc::raw::{Either, RawBytes, RawConst, RawFlags};
-use mysql_wire_packets::com_stmt_prepare_ok::ComStmtPrepareOk;
 use mysql_wire_packets::eof_packet::EofPacket;
 use mysql_wire_packets::ok_packet::{InfoForm, OkForm, OkInfo};
 use mysql_wire_packets::session_change::SessionChange;
+use mysql_wire_statements::com_stmt_prepare_ok::ComStmtPrepareOk;
 use std::alloc::Global;
 use test_support::fields::{gives, is_written, stops};
 use test_support::fixture::Heap;

@@ -3,8 +3,8 @@
 use crate::server::payload::{is_payload, text_if};
 use mysql_wire::constants::{Flags, MariadbCapabilities};
 use mysql_wire::misc::raw::{RawBytes, RawConst, RawFlags};
-use mysql_wire_packets::column_definition::ColumnDefinition41;
-use mysql_wire_packets::type_detail::TypeDetail;
+use mysql_wire_queries::column_definition::ColumnDefinition41;
+use mysql_wire_queries::type_detail::TypeDetail;
 use std::alloc::Global;
 use test_support::fixture::Heap;
 

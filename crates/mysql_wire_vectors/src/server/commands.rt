@@ -2,11 +2,11 @@
 
 use crate::server::payload::{OTHER, Refused, is_payload};
 use mysql_wire::misc::raw::RawBytes;
-use mysql_wire_packets::com_init_db::ComInitDb;
-use mysql_wire_packets::com_ping::ComPing;
-use mysql_wire_packets::com_query::ComQuery;
-use mysql_wire_packets::com_query_attributes::ComQueryWithAttributes;
-use mysql_wire_packets::com_quit::ComQuit;
+use mysql_wire_queries::com_init_db::ComInitDb;
+use mysql_wire_queries::com_ping::ComPing;
+use mysql_wire_queries::com_query::ComQuery;
+use mysql_wire_queries::com_query_attributes::ComQueryWithAttributes;
+use mysql_wire_queries::com_quit::ComQuit;
 use std::alloc::Global;
 use test_support::fixture::Heap;
 

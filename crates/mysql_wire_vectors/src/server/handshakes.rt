@@ -3,7 +3,7 @@
 use crate::server::payload::{OTHER, Refused, is_payload};
 use mysql_wire::constants::Flags;
 use mysql_wire::misc::raw::{Either, RawBytes, RawFlags};
-use mysql_wire_packets::handshake::{HandshakeV10, PluginName};
+use mysql_wire_connection::handshake::{HandshakeV10, PluginName};
 use std::alloc::Global;
 use test_support::fixture::Heap;
 

@@ -2,7 +2,7 @@
 
 use crate::server::payload::{is_payload, text_if};
 use mysql_wire::misc::raw::{Either, RawBytes, RawFlags};
-use mysql_wire_packets::handshake_response::{AuthResponse, HandshakeResponse41};
+use mysql_wire_connection::handshake_response::{AuthResponse, HandshakeResponse41};
 use std::alloc::Global;
 use test_support::fixture::Heap;
 

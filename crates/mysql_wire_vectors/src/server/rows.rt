@@ -3,7 +3,7 @@
 use crate::server::payload::{Refused, is_payload};
 use TextValue::{Null, Text};
 use mysql_wire::misc::raw::seq::Seq;
-use mysql_wire_packets::text_row::{TextRow, TextValue};
+use mysql_wire_queries::text_row::{TextRow, TextValue};
 use std::alloc::Global;
 use std::borrow::CowSlice;
 use test_support::answers::Fault;
