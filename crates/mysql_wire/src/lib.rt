@@ -29,8 +29,9 @@ pub mod misc {
 
         /// What was written is read back, and how wrappers are compared, as functions.
         pub mod field_laws {
-            pub use crate::field_laws::{constants, converted, lists, numbers, rows, texts};
-            pub use wire_field::field_laws::compared;
+            pub use crate::field_laws::{constants, converted, numbers, rows};
+            pub use wire_field::field_laws::{compared, lists};
+            pub use wire_forms::field_laws::texts;
             pub use wire_repr::field_laws::{
                 number_back, number_comes_back, parse_back, text_comes_back,
             };

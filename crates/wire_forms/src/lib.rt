@@ -3,6 +3,7 @@
 #![tactic(auto)]
 
 pub mod constant;
+pub mod field_laws;
 pub mod halves;
 pub mod lenenc;
 pub mod null;

@@ -55,8 +55,11 @@ pub fn number_comes_back<T: IntRepr>(_ctx: (), _number: &RawInt<T>, _back: &RawI
         → _back.now.0 ≡ T.kept _number.now.0 }
 {}
 
-/// A text comes back borrowed: what its representation keeps of it.
+/// A text is good where its representation says so. It comes back borrowed: what the
+/// representation keeps of it.
 pub fn text_comes_back<T: BytesRepr>(_text: &RawBytes<'_, T>, _back: &RawBytes<'_, T>)
-    ensures { ⟦<RawBytes<'static, T> as Wire<'static, Global>>⟧.kept _text.now _back.now
+    ensures good { (ctx : T.Ctx) (rest : List ℕ) → T.good ctx (cow_slice_items _text.now.0) rest
+        → ⟦<RawBytes<'static, T> as Wire<'static, Global>>⟧.good ctx _text.now rest }
+    ensures kept { ⟦<RawBytes<'static, T> as Wire<'static, Global>>⟧.kept _text.now _back.now
         → IsBorrowedText _back.now.0 (T.kept (cow_slice_items _text.now.0)) }
 {}
