@@ -1,6 +1,6 @@
-//! Tests of `wire_repr` and `wire_field`: numbers, texts and constants as fields of packets, fields
-//! in a row, and lists; and of `wire_const`: the numbers of constants. What is made of such fields
-//! elsewhere, `example_tests` and `mysql_wire_vectors` test.
+//! Tests of what packets are made of: buffers and streams; numbers, texts and constants as fields,
+//! fields in a row, and lists; and the numbers of constants. What is made of such fields elsewhere,
+//! `example_tests` and `mysql_wire_vectors` test.
 #![tactic(auto)]
 
 #[cfg(test)]
@@ -17,6 +17,8 @@ mod enums;
 mod fields;
 #[cfg(test)]
 mod flag_sets;
+#[cfg(test)]
+mod io;
 pub mod kind;
 #[cfg(test)]
 mod lists;

@@ -1,5 +1,5 @@
-//! Tests of packets: framing, chunks, the codec, limits, lending, delivery, every cutting, and
-//! packets over readers and writers.
+//! Tests of packets: framing, chunks, the codec, limits, lending, delivery, every cutting, packets
+//! over readers and writers, and packets in spans.
 #![tactic(auto)]
 
 #[cfg(test)]
@@ -12,6 +12,8 @@ mod copies;
 mod delivery;
 #[cfg(test)]
 mod fragmentation;
+#[cfg(test)]
+mod framed;
 #[cfg(test)]
 mod framing;
 #[cfg(test)]
@@ -30,6 +32,12 @@ mod relays;
 mod said;
 #[cfg(test)]
 mod skips;
+#[cfg(test)]
+mod span_rows;
+#[cfg(test)]
+mod spanned;
+#[cfg(test)]
+mod spans;
 #[cfg(test)]
 mod taken;
 #[cfg(test)]

@@ -1,7 +1,7 @@
 // Numbers whose length is in their first byte, and texts behind their length: put into buffers, and
 // read from buffers.
 
-use crate::numbers::{Readers, Row};
+use crate::io::numbers::{Readers, Row};
 use bytes::{BufMut, BytesMut};
 use mysql_wire::io::{BufMutExt, ParseBuf, WireError, WriteMysqlExt};
 use mysql_wire::misc::{lenenc_int_len, lenenc_str_len};

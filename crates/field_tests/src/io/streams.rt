@@ -1,7 +1,7 @@
 // Numbers and texts over readers and writers.
 
-use crate::lenenc::{Lenenc, WRITTEN};
-use crate::numbers::{self, Row};
+use crate::io::lenenc::{Lenenc, WRITTEN};
+use crate::io::numbers::{self, Row};
 use mysql_wire::io::{BufMutExt, ReadMysqlExt, WriteMysqlExt};
 use mysql_wire::misc::lenenc_str_len;
 use refusing_allocator::{NEVER, Refusing};

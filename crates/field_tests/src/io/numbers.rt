@@ -1,7 +1,7 @@
 // Readers of numbers, each in both its forms: on no byte, on fewer than it eats, on as many, and on
 // more.
 
-use crate::lenenc::{Lenenc, MARKS, WRITTEN};
+use crate::io::lenenc::{Lenenc, MARKS, WRITTEN};
 use mysql_wire::io::ParseBuf;
 use std::test::Fail;
 use test_support::facts::{all_hold, same};

@@ -1,6 +1,6 @@
 // Integers of the serialization library.
 
-use crate::numbers::Row;
+use crate::io::numbers::Row;
 use mysql_wire::io::ParseBuf;
 use mysql_wire::misc::{read_varlen_uint, varlen_uint_size, write_varlen_uint};
 use std::alloc::Global;
