@@ -15,7 +15,7 @@ import json
 import pathlib
 import sys
 
-SESSIONS = ("py_basic", "py_rows", "go_basic", "php", "node")
+SESSIONS = ("py_basic", "py_rows", "go_basic", "php", "node", "tracked")
 SESSION, CLIENT, SERVER, RESET, LISTED = range(5)
 
 

@@ -10,6 +10,7 @@ use Rattle.wire_span.specs.Spans.{span_state}
 use Rattle.std.specs.Global.{Global}
 use Rattle.mysql_wire_dump_commands.specs.declared.dump.Dump.{Dump}
 use Rattle.mysql_wire_dump_commands.specs.declared.dump.Options.{Options}
+use Rattle.mysql_wire_dump_commands.specs.declared.dump.Sides.{Sides}
 use Rattle.mysql_wire_dump_commands.specs.declared.kind.Kind.{Kind}
 use Rattle.mysql_wire_dump_commands.specs.declared.kind.Kind.TheVariants.{TooLarge}
 use Rattle.mysql_wire_dump_commands.specs.declared.lines.LineForm.{LineForm}
@@ -17,16 +18,17 @@ use Rattle.mysql_wire_dump_commands.specs.declared.lines.Seen.{Seen}
 use Rattle.mysql_wire_dump_commands.specs.declared.place.Place.{Place}
 use Rattle.mysql_wire_dump_commands.specs.declared.side.Side.{Side}
 use Rattle.mysql_wire_dump_commands.specs.declared.side.Side.TheVariants.{Client, Server}
+use Rattle.mysql_wire_dump_commands.specs.declared.source.End.{End}
 use Rattle.mysql_wire_dump_commands.specs.declared.source.End.TheVariants.{Encrypted}
 use Rattle.mysql_wire_dump_commands.specs.declared.source.Next.{Next}
 use Rattle.mysql_wire_dump_commands.specs.declared.source.Next.TheVariants.{Unread, Packet, Ended}
 use Rattle.mysql_wire_dump_commands.specs.declared.source.Source.{Source}
-use Rattle.mysql_wire_dump_commands.specs.Dumped.{InOrder, IsShown, Shown, first_of, is_of, lines_of, packets_of}
-use Rattle.mysql_wire_dump_commands.specs.Dumping.{Dumping, IsLooked, IsTurn, Pends, Shows, ShowsAll, StartsDump, id_behind}
+use Rattle.mysql_wire_dump_commands.specs.Dumped.{Dumps, InOrder, IsShown, Shown, SideEnds, ending_lines, first_of, is_of, lines_of, packets_of, status_of}
+use Rattle.mysql_wire_dump_commands.specs.Dumping.{Dumping, Goes, IsLooked, IsTurn, Pends, Shows, ShowsAll, SoFar, StartsDump, id_behind}
 use Rattle.mysql_wire_dump_commands.specs.Moments.{moment_of}
 use Rattle.mysql_wire_dump_commands.specs.Naming.{IsOrBytes, kind_at}
 use Rattle.mysql_wire_dump_commands.specs.Lines.{bytes_part, line_end, packet_front, packet_line}
-use Rattle.mysql_wire_dump_commands.specs.Sources.{AtEnd, HasPacket, Stands, collected, id_of}
+use Rattle.mysql_wire_dump_commands.specs.Sources.{AtEnd, HasPacket, Stands, StandsNext, collected, id_of}
 use Rattle.mysql_wire_dump_commands.proofs.SourceLemmas.{consumes_none}
 use Rattle.mysql_wire_dump_commands.specs.Turns.{turn}
 
@@ -203,19 +205,6 @@ server_shown old new id kind bytes fields is large named same plain text next_id
             ∙ sym (lines_of_more old.options.form shown one) ∙ ap (λ (o : Options). lines_of o.form (shown ++ one ∷ [])) (sym options);
       },
     )
-
--- what was read of both sides, shown and written so far
-pub record SoFar (dump : Dump) (client client_left server server_left written now : Option (List ℕ)) : Type 0 where
-  pub shown : List Shown
-  pub of_client : List ℕ
-  pub of_server : List ℕ
-  pub text : List ℕ
-  pub client_consumed : Consumes client client_left of_client
-  pub server_consumed : Consumes server server_left of_server
-  pub appended : Appends written now text
-  pub dumping : Dumping shown of_client of_server text dump
-  pub client_end : AtEnd dump.client.next client_left
-  pub server_end : AtEnd dump.server.next server_left
 
 -- nothing is appended
 pub appends_none : (known : Option (List ℕ)) → Appends known known []
@@ -430,3 +419,65 @@ pub packet_of : (next : Next) (id : ℕ) → id_of next ≡ Some id → next ≡
 packet_of Unread id is = cc
 packet_of (Packet number) id is = cc
 packet_of (Ended end) id is = cc
+
+-- a turn, and what goes on from there
+pub goes_on : (more : Bool) (first middle last : Dump)
+    (client client_between client_left server server_between server_left written between now : Option (List ℕ))
+    → Goes first middle client client_between server server_between written between true
+    → Goes middle last client_between client_left server_between server_left between now more
+    → Goes first last client client_left server server_left written now more
+goes_on more first middle last client client_between client_left server server_between server_left written between now begins goes =
+    λ all_client all_server before so_far. goes all_client all_server before (begins all_client all_server before so_far)
+
+-- how a side ends
+side_ends : (source : Source Global) (packets : List (ℕ × List ℕ)) (bytes : List ℕ) (end : End) → Stands packets bytes source → source.next ≡ Ended end
+    → SideEnds bytes packets end
+side_ends source packets bytes end stands is = record {
+  rest = stands.begun ++ source.src.items;
+  is = stands.is;
+  ends = subst (λ (n : Next). StandsNext n stands.begun (collected source)) is stands.next;
+}
+
+ended_so : (end other : End) → Ended end ≡ Ended other → end ≡ other
+ended_so end other is = search (rules, is)
+
+-- all is shown, and how the sides end is written behind it
+pub dumps_all : (options : Options) (sides : Sides) (dump : Dump) (client_end server_end : End) (last : List ℕ) (status : ℕ)
+    (client client_left server server_left written now later : Option (List ℕ))
+    → ShowsAll dump client client_left server server_left written now → dump.options ≡ options
+    → dump.client.next ≡ Ended client_end → dump.server.next ≡ Ended server_end
+    → last ≡ string_bytes dump.text ++ ending_lines options.form sides client_end dump.client.at server_end dump.server.at
+    → Appends now later last → status ≡ status_of sides client_end server_end
+    → Dumps options sides client client_left server server_left written later status
+dumps_all options sides dump client_end server_end last status client client_left server server_left written now later all options_are client_is server_is last_is appended status_is =
+    let endings : ℕ → ℕ → List ℕ = λ client_at server_at. ending_lines options.form sides client_end client_at server_end server_at in
+    record {
+      of_client = all.of_client;
+      of_server = all.of_server;
+      text = all.text ++ last;
+      client_end = client_end;
+      server_end = server_end;
+      client_consumed = all.client_consumed;
+      server_consumed = all.server_consumed;
+      appended = Appends-trans written now later all.text last all.appended appended;
+      dumped = record {
+        shown = all.shown;
+        are_shown = subst (λ (o : Options). All (IsShown o) all.shown) options_are all.are_shown;
+        clients = side_ends dump.client (packets_of Client all.shown) all.of_client client_end all.clients client_is;
+        servers = side_ends dump.server (packets_of Server all.shown) all.of_server server_end all.servers server_is;
+        client_next = all.client_next;
+        server_next = all.server_next;
+        ordered = all.ordered;
+        none_left = elim all.none_left [
+          | inl hidden ↦ inl (ended_so client_end Encrypted (sym client_is ∙ hidden))
+          | inr none ↦ inr none
+        ];
+        is = ap (λ (z : List ℕ). all.text ++ z) last_is
+            ∙ sym (append_assoc all.text (string_bytes dump.text) (endings dump.client.at dump.server.at))
+            ∙ ap₂ (λ (lines ends : List ℕ). lines ++ ends) (all.lines ∙ ap (λ (o : Options). lines_of o.form all.shown) options_are)
+            (ap₂ (λ (c s : ℕ). endings c s) all.clients.at all.servers.at);
+        ends = status_is;
+      };
+      client_whole = subst (λ (n : Next). AtEnd n client_left) client_is all.client_end;
+      server_whole = subst (λ (n : Next). AtEnd n server_left) server_is all.server_end;
+    }

@@ -109,13 +109,24 @@ pub record Dumped (options : Options) (sides : Sides) (client server : List ℕ)
       (length (framed (packets_of Server shown)))
   pub ends : status ≡ status_of sides client_end server_end
 
--- the dump ended with this status, where readers and writers tell their bytes
-pub record DumpEnds (options : Options) (sides : Sides) (status : ℕ)
-    (client client_left server server_left written now : Option (List ℕ)) : Type 0 where
-  pub cases : (status ≡ 0) ⊎ (status ≡ 2) ⊎ (status ≡ 3) ⊎ (status ≡ 5) ⊎ (status ≡ 6)
-  pub text : (status ≡ 0) ⊎ (status ≡ 3) ⊎ (status ≡ 5)
-      → (of_client : List ℕ) × (of_server : List ℕ) × (text : List ℕ) × (client_end : End)
-      × (server_end : End) × Consumes client client_left of_client
-      × Consumes server server_left of_server × Appends written now text
-      × Dumped options sides of_client of_server status text client_end server_end
-      × ReadWhole client_end client_left × ReadWhole server_end server_left
+-- a session was dumped of what was read of both sides, and ended with this status
+pub record Dumps (options : Options) (sides : Sides)
+    (client client_left server server_left written now : Option (List ℕ)) (status : ℕ) : Type 0 where
+  pub of_client : List ℕ
+  pub of_server : List ℕ
+  pub text : List ℕ
+  pub client_end : End
+  pub server_end : End
+  pub client_consumed : Consumes client client_left of_client
+  pub server_consumed : Consumes server server_left of_server
+  pub appended : Appends written now text
+  pub dumped : Dumped options sides of_client of_server status text client_end server_end
+  pub client_whole : ReadWhole client_end client_left
+  pub server_whole : ReadWhole server_end server_left
+
+-- the dump gave up, or ended with this status
+abbrev pub DumpEnds : Options → Sides
+    → (client client_left server server_left written now : Option (List ℕ)) → ℕ → Type 0
+DumpEnds options sides client client_left server server_left written now status =
+    (status ≡ 2) ⊎ (status ≡ 6)
+    ⊎ Dumps options sides client client_left server server_left written now status

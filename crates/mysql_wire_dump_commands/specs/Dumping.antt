@@ -1,5 +1,5 @@
 -- How the dump goes from packet to packet.
-use Rattle.std.specs.Prelude.{◌≡◌, ◌≢◌, ◌⊎◌, ℕ, List, [], ◌∷◌, ◌++◌, ⊤, All, string_bytes, Option, Some, None}
+use Rattle.std.specs.Prelude.{◌≡◌, ◌≢◌, ◌⊎◌, ℕ, List, [], ◌∷◌, ◌++◌, ⊤, All, string_bytes, Option, Some, None, Bool, true, false}
 use Rattle.std.specs.Io.KnownBytes.{Appends, Consumes}
 use Rattle.wire_codec.specs.Framing.{next_id}
 use Rattle.mysql_wire_dump_commands.specs.declared.dump.Dump.{Dump}
@@ -65,6 +65,20 @@ pub record Shows (side : Side) (old new : Dump) : Type 0 where
   pub server_end : (left : Option (List ℕ)) → AtEnd old.server.next left
       → AtEnd new.server.next left
 
+-- what was read of both sides, shown and written so far
+pub record SoFar (dump : Dump)
+    (client client_left server server_left written now : Option (List ℕ)) : Type 0 where
+  pub shown : List Shown
+  pub of_client : List ℕ
+  pub of_server : List ℕ
+  pub text : List ℕ
+  pub client_consumed : Consumes client client_left of_client
+  pub server_consumed : Consumes server server_left of_server
+  pub appended : Appends written now text
+  pub dumping : Dumping shown of_client of_server text dump
+  pub client_end : AtEnd dump.client.next client_left
+  pub server_end : AtEnd dump.server.next server_left
+
 -- what a dump that began showed of the bytes of both sides, and wrote
 pub record ShowsAll (dump : Dump)
     (client client_left server server_left written now : Option (List ℕ)) : Type 0 where
@@ -86,3 +100,16 @@ pub record ShowsAll (dump : Dump)
   pub lines : text ++ string_bytes dump.text ≡ lines_of dump.options.form shown
   pub client_end : AtEnd dump.client.next client_left
   pub server_end : AtEnd dump.server.next server_left
+
+-- from what was shown so far a dump came here, and there may be more, or all is shown
+abbrev pub GoesTo : Bool → Dump → (client client_left server server_left written now : Option (List ℕ))
+    → Type 0
+GoesTo true = SoFar
+GoesTo false = ShowsAll
+
+abbrev pub Goes : (old new : Dump)
+    (client client_left server server_left written now : Option (List ℕ)) → Bool → Type 0
+Goes old new client client_left server server_left written now more =
+    (all_client all_server before : Option (List ℕ))
+    → SoFar old all_client client all_server server before written
+    → GoesTo more new all_client client_left all_server server_left before now

@@ -1,5 +1,6 @@
 -- What a packet is, by its place, its first byte and its length.
-use Rattle.std.specs.Prelude.{◌≡◌, ◌⊎◌, ℕ, ◌==◌, ◌&&◌, nat_lt, ⊤, Bool, true, false, if◌then◌else◌, List, [], ◌∷◌, length, Option, Some, None}
+use Rattle.std.specs.List.{starts_with}
+use Rattle.std.specs.Prelude.{◌≡◌, ◌⊎◌, ℕ, ◌==◌, eqb, ◌&&◌, nat_lt, ⊤, Bool, true, false, if◌then◌else◌, List, [], ◌∷◌, length, Option, Some, None}
 use Rattle.mysql_wire_dump_commands.specs.declared.kind.Kind.{Kind}
 use Rattle.mysql_wire_dump_commands.specs.declared.kind.Kind.TheVariants as kind
 use Rattle.mysql_wire_dump_commands.specs.declared.naming.Moment.{Moment}
@@ -21,6 +22,10 @@ first_byte (byte ∷ bytes) = Some byte
 abbrev pub is_short : Bool → ℕ → Bool
 is_short true len = nat_lt len 0xffffff
 is_short false len = nat_lt len 9
+
+-- the error 65535: how far a command has come
+abbrev pub is_report : List ℕ → Bool
+is_report payload = starts_with eqb payload (0xff ∷ 0xff ∷ 0xff ∷ [])
 
 -- the command of this number
 abbrev pub command_kind : ℕ → Kind
@@ -210,7 +215,8 @@ abbrev pub kind_at : Moment → Side → ℕ → List ℕ → Kind
 kind_at moment Client id payload =
     client_kind moment.place id (first_byte payload) (length payload)
 kind_at moment Server id payload =
-    any_server_kind moment id (first_byte payload) (length payload)
+    if is_report payload then kind.Progress
+    else any_server_kind moment id (first_byte payload) (length payload)
 
 -- a payload that its type refuses is shown as bytes
 abbrev pub IsBytes : Kind → Type 0

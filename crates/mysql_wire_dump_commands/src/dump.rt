@@ -2,7 +2,8 @@
 
 ghost use Rattle.std.specs.Prelude.{◌≡◌, ◌≢◌, ◌<◌, ◌≤◌, ◌⊎◌, ◌++◌, ◌∷◌, ℕ, List, [], length, IfOk, IfSome, OnOk, string_bytes, false};
 ghost use Rattle.std.specs.Io.KnownBytes.{Appends};
-ghost use Rattle.mysql_wire_dump_commands.specs.Dumped.{ending_lines, status_of};
+ghost use Rattle.mysql_wire_dump_commands.specs.Dumped.{DumpEnds, Dumps, ending_lines, status_of};
+ghost use Rattle.mysql_wire_dump_commands.specs.Dumping.{Goes};
 ghost use Rattle.mysql_wire_dump_commands.specs.Moments.{moment_of};
 ghost use Rattle.mysql_wire_dump_commands.specs.Naming.{IsOrBytes, kind_at};
 ghost use Rattle.mysql_wire_dump_commands.specs.Status.{end_status};
@@ -243,24 +244,47 @@ impl Dump {
     }
 }
 
+// Shows the next packet. The answer is whether there may be more.
+fn show_next<R: Read, S: Read, W: Write>(
+    dump: &mut Dump,
+    client: &mut R,
+    server: &mut S,
+    output: &mut W,
+) -> Result<bool, Stop>
+    ensures goes { IfOk result (Goes dump.old dump.new (R.remaining client.old)
+        (R.remaining client.new) (S.remaining server.old) (S.remaining server.new)
+        (W.contents output.old) (W.contents output.new)) }
+    ensures options { OnOk result (dump.new.options ≡ dump.old.options) }
+{
+    dump.client.look(client)?;
+    dump.server.look(server)?;
+    let Some(side) = dump.turn() else {
+        return Ok(false);
+    };
+    dump.show(side)?;
+    dump.write_much(output)?;
+    if dump.session.place() == Place::Encrypted {
+        dump.client.hide();
+        dump.server.hide();
+        return Ok(false);
+    }
+    Ok(true)
+}
+
 // Shows all packets of both sides.
 fn show_all<R: Read, S: Read, W: Write>(
     dump: &mut Dump,
     client: &mut R,
     server: &mut S,
     output: &mut W,
-) -> Result<(), Stop> {
+) -> Result<(), Stop>
+    ensures goes { OnOk result (Goes dump.old dump.new (R.remaining client.old)
+        (R.remaining client.new) (S.remaining server.old) (S.remaining server.new)
+        (W.contents output.old) (W.contents output.new) false) }
+    ensures options { OnOk result (dump.new.options ≡ dump.old.options) }
+{
     'packets: for _ in 0..u64::MAX {
-        dump.client.look(client)?;
-        dump.server.look(server)?;
-        let Some(side) = dump.turn() else {
-            return Ok(());
-        };
-        dump.show(side)?;
-        dump.write_much(output)?;
-        if dump.session.place() == Place::Encrypted {
-            dump.client.hide();
-            dump.server.hide();
+        if !show_next(dump, client, server, output)? {
             return Ok(());
         }
     }
@@ -318,7 +342,11 @@ fn show_session<R: Read, S: Read, W: Write>(
     client: &mut R,
     server: &mut S,
     output: &mut W,
-) -> Result<u8, Stop> {
+) -> Result<u8, Stop>
+    ensures { IfOk result (Dumps options sides (R.remaining client.old) (R.remaining client.new)
+        (S.remaining server.old) (S.remaining server.new) (W.contents output.old)
+        (W.contents output.new)) }
+{
     let mut dump = Dump::new(alloc, options);
     show_all(&mut dump, client, server, output)?;
     let Some((client_end, server_end)) = dump.ends() else {
@@ -343,6 +371,10 @@ pub fn run_dump<R: Read, S: Read, W: Write>(
     client: &mut R,
     server: &mut S,
     output: &mut W,
-) -> u8 {
+) -> u8
+    ensures { DumpEnds options sides (R.remaining client.old) (R.remaining client.new)
+        (S.remaining server.old) (S.remaining server.new) (W.contents output.old)
+        (W.contents output.new) result }
+{
     exit_status(show_session(alloc, options, sides, client, server, output))
 }

@@ -16,6 +16,8 @@ pub enum Kind {
     AuthAnswer,
     Ok,
     Error,
+    /// How far a command has come.
+    Progress,
     Eof,
     ColumnCount,
     Column,
@@ -64,6 +66,7 @@ impl Kind {
             Kind::AuthAnswer => "auth answer",
             Kind::Ok => "ok",
             Kind::Error => "error",
+            Kind::Progress => "progress",
             Kind::Eof => "eof",
             Kind::ColumnCount => "column count",
             Kind::Column => "column",

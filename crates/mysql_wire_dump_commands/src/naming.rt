@@ -1,7 +1,7 @@
 //! What a packet is, by its place, its first byte and its length.
 
 ghost use Rattle.std.specs.Prelude.{◌≡◌};
-ghost use Rattle.mysql_wire_dump_commands.specs.Naming.{answer_kind, client_kind, column_kind, columns_end_kind, command_kind, empty_kind, event_kind, field_kind, first_byte, greeting_kind, is_short, kind_at, option_kind, outcome_kind, prepare_kind, row_kind, server_kind, statistics_kind, values_kind};
+ghost use Rattle.mysql_wire_dump_commands.specs.Naming.{answer_kind, client_kind, column_kind, columns_end_kind, command_kind, empty_kind, event_kind, field_kind, first_byte, greeting_kind, is_report, is_short, kind_at, option_kind, outcome_kind, prepare_kind, row_kind, server_kind, statistics_kind, values_kind};
 
 use crate::kind::Kind;
 use crate::place::{Behind, Place, RowForm};
@@ -36,6 +36,13 @@ fn is_short(is_eof_deprecated: bool, len: usize) -> bool
     } else {
         len < 9
     }
+}
+
+// Whether it is the error 65535, which says how far a command has come.
+fn is_report(payload: &[u8]) -> bool
+    ensures { result ≡ is_report payload.now }
+{
+    payload.starts_with(&[0xff, 0xff, 0xff])
 }
 
 // The command of this number.
@@ -305,9 +312,14 @@ pub fn kind_at(moment: Moment, side: Side, id: u8, payload: &[u8]) -> Kind
     let first = first_byte(payload);
     match side {
         Side::Client => client_kind(moment.place, id, first, payload.len()),
-        Side::Server => match first {
-            Some(first) => server_kind(moment, id, first, payload.len()),
-            None => empty_kind(moment.place, moment.row_form),
-        },
+        Side::Server => {
+            if is_report(payload) {
+                return Kind::Progress;
+            }
+            match first {
+                Some(first) => server_kind(moment, id, first, payload.len()),
+                None => empty_kind(moment.place, moment.row_form),
+            }
+        }
     }
 }

@@ -16,10 +16,12 @@ use crate::kind::Kind;
 use crate::naming::{Moment, kind_at};
 use crate::place::{Place, RowForm};
 use crate::refusal::Refusal;
+use crate::show;
 use crate::side::Side;
 use crate::statements::Statements;
 use crate::status::Stop;
-use mysql_wire_packets::places::PayloadError;
+use mysql_wire_packets::places::{PayloadError, read_whole};
+use mysql_wire_packets::progress_report::ProgressReport;
 use std::alloc::Global;
 use wire_const::{CapabilityFlags, Flags, MariadbCapabilities};
 
@@ -46,6 +48,19 @@ fn refused(error: PayloadError) -> Result<Kind, Stop>
     match Refusal::of(error) {
         Ok(refusal) => Ok(Kind::Bytes(refusal)),
         Err(stop) => Err(stop),
+    }
+}
+
+// A report on a command, behind which the session stands where it did.
+fn read_report(alloc: Global, kind: Kind, payload: &[u8], fields: &mut Fields) -> Result<Kind, Stop>
+    ensures { IfOk result (λ named. IsOrBytes kind named) }
+{
+    match read_whole::<ProgressReport<'_>>(alloc, (), payload) {
+        Ok(report) => {
+            show::progress(fields, &report);
+            Ok(kind)
+        }
+        Err(error) => refused(error),
     }
 }
 
@@ -157,6 +172,7 @@ impl Session {
             (Kind::Bytes(_), _) => Ok(kind),
             (Kind::Error, Place::Greeting) => self.read_greeting(alloc, kind, payload, fields),
             (Kind::Error, _) => self.read_error(alloc, kind, payload, fields),
+            (Kind::Progress, _) => read_report(alloc, kind, payload, fields),
             (Kind::Greeting, _) => self.read_greeting(alloc, kind, payload, fields),
             (_, Place::Login | Place::Authentication) => {
                 self.read_outcome(alloc, kind, payload, fields)

@@ -5,7 +5,7 @@ mod commands;
 mod connection;
 mod values;
 
-pub use answers::{column, column_count, eof, error, local_infile, ok, prepared};
+pub use answers::{column, column_count, eof, error, local_infile, ok, prepared, progress};
 pub use commands::{
     attributed_query, change_user, execute, fetch, init_db, long_data, number_of_statement, query,
 };

@@ -1,5 +1,5 @@
 -- Fields one after another, and a packet that is made of them: what is written is read back.
-use Rattle.std.specs.Prelude.{take, min, replicate, ℕ, ◌≡◌, ◌<◌, ◌^◌, List, [], ◌∷◌, ◌++◌, length, ◌⊎◌, Some, Result, Ok, Err}
+use Rattle.std.specs.Prelude.{take, min, replicate, ℕ, ◌≡◌, ◌<◌, ◌^◌, ◌%◌, List, [], ◌∷◌, ◌++◌, length, ◌⊎◌, Some, Result, Ok, Err}
 use Rattle.std.proofs.Common.{refl, inl, inr, arith}
 use Rattle.std.specs.Cow.{cow_slice_items}
 use Rattle.std.specs.declared.borrow.CowSlice.{CowSlice}
@@ -7,7 +7,7 @@ use Rattle.wire_buf.specs.declared.error.WireError.{WireError}
 use Rattle.wire_repr.specs.Law.{ComesBack, array-back, ReadsFixed, Through-back, ReadsFixed-back, Parses-back, size-is}
 use Rattle.wire_buf.specs.Reading.{Answers, Parses, Through, front_at}
 use Rattle.wire_buf.specs.Numbers.{le_number, le_bytes}
-use Rattle.wire_buf.specs.NumberLemmas.{length-le_bytes, le_number-le_bytes_fits}
+use Rattle.wire_buf.specs.NumberLemmas.{length-le_bytes, le_number-le_bytes, le_number-le_bytes_fits}
 use Rattle.wire_forms.specs.Constants.{ReadsConst, ReadsAny, ReadsConst-back, ReadsAny-back, length-zeros}
 use Rattle.wire_field.specs.declared.row.Both.{Both}
 use Rattle.wire_field.specs.Rows.{ReadsBoth, both-back}
@@ -110,6 +110,13 @@ pub number : {Y : Type 0} {rest : List ℕ} (part : Y → ℕ) (count n : ℕ) �
     (λ y. part y ≡ n) (le_bytes count n) rest
 number part count n fits = number_by part count le_number (le_bytes count n) n
     (length-le_bytes count n) (le_number-le_bytes_fits count n fits)
+
+-- the low bytes of a number
+pub cut_number : {Y : Type 0} {rest : List ℕ} (part : Y → ℕ) (count n : ℕ)
+    → Back (Parses (Some count) (λ input. Through part (ReadsFixed count le_number input)))
+    (λ y. part y ≡ n % 256 ^ count) (le_bytes count n) rest
+cut_number part count n = number_by part count le_number (le_bytes count n) (n % 256 ^ count)
+    (length-le_bytes count n) (le_number-le_bytes count n)
 
 -- bytes that say nothing
 pub skip : {Y : Type 0} {rest : List ℕ} (count : ℕ)

@@ -10,6 +10,7 @@ ghost use Rattle.mysql_wire_packets.specs.declared.ok_packet.InfoForm.{InfoForm}
 use crate::eof_packet::EofPacket;
 use crate::err_packet::ErrPacket;
 use crate::ok_packet::OkForm;
+use crate::progress_report::ProgressReport;
 use crate::session_change::SessionChange;
 use std::alloc::Global;
 use wire_buf::proto::{MyDeserialize, MySerialize};
@@ -39,4 +40,10 @@ pub fn ok_form_is_written_back<const HEADER: u8>()
 pub fn session_change_is_written_back()
     ensures { WritesBack (⟦<SessionChange<'static> as MyDeserialize<'static, Global>>⟧.reads tt)
         ⟦<SessionChange<'static> as MySerialize>⟧.bytes }
+{}
+
+/// Of `ProgressReport`.
+pub fn progress_report_is_written_back()
+    ensures { WritesBack (⟦<ProgressReport<'static> as MyDeserialize<'static, Global>>⟧.reads tt)
+        ⟦<ProgressReport<'static> as MySerialize>⟧.bytes }
 {}

@@ -8,4 +8,5 @@ pub mod lent;
 pub mod ok_packet;
 pub mod optional;
 pub mod places;
+pub mod progress_report;
 pub mod session_change;

@@ -10,7 +10,6 @@ ghost use Rattle.std.specs.List.{All};
 ghost use Rattle.wire_field.specs.Elements.{AllKept};
 
 use std::alloc::{Allocator, Global};
-use std::borrow::CowSlice;
 use wire_buf::error::{InvalidLengthEncodedInteger, WireError};
 use wire_buf::io::ParseBuf;
 use wire_buf::proto::{HasSize, MyDeserialize, MySerialize, Varying};
@@ -50,19 +49,17 @@ impl<'de> MyDeserialize<'de, Global> for TextValue<'de> {
     ghost reads = { λ _ input. Through value_of (ReadsValue input) };
 
     /// The byte `ff`, which begins no value, is refused.
-    fn deserialize(alloc: Global, _: (), buf: &mut ParseBuf<'de>) -> Result<Self, WireError> {
+    #[inline(always)]
+    fn deserialize(_: Global, _: (), buf: &mut ParseBuf<'de>) -> Result<Self, WireError> {
         match buf.0.first() {
             Some(0xfb) => {
                 buf.skip(1);
                 Ok(TextValue::Null)
             }
             Some(0xff) => Err(WireError::Other(InvalidLengthEncodedInteger)),
-            _ => match buf.parse::<RawBytes<'de, LenEnc>>(alloc, ()) {
-                Ok(text) => match text.0 {
-                    CowSlice::Borrowed(text) => Ok(TextValue::Text(text)),
-                    CowSlice::Owned(_) => unreachable!(),
-                },
-                Err(error) => Err(error),
+            _ => match buf.checked_eat_lenenc_str() {
+                Some(text) => Ok(TextValue::Text(text)),
+                None => Err(WireError::UnexpectedEof),
             },
         }
     }

@@ -4,6 +4,7 @@
 
 mod commands_shown;
 mod found;
+mod parts;
 mod place;
 mod record;
 mod session;

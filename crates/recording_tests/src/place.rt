@@ -67,12 +67,15 @@ pub enum Kind {
     SetOption = 24,
     /// `COM_STATISTICS`, and the text that answers it.
     Statistics = 25,
+    Fetch = 26,
+    /// A report on a command that is not done yet.
+    Progress = 27,
     /// What its place does not allow.
-    Unexpected = 26,
+    Unexpected = 28,
 }
 
 /// How many kinds there are.
-pub const KINDS: usize = 27;
+pub const KINDS: usize = 29;
 
 /// The names of the kinds, in order.
 pub const NAMES: [&str; KINDS] = [
@@ -102,5 +105,7 @@ pub const NAMES: [&str; KINDS] = [
     "file",
     "set option",
     "statistics",
+    "fetch",
+    "progress",
     "unexpected",
 ];

@@ -1,6 +1,7 @@
 //! A session, payload by payload.
 
 use crate::found::{Found, Payload};
+use crate::parts::{has_changes, has_details};
 use crate::place::{Defined, Kind, Place};
 use crate::statement::has_columns;
 use crate::statements::Statements;
@@ -12,11 +13,13 @@ use mysql_wire_connection::auth_switch_response::AuthSwitchResponse;
 use mysql_wire_connection::first_packet::{ClientFirst, ServerFirst};
 use mysql_wire_packets::eof_packet::EofPacket;
 use mysql_wire_packets::places::{PayloadError, read_whole};
+use mysql_wire_packets::progress_report::ProgressReport;
 use mysql_wire_queries::client_command::ClientCommand;
 use mysql_wire_queries::column_definition::ColumnDefinition41;
 use mysql_wire_queries::query_answer::QueryAnswer;
 use mysql_wire_queries::row_answer::RowAnswer;
 use mysql_wire_statements::binary_row::BinaryRow;
+use mysql_wire_statements::com_stmt_fetch::ComStmtFetch;
 use mysql_wire_statements::com_stmt_prepare::ComStmtPrepare;
 use mysql_wire_statements::prepare_answer::PrepareAnswer;
 use std::alloc::Global;
@@ -131,7 +134,7 @@ impl Session {
         match AuthAnswer::read(alloc, self.capabilities, payload.bytes) {
             Ok(AuthAnswer::Done(ok)) => {
                 self.end(ok.status_flags);
-                Found::of(alloc, Kind::Ok, &ok, payload)
+                Found::of(alloc, Kind::Ok, &ok, payload).and(has_changes(alloc, &ok))
             }
             Ok(AuthAnswer::Failed(error)) => Found::of(alloc, Kind::Error, &error, payload),
             Ok(AuthAnswer::Switch(request)) => {
@@ -186,6 +189,11 @@ impl Session {
                 self.statements.close(alloc, payload)
             }
             0x1a => self.statements.reset(alloc, payload),
+            0x1c => {
+                self.is_binary = true;
+                self.place = Place::Rows;
+                Found::exact::<ComStmtFetch>(alloc, Kind::Fetch, (), payload)
+            }
             0x1b => {
                 self.place = Place::Option;
                 Found::passed_over(Kind::SetOption, payload)
@@ -199,11 +207,14 @@ impl Session {
     }
 
     fn answer(&mut self, alloc: Global, payload: Payload<'_>) -> Found {
+        if payload.bytes.starts_with(b"\xff\xff\xff") {
+            return Found::exact::<ProgressReport<'_>>(alloc, Kind::Progress, (), payload);
+        }
         self.place = Place::Command;
         match QueryAnswer::read(alloc, self.capabilities, payload.bytes) {
             Ok(QueryAnswer::Done(ok)) => {
                 self.end(ok.status_flags);
-                Found::of(alloc, Kind::Ok, &ok, payload)
+                Found::of(alloc, Kind::Ok, &ok, payload).and(has_changes(alloc, &ok))
             }
             Ok(QueryAnswer::Failed(error)) => Found::of(alloc, Kind::Error, &error, payload),
             Ok(QueryAnswer::File(request)) => {
@@ -212,8 +223,13 @@ impl Session {
             }
             Ok(QueryAnswer::Columns(count)) => {
                 self.columns = count.column_count;
-                self.types.clear();
-                self.place = self.definitions(Defined::Rows, count.column_count);
+                // (a statement's columns are told once: their definitions stand behind its number)
+                self.place = if count.metadata_follows == Some(0) {
+                    Place::Rows
+                } else {
+                    self.types.clear();
+                    self.definitions(Defined::Rows, count.column_count)
+                };
                 Found::of(alloc, Kind::ColumnCount, &count, payload)
             }
             Err(_) => Found::refused(Kind::ColumnCount, payload),
@@ -225,6 +241,7 @@ impl Session {
         match read_whole::<PrepareAnswer<'_>>(alloc, self.capabilities, payload.bytes) {
             Ok(PrepareAnswer::Prepared(prepared)) => {
                 self.columns = prepared.num_columns.into();
+                self.types.clear();
                 self.place = self.definitions(Defined::Parameters, prepared.num_params.into());
                 Found::of(alloc, Kind::Prepared, &prepared, payload).and(
                     self.statements.add(alloc, prepared),
@@ -263,11 +280,16 @@ impl Session {
         };
         match read_whole::<ColumnDefinition41<'_>>(alloc, self.mariadb, payload.bytes) {
             Ok(column) => {
-                let is_known = match column.column_type.get() {
-                    Ok(column_type) => self.types.push(column_type).is_ok(),
-                    Err(_) => false,
+                let is_known = match (of, column.column_type.get()) {
+                    (Defined::Parameters, Ok(_)) => true,
+                    (Defined::Rows | Defined::Columns, Ok(column_type)) => {
+                        self.types.push(column_type).is_ok()
+                    }
+                    (_, Err(_)) => false,
                 };
-                Found::of(alloc, Kind::Column, &column, payload).and(is_known)
+                Found::of(alloc, Kind::Column, &column, payload)
+                    .and(is_known)
+                    .and(has_details(alloc, &column))
             }
             Err(_) => Found::refused(Kind::Column, payload),
         }

@@ -11,6 +11,7 @@ use mysql_wire_connection::handshake_response::HandshakeResponse41;
 use mysql_wire_packets::eof_packet::EofPacket;
 use mysql_wire_packets::err_packet::ErrPacket;
 use mysql_wire_packets::ok_packet::OkForm;
+use mysql_wire_packets::progress_report::ProgressReport;
 use mysql_wire_queries::column_count::ColumnCount;
 use mysql_wire_queries::column_definition::ColumnDefinition41;
 use mysql_wire_queries::local_infile::LocalInfileRequest;
@@ -158,6 +159,18 @@ impl Shown for ErrPacket<'_> {
             fields.text(state);
         }
         fields.text(self.error_message.as_bytes());
+    }
+}
+
+impl Shown for ProgressReport<'_> {
+    fn show(&self, fields: &mut Fields) {
+        fields.number(0xff);
+        fields.number(0xffff);
+        fields.number(self.strings.into());
+        fields.number(self.stage.into());
+        fields.number(self.max_stage.into());
+        fields.number(self.progress.into());
+        fields.text(self.info.as_bytes());
     }
 }
 

@@ -4,6 +4,7 @@ use crate::shown::{Fields, Shown};
 use mysql_wire_statements::binary_row::BinaryRow;
 use mysql_wire_statements::com_stmt_close::ComStmtClose;
 use mysql_wire_statements::com_stmt_execute::ComStmtExecute;
+use mysql_wire_statements::com_stmt_fetch::ComStmtFetch;
 use mysql_wire_statements::com_stmt_prepare::ComStmtPrepare;
 use mysql_wire_statements::com_stmt_prepare_ok::ComStmtPrepareOk;
 use mysql_wire_statements::com_stmt_reset::ComStmtReset;
@@ -55,6 +56,14 @@ impl Shown for ComStmtReset {
     fn show(&self, fields: &mut Fields) {
         fields.number(0x1a);
         fields.number(self.statement_id.into());
+    }
+}
+
+impl Shown for ComStmtFetch {
+    fn show(&self, fields: &mut Fields) {
+        fields.number(0x1c);
+        fields.number(self.statement_id.into());
+        fields.number(self.num_rows.into());
     }
 }
 

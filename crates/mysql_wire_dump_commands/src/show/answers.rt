@@ -4,6 +4,7 @@ use crate::fields::Fields;
 use mysql_wire_packets::eof_packet::EofPacket;
 use mysql_wire_packets::err_packet::ErrPacket;
 use mysql_wire_packets::ok_packet::{OkForm, OkInfo};
+use mysql_wire_packets::progress_report::ProgressReport;
 use mysql_wire_queries::column_count::ColumnCount;
 use mysql_wire_queries::column_definition::ColumnDefinition41;
 use mysql_wire_queries::local_infile::LocalInfileRequest;
@@ -35,6 +36,14 @@ pub fn error(fields: &mut Fields, packet: &ErrPacket<'_>) {
         fields.words("sql_state", state);
     }
     fields.words("error_message", packet.error_message.as_bytes());
+}
+
+pub fn progress(fields: &mut Fields, packet: &ProgressReport<'_>) {
+    fields.number("strings", packet.strings as u64);
+    fields.number("stage", packet.stage as u64);
+    fields.number("max_stage", packet.max_stage as u64);
+    fields.number("progress", packet.progress as u64);
+    fields.words("info", packet.info.as_bytes());
 }
 
 pub fn eof(fields: &mut Fields, packet: &EofPacket) {

@@ -1,0 +1,41 @@
+-- A text of a row, read from behind its length.
+use Rattle.std.specs.Prelude.{ℕ, ◌≡◌, ◌≤◌, ◌<◌, List, ◌++◌, length, drop, Option, Some, None, Result, Ok, Err}
+use Rattle.std.proofs.Common.{refl, sym, ap, ◌∙◌, arith, inl, inr}
+use Rattle.std.proofs.lemmas.Bool.{cases_lt}
+use Rattle.std.proofs.lemmas.List.{append_assoc, drop_all}
+use Rattle.wire_buf.specs.declared.error.WireError.{WireError}
+use Rattle.wire_buf.specs.declared.error.WireError.TheVariants.{UnexpectedEof}
+use Rattle.wire_buf.specs.Lenenc.{IsLenencOrMark}
+use Rattle.wire_buf.specs.Reading.{Reads}
+use Rattle.wire_buf.specs.Spelling.{ReadsText}
+use Rattle.wire_forms.specs.Spelled.{Leaves, NumberOrEof, Reads-left, TextBehind}
+
+-- where there is no text, the input ends early
+abbrev pub or_eof : Option (List ℕ) → Result (List ℕ) WireError
+or_eof (Some text) = Ok text
+or_eof None = Err UnexpectedEof
+
+abbrev pub ReadsLenenc : List ℕ → Result (List ℕ) WireError → ℕ → Type 0
+ReadsLenenc = Leaves (TextBehind (NumberOrEof IsLenencOrMark 1))
+
+lost_none : (old new : List ℕ) → length old ≤ 1 → new ≡ drop 1 old
+    → TextBehind (NumberOrEof IsLenencOrMark 1) old (Err UnexpectedEof) new
+    → Reads ReadsLenenc old (Err UnexpectedEof) new
+lost_none old new short is told =
+    let all : drop 1 old ≡ drop (length old) old = drop_all 1 old short ∙ sym (drop_all (length old) old (omega arith)) in
+    (length old, omega arith, is ∙ all, (omega arith, rw (is ∙ all) at told))
+
+pub text_read : (old : List ℕ) (answer : Option (List ℕ)) (new : List ℕ) → ReadsText IsLenencOrMark 1 old answer new
+    → Reads ReadsLenenc old (or_eof answer) new
+text_read old (Some text) new (spelling, spells, is) =
+    Reads-left (TextBehind (NumberOrEof IsLenencOrMark 1)) old (Ok text) new (spelling ++ text) (is ∙ sym (append_assoc spelling text new))
+    (text ++ new, (spelling, spells, is), refl)
+text_read old None new (inl (nothing, is)) =
+    let told : TextBehind (NumberOrEof IsLenencOrMark 1) old (Err UnexpectedEof) new = inl (refl, (nothing, is)) in
+    elim (cases_lt 1 (length old)) [
+      | inl more ↦ (1, omega (arith, more), is, (omega (arith, more), rw is at told))
+      | inr short ↦ lost_none old new (omega (arith, short)) is told
+    ]
+text_read old None new (inr (len, (spelling, spells, is), short)) =
+    Reads-left (TextBehind (NumberOrEof IsLenencOrMark 1)) old (Err UnexpectedEof) new spelling is
+    (inr (len, (spelling, spells, is), short, refl))
