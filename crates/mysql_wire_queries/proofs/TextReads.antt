@@ -1,5 +1,5 @@
 -- A text of a row, read from behind its length.
-use Rattle.std.specs.Prelude.{ℕ, ◌≡◌, ◌≤◌, ◌<◌, List, ◌++◌, length, drop, Option, Some, None, Result, Ok, Err}
+use Rattle.std.specs.Prelude.{ℕ, ◌≡◌, ◌≢◌, ◌≤◌, ◌<◌, List, [], ◌∷◌, ◌++◌, length, drop, take, Option, Some, None, Result, Ok, Err}
 use Rattle.std.proofs.Common.{refl, sym, ap, ◌∙◌, arith, inl, inr}
 use Rattle.std.proofs.lemmas.Bool.{cases_lt}
 use Rattle.std.proofs.lemmas.List.{append_assoc, drop_all}
@@ -9,6 +9,7 @@ use Rattle.wire_buf.specs.Lenenc.{IsLenencOrMark}
 use Rattle.wire_buf.specs.Reading.{Reads}
 use Rattle.wire_buf.specs.Spelling.{ReadsText}
 use Rattle.wire_forms.specs.Spelled.{Leaves, NumberOrEof, Reads-left, TextBehind}
+use Rattle.mysql_wire_queries.specs.TextValues.{ReadsValue}
 
 -- where there is no text, the input ends early
 abbrev pub or_eof : Option (List ℕ) → Result (List ℕ) WireError
@@ -39,3 +40,16 @@ text_read old None new (inl (nothing, is)) =
 text_read old None new (inr (len, (spelling, spells, is), short)) =
     Reads-left (TextBehind (NumberOrEof IsLenencOrMark 1)) old (Err UnexpectedEof) new spelling is
     (inr (len, (spelling, spells, is), short, refl))
+
+-- and it is a value, where neither mark stands in front
+pub value_read : (old text new : List ℕ) → take 1 old ≢ 0xfb ∷ [] → take 1 old ≢ 0xff ∷ [] → ReadsText IsLenencOrMark 1 old (Some text) new
+    → Reads ReadsValue old (Ok (Some text)) new
+value_read old text new null refused told =
+    let (eaten, fits, left, read) = text_read old (Some text) new told in
+    (eaten, fits, left, inr (inr (null, refused, read)))
+
+pub no_value : (old new : List ℕ) → take 1 old ≢ 0xfb ∷ [] → take 1 old ≢ 0xff ∷ [] → ReadsText IsLenencOrMark 1 old None new
+    → Reads ReadsValue old (Err UnexpectedEof) new
+no_value old new null refused told =
+    let (eaten, fits, left, read) = text_read old None new told in
+    (eaten, fits, left, inr (inr (null, refused, read)))

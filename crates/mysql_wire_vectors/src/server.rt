@@ -10,7 +10,7 @@ pub mod payload;
 mod responses;
 mod rows;
 
-use answers::{are_eofs, are_oks, are_prepared, is_session_change};
+use answers::{are_eofs, are_oks, are_prepared, is_progress_report, is_session_change};
 use columns::{are_columns, is_type_detail};
 use commands::are_commands;
 use connections::are_of_connections;
@@ -24,12 +24,13 @@ use std::test::Fail;
 use test_support::facts::all_hold;
 use test_support::fixture::Heap;
 
-fn are_packets(heap: &Heap, alloc: Global) -> [bool; 12] {
+fn are_packets(heap: &Heap, alloc: Global) -> [bool; 13] {
     [
         are_greetings(heap, alloc),
         are_responses(heap, alloc),
         are_commands(heap, alloc),
         are_oks(heap, alloc),
+        is_progress_report(heap, alloc),
         is_session_change(heap, alloc),
         are_eofs(heap, alloc),
         are_errors(heap, alloc),

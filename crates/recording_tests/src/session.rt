@@ -223,13 +223,8 @@ impl Session {
             }
             Ok(QueryAnswer::Columns(count)) => {
                 self.columns = count.column_count;
-                // (a statement's columns are told once: their definitions stand behind its number)
-                self.place = if count.metadata_follows == Some(0) {
-                    Place::Rows
-                } else {
-                    self.types.clear();
-                    self.definitions(Defined::Rows, count.column_count)
-                };
+                self.types.clear();
+                self.place = self.definitions(Defined::Rows, count.column_count);
                 Found::of(alloc, Kind::ColumnCount, &count, payload)
             }
             Err(_) => Found::refused(Kind::ColumnCount, payload),

@@ -4,6 +4,7 @@ use crate::server::payload::{OTHER, Refused, is_payload, text_if};
 use mysql_wire::misc::raw::{Either, RawBytes, RawConst, RawFlags};
 use mysql_wire_packets::eof_packet::EofPacket;
 use mysql_wire_packets::ok_packet::{InfoForm, OkForm, OkInfo};
+use mysql_wire_packets::progress_report::ProgressReport;
 use mysql_wire_packets::session_change::SessionChange;
 use mysql_wire_statements::com_stmt_prepare_ok::ComStmtPrepareOk;
 use std::alloc::Global;
@@ -202,4 +203,19 @@ pub fn is_session_change(heap: &Heap, alloc: Global) -> bool {
         data: RawBytes::from(b"\x01d".as_slice()),
     };
     is_payload(heap, alloc, (), change, (b"\x01\x02\x01d", 4), &[])
+}
+
+// A report as MariaDB 10.11 sent it while it copied a table: the first of two stages, of which 2.5 %
+// are done.
+pub fn is_progress_report(heap: &Heap, alloc: Global) -> bool {
+    let report = ProgressReport {
+        strings: 1,
+        stage: 1,
+        max_stage: 2,
+        progress: 2500,
+        info: RawBytes::from(b"copy to tmp table".as_slice()),
+    };
+    let payload = b"\xff\xff\xff\x01\x01\x02\xc4\x09\0\x11copy to tmp table";
+    let other: &[Refused<'_, ()>] = &[((), b"\xff\xff\x04\x01\x01\x02\0\0\0\0", OTHER, 7)];
+    is_payload(heap, alloc, (), report, (payload, 27), other)
 }
