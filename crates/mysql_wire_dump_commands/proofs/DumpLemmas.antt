@@ -233,7 +233,7 @@ still_pends (Packet number) new id kept pends = subst (λ (n : Next). Pends n id
 still_pends (Ended end) new id kept pends = subst (λ (n : Next). Pends n id) (kept (λ e. cc)) pends
 
 -- the client's next packet was looked for
-pub client_looked : (dump : Dump) (source : Source Global) (client client_left left server server_left written now : Option (List ℕ))
+client_looked : (dump : Dump) (source : Source Global) (client client_left left server server_left written now : Option (List ℕ))
     → SoFar dump client client_left server server_left written now
     → ((packets : List (ℕ × List ℕ)) (came : List ℕ) → Stands packets came dump.client → (more : List ℕ) × Consumes client_left left more × Stands packets (came ++ more) source)
     → (dump.client.next ≢ Unread → source.next ≡ dump.client.next) → (AtEnd dump.client.next client_left → AtEnd source.next left)
@@ -265,7 +265,7 @@ client_looked dump source client client_left left server server_left written now
       server_end = so_far.server_end;
     }
 
-pub server_looked : (dump : Dump) (source : Source Global) (client client_left server server_left left written now : Option (List ℕ))
+server_looked : (dump : Dump) (source : Source Global) (client client_left server server_left left written now : Option (List ℕ))
     → SoFar dump client client_left server server_left written now
     → ((packets : List (ℕ × List ℕ)) (came : List ℕ) → Stands packets came dump.server → (more : List ℕ) × Consumes server_left left more × Stands packets (came ++ more) source)
     → (dump.server.next ≢ Unread → source.next ≡ dump.server.next) → (AtEnd dump.server.next server_left → AtEnd source.next left)
@@ -296,6 +296,23 @@ server_looked dump source client client_left server server_left left written now
       client_end = so_far.client_end;
       server_end = ended so_far.server_end;
     }
+
+-- both sides' next packets were looked for
+pub both_looked : (dump : Dump) (client_source server_source : Source Global)
+    (client client_left client_now server server_left server_now written now : Option (List ℕ))
+    → SoFar dump client client_left server server_left written now
+    → ((packets : List (ℕ × List ℕ)) (came : List ℕ) → Stands packets came dump.client → (more : List ℕ) × Consumes client_left client_now more × Stands packets (came ++ more) client_source)
+    → (dump.client.next ≢ Unread → client_source.next ≡ dump.client.next) → (AtEnd dump.client.next client_left → AtEnd client_source.next client_now)
+    → client_source.limit ≡ dump.client.limit
+    → ((packets : List (ℕ × List ℕ)) (came : List ℕ) → Stands packets came dump.server → (more : List ℕ) × Consumes server_left server_now more × Stands packets (came ++ more) server_source)
+    → (dump.server.next ≢ Unread → server_source.next ≡ dump.server.next) → (AtEnd dump.server.next server_left → AtEnd server_source.next server_now)
+    → server_source.limit ≡ dump.server.limit
+    → SoFar (record dump { client = client_source; server = server_source }) client client_now server server_now written now
+both_looked dump client_source server_source client client_left client_now server server_left server_now written now so_far client_looks client_kept client_ended client_limit
+    server_looks server_kept server_ended server_limit =
+    server_looked (record dump { client = client_source }) server_source client client_now server server_left server_now written now
+    (client_looked dump client_source client client_left client_now server server_left written now so_far client_looks client_kept client_ended client_limit)
+    server_looks server_kept server_ended server_limit
 
 -- a packet was shown
 pub one_shown : (side : Side) (old new : Dump) (client client_left server server_left written now : Option (List ℕ))

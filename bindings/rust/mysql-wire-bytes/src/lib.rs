@@ -16,17 +16,18 @@
 //! # }
 //! ```
 //!
-//! It differs from `mysql_common` in what a caller sees between two packets: bytes of a packet that
-//! isn't whole are kept by the codec, and no longer stand in `src`.
+//! It differs from `mysql_common` in what a caller sees of a packet that isn't whole. One of less than
+//! 16777215 bytes stays in `src`, with its header; of a longer one the codec takes what has come.
 
 use bytes::{Buf, BufMut, BytesMut};
-use mysql_wire::{framed_len, Connection};
+use mysql_wire::Connection;
 use std::mem::MaybeUninit;
 use std::slice;
 
 pub use mysql_wire::Error;
 
 const DEFAULT_MAX_ALLOWED_PACKET: usize = 4 << 20;
+const MAX_PAYLOAD_LEN: usize = 0xff_ffff;
 
 /// Makes packets of bytes, and bytes of packets, of one connection in both directions.
 #[derive(Debug)]
@@ -36,64 +37,100 @@ pub struct PacketCodec {
     // Made at the first call, since it takes memory; and the limit that it has.
     connection: Option<Connection>,
     limit: usize,
+    // Whether the connection has taken bytes of a packet that isn't whole.
+    is_begun: bool,
 }
 
 impl Default for PacketCodec {
     fn default() -> PacketCodec {
         let limit = DEFAULT_MAX_ALLOWED_PACKET;
-        PacketCodec { max_allowed_packet: limit, connection: None, limit }
+        PacketCodec { max_allowed_packet: limit, connection: None, limit, is_begun: false }
     }
 }
 
 impl PacketCodec {
+    // The connection, under the limit that is set.
+    #[inline]
     fn connection(&mut self) -> Result<&mut Connection, Error> {
-        let limit = self.max_allowed_packet;
-        if self.connection.is_none() {
-            self.connection = Some(Connection::new(limit)?);
-            self.limit = limit;
+        if self.connection.is_none() || self.limit != self.max_allowed_packet {
+            self.begin()?;
         }
         // (there is one)
-        let connection = self.connection.as_mut().ok_or(Error::OutOfMemory)?;
-        if self.limit != limit {
-            connection.set_limit(limit)?;
-            self.limit = limit;
+        self.connection.as_mut().ok_or(Error::OutOfMemory)
+    }
+
+    // Makes the connection, where there is none, and sets its limit.
+    #[cold]
+    fn begin(&mut self) -> Result<(), Error> {
+        let limit = self.max_allowed_packet;
+        match &mut self.connection {
+            Some(connection) => connection.set_limit(limit)?,
+            None => self.connection = Some(Connection::new(limit)?),
         }
-        Ok(connection)
+        self.limit = limit;
+        Ok(())
+    }
+
+    // Whether the front of `src` is left there until more has come: a chunk that is cut short, of
+    // less than 16777215 bytes, and within the limit.
+    #[inline]
+    fn waits(&self, src: &[u8]) -> bool {
+        let &[a, b, c, _, ref bytes @ ..] = src else {
+            return true;
+        };
+        let len = u32::from_le_bytes([a, b, c, 0]) as usize;
+        bytes.len() < len && len < MAX_PAYLOAD_LEN && len <= self.max_allowed_packet
     }
 
     /// Appends the next packet's payload to `dst`, if it has come whole; otherwise false. What is used
     /// of `src` is advanced over. After `PacketTooLarge` a larger limit goes on; after
     /// `PacketsOutOfSync` each call answers the same.
+    #[inline]
     pub fn decode<T>(&mut self, src: &mut BytesMut, dst: &mut T) -> Result<bool, Error>
     where
         T: AsRef<[u8]> + BufMut,
     {
+        if !self.is_begun && self.waits(src) {
+            return Ok(false);
+        }
         let connection = self.connection()?;
         let bytes = src.as_ptr_range();
         let (used, answer) = connection.decode(src);
-        let taken_from_src = answer.map(|packet| {
-            packet.map(|packet| {
+        match answer {
+            Ok(Some(packet)) => {
                 dst.put_slice(packet);
-                bytes.contains(&packet.as_ptr())
-            })
-        });
-        src.advance(used);
-        if taken_from_src == Ok(Some(false)) {
-            // It was put together by the connection, and copied to `dst`. Where it is empty it may
-            // have lain at the end of `src`, and then there is none to take.
-            let _ = connection.take();
+                if !bytes.contains(&packet.as_ptr()) {
+                    // It was put together by the connection. Where it is empty it may have lain at
+                    // the end of `src`, and then there is none to take.
+                    let _ = connection.take();
+                }
+                src.advance(used);
+                self.is_begun = false;
+                Ok(true)
+            }
+            Ok(None) => {
+                src.advance(used);
+                self.is_begun = true;
+                Ok(false)
+            }
+            Err(error) => {
+                src.advance(used);
+                self.is_begun = true;
+                Err(error)
+            }
         }
-        taken_from_src.map(|packet| packet.is_some())
     }
 
     /// Frames a packet behind what `dst` holds, and empties it. After a refusal nothing has changed.
+    #[inline]
     pub fn encode<T: Buf>(&mut self, packet: &mut T, dst: &mut BytesMut) -> Result<(), Error> {
         let len = packet.remaining();
         if len > self.max_allowed_packet {
             return Err(Error::PacketTooLarge);
         }
         let connection = self.connection()?;
-        dst.reserve(framed_len(len)?);
+        // (where a sum is cut, there is no such room, and the connection refuses it)
+        dst.reserve(len.saturating_add(4 * (len / MAX_PAYLOAD_LEN + 1)));
         if packet.chunk().len() == len {
             append(connection, packet.chunk(), dst)?;
             packet.advance(len);
@@ -116,6 +153,7 @@ impl PacketCodec {
 }
 
 /// Frames a payload behind what is there, in room that was taken.
+#[inline]
 fn append(connection: &mut Connection, payload: &[u8], dst: &mut BytesMut) -> Result<(), Error> {
     let room = dst.chunk_mut();
     // SAFETY: the room is valid for its length, and need not hold values.

@@ -43,7 +43,14 @@ fn regular_packet() {
     let mut codec = PacketCodec::default();
     let answer = decoded(&mut codec, b"\x01\0\0\0a\x02\0\0\x01bc\x01\0");
     assert_eq!(answer, (vec![b"a".to_vec(), b"bc".to_vec()], Ok(())));
-    assert_eq!(decoded(&mut codec, b"\0\x02d"), (vec![b"d".to_vec()], Ok(())));
+    // (what is cut short stands in the buffer, with its header)
+    let mut src = BytesMut::from(b"\x01\0".as_slice());
+    assert_eq!(drained(&mut codec, &mut src), (vec![], Ok(())));
+    src.extend_from_slice(b"\0\x02");
+    assert_eq!(drained(&mut codec, &mut src), (vec![], Ok(())));
+    assert_eq!(src.as_ref(), b"\x01\0\0\x02");
+    src.extend_from_slice(b"d");
+    assert_eq!(drained(&mut codec, &mut src), (vec![b"d".to_vec()], Ok(())));
 }
 
 #[test]
@@ -98,8 +105,10 @@ fn each_stream_is_read_as_the_whole() {
         let mut numbers = Numbers::new(seed);
         let (stream, limit) = (numbers.stream(), numbers.below(60));
         let (mut codec, mut packets, mut end) = (with_limit(limit), Vec::new(), Ok(()));
+        let mut src = BytesMut::new();
         for piece in numbers.pieces(&stream) {
-            let (more, answer) = decoded(&mut codec, piece);
+            src.extend_from_slice(piece);
+            let (more, answer) = drained(&mut codec, &mut src);
             packets.extend(more);
             end = answer;
             if end.is_err() {

@@ -165,6 +165,7 @@ pub fn write_lenenc_int(room: &mut [u8], at: &mut usize, value: u64) -> i32 {
 
 /// The code, how many of the bytes were used, and the packet where the code is above 0. It borrows
 /// from the connection, or from the bytes.
+#[inline]
 pub fn decode<'a>(handle: &'a mut Handle, bytes: &'a [u8]) -> (i32, usize, &'a [u8]) {
     let (mut used, mut packet) = (0, NOTHING);
     // SAFETY: the handle is open, the slice valid for its length, the others are places of their
@@ -186,6 +187,7 @@ pub fn framed_len(len: usize) -> (i32, usize) {
 }
 
 /// The code, and how many bytes stand in the room, or are needed.
+#[inline]
 pub fn encode_to(
     handle: &mut Handle,
     payload: &[u8],

@@ -52,6 +52,7 @@ impl Connection {
     /// memory, where it lies whole there in one chunk and nothing that came before is unread. Else the
     /// connection takes as many bytes as complete a packet, or all. The count says how many were used:
     /// go on with the others, also after a refusal.
+    #[inline]
     pub fn decode<'a>(&'a mut self, bytes: &'a [u8]) -> (usize, Result<Option<&'a [u8]>, Error>) {
         let (code, used, packet) = calls::decode(&mut self.0, bytes);
         (used, checked(code).map(|code| (code > 0).then_some(packet)))
@@ -78,6 +79,7 @@ impl Connection {
     /// Frames a payload at the front of `room`, numbered as by `encode`, and answers how many bytes
     /// that took: [`framed_len`] says how many. What waits to be sent goes first. A refusal changes
     /// nothing.
+    #[inline]
     pub fn encode_to(
         &mut self,
         payload: &[u8],

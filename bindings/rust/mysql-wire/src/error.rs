@@ -27,6 +27,7 @@ pub enum Error {
 impl Error {
     /// A code below 0, as `mysql_wire.h` lists them. Those of a closed connection, of one that is
     /// opened twice and of an invalid place in a stream don't come here.
+    #[cold]
     pub(crate) fn of(code: i32) -> Error {
         match code {
             -1 => Error::PacketTooLarge,
@@ -42,6 +43,7 @@ impl Error {
 }
 
 /// The code of a call that answers 0 or more where it did what it should.
+#[inline]
 pub(crate) fn checked(code: i32) -> Result<i32, Error> {
     if code < 0 {
         Err(Error::of(code))
