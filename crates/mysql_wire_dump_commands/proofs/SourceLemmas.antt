@@ -1,9 +1,9 @@
 -- How a source goes from packet to packet.
-use Rattle.std.proofs.Common.{◌≡◌, ◌≢◌, ℕ, ◌+◌, ◌-◌, ◌≤◌, ◌<◌, Bool, true, false, List, [], ◌∷◌, ◌++◌, length, drop, refl, sym, ap, ap₂, ◌∙◌, subst, append-nil, append_assoc, length-append, inl, inr, arith, Option, Some, None}
+use Rattle.std.proofs.Common.{◌≡◌, ◌≢◌, ℕ, ◌+◌, ◌-◌, ◌≤◌, Bool, true, false, List, [], ◌∷◌, ◌++◌, length, drop, refl, sym, ap, ap₂, ◌∙◌, subst, append-nil, append_assoc, length-append, inr, arith, Option, Some, None}
 use Rattle.std.proofs.Math.Seq.{drop-append_seam}
 use Rattle.std.proofs.KnownBytes.{Consumes-trans}
 use Rattle.std.specs.Io.KnownBytes.{Consumes, IsAtEnd}
-use Rattle.wire_codec.specs.Delivery.{Delivers, Splits, Waiting}
+use Rattle.wire_codec.specs.Delivery.{Delivers, Waiting}
 use Rattle.wire_codec.specs.Framing.{framing}
 use Rattle.wire_span.specs.declared.span.SpanError.TheVariants.{PacketsOutOfSync}
 use Rattle.wire_span.specs.Spans.{SpanState, CameTo, EatsSpans, IsBetween, IsOfAnotherId, StopsBefore, packets_of, opened_after, span_state}
@@ -14,7 +14,7 @@ use Rattle.mysql_wire_dump_commands.specs.declared.source.Next.TheVariants.{Unre
 use Rattle.mysql_wire_dump_commands.specs.declared.source.Source.{Source}
 use Rattle.mysql_wire_dump_commands.specs.declared.source.Step.{Step}
 use Rattle.mysql_wire_dump_commands.specs.declared.source.Step.TheVariants.{Waits, Goes, Whole, LosesSync}
-use Rattle.mysql_wire_dump_commands.specs.Sources.{BeginsWith, Collected, Collects, EndsAs, Found, HasPacket, IsFresh, IsIdle, Stands, StandsNext, Stepped, SteppedAs, Steps, Took, TookAs, collected, framed, most}
+use Rattle.mysql_wire_dump_commands.specs.Sources.{BeginsWith, Collected, Collects, EndsAs, Found, HasPacket, IsIdle, Stands, StandsNext, Stepped, SteppedAs, Steps, Took, TookAs, collected, framed, most}
 
 -- nothing is consumed
 pub consumes_none : (known : Option (List ℕ)) → Consumes known known []

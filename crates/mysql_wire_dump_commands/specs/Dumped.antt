@@ -6,7 +6,6 @@ use Rattle.wire_codec.specs.Framing.{next_id}
 use Rattle.mysql_wire_dump_commands.specs.declared.dump.Options.{Options}
 use Rattle.mysql_wire_dump_commands.specs.declared.dump.Sides.{Sides}
 use Rattle.mysql_wire_dump_commands.specs.declared.dump.Sides.TheVariants as sides
-use Rattle.mysql_wire_dump_commands.specs.declared.kind.Kind.{Kind}
 use Rattle.mysql_wire_dump_commands.specs.declared.kind.Kind.TheVariants.{TooLarge}
 use Rattle.mysql_wire_dump_commands.specs.declared.lines.LineForm.{LineForm}
 use Rattle.mysql_wire_dump_commands.specs.declared.lines.Seen.{Seen}

@@ -1,6 +1,6 @@
 -- The lines that are written.
 use Rattle.std.specs.Fmt.{decimal}
-use Rattle.std.specs.Prelude.{ℕ, ◌<◌, nat_lt, List, [], ◌++◌, length, take, if◌then◌else◌, codes}
+use Rattle.std.specs.Prelude.{ℕ, nat_lt, List, [], ◌++◌, length, take, if◌then◌else◌, codes}
 use Rattle.hex.specs.Hex.{encode_lower}
 use Rattle.mysql_wire_dump_commands.specs.declared.kind.Kind.{Kind}
 use Rattle.mysql_wire_dump_commands.specs.declared.kind.Kind.TheVariants.{Bytes}

@@ -1,7 +1,7 @@
 -- What is read is written again as the bytes that were eaten, where these spell each length in the
 -- shortest form.
 use Rattle.std.specs.Prelude.{ℕ, ◌≡◌, ◌<◌, ◌≤◌, ◌+◌, ◌^◌, ◌⊎◌, ◌↔◌, List, [], ◌∷◌, ◌++◌, length, take, drop, Option, Some, None, Result, Ok, Err, slice_index}
-use Rattle.std.proofs.Common.{zero, suc, inl, inr, refl, sym, ap, subst, ◌∙◌, arith}
+use Rattle.std.proofs.Common.{suc, inl, inr, refl, sym, ap, subst, ◌∙◌, arith}
 use Rattle.std.proofs.Math.Seq.{take-add}
 use Rattle.std.proofs.lemmas.Bool.{cases_lt, le-ltb, lt-ltb}
 use Rattle.std.proofs.lemmas.List.{append_assoc, length-append, length-drop, length-take, take_all, take_at}
@@ -21,7 +21,7 @@ use Rattle.wire_forms.specs.Spelled.{Leaves, NumberOrEof, TextBehind}
 use Rattle.wire_buf.specs.Spelling.{IsBehind, IsFixed}
 use Rattle.wire_ext.specs.Texts.{u8_max}
 use Rattle.wire_buf.specs.declared.error.WireError.{WireError}
-use Rattle.wire_buf.specs.declared.error.WireError.TheVariants.{Other, UnexpectedEof}
+use Rattle.wire_buf.specs.declared.error.WireError.TheVariants.{UnexpectedEof}
 use Rattle.mysql_wire_packets.specs.Again.{Again, IsBytes-drop, IsBytes-take, nothing_law}
 use Rattle.mysql_wire_packets.specs.InOrder.{text_bytes, u8_text_bytes}
 use Rattle.mysql_wire_packets.specs.Optional.{bytes_if, field}

@@ -1,5 +1,4 @@
-use Rattle.std.proofs.Common.{◌≡◌, ◌∙◌, Bool, true, false, subst, sym, rules}
-use Rattle.mysql_wire_dump_commands.specs.Dumping.{Goes}
+use Rattle.std.proofs.Common.{◌∙◌, true, false}
 use Rattle.mysql_wire_dump_commands.proofs.DumpLemmas.{goes_on}
 use Rattle.mysql_wire_dump_commands.proofs.dump.show_all.Goals as goal
 

@@ -1,4 +1,4 @@
-use Rattle.std.proofs.Common.{◌≡◌, ◌++◌, ◌∙◌, ℕ, List, ap₂, refl, rules, string_bytes}
+use Rattle.std.proofs.Common.{◌++◌, ◌∙◌, ℕ, ap₂, rules, string_bytes}
 use Rattle.mysql_wire_dump_commands.specs.Dumped.{ending_lines}
 use Rattle.mysql_wire_dump_commands.proofs.DumpLemmas.{begins_so, dumps_all}
 use Rattle.mysql_wire_dump_commands.proofs.dump.show_session.Goals as goal

@@ -1,4 +1,4 @@
-use Rattle.std.proofs.Common.{◌≡◌, ℕ, Bool, true, false, List, [], ◌∷◌, Ok, ap, refl, rules, subst}
+use Rattle.std.proofs.Common.{◌≡◌, Bool, true, false, [], ◌∷◌, Ok, ap, refl, rules, subst}
 use Rattle.wire_span.specs.Spans.{EatsSpans, IsBetween, span_state}
 use Rattle.mysql_wire_dump_commands.specs.Sources.{Collected}
 use Rattle.mysql_wire_dump_commands.proofs.SourceLemmas.{steps_waits, steps_goes, steps_whole, steps_loses}

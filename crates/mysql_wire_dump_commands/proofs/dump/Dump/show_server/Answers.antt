@@ -1,4 +1,4 @@
-use Rattle.std.proofs.Common.{◌≡◌, ◌++◌, ◌∙◌, ℕ, List, refl, string_bytes, subst, sym, Option}
+use Rattle.std.proofs.Common.{◌≡◌, ◌++◌, ◌∙◌, ℕ, refl, string_bytes, subst, sym}
 use Rattle.mysql_wire_dump_commands.specs.declared.side.Side.TheVariants.{Server}
 use Rattle.mysql_wire_dump_commands.specs.declared.source.Next.{Next}
 use Rattle.mysql_wire_dump_commands.specs.Lines.{packet_line}

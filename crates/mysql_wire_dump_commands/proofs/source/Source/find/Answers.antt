@@ -1,4 +1,4 @@
-use Rattle.std.proofs.Common.{◌≡◌, ◌≤◌, ℕ, List, [], ◌∷◌, length, get_or, arith, refl, subst, sym}
+use Rattle.std.proofs.Common.{◌≤◌, ℕ, List, [], ◌∷◌, length, get_or, arith, refl, subst}
 use Rattle.mysql_wire_dump_commands.specs.Sources.{BeginsWith}
 use Rattle.mysql_wire_dump_commands.proofs.SourceLemmas.{found_after}
 use Rattle.mysql_wire_dump_commands.proofs.source.Source.find.Goals as goal

@@ -1,7 +1,7 @@
-use Rattle.std.proofs.Common.{◌≡◌, ◌∙◌, ℕ, List, refl, rules}
+use Rattle.std.proofs.Common.{◌∙◌}
 use Rattle.mysql_wire_dump_commands.specs.declared.source.End.TheVariants.{OutOfSync, Unfinished}
 use Rattle.mysql_wire_dump_commands.specs.declared.source.Next.TheVariants.{Packet, Ended}
-use Rattle.mysql_wire_dump_commands.specs.declared.source.Step.TheVariants.{Waits, Goes, Whole, LosesSync}
+use Rattle.mysql_wire_dump_commands.specs.declared.source.Step.TheVariants.{Waits, Whole, LosesSync}
 use Rattle.mysql_wire_dump_commands.proofs.SourceLemmas.{goes_on, found_by}
 use Rattle.mysql_wire_dump_commands.proofs.source.Source.take_packet.Goals as goal
 

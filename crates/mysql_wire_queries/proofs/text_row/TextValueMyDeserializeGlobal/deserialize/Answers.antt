@@ -1,4 +1,4 @@
-use Rattle.std.proofs.Common.{◌≡◌, ◌≢◌, List, [], ◌∷◌, take, rules}
+use Rattle.std.proofs.Common.{rules}
 use Rattle.mysql_wire_queries.proofs.TextReads.{value_read, no_value}
 use Rattle.mysql_wire_queries.proofs.text_row.TextValueMyDeserializeGlobal.deserialize.Goals.{in_default-via-in-Some+in_default, in_default-via-in_default}
 use Rattle.mysql_wire_queries.proofs.text_row.TextValueMyDeserializeGlobal.deserialize.Goals as goal
