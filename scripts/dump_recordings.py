@@ -4,8 +4,8 @@
     scripts/dump_recordings.py [RECORDINGS]
 
 Each payload gets the header that it came with; the dump has to show both sides' packets in the order
-in which they were recorded, each named, with and without their fields. The last line is
-'N passed, M failed'.
+in which they were recorded, each named, with and without their fields; and the values of a binary
+row. The last line is 'N passed, M failed'.
 """
 
 import json
@@ -18,6 +18,18 @@ TOP = pathlib.Path(__file__).resolve().parent.parent
 PROGRAM = TOP / "crates/mysql_wire_dump/out/mysql_wire_dump"
 SESSION, CLIENT, SERVER, RESET, FIELDS = range(5)
 SIDES = {CLIENT: "client", SERVER: "server"}
+# the values of one of a session's binary rows, by their places
+VALUES = {
+    "tracked": {
+        "0": 1,
+        "1": '{"a": 1}',
+        "2": "-101:02:03.045000",
+        "3": "2026-02-03 04:05:06.000007",
+        "4": 0.1,
+        "5": 1.5,
+        "6": 2026,
+    }
+}
 
 
 def records(data):
@@ -56,14 +68,19 @@ def framed(packets, side):
     return bytes(data)
 
 
+def lines(*words):
+    """The objects that are shown."""
+    run = subprocess.run([PROGRAM, "--json", *words], stdout=subprocess.PIPE, check=True)
+    return [json.loads(line) for line in run.stdout.splitlines()]
+
+
 def dump(*words):
     """The packets that are shown: who, id, length, what."""
-    run = subprocess.run([PROGRAM, "--json", *words], stdout=subprocess.PIPE, check=True)
-    shown = [json.loads(line) for line in run.stdout.splitlines()]
+    shown = lines(*words)
     return [(p["from"], p["id"], p["length"], p["packet"]) for p in shown if "packet" in p]
 
 
-def faults(packets, folder):
+def faults(name, packets, folder):
     """What is wrong with the dumps of a session."""
     for side in SIDES.values():
         (folder / side).write_bytes(framed(packets, side))
@@ -76,6 +93,10 @@ def faults(packets, folder):
         for packet in shown:
             if packet[3] in ("bytes", "too large", "other command"):
                 yield "not named: %s" % (packet,)
+    if name in VALUES:
+        rows = [line for line in lines("--fields", *both) if line.get("packet") == "binary row"]
+        if VALUES[name] not in [row["fields"] for row in rows]:
+            yield "other values: %s" % rows[:3]
     for side in SIDES.values():
         alone = [packet[:3] for packet in dump(side, folder / side)]
         if alone != [packet for packet in wanted if packet[0] == side]:
@@ -90,7 +111,7 @@ def main():
     passed = failed = 0
     for name, packets in sessions(pathlib.Path(given).read_bytes()):
         with tempfile.TemporaryDirectory() as folder:
-            found = list(faults(packets, pathlib.Path(folder)))
+            found = list(faults(name, packets, pathlib.Path(folder)))
         print(name, len(packets), "packets", *found[:5], sep="; " if found else " ")
         failed += bool(found)
         passed += not found

@@ -1,7 +1,7 @@
 #!/usr/bin/env python3
 """Records a session with MariaDB, as scripts/recordings.py reads it, under capabilities that few
-clients use: CLIENT_SESSION_TRACK, CLIENT_DEPRECATE_EOF, MariaDB's extended metadata and its reports
-of progress.
+clients use: CLIENT_SESSION_TRACK, CLIENT_DEPRECATE_EOF, MariaDB's extended metadata, columns that
+are told once, and reports of progress.
 
     scripts/record_session.py SOCKET USER > FOLDER/tracked.jsonl
 
@@ -17,7 +17,7 @@ TRANSACTIONS, SECURE, STATEMENTS, RESULTS = 1 << 13, 1 << 15, 1 << 16, 1 << 17
 STATEMENT_RESULTS, PLUGINS, TRACK, NO_EOF = 1 << 18, 1 << 19, 1 << 23, 1 << 24
 CAPABILITIES = (LONG_FLAG | LOCAL_FILES | PROTOCOL_41 | TRANSACTIONS | SECURE | STATEMENTS | RESULTS
                 | STATEMENT_RESULTS | PLUGINS | TRACK | NO_EOF)
-PROGRESS, METADATA = 1 << 0, 1 << 3
+PROGRESS, METADATA, TOLD_ONCE = 1 << 0, 1 << 3, 1 << 4
 MORE_RESULTS = 0x08
 
 
@@ -38,7 +38,7 @@ class Session:
         self.number = 0
         self.receive()
         login = CAPABILITIES.to_bytes(4, "little") + (1 << 24).to_bytes(4, "little") + bytes([45])
-        login += bytes(19) + (PROGRESS | METADATA).to_bytes(4, "little")
+        login += bytes(19) + (PROGRESS | METADATA | TOLD_ONCE).to_bytes(4, "little")
         self.send(login + user.encode() + b"\0\0mysql_native_password\0")
         if self.receive()[0] == 0xFE:
             self.send(b"")
@@ -93,7 +93,8 @@ class Session:
             if first[0] == 0:
                 status = self.status(first)
                 continue
-            for _ in range(lenenc(first, 0)[0]):
+            count, at = lenenc(first, 0)
+            for _ in range(0 if first[at:] == b"\0" else count):
                 self.receive()
             status = self.rows()
 

@@ -127,6 +127,18 @@ fn faults_are_named(rt: HostRuntime) -> Result<(), Fail> {
 }
 
 const WITH_FIELDS: &[Row] = &[
+    // A report stands before the answer, and the session where it did.
+    Row {
+        options: FIELDS,
+        sides: Sides::Both,
+        client: SELECT,
+        server: b"\x0f\0\0\x01\xff\xff\xff\x01\x01\x02\xc4\x09\0\x05index\x07\0\0\x02\0\0\0\x02\0\0\0",
+        status: 0,
+        text: b"client 0 9 query\n  query \"SELECT 1\"\nserver 1 15 progress\n  strings 1\n  \
+            stage 1\n  max_stage 2\n  progress 2500\n  info \"index\"\nserver 2 7 ok\n  \
+            affected_rows 0\n  last_insert_id 0\n  status_flags 0x2\n  warnings 0\n\
+            client end at 13\nserver end at 30\n",
+    },
     Row {
         options: FIELDS,
         sides: Sides::Both,

@@ -1,5 +1,7 @@
 //! The fields of a packet, as text or as members of a JSON object.
 
+use crate::moments::{push_date, push_double, push_float, push_time};
+use mysql_wire_statements::moments::{BinaryDate, BinaryTime};
 use std::alloc::{AllocError, Global};
 
 /// How fields are shown.
@@ -21,6 +23,12 @@ pub enum FieldValue<'a> {
     /// A text, where the bytes are one.
     Text(&'a [u8]),
     Bytes(&'a [u8]),
+    Date(&'a BinaryDate),
+    Time(&'a BinaryTime),
+    /// The bits of an `f32`.
+    Float(u32),
+    /// The bits of an `f64`.
+    Double(u64),
 }
 
 /// The fields of one packet.
@@ -100,6 +108,18 @@ impl Fields {
         }
     }
 
+    fn push_date(&mut self, date: &BinaryDate) -> Result<(), AllocError> {
+        self.text.push('"')?;
+        push_date(&mut self.text, date)?;
+        self.text.push('"')
+    }
+
+    fn push_time(&mut self, time: &BinaryTime) -> Result<(), AllocError> {
+        self.text.push('"')?;
+        push_time(&mut self.text, time)?;
+        self.text.push('"')
+    }
+
     fn push_value(&mut self, value: FieldValue<'_>) -> Result<(), AllocError> {
         match value {
             FieldValue::Null => self.text.push_str("null"),
@@ -110,6 +130,10 @@ impl Fields {
             },
             FieldValue::Text(bytes) => self.push_text(bytes),
             FieldValue::Bytes(bytes) => self.push_digits(bytes),
+            FieldValue::Date(date) => self.push_date(date),
+            FieldValue::Time(time) => self.push_time(time),
+            FieldValue::Float(bits) => push_float(&mut self.text, bits),
+            FieldValue::Double(bits) => push_double(&mut self.text, bits),
         }
     }
 

@@ -6,6 +6,7 @@ pub mod dump;
 pub mod fields;
 pub mod kind;
 pub mod lines;
+mod moments;
 pub mod naming;
 pub mod place;
 pub mod refusal;

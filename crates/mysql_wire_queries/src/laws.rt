@@ -54,8 +54,8 @@ pub fn com_quit_is_written_back()
 
 /// Of `ColumnCount`.
 pub fn column_count_is_written_back()
-    ensures { (capabilities : CapabilityFlags) →
-        WritesBack (⟦<ColumnCount as MyDeserialize<'static, Global>>⟧.reads capabilities)
+    ensures { (capabilities : CapabilityFlags) (mariadb : MariadbCapabilities) → WritesBack
+        (⟦<ColumnCount as MyDeserialize<'static, Global>>⟧.reads (capabilities, mariadb))
         ⟦<ColumnCount as MySerialize>⟧.bytes }
 {}
 

@@ -13,7 +13,7 @@ use mysql_wire_packets::ok_packet::{InfoForm, OkPacket};
 use mysql_wire_packets::places::{PayloadError, read_whole};
 use std::alloc::Global;
 use wire_buf::proto::MyDeserialize;
-use wire_const::CapabilityFlags;
+use wire_const::{CapabilityFlags, MariadbCapabilities};
 
 /// The first packet of the answer to a command.
 ///
@@ -30,11 +30,12 @@ pub enum QueryAnswer<'a> {
 }
 
 impl<'a> QueryAnswer<'a> {
-    /// Reads the answer from a payload, on a connection of these capabilities: `00` begins an OK,
-    /// `ff` an error, `fb` the request for a file, and any other byte a count of columns.
+    /// Reads the answer from a payload, on a connection of these capabilities, and MariaDB's: `00`
+    /// begins an OK, `ff` an error, `fb` the request for a file, and any other byte a count of columns.
     pub fn read(
         alloc: Global,
         capabilities: CapabilityFlags,
+        mariadb: MariadbCapabilities,
         payload: &'a [u8],
     ) -> Result<QueryAnswer<'a>, PayloadError>
         ensures done { take 1 payload.entry.now ≡ 0x00 ∷ [] → Wraps Done
@@ -48,8 +49,8 @@ impl<'a> QueryAnswer<'a> {
             payload.entry.now) result }
         ensures columns { take 1 payload.entry.now ≢ 0x00 ∷ []
             → take 1 payload.entry.now ≢ 0xff ∷ [] → take 1 payload.entry.now ≢ 0xfb ∷ []
-            → Wraps Columns
-            (ReadsWhole (⟦<ColumnCount as MyDeserialize<'a, Global>>⟧.reads capabilities)
+            → Wraps Columns (ReadsWhole
+            (⟦<ColumnCount as MyDeserialize<'a, Global>>⟧.reads (capabilities, mariadb))
             payload.entry.now) result }
     {
         match payload.first() {
@@ -68,7 +69,7 @@ impl<'a> QueryAnswer<'a> {
                 Ok(packet) => Ok(QueryAnswer::File(packet)),
                 Err(error) => Err(error),
             },
-            _ => match read_whole::<ColumnCount>(alloc, capabilities, payload) {
+            _ => match read_whole::<ColumnCount>(alloc, (capabilities, mariadb), payload) {
                 Ok(packet) => Ok(QueryAnswer::Columns(packet)),
                 Err(error) => Err(error),
             },

@@ -211,7 +211,7 @@ impl Session {
             return Found::exact::<ProgressReport<'_>>(alloc, Kind::Progress, (), payload);
         }
         self.place = Place::Command;
-        match QueryAnswer::read(alloc, self.capabilities, payload.bytes) {
+        match QueryAnswer::read(alloc, self.capabilities, self.mariadb, payload.bytes) {
             Ok(QueryAnswer::Done(ok)) => {
                 self.end(ok.status_flags);
                 Found::of(alloc, Kind::Ok, &ok, payload).and(has_changes(alloc, &ok))
@@ -223,8 +223,13 @@ impl Session {
             }
             Ok(QueryAnswer::Columns(count)) => {
                 self.columns = count.column_count;
-                self.types.clear();
-                self.place = self.definitions(Defined::Rows, count.column_count);
+                // (a statement's columns may be told once, behind its number)
+                self.place = if count.mariadb_metadata_follows == Some(0) {
+                    Place::Rows
+                } else {
+                    self.types.clear();
+                    self.definitions(Defined::Rows, count.column_count)
+                };
                 Found::of(alloc, Kind::ColumnCount, &count, payload)
             }
             Err(_) => Found::refused(Kind::ColumnCount, payload),

@@ -188,6 +188,9 @@ impl Shown for ColumnCount {
             fields.number(follows.into());
         }
         fields.number(self.column_count);
+        if let Some(follows) = self.mariadb_metadata_follows {
+            fields.number(follows.into());
+        }
     }
 }
 

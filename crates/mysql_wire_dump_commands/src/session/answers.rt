@@ -87,7 +87,7 @@ impl Session {
         ensures { IfOk result (λ named. IsOrBytes kind named) }
     {
         self.place = Place::Command;
-        match QueryAnswer::read(alloc, self.capabilities, payload) {
+        match QueryAnswer::read(alloc, self.capabilities, self.mariadb, payload) {
             Ok(QueryAnswer::Done(packet)) => {
                 self.end_answer(packet.status_flags);
                 show::ok(fields, &packet);
@@ -111,13 +111,14 @@ impl Session {
         }
     }
 
-    // The definitions of columns follow, where the count says so.
+    // The definitions of columns follow, where the count says so. MariaDB leaves out those that it
+    // told behind a statement's number, and not what ends them.
     fn expect_columns(&mut self, packet: &ColumnCount) {
         self.columns = packet.column_count;
         self.types.clear();
         self.place = if packet.metadata_follows == Some(0) {
             Place::Rows
-        } else if packet.column_count == 0 {
+        } else if packet.column_count == 0 || packet.mariadb_metadata_follows == Some(0) {
             self.behind_columns(Behind::Rows)
         } else {
             Place::Columns {

@@ -60,6 +60,9 @@ pub fn column_count(fields: &mut Fields, packet: &ColumnCount) {
         fields.number("metadata_follows", follows as u64);
     }
     fields.number("column_count", packet.column_count);
+    if let Some(follows) = packet.mariadb_metadata_follows {
+        fields.number("mariadb_metadata_follows", follows as u64);
+    }
 }
 
 fn column_names(fields: &mut Fields, packet: &ColumnDefinition41<'_>) {

@@ -34,7 +34,7 @@ pub fn text_row(
 }
 
 // Puts a value in its binary form.
-fn put_value(fields: &mut Fields, place: u64, value: &BinaryValue<'_>, bytes: &[u8]) {
+fn put_value(fields: &mut Fields, place: u64, value: &BinaryValue<'_>) {
     let value = match value {
         BinaryValue::Null => FieldValue::Null,
         BinaryValue::Tiny(number) => FieldValue::Number(*number as u64),
@@ -42,10 +42,10 @@ fn put_value(fields: &mut Fields, place: u64, value: &BinaryValue<'_>, bytes: &[
         BinaryValue::Long(number) => FieldValue::Number(*number as u64),
         BinaryValue::LongLong(number) => FieldValue::Number(*number),
         BinaryValue::Text(text) => FieldValue::Text(*text),
-        BinaryValue::Float(_)
-        | BinaryValue::Double(_)
-        | BinaryValue::Date(_)
-        | BinaryValue::Time(_) => FieldValue::Bytes(bytes),
+        BinaryValue::Float(bits) => FieldValue::Float(*bits),
+        BinaryValue::Double(bits) => FieldValue::Double(*bits),
+        BinaryValue::Date(date) => FieldValue::Date(date),
+        BinaryValue::Time(time) => FieldValue::Time(time),
     };
     fields.put_at(place, value);
 }
@@ -63,12 +63,8 @@ fn binary_values(
             Ok(column_type) => column_type,
             Err(_) => ColumnType::MYSQL_TYPE_UNKNOWN,
         };
-        let before = rest.0;
         match row.value(alloc, place, column_type, &mut rest) {
-            Ok(value) => {
-                let eaten = before.len() - rest.0.len();
-                put_value(fields, place as u64, &value, &before[..eaten]);
-            }
+            Ok(value) => put_value(fields, place as u64, &value),
             Err(error) => return Err(error),
         }
     }

@@ -2,7 +2,7 @@
 // answered by at once. Payloads of MySQL's pages, or by hand where a page shows none.
 
 use crate::server::payload::{OTHER, Refused, is_payload, text_if};
-use mysql_wire::constants::{CapabilityFlags, Flags};
+use mysql_wire::constants::{CapabilityFlags, Flags, MariadbCapabilities};
 use mysql_wire::misc::raw::int::RawInt;
 use mysql_wire::misc::raw::{RawBytes, RawFlags};
 use mysql_wire_connection::auth_more_data::AuthMoreData;
@@ -67,34 +67,53 @@ fn is_local_infile(heap: &Heap, alloc: Global) -> bool {
 }
 
 // Counts, without and with the byte of the metadata.
-const COUNTS: &[(&[u8], CapabilityFlags, Option<u8>, u64)] = &[
-    (b"\x03", CapabilityFlags::CLIENT_PROTOCOL_41, None, 3),
+// The payload, whether MariaDB tells columns once, and the count between both bytes.
+const COUNTS: &[(&[u8], CapabilityFlags, bool, (Option<u8>, u64, Option<u8>))] = &[
+    (
+        b"\x03",
+        CapabilityFlags::CLIENT_PROTOCOL_41,
+        false,
+        (None, 3, None),
+    ),
     (
         b"\xfc\xfb\0",
         CapabilityFlags::CLIENT_PROTOCOL_41,
-        None,
-        251,
+        false,
+        (None, 251, None),
     ),
     (
         b"\0\x03",
         CapabilityFlags::CLIENT_OPTIONAL_RESULTSET_METADATA,
-        Some(0),
-        3,
+        false,
+        (Some(0), 3, None),
+    ),
+    (
+        b"\x07\0",
+        CapabilityFlags::CLIENT_PROTOCOL_41,
+        true,
+        (None, 7, Some(0)),
     ),
 ];
 
 fn are_counts(heap: &Heap, alloc: Global) -> bool {
     let mut all = true;
     for row in COUNTS {
-        let (payload, capabilities, metadata_follows, column_count) = *row;
+        let (payload, capabilities, is_told_once, parts) = *row;
+        let (metadata_follows, column_count, mariadb_metadata_follows) = parts;
         let count = ColumnCount {
             metadata_follows,
             column_count,
+            mariadb_metadata_follows,
+        };
+        let mariadb = if is_told_once {
+            MariadbCapabilities::MARIADB_CLIENT_CACHE_METADATA
+        } else {
+            MariadbCapabilities::empty()
         };
         all &= is_payload(
             heap,
             alloc,
-            capabilities,
+            (capabilities, mariadb),
             count,
             (payload, payload.len()),
             &[],

@@ -1,14 +1,17 @@
-use Rattle.wire_const.specs.FlagSets.{capability_flags_bits}
+use Rattle.wire_const.specs.FlagSets.{capability_flags_bits, mariadb_capabilities_bits}
 use Rattle.mysql_wire_packets.specs.Again.{byte_again}
 use Rattle.mysql_wire_packets.specs.Optional.{has, side}
 use Rattle.mysql_wire_packets.specs.Shortest.{written_back, both_of, exact, int_of, optional_of}
 use Rattle.mysql_wire_queries.proofs.laws.column_count_is_written_back.Goals as goal
 
 pub returns : goal.returns
-returns c = λ capabilities input packet eaten is read.
+returns c = λ capabilities mariadb input packet eaten is read.
     written_back _ _ ((both_of
     (optional_of (λ count. count.metadata_follows) (λ follows. (follows, _)) _
     (λ ctx. exact (byte_again (λ int. int.0)))
     (side tt (has (capability_flags_bits capabilities) 0x2000000)))
-    (int_of (λ count. count.column_count))).law input is packet eaten
+    (both_of (int_of (λ count. count.column_count))
+    (optional_of (λ count. count.mariadb_metadata_follows) (λ follows. (follows, _)) _
+    (λ ctx. exact (byte_again (λ int. int.0)))
+    (side tt (has (mariadb_capabilities_bits mariadb) 0x10))))).law input is packet eaten
     read)
