@@ -1,7 +1,7 @@
 //! A row of a text resultset.
 
 ghost use Rattle.std.specs.Prelude.{◌≡◌, ◌<◌, ◌^◌, ◌++◌, length};
-ghost use Rattle.wire_buf.specs.Reading.{Through};
+ghost use Rattle.wire_buf.specs.Reading.{Reads, Through};
 ghost use Rattle.wire_repr.specs.Texts.{IsText};
 ghost use Rattle.mysql_wire_packets.specs.Optional.{OnIf};
 ghost use Rattle.mysql_wire_queries.specs.TextValues.{value_of, value_bytes, ReadsValue, SameValue, row_bytes, value-back, row-back};
@@ -23,6 +23,24 @@ use wire_repr::wire::Wire;
 pub enum TextValue<'a> {
     Null,
     Text(&'a [u8]),
+}
+
+// Reads a value that is NULL, none, or a text of 251 bytes and more.
+fn long_value<'a>(buf: &mut ParseBuf<'a>) -> Result<TextValue<'a>, WireError>
+    ensures { Reads (λ input. Through value_of (ReadsValue input)) buf.old.0.now result
+        buf.new.0.now }
+{
+    match buf.0.first() {
+        Some(0xfb) => {
+            buf.skip(1);
+            Ok(TextValue::Null)
+        }
+        Some(0xff) => Err(WireError::Other(InvalidLengthEncodedInteger)),
+        _ => match buf.checked_eat_lenenc_str() {
+            Some(text) => Ok(TextValue::Text(text)),
+            None => Err(WireError::UnexpectedEof),
+        },
+    }
 }
 
 impl MySerialize for TextValue<'_> {
@@ -52,11 +70,8 @@ impl<'de> MyDeserialize<'de, Global> for TextValue<'de> {
     #[inline(always)]
     fn deserialize(_: Global, _: (), buf: &mut ParseBuf<'de>) -> Result<Self, WireError> {
         match buf.0.first() {
-            Some(0xfb) => {
-                buf.skip(1);
-                Ok(TextValue::Null)
-            }
-            Some(0xff) => Err(WireError::Other(InvalidLengthEncodedInteger)),
+            // (most texts are short, and one test tells them from all else)
+            Some(0xfb..) => long_value(buf),
             _ => match buf.checked_eat_lenenc_str() {
                 Some(text) => Ok(TextValue::Text(text)),
                 None => Err(WireError::UnexpectedEof),
