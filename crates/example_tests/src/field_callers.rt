@@ -7,8 +7,8 @@ use mysql_wire::proto::MySerialize;
 use mysql_wire_examples::field_callers::{
     EofPacket, put_named, put_schema, read_eof, read_error, read_named, read_ok, write_name,
 };
-use mysql_wire_examples::own_fields::{BeU16, U16Bytes, read_name, read_port};
-use mysql_wire_examples::parameters::{Parameter, put_parameters, read_parameters};
+use field_examples::own_fields::{BeU16, U16Bytes, read_name, read_port};
+use field_examples::parameters::{Parameter, put_parameters, read_parameters};
 use std::alloc::Global;
 use std::test::Fail;
 use test_support::facts::{all_hold, ensure, same};

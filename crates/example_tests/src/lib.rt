@@ -1,4 +1,4 @@
-//! The callers of `mysql_wire_examples`, run, and values as packets.
+//! The callers of `mysql_wire_examples` and `field_examples`, run, and values as packets.
 #![tactic(auto)]
 
 #[cfg(test)]

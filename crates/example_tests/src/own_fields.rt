@@ -1,6 +1,6 @@
 // A number and a text in representations of one's own, by the same checks as those of the crate.
 
-use mysql_wire_examples::own_fields::{BeU16, U16Bytes};
+use field_examples::own_fields::{BeU16, U16Bytes};
 use refusing_allocator::Refusing;
 use std::alloc::Allocator;
 use std::test::Fail;

@@ -4,8 +4,6 @@ pub mod ConnectionLemmas
 pub mod TallyLemmas
 mod AccountLemmas
 mod RelayedLemmas
-mod TextListLemmas
-mod KeyedLemmas
 mod MeasuredLemmas
 pub mod SessionLemmas
 pub mod BothEndsLemmas

@@ -1,11 +1,7 @@
 pub mod BothEnds
-pub mod Commands
 pub mod Connection
 pub mod Inbox
-pub mod OwnFields
-pub mod Parameters
 pub mod Accounts
 pub mod Relayed
-pub mod Keyed
 pub mod Session
 pub mod Measured

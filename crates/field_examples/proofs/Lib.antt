@@ -1,0 +1,2 @@
+mod TextListLemmas
+mod KeyedLemmas

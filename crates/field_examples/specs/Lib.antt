@@ -1,0 +1,4 @@
+pub mod Commands
+pub mod OwnFields
+pub mod Parameters
+pub mod Keyed

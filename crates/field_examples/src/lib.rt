@@ -1,0 +1,10 @@
+//! Fields of payloads, lists and sets of flags, as CALLING.md names them: proved callers.
+//! `example_tests` runs them.
+#![tactic(auto)]
+
+pub mod commands;
+pub mod constant_calls;
+pub mod keyed;
+pub mod own_fields;
+pub mod parameters;
+pub mod text_lists;
