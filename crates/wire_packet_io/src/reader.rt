@@ -1,11 +1,12 @@
 //! Packets from a reader.
 
-ghost use Rattle.std.specs.Prelude.{IsOk, IsNone, IsSome, IfSome, Some, None, MatchOption, ◌≡◌, ◌<◌, ◌↔◌, ◌⊎◌, [], Err, IfOk, OnErr, OnOk, IfErr, Ok, true, false, IsTrue, IsFalse};
+ghost use Rattle.std.specs.Prelude.{ℕ, List, IsOk, IsNone, IsSome, IfSome, Some, None, MatchOption, ◌≡◌, ◌<◌, ◌↔◌, ◌⊎◌, [], Err, IfOk, OnErr, OnOk, IfErr, Ok, true, false, IsTrue, IsFalse};
 ghost use Rattle.wire_codec.specs.Codec.{CodecState, Stands, DecodesPacket};
 ghost use Rattle.wire_codec.specs.Skipping.{MaySkip, WouldStand};
 ghost use Rattle.wire_codec.specs.InPlace.{HasFront, behind_front as behind};
 ghost use Rattle.wire_packet_io.specs.PacketIo.{FitsAt, NextPacket};
-ghost use Rattle.wire_packet_io.specs.Lent.{HandsOutLent, reading_state, answer_of, answer_lent};
+ghost use Rattle.wire_packet_io.specs.declared.error.PacketIoError.{PacketIoError};
+ghost use Rattle.wire_packet_io.specs.Lent.{HandsOutLent, IsApart, reading_state, found_in, answer_of, answer_over, answer_lent};
 ghost use Rattle.wire_packet_io.specs.Skips.{CanSkip, SkipsNext, skipped_at};
 
 mod copy;
@@ -172,12 +173,7 @@ impl<R: Read, A: Allocator + Copy> PacketReader<R, A> {
         if self.lent.is_some() {
             return self.hand_out();
         }
-        match self.input.next(codec, false) {
-            Ok(Some(Found::Apart(packet))) => Ok(Some(packet)),
-            Ok(Some(Found::InFront)) => unreachable!(),
-            Ok(None) => Ok(None),
-            Err(error) => Err(error),
-        }
+        apart(self.input.next(codec, false))
     }
 
     // Hands out the packet that is lent.
@@ -202,6 +198,21 @@ impl<R: Read, A: Allocator + Copy> PacketReader<R, A> {
                 }
             }
         }
+    }
+}
+
+// The packet that was put together, of an answer that lends none in front.
+fn apart<A: Allocator + Copy>(
+    found: Result<Option<Found<A>>, PacketIoError>,
+) -> Result<Option<Vec<u8, A>>, PacketIoError>
+    requires { IsApart (found_in found) }
+    ensures packet { (src : List ℕ) → answer_of result ≡ answer_over found src }
+    ensures refused { (error : PacketIoError) → (result ≡ Err error) ↔ (found ≡ Err error) }
+{
+    match found? {
+        Some(Found::Apart(packet)) => Ok(Some(packet)),
+        Some(Found::InFront) => unreachable!(),
+        None => Ok(None),
     }
 }
 
@@ -373,11 +384,10 @@ impl<R: Read, A: Allocator + Copy> PacketReader<R, A> {
             return Ok(true);
         }
         match self.input.next(codec, true) {
-            Ok(Some(found)) => {
-                self.lent = Some(found);
-                Ok(true)
+            Ok(found) => {
+                self.lent = found;
+                Ok(self.lent.is_some())
             }
-            Ok(None) => Ok(false),
             Err(error) => Err(error),
         }
     }
