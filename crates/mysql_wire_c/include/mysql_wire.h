@@ -74,7 +74,7 @@ typedef struct mysql_wire_view {
     size_t len;
 } mysql_wire_view;
 
-/* Where a text stands in the bytes that were read: from `at` on, `len` bytes. */
+/* Where a text or a packet stands in the bytes that were read: from `at` on, `len` bytes. */
 typedef struct mysql_wire_span {
     size_t at;
     size_t len;
@@ -83,8 +83,8 @@ typedef struct mysql_wire_span {
 /*
  * The answers. Below 0 is a refusal; at each call stands which ones it has, and what they leave.
  * Every call at NULL (a closed connection) answers MYSQL_WIRE_CLOSED, or 0 where it answers a
- * count; it empties a view that it would set, sets a `len` that it would set to 0, and does nothing
- * else.
+ * count; it empties a view that it would set, sets a `len` or a `count` that it would set to 0, and
+ * does nothing else.
  */
 enum {
     MYSQL_WIRE_OK = 0,
@@ -181,6 +181,33 @@ int32_t mysql_wire_decode(mysql_wire_connection *connection, const uint8_t *byte
                           size_t *used, mysql_wire_view *packet);
 
 /*
+ * Takes the packet that is lent, and lends as many as `bytes` begin with, in one call: packets of one
+ * chunk each that lie whole there, one behind the other, where nothing that came before is unread.
+ * It costs no copy and no memory. `spans` says where their payloads stand in `bytes`; there is place
+ * for `room` of them. `count` is how many there are, `used` how many of the bytes they use up. The
+ * connection is behind the last of them: what is encoded next follows it, and there is nothing more
+ * to take. Where there is none, `mysql_wire_decode` goes on. So for what a read gave:
+ *
+ *     while (len > 0) {
+ *         code = mysql_wire_decode_many(&connection, bytes, len, spans, 64, &count, &used);
+ *         for (size_t i = 0; i < count; i++) use(bytes + spans[i].at, spans[i].len);
+ *         if (code == MYSQL_WIRE_WAITS) {
+ *             code = mysql_wire_decode(&connection, bytes, len, &used, &packet);
+ *             if (code != MYSQL_WIRE_PACKET) break;
+ *             use(packet.at, packet.len);
+ *         }
+ *         bytes += used;
+ *         len -= used;
+ *     }
+ *
+ * PACKET: `count` is at least 1. It is `room`, or no further packet lies so. WAITS: `count` and `used`
+ * are 0, and but for the packet that was lent nothing changes; that says nothing of what stands in
+ * front. The places from `count` on stay as they were.
+ */
+int32_t mysql_wire_decode_many(mysql_wire_connection *connection, const uint8_t *bytes, size_t len,
+                               mysql_wire_span *spans, size_t room, size_t *count, size_t *used);
+
+/*
  * Sets the most bytes of a packet. A chunk's header is judged once, by the limit in force when its
  * fourth byte was fed; so the new limit holds for what is fed from now on. Where the packet in
  * front is too large, it holds for that header and all that is unread behind it. It also holds for
@@ -223,6 +250,15 @@ int32_t mysql_wire_framed_len(size_t len, size_t *framed);
  */
 int32_t mysql_wire_encode_to(mysql_wire_connection *connection, const uint8_t *payload, size_t len,
                              uint8_t *room, size_t room_len, size_t *written);
+
+/*
+ * The header of a packet of `len` bytes, in the 4 bytes at `header`, for who sends it by `writev`, or
+ * copies the payload behind it: both together are what `mysql_wire_encode_to` frames. The payload is
+ * to follow.
+ * OK; TOO_LARGE: it is above the limit, or has 16777215 bytes or more, for which `mysql_wire_encode_to`
+ * is there; NO_MEMORY (only where a packet is lent). Each refusal changes nothing.
+ */
+int32_t mysql_wire_encode_header(mysql_wire_connection *connection, size_t len, uint8_t *header);
 
 /* Moves bytes that wait to `room`, as many as fit, and answers how many. */
 size_t mysql_wire_output(mysql_wire_connection *connection, uint8_t *room, size_t room_len);

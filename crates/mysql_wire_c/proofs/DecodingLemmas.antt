@@ -1,7 +1,8 @@
 -- Bytes that are fed in pieces.
 use Rattle.std.proofs.Common.{◌≡◌, ℕ, ℤ, ◌+◌, ◌-◌, ◌%◌, ◌<◌, ◌≤◌, List, [], ◌∷◌, ◌++◌, length, length-drop, take, take_all, drop, refl, sym, ap, ◌∙◌, subst, arith, append-nil, inl, inr, ◌==◌, eqb-true, Option, None, Ok, Bool, true}
 use Rattle.std.proofs.Math.Seq.{take-add}
-use Rattle.std.proofs.lemmas.List.{length-take-le}
+use Rattle.std.proofs.lemmas.List.{length-take-le, take_more_set, drop-set-lt, drop-drop}
+use Rattle.std.proofs.Math.ListN.{set}
 use Rattle.std.proofs.lemmas.Grind.{flat_map-append}
 use Rattle.std.specs.List.{flat_map}
 use Rattle.wire_codec.specs.Delivery.{chunk_len}
@@ -9,11 +10,12 @@ use Rattle.wire_codec.specs.Codec.{CodecState}
 use Rattle.wire_codec.specs.InPlace.{HasFront, front_payload, behind_front}
 use Rattle.wire_codec.specs.LimitedRuns.{DecodesAligned}
 use Rattle.mysql_wire_c.specs.declared.codes.TheConstants.{OK, WAITS, PACKET, NO_MEMORY}
+use Rattle.mysql_wire_c.specs.declared.fields.Span.{Span}
 use Rattle.mysql_wire_c.specs.declared.connection.Front.TheVariants.{Unfinished}
 use Rattle.mysql_wire_c.specs.Side.{Side, side_of}
 use Rattle.mysql_wire_c.specs.Answers.{Waits}
 use Rattle.mysql_wire_c.specs.Calls.{Feeds, Peeks, Takes}
-use Rattle.mysql_wire_c.specs.Decoding.{FedInTurn, LendsFrom, fed_with, unlent}
+use Rattle.mysql_wire_c.specs.Decoding.{FedInTurn, HasPacketIn, LendsFrom, LendsInTurn, fed_with, unlent}
 
 pub fed_then : (pieces : List (List ℕ)) (before mid waits : Side) (piece : List ℕ) → FedInTurn pieces before mid → Waits mid waits
     → FedInTurn (pieces ++ piece ∷ []) before (fed_with waits piece)
@@ -107,3 +109,42 @@ lends_is bytes packet state after pending used no_unread none (aligned, empty, l
 pub nothing_there : (bytes : List ℕ) (is_empty : Bool) → is_empty ≡ (length bytes == 0) → is_empty ≡ true → bytes ≡ []
 nothing_there [] is_empty e it = refl
 nothing_there (byte ∷ bytes) is_empty e it = absurd (let none : length (byte ∷ bytes) ≡ 0 = eqb-true (length (byte ∷ bytes)) 0 (sym e ∙ it) in omega (arith, none))
+
+-- one packet more is lent
+pub lends_then : (spans : List Span) (bytes : List ℕ) (at end : ℕ) (before mid after : Side) (span : Span) → LendsInTurn bytes at spans end before mid
+    → span.at ≡ end + 4 → HasPacketIn (drop end bytes) mid → LendsFrom (drop end bytes) (4 + span.len) span.len PACKET mid after
+    → LendsInTurn bytes at (spans ++ span ∷ []) (end + (4 + span.len)) before after
+lends_then [] bytes at end before mid after span (is, same) place has lends = (
+  after,
+  place ∙ ap (λ (n : ℕ). n + 4) is,
+  subst (λ (n : ℕ). HasPacketIn (drop n bytes) before) is (subst (λ (s : Side). HasPacketIn (drop end bytes) s) same has),
+  subst (λ (n : ℕ). LendsFrom (drop n bytes) (4 + span.len) span.len PACKET before after) is
+      (subst (λ (s : Side). LendsFrom (drop end bytes) (4 + span.len) span.len PACKET s after) same lends),
+  (ap (λ (n : ℕ). n + (4 + span.len)) is, refl),
+)
+lends_then (first ∷ spans) bytes at end before mid after span (between, stands, there, lent, rest) place has lends =
+    (between, stands, there, lent, lends_then spans bytes (at + (4 + first.len)) end between mid after span rest place has lends)
+
+-- the same, as it is written to its place
+pub many_step : (bytes lent : List ℕ) (spans old : List Span) (count used : ℕ) (span : Span) (before mid after : Side) → used ≤ length bytes → count < length spans
+    → span.at ≡ used + 4 → span.len ≡ length lent → LendsInTurn bytes 0 (take count spans) used before mid
+    → HasPacketIn (take (length bytes - used) (drop used bytes)) mid
+    → LendsFrom (take (length bytes - used) (drop used bytes)) (4 + length lent) (length lent) PACKET mid after
+    → drop count spans ≡ drop count old
+    → (used + (4 + length lent) ≤ length bytes)
+    × LendsInTurn bytes 0 (take (count + 1) (set spans count span)) (used + (4 + length lent)) before after
+    × (drop (count + 1) (set spans count span) ≡ drop (count + 1) old)
+many_step bytes lent spans old count used span before mid after inside place at len so_far has lends rest =
+    let e = length-drop used bytes in
+    let whole : take (length bytes - used) (drop used bytes) ≡ drop used bytes = take_all (length bytes - used) (drop used bytes) (omega (arith, e)) in
+    let here : LendsFrom (drop used bytes) (4 + span.len) span.len PACKET mid after =
+    subst (λ (n : ℕ). LendsFrom (drop used bytes) (4 + n) n PACKET mid after) (sym len) (subst (λ (z : List ℕ). LendsFrom z (4 + length lent) (length lent) PACKET mid after) whole lends) in
+    let bound = here.bound in
+    let more : LendsInTurn bytes 0 (take (count + 1) (set spans count span)) (used + (4 + span.len)) before after =
+    subst (λ (z : List Span). LendsInTurn bytes 0 z (used + (4 + span.len)) before after) (sym (take_more_set spans count span place))
+    (lends_then (take count spans) bytes 0 used before mid after span so_far at (subst (λ (z : List ℕ). HasPacketIn z mid) whole has) here) in (
+      omega (arith, bound, e, len, inside),
+      subst (λ (n : ℕ). LendsInTurn bytes 0 (take (count + 1) (set spans count span)) (used + (4 + n)) before after) len more,
+      drop-set-lt (count + 1) spans count span (omega arith)
+          ∙ sym (drop-drop 1 count spans) ∙ ap (λ (z : List Span). drop 1 z) rest ∙ drop-drop 1 count old,
+    )

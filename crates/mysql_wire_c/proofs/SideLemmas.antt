@@ -1,15 +1,17 @@
 -- More bytes behind what is to be read.
-use Rattle.std.proofs.Common.{◌≡◌, ℕ, ◌+◌, ◌-◌, ◌≤◌, List, ◌++◌, length, take, drop, refl, sym, ap, ap₂, ◌∙◌, arith, subst, Some, IfSome, false, length-drop, ◌-◌}
+use Rattle.std.proofs.Common.{◌≡◌, ℕ, ◌+◌, ◌-◌, ◌*◌, ◌/◌, ◌%◌, ◌<◌, ◌≤◌, List, ◌++◌, length, take, take_all, drop, suc, zero-mul, add-zero, refl, sym, ap, ap₂, ◌∙◌, arith, subst, Some, IfSome, false, length-drop, ◌-◌, inl, rules}
 use Rattle.std.proofs.lemmas.List.{take-append-le, drop-append-le, length-take-le}
 use Rattle.wire_buf.specs.Numbers.{le_number}
-use Rattle.wire_codec.specs.Framing.{max_payload, max_payload_is}
+use Rattle.wire_codec.specs.Framing.{max_payload, max_payload_is, header, chunk, chunks, framing}
 use Rattle.wire_codec.specs.Delivery.{chunk_len}
 use Rattle.wire_codec.specs.Codec.{CodecState}
 use Rattle.wire_codec.specs.InPlace.{HasFront, front_payload, behind_front}
 use Rattle.wire_codec.specs.Laws.{appended}
 use Rattle.mysql_wire_c.specs.declared.connection.Front.{Front}
 use Rattle.mysql_wire_c.specs.declared.connection.Front.TheVariants.{Unfinished, InPlace, Copied, Lost}
+use Rattle.mysql_wire_c.specs.declared.codes.TheConstants.{OK}
 use Rattle.mysql_wire_c.specs.Side.{Side, side_of, IsReady, emptied}
+use Rattle.mysql_wire_c.specs.Calls.{EncodesHeader}
 
 chunk_len-more : (src more : List ℕ) → 4 ≤ length src → chunk_len (src ++ more) ≡ chunk_len src
 chunk_len-more src more long = ap le_number (take-append-le 3 src more (omega arith))
@@ -84,3 +86,38 @@ unread_behind front state pending side packet is ready view =
 -- how many bytes a full chunk carries
 pub full_chunk : max_payload ≡ 16777215
 full_chunk = max_payload_is
+
+no_full_chunk : (n : ℕ) → n < max_payload → n / max_payload ≡ 0
+unfolding max_payload
+no_full_chunk n small = omega arith
+
+chunk_opened : (id : ℕ) (payload : List ℕ) → chunk id payload ≡ header (length payload) id ++ payload
+unfolding chunk
+chunk_opened id payload = refl
+
+-- a payload of one chunk is framed as its header, and the payload
+framed_short : (id : ℕ) (payload : List ℕ) → length payload < max_payload → framing id payload ≡ header (length payload) id ++ payload
+framed_short id payload small =
+    let none : length payload / max_payload ≡ 0 = no_full_chunk (length payload) small in
+    let all : take max_payload (drop (0 * max_payload) payload) ≡ payload = rw zero-mul (take_all max_payload payload (omega (arith, small))) in
+    ap (λ (n : ℕ). chunks (suc n) id payload) none ∙ ap₂ (λ (i : ℕ) (p : List ℕ). chunk i p) (add-zero id) all ∙ chunk_opened id payload
+
+-- the header of a packet that is to follow
+pub header_is : (len : ℕ) (old_header new_header : List ℕ) (before after : Side) → len ≤ before.state.limit → len < max_payload → new_header ≡ header len before.state.id
+    → after ≡ record before { state = record before.state { id = (before.state.id + 1) % 256 } }
+    → EncodesHeader len old_header new_header OK before after
+header_is len old_header new_header before after within small spelled set = record {
+  encoded = λ ok payload long. (
+    framed_short before.state.id payload (omega (arith, small, long))
+        ∙ ap (λ (n : ℕ). header n before.state.id ++ payload) long ∙ ap (λ (h : List ℕ). h ++ payload) (sym spelled),
+    let none = no_full_chunk (length payload) (omega (arith, small, long)) in
+        let next : before.state.id + 1 ≡ before.state.id + length payload / max_payload + 1 = omega (arith, none) in
+        set ∙ ap (λ (n : ℕ). record before { state = record before.state { id = n % 256 } }) next,
+  );
+  next = λ ok. set;
+  fits = λ ok. (within, small);
+  too_large = search rules;
+  memory = search rules;
+  refused = inl refl;
+  answers = inl refl;
+}

@@ -1,7 +1,7 @@
 -- What each call of a connection does, by its answer. Each answer but these is none that it gives.
-use Rattle.std.specs.Prelude.{◌≡◌, ℕ, ℤ, pos, ◌+◌, ◌^◌, ◌-◌, ◌<◌, ◌≤◌, ◌⊎◌, List, ◌++◌, length, take, drop, min, Option, None, IsSome, IfSome, true, false}
+use Rattle.std.specs.Prelude.{◌≡◌, ℕ, ℤ, pos, ◌+◌, ◌%◌, ◌^◌, ◌-◌, ◌<◌, ◌≤◌, ◌⊎◌, List, ◌++◌, length, take, drop, min, Option, None, IsSome, IfSome, true, false}
 use Rattle.wire_codec.specs.declared.codec.error.PacketCodecError.TheVariants.{OutOfMemory, PacketTooLarge}
-use Rattle.wire_codec.specs.Framing.{framing, next_id}
+use Rattle.wire_codec.specs.Framing.{max_payload, framing, next_id}
 use Rattle.wire_codec.specs.Laws.{appended}
 use Rattle.mysql_wire_c.specs.declared.codes.TheConstants.{OK, WAITS, PACKET, TOO_LARGE, OUT_OF_SYNC, NO_MEMORY, ROOM_TOO_SMALL, PACKET_WAITS, NO_PACKET}
 use Rattle.mysql_wire_c.specs.Side.{Side, ConnectionState}
@@ -118,6 +118,23 @@ pub record EncodesTo (payload old_room room : List ℕ) (written : ℕ) (answer 
   pub none : (answer ≡ OK) ⊎ (answer ≡ ROOM_TOO_SMALL) ⊎ (written ≡ 0)
   pub answers : (answer ≡ OK) ⊎ (answer ≡ ROOM_TOO_SMALL) ⊎ (answer ≡ TOO_LARGE)
       ⊎ (answer ≡ NO_MEMORY)
+
+-- this is the header of a packet of so many bytes, which the next one is: its framing is the header
+-- and the payload
+pub record EncodesHeader (len : ℕ) (old_header header : List ℕ) (answer : ℤ) (before after : Side)
+    : Type 0 where
+  pub encoded : answer ≡ OK → (payload : List ℕ) → length payload ≡ len
+      → (framing before.state.id payload ≡ header ++ payload)
+      × (after ≡ record before {
+        state = record before.state { id = next_id before.state.id payload };
+      })
+  pub next : answer ≡ OK
+      → after ≡ record before { state = record before.state { id = (before.state.id + 1) % 256 } }
+  pub fits : answer ≡ OK → (len ≤ before.state.limit) × (len < max_payload)
+  pub too_large : answer ≡ TOO_LARGE → (before.state.limit < len) ⊎ (max_payload ≤ len)
+  pub memory : answer ≡ NO_MEMORY → IsSome before.lent
+  pub refused : (answer ≡ OK) ⊎ ((after ≡ before) × (header ≡ old_header))
+  pub answers : (answer ≡ OK) ⊎ (answer ≡ TOO_LARGE) ⊎ (answer ≡ NO_MEMORY)
 
 -- so many of the bytes that wait go
 pub record Sends (count : ℕ) (before after : Side) : Type 0 where

@@ -1,11 +1,12 @@
 -- Packets that are lent from the caller's bytes, or put together of them.
-use Rattle.std.specs.Prelude.{◌≡◌, ℕ, ℤ, ◌+◌, ◌%◌, ◌≤◌, ◌⊎◌, List, [], ◌∷◌, length, take, drop, None, IfSome, Ok, true, false}
+use Rattle.std.specs.Prelude.{◌≡◌, ◌↔◌, ℕ, ℤ, ◌+◌, ◌%◌, ◌<◌, ◌≤◌, ◌⊎◌, List, [], ◌∷◌, length, take, drop, None, IfSome, Ok, true, false}
 use Rattle.std.specs.List.{flat_map}
 use Rattle.wire_codec.specs.Delivery.{chunk_len}
 use Rattle.wire_codec.specs.InPlace.{HasFront, front_payload}
 use Rattle.wire_codec.specs.Laws.{appended}
 use Rattle.wire_codec.specs.LimitedRuns.{DecodesAligned}
 use Rattle.mysql_wire_c.specs.declared.codes.TheConstants.{WAITS, PACKET, NO_MEMORY}
+use Rattle.mysql_wire_c.specs.declared.fields.Span.{Span}
 use Rattle.mysql_wire_c.specs.Side.{Side}
 use Rattle.mysql_wire_c.specs.Answers.{Waits, holding}
 use Rattle.mysql_wire_c.specs.Calls.{Peeks}
@@ -63,3 +64,24 @@ pub record Decodes (bytes : List ℕ) (used len : ℕ) (answer : ℤ) (before af
       → FeedsFront bytes used answer (unlent before) after
       × (answer ≡ PACKET → IfSome after.lent (λ packet. len ≡ length packet))
   pub empty : (answer ≡ PACKET) ⊎ (len ≡ 0)
+
+-- these packets are lent one after another, as by calls of `decode` over what is left of the bytes:
+-- the first stands at this place, the last ends at the other
+abbrev pub LendsInTurn : List ℕ → ℕ → List Span → ℕ → Side → Side → Type 0
+LendsInTurn bytes at [] end before after = (end ≡ at) × (after ≡ before)
+LendsInTurn bytes at (span ∷ spans) end before after =
+    (between : Side) × (span.at ≡ at + 4) × HasPacketIn (drop at bytes) before
+    × LendsFrom (drop at bytes) (4 + span.len) span.len PACKET before between
+    × LendsInTurn bytes (at + (4 + span.len)) spans end between after
+
+-- the packet that was lent is taken, and so many are lent from the bytes: till the places for them
+-- are used up, or no other lies there
+pub record DecodesMany (bytes : List ℕ) (old_spans spans : List Span) (count used : ℕ) (answer : ℤ)
+    (before after : Side) : Type 0 where
+  pub lends : LendsInTurn bytes 0 (take count spans) used (unlent before) after
+  pub room : count ≤ length spans
+  pub bound : used ≤ length bytes
+  pub all : (count ≡ length spans) ⊎ (HasPacketIn (drop used bytes) after → ⊥)
+  pub packet : answer ≡ PACKET ↔ (0 < count)
+  pub answers : (answer ≡ PACKET) ⊎ (answer ≡ WAITS)
+  pub rest_of_spans : drop count spans ≡ drop count old_spans

@@ -1,6 +1,6 @@
 //! One side of a connection: a codec with its buffers.
 
-ghost use Rattle.std.specs.Prelude.{◌≡◌, ◌≢◌, ◌⊎◌, ◌↔◌, ℕ, ◌+◌, ◌-◌, ◌/◌, ◌%◌, ◌<◌, ◌++◌, length, take, drop, min, None, Ok, Err, true, false, IfSome, IfNone, IsSome, OnOk, OnErr};
+ghost use Rattle.std.specs.Prelude.{◌≡◌, ◌≢◌, ◌⊎◌, ◌↔◌, ℕ, ◌+◌, ◌-◌, ◌/◌, ◌%◌, ◌<◌, ◌≤◌, ◌++◌, length, take, drop, min, None, Ok, Err, true, false, IfSome, IfNone, IsSome, OnOk, OnErr};
 ghost use Rattle.wire_codec.specs.declared.codec.error.PacketCodecError.TheVariants.{OutOfMemory, PacketTooLarge, PacketsOutOfSync};
 ghost use Rattle.wire_codec.specs.Codec.{codec_state, Stands};
 ghost use Rattle.wire_codec.specs.Framing.{max_payload};
@@ -8,24 +8,23 @@ ghost use Rattle.wire_codec.specs.LimitedRuns.{DecodesAligned};
 ghost use Rattle.wire_codec.specs.InPlace.{HasFront};
 ghost use Rattle.mysql_wire_c.specs.Side.{IsReady, IsNumbered, is_lost_at, lent_at, behind_lent};
 ghost use Rattle.mysql_wire_c.specs.Answers.{new_connection, holding};
-ghost use Rattle.mysql_wire_c.specs.Decoding.{Decodes, FeedsFront, HasPacketIn, LendsFrom};
-ghost use Rattle.mysql_wire_c.specs.Calls.{Feeds, Peeks, LendsInPlace, Takes, CopiesNext, SetsLimit, unread_count, Encodes, EncodesTo, Sends, Resets, SetsId, Numbers};
+ghost use Rattle.mysql_wire_c.specs.Decoding.{Decodes, DecodesMany, FeedsFront, HasPacketIn, LendsFrom, LendsInTurn};
+ghost use Rattle.mysql_wire_c.specs.Calls.{Feeds, Peeks, LendsInPlace, Takes, CopiesNext, SetsLimit, unread_count, Encodes, EncodesTo, EncodesHeader, Sends, Resets, SetsId, Numbers};
 
 use crate::codes::{
     NO_MEMORY, NO_PACKET, OK, OUT_OF_SYNC, PACKET, PACKET_WAITS, ROOM_TOO_SMALL, TOO_LARGE, WAITS,
 };
+use crate::fields::Span;
 use crate::view::View;
 use bytes::{Buf, BytesMut};
 use std::alloc::{AllocError, Global};
 use std::marker::Model;
 use wire_buf::io::ParseBuf;
 use wire_codec::codec::error::PacketCodecError;
+use wire_codec::codec::header::{HEADER_LEN, Header};
 use wire_codec::codec::{PacketCodec, framed_len, packet_to_slice};
 use wire_codec::laws;
 use wire_const::MAX_PAYLOAD_LEN;
-
-// The bytes of a chunk's header.
-const HEADER_LEN: usize = 4;
 
 // What stands in front.
 #[derive(Clone, Copy, Drop)]
@@ -420,6 +419,39 @@ impl Connection {
             None => ROOM_TOO_SMALL,
         }
     }
+
+    /// The header of a packet of so many bytes, numbered as by `encode`; its payload goes behind it.
+    /// `TOO_LARGE`: it is above the limit, or has 16777215 bytes or more, which one chunk doesn't
+    /// hold. Every refusal changes nothing.
+    ///
+    /// <https://dev.mysql.com/doc/dev/mysql-server/latest/page_protocol_basic_packets.html>
+    #[tactic(auto, using(crate::proofs::SideLemmas::full_chunk))]
+    pub fn encode_header(&mut self, len: usize, header: &mut [u8; HEADER_LEN]) -> i32
+        ensures { EncodesHeader len header.old header.new result self.old.side self.new.side }
+    {
+        if self.codec.max_allowed_packet < len {
+            return TOO_LARGE;
+        }
+        if MAX_PAYLOAD_LEN <= len {
+            return TOO_LARGE;
+        }
+        match set_aside(
+            &mut self.codec,
+            &mut self.id,
+            &mut self.src,
+            &mut self.dst,
+            &mut self.front,
+        ) {
+            Ok(()) => {}
+            Err(_) => return NO_MEMORY,
+        }
+        let seq_id = self.codec.sequence_id();
+        *header = Header { len, seq_id }.bytes();
+        let next = seq_id.wrapping_add(1); // after 255 comes 0
+        self.codec.set_sequence_id(next);
+        self.id = next;
+        OK
+    }
 }
 
 // What comes, where the caller has it.
@@ -442,6 +474,52 @@ impl Connection {
             packet.show(self.packet());
         }
         code
+    }
+
+    /// Takes the packet that is lent, and lends as many as lie whole in these bytes, in one chunk
+    /// each, one behind the other, where nothing came before them: at most one for each place in
+    /// `spans`. The connection is behind all of them. `count` is how many they are, `used` how many
+    /// of the bytes. `WAITS`: none lies so, and `decode` is to be called.
+    pub fn decode_many(
+        &mut self,
+        bytes: &[u8],
+        spans: &mut [Span],
+        count: &mut usize,
+        used: &mut usize,
+    ) -> i32
+        ensures { DecodesMany bytes.now spans.old spans.new count.new used.new result
+            self.old.side self.new.side }
+    {
+        self.take();
+        self.lend_many(bytes, spans, count, used);
+        if *count > 0 { PACKET } else { WAITS }
+    }
+
+    // Lends the packets in front of these bytes.
+    fn lend_many(&mut self, bytes: &[u8], spans: &mut [Span], count: &mut usize, used: &mut usize)
+        requires { self.old.side.lent ≡ None }
+        ensures lends { LendsInTurn bytes.now 0 (take count.new spans.new) used.new
+            self.old.side self.new.side }
+        ensures room { count.new ≤ length spans.new }
+        ensures bound { used.new ≤ length bytes.now }
+        ensures all { (count.new ≡ length spans.new)
+            ⊎ (HasPacketIn (drop used.new bytes.now) self.new.side → ⊥) }
+        ensures rest { drop count.new spans.new ≡ drop count.new spans.old }
+    {
+        *count = 0;
+        *used = 0;
+        'packets: while *count < spans.len() {
+            let Some(lent) = self.lend_from(&bytes[*used..]) else {
+                return;
+            };
+            let len = lent.len();
+            spans[*count] = Span {
+                at: *used + HEADER_LEN,
+                len,
+            };
+            *used += HEADER_LEN + len;
+            *count += 1;
+        }
     }
 
     // The packet in front of these bytes, where nothing came before it: the connection is behind it

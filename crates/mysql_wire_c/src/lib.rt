@@ -11,8 +11,8 @@ ghost use Rattle.wire_buf.specs.Spelling.{SpellsNothing};
 ghost use Rattle.wire_buf.specs.Lenenc.{IsLenenc, IsLenencOrMark, lenenc_bytes};
 ghost use Rattle.mysql_wire_c.specs.declared.codes.TheConstants.{MISSING_BYTES, NOT_A_NUMBER, NULL, ROOM_TOO_SMALL};
 ghost use Rattle.mysql_wire_c.specs.Answers.{new_connection};
-ghost use Rattle.mysql_wire_c.specs.Calls.{Both, BothStates, Feeds, Peeks, LendsInPlace, Takes, CopiesNext, SetsLimit, unread_count, Encodes, EncodesTo, Sends, Resets, SetsId, Numbers};
-ghost use Rattle.mysql_wire_c.specs.Decoding.{Decodes};
+ghost use Rattle.mysql_wire_c.specs.Calls.{Both, BothStates, Feeds, Peeks, LendsInPlace, Takes, CopiesNext, SetsLimit, unread_count, Encodes, EncodesTo, EncodesHeader, Sends, Resets, SetsId, Numbers};
+ghost use Rattle.mysql_wire_c.specs.Decoding.{Decodes, DecodesMany};
 ghost use Rattle.wire_codec.specs.Framing.{framing};
 ghost use Rattle.mysql_wire_c.specs.Messages.{message};
 ghost use Rattle.wire_span.specs.Spans.{IsBetween};
@@ -35,6 +35,7 @@ use crate::view::View;
 use std::alloc::Global;
 use std::mem;
 use wire_codec::codec::framed_len;
+use wire_codec::codec::header::HEADER_LEN;
 use wire_codec::laws;
 
 // 0.1.0: 10000 times the first number, 100 times the second, and the third.
@@ -172,6 +173,30 @@ pub extern "C" fn mysql_wire_decode(
     handle.connection().decode(bytes, used, packet)
 }
 
+/// Takes the packet that is lent, and lends as many as lie whole in `bytes`, one behind the other,
+/// where nothing came before them.
+#[unsafe(no_mangle)]
+pub extern "C" fn mysql_wire_decode_many(
+    handle: &mut Handle,
+    bytes: &[u8],
+    spans: &mut [Span],
+    count: &mut usize,
+    used: &mut usize,
+) -> i32
+    ensures open { is_some handle.new.connection ≡ is_some handle.old.connection }
+    ensures closed { handle.old.connection ≡ None
+        → (result ≡ CLOSED) × (spans.new ≡ spans.old) × (count.new ≡ 0) × (used.new ≡ 0) }
+    ensures decodes { Both handle.old.connection handle.new.connection
+        (DecodesMany bytes.now spans.old spans.new count.new used.new result) }
+{
+    *count = 0;
+    *used = 0;
+    if handle.is_closed() {
+        return CLOSED;
+    }
+    handle.connection().decode_many(bytes, spans, count, used)
+}
+
 /// Sets the most bytes of a packet.
 #[unsafe(no_mangle)]
 pub extern "C" fn mysql_wire_set_limit(handle: &mut Handle, limit: usize) -> i32
@@ -258,6 +283,25 @@ pub extern "C" fn mysql_wire_encode_to(
         return CLOSED;
     }
     handle.connection().encode_to(payload, room, written)
+}
+
+/// The header of a packet of so many bytes, which go behind it.
+#[unsafe(no_mangle)]
+pub extern "C" fn mysql_wire_encode_header(
+    handle: &mut Handle,
+    len: usize,
+    header: &mut [u8; HEADER_LEN],
+) -> i32
+    ensures open { is_some handle.new.connection ≡ is_some handle.old.connection }
+    ensures closed { handle.old.connection ≡ None
+        → (result ≡ CLOSED) × (header.new ≡ header.old) }
+    ensures encodes { Both handle.old.connection handle.new.connection
+        (EncodesHeader len header.old header.new result) }
+{
+    if handle.is_closed() {
+        return CLOSED;
+    }
+    handle.connection().encode_header(len, header)
 }
 
 /// Moves bytes that wait to be sent to `room`.
