@@ -5,10 +5,10 @@ use Rattle.std.proofs.lemmas.List.{length-take-le, take_more_set, drop-set-lt, d
 use Rattle.std.proofs.Math.ListN.{set}
 use Rattle.std.proofs.lemmas.Grind.{flat_map-append}
 use Rattle.std.specs.List.{flat_map}
-use Rattle.wire_codec.specs.Delivery.{chunk_len}
+use Rattle.wire_codec.specs.Delivery.{chunk_len, IsWholeChunks}
 use Rattle.wire_codec.specs.Codec.{CodecState}
 use Rattle.wire_codec.specs.InPlace.{HasFront, front_payload, behind_front}
-use Rattle.wire_codec.specs.LimitedRuns.{DecodesAligned}
+use Rattle.wire_codec.specs.LimitedRuns.{Aligned, AlignedAt, DecodesAligned}
 use Rattle.mysql_wire_c.specs.declared.codes.TheConstants.{OK, WAITS, PACKET, NO_MEMORY}
 use Rattle.mysql_wire_c.specs.declared.fields.Span.{Span}
 use Rattle.mysql_wire_c.specs.declared.connection.Front.TheVariants.{Unfinished}
@@ -147,4 +147,37 @@ many_step bytes lent spans old count used span before mid after inside place at 
       subst (λ (n : ℕ). LendsInTurn bytes 0 (take (count + 1) (set spans count span)) (used + (4 + n)) before after) len more,
       drop-set-lt (count + 1) spans count span (omega arith)
           ∙ sym (drop-drop 1 count spans) ∙ ap (λ (z : List Span). drop 1 z) rest ∙ drop-drop 1 count old,
+    )
+
+-- one packet more is lent by a codec that holds nothing
+pub codec_step : (bytes lent : List ℕ) (spans old : List Span) (count used chunk : ℕ) (span : Span) (state mid after : CodecState) → used ≤ length bytes → count < length spans
+    → span.at ≡ used + 4 → span.len ≡ length lent
+    → ((pending : List ℕ) → LendsInTurn bytes 0 (take count spans) used (side_of Unfinished state pending) (side_of Unfinished mid pending))
+    → Aligned mid → mid.unread ≡ [] → mid.held ≡ [] → after.unread ≡ mid.unread → after.held ≡ mid.held
+    → HasFront (record mid { unread = take (length bytes - used) (drop used bytes); held = [] })
+    → lent ≡ front_payload (take (length bytes - used) (drop used bytes)) → chunk ≡ 4 + chunk_len (take (length bytes - used) (drop used bytes))
+    → DecodesAligned (record mid { unread = take (length bytes - used) (drop used bytes); held = [] }) (Ok true)
+    (record after { unread = drop chunk (take (length bytes - used) (drop used bytes)); held = front_payload (take (length bytes - used) (drop used bytes)) })
+    → record after { unread = drop chunk (take (length bytes - used) (drop used bytes)); held = front_payload (take (length bytes - used) (drop used bytes)) }
+    ≡ behind_front (record mid { unread = take (length bytes - used) (drop used bytes); held = [] })
+    → drop count spans ≡ drop count old
+    → (used + (4 + length lent) ≤ length bytes)
+    × ((pending : List ℕ) → LendsInTurn bytes 0 (take (count + 1) (set spans count span)) (used + (4 + length lent)) (side_of Unfinished state pending) (side_of Unfinished after pending))
+    × (drop (count + 1) (set spans count span) ≡ drop (count + 1) old) × Aligned after
+codec_step bytes lent spans old count used chunk span state mid after inside place at len so_far aligned no_unread none same_unread same_held there packet_is chunk_is decodes behind rest =
+    let piece = take (length bytes - used) (drop used bytes) in
+    let bare : HasFront (record mid { unread = mid.unread ++ piece }) =
+    subst (λ (z : List ℕ). HasFront (record mid { unread = z ++ piece })) (sym no_unread)
+    (subst (λ (z : List ℕ). HasFront (record mid { unread = piece; held = z })) (sym none) there) in
+    let step : (pending : List ℕ) → (used + (4 + length lent) ≤ length bytes)
+    × LendsInTurn bytes 0 (take (count + 1) (set spans count span)) (used + (4 + length lent)) (side_of Unfinished state pending) (side_of Unfinished after pending)
+    × (drop (count + 1) (set spans count span) ≡ drop (count + 1) old) =
+    λ pending. many_step bytes lent spans old count used span (side_of Unfinished state pending) (side_of Unfinished mid pending) (side_of Unfinished after pending)
+    inside place at len (so_far pending) (refl, no_unread, none, bare)
+    (lends_is piece lent mid after pending chunk no_unread none there packet_is chunk_is decodes behind same_unread same_held) rest in
+    let no_header : after.header ≡ None = ap (λ (s : CodecState). s.header) behind in (
+      (step []).0,
+      λ pending. (step pending).1,
+      (step []).2,
+      subst (λ (h : Option (ℕ × ℕ)). AlignedAt h after.unread after.held) (sym no_header) (subst (λ (z : List ℕ). IsWholeChunks z) (sym same_held) aligned.0, tt),
     )

@@ -1,12 +1,12 @@
 //! One side of a connection: a codec with its buffers.
 
-ghost use Rattle.std.specs.Prelude.{◌≡◌, ◌≢◌, ◌⊎◌, ◌↔◌, ℕ, ◌+◌, ◌-◌, ◌/◌, ◌%◌, ◌<◌, ◌≤◌, ◌++◌, length, take, drop, min, None, Ok, Err, true, false, IfSome, IfNone, IsSome, OnOk, OnErr};
+ghost use Rattle.std.specs.Prelude.{◌≡◌, ◌≢◌, ◌⊎◌, ◌↔◌, ℕ, List, [], ◌+◌, ◌-◌, ◌/◌, ◌%◌, ◌<◌, ◌≤◌, ◌++◌, length, take, drop, min, None, Ok, Err, true, false, IfSome, IfNone, IsSome, OnOk, OnErr};
 ghost use Rattle.wire_codec.specs.declared.codec.error.PacketCodecError.TheVariants.{OutOfMemory, PacketTooLarge, PacketsOutOfSync};
 ghost use Rattle.wire_codec.specs.Codec.{codec_state, Stands};
 ghost use Rattle.wire_codec.specs.Framing.{max_payload};
-ghost use Rattle.wire_codec.specs.LimitedRuns.{DecodesAligned};
-ghost use Rattle.wire_codec.specs.InPlace.{HasFront};
-ghost use Rattle.mysql_wire_c.specs.Side.{IsReady, IsNumbered, is_lost_at, lent_at, behind_lent};
+ghost use Rattle.wire_codec.specs.LimitedRuns.{Aligned, DecodesAligned};
+ghost use Rattle.wire_codec.specs.InPlace.{HasFront, behind_front};
+ghost use Rattle.mysql_wire_c.specs.Side.{IsReady, IsNumbered, is_lost_at, lent_at, behind_lent, side_of};
 ghost use Rattle.mysql_wire_c.specs.Answers.{new_connection, holding};
 ghost use Rattle.mysql_wire_c.specs.Decoding.{Decodes, DecodesMany, FeedsFront, HasPacketIn, LendsFrom, LendsInTurn};
 ghost use Rattle.mysql_wire_c.specs.Calls.{Feeds, Peeks, LendsInPlace, Takes, CopiesNext, SetsLimit, unread_count, Encodes, EncodesTo, EncodesHeader, Sends, Resets, SetsId, Numbers};
@@ -19,6 +19,7 @@ use crate::view::View;
 use bytes::{Buf, BytesMut};
 use std::alloc::{AllocError, Global};
 use std::marker::Model;
+use std::mem;
 use wire_buf::io::ParseBuf;
 use wire_codec::codec::error::PacketCodecError;
 use wire_codec::codec::header::{HEADER_LEN, Header};
@@ -508,18 +509,20 @@ impl Connection {
     {
         *count = 0;
         *used = 0;
-        'packets: while *count < spans.len() {
-            let Some(lent) = self.lend_from(&bytes[*used..]) else {
-                return;
-            };
-            let len = lent.len();
-            spans[*count] = Span {
-                at: *used + HEADER_LEN,
-                len,
-            };
-            *used += HEADER_LEN + len;
-            *count += 1;
+        match self.front {
+            Front::Unfinished => {}
+            Front::InPlace | Front::Copied | Front::Lost => return,
         }
+        if !self.src.is_empty() || !self.dst.is_empty() {
+            return;
+        }
+        // It is a local while it goes on, so that nothing of it is stored for each packet.
+        let mut codec = mem::replace(&mut self.codec, PacketCodec::default());
+        let (packets, len) = lend_all(&mut codec, bytes, spans);
+        *count = packets;
+        *used = len;
+        self.id = codec.sequence_id();
+        self.codec = codec;
     }
 
     // The packet in front of these bytes, where nothing came before it: the connection is behind it
@@ -577,6 +580,41 @@ impl Connection {
     }
 }
 
+// Lends the packets in front of these bytes, as a codec that holds nothing has them: how many they
+// are, and how many of the bytes.
+#[inline(always)]
+fn lend_all(codec: &mut PacketCodec, bytes: &[u8], spans: &mut [Span]) -> (usize, usize)
+    requires { Aligned (codec_state codec.old [] []) }
+    ensures aligned { Aligned (codec_state codec.new [] []) }
+    ensures lends { (pending : List ℕ)
+        → LendsInTurn bytes.now 0 (take result.0 spans.new) result.1
+        (side_of Front.Unfinished (codec_state codec.old [] []) pending)
+        (side_of Front.Unfinished (codec_state codec.new [] []) pending) }
+    ensures room { result.0 ≤ length spans.new }
+    ensures bound { result.1 ≤ length bytes.now }
+    ensures all { (result.0 ≡ length spans.new)
+        ⊎ (HasFront (codec_state codec.new (drop result.1 bytes.now) []) → ⊥) }
+    ensures rest { drop result.0 spans.new ≡ drop result.0 spans.old }
+{
+    let mut count = 0;
+    let mut used = 0;
+    'packets: while count < spans.len() {
+        let rest = &bytes[used..];
+        let Some(packet) = codec.front_packet_in(rest, &[]) else {
+            return (count, used);
+        };
+        let len = packet.len();
+        codec.accept_front_in(rest);
+        spans[count] = Span {
+            at: used + HEADER_LEN,
+            len,
+        };
+        used += HEADER_LEN + len;
+        count += 1;
+    }
+    (count, used)
+}
+
 impl Connection {
     /// The number of the next packet, sent or received. `OUT_OF_SYNC` where the connection is lost.
     pub fn sequence_id(&self) -> i32
@@ -591,6 +629,7 @@ impl Connection {
 }
 
 // Puts a packet that is lent where it lies apart, so that the codec goes on behind it.
+#[inline(always)]
 fn set_aside(
     codec: &mut PacketCodec,
     id: &mut u8,
@@ -611,13 +650,30 @@ fn set_aside(
         ≡ behind_lent front.old (codec_state codec.old src.old.items dst.old.items) }
 {
     if let Front::InPlace = *front {
-        if let Some(packet) = codec.front_packet(src, dst) {
-            dst.extend_from_slice(packet)?;
-        }
-        codec.take_front(src);
+        copy_aside(codec, src, dst)?;
         *id = id.wrapping_add(1);
         *front = Front::Copied;
     }
+    Ok(())
+}
+
+// Copies the packet in front, and takes it.
+#[cold]
+fn copy_aside(
+    codec: &mut PacketCodec,
+    src: &mut BytesMut<Global>,
+    dst: &mut Vec<u8, Global>,
+) -> Result<(), AllocError>
+    requires { HasFront (codec_state codec.old src.old.items dst.old.items) }
+    ensures ok { OnOk result (codec_state codec.new src.new.items dst.new.items
+        ≡ behind_front (codec_state codec.old src.old.items dst.old.items)) }
+    ensures err { OnErr result (codec_state codec.new src.new.items dst.new.items
+        ≡ codec_state codec.old src.old.items dst.old.items) }
+{
+    if let Some(packet) = codec.front_packet(src, dst) {
+        dst.extend_from_slice(packet)?;
+    }
+    codec.take_front(src);
     Ok(())
 }
 

@@ -1,0 +1,20 @@
+use Rattle.std.proofs.Common.{◌≡◌, ℕ, List, [], ◌-◌, ◌≤◌, length, take, drop}
+use Rattle.wire_codec.specs.Codec.{codec_state}
+use Rattle.wire_codec.specs.LimitedRuns.{Aligned}
+use Rattle.mysql_wire_c.specs.declared.connection.Front.TheVariants.{Unfinished}
+use Rattle.mysql_wire_c.specs.Side.{side_of}
+use Rattle.mysql_wire_c.specs.Decoding.{LendsInTurn}
+use Rattle.mysql_wire_c.proofs.connection.lend_all.Given as goal
+
+abbrev pub invariant-packets : goal.invariant-packets
+invariant-packets l = record {
+  bound : l.used ≤ length l.fn.bytes;
+  room : l.count ≤ length l.spans;
+  aligned : Aligned (codec_state l.codec [] []);
+  so_far : (pending : List ℕ) → LendsInTurn l.fn.bytes 0 (take l.count l.spans) l.used
+      (side_of Unfinished (codec_state l.fn.codec [] []) pending) (side_of Unfinished (codec_state l.codec [] []) pending);
+  rest : drop l.count l.spans ≡ drop l.count l.fn.spans;
+}
+
+abbrev pub decreases-packets : goal.decreases-packets
+decreases-packets l = length l.spans - l.count
