@@ -9,12 +9,17 @@ use crate::packets::{count_for, stream_of};
 use crate::timing::Row;
 use mysql_wire_sys::*;
 use std::cell::RefCell;
+use std::hint::black_box;
 use std::ptr;
 use std::slice;
 
 const SIZES: [usize; 3] = [16, 4 << 10, 1 << 20];
 
 const PACKET: i32 = 1;
+
+type Decoded = fn(&[u8], usize, u64) -> u64;
+
+type Encoded = fn(&[u8], usize, &mut [u8], u64) -> u64;
 
 const NOTHING: View = View { at: ptr::null(), len: 0 };
 
@@ -107,6 +112,60 @@ fn decoded(stream: &[u8], size: usize, reps: u64) -> u64 {
     sum
 }
 
+// How many packets one call lends.
+const PLACES: usize = 64;
+
+// The same, as many by one call as there are places.
+fn decoded_many(stream: &[u8], size: usize, reps: u64) -> u64 {
+    let mut connection = ptr::null_mut();
+    let mut spans = [Span { at: 0, len: 0 }; PLACES];
+    let mut sum = 0u64;
+    unsafe {
+        mysql_wire_open(size, &mut connection);
+        for _ in 0..reps {
+            mysql_wire_reset(&mut connection);
+            let (mut rest, mut count, mut used) = (stream, 0, 0);
+            while mysql_wire_decode_many(
+                &mut connection,
+                rest.as_ptr(),
+                rest.len(),
+                spans.as_mut_ptr(),
+                PLACES,
+                &mut count,
+                &mut used,
+            ) == PACKET
+            {
+                for span in &spans[..count] {
+                    sum = sum.wrapping_add(summary(&rest[span.at..span.at + span.len]));
+                }
+                rest = &rest[used..];
+            }
+        }
+        mysql_wire_close(&mut connection);
+    }
+    sum
+}
+
+// The same, each header by a call, and the payload copied behind it.
+fn headed(payload: &[u8], count: usize, room: &mut [u8], reps: u64) -> u64 {
+    let mut connection = ptr::null_mut();
+    let mut sum = 0u64;
+    unsafe {
+        mysql_wire_open(payload.len(), &mut connection);
+        for _ in 0..reps {
+            mysql_wire_reset(&mut connection);
+            for packet in room.chunks_exact_mut(4 + payload.len()).take(count) {
+                let (header, behind) = packet.split_at_mut(4);
+                mysql_wire_encode_header(&mut connection, payload.len(), header.as_mut_ptr());
+                behind.copy_from_slice(black_box(payload));
+            }
+            sum = sum.wrapping_add(summary(room));
+        }
+        mysql_wire_close(&mut connection);
+    }
+    sum
+}
+
 // A payload framed into the caller's room, one packet behind the other.
 fn encoded(payload: &[u8], count: usize, room: &mut [u8], reps: u64) -> u64 {
     let mut connection = ptr::null_mut();
@@ -135,12 +194,12 @@ fn encoded(payload: &[u8], count: usize, room: &mut [u8], reps: u64) -> u64 {
     sum
 }
 
-fn decode_row(rows: &mut Vec<Row>, size: usize) {
+fn decode_row(rows: &mut Vec<Row>, size: usize, call: &'static str, decoded: Decoded) {
     let count = count_for(size);
     let (stream, want) = stream_of(size as u64 * 23, size);
     let (beside, plain) = (stream.clone(), stream.clone());
     rows.push(Row {
-        name: format!("C: decode {}, of decode", size_name(size)),
+        name: format!("C: {call} {}, of decode", size_name(size)),
         items: count as u64,
         bytes: (size * count) as u64,
         call: Box::new(move |reps| decoded(&stream, size, reps)),
@@ -150,7 +209,7 @@ fn decode_row(rows: &mut Vec<Row>, size: usize) {
     });
 }
 
-fn encode_row(rows: &mut Vec<Row>, size: usize) {
+fn encode_row(rows: &mut Vec<Row>, size: usize, call: &'static str, encoded: Encoded) {
     let payload = Numbers::new(size as u64 * 29 + 1).bytes(size);
     let count = count_for(size);
     let (mut framed, mut id) = (Vec::new(), 0);
@@ -160,7 +219,7 @@ fn encode_row(rows: &mut Vec<Row>, size: usize) {
     let (beside, plain) = (payload.clone(), payload.clone());
     let room = RefCell::new(vec![0; framed.len()]);
     rows.push(Row {
-        name: format!("C: encode_to {}, of encode", size_name(size)),
+        name: format!("C: {call} {}, of encode", size_name(size)),
         items: count as u64,
         bytes: (size * count) as u64,
         call: Box::new(move |reps| encoded(&payload, count, &mut room.borrow_mut(), reps)),
@@ -174,7 +233,11 @@ pub fn rows(rows: &mut Vec<Row>) {
     for size in SIZES {
         receive_row(rows, size, true);
         receive_row(rows, size, false);
-        decode_row(rows, size);
-        encode_row(rows, size);
+        decode_row(rows, size, "decode", decoded);
+        encode_row(rows, size, "encode_to", encoded);
+        if size < 1 << 20 {
+            decode_row(rows, size, "decode_many", decoded_many);
+            encode_row(rows, size, "encode_header", headed);
+        }
     }
 }

@@ -5,10 +5,10 @@ use Rattle.std.proofs.lemmas.List.{length-take-le, take_more_set, drop-set-lt, d
 use Rattle.std.proofs.Math.ListN.{set}
 use Rattle.std.proofs.lemmas.Grind.{flat_map-append}
 use Rattle.std.specs.List.{flat_map}
-use Rattle.wire_codec.specs.Delivery.{chunk_len, IsWholeChunks}
+use Rattle.wire_codec.specs.Delivery.{chunk_len}
 use Rattle.wire_codec.specs.Codec.{CodecState}
 use Rattle.wire_codec.specs.InPlace.{HasFront, front_payload, behind_front}
-use Rattle.wire_codec.specs.LimitedRuns.{Aligned, AlignedAt, DecodesAligned}
+use Rattle.wire_codec.specs.LimitedRuns.{DecodesAligned}
 use Rattle.mysql_wire_c.specs.declared.codes.TheConstants.{OK, WAITS, PACKET, NO_MEMORY}
 use Rattle.mysql_wire_c.specs.declared.fields.Span.{Span}
 use Rattle.mysql_wire_c.specs.declared.connection.Front.TheVariants.{Unfinished}
@@ -113,17 +113,17 @@ nothing_there (byte ∷ bytes) is_empty e it = absurd (let none : length (byte �
 -- one packet more is lent
 pub lends_then : (spans : List Span) (bytes : List ℕ) (at end : ℕ) (before mid after : Side) (span : Span) → LendsInTurn bytes at spans end before mid
     → span.at ≡ end + 4 → HasPacketIn (drop end bytes) mid → LendsFrom (drop end bytes) (4 + span.len) span.len PACKET mid after
-    → LendsInTurn bytes at (spans ++ span ∷ []) (end + (4 + span.len)) before after
+    → LendsInTurn bytes at (spans ++ span ∷ []) (end + 4 + span.len) before after
 lends_then [] bytes at end before mid after span (is, same) place has lends = (
   after,
   place ∙ ap (λ (n : ℕ). n + 4) is,
   subst (λ (n : ℕ). HasPacketIn (drop n bytes) before) is (subst (λ (s : Side). HasPacketIn (drop end bytes) s) same has),
   subst (λ (n : ℕ). LendsFrom (drop n bytes) (4 + span.len) span.len PACKET before after) is
       (subst (λ (s : Side). LendsFrom (drop end bytes) (4 + span.len) span.len PACKET s after) same lends),
-  (ap (λ (n : ℕ). n + (4 + span.len)) is, refl),
+  (ap (λ (n : ℕ). n + 4 + span.len) is, refl),
 )
 lends_then (first ∷ spans) bytes at end before mid after span (between, stands, there, lent, rest) place has lends =
-    (between, stands, there, lent, lends_then spans bytes (at + (4 + first.len)) end between mid after span rest place has lends)
+    (between, stands, there, lent, lends_then spans bytes (at + 4 + first.len) end between mid after span rest place has lends)
 
 -- the same, as it is written to its place
 pub many_step : (bytes lent : List ℕ) (spans old : List Span) (count used : ℕ) (span : Span) (before mid after : Side) → used ≤ length bytes → count < length spans
@@ -131,8 +131,8 @@ pub many_step : (bytes lent : List ℕ) (spans old : List Span) (count used : �
     → HasPacketIn (take (length bytes - used) (drop used bytes)) mid
     → LendsFrom (take (length bytes - used) (drop used bytes)) (4 + length lent) (length lent) PACKET mid after
     → drop count spans ≡ drop count old
-    → (used + (4 + length lent) ≤ length bytes)
-    × LendsInTurn bytes 0 (take (count + 1) (set spans count span)) (used + (4 + length lent)) before after
+    → (used + 4 + length lent ≤ length bytes)
+    × LendsInTurn bytes 0 (take (count + 1) (set spans count span)) (used + 4 + length lent) before after
     × (drop (count + 1) (set spans count span) ≡ drop (count + 1) old)
 many_step bytes lent spans old count used span before mid after inside place at len so_far has lends rest =
     let e = length-drop used bytes in
@@ -140,11 +140,11 @@ many_step bytes lent spans old count used span before mid after inside place at 
     let here : LendsFrom (drop used bytes) (4 + span.len) span.len PACKET mid after =
     subst (λ (n : ℕ). LendsFrom (drop used bytes) (4 + n) n PACKET mid after) (sym len) (subst (λ (z : List ℕ). LendsFrom z (4 + length lent) (length lent) PACKET mid after) whole lends) in
     let bound = here.bound in
-    let more : LendsInTurn bytes 0 (take (count + 1) (set spans count span)) (used + (4 + span.len)) before after =
-    subst (λ (z : List Span). LendsInTurn bytes 0 z (used + (4 + span.len)) before after) (sym (take_more_set spans count span place))
+    let more : LendsInTurn bytes 0 (take (count + 1) (set spans count span)) (used + 4 + span.len) before after =
+    subst (λ (z : List Span). LendsInTurn bytes 0 z (used + 4 + span.len) before after) (sym (take_more_set spans count span place))
     (lends_then (take count spans) bytes 0 used before mid after span so_far at (subst (λ (z : List ℕ). HasPacketIn z mid) whole has) here) in (
       omega (arith, bound, e, len, inside),
-      subst (λ (n : ℕ). LendsInTurn bytes 0 (take (count + 1) (set spans count span)) (used + (4 + n)) before after) len more,
+      subst (λ (n : ℕ). LendsInTurn bytes 0 (take (count + 1) (set spans count span)) (used + 4 + n) before after) len more,
       drop-set-lt (count + 1) spans count span (omega arith)
           ∙ sym (drop-drop 1 count spans) ∙ ap (λ (z : List Span). drop 1 z) rest ∙ drop-drop 1 count old,
     )
@@ -153,7 +153,7 @@ many_step bytes lent spans old count used span before mid after inside place at 
 pub codec_step : (bytes lent : List ℕ) (spans old : List Span) (count used chunk : ℕ) (span : Span) (state mid after : CodecState) → used ≤ length bytes → count < length spans
     → span.at ≡ used + 4 → span.len ≡ length lent
     → ((pending : List ℕ) → LendsInTurn bytes 0 (take count spans) used (side_of Unfinished state pending) (side_of Unfinished mid pending))
-    → Aligned mid → mid.unread ≡ [] → mid.held ≡ [] → after.unread ≡ mid.unread → after.held ≡ mid.held
+    → mid.unread ≡ [] → mid.held ≡ [] → after.unread ≡ mid.unread → after.held ≡ mid.held
     → HasFront (record mid { unread = take (length bytes - used) (drop used bytes); held = [] })
     → lent ≡ front_payload (take (length bytes - used) (drop used bytes)) → chunk ≡ 4 + chunk_len (take (length bytes - used) (drop used bytes))
     → DecodesAligned (record mid { unread = take (length bytes - used) (drop used bytes); held = [] }) (Ok true)
@@ -161,23 +161,18 @@ pub codec_step : (bytes lent : List ℕ) (spans old : List Span) (count used chu
     → record after { unread = drop chunk (take (length bytes - used) (drop used bytes)); held = front_payload (take (length bytes - used) (drop used bytes)) }
     ≡ behind_front (record mid { unread = take (length bytes - used) (drop used bytes); held = [] })
     → drop count spans ≡ drop count old
-    → (used + (4 + length lent) ≤ length bytes)
-    × ((pending : List ℕ) → LendsInTurn bytes 0 (take (count + 1) (set spans count span)) (used + (4 + length lent)) (side_of Unfinished state pending) (side_of Unfinished after pending))
-    × (drop (count + 1) (set spans count span) ≡ drop (count + 1) old) × Aligned after
-codec_step bytes lent spans old count used chunk span state mid after inside place at len so_far aligned no_unread none same_unread same_held there packet_is chunk_is decodes behind rest =
+    → (used + 4 + length lent ≤ length bytes)
+    × ((pending : List ℕ) → LendsInTurn bytes 0 (take (count + 1) (set spans count span)) (used + 4 + length lent) (side_of Unfinished state pending) (side_of Unfinished after pending))
+    × (drop (count + 1) (set spans count span) ≡ drop (count + 1) old) × (after.header ≡ None)
+codec_step bytes lent spans old count used chunk span state mid after inside place at len so_far no_unread none same_unread same_held there packet_is chunk_is decodes behind rest =
     let piece = take (length bytes - used) (drop used bytes) in
     let bare : HasFront (record mid { unread = mid.unread ++ piece }) =
     subst (λ (z : List ℕ). HasFront (record mid { unread = z ++ piece })) (sym no_unread)
     (subst (λ (z : List ℕ). HasFront (record mid { unread = piece; held = z })) (sym none) there) in
-    let step : (pending : List ℕ) → (used + (4 + length lent) ≤ length bytes)
-    × LendsInTurn bytes 0 (take (count + 1) (set spans count span)) (used + (4 + length lent)) (side_of Unfinished state pending) (side_of Unfinished after pending)
+    let step : (pending : List ℕ) → (used + 4 + length lent ≤ length bytes)
+    × LendsInTurn bytes 0 (take (count + 1) (set spans count span)) (used + 4 + length lent) (side_of Unfinished state pending) (side_of Unfinished after pending)
     × (drop (count + 1) (set spans count span) ≡ drop (count + 1) old) =
     λ pending. many_step bytes lent spans old count used span (side_of Unfinished state pending) (side_of Unfinished mid pending) (side_of Unfinished after pending)
     inside place at len (so_far pending) (refl, no_unread, none, bare)
     (lends_is piece lent mid after pending chunk no_unread none there packet_is chunk_is decodes behind same_unread same_held) rest in
-    let no_header : after.header ≡ None = ap (λ (s : CodecState). s.header) behind in (
-      (step []).0,
-      λ pending. (step pending).1,
-      (step []).2,
-      subst (λ (h : Option (ℕ × ℕ)). AlignedAt h after.unread after.held) (sym no_header) (subst (λ (z : List ℕ). IsWholeChunks z) (sym same_held) aligned.0, tt),
-    )
+    ((step []).0, λ pending. (step pending).1, (step []).2, ap (λ (s : CodecState). s.header) behind)

@@ -72,7 +72,7 @@ LendsInTurn bytes at [] end before after = (end ≡ at) × (after ≡ before)
 LendsInTurn bytes at (span ∷ spans) end before after =
     (between : Side) × (span.at ≡ at + 4) × HasPacketIn (drop at bytes) before
     × LendsFrom (drop at bytes) (4 + span.len) span.len PACKET before between
-    × LendsInTurn bytes (at + (4 + span.len)) spans end between after
+    × LendsInTurn bytes (at + 4 + span.len) spans end between after
 
 -- the packet that was lent is taken, and so many are lent from the bytes: till the places for them
 -- are used up, or no other lies there

@@ -4,7 +4,8 @@ ghost use Rattle.std.specs.Prelude.{◌≡◌, ◌≢◌, ◌⊎◌, ◌↔◌, 
 ghost use Rattle.wire_codec.specs.declared.codec.error.PacketCodecError.TheVariants.{OutOfMemory, PacketTooLarge, PacketsOutOfSync};
 ghost use Rattle.wire_codec.specs.Codec.{codec_state, Stands};
 ghost use Rattle.wire_codec.specs.Framing.{max_payload};
-ghost use Rattle.wire_codec.specs.LimitedRuns.{Aligned, DecodesAligned};
+ghost use Rattle.wire_codec.specs.LimitedRuns.{DecodesAligned};
+ghost use Rattle.wire_codec.specs.Laws.{appended, empty_state};
 ghost use Rattle.wire_codec.specs.InPlace.{HasFront, behind_front};
 ghost use Rattle.mysql_wire_c.specs.Side.{IsReady, IsNumbered, is_lost_at, lent_at, behind_lent, side_of};
 ghost use Rattle.mysql_wire_c.specs.Answers.{new_connection, holding};
@@ -19,7 +20,6 @@ use crate::view::View;
 use bytes::{Buf, BytesMut};
 use std::alloc::{AllocError, Global};
 use std::marker::Model;
-use std::mem;
 use wire_buf::io::ParseBuf;
 use wire_codec::codec::error::PacketCodecError;
 use wire_codec::codec::header::{HEADER_LEN, Header};
@@ -516,13 +516,11 @@ impl Connection {
         if !self.src.is_empty() || !self.dst.is_empty() {
             return;
         }
-        // It is a local while it goes on, so that nothing of it is stored for each packet.
-        let mut codec = mem::replace(&mut self.codec, PacketCodec::default());
-        let (packets, len) = lend_all(&mut codec, bytes, spans);
+        let (packets, len, id) = lend_all(self.codec.max_allowed_packet, self.id, bytes, spans);
         *count = packets;
         *used = len;
-        self.id = codec.sequence_id();
-        self.codec = codec;
+        self.codec.set_sequence_id(id);
+        self.id = id;
     }
 
     // The packet in front of these bytes, where nothing came before it: the connection is behind it
@@ -580,39 +578,39 @@ impl Connection {
     }
 }
 
-// Lends the packets in front of these bytes, as a codec that holds nothing has them: how many they
-// are, and how many of the bytes.
+// Lends the packets in front of these bytes, as a codec of this limit between two packets has them,
+// which expects this number: how many they are, how many of the bytes, and the number behind them.
+// The codec is a local, so that nothing of it is stored for each packet.
 #[inline(always)]
-fn lend_all(codec: &mut PacketCodec, bytes: &[u8], spans: &mut [Span]) -> (usize, usize)
-    requires { Aligned (codec_state codec.old [] []) }
-    ensures aligned { Aligned (codec_state codec.new [] []) }
+fn lend_all(limit: usize, id: u8, bytes: &[u8], spans: &mut [Span]) -> (usize, usize, u8)
     ensures lends { (pending : List ℕ)
         → LendsInTurn bytes.now 0 (take result.0 spans.new) result.1
-        (side_of Front.Unfinished (codec_state codec.old [] []) pending)
-        (side_of Front.Unfinished (codec_state codec.new [] []) pending) }
+        (side_of Front.Unfinished (empty_state id limit) pending)
+        (side_of Front.Unfinished (empty_state result.2 limit) pending) }
     ensures room { result.0 ≤ length spans.new }
     ensures bound { result.1 ≤ length bytes.now }
     ensures all { (result.0 ≡ length spans.new)
-        ⊎ (HasFront (codec_state codec.new (drop result.1 bytes.now) []) → ⊥) }
+        ⊎ (HasFront (appended (empty_state result.2 limit) (drop result.1 bytes.now)) → ⊥) }
     ensures rest { drop result.0 spans.new ≡ drop result.0 spans.old }
 {
+    let mut codec = PacketCodec::default();
+    codec.max_allowed_packet = limit;
+    codec.set_sequence_id(id);
     let mut count = 0;
     let mut used = 0;
     'packets: while count < spans.len() {
         let rest = &bytes[used..];
         let Some(packet) = codec.front_packet_in(rest, &[]) else {
-            return (count, used);
+            return (count, used, codec.sequence_id());
         };
         let len = packet.len();
         codec.accept_front_in(rest);
-        spans[count] = Span {
-            at: used + HEADER_LEN,
-            len,
-        };
-        used += HEADER_LEN + len;
+        let at = used + HEADER_LEN;
+        spans[count] = Span { at, len };
+        used = at + len;
         count += 1;
     }
-    (count, used)
+    (count, used, codec.sequence_id())
 }
 
 impl Connection {

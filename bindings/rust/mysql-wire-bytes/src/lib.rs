@@ -20,7 +20,7 @@
 //! 16777215 bytes stays in `src`, with its header; of a longer one the codec takes what has come.
 
 use bytes::{Buf, BufMut, BytesMut};
-use mysql_wire::Connection;
+use mysql_wire::{Connection, Place};
 use std::mem::MaybeUninit;
 use std::slice;
 
@@ -28,6 +28,10 @@ pub use mysql_wire::Error;
 
 const DEFAULT_MAX_ALLOWED_PACKET: usize = 4 << 20;
 const MAX_PAYLOAD_LEN: usize = 0xff_ffff;
+const HEADER_LEN: usize = 4;
+
+// How many packets are judged by one call of the library.
+const MOST_JUDGED: usize = 32;
 
 /// Makes packets of bytes, and bytes of packets, of one connection in both directions.
 #[derive(Debug)]
@@ -39,12 +43,42 @@ pub struct PacketCodec {
     limit: usize,
     // Whether the connection has taken bytes of a packet that isn't whole.
     is_begun: bool,
+    judged: Judged,
+}
+
+// The packets that the connection accepted and that weren't handed out. It is behind all of them; so
+// where another call comes than one that hands out the next of them, it is set back to its number.
+#[derive(Debug)]
+struct Judged {
+    // Those from `next` on, up to `end`; behind them stands `NOWHERE`.
+    places: [Place; MOST_JUDGED],
+    next: usize,
+    end: usize,
+    // The number of the first of them, which was handed out at once.
+    first_id: u8,
+}
+
+impl Judged {
+    // The number of the next of them.
+    #[inline]
+    fn id(&self) -> u8 {
+        self.first_id.wrapping_add(self.next as u8)
+    }
+
+    #[inline]
+    fn none_left(&mut self) {
+        self.end = self.next;
+        if let Some(place) = self.places.get_mut(self.end) {
+            *place = Place::NOWHERE;
+        }
+    }
 }
 
 impl Default for PacketCodec {
     fn default() -> PacketCodec {
         let limit = DEFAULT_MAX_ALLOWED_PACKET;
-        PacketCodec { max_allowed_packet: limit, connection: None, limit, is_begun: false }
+        let judged = Judged { places: [Place::NOWHERE; MOST_JUDGED], next: 0, end: 0, first_id: 0 };
+        PacketCodec { max_allowed_packet: limit, connection: None, limit, is_begun: false, judged }
     }
 }
 
@@ -82,6 +116,61 @@ impl PacketCodec {
         bytes.len() < len && len < MAX_PAYLOAD_LEN && len <= self.max_allowed_packet
     }
 
+    // The length of the packet in front, where the connection has accepted it: its header is the next
+    // judged one, it is there whole, and the limit is the one that it was judged by.
+    #[inline]
+    fn accepted(&self, src: &[u8]) -> Option<usize> {
+        let &[a, b, c, d, ref bytes @ ..] = src else {
+            return None;
+        };
+        let len = self.judged.places.get(self.judged.next)?.payload_len();
+        let fits = len <= bytes.len() && self.limit == self.max_allowed_packet;
+        let is_next = u32::from_le_bytes([a, b, c, d]) == header(len, self.judged.id());
+        (fits && is_next).then_some(len)
+    }
+
+    // Sets the connection behind the last packet that was handed out.
+    #[inline]
+    fn forget_judged(&mut self) {
+        if self.judged.next < self.judged.end {
+            self.set_back();
+        }
+    }
+
+    #[cold]
+    fn set_back(&mut self) {
+        self.judged.none_left();
+        if let Some(connection) = &mut self.connection {
+            // It is refused only where a packet is lent, and none is.
+            let _ = connection.set_sequence_id(self.judged.id());
+        }
+    }
+
+    // The length of the packet in front, where the connection accepts it, with those behind it.
+    #[inline]
+    fn judge(&mut self, src: &[u8]) -> Result<Option<usize>, Error> {
+        self.connection()?;
+        let (Some(connection), judged) = (&mut self.connection, &mut self.judged) else {
+            return Ok(None);
+        };
+        let (_, packets) = connection.decode_many(src, &mut judged.places);
+        let (first, count) = (packets.first().copied(), packets.len());
+        (judged.next, judged.end) = (0, count);
+        if let Some(place) = judged.places.get_mut(count) {
+            *place = Place::NOWHERE;
+        }
+        judged.first_id = src.get(HEADER_LEN - 1).copied().unwrap_or_default();
+        Ok(first.map(Place::payload_len))
+    }
+
+    // Puts an accepted packet into `dst`.
+    #[inline]
+    fn hand_out(&mut self, len: usize, src: &mut BytesMut, dst: &mut impl BufMut) {
+        self.judged.next += 1;
+        dst.put_slice(&src[HEADER_LEN..HEADER_LEN + len]);
+        src.advance(HEADER_LEN + len);
+    }
+
     /// Appends the next packet's payload to `dst`, if it has come whole; otherwise false. What is used
     /// of `src` is advanced over. After `PacketTooLarge` a larger limit goes on; after
     /// `PacketsOutOfSync` each call answers the same.
@@ -90,9 +179,31 @@ impl PacketCodec {
     where
         T: AsRef<[u8]> + BufMut,
     {
-        if !self.is_begun && self.waits(src) {
-            return Ok(false);
+        if let Some(len) = self.accepted(src) {
+            self.hand_out(len, src, dst);
+            return Ok(true);
         }
+        self.decode_next(src, dst)
+    }
+
+    // The same where the packet in front isn't accepted yet.
+    #[cold]
+    fn decode_next(&mut self, src: &mut BytesMut, dst: &mut impl BufMut) -> Result<bool, Error> {
+        self.forget_judged();
+        if !self.is_begun {
+            if self.waits(src) {
+                return Ok(false);
+            }
+            if let Some(len) = self.judge(src)? {
+                self.hand_out(len, src, dst);
+                return Ok(true);
+            }
+        }
+        self.decode_alone(src, dst)
+    }
+
+    // One packet, by a call of its own.
+    fn decode_alone(&mut self, src: &mut BytesMut, dst: &mut impl BufMut) -> Result<bool, Error> {
         let connection = self.connection()?;
         let bytes = src.as_ptr_range();
         let (used, answer) = connection.decode(src);
@@ -128,9 +239,29 @@ impl PacketCodec {
         if len > self.max_allowed_packet {
             return Err(Error::PacketTooLarge);
         }
+        self.forget_judged();
+        if len >= MAX_PAYLOAD_LEN {
+            return self.encode_chunks(packet, dst);
+        }
+        let connection = self.connection()?;
+        dst.reserve(HEADER_LEN + len);
+        let header = connection.encode_header(len)?;
+        if packet.chunk().len() == len {
+            put_packet(header, packet.chunk(), dst);
+            packet.advance(len);
+        } else {
+            dst.put_slice(&header);
+            dst.put(packet.take(len));
+        }
+        Ok(())
+    }
+
+    // A packet of more than one chunk.
+    fn encode_chunks<T: Buf>(&mut self, packet: &mut T, dst: &mut BytesMut) -> Result<(), Error> {
+        let len = packet.remaining();
         let connection = self.connection()?;
         // (where a sum is cut, there is no such room, and the connection refuses it)
-        dst.reserve(len.saturating_add(4 * (len / MAX_PAYLOAD_LEN + 1)));
+        dst.reserve(len.saturating_add(HEADER_LEN * (len / MAX_PAYLOAD_LEN + 1)));
         if packet.chunk().len() == len {
             append(connection, packet.chunk(), dst)?;
             packet.advance(len);
@@ -142,6 +273,7 @@ impl PacketCodec {
 
     /// Numbers the next packet 0, as at the start of a command.
     pub fn reset_seq_id(&mut self) {
+        self.judged.none_left();
         if let Some(connection) = &mut self.connection {
             // It is refused only where a packet is lent, and none is.
             let _ = connection.reset_seq_id();
@@ -150,6 +282,23 @@ impl PacketCodec {
 
     /// Changes nothing: it is there for the compressed protocol, which isn't.
     pub fn sync_seq_id(&mut self) {}
+}
+
+/// The four bytes of a header, as they are read.
+#[inline]
+fn header(len: usize, id: u8) -> u32 {
+    len as u32 | u32::from(id) << 24
+}
+
+/// Puts a header and a payload behind what is there, into room that was reserved.
+#[inline]
+fn put_packet(header: [u8; HEADER_LEN], payload: &[u8], dst: &mut BytesMut) {
+    let len = HEADER_LEN + payload.len();
+    let room = &mut dst.chunk_mut()[..len];
+    room[..HEADER_LEN].copy_from_slice(&header);
+    room[HEADER_LEN..].copy_from_slice(payload);
+    // SAFETY: so many bytes of the room were written.
+    unsafe { dst.advance_mut(len) };
 }
 
 /// Frames a payload behind what is there, in room that was taken.

@@ -1,9 +1,11 @@
 //! The codec's cases, under the names that `mysql_common` has for them, and made-up streams beside a
-//! plain reading.
+//! plain reading, and beside a codec that judges each packet alone.
 
+mod alone;
 #[path = "../../mysql-wire/tests/plain/mod.rs"]
 mod plain;
 
+use alone::Alone;
 use bytes::{Buf, BytesMut};
 use mysql_wire_bytes::{Error, PacketCodec};
 use plain::{framed, read, Numbers, FULL};
@@ -116,5 +118,151 @@ fn each_stream_is_read_as_the_whole() {
             }
         }
         assert_eq!((packets, end), read(limit, &stream, true), "seed {seed}");
+    }
+}
+
+// Three packets, numbered from 0, of which the first is handed out.
+fn after_the_first(codec: &mut PacketCodec) -> BytesMut {
+    let mut src = BytesMut::from(b"\x01\0\0\0a\x02\0\0\x01bc\x01\0\0\x02d".as_slice());
+    let mut dst = Vec::new();
+    assert_eq!((codec.decode(&mut src, &mut dst), dst), (Ok(true), b"a".to_vec()));
+    src
+}
+
+#[test]
+fn other_bytes_between_two_calls() {
+    let mut codec = PacketCodec::default();
+    let mut src = after_the_first(&mut codec);
+    // (another payload, and then the same bytes again)
+    let rest = std::mem::replace(&mut src, BytesMut::from(b"\x02\0\0\x01xy".as_slice()));
+    assert_eq!(drained(&mut codec, &mut src), (vec![b"xy".to_vec()], Ok(())));
+    src.extend_from_slice(&rest);
+    assert_eq!(drained(&mut codec, &mut src), (vec![], Err(Error::PacketsOutOfSync)));
+    // another length
+    let mut codec = PacketCodec::default();
+    let mut src = after_the_first(&mut codec);
+    src[0] = 1;
+    src[6..8].copy_from_slice(b"\0\0");
+    src.truncate(5);
+    src.extend_from_slice(b"\0\0\0\x02");
+    assert_eq!(drained(&mut codec, &mut src), (vec![b"b".to_vec(), vec![]], Ok(())));
+    // another number
+    let mut codec = PacketCodec::default();
+    let mut src = after_the_first(&mut codec);
+    src[3] = 2;
+    assert_eq!(drained(&mut codec, &mut src), (vec![], Err(Error::PacketsOutOfSync)));
+    // less of them, and the others later
+    let mut codec = PacketCodec::default();
+    let mut src = after_the_first(&mut codec);
+    let rest = src.split_off(5);
+    assert_eq!(drained(&mut codec, &mut src), (vec![], Ok(())));
+    assert_eq!(src.as_ref(), b"\x02\0\0\x01b");
+    src.extend_from_slice(&rest);
+    assert_eq!(drained(&mut codec, &mut src), (vec![b"bc".to_vec(), b"d".to_vec()], Ok(())));
+}
+
+#[test]
+fn other_calls_between_two_packets() {
+    // a lower limit, and a higher one
+    let mut codec = PacketCodec::default();
+    let mut src = after_the_first(&mut codec);
+    codec.max_allowed_packet = 1;
+    assert_eq!(drained(&mut codec, &mut src), (vec![], Err(Error::PacketTooLarge)));
+    codec.max_allowed_packet = 2;
+    assert_eq!(drained(&mut codec, &mut src), (vec![b"bc".to_vec(), b"d".to_vec()], Ok(())));
+    // a packet that is sent, whose number is the one behind the first
+    let mut codec = PacketCodec::default();
+    let (mut src, mut wire) = (after_the_first(&mut codec), BytesMut::new());
+    codec.encode(&mut b"x".as_slice(), &mut wire).unwrap();
+    assert_eq!(wire.as_ref(), b"\x01\0\0\x01x");
+    assert_eq!(drained(&mut codec, &mut src), (vec![], Err(Error::PacketsOutOfSync)));
+    // (none is, where it is refused)
+    let mut codec = with_limit(2);
+    let mut src = after_the_first(&mut codec);
+    assert_eq!(codec.encode(&mut [0; 3].as_slice(), &mut wire), Err(Error::PacketTooLarge));
+    assert_eq!(drained(&mut codec, &mut src), (vec![b"bc".to_vec(), b"d".to_vec()], Ok(())));
+    // a reset
+    let mut codec = PacketCodec::default();
+    let mut src = after_the_first(&mut codec);
+    codec.reset_seq_id();
+    assert_eq!(drained(&mut codec, &mut src), (vec![], Err(Error::PacketsOutOfSync)));
+    let mut codec = PacketCodec::default();
+    let mut src = after_the_first(&mut codec);
+    codec.reset_seq_id();
+    src[3] = 0;
+    src[9] = 1;
+    assert_eq!(drained(&mut codec, &mut src), (vec![b"bc".to_vec(), b"d".to_vec()], Ok(())));
+}
+
+#[test]
+fn whatever_stands_between_the_calls() {
+    for seed in 0..20_000 {
+        let mut numbers = Numbers::new(seed);
+        let limit = 20 + numbers.below(40);
+        let (mut codec, mut alone) = (with_limit(limit), Alone::new(limit));
+        let (mut src, mut other_src) = (BytesMut::new(), BytesMut::new());
+        let (mut wire, mut other_wire) = (BytesMut::new(), BytesMut::new());
+        // (the number that the next packet of the stream bears, mostly the one expected)
+        let mut number = 0_u8;
+        for step in 0..40 {
+            let at = format!("seed {seed}, step {step}");
+            match numbers.below(16) {
+                0 => {
+                    codec.reset_seq_id();
+                    alone.reset_seq_id();
+                    if numbers.below(2) == 0 {
+                        number = 0;
+                    }
+                }
+                1 => {
+                    codec.max_allowed_packet = numbers.below(60);
+                    alone.max_allowed_packet = codec.max_allowed_packet;
+                }
+                2 => {
+                    let payload = vec![b'x'; numbers.below(50)];
+                    let (front, back) = payload.split_at(numbers.below(payload.len() + 1));
+                    let answer = codec.encode(&mut front.chain(back), &mut wire);
+                    assert_eq!(answer, alone.encode(&payload, &mut other_wire), "{at}");
+                    if answer.is_ok() && numbers.below(2) == 0 {
+                        number = number.wrapping_add(1);
+                    }
+                }
+                3 if !src.is_empty() => {
+                    let place = numbers.below(src.len());
+                    src[place] = numbers.below(8) as u8;
+                    other_src[place] = src[place];
+                }
+                4 => {
+                    let left = numbers.below(src.len() + 1);
+                    src.truncate(left);
+                    other_src.truncate(left);
+                }
+                5 => {
+                    src = BytesMut::from(&src[..]); // (the same bytes elsewhere)
+                }
+                6..=9 => {
+                    for _ in 0..numbers.below(40) {
+                        let payload = vec![number; numbers.below(20)];
+                        src.extend_from_slice(&framed(number, &payload));
+                        number = number.wrapping_add(1);
+                    }
+                    src.truncate(src.len() - numbers.below(src.len().min(3) + 1));
+                    other_src.clear();
+                    other_src.extend_from_slice(&src);
+                }
+                _ => {
+                    for _ in 0..numbers.below(40) {
+                        let (mut dst, mut other_dst) = (Vec::new(), Vec::new());
+                        let answer = codec.decode(&mut src, &mut dst);
+                        assert_eq!(answer, alone.decode(&mut other_src, &mut other_dst), "{at}");
+                        assert_eq!((&dst, &src), (&other_dst, &other_src), "{at}");
+                        if answer != Ok(true) {
+                            break;
+                        }
+                    }
+                }
+            }
+        }
+        assert_eq!(wire, other_wire, "seed {seed}");
     }
 }

@@ -22,8 +22,9 @@ pub struct View {
     pub len: usize,
 }
 
-/// `mysql_wire_span`: where a text stands in the bytes that were read.
+/// `mysql_wire_span`: where a text or a packet stands in the bytes that were read.
 #[repr(C)]
+#[derive(Clone, Copy, Debug)]
 pub struct Span {
     pub at: usize,
     pub len: usize,
@@ -68,6 +69,15 @@ extern "C" {
         used: *mut usize,
         packet: *mut View,
     ) -> i32;
+    pub fn mysql_wire_decode_many(
+        connection: *mut Handle,
+        bytes: *const u8,
+        len: usize,
+        spans: *mut Span,
+        room: usize,
+        count: *mut usize,
+        used: *mut usize,
+    ) -> i32;
     pub fn mysql_wire_set_limit(connection: *mut Handle, limit: usize) -> i32;
     pub fn mysql_wire_unread(connection: *mut Handle) -> usize;
     pub fn mysql_wire_encode(connection: *mut Handle, payload: *const u8, len: usize) -> i32;
@@ -80,6 +90,7 @@ extern "C" {
         room_len: usize,
         written: *mut usize,
     ) -> i32;
+    pub fn mysql_wire_encode_header(connection: *mut Handle, len: usize, header: *mut u8) -> i32;
     pub fn mysql_wire_output(connection: *mut Handle, room: *mut u8, room_len: usize) -> usize;
     pub fn mysql_wire_pending(connection: *mut Handle, bytes: *mut View);
     pub fn mysql_wire_sent(connection: *mut Handle, count: usize) -> usize;

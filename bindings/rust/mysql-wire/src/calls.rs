@@ -7,6 +7,7 @@
 
 use mysql_wire_sys as c;
 use std::mem::MaybeUninit;
+use std::ops::Range;
 use std::ptr;
 use std::slice;
 
@@ -178,6 +179,43 @@ pub fn decode<'a>(handle: &'a mut Handle, bytes: &'a [u8]) -> (i32, usize, &'a [
     }
 }
 
+/// Where a packet stands in the bytes that were read.
+#[derive(Clone, Copy, Debug)]
+#[repr(transparent)]
+pub struct Place(c::Span);
+
+impl Place {
+    /// Where no packet is, since no bytes are so many: for
+    /// [`Connection::decode_many`](crate::Connection::decode_many) to write over.
+    pub const NOWHERE: Place = Place(c::Span { at: 0, len: usize::MAX });
+
+    /// The payload's bytes among those that were read.
+    #[inline]
+    pub fn range(self) -> Range<usize> {
+        self.0.at..self.0.at + self.0.len
+    }
+
+    /// How many bytes the payload has.
+    #[inline]
+    pub fn payload_len(self) -> usize {
+        self.0.len
+    }
+}
+
+/// How many packets there are, and how many of the bytes were used.
+#[inline]
+pub fn decode_many(handle: &mut Handle, bytes: &[u8], places: &mut [Place]) -> (usize, usize) {
+    let (mut count, mut used) = (0, 0);
+    // SAFETY: the handle is open, the slices are valid for their lengths (a `Place` is a `Span`), the
+    // others are places of their types.
+    unsafe {
+        let (at, len) = (bytes.as_ptr(), bytes.len());
+        let (spans, room) = (places.as_mut_ptr().cast(), places.len());
+        c::mysql_wire_decode_many(&mut handle.0, at, len, spans, room, &mut count, &mut used);
+    }
+    (count, used)
+}
+
 /// The code, and how many bytes.
 pub fn framed_len(len: usize) -> (i32, usize) {
     let mut framed = 0;
@@ -202,6 +240,15 @@ pub fn encode_to(
         c::mysql_wire_encode_to(&mut handle.0, at, len, room, room_len, &mut written)
     };
     (code, written)
+}
+
+/// The code, and the header.
+#[inline]
+pub fn encode_header(handle: &mut Handle, len: usize) -> (i32, [u8; 4]) {
+    let mut header = [0; 4];
+    // SAFETY: the handle is open, and the header a local of 4 bytes.
+    let code = unsafe { c::mysql_wire_encode_header(&mut handle.0, len, header.as_mut_ptr()) };
+    (code, header)
 }
 
 pub fn set_sequence_id(handle: &mut Handle, id: u8) -> i32 {

@@ -1,6 +1,6 @@
 //! One side of a connection.
 
-use crate::calls::{self, Handle};
+use crate::calls::{self, Handle, Place};
 use crate::error::{checked, Error};
 use std::fmt;
 use std::mem::MaybeUninit;
@@ -58,6 +58,34 @@ impl Connection {
         (used, checked(code).map(|code| (code > 0).then_some(packet)))
     }
 
+    /// Takes the packet that is lent, and says where as many packets stand as `bytes` begin with, at
+    /// most one for each of these places, with one call of the library: packets of one chunk each that
+    /// lie whole there, one behind the other, where nothing that came before is unread. The connection
+    /// is behind all of them; the count says how many bytes were used. Where there is none, `decode`
+    /// goes on.
+    ///
+    /// ```
+    /// # fn main() -> Result<(), mysql_wire::Error> {
+    /// let mut connection = mysql_wire::Connection::new(1 << 24)?;
+    /// let bytes = b"\x01\0\0\0a\x02\0\0\x01bc\x01\0"; // what one read gave
+    /// let mut places = [mysql_wire::Place::NOWHERE; 16];
+    /// let (used, packets) = connection.decode_many(bytes, &mut places);
+    /// let packets: Vec<&[u8]> = packets.iter().map(|place| &bytes[place.range()]).collect();
+    /// assert_eq!((used, packets), (11, vec![&b"a"[..], b"bc"]));
+    /// assert_eq!(connection.decode(&bytes[used..]), (2, Ok(None)));
+    /// # Ok(())
+    /// # }
+    /// ```
+    #[inline]
+    pub fn decode_many<'a>(
+        &mut self,
+        bytes: &[u8],
+        places: &'a mut [Place],
+    ) -> (usize, &'a [Place]) {
+        let (count, used) = calls::decode_many(&mut self.0, bytes, places);
+        (used, places.get(..count).unwrap_or_default())
+    }
+
     /// Sets the most payload bytes of a packet, for what is fed, and encoded, from now on. Where the
     /// packet in front is too large, it holds for that one too. `PacketWaits`: a packet stands
     /// whole, and has to be taken first.
@@ -87,6 +115,15 @@ impl Connection {
     ) -> Result<usize, Error> {
         let (code, written) = calls::encode_to(&mut self.0, payload, room);
         checked(code).map(|_| written)
+    }
+
+    /// The header of a packet of `len` bytes, numbered as by `encode`, for who puts the payload behind
+    /// it: both together are what `encode_to` frames. `PacketTooLarge` also from 16777215 bytes on, for
+    /// which `encode_to` is there. A refusal changes nothing.
+    #[inline]
+    pub fn encode_header(&mut self, len: usize) -> Result<[u8; 4], Error> {
+        let (code, header) = calls::encode_header(&mut self.0, len);
+        checked(code).map(|_| header)
     }
 
     /// The bytes that wait to be sent.

@@ -34,6 +34,7 @@ mod error;
 mod fields;
 mod spans;
 
+pub use calls::Place;
 pub use connection::{framed_len, Connection};
 pub use error::Error;
 pub use fields::{put_int, put_lenenc_bytes, put_lenenc_int, put_null_bytes, Fields};

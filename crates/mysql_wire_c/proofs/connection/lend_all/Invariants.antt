@@ -1,6 +1,6 @@
-use Rattle.std.proofs.Common.{◌≡◌, ℕ, List, [], ◌-◌, ◌≤◌, length, take, drop}
-use Rattle.wire_codec.specs.Codec.{codec_state}
-use Rattle.wire_codec.specs.LimitedRuns.{Aligned}
+use Rattle.std.proofs.Common.{◌≡◌, ℕ, List, [], ◌-◌, ◌≤◌, length, take, drop, None}
+use Rattle.wire_codec.specs.Codec.{codec_state, header_of}
+use Rattle.wire_codec.specs.Laws.{empty_state}
 use Rattle.mysql_wire_c.specs.declared.connection.Front.TheVariants.{Unfinished}
 use Rattle.mysql_wire_c.specs.Side.{side_of}
 use Rattle.mysql_wire_c.specs.Decoding.{LendsInTurn}
@@ -10,9 +10,10 @@ abbrev pub invariant-packets : goal.invariant-packets
 invariant-packets l = record {
   bound : l.used ≤ length l.fn.bytes;
   room : l.count ≤ length l.spans;
-  aligned : Aligned (codec_state l.codec [] []);
+  limit : l.codec.max_allowed_packet ≡ l.fn.limit;
+  header : header_of l.codec ≡ None;
   so_far : (pending : List ℕ) → LendsInTurn l.fn.bytes 0 (take l.count l.spans) l.used
-      (side_of Unfinished (codec_state l.fn.codec [] []) pending) (side_of Unfinished (codec_state l.codec [] []) pending);
+      (side_of Unfinished (empty_state l.fn.id l.fn.limit) pending) (side_of Unfinished (codec_state l.codec [] []) pending);
   rest : drop l.count l.spans ≡ drop l.count l.fn.spans;
 }
 
