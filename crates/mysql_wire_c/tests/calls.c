@@ -34,6 +34,14 @@ static bool a_closed_connection_answers_so(void) {
     len = 7;
     CHECK(mysql_wire_decode(&none, ONE_TWO_THREE, 7, &len, &view) == MYSQL_WIRE_CLOSED);
     CHECK(len == 0 && shows(view, "", 0));
+    mysql_wire_span span = {7, 8};
+    size_t count = 7;
+    len = 7;
+    CHECK(mysql_wire_decode_many(&none, ONE_TWO_THREE, 7, &span, 1, &count, &len) ==
+          MYSQL_WIRE_CLOSED);
+    CHECK(count == 0 && len == 0 && span.at == 7 && span.len == 8);
+    CHECK(mysql_wire_encode_header(&none, 1, room) == MYSQL_WIRE_CLOSED);
+    CHECK(memcmp(room, "....", 4) == 0);
     view.len = 3;
     mysql_wire_pending(&none, &view);
     CHECK(shows(view, "", 0));
@@ -409,6 +417,114 @@ static bool packets_are_lent_from_the_bytes(void) {
     return true;
 }
 
+/* As many as there is place for, then the others; the last is cut. */
+static bool many_packets_are_lent_at_once(void) {
+    static const uint8_t bytes[] = {1, 0, 0, 0, 'a', 0, 0, 0, 1, 2, 0, 0, 2, 'b', 'c', 1, 0, 0, 3};
+    mysql_wire_connection one = opened(2);
+    mysql_wire_span spans[3] = {{77, 77}, {77, 77}, {77, 77}};
+    mysql_wire_view view;
+    size_t count = 9, used = 9, requests = requests_made();
+    CHECK(mysql_wire_decode_many(&one, bytes, sizeof bytes, NULL, 0, &count, &used) ==
+          MYSQL_WIRE_WAITS && count == 0 && used == 0);
+    CHECK(mysql_wire_decode_many(&one, NULL, 0, spans, 3, &count, &used) == MYSQL_WIRE_WAITS);
+    CHECK(count == 0 && used == 0 && spans[0].at == 77);
+    CHECK(mysql_wire_decode_many(&one, bytes, sizeof bytes, spans, 2, &count, &used) ==
+          MYSQL_WIRE_PACKET && count == 2 && used == 9);
+    CHECK(spans[0].at == 4 && spans[0].len == 1 && spans[1].at == 9 && spans[1].len == 0);
+    CHECK(spans[2].at == 77 && spans[2].len == 77);
+    CHECK(mysql_wire_sequence_id(&one) == 2 && mysql_wire_unread(&one) == 0);
+    CHECK(mysql_wire_take(&one) == MYSQL_WIRE_NO_PACKET);
+    CHECK(mysql_wire_decode_many(&one, bytes + 9, sizeof bytes - 9, spans, 3, &count, &used) ==
+          MYSQL_WIRE_PACKET && count == 1 && used == 6);
+    CHECK(spans[0].at == 4 && spans[0].len == 2 && spans[1].at == 9);
+    CHECK(mysql_wire_decode_many(&one, bytes + 15, 4, spans, 3, &count, &used) ==
+          MYSQL_WIRE_WAITS && count == 0 && used == 0 && mysql_wire_unread(&one) == 0);
+    CHECK(mysql_wire_sequence_id(&one) == 3 && requests_made() == requests);
+    /* It goes on where the bytes were fed. */
+    CHECK(mysql_wire_decode(&one, bytes + 15, 4, &used, &view) == MYSQL_WIRE_WAITS && used == 4);
+    CHECK(mysql_wire_decode_many(&one, ONE_TWO_THREE, 7, spans, 3, &count, &used) ==
+          MYSQL_WIRE_WAITS && count == 0 && used == 0 && mysql_wire_unread(&one) == 4);
+    CHECK(mysql_wire_decode(&one, (const uint8_t *)"d", 1, &used, &view) == MYSQL_WIRE_PACKET);
+    CHECK(shows(view, "d", 1));
+    mysql_wire_close(&one);
+    return true;
+}
+
+/* It takes a packet that is lent; of one past the limit, or of another number, it says nothing. */
+static bool none_is_lent_that_decode_does_not_lend(void) {
+    static const uint8_t two[] = {1, 0, 0, 1, 'a', 3, 0, 0, 2, 'b', 'c', 'd'};
+    mysql_wire_connection one = opened(3);
+    mysql_wire_span spans[3];
+    mysql_wire_view view;
+    size_t count = 9, used = 9;
+    CHECK(mysql_wire_feed(&one, ONE_TWO_THREE, 7) == MYSQL_WIRE_OK);
+    CHECK(mysql_wire_decode_many(&one, two, 5, spans, 3, &count, &used) == MYSQL_WIRE_WAITS);
+    CHECK(mysql_wire_peek(&one, &view) == MYSQL_WIRE_PACKET && shows(view, "123", 3));
+    CHECK(mysql_wire_set_limit(&one, 2) == MYSQL_WIRE_PACKET_WAITS);
+    CHECK(mysql_wire_take(&one) == MYSQL_WIRE_OK && mysql_wire_set_limit(&one, 2) == MYSQL_WIRE_OK);
+    CHECK(mysql_wire_decode_many(&one, two, sizeof two, spans, 3, &count, &used) ==
+          MYSQL_WIRE_PACKET && count == 1 && used == 5);
+    CHECK(mysql_wire_decode_many(&one, two + 5, 7, spans, 3, &count, &used) == MYSQL_WIRE_WAITS);
+    CHECK(mysql_wire_set_limit(&one, 3) == MYSQL_WIRE_OK);
+    CHECK(mysql_wire_decode_many(&one, two + 5, 7, spans, 3, &count, &used) == MYSQL_WIRE_PACKET);
+    CHECK(count == 1 && used == 7 && spans[0].len == 3);
+    CHECK(mysql_wire_decode_many(&one, two, 5, spans, 3, &count, &used) == MYSQL_WIRE_WAITS);
+    CHECK(mysql_wire_sequence_id(&one) == 3);
+    CHECK(mysql_wire_decode(&one, two, 5, &used, &view) == MYSQL_WIRE_OUT_OF_SYNC);
+    CHECK(mysql_wire_decode_many(&one, two, 5, spans, 3, &count, &used) == MYSQL_WIRE_WAITS);
+    CHECK(count == 0 && used == 0 && mysql_wire_sequence_id(&one) == MYSQL_WIRE_OUT_OF_SYNC);
+    mysql_wire_close(&one);
+    /* (lent in place) */
+    one = opened(3);
+    CHECK(mysql_wire_feed(&one, ONE_TWO_THREE, 7) == MYSQL_WIRE_OK);
+    CHECK(mysql_wire_peek(&one, &view) == MYSQL_WIRE_PACKET);
+    CHECK(mysql_wire_decode_many(&one, two, 5, spans, 3, &count, &used) == MYSQL_WIRE_PACKET);
+    CHECK(count == 1 && mysql_wire_sequence_id(&one) == 2 && mysql_wire_unread(&one) == 0);
+    mysql_wire_close(&one);
+    return true;
+}
+
+/* A header alone, and behind a packet that is lent. */
+static bool a_header_is_that_of_the_framing(void) {
+    static const size_t lens[] = {0, 1, 255, 256, 65535, 65536, 16777214};
+    mysql_wire_connection one = opened(16777214), other = opened(16777214);
+    mysql_wire_view view;
+    uint8_t header[5] = "....", *room = malloc(4 + 16777214), *payload = calloc(1, 16777214);
+    size_t written = 0, requests = requests_made();
+    bool holds = HOLDS(room != NULL && payload != NULL);
+    for (size_t i = 0; holds && i < LENGTH(lens); i++) {
+        holds = HOLDS(mysql_wire_encode_header(&one, lens[i], header) == MYSQL_WIRE_OK) &&
+                HOLDS(mysql_wire_encode_to(&other, payload, lens[i], room, 4 + 16777214,
+                                           &written) == MYSQL_WIRE_OK) &&
+                HOLDS(written == 4 + lens[i] && memcmp(header, room, 4) == 0) &&
+                HOLDS(mysql_wire_sequence_id(&one) == (int32_t)i + 1 && header[4] == 0);
+    }
+    free(room);
+    free(payload);
+    CHECK(holds && requests_made() == requests);
+    memcpy(header, "....", 4);
+    CHECK(mysql_wire_encode_header(&one, 16777215, header) == MYSQL_WIRE_TOO_LARGE);
+    CHECK(mysql_wire_set_limit(&one, SIZE_MAX) == MYSQL_WIRE_OK);
+    CHECK(mysql_wire_encode_header(&one, 16777215, header) == MYSQL_WIRE_TOO_LARGE);
+    CHECK(mysql_wire_set_limit(&one, 3) == MYSQL_WIRE_OK);
+    CHECK(mysql_wire_encode_header(&one, 4, header) == MYSQL_WIRE_TOO_LARGE);
+    CHECK(memcmp(header, "....", 4) == 0 && mysql_wire_sequence_id(&one) == LENGTH(lens));
+    CHECK(mysql_wire_set_sequence_id(&one, 255) == MYSQL_WIRE_OK);
+    CHECK(mysql_wire_encode_header(&one, 3, header) == MYSQL_WIRE_OK);
+    CHECK(memcmp(header, "\3\0\0\377", 4) == 0 && mysql_wire_sequence_id(&one) == 0);
+    CHECK(mysql_wire_feed(&one, ONE_TWO_THREE, 7) == MYSQL_WIRE_OK);
+    CHECK(mysql_wire_peek(&one, &view) == MYSQL_WIRE_PACKET);
+    refuse_request(1);
+    CHECK(mysql_wire_encode_header(&one, 1, header) == MYSQL_WIRE_NO_MEMORY && was_refused());
+    CHECK(memcmp(header, "\3\0\0\377", 4) == 0 && mysql_wire_sequence_id(&one) == 1);
+    CHECK(mysql_wire_encode_header(&one, 1, header) == MYSQL_WIRE_OK);
+    CHECK(memcmp(header, "\1\0\0\1", 4) == 0 && mysql_wire_sequence_id(&one) == 2);
+    CHECK(mysql_wire_peek(&one, &view) == MYSQL_WIRE_PACKET && shows(view, "123", 3));
+    mysql_wire_close(&one);
+    mysql_wire_close(&other);
+    return true;
+}
+
 /* A packet that is cut is put together, of no byte more than it has; the next is lent from the bytes. */
 static bool a_packet_that_is_cut_is_put_together(void) {
     static const uint8_t two[] = {3, 0, 0, 0, '1', '2', '3', 2, 0, 0, 1, 'a', 'b'};
@@ -518,6 +634,9 @@ const test call_tests[] = {
     {"framed lengths are counted", framed_lengths_are_counted},
     {"a packet is framed into the room", a_packet_is_framed_into_the_room},
     {"packets are lent from the bytes", packets_are_lent_from_the_bytes},
+    {"many packets are lent at once", many_packets_are_lent_at_once},
+    {"none is lent that decode does not lend", none_is_lent_that_decode_does_not_lend},
+    {"a header is that of the framing", a_header_is_that_of_the_framing},
     {"a packet that is cut is put together", a_packet_that_is_cut_is_put_together},
     {"decoding goes on behind what was fed", decoding_goes_on_behind_what_was_fed},
     {"each code has its text", each_code_has_its_text},

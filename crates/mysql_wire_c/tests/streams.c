@@ -177,6 +177,60 @@ static bool generated_streams_are_as_the_whole(void) {
     return true;
 }
 
+/* Whether the next packet of the reading is this one. */
+static bool is_next(reading *of, size_t came, const uint8_t *packet, size_t len) {
+    if (read_packet(of, came) != MYSQL_WIRE_PACKET || len != of->len) return false;
+    return len == 0 || memcmp(packet, of->packet, len) == 0;
+}
+
+/* Takes all packets of a piece, many by one call, and answers as `drain`. */
+static int32_t drain_piece(mysql_wire_connection *one, reading *of, size_t came,
+                           const uint8_t *piece, size_t len, size_t room) {
+    mysql_wire_span spans[8];
+    mysql_wire_view packet;
+    size_t count, used;
+    while (len > 0) {
+        int32_t code = mysql_wire_decode_many(one, piece, len, spans, room, &count, &used);
+        if (count > room || used > len || (code == MYSQL_WIRE_PACKET) != (count > 0)) return 99;
+        for (size_t i = 0; i < count; i++)
+            if (!is_next(of, came, piece + spans[i].at, spans[i].len)) return 99;
+        if (code == MYSQL_WIRE_WAITS) {
+            code = mysql_wire_decode(one, piece, len, &used, &packet);
+            if (code != MYSQL_WIRE_PACKET)
+                return read_packet(of, came) == code ? code : 99;
+            if (!is_next(of, came, packet.at, packet.len)) return 99;
+        }
+        piece += used;
+        len -= used;
+    }
+    return MYSQL_WIRE_WAITS;
+}
+
+static bool pieces_are_as_the_whole(numbers *from) {
+    static uint8_t stream[4096], packet[4096];
+    static size_t limits[4096];
+    reading whole = {stream, limits, 0, 0, packet, 0, false};
+    size_t len = fill(from, stream, sizeof stream), limit = 200 + draw(from, 200);
+    mysql_wire_connection one = NULL;
+    int32_t code = MYSQL_WIRE_WAITS;
+    CHECK(mysql_wire_open(limit, &one) == MYSQL_WIRE_OK);
+    for (size_t i = 0; i < len; i++) limits[i] = limit;
+    for (size_t came = 0; came < len && code == MYSQL_WIRE_WAITS;) {
+        size_t piece = 1 + draw(from, draw(from, 2) == 0 ? 5 : 500);
+        if (piece > len - came) piece = len - came;
+        came += piece;
+        code = drain_piece(&one, &whole, came, stream + came - piece, piece, draw(from, 9));
+    }
+    mysql_wire_close(&one);
+    return code != 99;
+}
+
+static bool packets_of_pieces_are_as_the_whole(void) {
+    numbers from = {20261125};
+    for (int streams = 0; streams < 3000; streams++) CHECK(pieces_are_as_the_whole(&from));
+    return true;
+}
+
 /* Moves what one connection has to send to another, in pieces. */
 static bool moves(mysql_wire_connection *from, mysql_wire_connection *to, size_t piece) {
     mysql_wire_view bytes;
@@ -290,6 +344,7 @@ static bool two_connections_talk(void) {
 const test stream_tests[] = {
     {"every cutting is as the whole", every_cutting_is_as_the_whole},
     {"generated streams are as the whole", generated_streams_are_as_the_whole},
+    {"packets of pieces are as the whole", packets_of_pieces_are_as_the_whole},
     {"packets above 16 MiB come", packets_above_16_mib_come},
     {"an unfinished long packet is unread", an_unfinished_long_packet_is_unread},
     {"two connections talk", two_connections_talk},
