@@ -87,7 +87,7 @@ unread_behind front state pending side packet is ready view =
 pub full_chunk : max_payload ≡ 16777215
 full_chunk = max_payload_is
 
-no_full_chunk : (n : ℕ) → n < max_payload → n / max_payload ≡ 0
+pub no_full_chunk : (n : ℕ) → n < max_payload → n / max_payload ≡ 0
 unfolding max_payload
 no_full_chunk n small = omega arith
 
@@ -96,7 +96,7 @@ unfolding chunk
 chunk_opened id payload = refl
 
 -- a payload of one chunk is framed as its header, and the payload
-framed_short : (id : ℕ) (payload : List ℕ) → length payload < max_payload → framing id payload ≡ header (length payload) id ++ payload
+pub framed_short : (id : ℕ) (payload : List ℕ) → length payload < max_payload → framing id payload ≡ header (length payload) id ++ payload
 framed_short id payload small =
     let none : length payload / max_payload ≡ 0 = no_full_chunk (length payload) small in
     let all : take max_payload (drop (0 * max_payload) payload) ≡ payload = rw zero-mul (take_all max_payload payload (omega (arith, small))) in

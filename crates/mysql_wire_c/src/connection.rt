@@ -3,7 +3,7 @@
 ghost use Rattle.std.specs.Prelude.{◌≡◌, ◌≢◌, ◌⊎◌, ◌↔◌, ℕ, List, [], ◌+◌, ◌-◌, ◌/◌, ◌%◌, ◌<◌, ◌≤◌, ◌++◌, length, take, drop, min, None, Ok, Err, true, false, IfSome, IfNone, IsSome, OnOk, OnErr};
 ghost use Rattle.wire_codec.specs.declared.codec.error.PacketCodecError.TheVariants.{OutOfMemory, PacketTooLarge, PacketsOutOfSync};
 ghost use Rattle.wire_codec.specs.Codec.{codec_state, Stands};
-ghost use Rattle.wire_codec.specs.Framing.{max_payload};
+ghost use Rattle.wire_codec.specs.Framing.{max_payload, framing};
 ghost use Rattle.wire_codec.specs.LimitedRuns.{DecodesAligned};
 ghost use Rattle.wire_codec.specs.Laws.{appended, empty_state};
 ghost use Rattle.wire_codec.specs.InPlace.{HasFront, behind_front};
@@ -411,6 +411,17 @@ impl Connection {
             Err(_) => return NO_MEMORY,
         }
         *written = len;
+        if payload.len() < MAX_PAYLOAD_LEN {
+            if room.len() < len {
+                return ROOM_TOO_SMALL;
+            }
+            let seq_id = self.codec.sequence_id();
+            put_chunk(seq_id, payload, room);
+            let next = seq_id.wrapping_add(1); // as of a header
+            self.codec.set_sequence_id(next);
+            self.id = next;
+            return OK;
+        }
         match packet_to_slice(self.codec.sequence_id(), payload, room) {
             Some((_, id)) => {
                 self.codec.set_sequence_id(id);
@@ -453,6 +464,22 @@ impl Connection {
         self.id = next;
         OK
     }
+}
+
+// Writes a payload of one chunk at the front of the room.
+#[inline(always)]
+#[tactic(auto, using(crate::proofs::SideLemmas::framed_short))]
+fn put_chunk(seq_id: u8, payload: &[u8], room: &mut [u8])
+    requires small { length payload.now < max_payload }
+    requires room { 4 + length payload.now ≤ length room.old }
+    ensures { room.new ≡ framing seq_id payload.now ++ drop (4 + length payload.now) room.old }
+{
+    let header = Header {
+        len: payload.len(),
+        seq_id,
+    };
+    room[..HEADER_LEN].copy_from_slice(&header.bytes());
+    room[HEADER_LEN..HEADER_LEN + payload.len()].copy_from_slice(payload);
 }
 
 // What comes, where the caller has it.
