@@ -518,7 +518,9 @@ impl Connection {
         ensures { DecodesMany bytes.now spans.old spans.new count.new used.new result
             self.old.side self.new.side }
     {
-        self.take();
+        if let Front::InPlace | Front::Copied = self.front {
+            self.take();
+        }
         self.lend_many(bytes, spans, count, used);
         if *count > 0 { PACKET } else { WAITS }
     }

@@ -189,9 +189,9 @@ pub extern "C" fn mysql_wire_decode_many(
     ensures decodes { Both handle.old.connection handle.new.connection
         (DecodesMany bytes.now spans.old spans.new count.new used.new result) }
 {
-    *count = 0;
-    *used = 0;
     if handle.is_closed() {
+        *count = 0;
+        *used = 0;
         return CLOSED;
     }
     handle.connection().decode_many(bytes, spans, count, used)

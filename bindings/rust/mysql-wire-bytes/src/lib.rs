@@ -31,7 +31,7 @@ const MAX_PAYLOAD_LEN: usize = 0xff_ffff;
 const HEADER_LEN: usize = 4;
 
 // How many packets are judged by one call of the library.
-const MOST_JUDGED: usize = 32;
+const MOST_JUDGED: usize = 64;
 
 /// Makes packets of bytes, and bytes of packets, of one connection in both directions.
 #[derive(Debug)]
