@@ -2,7 +2,7 @@
 
 mod plain;
 
-use mysql_wire::{Connection, Error, Spans};
+use mysql_wire::{Connection, Error, Place, Spans};
 use plain::{fed, read, Numbers};
 
 const STREAMS: u64 = 20_000;
@@ -28,6 +28,28 @@ fn spanned(limit: usize, pieces: &[&[u8]]) -> (Vec<Vec<u8>>, Result<(), Error>) 
     (packets, Ok(()))
 }
 
+fn placed(limit: usize, pieces: &[&[u8]]) -> (Vec<Vec<u8>>, Result<(), Error>) {
+    let mut connection = Connection::new(limit).unwrap();
+    let (mut packets, mut places) = (Vec::new(), [Place::NOWHERE; 3]);
+    for piece in pieces {
+        let mut bytes = *piece;
+        while !bytes.is_empty() {
+            let (mut used, lent) = connection.decode_many(bytes, &mut places);
+            packets.extend(lent.iter().map(|place| bytes[place.range()].to_vec()));
+            if lent.is_empty() {
+                let (count, answer) = connection.decode(bytes);
+                match answer {
+                    Ok(packet) => packets.extend(packet.map(<[u8]>::to_vec)),
+                    Err(error) => return (packets, Err(error)),
+                }
+                used = count;
+            }
+            bytes = &bytes[used..];
+        }
+    }
+    (packets, Ok(()))
+}
+
 type Reader = fn(usize, &[&[u8]]) -> (Vec<Vec<u8>>, Result<(), Error>);
 
 // `waits` is as of `read`.
@@ -43,6 +65,11 @@ fn reads_each_stream_as_the_whole(reader: Reader, waits: bool) {
 #[test]
 fn a_connection_reads_each_stream_as_the_whole() {
     reads_each_stream_as_the_whole(fed, true);
+}
+
+#[test]
+fn many_at_once_are_as_the_whole() {
+    reads_each_stream_as_the_whole(placed, true);
 }
 
 #[test]

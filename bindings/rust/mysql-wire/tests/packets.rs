@@ -68,6 +68,17 @@ fn what_is_sent_is_numbered_on_and_goes_out_in_parts() {
 }
 
 #[test]
+fn a_header_is_that_of_the_framing() {
+    let mut connection = Connection::new(FULL).unwrap();
+    for (number, len) in [(0, 0), (1, 3), (2, 300), (3, FULL - 1)] {
+        let header = connection.encode_header(len).unwrap();
+        assert_eq!(header, framed(number, &vec![0; len])[..4]);
+    }
+    assert_eq!(connection.encode_header(FULL), Err(Error::PacketTooLarge));
+    assert_eq!(connection.sequence_id(), Ok(4));
+}
+
+#[test]
 fn a_connection_moves_between_threads() {
     let mut connection = Connection::new(1).unwrap();
     connection.feed(&framed(0, b"a")).unwrap();
