@@ -50,34 +50,48 @@ pub struct PacketCodec {
 // where another call comes than one that hands out the next of them, it is set back to its number.
 #[derive(Debug)]
 struct Judged {
-    // Those from `next` on, up to `end`; behind them stands `NOWHERE`.
+    // Those from `next` on, up to `end`, where `NOWHERE` stands. The first was handed out at once; so
+    // its place is free for that where all others are taken.
     places: [Place; MOST_JUDGED],
     next: usize,
     end: usize,
-    // The number of the first of them, which was handed out at once.
-    first_id: u8,
+    // The number of the next of them, as the highest byte.
+    next_id: u32,
 }
 
 impl Judged {
-    // The number of the next of them.
+    // The length of the next of them.
     #[inline]
-    fn id(&self) -> u8 {
-        self.first_id.wrapping_add(self.next as u8)
+    fn next_len(&self) -> usize {
+        self.places[self.next % MOST_JUDGED].payload_len()
     }
 
+    // So many are judged, from this number on.
     #[inline]
-    fn none_left(&mut self) {
+    fn begin(&mut self, count: usize, id: u8) {
+        (self.next, self.end) = (0, count);
+        self.next_id = u32::from(id) << 24;
+        self.places[count % MOST_JUDGED] = Place::NOWHERE;
+    }
+
+    // The next of them is handed out.
+    #[inline]
+    fn step(&mut self) {
+        self.next += 1;
+        self.next_id = self.next_id.wrapping_add(1 << 24);
+    }
+
+    // None is left.
+    fn end(&mut self) {
         self.end = self.next;
-        if let Some(place) = self.places.get_mut(self.end) {
-            *place = Place::NOWHERE;
-        }
+        self.places[self.end % MOST_JUDGED] = Place::NOWHERE;
     }
 }
 
 impl Default for PacketCodec {
     fn default() -> PacketCodec {
         let limit = DEFAULT_MAX_ALLOWED_PACKET;
-        let judged = Judged { places: [Place::NOWHERE; MOST_JUDGED], next: 0, end: 0, first_id: 0 };
+        let judged = Judged { places: [Place::NOWHERE; MOST_JUDGED], next: 0, end: 0, next_id: 0 };
         PacketCodec { max_allowed_packet: limit, connection: None, limit, is_begun: false, judged }
     }
 }
@@ -123,9 +137,9 @@ impl PacketCodec {
         let &[a, b, c, d, ref bytes @ ..] = src else {
             return None;
         };
-        let len = self.judged.places.get(self.judged.next)?.payload_len();
+        let len = self.judged.next_len();
         let fits = len <= bytes.len() && self.limit == self.max_allowed_packet;
-        let is_next = u32::from_le_bytes([a, b, c, d]) == header(len, self.judged.id());
+        let is_next = u32::from_le_bytes([a, b, c, d]) == len as u32 | self.judged.next_id;
         (fits && is_next).then_some(len)
     }
 
@@ -139,10 +153,10 @@ impl PacketCodec {
 
     #[cold]
     fn set_back(&mut self) {
-        self.judged.none_left();
+        self.judged.end();
         if let Some(connection) = &mut self.connection {
             // It is refused only where a packet is lent, and none is.
-            let _ = connection.set_sequence_id(self.judged.id());
+            let _ = connection.set_sequence_id((self.judged.next_id >> 24) as u8);
         }
     }
 
@@ -155,18 +169,14 @@ impl PacketCodec {
         };
         let (_, packets) = connection.decode_many(src, &mut judged.places);
         let (first, count) = (packets.first().copied(), packets.len());
-        (judged.next, judged.end) = (0, count);
-        if let Some(place) = judged.places.get_mut(count) {
-            *place = Place::NOWHERE;
-        }
-        judged.first_id = src.get(HEADER_LEN - 1).copied().unwrap_or_default();
+        judged.begin(count, src.get(HEADER_LEN - 1).copied().unwrap_or_default());
         Ok(first.map(Place::payload_len))
     }
 
     // Puts an accepted packet into `dst`.
     #[inline]
     fn hand_out(&mut self, len: usize, src: &mut BytesMut, dst: &mut impl BufMut) {
-        self.judged.next += 1;
+        self.judged.step();
         dst.put_slice(&src[HEADER_LEN..HEADER_LEN + len]);
         src.advance(HEADER_LEN + len);
     }
@@ -273,7 +283,7 @@ impl PacketCodec {
 
     /// Numbers the next packet 0, as at the start of a command.
     pub fn reset_seq_id(&mut self) {
-        self.judged.none_left();
+        self.judged.end();
         if let Some(connection) = &mut self.connection {
             // It is refused only where a packet is lent, and none is.
             let _ = connection.reset_seq_id();
@@ -282,12 +292,6 @@ impl PacketCodec {
 
     /// Changes nothing: it is there for the compressed protocol, which isn't.
     pub fn sync_seq_id(&mut self) {}
-}
-
-/// The four bytes of a header, as they are read.
-#[inline]
-fn header(len: usize, id: u8) -> u32 {
-    len as u32 | u32::from(id) << 24
 }
 
 /// Puts a header and a payload behind what is there, into room that was reserved.
