@@ -18,45 +18,50 @@ fn codec(limit: usize) -> PacketCodec {
     codec
 }
 
-// A payload framed so many times, once.
-fn frame_once(
-    codec: &mut PacketCodec,
-    payload: &[u8],
-    count: usize,
-    dst: &mut BytesMut,
-) -> Result<u64, Error> {
-    dst.clear();
-    codec.reset_seq_id();
-    for _ in 0..count {
-        codec.encode(&mut black_box(payload), dst)?;
+/// What a workload answers where anything is refused.
+const REFUSED: u64 = u64::MAX;
+
+// A payload framed so many times a repetition, in the form of `in_rust::frame`.
+fn frame(payload: &[u8], count: usize, reps: u64) -> u64 {
+    let (mut codec, mut dst) = (codec(payload.len()), BytesMut::new());
+    let mut sum = 0u64;
+    for _ in 0..reps {
+        dst.clear();
+        codec.reset_seq_id();
+        for _ in 0..count {
+            if codec.encode(&mut black_box(payload), &mut dst).is_err() {
+                return REFUSED;
+            }
+        }
+        sum = sum.wrapping_add(summary(&dst));
     }
-    Ok(summary(dst))
+    sum
 }
 
-// A stream appended in pieces and decoded, once.
-fn decode_once(
-    codec: &mut PacketCodec,
-    stream: &[u8],
-    piece: usize,
-    src: &mut BytesMut,
-    dst: &mut Vec<u8>,
-) -> Result<u64, Error> {
+fn drain(codec: &mut PacketCodec, src: &mut BytesMut, dst: &mut Vec<u8>) -> Result<u64, Error> {
     let mut sum = 0u64;
-    codec.reset_seq_id();
-    for part in stream.chunks(piece) {
-        src.extend_from_slice(black_box(part));
-        while codec.decode(src, dst)? {
-            sum = sum.wrapping_add(summary(dst));
-            dst.clear();
-        }
+    while codec.decode(src, dst)? {
+        sum = sum.wrapping_add(summary(dst));
+        dst.clear();
     }
     Ok(sum)
 }
 
-// So many times over; what was refused is answered as a number that no work has.
-fn repeated(reps: u64, mut once: impl FnMut() -> Result<u64, Error>) -> u64 {
-    let sums: Result<Vec<u64>, Error> = (0..reps).map(|_| once()).collect();
-    sums.map_or(u64::MAX, |sums| sums.into_iter().fold(0, u64::wrapping_add))
+// A stream decoded in pieces, in the form of `in_rust::decode`.
+fn decode(stream: &[u8], piece: usize, limit: usize, reps: u64) -> u64 {
+    let (mut codec, mut src, mut dst) = (codec(limit), BytesMut::new(), Vec::new());
+    let mut sum = 0u64;
+    for _ in 0..reps {
+        codec.reset_seq_id();
+        for part in stream.chunks(piece) {
+            src.extend_from_slice(black_box(part));
+            match drain(&mut codec, &mut src, &mut dst) {
+                Ok(value) => sum = sum.wrapping_add(value),
+                Err(_) => return REFUSED,
+            }
+        }
+    }
+    sum
 }
 
 fn encode_row(rows: &mut Vec<Row>, size: usize) {
@@ -71,10 +76,7 @@ fn encode_row(rows: &mut Vec<Row>, size: usize) {
         name: format!("cargo: encode {}, of encode", size_name(size)),
         items: count as u64,
         bytes: (size * count) as u64,
-        call: Box::new(move |reps| {
-            let (mut codec, mut dst) = (codec(size), BytesMut::new());
-            repeated(reps, || frame_once(&mut codec, &payload, count, &mut dst))
-        }),
+        call: Box::new(move |reps| frame(&payload, count, reps)),
         want: summary(&framed),
         copy: Box::new(move |reps| library::frame(&beside, count as u64, 1, reps)),
         rust: in_rust!(move |reps| in_rust::frame(&plain, count as u64, true, reps)),
@@ -91,10 +93,7 @@ fn decode_row(rows: &mut Vec<Row>, size: usize, piece: usize) {
         name: format!("cargo: decode {}{by}, of decode", size_name(size)),
         items: count as u64,
         bytes: (size * count) as u64,
-        call: Box::new(move |reps| {
-            let (mut codec, mut src, mut dst) = (codec(size), BytesMut::new(), Vec::new());
-            repeated(reps, || decode_once(&mut codec, &stream, step, &mut src, &mut dst))
-        }),
+        call: Box::new(move |reps| decode(&stream, step, size, reps)),
         want,
         copy: Box::new(move |reps| library::decode(&beside, piece as u64, size as u64, false, reps)),
         rust: in_rust!(move |reps| in_rust::decode(&plain, step, size, false, reps)),
