@@ -539,11 +539,8 @@ impl Connection {
         *count = 0;
         *used = 0;
         match self.front {
-            Front::Unfinished => {}
-            Front::InPlace | Front::Copied | Front::Lost => return,
-        }
-        if !self.src.is_empty() || !self.dst.is_empty() {
-            return;
+            Front::Unfinished if self.src.is_empty() && self.dst.is_empty() => {}
+            _ => return,
         }
         let (packets, len, id) = lend_all(self.codec.max_allowed_packet, self.id, bytes, spans);
         *count = packets;
