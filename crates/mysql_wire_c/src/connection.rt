@@ -1,14 +1,13 @@
 //! One side of a connection: a codec with its buffers.
 
-ghost use Rattle.std.specs.Prelude.{◌≡◌, ◌≢◌, ◌⊎◌, ◌↔◌, ℕ, List, [], ◌+◌, ◌-◌, ◌/◌, ◌%◌, ◌<◌, ◌≤◌, ◌++◌, length, take, drop, min, None, Ok, Err, true, false, IfSome, IfNone, IsSome, OnOk, OnErr};
-ghost use Rattle.wire_codec.specs.declared.codec.error.PacketCodecError.TheVariants.{OutOfMemory, PacketTooLarge, PacketsOutOfSync};
+ghost use Rattle.std.specs.Prelude.{◌≡◌, ◌≢◌, ◌⊎◌, ◌↔◌, ℕ, List, [], ◌+◌, ◌-◌, ◌/◌, ◌%◌, ◌<◌, ◌≤◌, ◌++◌, length, take, drop, min, None, IfSome, IfNone, IsSome, OnOk, OnErr};
 ghost use Rattle.wire_codec.specs.Codec.{codec_state, Stands};
 ghost use Rattle.wire_codec.specs.Framing.{max_payload, framing};
-ghost use Rattle.wire_codec.specs.LimitedRuns.{DecodesAligned};
 ghost use Rattle.wire_codec.specs.Laws.{appended, empty_state};
 ghost use Rattle.wire_codec.specs.InPlace.{HasFront, behind_front};
 ghost use Rattle.mysql_wire_c.specs.Side.{IsReady, IsNumbered, is_lost_at, lent_at, behind_lent, side_of};
-ghost use Rattle.mysql_wire_c.specs.Answers.{new_connection, holding};
+ghost use Rattle.mysql_wire_c.specs.Answers.{new_connection};
+ghost use Rattle.mysql_wire_c.specs.Finding.{Finds};
 ghost use Rattle.mysql_wire_c.specs.Decoding.{Decodes, DecodesMany, FeedsFront, HasPacketIn, LendsFrom, LendsInTurn};
 ghost use Rattle.mysql_wire_c.specs.Calls.{Feeds, Peeks, LendsInPlace, Takes, CopiesNext, SetsLimit, unread_count, Encodes, EncodesTo, EncodesHeader, Sends, Resets, SetsId, Numbers};
 
@@ -184,26 +183,8 @@ fn find(
     ensures ready { IsReady front.new (codec_state codec.new src.new.items dst.new.items) }
     ensures numbered { IsNumbered front.new id.new codec.new }
 
-    ensures packet { let after = codec_state codec.new src.new.items dst.new.items in
-        result ≡ PACKET → IfSome (lent_at front.new after) (λ packet. DecodesAligned
-        (codec_state codec.old src.old.items dst.old.items) (Ok true)
-        (holding packet (behind_lent front.new after))) }
-    ensures lent { let after = codec_state codec.new src.new.items dst.new.items in
-        result ≡ PACKET → IsSome (lent_at front.new after) }
-    ensures waits { let after = codec_state codec.new src.new.items dst.new.items in
-        result ≡ WAITS → (front.new ≡ Front.Unfinished) × DecodesAligned
-        (codec_state codec.old src.old.items dst.old.items) (Ok false) after }
-    ensures too_large { let after = codec_state codec.new src.new.items dst.new.items in
-        result ≡ TOO_LARGE → (front.new ≡ Front.Unfinished) × DecodesAligned
-        (codec_state codec.old src.old.items dst.old.items) (Err PacketTooLarge) after }
-    ensures memory { let after = codec_state codec.new src.new.items dst.new.items in
-        result ≡ NO_MEMORY → (front.new ≡ Front.Unfinished) × DecodesAligned
-        (codec_state codec.old src.old.items dst.old.items) (Err OutOfMemory) after }
-    ensures lost { let after = codec_state codec.new src.new.items dst.new.items in
-        result ≡ OUT_OF_SYNC → (front.new ≡ Front.Lost) × DecodesAligned
-        (codec_state codec.old src.old.items dst.old.items) (Err PacketsOutOfSync) after }
-    ensures answers { (result ≡ PACKET) ⊎ (result ≡ WAITS) ⊎ (result ≡ TOO_LARGE)
-        ⊎ (result ≡ NO_MEMORY) ⊎ (result ≡ OUT_OF_SYNC) }
+    ensures finds { Finds result (codec_state codec.old src.old.items dst.old.items)
+        front.new (codec_state codec.new src.new.items dst.new.items) }
     // A packet that lies in front is lent there.
     ensures in_place { let before = codec_state codec.old src.old.items dst.old.items in
         Stands before → HasFront before → (result ≡ PACKET) × (front.new ≡ Front.InPlace) }
