@@ -68,7 +68,7 @@ impl Judged {
 
     // So many are judged, from this number on.
     #[inline]
-    fn begin(&mut self, count: usize, id: u8) {
+    fn fill(&mut self, count: usize, id: u8) {
         (self.next, self.end) = (0, count);
         self.next_id = u32::from(id) << 24;
         self.places[count % MOST_JUDGED] = Place::NOWHERE;
@@ -82,7 +82,7 @@ impl Judged {
     }
 
     // None is left.
-    fn end(&mut self) {
+    fn clear(&mut self) {
         self.end = self.next;
         self.places[self.end % MOST_JUDGED] = Place::NOWHERE;
     }
@@ -153,7 +153,7 @@ impl PacketCodec {
 
     #[cold]
     fn set_back(&mut self) {
-        self.judged.end();
+        self.judged.clear();
         if let Some(connection) = &mut self.connection {
             // It is refused only where a packet is lent, and none is.
             let _ = connection.set_sequence_id((self.judged.next_id >> 24) as u8);
@@ -169,7 +169,7 @@ impl PacketCodec {
         };
         let (_, packets) = connection.decode_many(src, &mut judged.places);
         let (first, count) = (packets.first().copied(), packets.len());
-        judged.begin(count, src.get(HEADER_LEN - 1).copied().unwrap_or_default());
+        judged.fill(count, src.get(HEADER_LEN - 1).copied().unwrap_or_default());
         Ok(first.map(Place::payload_len))
     }
 
@@ -283,7 +283,7 @@ impl PacketCodec {
 
     /// Numbers the next packet 0, as at the start of a command.
     pub fn reset_seq_id(&mut self) {
-        self.judged.end();
+        self.judged.clear();
         if let Some(connection) = &mut self.connection {
             // It is refused only where a packet is lent, and none is.
             let _ = connection.reset_seq_id();
