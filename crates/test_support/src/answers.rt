@@ -34,6 +34,14 @@ pub fn told<T>(answer: Result<T, WireError>) -> Result<T, Fault> {
     }
 }
 
+/// Why nothing was answered, where nothing was.
+pub fn fault_of<T: Drop>(answer: Result<T, WireError>) -> Option<Fault> {
+    match answer {
+        Ok(_) => None,
+        Err(error) => Some(Fault::of(&error)),
+    }
+}
+
 /// Whether the value is shown as this text for debugging.
 pub fn shows_debug<T: Debug>(alloc: Global, value: &T, text: &str) -> bool {
     match format!(in alloc; "{value:?}") {

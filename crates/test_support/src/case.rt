@@ -1,6 +1,6 @@
 //! A stream beside its reference reading, and whether a run ends as the reading says.
 
-use crate::fixture::raise_to;
+use crate::facts::same;
 use crate::receiver::{Receiver, Run, are_packets, pieces_from};
 use crate::reference::{Reading, between, reading_of};
 use crate::told::Told;
@@ -33,11 +33,11 @@ pub fn are_same<A: Allocator>(packets: &[Vec<u8, A>], wanted: &[Vec<u8>]) -> boo
     if packets.len() != wanted.len() {
         return false;
     }
-    let mut same = true;
+    let mut all = true;
     for i in 0..packets.len() {
-        same &= packets[i].as_slice() == wanted[i].as_slice();
+        all &= same(packets[i].as_slice(), wanted[i].as_slice());
     }
-    same
+    all
 }
 
 // Whether the pieces one after another are these bytes.
@@ -70,14 +70,14 @@ impl<'a> Case<'a> {
     /// A receiver that expects the case's first id under its limit.
     pub fn receiver<A: Allocator + Copy>(&self, alloc: A) -> Receiver<A> {
         let mut receiver = Receiver::new(alloc, self.limit);
-        raise_to(&mut receiver.codec, alloc, self.first_id);
+        receiver.codec.set_sequence_id(self.first_id);
         receiver
     }
 
     // Whether these packets came out, and these bytes are held.
     fn is_delivered<A: Allocator + Copy>(&self, receiver: &Receiver<A>) -> bool {
         are_same(receiver.out.as_slice(), self.reading.packets.as_slice())
-            && receiver.dst.as_slice() == self.reading.held.as_slice()
+            && same(receiver.dst.as_slice(), self.reading.held.as_slice())
     }
 
     // Whether what stands in `src`, and then the pieces that were not appended, are left.
@@ -107,7 +107,7 @@ impl<'a> Case<'a> {
     /// reading says: no more pieces were appended than are needed, and no id is raised twice.
     pub fn is_ended<A: Allocator + Copy>(
         &self,
-        receiver: &mut Receiver<A>,
+        receiver: &Receiver<A>,
         there: usize,
         pieces: &[&[u8]],
         run: Run,
@@ -115,7 +115,7 @@ impl<'a> Case<'a> {
         let (count, told) = run;
         self.ends(receiver, told, pieces_from(pieces, count))
             && count == least_count(self.reading.shown_at, there, pieces)
-            && receiver.next_id() == Some(self.reading.next_id)
+            && receiver.codec.sequence_id() == self.reading.next_id
     }
 
     /// Whether the stream in pieces, the first bytes in `src` and the first pieces in a run of
@@ -124,7 +124,7 @@ impl<'a> Case<'a> {
         let mut receiver = self.receiver(alloc);
         let comes = receiver.src.extend_from_slice(src).is_ok();
         let run = receiver.deliver_in_two(pieces, first);
-        comes && self.is_ended(&mut receiver, src.len(), pieces, run)
+        comes && self.is_ended(&receiver, src.len(), pieces, run)
     }
 
     /// Whether it is so where the first run stops at a lower limit, and the next goes on under the
@@ -151,7 +151,7 @@ impl Wanted<'_> {
     pub fn is_read(&self, reading: &Reading) -> bool {
         are_packets(reading.packets.as_slice(), self.packets)
             && reading.told == self.told
-            && reading.held.as_slice() == self.held
+            && same(reading.held.as_slice(), self.held)
             && reading.left == self.left
     }
 }

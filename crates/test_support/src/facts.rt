@@ -12,7 +12,7 @@ pub fn are_parts(bytes: &[u8], parts: [&[u8]; 3]) -> bool {
     let [first, second, third] = parts;
     let (front, rest) = bytes.split_at(first.len().min(bytes.len()));
     let (middle, end) = rest.split_at(second.len().min(rest.len()));
-    (front == first) & (middle == second) & (end == third)
+    same(front, first) & same(middle, second) & same(end, third)
 }
 
 /// Fails the test with the number of the row that goes otherwise, counted from 0, if there is one.

@@ -1,7 +1,8 @@
 //! A value of any type that is a field of packets: how it is written and read back, and what is
 //! left where its end is missing or memory is refused.
 
-use crate::answers::{Fault, told};
+use crate::answers::{Fault, fault_of};
+use crate::facts::same;
 use crate::fixture::Heap;
 use crate::reference::between;
 use refusing_allocator::NEVER;
@@ -21,9 +22,9 @@ pub fn last(bytes: &[u8], count: usize) -> &[u8] {
 }
 
 /// Bytes one after another.
-pub fn joined<'h>(heap: &'h Heap, parts: &[&[u8]]) -> Vec<u8, &'h Heap> {
+pub fn joined<A: Allocator>(heap: &Heap, alloc: A, parts: &[&[u8]]) -> Vec<u8, A> {
     heap.refuse(NEVER);
-    let mut bytes = Vec::new(heap);
+    let mut bytes = Vec::new(alloc);
     for part in parts {
         let _ = bytes.extend_from_slice(*part);
     }
@@ -50,25 +51,28 @@ pub fn full<A: Allocator>(heap: &Heap, alloc: A) -> Vec<u8, A> {
 // Whether these bytes stand behind the byte that was there.
 fn is_behind(buf: &[u8], bytes: &[u8]) -> bool {
     match buf {
-        [first, rest @ ..] => (*first == 0xaa) & (rest == bytes),
+        [first, rest @ ..] => (*first == 0xaa) & same(rest, bytes),
         [] => false,
     }
 }
 
 // Whether a value is refused where request number `nth` is. None where something else is written
 // than these bytes, by the first call or, where that is refused, by the next.
-fn is_refused<T: MySerialize>(heap: &Heap, value: &T, bytes: &[u8], nth: u64) -> Option<bool> {
-    let mut buf = full(heap, heap);
+fn is_refused<T: MySerialize, A: Allocator>(
+    heap: &Heap,
+    alloc: A,
+    value: &T,
+    bytes: &[u8],
+    nth: u64,
+) -> Option<bool> {
+    let mut buf = full(heap, alloc);
     heap.refuse(nth);
-    let answer = told(value.serialize(&mut buf));
+    let fault = fault_of(value.serialize(&mut buf));
     let refused = heap.has_refused();
-    let mut all = true;
+    let mut all = fault.is_some() == refused;
     if refused {
-        all &= answer == Err(Fault::OutOfMemory);
-        all &= is_behind(buf.as_slice(), b"");
+        all &= (fault == Some(Fault::OutOfMemory)) & is_behind(buf.as_slice(), b"");
         all &= value.serialize(&mut buf).is_ok();
-    } else {
-        all &= answer.is_ok();
     }
     (all & is_behind(buf.as_slice(), bytes)).then_some(refused)
 }
@@ -77,7 +81,7 @@ fn is_refused<T: MySerialize>(heap: &Heap, value: &T, bytes: &[u8], nth: u64) ->
 // bytes. None where a refused call leaves something, or something else is written.
 fn refusals<T: MySerialize>(heap: &Heap, value: &T, bytes: &[u8]) -> Option<u64> {
     for nth in 0..MOST {
-        if !is_refused(heap, value, bytes, nth)? {
+        if !is_refused(heap, heap, value, bytes, nth)? {
             return Some(nth);
         }
     }
@@ -162,7 +166,7 @@ where
     T: PartialEq + MyDeserialize<'de, A, Ctx = C>,
 {
     match parse_packet_in::<T, A>(alloc, ctx, input) {
-        Ok((value, rest)) => (value == *wanted) & (rest.0 == last(input, left)),
+        Ok((value, rest)) => (value == *wanted) & same(rest.0, last(input, left)),
         Err(_) => false,
     }
 }
@@ -174,11 +178,8 @@ where
     T: MyDeserialize<'de, A, Ctx = C>,
 {
     let mut buf = ParseBuf(input);
-    let is_fault = match buf.parse_in::<T, A>(alloc, ctx) {
-        Ok(_) => false,
-        Err(error) => Fault::of(&error) == fault,
-    };
-    is_fault & (buf.0 == last(input, left))
+    let answer = fault_of(buf.parse_in::<T, A>(alloc, ctx));
+    (answer == Some(fault)) & same(buf.0, last(input, left))
 }
 
 /// Whether this value is read from the first `len` bytes of the input, whatever follows, and none

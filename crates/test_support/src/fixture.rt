@@ -37,16 +37,6 @@ pub fn is_filled(bytes: &[u8], len: usize) -> bool {
     all
 }
 
-/// The codec's next id becomes this one, counted from 0.
-pub fn raise_to<A: Allocator + Copy>(codec: &mut PacketCodec, alloc: A, id: u8) {
-    let mut other = BytesMut::new(alloc);
-    codec.reset_seq_id();
-    for _ in 0..id {
-        let mut packet = b"".as_slice();
-        let _ = codec.encode(&mut packet, &mut other);
-    }
-}
-
 /// A codec and a decoder of single chunks, what they read, and what they put the payload into.
 #[derive(Drop)]
 pub struct Fixture<'h, A: Allocator, T> {
@@ -125,11 +115,6 @@ impl<'h, A: Allocator + Copy, T: Target> Fixture<'h, A, T> {
             Ok(bytes) => self.replace_dst(bytes.as_slice()),
             Err(_) => false,
         }
-    }
-
-    /// The codec's next id becomes this one.
-    pub fn raise_to(&mut self, id: u8) {
-        raise_to(&mut self.codec, self.alloc, id);
     }
 
     pub fn stands(&self) -> bool {

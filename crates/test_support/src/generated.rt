@@ -39,31 +39,32 @@ pub struct Stream {
     pub lens: Vec<usize>,
 }
 
+// Fills the front of some bytes, and gives it.
+fn payload<'a>(draws: &mut Draws, bytes: &'a mut [u8]) -> &'a [u8] {
+    let len = draws.below(7).min(bytes.len());
+    for i in 0..len {
+        bytes[i] = low_byte(draws.below(4));
+    }
+    &bytes[..len]
+}
+
 impl Stream {
-    // Puts one small packet behind the others.
-    fn add(&mut self, alloc: Global, draws: &mut Draws, id: u8) -> Result<(), AllocError> {
-        let mut payload = Vec::new(alloc);
-        for _ in 0..draws.below(7) {
-            payload.push(low_byte(draws.below(4)))?;
-        }
+    // Puts a packet behind the others.
+    fn put(&mut self, id: u8, payload: &[u8]) -> Result<(), AllocError> {
         self.headers.push(self.bytes.len())?;
         self.lens.push(payload.len())?;
-        put_framing(&mut self.bytes, id, payload.as_slice())
+        put_framing(&mut self.bytes, id, payload)
     }
 
-    // A few small packets, their ids beginning with this one.
-    fn well_formed(alloc: Global, draws: &mut Draws, first_id: u8) -> Result<Stream, AllocError> {
-        let mut stream = Stream {
-            bytes: Vec::new(alloc),
-            headers: Vec::new(alloc),
-            lens: Vec::new(alloc),
-        };
+    // Puts a few small packets, their ids beginning with this one.
+    fn fill(&mut self, draws: &mut Draws, first_id: u8) -> Result<(), AllocError> {
         let mut id = first_id;
         for _ in 0..draws.below(6) {
-            stream.add(alloc, draws, id)?;
+            let mut bytes = [0u8; 6];
+            self.put(id, payload(draws, &mut bytes))?;
             id = id.wrapping_add(1);
         }
-        Ok(stream)
+        Ok(())
     }
 
     fn set(&mut self, at: usize, byte: u8) {
@@ -97,7 +98,12 @@ impl Stream {
 
     /// A few small packets, of which one may be damaged.
     pub fn damaged(alloc: Global, draws: &mut Draws, first_id: u8) -> Result<Stream, AllocError> {
-        let mut stream = Stream::well_formed(alloc, draws, first_id)?;
+        let mut stream = Stream {
+            bytes: Vec::new(alloc),
+            headers: Vec::new(alloc),
+            lens: Vec::new(alloc),
+        };
+        stream.fill(draws, first_id)?;
         stream.damage(draws);
         Ok(stream)
     }

@@ -26,7 +26,7 @@ fn is_number<T: IntRepr, A: Allocator + Copy>(
 ) -> bool {
     let (number, bytes, back) = *row;
     let is_written = is_written(heap, &RawInt::<T>::new(number), bytes);
-    let input = joined(heap, &[bytes, MORE]);
+    let input = joined(heap, alloc, &[bytes, MORE]);
     is_written
         & is_spelled::<T, A>(
             heap,

@@ -1,7 +1,7 @@
 //! A codec to which a stream is given in pieces.
 
 use crate::answers::{Fault, told};
-use crate::facts::are_parts;
+use crate::facts::{are_parts, same};
 use crate::fixture::Heap;
 use crate::told::Told;
 use bytes::{Buf, BytesMut};
@@ -74,16 +74,6 @@ impl<A: Allocator + Copy> Receiver<A> {
     pub fn encode_text(&mut self, text: &[u8]) -> Told {
         let value = RawBytes::<EofBytes>::from(text);
         Told::of_encode(encode_value(&mut self.codec, &value, &mut self.src))
-    }
-
-    /// The id that the codec gives the next chunk. It is raised by this.
-    pub fn next_id(&mut self) -> Option<u8> {
-        let mut other = BytesMut::new(self.alloc);
-        let mut packet = b"".as_slice();
-        match self.codec.encode(&mut packet, &mut other) {
-            Ok(()) => other.as_slice().last().copied(),
-            Err(_) => None,
-        }
     }
 
     pub fn stands(&self) -> bool {
@@ -223,8 +213,8 @@ impl<A: Allocator + Copy> Receiver<A> {
     /// Whether these packets came out, and these bytes stand in `src` and in `dst`.
     pub fn shows(&self, packets: &[&[u8]], src: &[u8], dst: &[u8]) -> bool {
         are_packets(self.out.as_slice(), packets)
-            && self.src.as_slice() == src
-            && self.dst.as_slice() == dst
+            && same(self.src.as_slice(), src)
+            && same(self.dst.as_slice(), dst)
     }
 }
 
@@ -238,11 +228,11 @@ pub fn are_packets<A: Allocator>(packets: &[Vec<u8, A>], wanted: &[&[u8]]) -> bo
     if packets.len() != wanted.len() {
         return false;
     }
-    let mut same = true;
+    let mut all = true;
     for i in 0..packets.len() {
-        same &= packets[i].as_slice() == wanted[i];
+        all &= same(packets[i].as_slice(), wanted[i]);
     }
-    same
+    all
 }
 
 /// Whether a packet of two pieces was refused, and neither it nor the buffer, which holds `ab`, is
@@ -265,8 +255,8 @@ pub fn frames<A: Allocator + Copy>(
     let refused = next_id == Err(Fault::OutOfMemory);
     let mut all = true;
     if refused {
-        all &= to.src.as_slice() == b"ab".as_slice();
-        all &= (packet.chunk() == first) & (packet.remaining() == len);
+        all &= same(to.src.as_slice(), b"ab");
+        all &= same(packet.chunk(), first) & (packet.remaining() == len);
         next_id = to.frame(id, &mut packet);
     }
     all &= (next_id == Ok(id.wrapping_add(1))) & (packet.remaining() == 0);

@@ -127,11 +127,12 @@ fn id_at(first_id: u8, i: usize) -> u8 {
 // How many bytes of a packet stand before chunk number `i`.
 fn held_before(places: &[Place], i: usize) -> usize {
     let mut held = 0usize;
-    for place in places.iter().take(i) {
-        held = if place.is_last() {
+    for k in 0..i.min(places.len()) {
+        let len = places[k].len();
+        held = if len < MAX_PAYLOAD_LEN {
             0
         } else {
-            held.saturating_add(place.len())
+            held.saturating_add(len)
         };
     }
     held
@@ -240,8 +241,8 @@ pub fn reading_of(
     let places = whole_chunks(alloc, stream)?;
     let count = good_count(places.as_slice(), first_id, limit);
     let mut reading = Reading::new(alloc, id_at(first_id, count));
-    for place in places.iter().take(count) {
-        reading.take(alloc, stream, *place)?;
+    for i in 0..count.min(places.len()) {
+        reading.take(alloc, stream, places[i])?;
     }
     reading.stop(stream, limit)?;
     Ok(reading)

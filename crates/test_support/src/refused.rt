@@ -60,7 +60,7 @@ fn deliver_over<A: Allocator + Copy>(
     let ended = deliver_on(heap, &mut receiver, pieces, many);
     heap.refuse(NEVER);
     let (count, told, refused) = ended?;
-    let is_ended = case.is_ended(&mut receiver, 0, pieces, (count, told));
+    let is_ended = case.is_ended(&receiver, 0, pieces, (count, told));
     is_ended.then_some(refused)
 }
 

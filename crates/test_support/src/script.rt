@@ -1,5 +1,6 @@
 //! The steps of a test as a table.
 
+use crate::facts::same;
 use crate::fixture::{Fixture, Remembered, decoder_of, is_filled};
 use crate::targets::{Counting, Target};
 use crate::told::Told;
@@ -79,7 +80,7 @@ impl<A: Allocator + Copy, T: Target> Fixture<'_, A, T> {
             Step::Fresh => self.codec = PacketCodec::default(),
             Step::Limit(limit) => self.codec.max_allowed_packet = limit,
             Step::Reset => self.codec.reset_seq_id(),
-            Step::Id(id) => self.raise_to(id),
+            Step::Id(id) => self.codec.set_sequence_id(id),
             Step::Sync => self.codec.sync_seq_id(),
             Step::Remember(remembered) => self.decoder = decoder_of(remembered),
             Step::Refuse(nth) => self.refuse(nth),
@@ -99,8 +100,8 @@ impl<A: Allocator + Copy, T: Target> Fixture<'_, A, T> {
             }
             Step::Dst(bytes) => self.replace_dst(bytes),
             Step::DstMany(len) => self.replace_dst_many(len),
-            other => {
-                self.changes(other);
+            _ => {
+                self.changes(step);
                 true
             }
         }
@@ -115,30 +116,31 @@ impl<A: Allocator + Copy, T: Target> Fixture<'_, A, T> {
             Step::Grew(growths, room) => self.grew(growths, room),
             Step::Unasked(left) => self.requests().0 == left,
             Step::Refused(refused) => self.requests().1 == refused,
-            other => self.comes(other),
+            _ => self.comes(step),
         }
     }
 
     // Whether the bytes stand there.
     fn shows(&mut self, step: Step) -> bool {
         match step {
-            Step::Left(bytes) => self.src.as_slice() == bytes,
+            Step::Left(bytes) => same(self.src.as_slice(), bytes),
             Step::LeftMany(len) => self.src.len() == len,
-            Step::Held(bytes) => self.dst.as_ref() == bytes,
+            Step::Held(bytes) => same(self.dst.as_ref(), bytes),
             Step::HeldMany(len) => is_filled(self.dst.as_ref(), len),
-            other => self.is_so(other),
+            _ => self.is_so(step),
         }
     }
 
     /// Whether this step goes as it says.
     pub fn goes(&mut self, step: Step) -> bool {
-        match step {
-            Step::Encode(payload, told) => self.encode(payload) == told,
-            Step::EncodeMany(len, told) => self.encode_many(len) == told,
-            Step::Decode(told) => self.decode() == told,
-            Step::Chunk(limit, told) => self.decode_chunk(limit) == told,
-            other => self.shows(other),
-        }
+        let (answer, told) = match step {
+            Step::Encode(payload, told) => (self.encode(payload), told),
+            Step::EncodeMany(len, told) => (self.encode_many(len), told),
+            Step::Decode(told) => (self.decode(), told),
+            Step::Chunk(limit, told) => (self.decode_chunk(limit), told),
+            _ => return self.shows(step),
+        };
+        answer == told
     }
 
     /// Goes through these steps, and gives the number of the first that goes otherwise.
@@ -174,11 +176,16 @@ impl Script {
     }
 }
 
+// The number of the first step that goes otherwise with this target.
+fn fault_with<T: Target>(alloc: Global, dst: T, steps: &[Step]) -> Option<usize> {
+    Fixture::new(alloc, None, dst).fault(steps)
+}
+
 /// The number of the first of these steps that goes otherwise with some kind of target.
 pub fn first_fault(alloc: Global, steps: &[Step]) -> Option<usize> {
-    let vec = Fixture::new(alloc, None, Vec::new(alloc)).fault(steps);
-    let bytes = Fixture::new(alloc, None, BytesMut::new(alloc)).fault(steps);
-    let counting = Fixture::new(alloc, None, Counting::new(alloc)).fault(steps);
+    let vec = fault_with(alloc, Vec::new(alloc), steps);
+    let bytes = fault_with(alloc, BytesMut::new(alloc), steps);
+    let counting = fault_with(alloc, Counting::new(alloc), steps);
     vec.or(bytes).or(counting)
 }
 

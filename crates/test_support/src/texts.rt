@@ -53,7 +53,7 @@ pub fn is_text<T: BytesRepr<Ctx = C>, C: Copy, A: Allocator + Copy>(
     (front, text, cut, end, least): Text<'_>,
     short: Short,
 ) -> bool {
-    let input = joined(heap, &[front, cut, end, MORE]);
+    let input = joined(heap, alloc, &[front, cut, end, MORE]);
     let input = input.as_slice();
     let len = input.len().saturating_sub(MORE.len());
     let value = RawBytes::<T, A>::from(text);
