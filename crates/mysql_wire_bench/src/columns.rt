@@ -175,6 +175,12 @@ pub extern "C" fn mw_coldef_by_hand(alloc: Global, bytes: &[u8], reps: u64) -> u
     sum
 }
 
+// Writes what was read.
+#[inline(always)]
+fn put<T: MySerialize + Drop>(value: Result<T, WireError>, out: &mut Vec<u8>) -> Option<()> {
+    value.ok()?.serialize(out).ok()
+}
+
 // Each definition read as a field and written again.
 fn copy_definitions(alloc: Global, bytes: &[u8], out: &mut Vec<u8>) -> Option<u64> {
     let mut buf = ParseBuf(bytes);
@@ -183,7 +189,7 @@ fn copy_definitions(alloc: Global, bytes: &[u8], out: &mut Vec<u8>) -> Option<u6
         if buf.is_empty() {
             break;
         }
-        read(alloc, &mut buf).ok()?.serialize(out).ok()?;
+        put(read(alloc, &mut buf), out)?;
     }
     Some(summary(out.as_slice()))
 }
