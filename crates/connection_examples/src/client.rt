@@ -36,21 +36,48 @@ fn without_last(bytes: &[u8]) -> &[u8]
     &bytes[..bytes.len().saturating_sub(1)]
 }
 
+// The capabilities that a greeting and a login have.
+fn agreed(greeting: HandshakeV10<'_>, login: &HandshakeResponse41<'_>) -> CapabilityFlags
+    ensures { capability_flags_bits result
+        ≡ bit_and (server_bits greeting.entry) login.now.client_flag.0 }
+{
+    greeting
+        .capabilities()
+        .intersection(CapabilityFlags::from_bits_retain(login.client_flag.0))
+}
+
+// Sends what answers a plugin.
+fn send_answer(
+    line: &mut Line,
+    answer: &[u8],
+    output: &mut BytesMut<impl Allocator + Copy>,
+) -> Result<(), PacketCodecError>
+    ensures sent { OnOk result (output.new.items ≡ output.old.items
+        ++ framing (expected_id line.old.codec) answer.now) }
+    ensures next { OnOk result (expected_id line.new.codec
+        ≡ next_id (expected_id line.old.codec) answer.now) }
+{
+    let response = AuthSwitchResponse {
+        data: RawBytes::from(answer),
+    };
+    line.send(&response, output)
+}
+
 /// The client waits for the server's first packet.
-#[derive(Debug, Drop)]
+#[derive(Drop)]
 pub struct Connecting {
     pub line: Line,
 }
 
 /// The server has greeted, and the client is to answer.
-#[derive(Debug, Drop)]
+#[derive(Drop)]
 pub struct Greeted<'a> {
     pub line: Line,
     pub greeting: HandshakeV10<'a>,
 }
 
 /// What the server said first.
-#[derive(Debug, Drop)]
+#[derive(Drop)]
 pub enum Greeting<'a> {
     Greeted(Greeted<'a>),
     /// It refuses the connection.
@@ -58,7 +85,7 @@ pub enum Greeting<'a> {
 }
 
 /// The client has logged in, or answered a plugin, and waits for what comes of it.
-#[derive(Debug, Drop)]
+#[derive(Drop)]
 pub struct Waiting {
     pub line: Line,
     /// Those that both sides have.
@@ -66,21 +93,21 @@ pub struct Waiting {
 }
 
 /// A plugin waits for the client's answer.
-#[derive(Debug, Drop)]
+#[derive(Drop)]
 pub struct Asked {
     pub line: Line,
     pub capabilities: CapabilityFlags,
 }
 
 /// The client is in, and the next packet is its command.
-#[derive(Debug, Drop)]
+#[derive(Drop)]
 pub struct LoggedIn {
     pub line: Line,
     pub capabilities: CapabilityFlags,
 }
 
 /// What came of a login.
-#[derive(Debug, Drop)]
+#[derive(Drop)]
 pub enum Outcome<'a> {
     Done(LoggedIn, OkPacket<'a>),
     Failed(ErrPacket<'a>),
@@ -224,9 +251,11 @@ impl<'a> Greeted<'a> {
             × (expected_id greeted.line.codec ≡ next_id (expected_id self.entry.line.codec)
             (⟦<SslRequest as MySerialize>⟧.bytes request.now))) }
     {
-        let Greeted { mut line, greeting } = self;
-        line.send(request, output)?;
-        Ok(Greeted { line, greeting })
+        let mut greeted = self;
+        match greeted.line.send(request, output) {
+            Ok(()) => Ok(greeted),
+            Err(error) => Err(error),
+        }
     }
 
     /// Logs in. In force are the capabilities that the login and the greeting have.
@@ -244,10 +273,8 @@ impl<'a> Greeted<'a> {
         ensures capabilities { IfOk result (λ waiting. capability_flags_bits waiting.capabilities
             ≡ bit_and (server_bits self.entry.greeting) login.now.client_flag.0) }
     {
-        let Greeted { mut line, greeting } = self;
-        let capabilities = greeting
-            .capabilities()
-            .intersection(CapabilityFlags::from_bits_retain(login.client_flag.0));
+        let mut line = self.line;
+        let capabilities = agreed(self.greeting, login);
         line.send(login, output)?;
         Ok(Waiting { line, capabilities })
     }
@@ -315,10 +342,7 @@ impl Asked {
             capabilities,
         } = self;
         let answer = secret.answer(alloc, plugin, plugin_data)?;
-        let response = AuthSwitchResponse {
-            data: RawBytes::from(answer.as_slice()),
-        };
-        line.send(&response, output)?;
+        send_answer(&mut line, answer.as_slice(), output)?;
         Ok(Waiting { line, capabilities })
     }
 

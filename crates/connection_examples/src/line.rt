@@ -12,7 +12,7 @@ use mysql_wire::proto::codec::{PacketCodec, encode_value};
 use std::alloc::Allocator;
 
 /// A codec between two packets.
-#[derive(Debug, Drop)]
+#[derive(Drop)]
 pub struct Line {
     pub codec: PacketCodec,
     ghost idle: { header_of codec ≡ None },

@@ -27,13 +27,13 @@ use mysql_wire_packets::places::{PayloadError, read_whole};
 use std::alloc::{Allocator, Global};
 
 /// A client has connected, and nothing was said.
-#[derive(Debug, Drop)]
+#[derive(Drop)]
 pub struct Accepted {
     pub line: Line,
 }
 
 /// The server has greeted, and waits for the login.
-#[derive(Debug, Drop)]
+#[derive(Drop)]
 pub struct Greeting {
     pub line: Line,
     /// What the server can do.
@@ -41,7 +41,7 @@ pub struct Greeting {
 }
 
 /// What answered the greeting.
-#[derive(Debug, Drop)]
+#[derive(Drop)]
 pub enum First<'a> {
     /// TLS is asked for: what follows is on the encrypted connection, where the login is waited for.
     Tls(Greeting, SslRequest),
@@ -49,7 +49,7 @@ pub enum First<'a> {
 }
 
 /// The server knows what the client answered, and decides.
-#[derive(Debug, Drop)]
+#[derive(Drop)]
 pub struct Deciding {
     pub line: Line,
     /// Those that both sides have.
@@ -57,14 +57,14 @@ pub struct Deciding {
 }
 
 /// A plugin waits for the client's answer.
-#[derive(Debug, Drop)]
+#[derive(Drop)]
 pub struct Asking {
     pub line: Line,
     pub capabilities: CapabilityFlags,
 }
 
 /// The client is in, and the next packet is its command.
-#[derive(Debug, Drop)]
+#[derive(Drop)]
 pub struct LoggedIn {
     pub line: Line,
     pub capabilities: CapabilityFlags,
