@@ -11,6 +11,7 @@ use refusing_allocator::NEVER;
 use std::alloc::Allocator;
 use std::borrow::CowSlice;
 use test_support::answers::Fault;
+use test_support::facts::same;
 use test_support::fields::is_written;
 use test_support::fixture::Heap;
 
@@ -119,7 +120,7 @@ impl<'a, A: Allocator + Copy> Held<'a, A> for Numbers<'a, A> {
     }
 
     fn is_there(&self, is_owned: bool) -> bool {
-        (self.0.as_slice() == b"ab".as_slice()) & (matches!(self.0, CowSlice::Owned(_)) == is_owned)
+        same(self.0.as_slice(), b"ab") & (matches!(self.0, CowSlice::Owned(_)) == is_owned)
     }
 }
 
@@ -197,12 +198,34 @@ fn owned_text<'a, A: Allocator + Copy>(alloc: A) -> Option<Text<'a, A>> {
     text.into_owned(alloc).ok()
 }
 
+// Puts one behind the others, if there is memory.
+fn is_pushed<'a, A: Allocator + Copy>(alloc: A, texts: &mut Vec<Text<'a, A>, A>) -> bool {
+    match owned_text(alloc) {
+        Some(text) => texts.push(text).is_ok(),
+        None => false,
+    }
+}
+
 // Two of them.
 fn two_texts<'a, A: Allocator + Copy>(alloc: A) -> Option<Vec<Text<'a, A>, A>> {
     let mut texts = Vec::new(alloc);
-    texts.push(owned_text(alloc)?).ok()?;
-    texts.push(owned_text(alloc)?).ok()?;
-    Some(texts)
+    let are_two = is_pushed(alloc, &mut texts) && is_pushed(alloc, &mut texts);
+    if are_two { Some(texts) } else { None }
+}
+
+// The same of a value that may not have been made.
+fn clones_made<T: Clone + PartialEq + Drop>(
+    heap: &Heap,
+    value: Option<T>,
+    nth: u64,
+) -> Option<bool> {
+    clones(heap, &value?, nth)
+}
+
+fn both_of<'a, A: Allocator + Copy>(
+    (first, second): (Text<'a, A>, Text<'a, A>),
+) -> Both<Text<'a, A>, Text<'a, A>> {
+    Both(first, second)
 }
 
 /// Whether a copy of what is made of owned texts was refused, or is equal.
@@ -211,18 +234,11 @@ where
     A: Allocator + Copy,
 {
     heap.refuse(NEVER);
-    let first = owned_text(alloc)?;
-    let second = owned_text(alloc)?;
+    let text = owned_text(alloc);
     match owner {
-        Owner::Both => clones(heap, &Both(first, second), nth),
-        Owner::Either => {
-            let side: Either<Text<'_, A>, RawInt<u8>> = Either::Left(first);
-            clones(heap, &side, nth)
-        }
-        Owner::Const => {
-            let constant: Const<Text<'_, A>, u8> = Const::new(first);
-            clones(heap, &constant, nth)
-        }
+        Owner::Both => clones_made(heap, text.zip(owned_text(alloc)).map(both_of), nth),
+        Owner::Either => clones_made(heap, text.map(Either::<Text<'_, A>, RawInt<u8>>::Left), nth),
+        Owner::Const => clones_made(heap, text.map(Const::<Text<'_, A>, u8>::new), nth),
     }
 }
 
@@ -344,7 +360,7 @@ where
 pub fn reads_stream<A: Allocator>(alloc: A) -> Option<bool> {
     let mut reader = b"\x03abc".as_slice();
     match reader.read_lenenc_str(alloc) {
-        Ok(text) => (text.as_slice() == b"abc".as_slice()).then_some(false),
+        Ok(text) => same(text.as_slice(), b"abc").then_some(false),
         Err(error) => is_refused(&error).then_some(true),
     }
 }
@@ -379,7 +395,7 @@ pub fn know_text<A: Allocator + Copy>() {
 /// Whether the calls of a text in hand give what they must, the next request being refused.
 pub fn texts_work<A: Allocator + Copy>(heap: &Heap, alloc: A) -> bool {
     let lent: Text<'_, A> = RawBytes::from(b"abc".as_slice());
-    let mut all = (lent.len() == 3) & !lent.is_empty() & (lent.as_bytes() == b"abc".as_slice());
+    let mut all = (lent.len() == 3) & !lent.is_empty() & same(lent.as_bytes(), b"abc");
     all &= lent.is_there(false);
     let empty = Text::<'_, A>::default();
     all &= empty.is_empty() & empty.eq_bytes(b"");

@@ -5,6 +5,7 @@ use mysql_wire::proto::packet_io::{PacketIoError, PacketReader, PacketWriter};
 use std::alloc::Allocator;
 use std::fmt::{self, Debug, Write};
 use std::io::{self, Sink};
+use test_support::facts::same;
 use test_support::told::Told;
 
 fn told(error: &PacketIoError) -> Told {
@@ -13,6 +14,20 @@ fn told(error: &PacketIoError) -> Told {
         PacketIoError::PacketsOutOfSync => Told::OutOfSync,
         PacketIoError::OutOfMemory => Told::OutOfMemory,
         _ => Told::Io,
+    }
+}
+
+fn told_if(answer: Result<bool, PacketIoError>) -> Result<bool, Told> {
+    match answer {
+        Ok(is_there) => Ok(is_there),
+        Err(error) => Err(told(&error)),
+    }
+}
+
+fn told_of(answer: Result<(), PacketIoError>) -> Told {
+    match answer {
+        Ok(()) => Told::Done,
+        Err(error) => told(&error),
     }
 }
 
@@ -75,7 +90,7 @@ impl<'a, A: Allocator + Copy> Source<'a, A> {
             return Err(Told::Fallen);
         }
         match self.reader.next_packet(&mut self.codec) {
-            Ok(Some(next)) => Ok(next.as_slice() == packet),
+            Ok(Some(next)) => Ok(same(next.as_slice(), packet)),
             Ok(None) => Ok(false),
             Err(error) => Err(told(&error)),
         }
@@ -86,10 +101,7 @@ impl<'a, A: Allocator + Copy> Source<'a, A> {
         if !self.reader.fits(&self.codec) {
             return Err(Told::Fallen);
         }
-        match self.reader.fill_packet(&mut self.codec) {
-            Ok(is_there) => Ok(is_there),
-            Err(error) => Err(told(&error)),
-        }
+        told_if(self.reader.fill_packet(&mut self.codec))
     }
 
     /// Whether a packet was skipped, or there is none.
@@ -97,10 +109,7 @@ impl<'a, A: Allocator + Copy> Source<'a, A> {
         if !self.reader.can_skip(&self.codec) {
             return Err(Told::Fallen);
         }
-        match self.reader.skip_packet(&mut self.codec) {
-            Ok(is_there) => Ok(is_there),
-            Err(error) => Err(told(&error)),
-        }
+        told_if(self.reader.skip_packet(&mut self.codec))
     }
 
     /// Whether a packet was copied to nowhere, or there is none.
@@ -108,10 +117,7 @@ impl<'a, A: Allocator + Copy> Source<'a, A> {
         if !self.reader.can_copy(&self.codec) {
             return Err(Told::Fallen);
         }
-        match self.reader.copy_packet(&mut self.codec, &mut io::sink()) {
-            Ok(is_there) => Ok(is_there),
-            Err(error) => Err(told(&error)),
-        }
+        told_if(self.reader.copy_packet(&mut self.codec, &mut io::sink()))
     }
 
     /// Whether a packet was passed on, or there is none.
@@ -119,18 +125,15 @@ impl<'a, A: Allocator + Copy> Source<'a, A> {
         if !self.reader.can_copy(&self.codec) {
             return Err(Told::Fallen);
         }
-        match self
-            .reader
-            .relay_packet(&mut self.codec, &mut to.writer, &mut to.codec)
-        {
-            Ok(is_there) => Ok(is_there),
-            Err(error) => Err(told(&error)),
-        }
+        told_if(
+            self.reader
+                .relay_packet(&mut self.codec, &mut to.writer, &mut to.codec),
+        )
     }
 
     /// Whether this packet stands ready.
     pub fn lends(&self, packet: &[u8]) -> bool {
-        self.reader.is_ready(&self.codec) && self.reader.packet() == packet
+        self.reader.is_ready(&self.codec) && same(self.reader.packet(), packet)
     }
 
     /// Takes the packet that stands ready, if one does.
@@ -167,10 +170,7 @@ impl<A: Allocator + Copy> Outlet<A> {
     }
 
     pub fn queue(&mut self, packet: &mut &[u8]) -> Told {
-        match self.writer.queue(&mut self.codec, packet) {
-            Ok(()) => Told::Done,
-            Err(error) => told(&error),
-        }
+        told_of(self.writer.queue(&mut self.codec, packet))
     }
 
     pub fn pending(&self) -> &[u8] {
@@ -179,10 +179,7 @@ impl<A: Allocator + Copy> Outlet<A> {
 
     /// Writes all that is pending.
     pub fn write(&mut self) -> Told {
-        match self.writer.write_pending() {
-            Ok(()) => Told::Done,
-            Err(error) => told(&error),
-        }
+        told_of(self.writer.write_pending())
     }
 
     /// How many bytes the writer shows itself in.
