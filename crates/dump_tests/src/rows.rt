@@ -126,7 +126,8 @@ fn faults_are_named(rt: HostRuntime) -> Result<(), Fail> {
     no_row(wrong_row(rt.alloc(), FAULTS))
 }
 
-const WITH_FIELDS: &[Row] = &[
+/// Sessions with their fields.
+pub const WITH_FIELDS: &[Row] = &[
     // A report stands before the answer, and the session where it did.
     Row {
         options: FIELDS,
@@ -148,6 +149,19 @@ const WITH_FIELDS: &[Row] = &[
         text: b"client 0 9 query\n  query \"SELECT 1\"\nserver 1 22 error\n  error_code 1064\n  \
             sql_state \"42000\"\n  error_message \"syntax \\\"near\\\"\"\n\
             client end at 13\nserver end at 26\n",
+    },
+    Row {
+        options: FIELDS,
+        sides: Sides::Both,
+        client: SELECT,
+        server: ROWS,
+        status: 0,
+        text: b"client 0 9 query\n  query \"SELECT 1\"\nserver 1 1 column count\n  column_count 1\n\
+            server 2 23 column\n  catalog \"def\"\n  schema \"\"\n  table \"\"\n  org_table \"\"\n  \
+            name \"1\"\n  org_name \"\"\n  character_set 63\n  column_length 1\n  type 8\n  \
+            flags 0x81\n  decimals 0\nserver 3 5 eof\n  warnings 0\n  status_flags 0x2\n\
+            server 4 2 row\n  0 \"1\"\nserver 5 1 row\n  0 null\nserver 6 5 eof\n  warnings 0\n  \
+            status_flags 0x2\nclient end at 13\nserver end at 61\n",
     },
     Row {
         options: JSON_FIELDS,

@@ -46,6 +46,7 @@ pub fn goes(alloc: Global, row: &Row<'_>) -> bool {
     let mut text = Vec::new(alloc);
     let status = run_dump(
         alloc,
+        alloc,
         row.options,
         row.sides,
         &mut client,

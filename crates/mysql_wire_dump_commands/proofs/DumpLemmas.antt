@@ -7,7 +7,6 @@ use Rattle.std.proofs.lemmas.Grind.{flat_map-append}
 use Rattle.std.proofs.lemmas.List.Elements.{All-append}
 use Rattle.wire_codec.specs.Framing.{next_id}
 use Rattle.wire_span.specs.Spans.{span_state}
-use Rattle.std.specs.Global.{Global}
 use Rattle.mysql_wire_dump_commands.specs.declared.dump.Dump.{Dump}
 use Rattle.mysql_wire_dump_commands.specs.declared.dump.Options.{Options}
 use Rattle.mysql_wire_dump_commands.specs.declared.dump.Sides.{Sides}
@@ -23,10 +22,11 @@ use Rattle.mysql_wire_dump_commands.specs.declared.source.End.TheVariants.{Encry
 use Rattle.mysql_wire_dump_commands.specs.declared.source.Next.{Next}
 use Rattle.mysql_wire_dump_commands.specs.declared.source.Next.TheVariants.{Unread, Packet, Ended}
 use Rattle.mysql_wire_dump_commands.specs.declared.source.Source.{Source}
-use Rattle.mysql_wire_dump_commands.specs.Dumped.{Dumps, InOrder, IsShown, Shown, SideEnds, ending_lines, first_of, is_of, lines_of, packets_of, status_of}
+use Rattle.mysql_wire_dump_commands.specs.Dumped.{field_form, Dumps, InOrder, IsShown, Shown, SideEnds, ending_lines, first_of, is_of, lines_of, packets_of, status_of}
 use Rattle.mysql_wire_dump_commands.specs.Dumping.{Dumping, Goes, IsLooked, IsTurn, Pends, Shows, ShowsAll, SoFar, StartsDump, id_behind}
 use Rattle.mysql_wire_dump_commands.specs.Moments.{moment_of}
 use Rattle.mysql_wire_dump_commands.specs.Naming.{IsOrBytes, kind_at}
+use Rattle.mysql_wire_dump_commands.specs.Fields.{AreFields}
 use Rattle.mysql_wire_dump_commands.specs.Lines.{bytes_part, line_end, packet_front, packet_line}
 use Rattle.mysql_wire_dump_commands.specs.Sources.{AtEnd, HasPacket, Stands, StandsNext, collected, id_of}
 use Rattle.mysql_wire_dump_commands.proofs.SourceLemmas.{consumes_none}
@@ -101,10 +101,10 @@ same_line form seen shown payload fields limit same large =
     ]
 
 -- the client's next packet is shown
-pub client_shown : (old new : Dump) (id : ℕ) (kind : Kind) (bytes fields : List ℕ) → old.client.next ≡ Packet id
+pub client_shown : {A : Type 0} (old new : Dump A) (id : ℕ) (kind : Kind) (bytes fields : List ℕ) → old.client.next ≡ Packet id
     → (old.client.limit < old.client.len → kind ≡ TooLarge)
     → (old.client.len ≤ old.client.limit → IsOrBytes (kind_at (moment_of old.session) Client id old.client.held.items) kind) → (old.client.len ≤ old.client.limit → bytes ≡ old.client.held.items)
-    → (old.options.has_fields ≡ false → fields ≡ [])
+    → AreFields (field_form old.options) fields
     → string_bytes new.text ≡ string_bytes old.text ++ packet_line old.options.form (record { side = Client; id = id; len = old.client.len; kind = kind }) bytes fields
     → new.next_id ≡ (span_state old.client.decoder).id → new.options ≡ old.options → new.server ≡ old.server
     → new.client.limit ≡ old.client.limit
@@ -112,7 +112,7 @@ pub client_shown : (old new : Dump) (id : ℕ) (kind : Kind) (bytes fields : Lis
     → (payload : List ℕ) × HasPacket number payload stands.begun (collected old.client) × Stands (packets ++ (number, payload) ∷ []) came new.client)
     → (shown : List Shown) (client server written : List ℕ) → Dumping shown client server written old → IsTurn Client old → IsLooked old
     → (one : Shown) × Dumping (shown ++ one ∷ []) client server written new
-client_shown old new id kind bytes fields is large named same plain text next_id_is options other_same limit passes shown client server written dumping is_turn looked =
+client_shown {A = A} old new id kind bytes fields is large named same shows text next_id_is options other_same limit passes shown client server written dumping is_turn looked =
     let pass = passes (packets_of Client shown) client id is dumping.clients in
     let payload : List ℕ = pass.0 in
     let has = pass.1 in
@@ -126,22 +126,22 @@ client_shown old new id kind bytes fields is large named same plain text next_id
       named = λ within.
           let below : old.client.len ≤ old.client.limit = let len_is = has.len in omega (arith, len_is, limit_is, within) in
           subst (λ (z : List ℕ). IsOrBytes (kind_at (moment_of old.session) Client id z) kind) (has.held below) (named below);
-      plain = plain;
+      has_fields = shows;
     } in
     let here : Pends old.client.next (Some id) = subst (λ (n : Next). Pends n (Some id)) (sym is) refl in
     let turn_is : turn old.session.place (id_behind 0 shown) (Some id) (id_of old.server.next) ≡ Some Client =
     ap₂ (λ (n : ℕ) (c : Option ℕ). turn old.session.place n c (id_of old.server.next)) (sym dumping.behind) (sym (ap id_of is)) ∙ is_turn in
     let other_is : (number : Option ℕ) → Pends new.server.next number → number ≡ id_of old.server.next =
-    λ number pends. pends_is old.server.next number looked.1 (subst (λ (source : Source Global). Pends source.next number) other_same pends) in (
+    λ number pends. pends_is old.server.next number looked.1 (subst (λ (source : Source A). Pends source.next number) other_same pends) in (
       one,
       record {
         are_shown = subst (λ (o : Options). All (IsShown o) (shown ++ one ∷ [])) (sym options)
             (All-append (IsShown old.options) shown (one ∷ []) dumping.are_shown (search (rules, is_shown)));
         clients = subst (λ (z : List (ℕ × List ℕ)). Stands z client new.client) (sym (packets_of_more Client shown one)) pass.2;
-        servers = subst (λ (source : Source Global). Stands (packets_of Server (shown ++ one ∷ [])) server source) (sym other_same)
+        servers = subst (λ (source : Source A). Stands (packets_of Server (shown ++ one ∷ [])) server source) (sym other_same)
             (subst (λ (z : List (ℕ × List ℕ)). Stands z server old.server) (sym (packets_of_more Server shown one ∙ append-nil (packets_of Server shown))) dumping.servers);
         client_limit = limit ∙ limit_is ∙ ap (λ (o : Options). o.limit) (sym options);
-        server_limit = ap (λ (source : Source Global). source.limit) other_same ∙ dumping.server_limit ∙ ap (λ (o : Options). o.limit) (sym options);
+        server_limit = ap (λ (source : Source A). source.limit) other_same ∙ dumping.server_limit ∙ ap (λ (o : Options). o.limit) (sym options);
         behind = next_id_is ∙ has.behind ∙ sym (id_behind_more 0 shown one);
         ordered = λ client_next server_next client_pends server_pends.
             in_order_more 0 shown one (Some id) (id_of old.server.next) client_next server_next (dumping.ordered (Some id) (id_of old.server.next) here (pends_so old.server.next)) turn_is refl (other_is server_next server_pends);
@@ -154,10 +154,10 @@ client_shown old new id kind bytes fields is large named same plain text next_id
     )
 
 -- the server's next packet is shown
-pub server_shown : (old new : Dump) (id : ℕ) (kind : Kind) (bytes fields : List ℕ) → old.server.next ≡ Packet id
+pub server_shown : {A : Type 0} (old new : Dump A) (id : ℕ) (kind : Kind) (bytes fields : List ℕ) → old.server.next ≡ Packet id
     → (old.server.limit < old.server.len → kind ≡ TooLarge)
     → (old.server.len ≤ old.server.limit → IsOrBytes (kind_at (moment_of old.session) Server id old.server.held.items) kind) → (old.server.len ≤ old.server.limit → bytes ≡ old.server.held.items)
-    → (old.options.has_fields ≡ false → fields ≡ [])
+    → AreFields (field_form old.options) fields
     → string_bytes new.text ≡ string_bytes old.text ++ packet_line old.options.form (record { side = Server; id = id; len = old.server.len; kind = kind }) bytes fields
     → new.next_id ≡ (span_state old.server.decoder).id → new.options ≡ old.options → new.client ≡ old.client
     → new.server.limit ≡ old.server.limit
@@ -165,7 +165,7 @@ pub server_shown : (old new : Dump) (id : ℕ) (kind : Kind) (bytes fields : Lis
     → (payload : List ℕ) × HasPacket number payload stands.begun (collected old.server) × Stands (packets ++ (number, payload) ∷ []) came new.server)
     → (shown : List Shown) (client server written : List ℕ) → Dumping shown client server written old → IsTurn Server old → IsLooked old
     → (one : Shown) × Dumping (shown ++ one ∷ []) client server written new
-server_shown old new id kind bytes fields is large named same plain text next_id_is options other_same limit passes shown client server written dumping is_turn looked =
+server_shown {A = A} old new id kind bytes fields is large named same shows text next_id_is options other_same limit passes shown client server written dumping is_turn looked =
     let pass = passes (packets_of Server shown) server id is dumping.servers in
     let payload : List ℕ = pass.0 in
     let has = pass.1 in
@@ -179,22 +179,22 @@ server_shown old new id kind bytes fields is large named same plain text next_id
       named = λ within.
           let below : old.server.len ≤ old.server.limit = let len_is = has.len in omega (arith, len_is, limit_is, within) in
           subst (λ (z : List ℕ). IsOrBytes (kind_at (moment_of old.session) Server id z) kind) (has.held below) (named below);
-      plain = plain;
+      has_fields = shows;
     } in
     let here : Pends old.server.next (Some id) = subst (λ (n : Next). Pends n (Some id)) (sym is) refl in
     let turn_is : turn old.session.place (id_behind 0 shown) (id_of old.client.next) (Some id) ≡ Some Server =
     ap₂ (λ (n : ℕ) (c : Option ℕ). turn old.session.place n (id_of old.client.next) c) (sym dumping.behind) (sym (ap id_of is)) ∙ is_turn in
     let other_is : (number : Option ℕ) → Pends new.client.next number → number ≡ id_of old.client.next =
-    λ number pends. pends_is old.client.next number looked.0 (subst (λ (source : Source Global). Pends source.next number) other_same pends) in (
+    λ number pends. pends_is old.client.next number looked.0 (subst (λ (source : Source A). Pends source.next number) other_same pends) in (
       one,
       record {
         are_shown = subst (λ (o : Options). All (IsShown o) (shown ++ one ∷ [])) (sym options)
             (All-append (IsShown old.options) shown (one ∷ []) dumping.are_shown (search (rules, is_shown)));
         servers = subst (λ (z : List (ℕ × List ℕ)). Stands z server new.server) (sym (packets_of_more Server shown one)) pass.2;
-        clients = subst (λ (source : Source Global). Stands (packets_of Client (shown ++ one ∷ [])) client source) (sym other_same)
+        clients = subst (λ (source : Source A). Stands (packets_of Client (shown ++ one ∷ [])) client source) (sym other_same)
             (subst (λ (z : List (ℕ × List ℕ)). Stands z client old.client) (sym (packets_of_more Client shown one ∙ append-nil (packets_of Client shown))) dumping.clients);
         server_limit = limit ∙ limit_is ∙ ap (λ (o : Options). o.limit) (sym options);
-        client_limit = ap (λ (source : Source Global). source.limit) other_same ∙ dumping.client_limit ∙ ap (λ (o : Options). o.limit) (sym options);
+        client_limit = ap (λ (source : Source A). source.limit) other_same ∙ dumping.client_limit ∙ ap (λ (o : Options). o.limit) (sym options);
         behind = next_id_is ∙ has.behind ∙ sym (id_behind_more 0 shown one);
         ordered = λ client_next server_next client_pends server_pends.
             in_order_more 0 shown one (id_of old.client.next) (Some id) client_next server_next (dumping.ordered (id_of old.client.next) (Some id) (pends_so old.client.next) here) turn_is (other_is client_next client_pends) refl;
@@ -211,7 +211,7 @@ pub appends_none : (known : Option (List ℕ)) → Appends known known []
 appends_none None = tt
 appends_none (Some bytes) = sym (append-nil bytes)
 
-pub begins_so : (options : Options) (dump : Dump) (client server written : Option (List ℕ)) → StartsDump options dump
+pub begins_so : {A : Type 0} (options : Options) (dump : Dump A) (client server written : Option (List ℕ)) → StartsDump options dump
     → SoFar dump client client server server written written
 begins_so options dump client server written starts = record {
   shown = [];
@@ -233,7 +233,7 @@ still_pends (Packet number) new id kept pends = subst (λ (n : Next). Pends n id
 still_pends (Ended end) new id kept pends = subst (λ (n : Next). Pends n id) (kept (λ e. cc)) pends
 
 -- the client's next packet was looked for
-client_looked : (dump : Dump) (source : Source Global) (client client_left left server server_left written now : Option (List ℕ))
+client_looked : {A : Type 0} (dump : Dump A) (source : Source A) (client client_left left server server_left written now : Option (List ℕ))
     → SoFar dump client client_left server server_left written now
     → ((packets : List (ℕ × List ℕ)) (came : List ℕ) → Stands packets came dump.client → (more : List ℕ) × Consumes client_left left more × Stands packets (came ++ more) source)
     → (dump.client.next ≢ Unread → source.next ≡ dump.client.next) → (AtEnd dump.client.next client_left → AtEnd source.next left)
@@ -265,7 +265,7 @@ client_looked dump source client client_left left server server_left written now
       server_end = so_far.server_end;
     }
 
-server_looked : (dump : Dump) (source : Source Global) (client client_left server server_left left written now : Option (List ℕ))
+server_looked : {A : Type 0} (dump : Dump A) (source : Source A) (client client_left server server_left left written now : Option (List ℕ))
     → SoFar dump client client_left server server_left written now
     → ((packets : List (ℕ × List ℕ)) (came : List ℕ) → Stands packets came dump.server → (more : List ℕ) × Consumes server_left left more × Stands packets (came ++ more) source)
     → (dump.server.next ≢ Unread → source.next ≡ dump.server.next) → (AtEnd dump.server.next server_left → AtEnd source.next left)
@@ -298,7 +298,7 @@ server_looked dump source client client_left server server_left left written now
     }
 
 -- both sides' next packets were looked for
-pub both_looked : (dump : Dump) (client_source server_source : Source Global)
+pub both_looked : {A : Type 0} (dump : Dump A) (client_source server_source : Source A)
     (client client_left client_now server server_left server_now written now : Option (List ℕ))
     → SoFar dump client client_left server server_left written now
     → ((packets : List (ℕ × List ℕ)) (came : List ℕ) → Stands packets came dump.client → (more : List ℕ) × Consumes client_left client_now more × Stands packets (came ++ more) client_source)
@@ -315,7 +315,7 @@ both_looked dump client_source server_source client client_left client_now serve
     server_looks server_kept server_ended server_limit
 
 -- a packet was shown
-pub one_shown : (side : Side) (old new : Dump) (client client_left server server_left written now : Option (List ℕ))
+pub one_shown : {A : Type 0} (side : Side) (old new : Dump A) (client client_left server server_left written now : Option (List ℕ))
     → SoFar old client client_left server server_left written now → Shows side old new → IsTurn side old → IsLooked old
     → SoFar new client client_left server server_left written now
 one_shown side old new client client_left server server_left written now so_far shows is_turn looked =
@@ -334,13 +334,13 @@ one_shown side old new client client_left server server_left written now so_far 
     }
 
 -- a part of the text was written
-pub much_written : (old new : Dump) (part : List ℕ) (client client_left server server_left written now later : Option (List ℕ))
+pub much_written : {A : Type 0} (old new : Dump A) (part : List ℕ) (client client_left server server_left written now later : Option (List ℕ))
     → SoFar old client client_left server server_left written now → Appends now later part
     → string_bytes old.text ≡ part ++ string_bytes new.text → new ≡ record old { text = new.text }
     → SoFar new client client_left server server_left written later
-much_written old new part client client_left server server_left written now later so_far appended text same =
+much_written {A = A} old new part client client_left server server_left written now later so_far appended text same =
     let was = so_far.dumping in
-    subst (λ (dump : Dump). SoFar dump client client_left server server_left written later) (sym same) (record {
+    subst (λ (dump : Dump A). SoFar dump client client_left server server_left written later) (sym same) (record {
       shown = so_far.shown;
       of_client = so_far.of_client;
       of_server = so_far.of_server;
@@ -363,7 +363,7 @@ much_written old new part client client_left server server_left written now late
     })
 
 -- no packet is left
-pub none_left : (dump : Dump) (client client_left server server_left written now : Option (List ℕ))
+pub none_left : {A : Type 0} (dump : Dump A) (client client_left server server_left written now : Option (List ℕ))
     → SoFar dump client client_left server server_left written now → Pends dump.client.next None → Pends dump.server.next None
     → ShowsAll dump client client_left server server_left written now
 none_left dump client client_left server server_left written now so_far client_none server_none =
@@ -389,7 +389,7 @@ none_left dump client client_left server server_left written now so_far client_n
     }
 
 -- what is left is hidden
-pub rest_hidden : (dump : Dump) (client_source server_source : Source Global) (client client_left server server_left written now : Option (List ℕ))
+pub rest_hidden : {A : Type 0} (dump : Dump A) (client_source server_source : Source A) (client client_left server server_left written now : Option (List ℕ))
     → SoFar dump client client_left server server_left written now
     → ((packets : List (ℕ × List ℕ)) (came : List ℕ) → Stands packets came dump.client → Stands packets came client_source)
     → ((packets : List (ℕ × List ℕ)) (came : List ℕ) → Stands packets came dump.server → Stands packets came server_source)
@@ -438,7 +438,7 @@ packet_of (Packet number) id is = cc
 packet_of (Ended end) id is = cc
 
 -- a turn, and what goes on from there
-pub goes_on : (more : Bool) (first middle last : Dump)
+pub goes_on : {A : Type 0} (more : Bool) (first middle last : Dump A)
     (client client_between client_left server server_between server_left written between now : Option (List ℕ))
     → Goes first middle client client_between server server_between written between true
     → Goes middle last client_between client_left server_between server_left between now more
@@ -447,7 +447,7 @@ goes_on more first middle last client client_between client_left server server_b
     λ all_client all_server before so_far. goes all_client all_server before (begins all_client all_server before so_far)
 
 -- how a side ends
-side_ends : (source : Source Global) (packets : List (ℕ × List ℕ)) (bytes : List ℕ) (end : End) → Stands packets bytes source → source.next ≡ Ended end
+side_ends : {A : Type 0} (source : Source A) (packets : List (ℕ × List ℕ)) (bytes : List ℕ) (end : End) → Stands packets bytes source → source.next ≡ Ended end
     → SideEnds bytes packets end
 side_ends source packets bytes end stands is = record {
   rest = stands.begun ++ source.src.items;
@@ -459,7 +459,7 @@ ended_so : (end other : End) → Ended end ≡ Ended other → end ≡ other
 ended_so end other is = search (rules, is)
 
 -- all is shown, and how the sides end is written behind it
-pub dumps_all : (options : Options) (sides : Sides) (dump : Dump) (client_end server_end : End) (last : List ℕ) (status : ℕ)
+pub dumps_all : {A : Type 0} (options : Options) (sides : Sides) (dump : Dump A) (client_end server_end : End) (last : List ℕ) (status : ℕ)
     (client client_left server server_left written now later : Option (List ℕ))
     → ShowsAll dump client client_left server server_left written now → dump.options ≡ options
     → dump.client.next ≡ Ended client_end → dump.server.next ≡ Ended server_end

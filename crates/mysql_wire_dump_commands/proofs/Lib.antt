@@ -1,2 +1,4 @@
+pub mod FieldLemmas
+pub mod ValueLemmas
 pub mod SourceLemmas
 pub mod DumpLemmas

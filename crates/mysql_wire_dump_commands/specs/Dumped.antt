@@ -7,13 +7,17 @@ use Rattle.mysql_wire_dump_commands.specs.declared.dump.Options.{Options}
 use Rattle.mysql_wire_dump_commands.specs.declared.dump.Sides.{Sides}
 use Rattle.mysql_wire_dump_commands.specs.declared.dump.Sides.TheVariants as sides
 use Rattle.mysql_wire_dump_commands.specs.declared.kind.Kind.TheVariants.{TooLarge}
+use Rattle.mysql_wire_dump_commands.specs.declared.fields.FieldForm.{FieldForm}
+use Rattle.mysql_wire_dump_commands.specs.declared.fields.FieldForm.TheVariants.{Hidden, Text, Json}
 use Rattle.mysql_wire_dump_commands.specs.declared.lines.LineForm.{LineForm}
+use Rattle.mysql_wire_dump_commands.specs.declared.lines.LineForm.TheVariants as line
 use Rattle.mysql_wire_dump_commands.specs.declared.lines.Seen.{Seen}
 use Rattle.mysql_wire_dump_commands.specs.declared.naming.Moment.{Moment}
 use Rattle.mysql_wire_dump_commands.specs.declared.side.Side.{Side}
 use Rattle.mysql_wire_dump_commands.specs.declared.side.Side.TheVariants.{Client, Server}
 use Rattle.mysql_wire_dump_commands.specs.declared.source.End.{End}
 use Rattle.mysql_wire_dump_commands.specs.declared.source.End.TheVariants.{Encrypted}
+use Rattle.mysql_wire_dump_commands.specs.Fields.{AreFields}
 use Rattle.mysql_wire_dump_commands.specs.Lines.{packet_line, ending_line}
 use Rattle.mysql_wire_dump_commands.specs.Naming.{IsOrBytes, kind_at}
 use Rattle.mysql_wire_dump_commands.specs.Sources.{EndsAs, ReadWhole, framed}
@@ -28,15 +32,24 @@ pub record Shown : Type 0 where
   pub fields : List ℕ
   pub at : Moment
 
+-- how the fields behind a line are shown
+abbrev pub form_if : Bool → LineForm → FieldForm
+form_if false form = Hidden
+form_if true line.Text = Text
+form_if true line.Json = Json
+
+abbrev pub field_form : Options → FieldForm
+field_form options = form_if options.has_fields options.form
+
 -- its length is the payload's; it is named by the session's place, its first byte and its length,
--- where its type reads it, and so where it is above the limit; and fields are there only where they
--- are asked for
+-- where its type reads it, and so where it is above the limit; and its fields are the text of some,
+-- which is empty where none are asked for
 pub record IsShown (options : Options) (shown : Shown) : Type 0 where
   pub len : shown.seen.len ≡ length shown.payload
   pub large : options.limit < length shown.payload → shown.seen.kind ≡ TooLarge
   pub named : length shown.payload ≤ options.limit
       → IsOrBytes (kind_at shown.at shown.seen.side shown.seen.id shown.payload) shown.seen.kind
-  pub plain : options.has_fields ≡ false → shown.fields ≡ []
+  pub has_fields : AreFields (field_form options) shown.fields
 
 abbrev pub is_of : Side → Side → Bool
 is_of Client Client = true

@@ -25,7 +25,7 @@ id_behind next [] = next
 id_behind next (shown ∷ others) = id_behind (next_id shown.seen.id shown.payload) others
 
 -- so far these packets were shown, of these bytes of both sides, and so much text was written
-pub record Dumping (shown : List Shown) (client server written : List ℕ) (dump : Dump) : Type 0
+pub record Dumping {A : Type 0} (shown : List Shown) (client server written : List ℕ) (dump : Dump A) : Type 0
   where
     pub are_shown : All (IsShown dump.options) shown
     pub clients : Stands (packets_of Client shown) client dump.client
@@ -38,24 +38,24 @@ pub record Dumping (shown : List Shown) (client server written : List ℕ) (dump
     pub lines : written ++ string_bytes dump.text ≡ lines_of dump.options.form shown
 
 -- a dump that begins
-pub record StartsDump (options : Options) (dump : Dump) : Type 0 where
+pub record StartsDump {A : Type 0} (options : Options) (dump : Dump A) : Type 0 where
   pub dumps : Dumping [] [] [] [] dump
   pub options_are : dump.options ≡ options
   pub client_next : dump.client.next ≡ Unread
   pub server_next : dump.server.next ≡ Unread
 
 -- it is this side's turn
-abbrev pub IsTurn : Side → Dump → Type 0
+abbrev pub IsTurn : {A : Type 0} → Side → Dump A → Type 0
 IsTurn side dump =
     turn dump.session.place dump.next_id (id_of dump.client.next) (id_of dump.server.next)
     ≡ Some side
 
 -- both sides were looked at
-abbrev pub IsLooked : Dump → Type 0
+abbrev pub IsLooked : {A : Type 0} → Dump A → Type 0
 IsLooked dump = (dump.client.next ≢ Unread) × (dump.server.next ≢ Unread)
 
 -- one packet more is shown, of the side whose turn it is
-pub record Shows (side : Side) (old new : Dump) : Type 0 where
+pub record Shows {A : Type 0} (side : Side) (old new : Dump A) : Type 0 where
   pub more : (shown : List Shown) (client server written : List ℕ)
       → Dumping shown client server written old → IsTurn side old → IsLooked old
       → (one : Shown) × Dumping (shown ++ one ∷ []) client server written new
@@ -66,7 +66,7 @@ pub record Shows (side : Side) (old new : Dump) : Type 0 where
       → AtEnd new.server.next left
 
 -- what was read of both sides, shown and written so far
-pub record SoFar (dump : Dump)
+pub record SoFar {A : Type 0} (dump : Dump A)
     (client client_left server server_left written now : Option (List ℕ)) : Type 0 where
   pub shown : List Shown
   pub of_client : List ℕ
@@ -80,7 +80,7 @@ pub record SoFar (dump : Dump)
   pub server_end : AtEnd dump.server.next server_left
 
 -- what a dump that began showed of the bytes of both sides, and wrote
-pub record ShowsAll (dump : Dump)
+pub record ShowsAll {A : Type 0} (dump : Dump A)
     (client client_left server server_left written now : Option (List ℕ)) : Type 0 where
   pub shown : List Shown
   pub of_client : List ℕ
@@ -102,12 +102,12 @@ pub record ShowsAll (dump : Dump)
   pub server_end : AtEnd dump.server.next server_left
 
 -- from what was shown so far a dump came here, and there may be more, or all is shown
-abbrev pub GoesTo : Bool → Dump → (client client_left server server_left written now : Option (List ℕ))
+abbrev pub GoesTo : {A : Type 0} → Bool → Dump A → (client client_left server server_left written now : Option (List ℕ))
     → Type 0
 GoesTo true = SoFar
 GoesTo false = ShowsAll
 
-abbrev pub Goes : (old new : Dump)
+abbrev pub Goes : {A : Type 0} → (old new : Dump A)
     (client client_left server server_left written now : Option (List ℕ)) → Bool → Type 0
 Goes old new client client_left server server_left written now more =
     (all_client all_server before : Option (List ℕ))

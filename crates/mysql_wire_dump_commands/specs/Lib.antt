@@ -7,3 +7,10 @@ pub mod Turns
 pub mod Lines
 pub mod Dumped
 pub mod Dumping
+pub mod MomentTexts
+pub mod Fields
+pub mod FieldTables
+pub mod ConnectionFields
+pub mod AnswerFields
+pub mod CommandFields
+pub mod ValueFields

@@ -2,7 +2,7 @@
 use Rattle.mysql_wire_dump_commands.specs.declared.naming.Moment.{Moment}
 use Rattle.mysql_wire_dump_commands.specs.declared.session.Session.{Session}
 
-abbrev pub moment_of : Session → Moment
+abbrev pub moment_of : {A : Type 0} → Session A → Moment
 moment_of session =
     record {
       place = session.place;

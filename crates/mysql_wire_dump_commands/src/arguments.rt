@@ -166,6 +166,7 @@ fn dump_files<F: Files, W: Write>(
             let mut server = File::open(files, server)?;
             Ok(run_dump(
                 alloc,
+                alloc,
                 options,
                 Sides::Both,
                 &mut client,
@@ -177,6 +178,7 @@ fn dump_files<F: Files, W: Write>(
             let mut client = File::open(files, client)?;
             Ok(run_dump(
                 alloc,
+                alloc,
                 options,
                 Sides::Client,
                 &mut client,
@@ -187,6 +189,7 @@ fn dump_files<F: Files, W: Write>(
         (None, Some(server)) => {
             let mut server = File::open(files, server)?;
             Ok(run_dump(
+                alloc,
                 alloc,
                 options,
                 Sides::Server,

@@ -2,7 +2,8 @@
 
 ghost use Rattle.std.specs.Prelude.{◌≡◌, ◌≢◌, ◌<◌, ◌≤◌, ◌⊎◌, ◌++◌, ◌∷◌, ℕ, List, [], length, IfOk, IfSome, OnOk, string_bytes, false};
 ghost use Rattle.std.specs.Io.KnownBytes.{Appends};
-ghost use Rattle.mysql_wire_dump_commands.specs.Dumped.{DumpEnds, Dumps, ending_lines, status_of};
+ghost use Rattle.mysql_wire_dump_commands.specs.Dumped.{DumpEnds, Dumps, ending_lines, field_form, status_of};
+ghost use Rattle.mysql_wire_dump_commands.specs.Fields.{AreFields};
 ghost use Rattle.mysql_wire_dump_commands.specs.Dumping.{Goes};
 ghost use Rattle.mysql_wire_dump_commands.specs.Moments.{moment_of};
 ghost use Rattle.mysql_wire_dump_commands.specs.Naming.{IsOrBytes, kind_at};
@@ -18,7 +19,7 @@ use crate::side::Side;
 use crate::source::{End, Next, Source};
 use crate::status::{Stop, exit_status};
 use crate::turn::turn;
-use std::alloc::{AllocError, Global};
+use std::alloc::{AllocError, Allocator, Global};
 use std::io::{Read, Write};
 
 /// How a session is shown.
@@ -44,19 +45,22 @@ const WRITE_SIZE: usize = 65536;
 
 // Both directions, the session, and the text that is not written yet.
 #[derive(Drop)]
-struct Dump {
-    alloc: Global,
+struct Dump<A: Allocator + Copy> {
+    global: Global,
     options: Options,
-    client: Source<Global>,
-    server: Source<Global>,
-    session: Session,
-    fields: Fields,
+    client: Source<A>,
+    server: Source<A>,
+    session: Session<A>,
+    fields: Fields<A>,
     // The id behind the last packet.
     next_id: u8,
-    text: String,
+    text: String<A>,
 }
 
-fn field_form(options: Options) -> FieldForm {
+// How fields are shown.
+fn field_form(options: Options) -> FieldForm
+    ensures { result ≡ field_form options }
+{
     match (options.has_fields, options.form) {
         (false, _) => FieldForm::Hidden,
         (true, LineForm::Text) => FieldForm::Text,
@@ -65,44 +69,33 @@ fn field_form(options: Options) -> FieldForm {
 }
 
 // What a source's next packet is: its fields are put, and the session goes on behind it.
-fn name_packet(
-    alloc: Global,
+#[tactic(auto, using(crate::proofs::FieldLemmas::shows_none, crate::proofs::FieldLemmas::shows_some))]
+fn name_packet<A: Allocator + Copy>(
+    global: Global,
     side: Side,
     id: u8,
-    source: &Source<Global>,
-    session: &mut Session,
-    fields: &mut Fields,
+    source: &Source<A>,
+    session: &mut Session<A>,
+    fields: &mut Fields<A>,
+    form: FieldForm,
 ) -> Result<Kind, Stop>
     ensures large { IfOk result (λ kind. source.now.limit < source.now.len → kind ≡ TooLarge) }
     ensures named { IfOk result (λ kind. source.now.len ≤ source.now.limit
         → IsOrBytes (kind_at (moment_of session.old) side id source.now.held.items) kind) }
+    ensures shows { OnOk result (AreFields form fields.new.text) }
 {
-    fields.clear();
+    fields.begin(form);
     let Some(payload) = source.payload() else {
         session.pass(side, id);
         return Ok(Kind::TooLarge);
     };
-    let kind = session.name(alloc, side, id, payload, fields)?;
-    fields.end();
-    if fields.is_short_of_memory() {
-        return Err(Stop::Memory);
-    }
+    let kind = session.name(global, side, id, payload, fields)?;
+    fields.end()?;
     Ok(kind)
 }
 
-// The fields that are shown.
-fn shown_fields(options: Options, fields: &Fields) -> &str
-    ensures { options.has_fields ≡ false → result.now ≡ [] }
-{
-    if options.has_fields {
-        fields.text()
-    } else {
-        ""
-    }
-}
-
 // The payload of which bytes may be shown.
-fn shown_payload(source: &Source<Global>) -> &[u8]
+fn shown_payload<A: Allocator + Copy>(source: &Source<A>) -> &[u8]
     ensures { source.now.len ≤ source.now.limit → result.now ≡ source.now.held.items }
 {
     match source.payload() {
@@ -111,23 +104,23 @@ fn shown_payload(source: &Source<Global>) -> &[u8]
     }
 }
 
-impl Dump {
+impl<A: Allocator + Copy> Dump<A> {
     ghost use Rattle.mysql_wire_dump_commands.specs.Dumping.{Shows, StartsDump};
     ghost use Rattle.mysql_wire_dump_commands.specs.Turns.{turn};
     ghost use Rattle.mysql_wire_dump_commands.specs.declared.side.Side.TheVariants.{Client, Server};
     ghost use Rattle.mysql_wire_dump_commands.specs.Sources.{id_of};
     ghost use Rattle.mysql_wire_dump_commands.specs.declared.source.Next.TheVariants.{Ended};
 
-    fn new(alloc: Global, options: Options) -> Self
+    fn new(alloc: A, global: Global, options: Options) -> Self
         ensures starts { StartsDump options result }
     {
         Dump {
-            alloc,
+            global,
             options,
             client: Source::new(alloc, options.limit),
             server: Source::new(alloc, options.limit),
             session: Session::new(alloc),
-            fields: Fields::new(alloc, field_form(options)),
+            fields: Fields::new(alloc),
             next_id: 0,
             text: String::new(alloc),
         }
@@ -156,12 +149,13 @@ impl Dump {
         let source = &self.client;
         let session = &mut self.session;
         let kind = name_packet(
-            self.alloc,
+            self.global,
             Side::Client,
             id,
             source,
             session,
             &mut self.fields,
+            field_form(self.options),
         )?;
         let seen = Seen {
             side: Side::Client,
@@ -169,7 +163,7 @@ impl Dump {
             len: source.payload_len(),
             kind,
         };
-        let fields = shown_fields(self.options, &self.fields);
+        let fields = self.fields.text();
         let payload = shown_payload(source);
         push_packet(&mut self.text, self.options.form, &seen, payload, fields)?;
         self.next_id = self.client.id_behind();
@@ -187,12 +181,13 @@ impl Dump {
         let source = &self.server;
         let session = &mut self.session;
         let kind = name_packet(
-            self.alloc,
+            self.global,
             Side::Server,
             id,
             source,
             session,
             &mut self.fields,
+            field_form(self.options),
         )?;
         let seen = Seen {
             side: Side::Server,
@@ -200,7 +195,7 @@ impl Dump {
             len: source.payload_len(),
             kind,
         };
-        let fields = shown_fields(self.options, &self.fields);
+        let fields = self.fields.text();
         let payload = shown_payload(source);
         push_packet(&mut self.text, self.options.form, &seen, payload, fields)?;
         self.next_id = self.server.id_behind();
@@ -245,8 +240,8 @@ impl Dump {
 }
 
 // Shows the next packet. The answer is whether there may be more.
-fn show_next<R: Read, S: Read, W: Write>(
-    dump: &mut Dump,
+fn show_next<A: Allocator + Copy, R: Read, S: Read, W: Write>(
+    dump: &mut Dump<A>,
     client: &mut R,
     server: &mut S,
     output: &mut W,
@@ -272,8 +267,8 @@ fn show_next<R: Read, S: Read, W: Write>(
 }
 
 // Shows all packets of both sides.
-fn show_all<R: Read, S: Read, W: Write>(
-    dump: &mut Dump,
+fn show_all<A: Allocator + Copy, R: Read, S: Read, W: Write>(
+    dump: &mut Dump<A>,
     client: &mut R,
     server: &mut S,
     output: &mut W,
@@ -303,8 +298,8 @@ fn end_status(end: End) -> u8
 }
 
 // Appends how the sides end.
-fn push_endings(
-    text: &mut String,
+fn push_endings<A: Allocator + Copy>(
+    text: &mut String<A>,
     form: LineForm,
     sides: Sides,
     client: (End, u64),
@@ -335,8 +330,9 @@ fn status_of(sides: Sides, client: End, server: End) -> u8
 }
 
 // Shows a session, and how each of its sides ends. The answer is the exit status.
-fn show_session<R: Read, S: Read, W: Write>(
-    alloc: Global,
+fn show_session<A: Allocator + Copy, R: Read, S: Read, W: Write>(
+    alloc: A,
+    global: Global,
     options: Options,
     sides: Sides,
     client: &mut R,
@@ -347,7 +343,7 @@ fn show_session<R: Read, S: Read, W: Write>(
         (S.remaining server.old) (S.remaining server.new) (W.contents output.old)
         (W.contents output.new)) }
 {
-    let mut dump = Dump::new(alloc, options);
+    let mut dump = Dump::new(alloc, global, options);
     show_all(&mut dump, client, server, output)?;
     let Some((client_end, server_end)) = dump.ends() else {
         return Err(Stop::Io);
@@ -363,9 +359,10 @@ fn show_session<R: Read, S: Read, W: Write>(
 /// Shows a session whose directions are these inputs, packet by packet. The answer is the exit
 /// status: 0 where each input ended between two packets, 3 where one ended inside a packet, 5 where
 /// the chunks of a packet are out of sync, 2 where a read or a write failed, 6 where memory was
-/// refused.
-pub fn run_dump<R: Read, S: Read, W: Write>(
-    alloc: Global,
+/// refused. All memory is `alloc`'s: `global` is only named where packets are read, which takes none.
+pub fn run_dump<A: Allocator + Copy, R: Read, S: Read, W: Write>(
+    alloc: A,
+    global: Global,
     options: Options,
     sides: Sides,
     client: &mut R,
@@ -376,5 +373,5 @@ pub fn run_dump<R: Read, S: Read, W: Write>(
         (S.remaining server.old) (S.remaining server.new) (W.contents output.old)
         (W.contents output.new) result }
 {
-    exit_status(show_session(alloc, options, sides, client, server, output))
+    exit_status(show_session(alloc, global, options, sides, client, server, output))
 }

@@ -1,8 +1,15 @@
 //! The fields of a packet, as text or as members of a JSON object.
 
-use crate::moments::{push_date, push_double, push_float, push_time};
+ghost use Rattle.std.specs.Prelude.{◌≡◌, ◌++◌, ◌∷◌, [], IfOk, OnOk, string_bytes};
+ghost use Rattle.std.specs.Fmt.{decimal};
+ghost use Rattle.json.specs.Print.{quoted};
+ghost use Rattle.mysql_wire_dump_commands.specs.Fields.{Flags, Number, Puts, Octets, Words, ended, flags_text, nothing, octets_text, value_of, value_text, with_end, with_member, words_text};
+
+use crate::moments::{push_date, push_time};
+use json::Writer;
 use mysql_wire_statements::moments::{BinaryDate, BinaryTime};
-use std::alloc::{AllocError, Global};
+use std::alloc::{AllocError, Allocator, Global};
+use std::marker::Model;
 
 /// How fields are shown.
 #[derive(Debug, Clone, Copy, PartialEq, Eq)]
@@ -18,178 +25,235 @@ pub enum FieldForm {
 pub enum FieldValue<'a> {
     Null,
     Number(u64),
-    /// A set of flags, or another number whose bits say more than it does.
-    Bits(u64),
+    /// A set of flags.
+    Flags(u64),
     /// A text, where the bytes are one.
     Text(&'a [u8]),
     Bytes(&'a [u8]),
     Date(&'a BinaryDate),
     Time(&'a BinaryTime),
-    /// The bits of an `f32`.
-    Float(u32),
-    /// The bits of an `f64`.
-    Double(u64),
+    /// The text of a number.
+    Printed(&'a str),
+    /// The word that stands for what is no number.
+    Word(&'a str),
+}
+
+fn push_digits<A: Allocator + Copy>(
+    text: &mut String<A>,
+    form: FieldForm,
+    bytes: &[u8],
+) -> Result<(), AllocError>
+    ensures { OnOk result (string_bytes text.new ≡ string_bytes text.old ++ octets_text form bytes.now) }
+{
+    let digits = hex::encode(*text.allocator(), bytes)?;
+    let digits = digits.as_str();
+    match form {
+        FieldForm::Json => write!(text, "{{\"hex\":\"{digits}\"}}"),
+        _ => write!(text, "x'{digits}'"),
+    }
+}
+
+// A text as JSON quotes it.
+#[tactic(auto, unfolding(json::specs::Print::print_from))]
+fn quoted<A: Allocator>(alloc: A, words: &str) -> Result<Vec<u8, A>, AllocError>
+    ensures { IfOk result (λ text. text.items ≡ quoted words.now) }
+{
+    let mut writer = Writer::new(Vec::new(alloc));
+    writer.string(words)?;
+    Ok(writer.into_inner())
+}
+
+fn push_quoted<A: Allocator + Copy>(text: &mut String<A>, words: &str) -> Result<(), AllocError>
+    ensures { OnOk result (string_bytes text.new ≡ string_bytes text.old ++ quoted words.now) }
+{
+    let quoted = quoted(*text.allocator(), words)?;
+    match std::str::from_utf8(&quoted) {
+        Ok(quoted) => text.push_str(quoted),
+        Err(_) => Err(AllocError),
+    }
+}
+
+fn push_text<A: Allocator + Copy>(
+    text: &mut String<A>,
+    form: FieldForm,
+    bytes: &[u8],
+) -> Result<(), AllocError>
+    ensures { OnOk result (string_bytes text.new ≡ string_bytes text.old ++ words_text form bytes.now) }
+{
+    match std::str::from_utf8(bytes) {
+        Ok(words) => push_quoted(text, words),
+        Err(_) => push_digits(text, form, bytes),
+    }
+}
+
+fn push_flags<A: Allocator>(
+    text: &mut String<A>,
+    form: FieldForm,
+    bits: u64,
+) -> Result<(), AllocError>
+    ensures { OnOk result (string_bytes text.new ≡ string_bytes text.old ++ flags_text form bits) }
+{
+    match form {
+        FieldForm::Json => write!(text, "{bits}"),
+        _ => write!(text, "0x{bits:x}"),
+    }
+}
+
+fn push_value<A: Allocator + Copy>(
+    text: &mut String<A>,
+    form: FieldForm,
+    value: FieldValue<'_>,
+) -> Result<(), AllocError>
+    ensures { OnOk result (string_bytes text.new
+        ≡ string_bytes text.old ++ value_text form (value_of value.entry)) }
+{
+    match value {
+        FieldValue::Null => text.push_str("null"),
+        FieldValue::Number(number) => write!(text, "{number}"),
+        FieldValue::Flags(bits) => push_flags(text, form, bits),
+        FieldValue::Text(bytes) => push_text(text, form, bytes),
+        FieldValue::Bytes(bytes) => push_digits(text, form, bytes),
+        FieldValue::Date(date) => {
+            text.push_str("\"")?;
+            push_date(text, date)?;
+            text.push_str("\"")
+        }
+        FieldValue::Time(time) => {
+            text.push_str("\"")?;
+            push_time(text, time)?;
+            text.push_str("\"")
+        }
+        FieldValue::Printed(number) => text.push_str(number),
+        FieldValue::Word(word) => write!(text, "\"{word}\""),
+    }
+}
+
+fn push_member<A: Allocator + Copy>(
+    text: &mut String<A>,
+    form: FieldForm,
+    name: &str,
+    value: FieldValue<'_>,
+) -> Result<(), AllocError>
+    ensures { OnOk result (string_bytes text.new
+        ≡ with_member form (string_bytes text.old) (name.now, value_of value.entry)) }
+{
+    match form {
+        FieldForm::Hidden => Ok(()),
+        FieldForm::Text => {
+            write!(text, "\n  {name} ")?;
+            push_value(text, form, value)
+        }
+        FieldForm::Json => {
+            let before = if text.is_empty() {
+                ",\"fields\":{"
+            } else {
+                ","
+            };
+            write!(text, "{before}\"{name}\":")?;
+            push_value(text, form, value)
+        }
+    }
+}
+
+// Ends the object of JSON, where one was begun.
+fn push_closing<A: Allocator>(text: &mut String<A>, form: FieldForm) -> Result<(), AllocError>
+    ensures { OnOk result (string_bytes text.new ≡ with_end form (string_bytes text.old)) }
+{
+    if form == FieldForm::Json && !text.is_empty() {
+        text.push_str("}")
+    } else {
+        Ok(())
+    }
 }
 
 /// The fields of one packet.
 #[derive(Drop)]
-pub struct Fields {
-    alloc: Global,
+pub struct Fields<A: Allocator + Copy = Global> {
     form: FieldForm,
-    text: String,
-    is_short_of_memory: bool,
+    text: String<A>,
 }
 
-impl Fields {
-    pub fn new(alloc: Global, form: FieldForm) -> Self {
-        Fields {
-            alloc,
-            form,
-            text: String::new(alloc),
-            is_short_of_memory: false,
-        }
-    }
+impl<A: Allocator + Copy> Model for Fields<A> {
+    ghost use Rattle.std.specs.Prelude.{string_bytes};
+    ghost use Rattle.mysql_wire_dump_commands.specs.Fields.{Written};
 
-    /// Whether fields are shown at all.
-    pub fn are_shown(&self) -> bool {
-        self.form != FieldForm::Hidden
+    ghost Value = { Written };
+
+    ghost view = { λ fields. record { form = fields.form; text = string_bytes fields.text } };
+}
+
+impl<A: Allocator + Copy> Fields<A> {
+    pub fn new(alloc: A) -> Self {
+        Fields {
+            form: FieldForm::Hidden,
+            text: String::new(alloc),
+        }
     }
 
     /// What was put so far.
-    pub fn text(&self) -> &str {
+    pub fn text(&self) -> &str
+        ensures { result.now ≡ self.now.text }
+    {
         self.text.as_str()
     }
 
-    /// Whether memory was refused, so that fields are missing.
-    pub fn is_short_of_memory(&self) -> bool {
-        self.is_short_of_memory
-    }
-
     /// Begins the fields of another packet.
-    pub fn clear(&mut self) {
+    pub fn begin(&mut self, form: FieldForm)
+        ensures { self.new ≡ nothing form }
+    {
+        self.form = form;
         self.text.clear();
     }
 
-    // Begins a field of this name.
-    fn push_name(&mut self, name: &str) -> Result<(), AllocError> {
-        match self.form {
-            FieldForm::Hidden => Ok(()),
-            FieldForm::Text => write!(self.text, "\n  {name} "),
-            FieldForm::Json => {
-                let before = if self.text.is_empty() {
-                    ",\"fields\":{"
-                } else {
-                    ","
-                };
-                write!(self.text, "{before}\"{name}\":")
-            }
-        }
-    }
-
-    fn push_digits(&mut self, bytes: &[u8]) -> Result<(), AllocError> {
-        let digits = hex::encode(self.alloc, bytes)?;
-        match self.form {
-            FieldForm::Json => write!(self.text, "{{\"hex\":\"{digits}\"}}"),
-            _ => write!(self.text, "x'{digits}'"),
-        }
-    }
-
-    fn push_text(&mut self, bytes: &[u8]) -> Result<(), AllocError> {
-        let Ok(words) = std::str::from_utf8(bytes) else {
-            return self.push_digits(bytes);
-        };
-        match self.form {
-            FieldForm::Json => {
-                let value = serde_json::Value::try_from_str(self.alloc, words)?;
-                let quoted = value.to_string(self.alloc)?;
-                self.text.push_str(quoted.as_str())
-            }
-            _ => write!(self.text, "{words:?}"),
-        }
-    }
-
-    fn push_date(&mut self, date: &BinaryDate) -> Result<(), AllocError> {
-        self.text.push('"')?;
-        push_date(&mut self.text, date)?;
-        self.text.push('"')
-    }
-
-    fn push_time(&mut self, time: &BinaryTime) -> Result<(), AllocError> {
-        self.text.push('"')?;
-        push_time(&mut self.text, time)?;
-        self.text.push('"')
-    }
-
-    fn push_value(&mut self, value: FieldValue<'_>) -> Result<(), AllocError> {
-        match value {
-            FieldValue::Null => self.text.push_str("null"),
-            FieldValue::Number(number) => write!(self.text, "{number}"),
-            FieldValue::Bits(bits) => match self.form {
-                FieldForm::Json => write!(self.text, "{bits}"),
-                _ => write!(self.text, "0x{bits:x}"),
-            },
-            FieldValue::Text(bytes) => self.push_text(bytes),
-            FieldValue::Bytes(bytes) => self.push_digits(bytes),
-            FieldValue::Date(date) => self.push_date(date),
-            FieldValue::Time(time) => self.push_time(time),
-            FieldValue::Float(bits) => push_float(&mut self.text, bits),
-            FieldValue::Double(bits) => push_double(&mut self.text, bits),
-        }
-    }
-
-    fn note(&mut self, pushed: Result<(), AllocError>) {
-        if pushed.is_err() {
-            self.is_short_of_memory = true;
-        }
-    }
-
     /// Puts a field.
-    pub fn put(&mut self, name: &str, value: FieldValue<'_>) {
-        if self.form == FieldForm::Hidden {
-            return;
-        }
-        let pushed = self.push_name(name);
-        self.note(pushed);
-        let pushed = self.push_value(value);
-        self.note(pushed);
+    #[tactic(auto, unfolding(crate::specs::Fields::put))]
+    pub fn put(&mut self, name: &str, value: FieldValue<'_>) -> Result<(), AllocError>
+        ensures { OnOk result (Puts ((name.now, value_of value.entry) ∷ []) self.old self.new) }
+    {
+        push_member(&mut self.text, self.form, name, value)
     }
 
     /// Puts a value that has no name but its place, counted from 0.
-    pub fn put_at(&mut self, place: u64, value: FieldValue<'_>) {
-        if self.form == FieldForm::Hidden {
-            return;
-        }
-        match place.to_string(self.alloc) {
-            Ok(name) => self.put(name.as_str(), value),
-            Err(_) => self.is_short_of_memory = true,
-        }
+    pub fn put_at(&mut self, place: u64, value: FieldValue<'_>) -> Result<(), AllocError>
+        ensures { OnOk result (Puts ((decimal place, value_of value.entry) ∷ []) self.old self.new) }
+    {
+        let mut digits = itoa::Buffer::new();
+        self.put(digits.format(place), value)
     }
 
     /// Puts a field that is a number.
-    pub fn number(&mut self, name: &str, number: u64) {
-        self.put(name, FieldValue::Number(number));
+    pub fn number(&mut self, name: &str, number: u64) -> Result<(), AllocError>
+        ensures { OnOk result (Puts ((name.now, Number number) ∷ []) self.old self.new) }
+    {
+        self.put(name, FieldValue::Number(number))
     }
 
     /// Puts a field that is a set of flags.
-    pub fn flags(&mut self, name: &str, bits: u64) {
-        self.put(name, FieldValue::Bits(bits));
+    pub fn flags(&mut self, name: &str, bits: u64) -> Result<(), AllocError>
+        ensures { OnOk result (Puts ((name.now, Flags bits) ∷ []) self.old self.new) }
+    {
+        self.put(name, FieldValue::Flags(bits))
     }
 
     /// Puts a field that is a text.
-    pub fn words(&mut self, name: &str, text: &[u8]) {
-        self.put(name, FieldValue::Text(text));
+    pub fn words(&mut self, name: &str, text: &[u8]) -> Result<(), AllocError>
+        ensures { OnOk result (Puts ((name.now, Words text.now) ∷ []) self.old self.new) }
+    {
+        self.put(name, FieldValue::Text(text))
     }
 
     /// Puts a field that is bytes.
-    pub fn bytes(&mut self, name: &str, bytes: &[u8]) {
-        self.put(name, FieldValue::Bytes(bytes));
+    pub fn bytes(&mut self, name: &str, bytes: &[u8]) -> Result<(), AllocError>
+        ensures { OnOk result (Puts ((name.now, Octets bytes.now) ∷ []) self.old self.new) }
+    {
+        self.put(name, FieldValue::Bytes(bytes))
     }
 
     /// Ends the fields of the packet.
-    pub fn end(&mut self) {
-        if self.form == FieldForm::Json && !self.text.is_empty() {
-            let pushed = self.text.push_str("}");
-            self.note(pushed);
-        }
+    #[tactic(auto, unfolding(crate::specs::Fields::ended))]
+    pub fn end(&mut self) -> Result<(), AllocError>
+        ensures { OnOk result (self.new ≡ ended self.old) }
+    {
+        push_closing(&mut self.text, self.form)
     }
 }

@@ -43,7 +43,12 @@ fn shown_bytes<A: Allocator>(alloc: A, payload: &[u8]) -> Result<String<A>, Allo
 }
 
 // The digits of a payload's bytes, and the name of a refusal.
-fn push_words(text: &mut String, form: LineForm, digits: &str, name: &str) -> Result<(), AllocError>
+fn push_words<A: Allocator + Copy>(
+    text: &mut String<A>,
+    form: LineForm,
+    digits: &str,
+    name: &str,
+) -> Result<(), AllocError>
     ensures { OnOk result (string_bytes text.new
         ≡ string_bytes text.old ++ refused_words form digits.now name.now) }
 {
@@ -54,8 +59,8 @@ fn push_words(text: &mut String, form: LineForm, digits: &str, name: &str) -> Re
 }
 
 // Why a payload is no packet of its place, behind its bytes.
-fn push_refused(
-    text: &mut String,
+fn push_refused<A: Allocator + Copy>(
+    text: &mut String<A>,
     form: LineForm,
     refusal: Refusal,
     payload: &[u8],
@@ -68,8 +73,8 @@ fn push_refused(
 }
 
 // The bytes of a payload that its place's type refuses, and why.
-fn push_bytes(
-    text: &mut String,
+fn push_bytes<A: Allocator + Copy>(
+    text: &mut String<A>,
     form: LineForm,
     kind: Kind,
     payload: &[u8],
@@ -84,7 +89,11 @@ fn push_bytes(
 }
 
 // Who sent a packet, the id of its first chunk, its length, and what it is.
-fn push_front(text: &mut String, form: LineForm, seen: &Seen) -> Result<(), AllocError>
+fn push_front<A: Allocator + Copy>(
+    text: &mut String<A>,
+    form: LineForm,
+    seen: &Seen,
+) -> Result<(), AllocError>
     ensures { OnOk result (string_bytes text.new
         ≡ string_bytes text.old ++ packet_front form seen.now) }
 {
@@ -102,7 +111,7 @@ fn push_front(text: &mut String, form: LineForm, seen: &Seen) -> Result<(), Allo
 }
 
 // The end of a line.
-fn push_end(text: &mut String, form: LineForm) -> Result<(), AllocError>
+fn push_end<A: Allocator + Copy>(text: &mut String<A>, form: LineForm) -> Result<(), AllocError>
     ensures { OnOk result (string_bytes text.new ≡ string_bytes text.old ++ line_end form) }
 {
     match form {
@@ -112,8 +121,8 @@ fn push_end(text: &mut String, form: LineForm) -> Result<(), AllocError>
 }
 
 /// Appends the line of a packet, with its fields.
-pub fn push_packet(
-    text: &mut String,
+pub fn push_packet<A: Allocator + Copy>(
+    text: &mut String<A>,
     form: LineForm,
     seen: &Seen,
     payload: &[u8],
@@ -140,8 +149,8 @@ fn end_name(end: End) -> &'static str
 }
 
 /// Appends how a direction ends, and how many bytes its packets have.
-pub fn push_ending(
-    text: &mut String,
+pub fn push_ending<A: Allocator + Copy>(
+    text: &mut String<A>,
     form: LineForm,
     side: Side,
     end: End,

@@ -1,28 +1,47 @@
-//! Dates, times and floats as people write them.
+//! Dates and times as people write them.
+
+ghost use Rattle.std.specs.Prelude.{◌≡◌, ◌++◌, OnOk, string_bytes};
+ghost use Rattle.mysql_wire_dump_commands.specs.MomentTexts.{clock_text, date_text, day_text, moment_text, span_text, time_text};
 
 use mysql_wire_statements::moments::{BinaryDate, BinaryTime, Clock, Day, Span};
-use ryu::Buffer;
-use std::alloc::AllocError;
-use std::num::{f32_from_bits_with_nan, f64_from_bits_with_nan};
+use std::alloc::{AllocError, Allocator};
 
-fn push_day(text: &mut String, day: &Day) -> Result<(), AllocError> {
+fn push_day<A: Allocator>(text: &mut String<A>, day: &Day) -> Result<(), AllocError>
+    ensures { OnOk result (string_bytes text.new ≡ string_bytes text.old ++ day_text day.now) }
+{
     let Day { year, month, day } = day;
     write!(text, "{year:04}-{month:02}-{day:02}")
 }
 
-fn push_clock(text: &mut String, hours: u64, clock: &Clock) -> Result<(), AllocError> {
+fn push_clock<A: Allocator>(
+    text: &mut String<A>,
+    hours: u64,
+    clock: &Clock,
+) -> Result<(), AllocError>
+    ensures { OnOk result (string_bytes text.new
+        ≡ string_bytes text.old ++ clock_text hours clock.now) }
+{
     let Clock { minute, second, .. } = clock;
     write!(text, "{hours:02}:{minute:02}:{second:02}")
 }
 
-fn push_moment(text: &mut String, day: &Day, clock: &Clock) -> Result<(), AllocError> {
+fn push_moment<A: Allocator>(
+    text: &mut String<A>,
+    day: &Day,
+    clock: &Clock,
+) -> Result<(), AllocError>
+    ensures { OnOk result (string_bytes text.new
+        ≡ string_bytes text.old ++ moment_text day.now clock.now) }
+{
     push_day(text, day)?;
-    text.push(' ')?;
+    text.push_str(" ")?;
     push_clock(text, clock.hour as u64, clock)
 }
 
 /// Appends a day, with the time of day that is sent.
-pub fn push_date(text: &mut String, date: &BinaryDate) -> Result<(), AllocError> {
+pub fn push_date<A: Allocator>(text: &mut String<A>, date: &BinaryDate) -> Result<(), AllocError>
+    ensures { OnOk result (string_bytes text.new ≡ string_bytes text.old ++ date_text date.now) }
+{
     match date {
         BinaryDate::Zero => text.push_str("0000-00-00 00:00:00"),
         BinaryDate::Date(day) => push_day(text, day),
@@ -35,9 +54,11 @@ pub fn push_date(text: &mut String, date: &BinaryDate) -> Result<(), AllocError>
 }
 
 // A span in hours, of which there may be more than a day's.
-fn push_span(text: &mut String, span: &Span) -> Result<(), AllocError> {
+fn push_span<A: Allocator>(text: &mut String<A>, span: &Span) -> Result<(), AllocError>
+    ensures { OnOk result (string_bytes text.new ≡ string_bytes text.old ++ span_text span.now) }
+{
     if span.sign == 1 {
-        text.push('-')?;
+        text.push_str("-")?;
     }
     push_clock(
         text,
@@ -47,7 +68,9 @@ fn push_span(text: &mut String, span: &Span) -> Result<(), AllocError> {
 }
 
 /// Appends a span of time, in hours.
-pub fn push_time(text: &mut String, time: &BinaryTime) -> Result<(), AllocError> {
+pub fn push_time<A: Allocator>(text: &mut String<A>, time: &BinaryTime) -> Result<(), AllocError>
+    ensures { OnOk result (string_bytes text.new ≡ string_bytes text.old ++ time_text time.now) }
+{
     match time {
         BinaryTime::Zero => text.push_str("00:00:00"),
         BinaryTime::Seconds(span) => push_span(text, span),
@@ -56,25 +79,4 @@ pub fn push_time(text: &mut String, time: &BinaryTime) -> Result<(), AllocError>
             write!(text, ".{micros:06}")
         }
     }
-}
-
-// Appends what a float is printed as: a number, or in quotes the word of what is none.
-fn push_printed(text: &mut String, is_number: bool, printed: &str) -> Result<(), AllocError> {
-    if is_number {
-        text.push_str(printed)
-    } else {
-        write!(text, "\"{printed}\"")
-    }
-}
-
-/// Appends a number of these bits.
-pub fn push_float(text: &mut String, bits: u32) -> Result<(), AllocError> {
-    let number = f32_from_bits_with_nan(bits);
-    push_printed(text, number.is_finite(), Buffer::new().format(number))
-}
-
-/// Appends a number of these bits.
-pub fn push_double(text: &mut String, bits: u64) -> Result<(), AllocError> {
-    let number = f64_from_bits_with_nan(bits);
-    push_printed(text, number.is_finite(), Buffer::new().format(number))
 }

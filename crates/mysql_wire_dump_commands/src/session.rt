@@ -5,7 +5,8 @@ mod commands;
 mod connection;
 mod rows;
 
-ghost use Rattle.std.specs.Prelude.{◌≡◌, IfOk};
+ghost use Rattle.std.specs.Prelude.{◌≡◌, IfOk, OnOk};
+ghost use Rattle.mysql_wire_dump_commands.specs.Fields.{PutsSome};
 ghost use Rattle.mysql_wire_dump_commands.specs.Naming.{IsOrBytes, kind_at};
 ghost use Rattle.mysql_wire_dump_commands.specs.Moments.{moment_of};
 ghost use Rattle.mysql_wire_dump_commands.specs.declared.place.Place.TheVariants.{Greeting};
@@ -22,7 +23,7 @@ use crate::statements::Statements;
 use crate::status::Stop;
 use mysql_wire_packets::places::{PayloadError, read_whole};
 use mysql_wire_packets::progress_report::ProgressReport;
-use std::alloc::Global;
+use std::alloc::{Allocator, Global};
 use wire_const::{CapabilityFlags, Flags, MariadbCapabilities};
 
 // How many columns' types are kept, at most: as many as a table may have.
@@ -30,14 +31,14 @@ const MOST_COLUMNS: usize = 4096;
 
 /// What both sides have said so far.
 #[derive(Drop)]
-pub struct Session {
+pub struct Session<A: Allocator + Copy = Global> {
     place: Place,
     is_eof_deprecated: bool,
     row_form: RowForm,
     capabilities: CapabilityFlags,
     mariadb: MariadbCapabilities,
     columns: u64,
-    types: Vec<u8>,
+    types: Vec<u8, A>,
     statements: Statements,
 }
 
@@ -52,22 +53,28 @@ fn refused(error: PayloadError) -> Result<Kind, Stop>
 }
 
 // A report on a command, behind which the session stands where it did.
-fn read_report(alloc: Global, kind: Kind, payload: &[u8], fields: &mut Fields) -> Result<Kind, Stop>
-    ensures { IfOk result (λ named. IsOrBytes kind named) }
+fn read_report<A: Allocator + Copy>(
+    global: Global,
+    kind: Kind,
+    payload: &[u8],
+    fields: &mut Fields<A>,
+) -> Result<Kind, Stop>
+    ensures named { IfOk result (λ named. IsOrBytes kind named) }
+    ensures puts { OnOk result (PutsSome fields.old fields.new) }
 {
-    match read_whole::<ProgressReport<'_>>(alloc, (), payload) {
+    match read_whole::<ProgressReport<'_>>(global, (), payload) {
         Ok(report) => {
-            show::progress(fields, &report);
+            show::progress(fields, &report)?;
             Ok(kind)
         }
         Err(error) => refused(error),
     }
 }
 
-impl Session {
+impl<A: Allocator + Copy> Session<A> {
     /// A session that begins. Until the client has said what it can do, `CLIENT_PROTOCOL_41` alone
     /// is taken to be in force.
-    pub fn new(alloc: Global) -> Self
+    pub fn new(alloc: A) -> Self
         ensures { result.place ≡ Greeting }
     {
         Session {
@@ -104,19 +111,20 @@ impl Session {
     /// on behind it.
     pub fn name(
         &mut self,
-        alloc: Global,
+        global: Global,
         side: Side,
         id: u8,
         payload: &[u8],
-        fields: &mut Fields,
+        fields: &mut Fields<A>,
     ) -> Result<Kind, Stop>
-        ensures { IfOk result (λ named.
+        ensures named { IfOk result (λ named.
             IsOrBytes (kind_at (moment_of self.old) side id payload.now) named) }
+        ensures puts { OnOk result (PutsSome fields.old fields.new) }
     {
         let kind = kind_at(self.moment(), side, id, payload);
         match side {
-            Side::Client => self.read_client(alloc, kind, id, payload, fields),
-            Side::Server => self.read_server(alloc, kind, payload, fields),
+            Side::Client => self.read_client(global, kind, id, payload, fields),
+            Side::Server => self.read_server(global, kind, payload, fields),
         }
     }
 
@@ -135,20 +143,21 @@ impl Session {
     // Reads a client's packet of this kind.
     fn read_client(
         &mut self,
-        alloc: Global,
+        global: Global,
         kind: Kind,
         id: u8,
         payload: &[u8],
-        fields: &mut Fields,
+        fields: &mut Fields<A>,
     ) -> Result<Kind, Stop>
-        ensures { IfOk result (λ named. IsOrBytes kind named) }
+        ensures named { IfOk result (λ named. IsOrBytes kind named) }
+        ensures puts { OnOk result (PutsSome fields.old fields.new) }
     {
         if id == 0 {
-            return self.read_command(alloc, kind, payload, fields);
+            return self.read_command(global, kind, payload, fields);
         }
         match kind {
-            Kind::TlsRequest | Kind::Login => self.read_login(alloc, kind, payload, fields),
-            Kind::AuthAnswer => self.read_auth_answer(alloc, kind, payload, fields),
+            Kind::TlsRequest | Kind::Login => self.read_login(global, kind, payload, fields),
+            Kind::AuthAnswer => self.read_auth_answer(global, kind, payload, fields),
             _ => {
                 if payload.is_empty() {
                     self.place = Place::Answer;
@@ -161,30 +170,31 @@ impl Session {
     // Reads a server's packet of this kind, at its place.
     fn read_server(
         &mut self,
-        alloc: Global,
+        global: Global,
         kind: Kind,
         payload: &[u8],
-        fields: &mut Fields,
+        fields: &mut Fields<A>,
     ) -> Result<Kind, Stop>
-        ensures { IfOk result (λ named. IsOrBytes kind named) }
+        ensures named { IfOk result (λ named. IsOrBytes kind named) }
+        ensures puts { OnOk result (PutsSome fields.old fields.new) }
     {
         match (kind, self.place) {
             (Kind::Bytes(_), _) => Ok(kind),
-            (Kind::Error, Place::Greeting) => self.read_greeting(alloc, kind, payload, fields),
-            (Kind::Error, _) => self.read_error(alloc, kind, payload, fields),
-            (Kind::Progress, _) => read_report(alloc, kind, payload, fields),
-            (Kind::Greeting, _) => self.read_greeting(alloc, kind, payload, fields),
+            (Kind::Error, Place::Greeting) => self.read_greeting(global, kind, payload, fields),
+            (Kind::Error, _) => self.read_error(global, kind, payload, fields),
+            (Kind::Progress, _) => read_report(global, kind, payload, fields),
+            (Kind::Greeting, _) => self.read_greeting(global, kind, payload, fields),
             (_, Place::Login | Place::Authentication) => {
-                self.read_outcome(alloc, kind, payload, fields)
+                self.read_outcome(global, kind, payload, fields)
             }
             (Kind::Eof, Place::ColumnsEnd(behind)) => {
-                self.read_columns_end(alloc, kind, behind, payload, fields)
+                self.read_columns_end(global, kind, behind, payload, fields)
             }
-            (Kind::Eof, _) => self.read_end(alloc, kind, payload, fields),
+            (Kind::Eof, _) => self.read_end(global, kind, payload, fields),
             (Kind::Column | Kind::Row | Kind::BinaryRow, _) => {
-                self.read_table(alloc, kind, payload, fields)
+                self.read_table(global, kind, payload, fields)
             }
-            _ => self.read_first(alloc, kind, payload, fields),
+            _ => self.read_first(global, kind, payload, fields),
         }
     }
 }

@@ -1,6 +1,7 @@
 //! The first packets of answers.
 
-ghost use Rattle.std.specs.Prelude.{IfOk};
+ghost use Rattle.std.specs.Prelude.{IfOk, OnOk};
+ghost use Rattle.mysql_wire_dump_commands.specs.Fields.{PutsSome};
 ghost use Rattle.mysql_wire_dump_commands.specs.Naming.{IsOrBytes};
 
 use super::{Session, refused};
@@ -15,12 +16,12 @@ use mysql_wire_queries::column_count::ColumnCount;
 use mysql_wire_queries::query_answer::QueryAnswer;
 use mysql_wire_statements::com_stmt_prepare_ok::ComStmtPrepareOk;
 use mysql_wire_statements::prepare_answer::PrepareAnswer;
-use std::alloc::Global;
+use std::alloc::{Allocator, Global};
 use wire_const::{Flags, StatusFlags};
 use wire_field::converted::RawFlags;
 use wire_repr::int::LeU16;
 
-impl Session {
+impl<A: Allocator + Copy> Session<A> {
     // An answer has ended, and the status says whether another follows.
     pub(super) fn end_answer(&mut self, status: RawFlags<StatusFlags, LeU16>) {
         self.place = if status
@@ -35,17 +36,18 @@ impl Session {
 
     pub(super) fn read_error(
         &mut self,
-        alloc: Global,
+        global: Global,
         kind: Kind,
         payload: &[u8],
-        fields: &mut Fields,
+        fields: &mut Fields<A>,
     ) -> Result<Kind, Stop>
-        ensures { IfOk result (λ named. IsOrBytes kind named) }
+        ensures named { IfOk result (λ named. IsOrBytes kind named) }
+        ensures puts { OnOk result (PutsSome fields.old fields.new) }
     {
         self.place = Place::Command;
-        match read_whole::<ErrPacket<'_>>(alloc, self.capabilities, payload) {
+        match read_whole::<ErrPacket<'_>>(global, self.capabilities, payload) {
             Ok(packet) => {
-                show::error(fields, &packet);
+                show::error(fields, &packet)?;
                 Ok(kind)
             }
             Err(error) => refused(error),
@@ -55,56 +57,58 @@ impl Session {
     // The first packet of an answer, or what is no packet of a table.
     pub(super) fn read_first(
         &mut self,
-        alloc: Global,
+        global: Global,
         kind: Kind,
         payload: &[u8],
-        fields: &mut Fields,
+        fields: &mut Fields<A>,
     ) -> Result<Kind, Stop>
-        ensures { IfOk result (λ named. IsOrBytes kind named) }
+        ensures named { IfOk result (λ named. IsOrBytes kind named) }
+        ensures puts { OnOk result (PutsSome fields.old fields.new) }
     {
         match kind {
-            Kind::Prepared => self.read_prepared(alloc, kind, payload, fields),
+            Kind::Prepared => self.read_prepared(global, kind, payload, fields),
             Kind::Statistics => {
                 self.place = Place::Command;
-                fields.words("statistics", payload);
+                fields.words("statistics", payload)?;
                 Ok(kind)
             }
             Kind::BinaryLogEvent => {
-                fields.bytes("event", payload);
+                fields.bytes("event", payload)?;
                 Ok(kind)
             }
-            _ => self.read_answer(alloc, kind, payload, fields),
+            _ => self.read_answer(global, kind, payload, fields),
         }
     }
 
     fn read_answer(
         &mut self,
-        alloc: Global,
+        global: Global,
         kind: Kind,
         payload: &[u8],
-        fields: &mut Fields,
+        fields: &mut Fields<A>,
     ) -> Result<Kind, Stop>
-        ensures { IfOk result (λ named. IsOrBytes kind named) }
+        ensures named { IfOk result (λ named. IsOrBytes kind named) }
+        ensures puts { OnOk result (PutsSome fields.old fields.new) }
     {
         self.place = Place::Command;
-        match QueryAnswer::read(alloc, self.capabilities, self.mariadb, payload) {
+        match QueryAnswer::read(global, self.capabilities, self.mariadb, payload) {
             Ok(QueryAnswer::Done(packet)) => {
                 self.end_answer(packet.status_flags);
-                show::ok(fields, &packet);
+                show::ok(fields, &packet)?;
                 Ok(kind)
             }
             Ok(QueryAnswer::Failed(packet)) => {
-                show::error(fields, &packet);
+                show::error(fields, &packet)?;
                 Ok(kind)
             }
             Ok(QueryAnswer::File(packet)) => {
                 self.place = Place::File;
-                show::local_infile(fields, &packet);
+                show::local_infile(fields, &packet)?;
                 Ok(kind)
             }
             Ok(QueryAnswer::Columns(packet)) => {
                 self.expect_columns(&packet);
-                show::column_count(fields, &packet);
+                show::column_count(fields, &packet)?;
                 Ok(kind)
             }
             Err(error) => refused(error),
@@ -156,22 +160,23 @@ impl Session {
 
     fn read_prepared(
         &mut self,
-        alloc: Global,
+        global: Global,
         kind: Kind,
         payload: &[u8],
-        fields: &mut Fields,
+        fields: &mut Fields<A>,
     ) -> Result<Kind, Stop>
-        ensures { IfOk result (λ named. IsOrBytes kind named) }
+        ensures named { IfOk result (λ named. IsOrBytes kind named) }
+        ensures puts { OnOk result (PutsSome fields.old fields.new) }
     {
         self.place = Place::Command;
-        match read_whole::<PrepareAnswer<'_>>(alloc, self.capabilities, payload) {
+        match read_whole::<PrepareAnswer<'_>>(global, self.capabilities, payload) {
             Ok(PrepareAnswer::Prepared(packet)) => {
                 self.expect_definitions(&packet);
-                show::prepared(fields, &packet);
+                show::prepared(fields, &packet)?;
                 Ok(kind)
             }
             Ok(PrepareAnswer::Failed(packet)) => {
-                show::error(fields, &packet);
+                show::error(fields, &packet)?;
                 Ok(kind)
             }
             Err(error) => refused(error),

@@ -1,6 +1,7 @@
 //! Commands.
 
-ghost use Rattle.std.specs.Prelude.{IfOk};
+ghost use Rattle.std.specs.Prelude.{IfOk, OnOk};
+ghost use Rattle.mysql_wire_dump_commands.specs.Fields.{PutsSome};
 ghost use Rattle.mysql_wire_dump_commands.specs.Naming.{IsOrBytes};
 
 use super::{Session, refused};
@@ -17,24 +18,13 @@ use mysql_wire_statements::com_stmt_fetch::ComStmtFetch;
 use mysql_wire_statements::com_stmt_prepare::ComStmtPrepare;
 use mysql_wire_statements::com_stmt_reset::ComStmtReset;
 use mysql_wire_statements::com_stmt_send_long_data::ComStmtSendLongData;
-use std::alloc::Global;
+use std::alloc::{Allocator, Global};
 
 // The number of the statement that a payload executes, where it has come.
 fn statement_of(payload: &[u8]) -> Option<u32> {
     match payload {
         [_, a, b, c, d, ..] => Some(u32::from_le_bytes([*a, *b, *c, *d])),
         _ => None,
-    }
-}
-
-// The fields of a command without prepared statements.
-fn show_plain(fields: &mut Fields, command: &ClientCommand<'_>) {
-    match command {
-        ClientCommand::InitDb(packet) => show::init_db(fields, packet),
-        ClientCommand::Query(packet) => show::query(fields, packet),
-        ClientCommand::AttributedQuery(packet) => show::attributed_query(fields, packet),
-        ClientCommand::ChangeUser(packet) => show::change_user(fields, packet),
-        ClientCommand::Quit(_) | ClientCommand::Ping(_) => {}
     }
 }
 
@@ -54,29 +44,30 @@ fn place_behind(kind: Kind) -> Place {
     }
 }
 
-impl Session {
+impl<A: Allocator + Copy> Session<A> {
     pub(super) fn read_command(
         &mut self,
-        alloc: Global,
+        global: Global,
         kind: Kind,
         payload: &[u8],
-        fields: &mut Fields,
+        fields: &mut Fields<A>,
     ) -> Result<Kind, Stop>
-        ensures { IfOk result (λ named. IsOrBytes kind named) }
+        ensures named { IfOk result (λ named. IsOrBytes kind named) }
+        ensures puts { OnOk result (PutsSome fields.old fields.new) }
     {
         self.place = place_behind(kind);
         self.row_form = RowForm::Text;
         match kind {
             Kind::Quit | Kind::InitDatabase | Kind::Query | Kind::Ping | Kind::ChangeUser =>
-                self.read_plain(alloc, kind, payload, fields),
+                self.read_plain(global, kind, payload, fields),
             Kind::Prepare
             | Kind::Execute
             | Kind::LongData
             | Kind::CloseStatement
             | Kind::ResetStatement
-            | Kind::Fetch => self.read_statement(alloc, kind, payload, fields),
+            | Kind::Fetch => self.read_statement(global, kind, payload, fields),
             _ => {
-                fields.bytes("payload", payload);
+                fields.bytes("payload", payload)?;
                 Ok(kind)
             }
         }
@@ -85,16 +76,17 @@ impl Session {
     // A command without prepared statements.
     fn read_plain(
         &mut self,
-        alloc: Global,
+        global: Global,
         kind: Kind,
         payload: &[u8],
-        fields: &mut Fields,
+        fields: &mut Fields<A>,
     ) -> Result<Kind, Stop>
-        ensures { IfOk result (λ named. IsOrBytes kind named) }
+        ensures named { IfOk result (λ named. IsOrBytes kind named) }
+        ensures puts { OnOk result (PutsSome fields.old fields.new) }
     {
-        match ClientCommand::read(alloc, self.capabilities, payload) {
+        match ClientCommand::read(global, self.capabilities, payload) {
             Ok(command) => {
-                show_plain(fields, &command);
+                show::plain(fields, &command)?;
                 Ok(kind)
             }
             Err(error) => refused(error),
@@ -104,35 +96,37 @@ impl Session {
     // A command of a prepared statement.
     fn read_statement(
         &mut self,
-        alloc: Global,
+        global: Global,
         kind: Kind,
         payload: &[u8],
-        fields: &mut Fields,
+        fields: &mut Fields<A>,
     ) -> Result<Kind, Stop>
-        ensures { IfOk result (λ named. IsOrBytes kind named) }
+        ensures named { IfOk result (λ named. IsOrBytes kind named) }
+        ensures puts { OnOk result (PutsSome fields.old fields.new) }
     {
         match kind {
-            Kind::Prepare => self.read_prepare(alloc, kind, payload, fields),
-            Kind::Execute => self.read_execute(alloc, kind, payload, fields),
-            Kind::LongData => self.read_long_data(alloc, kind, payload, fields),
-            Kind::CloseStatement => self.read_close(alloc, kind, payload, fields),
-            Kind::ResetStatement => self.read_reset(alloc, kind, payload, fields),
-            _ => self.read_fetch(alloc, kind, payload, fields),
+            Kind::Prepare => self.read_prepare(global, kind, payload, fields),
+            Kind::Execute => self.read_execute(global, kind, payload, fields),
+            Kind::LongData => self.read_long_data(global, kind, payload, fields),
+            Kind::CloseStatement => self.read_close(global, kind, payload, fields),
+            Kind::ResetStatement => self.read_reset(global, kind, payload, fields),
+            _ => self.read_fetch(global, kind, payload, fields),
         }
     }
 
     fn read_prepare(
         &mut self,
-        alloc: Global,
+        global: Global,
         kind: Kind,
         payload: &[u8],
-        fields: &mut Fields,
+        fields: &mut Fields<A>,
     ) -> Result<Kind, Stop>
-        ensures { IfOk result (λ named. IsOrBytes kind named) }
+        ensures named { IfOk result (λ named. IsOrBytes kind named) }
+        ensures puts { OnOk result (PutsSome fields.old fields.new) }
     {
-        match read_whole::<ComStmtPrepare<'_>>(alloc, (), payload) {
+        match read_whole::<ComStmtPrepare<'_>>(global, (), payload) {
             Ok(packet) => {
-                fields.words("query", packet.query);
+                fields.words("query", packet.query)?;
                 Ok(kind)
             }
             Err(error) => refused(error),
@@ -141,24 +135,25 @@ impl Session {
 
     fn read_execute(
         &mut self,
-        alloc: Global,
+        global: Global,
         kind: Kind,
         payload: &[u8],
-        fields: &mut Fields,
+        fields: &mut Fields<A>,
     ) -> Result<Kind, Stop>
-        ensures { IfOk result (λ named. IsOrBytes kind named) }
+        ensures named { IfOk result (λ named. IsOrBytes kind named) }
+        ensures puts { OnOk result (PutsSome fields.old fields.new) }
     {
         self.row_form = RowForm::Binary;
         let Some(statement_id) = statement_of(payload) else {
             return refused(PayloadError::OtherHeader(0x17));
         };
         let Some(statement) = self.statements.get(statement_id) else {
-            show::number_of_statement(fields, statement_id);
+            show::number_of_statement(fields, statement_id)?;
             return Ok(kind);
         };
-        match read_whole::<ComStmtExecute<'_>>(alloc, statement.num_params, payload) {
+        match read_whole::<ComStmtExecute<'_>>(global, statement.num_params, payload) {
             Ok(packet) => {
-                show::execute(fields, &packet);
+                show::execute(fields, &packet)?;
                 Ok(kind)
             }
             Err(error) => refused(error),
@@ -167,16 +162,17 @@ impl Session {
 
     fn read_long_data(
         &mut self,
-        alloc: Global,
+        global: Global,
         kind: Kind,
         payload: &[u8],
-        fields: &mut Fields,
+        fields: &mut Fields<A>,
     ) -> Result<Kind, Stop>
-        ensures { IfOk result (λ named. IsOrBytes kind named) }
+        ensures named { IfOk result (λ named. IsOrBytes kind named) }
+        ensures puts { OnOk result (PutsSome fields.old fields.new) }
     {
-        match read_whole::<ComStmtSendLongData<'_>>(alloc, (), payload) {
+        match read_whole::<ComStmtSendLongData<'_>>(global, (), payload) {
             Ok(packet) => {
-                show::long_data(fields, &packet);
+                show::long_data(fields, &packet)?;
                 Ok(kind)
             }
             Err(error) => refused(error),
@@ -185,16 +181,17 @@ impl Session {
 
     fn read_close(
         &mut self,
-        alloc: Global,
+        global: Global,
         kind: Kind,
         payload: &[u8],
-        fields: &mut Fields,
+        fields: &mut Fields<A>,
     ) -> Result<Kind, Stop>
-        ensures { IfOk result (λ named. IsOrBytes kind named) }
+        ensures named { IfOk result (λ named. IsOrBytes kind named) }
+        ensures puts { OnOk result (PutsSome fields.old fields.new) }
     {
-        match read_whole::<ComStmtClose>(alloc, (), payload) {
+        match read_whole::<ComStmtClose>(global, (), payload) {
             Ok(packet) => {
-                show::number_of_statement(fields, packet.statement_id);
+                show::number_of_statement(fields, packet.statement_id)?;
                 Ok(kind)
             }
             Err(error) => refused(error),
@@ -203,16 +200,17 @@ impl Session {
 
     fn read_reset(
         &mut self,
-        alloc: Global,
+        global: Global,
         kind: Kind,
         payload: &[u8],
-        fields: &mut Fields,
+        fields: &mut Fields<A>,
     ) -> Result<Kind, Stop>
-        ensures { IfOk result (λ named. IsOrBytes kind named) }
+        ensures named { IfOk result (λ named. IsOrBytes kind named) }
+        ensures puts { OnOk result (PutsSome fields.old fields.new) }
     {
-        match read_whole::<ComStmtReset>(alloc, (), payload) {
+        match read_whole::<ComStmtReset>(global, (), payload) {
             Ok(packet) => {
-                show::number_of_statement(fields, packet.statement_id);
+                show::number_of_statement(fields, packet.statement_id)?;
                 Ok(kind)
             }
             Err(error) => refused(error),
@@ -221,18 +219,19 @@ impl Session {
 
     fn read_fetch(
         &mut self,
-        alloc: Global,
+        global: Global,
         kind: Kind,
         payload: &[u8],
-        fields: &mut Fields,
+        fields: &mut Fields<A>,
     ) -> Result<Kind, Stop>
-        ensures { IfOk result (λ named. IsOrBytes kind named) }
+        ensures named { IfOk result (λ named. IsOrBytes kind named) }
+        ensures puts { OnOk result (PutsSome fields.old fields.new) }
     {
         self.row_form = RowForm::Unknown;
-        match read_whole::<ComStmtFetch>(alloc, (), payload) {
+        match read_whole::<ComStmtFetch>(global, (), payload) {
             Ok(packet) => {
                 self.expect_rows_of(packet.statement_id);
-                show::fetch(fields, &packet);
+                show::fetch(fields, &packet)?;
                 Ok(kind)
             }
             Err(error) => refused(error),

@@ -1,6 +1,7 @@
 //! How a connection begins.
 
-ghost use Rattle.std.specs.Prelude.{IfOk};
+ghost use Rattle.std.specs.Prelude.{IfOk, OnOk};
+ghost use Rattle.mysql_wire_dump_commands.specs.Fields.{PutsSome};
 ghost use Rattle.mysql_wire_dump_commands.specs.Naming.{IsOrBytes};
 
 use super::{Session, refused};
@@ -14,28 +15,29 @@ use mysql_wire_connection::auth_switch_response::AuthSwitchResponse;
 use mysql_wire_connection::first_packet::{ClientFirst, ServerFirst};
 use mysql_wire_connection::handshake_response::HandshakeResponse41;
 use mysql_wire_packets::places::read_whole;
-use std::alloc::Global;
+use std::alloc::{Allocator, Global};
 use wire_const::{CapabilityFlags, Flags};
 
-impl Session {
+impl<A: Allocator + Copy> Session<A> {
     pub(super) fn read_greeting(
         &mut self,
-        alloc: Global,
+        global: Global,
         kind: Kind,
         payload: &[u8],
-        fields: &mut Fields,
+        fields: &mut Fields<A>,
     ) -> Result<Kind, Stop>
-        ensures { IfOk result (λ named. IsOrBytes kind named) }
+        ensures named { IfOk result (λ named. IsOrBytes kind named) }
+        ensures puts { OnOk result (PutsSome fields.old fields.new) }
     {
-        match ServerFirst::read(alloc, payload) {
+        match ServerFirst::read(global, payload) {
             Ok(ServerFirst::Greeting(packet)) => {
                 self.place = Place::Login;
-                show::greeting(fields, &packet);
+                show::greeting(fields, &packet)?;
                 Ok(kind)
             }
             Ok(ServerFirst::Failed(packet)) => {
                 self.place = Place::Closed;
-                show::error(fields, &packet);
+                show::error(fields, &packet)?;
                 Ok(kind)
             }
             Err(error) => {
@@ -58,22 +60,23 @@ impl Session {
 
     pub(super) fn read_login(
         &mut self,
-        alloc: Global,
+        global: Global,
         kind: Kind,
         payload: &[u8],
-        fields: &mut Fields,
+        fields: &mut Fields<A>,
     ) -> Result<Kind, Stop>
-        ensures { IfOk result (λ named. IsOrBytes kind named) }
+        ensures named { IfOk result (λ named. IsOrBytes kind named) }
+        ensures puts { OnOk result (PutsSome fields.old fields.new) }
     {
-        match ClientFirst::read(alloc, payload) {
+        match ClientFirst::read(global, payload) {
             Ok(ClientFirst::Tls(packet)) => {
                 self.place = Place::Encrypted;
-                show::tls_request(fields, &packet);
+                show::tls_request(fields, &packet)?;
                 Ok(kind)
             }
             Ok(ClientFirst::Login(packet)) => {
                 self.log_in(&packet);
-                show::login(fields, &packet);
+                show::login(fields, &packet)?;
                 Ok(kind)
             }
             Err(error) => {
@@ -85,16 +88,17 @@ impl Session {
 
     pub(super) fn read_auth_answer(
         &mut self,
-        alloc: Global,
+        global: Global,
         kind: Kind,
         payload: &[u8],
-        fields: &mut Fields,
+        fields: &mut Fields<A>,
     ) -> Result<Kind, Stop>
-        ensures { IfOk result (λ named. IsOrBytes kind named) }
+        ensures named { IfOk result (λ named. IsOrBytes kind named) }
+        ensures puts { OnOk result (PutsSome fields.old fields.new) }
     {
-        match read_whole::<AuthSwitchResponse<'_>>(alloc, (), payload) {
+        match read_whole::<AuthSwitchResponse<'_>>(global, (), payload) {
             Ok(packet) => {
-                show::auth_answer(fields, &packet);
+                show::auth_answer(fields, &packet)?;
                 Ok(kind)
             }
             Err(error) => refused(error),
@@ -104,31 +108,32 @@ impl Session {
     // What a server says of the login.
     pub(super) fn read_outcome(
         &mut self,
-        alloc: Global,
+        global: Global,
         kind: Kind,
         payload: &[u8],
-        fields: &mut Fields,
+        fields: &mut Fields<A>,
     ) -> Result<Kind, Stop>
-        ensures { IfOk result (λ named. IsOrBytes kind named) }
+        ensures named { IfOk result (λ named. IsOrBytes kind named) }
+        ensures puts { OnOk result (PutsSome fields.old fields.new) }
     {
         self.place = Place::Authentication;
-        match AuthAnswer::read(alloc, self.capabilities, payload) {
+        match AuthAnswer::read(global, self.capabilities, payload) {
             Ok(AuthAnswer::Done(packet)) => {
                 self.place = Place::Command;
-                show::ok(fields, &packet);
+                show::ok(fields, &packet)?;
                 Ok(kind)
             }
             Ok(AuthAnswer::Failed(packet)) => {
                 self.place = Place::Command;
-                show::error(fields, &packet);
+                show::error(fields, &packet)?;
                 Ok(kind)
             }
             Ok(AuthAnswer::Switch(packet)) => {
-                show::auth_switch(fields, &packet);
+                show::auth_switch(fields, &packet)?;
                 Ok(kind)
             }
             Ok(AuthAnswer::MoreData(packet)) => {
-                show::auth_more_data(fields, &packet);
+                show::auth_more_data(fields, &packet)?;
                 Ok(kind)
             }
             Err(error) => refused(error),

@@ -1,6 +1,7 @@
 //! Definitions of columns, and rows.
 
-ghost use Rattle.std.specs.Prelude.{IfOk};
+ghost use Rattle.std.specs.Prelude.{IfOk, OnOk};
+ghost use Rattle.mysql_wire_dump_commands.specs.Fields.{PutsSome};
 ghost use Rattle.mysql_wire_dump_commands.specs.Naming.{IsOrBytes};
 
 use super::{MOST_COLUMNS, Session, refused};
@@ -14,10 +15,10 @@ use mysql_wire_packets::ok_packet::{InfoForm, RowsEnd};
 use mysql_wire_packets::places::read_whole;
 use mysql_wire_queries::column_definition::ColumnDefinition41;
 use mysql_wire_statements::binary_row::BinaryRow;
-use std::alloc::Global;
+use std::alloc::{Allocator, Global};
 use wire_const::{CapabilityFlags, Flags, StatusFlags};
 
-impl Session {
+impl<A: Allocator + Copy> Session<A> {
     // What is waited for where no definition is left.
     pub(super) fn behind_columns(&self, behind: Behind) -> Place {
         if self.is_eof_deprecated {
@@ -69,24 +70,25 @@ impl Session {
     // A definition of a column, or a row.
     pub(super) fn read_table(
         &mut self,
-        alloc: Global,
+        global: Global,
         kind: Kind,
         payload: &[u8],
-        fields: &mut Fields,
+        fields: &mut Fields<A>,
     ) -> Result<Kind, Stop>
-        ensures { IfOk result (λ named. IsOrBytes kind named) }
+        ensures named { IfOk result (λ named. IsOrBytes kind named) }
+        ensures puts { OnOk result (PutsSome fields.old fields.new) }
     {
         self.skip_columns_end();
         match (kind, self.place) {
             (Kind::Column, Place::Columns { left, behind }) => {
                 self.pass_column(left, behind);
-                self.read_column(alloc, kind, payload, fields)
+                self.read_column(global, kind, payload, fields)
             }
-            (Kind::Row, _) => self.read_row(alloc, kind, payload, fields),
-            (Kind::BinaryRow, _) => self.read_binary_row(alloc, kind, payload, fields),
+            (Kind::Row, _) => self.read_row(global, kind, payload, fields),
+            (Kind::BinaryRow, _) => self.read_binary_row(global, kind, payload, fields),
             _ => {
                 // One of the columns of a table, with its default behind it.
-                fields.bytes("column", payload);
+                fields.bytes("column", payload)?;
                 Ok(kind)
             }
         }
@@ -94,16 +96,17 @@ impl Session {
 
     fn read_column(
         &mut self,
-        alloc: Global,
+        global: Global,
         kind: Kind,
         payload: &[u8],
-        fields: &mut Fields,
+        fields: &mut Fields<A>,
     ) -> Result<Kind, Stop>
-        ensures { IfOk result (λ named. IsOrBytes kind named) }
+        ensures named { IfOk result (λ named. IsOrBytes kind named) }
+        ensures puts { OnOk result (PutsSome fields.old fields.new) }
     {
-        match read_whole::<ColumnDefinition41<'_>>(alloc, self.mariadb, payload) {
+        match read_whole::<ColumnDefinition41<'_>>(global, self.mariadb, payload) {
             Ok(packet) => {
-                show::column(fields, &packet);
+                show::column(fields, &packet)?;
                 match self.note_type(packet.column_type.0) {
                     Ok(()) => Ok(kind),
                     Err(stop) => Err(stop),
@@ -116,16 +119,17 @@ impl Session {
     // The EOF that ends definitions. Behind it are no rows where a cursor has them.
     pub(super) fn read_columns_end(
         &mut self,
-        alloc: Global,
+        global: Global,
         kind: Kind,
         behind: Behind,
         payload: &[u8],
-        fields: &mut Fields,
+        fields: &mut Fields<A>,
     ) -> Result<Kind, Stop>
-        ensures { IfOk result (λ named. IsOrBytes kind named) }
+        ensures named { IfOk result (λ named. IsOrBytes kind named) }
+        ensures puts { OnOk result (PutsSome fields.old fields.new) }
     {
         self.place = self.behind_definitions(behind);
-        match read_whole::<EofPacket>(alloc, (), payload) {
+        match read_whole::<EofPacket>(global, (), payload) {
             Ok(packet) => {
                 let status = packet.status_flags.get();
                 if behind == Behind::Rows
@@ -133,7 +137,7 @@ impl Session {
                 {
                     self.place = Place::Command;
                 }
-                show::eof(fields, &packet);
+                show::eof(fields, &packet)?;
                 Ok(kind)
             }
             Err(error) => refused(error),
@@ -143,21 +147,22 @@ impl Session {
     // The end of rows, or of what else an EOF ends.
     pub(super) fn read_end(
         &mut self,
-        alloc: Global,
+        global: Global,
         kind: Kind,
         payload: &[u8],
-        fields: &mut Fields,
+        fields: &mut Fields<A>,
     ) -> Result<Kind, Stop>
-        ensures { IfOk result (λ named. IsOrBytes kind named) }
+        ensures named { IfOk result (λ named. IsOrBytes kind named) }
+        ensures puts { OnOk result (PutsSome fields.old fields.new) }
     {
         self.place = Place::Command;
         if self.is_eof_deprecated && payload.len() != 5 {
-            return self.read_rows_end(alloc, kind, payload, fields);
+            return self.read_rows_end(global, kind, payload, fields);
         }
-        match read_whole::<EofPacket>(alloc, (), payload) {
+        match read_whole::<EofPacket>(global, (), payload) {
             Ok(packet) => {
                 self.end_answer(packet.status_flags);
-                show::eof(fields, &packet);
+                show::eof(fields, &packet)?;
                 Ok(kind)
             }
             Err(error) => refused(error),
@@ -167,18 +172,19 @@ impl Session {
     // The OK in place of an EOF.
     fn read_rows_end(
         &mut self,
-        alloc: Global,
+        global: Global,
         kind: Kind,
         payload: &[u8],
-        fields: &mut Fields,
+        fields: &mut Fields<A>,
     ) -> Result<Kind, Stop>
-        ensures { IfOk result (λ named. IsOrBytes kind named) }
+        ensures named { IfOk result (λ named. IsOrBytes kind named) }
+        ensures puts { OnOk result (PutsSome fields.old fields.new) }
     {
         let form = InfoForm::of(self.capabilities);
-        match read_whole::<RowsEnd<'_>>(alloc, form, payload) {
+        match read_whole::<RowsEnd<'_>>(global, form, payload) {
             Ok(packet) => {
                 self.end_answer(packet.status_flags);
-                show::ok(fields, &packet);
+                show::ok(fields, &packet)?;
                 Ok(kind)
             }
             Err(error) => refused(error),
@@ -188,21 +194,22 @@ impl Session {
     // A row of texts. One of a command that was not seen is not read.
     fn read_row(
         &mut self,
-        alloc: Global,
+        global: Global,
         kind: Kind,
         payload: &[u8],
-        fields: &mut Fields,
+        fields: &mut Fields<A>,
     ) -> Result<Kind, Stop>
-        ensures { IfOk result (λ named. IsOrBytes kind named) }
+        ensures named { IfOk result (λ named. IsOrBytes kind named) }
+        ensures puts { OnOk result (PutsSome fields.old fields.new) }
     {
         match self.row_form {
-            RowForm::Text => match show::text_row(alloc, fields, self.columns, payload) {
+            RowForm::Text => match show::text_row(global, fields, self.columns, payload) {
                 Ok(None) => Ok(kind),
                 Ok(Some(refusal)) => Ok(Kind::Bytes(refusal)),
                 Err(stop) => Err(stop),
             },
             RowForm::Binary | RowForm::Unknown => {
-                fields.bytes("values", payload);
+                fields.bytes("values", payload)?;
                 Ok(kind)
             }
         }
@@ -210,19 +217,20 @@ impl Session {
 
     fn read_binary_row(
         &mut self,
-        alloc: Global,
+        global: Global,
         kind: Kind,
         payload: &[u8],
-        fields: &mut Fields,
+        fields: &mut Fields<A>,
     ) -> Result<Kind, Stop>
-        ensures { IfOk result (λ named. IsOrBytes kind named) }
+        ensures named { IfOk result (λ named. IsOrBytes kind named) }
+        ensures puts { OnOk result (PutsSome fields.old fields.new) }
     {
-        let row = match read_whole::<BinaryRow<'_>>(alloc, self.columns as usize, payload) {
+        let row = match read_whole::<BinaryRow<'_>>(global, self.columns as usize, payload) {
             Ok(row) => row,
             Err(error) => return refused(error),
         };
         let types = self.types.as_slice();
-        match show::binary_row(alloc, fields, self.columns, types, &row) {
+        match show::binary_row(global, fields, self.columns, types, &row) {
             Ok(None) => Ok(kind),
             Ok(Some(refusal)) => Ok(Kind::Bytes(refusal)),
             Err(stop) => Err(stop),

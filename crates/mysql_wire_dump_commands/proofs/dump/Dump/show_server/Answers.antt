@@ -7,16 +7,16 @@ use Rattle.mysql_wire_dump_commands.proofs.DumpLemmas.{packet_of, server_shown}
 use Rattle.mysql_wire_dump_commands.proofs.dump.Dump.show_server.Goals as goal
 
 pub returns : goal.returns
-returns c =
+returns g c =
     let old = c.args.self.now in
     let is = packet_of old.server.next c.in-Some.id (sym c.next_id.ensures ∙ c.in-Some.is) in
     let text = subst (λ (n : ℕ). string_bytes c.push_packet.new.text ≡ string_bytes old.text
-    ++ packet_line old.options.form (record { side = Server; id = c.in-Some.id; len = n; kind = c.in_ok-kind.kind }) c.shown_payload-payload.result.now c.shown_fields-fields.result.now)
+    ++ packet_line old.options.form (record { side = Server; id = c.in-Some.id; len = n; kind = c.in_ok-kind.kind }) c.shown_payload-payload.result.now c.text-fields.result.now)
     c.payload_len.ensures c.in_ok-push_packet.ensures in
     record {
       more = λ shown client server written dumping is_turn looked.
-          server_shown old _ c.in-Some.id c.in_ok-kind.kind c.shown_payload-payload.result.now c.shown_fields-fields.result.now is c.in_ok-kind.ensures.large
-          c.in_ok-kind.ensures.named c.shown_payload-payload.ensures c.shown_fields-fields.ensures text c.id_behind-self.ensures refl refl
+          server_shown old _ c.in-Some.id c.in_ok-kind.kind c.shown_payload-payload.result.now c.text-fields.result.now is c.in_ok-kind.ensures.large
+          c.in_ok-kind.ensures.named c.shown_payload-payload.ensures (rw (c.text-fields.ensures, ← c.field_form.ensures) c.in_ok-kind.ensures.shows) text c.id_behind-self.ensures refl refl
           c.in_ok-pass.ensures.limit c.in_ok-pass.ensures.passes shown client server written dumping is_turn looked;
       options_are = refl;
       server_end = λ left ended. subst (λ (n : Next). AtEnd n left) (sym c.in_ok-pass.ensures.next) tt;

@@ -1,0 +1,6 @@
+use Rattle.mysql_wire_dump_commands.proofs.FieldLemmas.{puts_then}
+use Rattle.mysql_wire_dump_commands.proofs.show.connection.auth_switch.Goals as goal
+
+pub returns : goal.returns
+returns g c =
+    puts_then c.in_ok-put_words.ensures c.in_ok-put_bytes.ensures
