@@ -72,9 +72,33 @@ fn failures_are_told(rt: HostRuntime) -> Result<(), Fail> {
     let mut empty = b"".as_slice();
     let mut text = Vec::new(alloc);
     let sides = Sides::Both;
-    let read = run_dump(alloc, alloc, PLAIN, sides, &mut empty, &mut Broken, &mut text);
-    let other = run_dump(alloc, alloc, PLAIN, sides, &mut Broken, &mut empty, &mut text);
+    let read = run_dump(
+        alloc,
+        alloc,
+        PLAIN,
+        sides,
+        &mut empty,
+        &mut Broken,
+        &mut text,
+    );
+    let other = run_dump(
+        alloc,
+        alloc,
+        PLAIN,
+        sides,
+        &mut Broken,
+        &mut empty,
+        &mut text,
+    );
     let mut more = b"".as_slice();
-    let written = run_dump(alloc, alloc, PLAIN, sides, &mut empty, &mut more, &mut Broken);
+    let written = run_dump(
+        alloc,
+        alloc,
+        PLAIN,
+        sides,
+        &mut empty,
+        &mut more,
+        &mut Broken,
+    );
     ensure((read == 2) & (other == 2) & (written == 2), "a failure")
 }
