@@ -26,7 +26,7 @@ use Rattle.mysql_wire_dump_commands.specs.Dumped.{field_form, Dumps, InOrder, Is
 use Rattle.mysql_wire_dump_commands.specs.Dumping.{Dumping, Goes, IsLooked, IsTurn, Pends, Shows, ShowsAll, SoFar, StartsDump, id_behind}
 use Rattle.mysql_wire_dump_commands.specs.Moments.{moment_of}
 use Rattle.mysql_wire_dump_commands.specs.Naming.{IsOrBytes, kind_at}
-use Rattle.mysql_wire_dump_commands.specs.Fields.{AreFields}
+use Rattle.mysql_wire_dump_commands.specs.Packets.{AreFields}
 use Rattle.mysql_wire_dump_commands.specs.Lines.{bytes_part, line_end, packet_front, packet_line}
 use Rattle.mysql_wire_dump_commands.specs.Sources.{AtEnd, HasPacket, Stands, StandsNext, collected, id_of}
 use Rattle.mysql_wire_dump_commands.proofs.SourceLemmas.{consumes_none}

@@ -8,7 +8,7 @@ use Rattle.std.specs.Str.{IsUtf8, is_utf8}
 use Rattle.std.proofs.lemmas.Str.{IsUtf8-from_is_utf8}
 use Rattle.mysql_wire_dump_commands.specs.declared.fields.FieldForm.{FieldForm}
 use Rattle.mysql_wire_dump_commands.specs.declared.fields.FieldForm.TheVariants.{Hidden, Text, Json}
-use Rattle.mysql_wire_dump_commands.specs.Fields.{AreFields, Member, Puts, PutsSome, Written, ended, fields_text, line, nothing, pair, put, puts}
+use Rattle.mysql_wire_dump_commands.specs.Fields.{Member, Puts, Written, ended, fields_text, line, nothing, pair, put, puts}
 
 is_false : (test : Bool) → (test ≡ true → ⊥) → test ≡ false
 is_false true never = absurd (never refl)
@@ -66,20 +66,3 @@ puts_then {front = front} {back = back} {old = old} first last = record {
 
 pub zero-false : (n : ℕ) → (n ≡ 0 → ⊥) → (n == 0) ≡ false
 zero-false n never = is_false (n == 0) (λ is. never (grind (arith, common_steps, is)))
-
--- the fields of a packet that was not read
-pub shows_none : (form : FieldForm) (begun : Written) → begun ≡ nothing form
-    → AreFields form begun.text
-shows_none Hidden begun is = record { members = []; is = ap (λ (written : Written). written.text) is }
-shows_none Text begun is = record { members = []; is = ap (λ (written : Written). written.text) is }
-shows_none Json begun is = record { members = []; is = ap (λ (written : Written). written.text) is }
-
--- those of one that was: they were begun, put and ended
-pub shows_some : (form : FieldForm) (begun all new : Written) → begun ≡ nothing form
-    → PutsSome begun all → new ≡ ended all → AreFields form new.text
-shows_some form begun all new begins some ends = record {
-  members = some.members;
-  is = ap (λ (written : Written). written.text)
-      (ends ∙ ap ended (some.puts.are ∙ ap (λ (written : Written). puts written some.members) begins)
-      ∙ fields_text-is form some.members);
-}

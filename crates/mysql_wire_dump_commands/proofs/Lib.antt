@@ -1,4 +1,5 @@
 pub mod FieldLemmas
 pub mod ValueLemmas
+pub mod PacketLemmas
 pub mod SourceLemmas
 pub mod DumpLemmas

@@ -17,7 +17,7 @@ use Rattle.mysql_wire_dump_commands.specs.declared.side.Side.{Side}
 use Rattle.mysql_wire_dump_commands.specs.declared.side.Side.TheVariants.{Client, Server}
 use Rattle.mysql_wire_dump_commands.specs.declared.source.End.{End}
 use Rattle.mysql_wire_dump_commands.specs.declared.source.End.TheVariants.{Encrypted}
-use Rattle.mysql_wire_dump_commands.specs.Fields.{AreFields}
+use Rattle.mysql_wire_dump_commands.specs.Packets.{AreFields}
 use Rattle.mysql_wire_dump_commands.specs.Lines.{packet_line, ending_line}
 use Rattle.mysql_wire_dump_commands.specs.Naming.{IsOrBytes, kind_at}
 use Rattle.mysql_wire_dump_commands.specs.Sources.{EndsAs, ReadWhole, framed}
@@ -42,8 +42,8 @@ abbrev pub field_form : Options → FieldForm
 field_form options = form_if options.has_fields options.form
 
 -- its length is the payload's; it is named by the session's place, its first byte and its length,
--- where its type reads it, and so where it is above the limit; and its fields are the text of some,
--- which is empty where none are asked for
+-- where its type reads it, and so where it is above the limit; and its fields are the text of those
+-- of some packet, which is empty where none are asked for
 pub record IsShown (options : Options) (shown : Shown) : Type 0 where
   pub len : shown.seen.len ≡ length shown.payload
   pub large : options.limit < length shown.payload → shown.seen.kind ≡ TooLarge

@@ -99,11 +99,6 @@ puts written (member ∷ members) = puts (put written member) members
 pub record Puts (members : List Member) (old new : Written) : Type 0 where
   pub are : new ≡ puts old members
 
--- some were
-pub record PutsSome (old new : Written) : Type 0 where
-  pub members : List Member
-  pub puts : Puts members old new
-
 abbrev pub with_end : FieldForm → List ℕ → List ℕ
 with_end Hidden text = text
 with_end Text text = text
@@ -127,8 +122,3 @@ value_of (given.Date date) = Date date.now
 value_of (given.Time time) = Time time.now
 value_of (given.Printed number) = Printed number.now
 value_of (given.Word word) = Word word.now
-
--- the fields of one packet, in this form
-pub record AreFields (form : FieldForm) (text : List ℕ) : Type 0 where
-  pub members : List Member
-  pub is : text ≡ fields_text form members

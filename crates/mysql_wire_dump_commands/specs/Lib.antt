@@ -14,3 +14,4 @@ pub mod ConnectionFields
 pub mod AnswerFields
 pub mod CommandFields
 pub mod ValueFields
+pub mod Packets

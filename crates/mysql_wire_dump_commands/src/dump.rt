@@ -3,7 +3,7 @@
 ghost use Rattle.std.specs.Prelude.{◌≡◌, ◌≢◌, ◌<◌, ◌≤◌, ◌⊎◌, ◌++◌, ◌∷◌, ℕ, List, [], length, IfOk, IfSome, OnOk, string_bytes, false};
 ghost use Rattle.std.specs.Io.KnownBytes.{Appends};
 ghost use Rattle.mysql_wire_dump_commands.specs.Dumped.{DumpEnds, Dumps, ending_lines, field_form, status_of};
-ghost use Rattle.mysql_wire_dump_commands.specs.Fields.{AreFields};
+ghost use Rattle.mysql_wire_dump_commands.specs.Packets.{AreFields};
 ghost use Rattle.mysql_wire_dump_commands.specs.Dumping.{Goes};
 ghost use Rattle.mysql_wire_dump_commands.specs.Moments.{moment_of};
 ghost use Rattle.mysql_wire_dump_commands.specs.Naming.{IsOrBytes, kind_at};
@@ -69,7 +69,7 @@ fn field_form(options: Options) -> FieldForm
 }
 
 // What a source's next packet is: its fields are put, and the session goes on behind it.
-#[tactic(auto, using(crate::proofs::FieldLemmas::shows_none, crate::proofs::FieldLemmas::shows_some))]
+#[tactic(auto, using(crate::proofs::PacketLemmas::shows_none, crate::proofs::PacketLemmas::shows_some))]
 fn name_packet<A: Allocator + Copy>(
     global: Global,
     side: Side,

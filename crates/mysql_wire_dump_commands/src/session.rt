@@ -1,4 +1,5 @@
 //! A session, packet by packet: what each is at its place, and the place behind it.
+#![tactic(auto, using(crate::proofs::PacketLemmas::puts_nothing))]
 
 mod answers;
 mod commands;
@@ -6,7 +7,7 @@ mod connection;
 mod rows;
 
 ghost use Rattle.std.specs.Prelude.{◌≡◌, IfOk, OnOk};
-ghost use Rattle.mysql_wire_dump_commands.specs.Fields.{PutsSome};
+ghost use Rattle.mysql_wire_dump_commands.specs.Packets.{PutsSome};
 ghost use Rattle.mysql_wire_dump_commands.specs.Naming.{IsOrBytes, kind_at};
 ghost use Rattle.mysql_wire_dump_commands.specs.Moments.{moment_of};
 ghost use Rattle.mysql_wire_dump_commands.specs.declared.place.Place.TheVariants.{Greeting};

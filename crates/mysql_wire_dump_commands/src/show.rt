@@ -9,13 +9,15 @@ ghost use Rattle.mysql_wire_dump_commands.specs.Fields.{Number, Octets, Puts, Wo
 mod answers;
 mod commands;
 mod connection;
+mod unread;
 mod values;
 
 use crate::fields::Fields;
 pub use answers::{column, column_count, eof, error, local_infile, ok, prepared, progress};
-pub use commands::{execute, fetch, long_data, number_of_statement, plain};
+pub use commands::{command, execute, fetch, long_data, number_of_statement};
 pub use connection::{auth_answer, auth_more_data, auth_switch, greeting, login, tls_request};
 use std::alloc::{AllocError, Allocator};
+pub use unread::{column_bytes, event, other_command, prepare, row_bytes, statistics};
 pub use values::{binary_row, text_row};
 use wire_field::row::Either;
 use wire_repr::text::{BytesRepr, RawBytes};

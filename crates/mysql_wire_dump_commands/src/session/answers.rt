@@ -1,7 +1,8 @@
 //! The first packets of answers.
+#![tactic(auto, using(crate::proofs::PacketLemmas::puts_nothing))]
 
 ghost use Rattle.std.specs.Prelude.{IfOk, OnOk};
-ghost use Rattle.mysql_wire_dump_commands.specs.Fields.{PutsSome};
+ghost use Rattle.mysql_wire_dump_commands.specs.Packets.{PutsSome};
 ghost use Rattle.mysql_wire_dump_commands.specs.Naming.{IsOrBytes};
 
 use super::{Session, refused};
@@ -69,11 +70,11 @@ impl<A: Allocator + Copy> Session<A> {
             Kind::Prepared => self.read_prepared(global, kind, payload, fields),
             Kind::Statistics => {
                 self.place = Place::Command;
-                fields.words("statistics", payload)?;
+                show::statistics(fields, payload)?;
                 Ok(kind)
             }
             Kind::BinaryLogEvent => {
-                fields.bytes("event", payload)?;
+                show::event(fields, payload)?;
                 Ok(kind)
             }
             _ => self.read_answer(global, kind, payload, fields),

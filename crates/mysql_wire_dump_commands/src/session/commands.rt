@@ -1,7 +1,8 @@
 //! Commands.
+#![tactic(auto, using(crate::proofs::PacketLemmas::puts_nothing))]
 
 ghost use Rattle.std.specs.Prelude.{IfOk, OnOk};
-ghost use Rattle.mysql_wire_dump_commands.specs.Fields.{PutsSome};
+ghost use Rattle.mysql_wire_dump_commands.specs.Packets.{PutsSome};
 ghost use Rattle.mysql_wire_dump_commands.specs.Naming.{IsOrBytes};
 
 use super::{Session, refused};
@@ -67,7 +68,7 @@ impl<A: Allocator + Copy> Session<A> {
             | Kind::ResetStatement
             | Kind::Fetch => self.read_statement(global, kind, payload, fields),
             _ => {
-                fields.bytes("payload", payload)?;
+                show::other_command(fields, payload)?;
                 Ok(kind)
             }
         }
@@ -86,7 +87,7 @@ impl<A: Allocator + Copy> Session<A> {
     {
         match ClientCommand::read(global, self.capabilities, payload) {
             Ok(command) => {
-                show::plain(fields, &command)?;
+                show::command(fields, &command)?;
                 Ok(kind)
             }
             Err(error) => refused(error),
@@ -126,7 +127,7 @@ impl<A: Allocator + Copy> Session<A> {
     {
         match read_whole::<ComStmtPrepare<'_>>(global, (), payload) {
             Ok(packet) => {
-                fields.words("query", packet.query)?;
+                show::prepare(fields, packet.query)?;
                 Ok(kind)
             }
             Err(error) => refused(error),

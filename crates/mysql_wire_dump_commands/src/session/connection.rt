@@ -1,7 +1,8 @@
 //! How a connection begins.
+#![tactic(auto, using(crate::proofs::PacketLemmas::puts_nothing))]
 
 ghost use Rattle.std.specs.Prelude.{IfOk, OnOk};
-ghost use Rattle.mysql_wire_dump_commands.specs.Fields.{PutsSome};
+ghost use Rattle.mysql_wire_dump_commands.specs.Packets.{PutsSome};
 ghost use Rattle.mysql_wire_dump_commands.specs.Naming.{IsOrBytes};
 
 use super::{Session, refused};

@@ -1,7 +1,8 @@
 //! Definitions of columns, and rows.
+#![tactic(auto, using(crate::proofs::PacketLemmas::puts_nothing))]
 
 ghost use Rattle.std.specs.Prelude.{IfOk, OnOk};
-ghost use Rattle.mysql_wire_dump_commands.specs.Fields.{PutsSome};
+ghost use Rattle.mysql_wire_dump_commands.specs.Packets.{PutsSome};
 ghost use Rattle.mysql_wire_dump_commands.specs.Naming.{IsOrBytes};
 
 use super::{MOST_COLUMNS, Session, refused};
@@ -88,7 +89,7 @@ impl<A: Allocator + Copy> Session<A> {
             (Kind::BinaryRow, _) => self.read_binary_row(global, kind, payload, fields),
             _ => {
                 // One of the columns of a table, with its default behind it.
-                fields.bytes("column", payload)?;
+                show::column_bytes(fields, payload)?;
                 Ok(kind)
             }
         }
@@ -209,7 +210,7 @@ impl<A: Allocator + Copy> Session<A> {
                 Err(stop) => Err(stop),
             },
             RowForm::Binary | RowForm::Unknown => {
-                fields.bytes("values", payload)?;
+                show::row_bytes(fields, payload)?;
                 Ok(kind)
             }
         }

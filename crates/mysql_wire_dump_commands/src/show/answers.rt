@@ -4,6 +4,7 @@ ghost use Rattle.std.specs.Prelude.{OnOk, codes};
 ghost use Rattle.mysql_wire_dump_commands.specs.AnswerFields.{column_count_fields, column_fields, column_names, eof_fields, error_fields, local_infile_fields, ok_fields, prepared_fields, progress_fields};
 ghost use Rattle.mysql_wire_dump_commands.specs.FieldTables.{row_if};
 ghost use Rattle.mysql_wire_dump_commands.specs.Fields.{Puts, Words};
+ghost use Rattle.mysql_wire_dump_commands.specs.Packets.{Column, Columns, Done, End, Failed, File, Prepared, Progress, PutsFields};
 
 use super::{put_bytes_if, put_number_if, put_side_if, put_words};
 use crate::fields::Fields;
@@ -21,7 +22,7 @@ pub fn ok<A: Allocator + Copy, const HEADER: u8>(
     fields: &mut Fields<A>,
     packet: &OkForm<'_, HEADER>,
 ) -> Result<(), AllocError>
-    ensures { OnOk result (Puts (ok_fields packet.now) fields.old fields.new) }
+    ensures { OnOk result (PutsFields (Done HEADER packet.now) fields.old fields.new) }
 {
     fields.number("affected_rows", packet.affected_rows)?;
     fields.number("last_insert_id", packet.last_insert_id)?;
@@ -48,7 +49,7 @@ pub fn error<A: Allocator + Copy>(
     fields: &mut Fields<A>,
     packet: &ErrPacket<'_>,
 ) -> Result<(), AllocError>
-    ensures { OnOk result (Puts (error_fields packet.now) fields.old fields.new) }
+    ensures { OnOk result (PutsFields (Failed packet.now) fields.old fields.new) }
 {
     fields.number("error_code", packet.error_code as u64)?;
     state(fields, &packet.sql_state)?;
@@ -60,7 +61,7 @@ pub fn progress<A: Allocator + Copy>(
     fields: &mut Fields<A>,
     packet: &ProgressReport<'_>,
 ) -> Result<(), AllocError>
-    ensures { OnOk result (Puts (progress_fields packet.now) fields.old fields.new) }
+    ensures { OnOk result (PutsFields (Progress packet.now) fields.old fields.new) }
 {
     fields.number("strings", packet.strings as u64)?;
     fields.number("stage", packet.stage as u64)?;
@@ -74,7 +75,7 @@ pub fn eof<A: Allocator + Copy>(
     fields: &mut Fields<A>,
     packet: &EofPacket,
 ) -> Result<(), AllocError>
-    ensures { OnOk result (Puts (eof_fields packet.now) fields.old fields.new) }
+    ensures { OnOk result (PutsFields (End packet.now) fields.old fields.new) }
 {
     fields.number("warnings", packet.warnings as u64)?;
     fields.flags("status_flags", packet.status_flags.0 as u64)?;
@@ -85,16 +86,17 @@ pub fn local_infile<A: Allocator + Copy>(
     fields: &mut Fields<A>,
     packet: &LocalInfileRequest<'_>,
 ) -> Result<(), AllocError>
-    ensures { OnOk result (Puts (local_infile_fields packet.now) fields.old fields.new) }
+    ensures { OnOk result (PutsFields (File packet.now) fields.old fields.new) }
 {
-    put_words(fields, "filename", &packet.file_name)
+    put_words(fields, "filename", &packet.file_name)?;
+    Ok(())
 }
 
 pub fn column_count<A: Allocator + Copy>(
     fields: &mut Fields<A>,
     packet: &ColumnCount,
 ) -> Result<(), AllocError>
-    ensures { OnOk result (Puts (column_count_fields packet.now) fields.old fields.new) }
+    ensures { OnOk result (PutsFields (Columns packet.now) fields.old fields.new) }
 {
     put_number_if(fields, "metadata_follows", packet.metadata_follows)?;
     fields.number("column_count", packet.column_count)?;
@@ -125,7 +127,7 @@ pub fn column<A: Allocator + Copy>(
     fields: &mut Fields<A>,
     packet: &ColumnDefinition41<'_>,
 ) -> Result<(), AllocError>
-    ensures { OnOk result (Puts (column_fields packet.now) fields.old fields.new) }
+    ensures { OnOk result (PutsFields (Column packet.now) fields.old fields.new) }
 {
     column_names(fields, packet)?;
     put_bytes_if(fields, "extended_metadata", &packet.extended_metadata)?;
@@ -141,7 +143,7 @@ pub fn prepared<A: Allocator + Copy>(
     fields: &mut Fields<A>,
     packet: &ComStmtPrepareOk,
 ) -> Result<(), AllocError>
-    ensures { OnOk result (Puts (prepared_fields packet.now) fields.old fields.new) }
+    ensures { OnOk result (PutsFields (Prepared packet.now) fields.old fields.new) }
 {
     fields.number("statement_id", packet.statement_id as u64)?;
     fields.number("num_columns", packet.num_columns as u64)?;

@@ -4,6 +4,7 @@ ghost use Rattle.std.specs.Prelude.{◌∷◌, [], OnOk, codes};
 ghost use Rattle.mysql_wire_dump_commands.specs.CommandFields.{attributed_query_fields, attributes_and_query, change_user_fields, change_user_options, execute_fields, fetch_fields, long_data_fields, number_fields, param_fields, params_fields, plain_fields};
 ghost use Rattle.mysql_wire_dump_commands.specs.FieldTables.{row_if};
 ghost use Rattle.mysql_wire_dump_commands.specs.Fields.{Number, Octets, Puts};
+ghost use Rattle.mysql_wire_dump_commands.specs.Packets.{Command, Execute, Fetch, LongData, OfStatement, PutsFields};
 
 use super::{put_bytes, put_bytes_if, put_words, put_words_if};
 use crate::fields::Fields;
@@ -80,8 +81,7 @@ fn change_user<A: Allocator + Copy>(
     Ok(())
 }
 
-/// A command without prepared statements.
-pub fn plain<A: Allocator + Copy>(
+fn put_plain<A: Allocator + Copy>(
     fields: &mut Fields<A>,
     command: &ClientCommand<'_>,
 ) -> Result<(), AllocError>
@@ -96,13 +96,25 @@ pub fn plain<A: Allocator + Copy>(
     }
 }
 
+/// A command without prepared statements.
+pub fn command<A: Allocator + Copy>(
+    fields: &mut Fields<A>,
+    command: &ClientCommand<'_>,
+) -> Result<(), AllocError>
+    ensures { OnOk result (PutsFields (Command command.now) fields.old fields.new) }
+{
+    put_plain(fields, command)?;
+    Ok(())
+}
+
 pub fn number_of_statement<A: Allocator + Copy>(
     fields: &mut Fields<A>,
     statement_id: u32,
 ) -> Result<(), AllocError>
-    ensures { OnOk result (Puts (number_fields statement_id) fields.old fields.new) }
+    ensures { OnOk result (PutsFields (OfStatement statement_id) fields.old fields.new) }
 {
-    fields.number("statement_id", statement_id as u64)
+    fields.number("statement_id", statement_id as u64)?;
+    Ok(())
 }
 
 fn types<A: Allocator + Copy>(
@@ -145,7 +157,7 @@ pub fn execute<A: Allocator + Copy>(
     fields: &mut Fields<A>,
     packet: &ComStmtExecute<'_>,
 ) -> Result<(), AllocError>
-    ensures { OnOk result (Puts (execute_fields packet.now) fields.old fields.new) }
+    ensures { OnOk result (PutsFields (Execute packet.now) fields.old fields.new) }
 {
     fields.number("statement_id", packet.statement_id as u64)?;
     fields.flags("flags", packet.flags.0 as u64)?;
@@ -158,7 +170,7 @@ pub fn long_data<A: Allocator + Copy>(
     fields: &mut Fields<A>,
     packet: &ComStmtSendLongData<'_>,
 ) -> Result<(), AllocError>
-    ensures { OnOk result (Puts (long_data_fields packet.now) fields.old fields.new) }
+    ensures { OnOk result (PutsFields (LongData packet.now) fields.old fields.new) }
 {
     fields.number("statement_id", packet.statement_id as u64)?;
     fields.number("param_id", packet.param_id as u64)?;
@@ -170,7 +182,7 @@ pub fn fetch<A: Allocator + Copy>(
     fields: &mut Fields<A>,
     packet: &ComStmtFetch,
 ) -> Result<(), AllocError>
-    ensures { OnOk result (Puts (fetch_fields packet.now) fields.old fields.new) }
+    ensures { OnOk result (PutsFields (Fetch packet.now) fields.old fields.new) }
 {
     fields.number("statement_id", packet.statement_id as u64)?;
     fields.number("num_rows", packet.num_rows as u64)?;

@@ -5,6 +5,7 @@ ghost use Rattle.std.specs.Prelude.{◌∷◌, [], OnOk, codes};
 ghost use Rattle.wire_field.specs.Rows.{by_side};
 ghost use Rattle.mysql_wire_dump_commands.specs.ConnectionFields.{auth_answer_fields, auth_more_data_fields, auth_switch_fields, greeting_fields, login_fields, login_options, tls_request_fields};
 ghost use Rattle.mysql_wire_dump_commands.specs.Fields.{Octets, Puts};
+ghost use Rattle.mysql_wire_dump_commands.specs.Packets.{AuthAnswer, AuthSwitch, Greeting, Login, MoreData, PutsFields, TlsRequest};
 
 use super::{put_bytes, put_bytes_if, put_number_if, put_side_if, put_words, put_words_if};
 use crate::fields::Fields;
@@ -21,7 +22,7 @@ pub fn greeting<A: Allocator + Copy>(
     fields: &mut Fields<A>,
     packet: &HandshakeV10<'_>,
 ) -> Result<(), AllocError>
-    ensures { OnOk result (Puts (greeting_fields packet.now) fields.old fields.new) }
+    ensures { OnOk result (PutsFields (Greeting packet.now) fields.old fields.new) }
 {
     put_words(fields, "server_version", &packet.server_version)?;
     fields.number("thread_id", packet.thread_id as u64)?;
@@ -47,7 +48,7 @@ pub fn tls_request<A: Allocator + Copy>(
     fields: &mut Fields<A>,
     packet: &SslRequest,
 ) -> Result<(), AllocError>
-    ensures { OnOk result (Puts (tls_request_fields packet.now) fields.old fields.new) }
+    ensures { OnOk result (PutsFields (TlsRequest packet.now) fields.old fields.new) }
 {
     fields.flags("client_flag", packet.client_flag.0 as u64)?;
     fields.number("max_packet_size", packet.max_packet_size as u64)?;
@@ -90,7 +91,7 @@ pub fn login<A: Allocator + Copy>(
     fields: &mut Fields<A>,
     packet: &HandshakeResponse41<'_>,
 ) -> Result<(), AllocError>
-    ensures { OnOk result (Puts (login_fields packet.now) fields.old fields.new) }
+    ensures { OnOk result (PutsFields (Login packet.now) fields.old fields.new) }
 {
     fields.flags("client_flag", packet.client_flag.0 as u64)?;
     fields.number("max_packet_size", packet.max_packet_size as u64)?;
@@ -106,7 +107,7 @@ pub fn auth_switch<A: Allocator + Copy>(
     fields: &mut Fields<A>,
     packet: &AuthSwitchRequest<'_>,
 ) -> Result<(), AllocError>
-    ensures { OnOk result (Puts (auth_switch_fields packet.now) fields.old fields.new) }
+    ensures { OnOk result (PutsFields (AuthSwitch packet.now) fields.old fields.new) }
 {
     put_words(fields, "plugin_name", &packet.plugin_name)?;
     put_bytes(fields, "plugin_data", &packet.plugin_data)?;
@@ -117,16 +118,18 @@ pub fn auth_more_data<A: Allocator + Copy>(
     fields: &mut Fields<A>,
     packet: &AuthMoreData<'_>,
 ) -> Result<(), AllocError>
-    ensures { OnOk result (Puts (auth_more_data_fields packet.now) fields.old fields.new) }
+    ensures { OnOk result (PutsFields (MoreData packet.now) fields.old fields.new) }
 {
-    put_bytes(fields, "data", &packet.data)
+    put_bytes(fields, "data", &packet.data)?;
+    Ok(())
 }
 
 pub fn auth_answer<A: Allocator + Copy>(
     fields: &mut Fields<A>,
     packet: &AuthSwitchResponse<'_>,
 ) -> Result<(), AllocError>
-    ensures { OnOk result (Puts (auth_answer_fields packet.now) fields.old fields.new) }
+    ensures { OnOk result (PutsFields (AuthAnswer packet.now) fields.old fields.new) }
 {
-    put_bytes(fields, "data", &packet.data)
+    put_bytes(fields, "data", &packet.data)?;
+    Ok(())
 }

@@ -3,6 +3,7 @@
 ghost use Rattle.std.specs.Float.{binary32, binary64};
 ghost use Rattle.std.specs.Prelude.{◌≡◌, ◌++◌, IfOk, OnOk};
 ghost use Rattle.mysql_wire_dump_commands.specs.Fields.{Written};
+ghost use Rattle.mysql_wire_dump_commands.specs.Packets.{PutsFields, Row, Texts};
 ghost use Rattle.mysql_wire_dump_commands.specs.ValueFields.{IsTypeOf, PutsColumn, PutsFloat, PutsRow, PutsShown, PutsText, PutsTexts, PutsValues};
 
 use crate::fields::{FieldValue, Fields};
@@ -41,8 +42,8 @@ fn put_text<A: Allocator + Copy>(
     }
 }
 
-/// Reads a row of so many columns, value by value, and puts each. The answer is why it is none.
-pub fn text_row<A: Allocator + Copy>(
+// Reads a row of so many columns, value by value, and puts each. The answer is why it is none.
+fn put_texts<A: Allocator + Copy>(
     global: Global,
     fields: &mut Fields<A>,
     columns: u64,
@@ -63,6 +64,21 @@ pub fn text_row<A: Allocator + Copy>(
     } else {
         Some(Refusal::TrailingBytes)
     })
+}
+
+/// Reads a row of so many columns, value by value, and puts each. The answer is why it is none.
+pub fn text_row<A: Allocator + Copy>(
+    global: Global,
+    fields: &mut Fields<A>,
+    columns: u64,
+    payload: &[u8],
+) -> Result<Option<Refusal>, Stop>
+    ensures texts { IfOk result (λ refusal. PutsTexts columns payload.now refusal
+        fields.old fields.new) }
+    ensures fields { OnOk result (PutsFields (Texts payload.now) fields.old fields.new) }
+{
+    let refusal = put_texts(global, fields, columns, payload)?;
+    Ok(refusal)
 }
 
 // Puts a number of these bits.
@@ -176,9 +192,9 @@ fn binary_values<A: Allocator + Copy>(
     Ok(None)
 }
 
-/// Puts the values of a row whose columns have these types, where there are as many, and else the
-/// row's bytes.
-pub fn binary_row<A: Allocator + Copy>(
+// Puts the values of a row whose columns have these types, where there are as many, and else the
+// row's bytes.
+fn put_row<A: Allocator + Copy>(
     global: Global,
     fields: &mut Fields<A>,
     columns: u64,
@@ -194,4 +210,22 @@ pub fn binary_row<A: Allocator + Copy>(
     fields.bytes("null_bitmap", row.nulls.0)?;
     fields.bytes("values", row.values)?;
     Ok(None)
+}
+
+/// Puts the values of a row whose columns have these types, where there are as many, and else the
+/// row's bytes. The answer is why it is none.
+pub fn binary_row<A: Allocator + Copy>(
+    global: Global,
+    fields: &mut Fields<A>,
+    columns: u64,
+    types: &[u8],
+    row: &BinaryRow<'_>,
+) -> Result<Option<Refusal>, Stop>
+    ensures row { IfOk result (λ refusal. PutsRow columns types.now row.now refusal fields.old
+        fields.new) }
+    ensures fields { OnOk result (PutsFields (Row columns types.now row.now) fields.old
+        fields.new) }
+{
+    let refusal = put_row(global, fields, columns, types, row)?;
+    Ok(refusal)
 }

@@ -1,6 +1,12 @@
+use Rattle.std.proofs.Common.{refl}
+use Rattle.mysql_wire_dump_commands.specs.CommandFields.{fetch_fields}
 use Rattle.mysql_wire_dump_commands.proofs.FieldLemmas.{puts_then}
 use Rattle.mysql_wire_dump_commands.proofs.show.commands.fetch.Goals as goal
 
 pub returns : goal.returns
 returns g c =
-    puts_then c.in_ok-number.ensures c.in_ok-number-2.ensures
+    record {
+      members = fetch_fields c.args.packet.now;
+      has = refl;
+      puts = puts_then c.in_ok-number.ensures c.in_ok-number-2.ensures;
+    }

@@ -1,7 +1,6 @@
-use Rattle.std.proofs.Common.{inr, refl}
-use Rattle.mysql_wire_dump_commands.proofs.FieldLemmas.{puts_then}
+use Rattle.mysql_wire_dump_commands.proofs.PacketLemmas.{row-fields}
 use Rattle.mysql_wire_dump_commands.proofs.show.values.binary_row.Goals as goal
 
-pub returns : goal.returns
-returns g c =
-    inr (c.if-types-columns.false, (refl, puts_then c.in_ok-bytes.ensures c.in_ok-bytes-2.ensures))
+pub returns-clause-fields : goal.returns-clause-fields
+returns-clause-fields g c =
+    row-fields c.args.columns c.args.types.now c.args.row.now c.in_ok-refusal.refusal c.args.fields.now c.put_row.new.fields c.in_ok-refusal.ensures
