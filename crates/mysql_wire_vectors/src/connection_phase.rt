@@ -3,19 +3,22 @@
 ghost use Rattle.std.specs.Prelude.{◌++◌};
 
 use bytes::BytesMut;
-use connection_examples::client::{Connecting, Greeted, Greeting, Outcome, Waiting};
+use connection_examples::client::{
+    Asked, Connecting, Greeted, Greeting, LoggedIn, Outcome, Waiting,
+};
 use connection_examples::secret::Secret;
 use connection_examples::server::{self, Accepted, Asking, Deciding, First};
 use mysql_wire::constants::Flags;
 use mysql_wire::io::ParseBuf;
 use mysql_wire::misc::raw::{Either, RawBytes, RawFlags};
 use mysql_wire_connection::auth_switch::AuthSwitchRequest;
+use mysql_wire_connection::auth_switch_response::AuthSwitchResponse;
 use mysql_wire_connection::handshake::HandshakeV10;
 use mysql_wire_connection::handshake_response::HandshakeResponse41;
-use mysql_wire_packets::ok_packet::OkForm;
+use mysql_wire_packets::ok_packet::{OkForm, OkPacket};
 use std::alloc::{AllocError, Global};
 use std::test::Fail;
-use test_support::facts::all_hold;
+use test_support::facts::{all_hold, same};
 
 const LIMIT: usize = 1024;
 
@@ -103,6 +106,18 @@ fn logs_in(alloc: Global, greeted: Greeted<'_>, wire: &mut BytesMut) -> Option<W
     greeted.log_in(&login(answer.as_slice()), wire).ok()
 }
 
+fn is_login(sent: HandshakeResponse41<'_>) -> bool {
+    sent == login(b"firstabcdefghijklmnopqrst")
+}
+
+fn switches(deciding: Deciding, wire: &mut BytesMut) -> Option<Asking> {
+    let request = AuthSwitchRequest {
+        plugin_name: RawBytes::from(b"other".as_slice()),
+        plugin_data: RawBytes::from(b"uvw".as_slice()),
+    };
+    deciding.switch(&request, wire).ok()
+}
+
 // The server takes the login, and asks for another plugin.
 fn asks(
     alloc: Global,
@@ -113,16 +128,27 @@ fn asks(
     if !greeting.line.has_packet(input) {
         return None;
     }
-    let request = AuthSwitchRequest {
-        plugin_name: RawBytes::from(b"other".as_slice()),
-        plugin_data: RawBytes::from(b"uvw".as_slice()),
-    };
     match greeting.receive(alloc, input) {
-        Ok(First::Login(deciding, sent)) if sent == login(b"firstabcdefghijklmnopqrst") => {
-            deciding.switch(&request, wire).ok()
+        Ok(First::Login(deciding, sent)) => {
+            if is_login(sent) {
+                switches(deciding, wire)
+            } else {
+                None
+            }
         }
         _ => None,
     }
+}
+
+fn answers_to(
+    alloc: Global,
+    asked: Asked,
+    request: AuthSwitchRequest<'_>,
+    wire: &mut BytesMut,
+) -> Option<Waiting> {
+    let plugin_data = request.plugin_data.as_bytes();
+    let plugin = request.plugin_name.as_bytes();
+    asked.answer(alloc, &Echo, plugin, plugin_data, wire).ok()
 }
 
 fn answers(
@@ -135,13 +161,13 @@ fn answers(
         return None;
     }
     match waiting.receive(alloc, input) {
-        Ok(Outcome::Switch(asked, request)) => {
-            let plugin_data = request.plugin_data.as_bytes();
-            let plugin = request.plugin_name.as_bytes();
-            asked.answer(alloc, &Echo, plugin, plugin_data, wire).ok()
-        }
+        Ok(Outcome::Switch(asked, request)) => answers_to(alloc, asked, request, wire),
         _ => None,
     }
+}
+
+fn is_answer(response: AuthSwitchResponse<'_>) -> bool {
+    same(response.data.as_bytes(), b"otheruvw")
 }
 
 fn takes_answer(alloc: Global, asking: Asking, input: &mut ParseBuf<'_>) -> Option<Deciding> {
@@ -149,10 +175,8 @@ fn takes_answer(alloc: Global, asking: Asking, input: &mut ParseBuf<'_>) -> Opti
         return None;
     }
     match asking.receive(alloc, input) {
-        Ok((deciding, response)) if response.data.as_bytes() == b"otheruvw".as_slice() => Some(
-            deciding,
-        ),
-        _ => None,
+        Ok((deciding, response)) => is_answer(response).then_some(deciding),
+        Err(_) => None,
     }
 }
 
@@ -168,16 +192,18 @@ fn accepts(deciding: Deciding, wire: &mut BytesMut) -> Option<server::LoggedIn> 
     deciding.accept(&ok, wire).ok()
 }
 
+fn is_done(logged_in: LoggedIn, ok: OkPacket<'_>) -> bool {
+    (logged_in.line.codec.sequence_id() == 0)
+        & (logged_in.capabilities.bits() == FLAGS)
+        & (ok.status_flags.0 == 2)
+}
+
 fn is_in(alloc: Global, waiting: Waiting, input: &mut ParseBuf<'_>) -> bool {
     if !waiting.line.has_packet(input) {
         return false;
     }
     match waiting.receive(alloc, input) {
-        Ok(Outcome::Done(logged_in, ok)) => {
-            (logged_in.line.codec.sequence_id() == 0)
-                & (logged_in.capabilities.bits() == FLAGS)
-                & (ok.status_flags.0 == 2)
-        }
+        Ok(Outcome::Done(logged_in, ok)) => is_done(logged_in, ok),
         _ => false,
     }
 }
@@ -187,68 +213,95 @@ fn id_of(wire: &BytesMut) -> Option<u8> {
     wire.as_slice().get(3).copied()
 }
 
-// Both ends, each over what the other sent.
-fn both_ends(alloc: Global) -> Option<[bool; 7]> {
-    let mut hello = BytesMut::new(alloc);
-    let mut first = BytesMut::new(alloc);
-    let mut request = BytesMut::new(alloc);
-    let mut second = BytesMut::new(alloc);
-    let mut verdict = BytesMut::new(alloc);
-    let greeting = Accepted::new(LIMIT).greet(&greeting(), &mut hello).ok()?;
+// Both ends up to the second plugin, each over what the other sent.
+fn both_begin(
+    alloc: Global,
+    hello: &mut BytesMut,
+    first: &mut BytesMut,
+    request: &mut BytesMut,
+) -> Option<(Waiting, Asking)> {
+    let greeting = Accepted::new(LIMIT).greet(&greeting(), hello).ok()?;
     let greeted = is_greeted(alloc, &mut ParseBuf(hello.as_slice()))?;
-    let waiting = logs_in(alloc, greeted, &mut first)?;
-    let asking = asks(
-        alloc,
-        greeting,
-        &mut ParseBuf(first.as_slice()),
-        &mut request,
-    )?;
-    let waiting = answers(
-        alloc,
-        waiting,
-        &mut ParseBuf(request.as_slice()),
-        &mut second,
-    )?;
+    let waiting = logs_in(alloc, greeted, first)?;
+    let asking = asks(alloc, greeting, &mut ParseBuf(first.as_slice()), request)?;
+    Some((waiting, asking))
+}
+
+// And from there on: whether the client is in, and whether the server's next id is 0.
+fn both_end(
+    alloc: Global,
+    (waiting, asking): (Waiting, Asking),
+    request: &mut BytesMut,
+    second: &mut BytesMut,
+    verdict: &mut BytesMut,
+) -> Option<[bool; 2]> {
+    let waiting = answers(alloc, waiting, &mut ParseBuf(request.as_slice()), second)?;
     let deciding = takes_answer(alloc, asking, &mut ParseBuf(second.as_slice()))?;
-    let logged_in = accepts(deciding, &mut verdict)?;
+    let logged_in = accepts(deciding, verdict)?;
     Some([
-        id_of(&hello) == Some(0),
-        id_of(&first) == Some(1),
-        id_of(&request) == Some(2),
-        id_of(&second) == Some(3),
-        id_of(&verdict) == Some(4),
         is_in(alloc, waiting, &mut ParseBuf(verdict.as_slice())),
         logged_in.line.codec.sequence_id() == 0,
     ])
 }
 
+// Whether the packets that were sent bear the ids from 0 on.
+fn have_ids([hello, first, request, second, verdict]: [&BytesMut; 5]) -> bool {
+    let ids = [
+        id_of(hello),
+        id_of(first),
+        id_of(request),
+        id_of(second),
+        id_of(verdict),
+    ];
+    ids == [Some(0), Some(1), Some(2), Some(3), Some(4)]
+}
+
+fn both_ends(alloc: Global) -> [bool; 3] {
+    let mut hello = BytesMut::new(alloc);
+    let mut first = BytesMut::new(alloc);
+    let mut request = BytesMut::new(alloc);
+    let mut second = BytesMut::new(alloc);
+    let mut verdict = BytesMut::new(alloc);
+    let ends = match both_begin(alloc, &mut hello, &mut first, &mut request) {
+        Some(states) => both_end(alloc, states, &mut request, &mut second, &mut verdict),
+        None => None,
+    };
+    let [is_in, begins_again] = ends.unwrap_or([false; 2]);
+    let have_ids = have_ids([&hello, &first, &request, &second, &verdict]);
+    [is_in, begins_again, have_ids]
+}
+
 #[test]
 fn both_ends_go_through_the_connection_phase(rt: HostRuntime) -> Result<(), Fail> {
-    match both_ends(rt.alloc()) {
-        Some(facts) => all_hold(&facts),
-        None => Err(Fail::new("a step was refused")),
+    all_hold(&both_ends(rt.alloc()))
+}
+
+// Whether this is answered to the plugin that the server begins with.
+fn is_answered(alloc: Global, greeted: &Greeted<'_>, wanted: &[u8]) -> bool {
+    match answer_of(alloc, greeted) {
+        Ok(answer) => same(answer.as_slice(), wanted),
+        Err(_) => false,
     }
 }
 
 // The client on a greeting that was recorded.
-fn recorded(alloc: Global) -> Option<[bool; 4]> {
+fn recorded(alloc: Global, wire: &mut BytesMut) -> Option<[bool; 4]> {
     let mut input = ParseBuf(RECORDED);
-    let mut wire = BytesMut::new(alloc);
     let greeted = is_greeted(alloc, &mut input)?;
-    let left = input.len();
-    let answer = answer_of(alloc, &greeted).ok()?;
-    let waiting = greeted.log_in(&login(answer.as_slice()), &mut wire).ok()?;
+    let wanted = b"mysql_native_passwordpf1^feHv<dfUT&_/g>>[";
+    let is_answered = is_answered(alloc, &greeted, wanted);
+    let waiting = logs_in(alloc, greeted, wire)?;
     Some([
-        left == 0,
-        answer.as_slice() == b"mysql_native_passwordpf1^feHv<dfUT&_/g>>[".as_slice(),
-        id_of(&wire) == Some(1),
+        input.is_empty(),
+        is_answered,
+        id_of(wire) == Some(1),
         waiting.capabilities.bits() == FLAGS,
     ])
 }
 
 #[test]
 fn a_recorded_greeting_is_answered(rt: HostRuntime) -> Result<(), Fail> {
-    match recorded(rt.alloc()) {
+    match recorded(rt.alloc(), &mut BytesMut::new(rt.alloc())) {
         Some(facts) => all_hold(&facts),
         None => Err(Fail::new("a step was refused")),
     }

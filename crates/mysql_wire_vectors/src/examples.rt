@@ -164,7 +164,7 @@ fn ids_go_on_with_0_after_255(alloc: Global) -> bool {
     let stream = empty_packets(alloc);
     let mut receiver = Receiver::new(alloc, 0);
     let waits = receiver.deliver(&[stream.as_slice()]) == (1, Told::Waits);
-    waits & (receiver.out.len() == 257) & (receiver.next_id() == Some(1))
+    waits & (receiver.out.len() == 257) & (receiver.codec.sequence_id() == 1)
 }
 
 #[test]
