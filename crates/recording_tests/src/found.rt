@@ -68,6 +68,16 @@ impl Found {
         }
     }
 
+    /// The same, where the packet is let go.
+    pub fn taken<T: MySerialize + Shown + Drop>(
+        alloc: Global,
+        kind: Kind,
+        packet: T,
+        payload: Payload<'_>,
+    ) -> Found {
+        Found::of(alloc, kind, &packet, payload)
+    }
+
     /// Of a payload that is one packet of this type.
     pub fn exact<'a, T: MySerialize + Shown + MyDeserialize<'a, Global>>(
         alloc: Global,
@@ -76,7 +86,7 @@ impl Found {
         payload: Payload<'a>,
     ) -> Found {
         match read_exact::<T>(alloc, ctx, payload.bytes) {
-            Ok(packet) => Found::of(alloc, kind, &packet, payload),
+            Ok(packet) => Found::taken(alloc, kind, packet, payload),
             Err(_) => Found::refused(kind, payload),
         }
     }

@@ -6,12 +6,13 @@ use crate::place::{Defined, Kind, Place};
 use crate::statement::has_columns;
 use crate::statements::Statements;
 use mysql_wire::constants::{CapabilityFlags, ColumnType, Flags, MariadbCapabilities, StatusFlags};
-use mysql_wire::misc::raw::RawFlags;
 use mysql_wire::misc::raw::int::LeU16;
+use mysql_wire::misc::raw::{RawConst, RawFlags};
 use mysql_wire_connection::auth_answer::AuthAnswer;
 use mysql_wire_connection::auth_switch_response::AuthSwitchResponse;
 use mysql_wire_connection::first_packet::{ClientFirst, ServerFirst};
 use mysql_wire_packets::eof_packet::EofPacket;
+use mysql_wire_packets::ok_packet::OkForm;
 use mysql_wire_packets::places::{PayloadError, read_whole};
 use mysql_wire_packets::progress_report::ProgressReport;
 use mysql_wire_queries::client_command::ClientCommand;
@@ -37,6 +38,16 @@ pub struct Session {
     // Whether the rows are in the binary form.
     is_binary: bool,
     place: Place,
+}
+
+// Of a payload that was read as an OK.
+fn of_ok<const HEADER: u8>(alloc: Global, ok: OkForm<'_, HEADER>, payload: Payload<'_>) -> Found {
+    Found::of(alloc, Kind::Ok, &ok, payload).and(has_changes(alloc, &ok))
+}
+
+// Of a payload that was read as a column.
+fn of_column(alloc: Global, column: ColumnDefinition41<'_>, payload: Payload<'_>) -> Found {
+    Found::of(alloc, Kind::Column, &column, payload).and(has_details(alloc, &column))
 }
 
 impl Session {
@@ -106,9 +117,9 @@ impl Session {
         self.place = Place::Login;
         match ServerFirst::read(alloc, payload.bytes) {
             Ok(ServerFirst::Greeting(greeting)) => {
-                Found::of(alloc, Kind::Greeting, &greeting, payload)
+                Found::taken(alloc, Kind::Greeting, greeting, payload)
             }
-            Ok(ServerFirst::Failed(error)) => Found::of(alloc, Kind::Error, &error, payload),
+            Ok(ServerFirst::Failed(error)) => Found::taken(alloc, Kind::Error, error, payload),
             Err(_) => Found::refused(Kind::Greeting, payload),
         }
     }
@@ -124,7 +135,7 @@ impl Session {
                 {
                     self.mariadb = login.mariadb_capabilities.get();
                 }
-                Found::of(alloc, Kind::Login, &login, payload)
+                Found::taken(alloc, Kind::Login, login, payload)
             }
             Ok(ClientFirst::Tls(_)) | Err(_) => Found::refused(Kind::Login, payload),
         }
@@ -134,11 +145,11 @@ impl Session {
         match AuthAnswer::read(alloc, self.capabilities, payload.bytes) {
             Ok(AuthAnswer::Done(ok)) => {
                 self.end(ok.status_flags);
-                Found::of(alloc, Kind::Ok, &ok, payload).and(has_changes(alloc, &ok))
+                of_ok(alloc, ok, payload)
             }
-            Ok(AuthAnswer::Failed(error)) => Found::of(alloc, Kind::Error, &error, payload),
+            Ok(AuthAnswer::Failed(error)) => Found::taken(alloc, Kind::Error, error, payload),
             Ok(AuthAnswer::Switch(request)) => {
-                Found::of(alloc, Kind::AuthSwitch, &request, payload)
+                Found::taken(alloc, Kind::AuthSwitch, request, payload)
             }
             Ok(AuthAnswer::MoreData(_)) | Err(_) => Found::refused(Kind::AuthSwitch, payload),
         }
@@ -150,19 +161,19 @@ impl Session {
         match ClientCommand::read(alloc, self.capabilities, payload.bytes) {
             Ok(ClientCommand::Quit(quit)) => {
                 self.place = Place::End;
-                Found::of(alloc, Kind::Quit, &quit, payload)
+                Found::taken(alloc, Kind::Quit, quit, payload)
             }
             Ok(ClientCommand::InitDb(init)) => {
-                Found::of(alloc, Kind::InitDatabase, &init, payload)
+                Found::taken(alloc, Kind::InitDatabase, init, payload)
             }
-            Ok(ClientCommand::Query(query)) => Found::of(alloc, Kind::Query, &query, payload),
+            Ok(ClientCommand::Query(query)) => Found::taken(alloc, Kind::Query, query, payload),
             Ok(ClientCommand::AttributedQuery(query)) => {
-                Found::of(alloc, Kind::Query, &query, payload)
+                Found::taken(alloc, Kind::Query, query, payload)
             }
-            Ok(ClientCommand::Ping(ping)) => Found::of(alloc, Kind::Ping, &ping, payload),
+            Ok(ClientCommand::Ping(ping)) => Found::taken(alloc, Kind::Ping, ping, payload),
             Ok(ClientCommand::ChangeUser(change)) => {
                 self.place = Place::Authentication;
-                Found::of(alloc, Kind::ChangeUser, &change, payload)
+                Found::taken(alloc, Kind::ChangeUser, change, payload)
             }
             Err(PayloadError::OtherHeader(header)) => self.other_command(alloc, header, payload),
             Err(_) => Found::refused(Kind::Query, payload),
@@ -214,12 +225,12 @@ impl Session {
         match QueryAnswer::read(alloc, self.capabilities, self.mariadb, payload.bytes) {
             Ok(QueryAnswer::Done(ok)) => {
                 self.end(ok.status_flags);
-                Found::of(alloc, Kind::Ok, &ok, payload).and(has_changes(alloc, &ok))
+                of_ok(alloc, ok, payload)
             }
-            Ok(QueryAnswer::Failed(error)) => Found::of(alloc, Kind::Error, &error, payload),
+            Ok(QueryAnswer::Failed(error)) => Found::taken(alloc, Kind::Error, error, payload),
             Ok(QueryAnswer::File(request)) => {
                 self.place = Place::File;
-                Found::of(alloc, Kind::LocalInfile, &request, payload)
+                Found::taken(alloc, Kind::LocalInfile, request, payload)
             }
             Ok(QueryAnswer::Columns(count)) => {
                 self.columns = count.column_count;
@@ -230,7 +241,7 @@ impl Session {
                     self.types.clear();
                     self.definitions(Defined::Rows, count.column_count)
                 };
-                Found::of(alloc, Kind::ColumnCount, &count, payload)
+                Found::taken(alloc, Kind::ColumnCount, count, payload)
             }
             Err(_) => Found::refused(Kind::ColumnCount, payload),
         }
@@ -247,7 +258,7 @@ impl Session {
                     self.statements.add(alloc, prepared),
                 )
             }
-            Ok(PrepareAnswer::Failed(error)) => Found::of(alloc, Kind::Error, &error, payload),
+            Ok(PrepareAnswer::Failed(error)) => Found::taken(alloc, Kind::Error, error, payload),
             Err(_) => Found::refused(Kind::Prepared, payload),
         }
     }
@@ -280,18 +291,21 @@ impl Session {
         };
         match read_whole::<ColumnDefinition41<'_>>(alloc, self.mariadb, payload.bytes) {
             Ok(column) => {
-                let is_known = match (of, column.column_type.get()) {
-                    (Defined::Parameters, Ok(_)) => true,
-                    (Defined::Rows | Defined::Columns, Ok(column_type)) => {
-                        self.types.push(column_type).is_ok()
-                    }
-                    (_, Err(_)) => false,
-                };
-                Found::of(alloc, Kind::Column, &column, payload)
-                    .and(is_known)
-                    .and(has_details(alloc, &column))
+                let is_known = self.knows(of, column.column_type);
+                of_column(alloc, column, payload).and(is_known)
             }
             Err(_) => Found::refused(Kind::Column, payload),
+        }
+    }
+
+    // Whether a column's type is known. That of rows is kept.
+    fn knows(&mut self, of: Defined, column_type: RawConst<u8, ColumnType>) -> bool {
+        match (of, column_type.get()) {
+            (Defined::Parameters, Ok(_)) => true,
+            (Defined::Rows | Defined::Columns, Ok(column_type)) => {
+                self.types.push(column_type).is_ok()
+            }
+            (_, Err(_)) => false,
         }
     }
 
@@ -299,19 +313,19 @@ impl Session {
         let count = self.columns as usize;
         match RowAnswer::read(alloc, self.capabilities, count, payload.bytes) {
             Ok(RowAnswer::Row(row)) => {
-                Found::of(alloc, Kind::Row, &row, payload).and(!self.is_binary)
+                Found::taken(alloc, Kind::Row, row, payload).and(!self.is_binary)
             }
             Ok(RowAnswer::Eof(eof)) => {
                 self.end(eof.status_flags);
-                Found::of(alloc, Kind::Eof, &eof, payload)
+                Found::taken(alloc, Kind::Eof, eof, payload)
             }
             Ok(RowAnswer::End(end)) => {
                 self.end(end.status_flags);
-                Found::of(alloc, Kind::Eof, &end, payload)
+                Found::taken(alloc, Kind::Eof, end, payload)
             }
             Ok(RowAnswer::Failed(error)) => {
                 self.place = Place::Command;
-                Found::of(alloc, Kind::Error, &error, payload)
+                Found::taken(alloc, Kind::Error, error, payload)
             }
             Err(_) => Found::refused(Kind::Row, payload),
         }
