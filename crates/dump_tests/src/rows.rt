@@ -2,7 +2,7 @@
 
 use crate::run::{FIELDS, JSON, JSON_FIELDS, PLAIN, Row, wrong_row};
 use mysql_wire_dump_commands::dump::{Options, Sides};
-use mysql_wire_dump_commands::lines::LineForm;
+use mysql_wire_dump_lines::lines::LineForm;
 use std::test::Fail;
 use test_support::facts::no_row;
 

@@ -1,7 +1,7 @@
 // A dump of bytes in hand.
 
 use mysql_wire_dump_commands::dump::{Options, Sides, run_dump};
-use mysql_wire_dump_commands::lines::LineForm;
+use mysql_wire_dump_lines::lines::LineForm;
 use std::alloc::Global;
 
 pub const PLAIN: Options = Options {

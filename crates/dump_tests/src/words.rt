@@ -2,7 +2,7 @@
 
 use mysql_wire_dump_commands::arguments::{Asked, Request, what_is_asked};
 use mysql_wire_dump_commands::dump::Options;
-use mysql_wire_dump_commands::lines::LineForm;
+use mysql_wire_dump_lines::lines::LineForm;
 use std::alloc::{AllocError, Global};
 use std::test::Fail;
 use test_support::facts::ensure;

@@ -2,7 +2,7 @@
 #![tactic(auto)]
 
 use mysql_wire_dump_commands::arguments::run_words;
-use mysql_wire_dump_commands::status::fault_text;
+use mysql_wire_dump_lines::status::fault_text;
 use std::io::ErrorKind;
 use std::process::ExitCode;
 use std::{env, io};

@@ -10,27 +10,27 @@ use Rattle.wire_span.specs.Spans.{span_state}
 use Rattle.mysql_wire_dump_commands.specs.declared.dump.Dump.{Dump}
 use Rattle.mysql_wire_dump_commands.specs.declared.dump.Options.{Options}
 use Rattle.mysql_wire_dump_commands.specs.declared.dump.Sides.{Sides}
-use Rattle.mysql_wire_dump_commands.specs.declared.kind.Kind.{Kind}
-use Rattle.mysql_wire_dump_commands.specs.declared.kind.Kind.TheVariants.{TooLarge}
-use Rattle.mysql_wire_dump_commands.specs.declared.lines.LineForm.{LineForm}
-use Rattle.mysql_wire_dump_commands.specs.declared.lines.Seen.{Seen}
-use Rattle.mysql_wire_dump_commands.specs.declared.place.Place.{Place}
-use Rattle.mysql_wire_dump_commands.specs.declared.side.Side.{Side}
-use Rattle.mysql_wire_dump_commands.specs.declared.side.Side.TheVariants.{Client, Server}
-use Rattle.mysql_wire_dump_commands.specs.declared.source.End.{End}
-use Rattle.mysql_wire_dump_commands.specs.declared.source.End.TheVariants.{Encrypted}
-use Rattle.mysql_wire_dump_commands.specs.declared.source.Next.{Next}
-use Rattle.mysql_wire_dump_commands.specs.declared.source.Next.TheVariants.{Unread, Packet, Ended}
-use Rattle.mysql_wire_dump_commands.specs.declared.source.Source.{Source}
+use Rattle.mysql_wire_dump_lines.specs.declared.kind.Kind.{Kind}
+use Rattle.mysql_wire_dump_lines.specs.declared.kind.Kind.TheVariants.{TooLarge}
+use Rattle.mysql_wire_dump_lines.specs.declared.lines.LineForm.{LineForm}
+use Rattle.mysql_wire_dump_lines.specs.declared.lines.Seen.{Seen}
+use Rattle.mysql_wire_dump_lines.specs.declared.place.Place.{Place}
+use Rattle.mysql_wire_dump_lines.specs.declared.side.Side.{Side}
+use Rattle.mysql_wire_dump_lines.specs.declared.side.Side.TheVariants.{Client, Server}
+use Rattle.mysql_wire_dump_lines.specs.declared.source.End.{End}
+use Rattle.mysql_wire_dump_lines.specs.declared.source.End.TheVariants.{Encrypted}
+use Rattle.mysql_wire_dump_lines.specs.declared.source.Next.{Next}
+use Rattle.mysql_wire_dump_lines.specs.declared.source.Next.TheVariants.{Unread, Packet, Ended}
+use Rattle.mysql_wire_dump_lines.specs.declared.source.Source.{Source}
 use Rattle.mysql_wire_dump_commands.specs.Dumped.{field_form, Dumps, InOrder, IsShown, Shown, SideEnds, ending_lines, first_of, is_of, lines_of, packets_of, status_of}
 use Rattle.mysql_wire_dump_commands.specs.Dumping.{Dumping, Goes, IsLooked, IsTurn, Pends, Shows, ShowsAll, SoFar, StartsDump, id_behind}
 use Rattle.mysql_wire_dump_commands.specs.Moments.{moment_of}
-use Rattle.mysql_wire_dump_commands.specs.Naming.{IsOrBytes, kind_at}
-use Rattle.mysql_wire_dump_commands.specs.Packets.{AreFields}
-use Rattle.mysql_wire_dump_commands.specs.Lines.{bytes_part, line_end, packet_front, packet_line}
-use Rattle.mysql_wire_dump_commands.specs.Sources.{AtEnd, HasPacket, Stands, StandsNext, collected, id_of}
-use Rattle.mysql_wire_dump_commands.proofs.SourceLemmas.{consumes_none}
-use Rattle.mysql_wire_dump_commands.specs.Turns.{turn}
+use Rattle.mysql_wire_dump_lines.specs.Naming.{IsOrBytes, kind_at}
+use Rattle.mysql_wire_dump_fields.specs.Packets.{AreFields}
+use Rattle.mysql_wire_dump_lines.specs.Lines.{bytes_part, line_end, packet_front, packet_line}
+use Rattle.mysql_wire_dump_lines.specs.Sources.{AtEnd, HasPacket, Stands, StandsNext, collected, id_of}
+use Rattle.mysql_wire_dump_lines.proofs.SourceLemmas.{consumes_none}
+use Rattle.mysql_wire_dump_lines.specs.Turns.{turn}
 
 -- one packet more, of one side
 pub packets_of_more : (side : Side) (shown : List Shown) (one : Shown) → packets_of side (shown ++ one ∷ []) ≡ packets_of side shown ++ packets_of side (one ∷ [])

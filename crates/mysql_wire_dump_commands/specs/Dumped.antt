@@ -6,23 +6,23 @@ use Rattle.wire_codec.specs.Framing.{next_id}
 use Rattle.mysql_wire_dump_commands.specs.declared.dump.Options.{Options}
 use Rattle.mysql_wire_dump_commands.specs.declared.dump.Sides.{Sides}
 use Rattle.mysql_wire_dump_commands.specs.declared.dump.Sides.TheVariants as sides
-use Rattle.mysql_wire_dump_commands.specs.declared.kind.Kind.TheVariants.{TooLarge}
-use Rattle.mysql_wire_dump_commands.specs.declared.fields.FieldForm.{FieldForm}
-use Rattle.mysql_wire_dump_commands.specs.declared.fields.FieldForm.TheVariants.{Hidden, Text, Json}
-use Rattle.mysql_wire_dump_commands.specs.declared.lines.LineForm.{LineForm}
-use Rattle.mysql_wire_dump_commands.specs.declared.lines.LineForm.TheVariants as line
-use Rattle.mysql_wire_dump_commands.specs.declared.lines.Seen.{Seen}
-use Rattle.mysql_wire_dump_commands.specs.declared.naming.Moment.{Moment}
-use Rattle.mysql_wire_dump_commands.specs.declared.side.Side.{Side}
-use Rattle.mysql_wire_dump_commands.specs.declared.side.Side.TheVariants.{Client, Server}
-use Rattle.mysql_wire_dump_commands.specs.declared.source.End.{End}
-use Rattle.mysql_wire_dump_commands.specs.declared.source.End.TheVariants.{Encrypted}
-use Rattle.mysql_wire_dump_commands.specs.Packets.{AreFields}
-use Rattle.mysql_wire_dump_commands.specs.Lines.{packet_line, ending_line}
-use Rattle.mysql_wire_dump_commands.specs.Naming.{IsOrBytes, kind_at}
-use Rattle.mysql_wire_dump_commands.specs.Sources.{EndsAs, ReadWhole, framed}
-use Rattle.mysql_wire_dump_commands.specs.Status.{end_status}
-use Rattle.mysql_wire_dump_commands.specs.Turns.{turn}
+use Rattle.mysql_wire_dump_lines.specs.declared.kind.Kind.TheVariants.{TooLarge}
+use Rattle.mysql_wire_dump_fields.specs.declared.fields.FieldForm.{FieldForm}
+use Rattle.mysql_wire_dump_fields.specs.declared.fields.FieldForm.TheVariants.{Hidden, Text, Json}
+use Rattle.mysql_wire_dump_lines.specs.declared.lines.LineForm.{LineForm}
+use Rattle.mysql_wire_dump_lines.specs.declared.lines.LineForm.TheVariants as line
+use Rattle.mysql_wire_dump_lines.specs.declared.lines.Seen.{Seen}
+use Rattle.mysql_wire_dump_lines.specs.declared.naming.Moment.{Moment}
+use Rattle.mysql_wire_dump_lines.specs.declared.side.Side.{Side}
+use Rattle.mysql_wire_dump_lines.specs.declared.side.Side.TheVariants.{Client, Server}
+use Rattle.mysql_wire_dump_lines.specs.declared.source.End.{End}
+use Rattle.mysql_wire_dump_lines.specs.declared.source.End.TheVariants.{Encrypted}
+use Rattle.mysql_wire_dump_fields.specs.Packets.{AreFields}
+use Rattle.mysql_wire_dump_lines.specs.Lines.{packet_line, ending_line}
+use Rattle.mysql_wire_dump_lines.specs.Naming.{IsOrBytes, kind_at}
+use Rattle.mysql_wire_dump_lines.specs.Sources.{EndsAs, ReadWhole, framed}
+use Rattle.mysql_wire_dump_lines.specs.Status.{end_status}
+use Rattle.mysql_wire_dump_lines.specs.Turns.{turn}
 
 -- a packet that is shown: who sent it, its id, its length and what it is; its payload; the fields
 -- behind it; and what the session knew where it came

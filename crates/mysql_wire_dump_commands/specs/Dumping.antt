@@ -4,14 +4,14 @@ use Rattle.std.specs.Io.KnownBytes.{Appends, Consumes}
 use Rattle.wire_codec.specs.Framing.{next_id}
 use Rattle.mysql_wire_dump_commands.specs.declared.dump.Dump.{Dump}
 use Rattle.mysql_wire_dump_commands.specs.declared.dump.Options.{Options}
-use Rattle.mysql_wire_dump_commands.specs.declared.side.Side.{Side}
-use Rattle.mysql_wire_dump_commands.specs.declared.side.Side.TheVariants.{Client, Server}
-use Rattle.mysql_wire_dump_commands.specs.declared.source.End.TheVariants.{Encrypted}
-use Rattle.mysql_wire_dump_commands.specs.declared.source.Next.{Next}
-use Rattle.mysql_wire_dump_commands.specs.declared.source.Next.TheVariants.{Unread, Packet, Ended}
+use Rattle.mysql_wire_dump_lines.specs.declared.side.Side.{Side}
+use Rattle.mysql_wire_dump_lines.specs.declared.side.Side.TheVariants.{Client, Server}
+use Rattle.mysql_wire_dump_lines.specs.declared.source.End.TheVariants.{Encrypted}
+use Rattle.mysql_wire_dump_lines.specs.declared.source.Next.{Next}
+use Rattle.mysql_wire_dump_lines.specs.declared.source.Next.TheVariants.{Unread, Packet, Ended}
 use Rattle.mysql_wire_dump_commands.specs.Dumped.{InOrder, IsShown, Shown, lines_of, packets_of}
-use Rattle.mysql_wire_dump_commands.specs.Sources.{AtEnd, Stands, id_of}
-use Rattle.mysql_wire_dump_commands.specs.Turns.{turn}
+use Rattle.mysql_wire_dump_lines.specs.Sources.{AtEnd, Stands, id_of}
+use Rattle.mysql_wire_dump_lines.specs.Turns.{turn}
 
 -- what may stand next of a side: where it was not looked at, anything
 abbrev pub Pends : Next → Option ℕ → Type 0

@@ -1,17 +1,3 @@
-pub mod Names
-pub mod Naming
 pub mod Moments
-pub mod Status
-pub mod Sources
-pub mod Turns
-pub mod Lines
 pub mod Dumped
 pub mod Dumping
-pub mod MomentTexts
-pub mod Fields
-pub mod FieldTables
-pub mod ConnectionFields
-pub mod AnswerFields
-pub mod CommandFields
-pub mod ValueFields
-pub mod Packets

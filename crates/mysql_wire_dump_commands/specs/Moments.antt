@@ -1,5 +1,5 @@
 -- What a session knows of the next packet.
-use Rattle.mysql_wire_dump_commands.specs.declared.naming.Moment.{Moment}
+use Rattle.mysql_wire_dump_lines.specs.declared.naming.Moment.{Moment}
 use Rattle.mysql_wire_dump_commands.specs.declared.session.Session.{Session}
 
 abbrev pub moment_of : {A : Type 0} → Session A → Moment

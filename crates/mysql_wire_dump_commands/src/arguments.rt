@@ -1,8 +1,8 @@
 //! What the words on the command line ask for.
 
 use crate::dump::{Options, Sides, run_dump};
-use crate::lines::LineForm;
-use crate::status::{Stop, USAGE, exit_status};
+use mysql_wire_dump_lines::lines::LineForm;
+use mysql_wire_dump_lines::status::{Stop, USAGE, exit_status};
 use std::alloc::{Allocator, Global};
 use std::fs::File;
 use std::io;

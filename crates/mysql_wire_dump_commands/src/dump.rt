@@ -3,22 +3,22 @@
 ghost use Rattle.std.specs.Prelude.{◌≡◌, ◌≢◌, ◌<◌, ◌≤◌, ◌⊎◌, ◌++◌, ◌∷◌, ℕ, List, [], length, IfOk, IfSome, OnOk, string_bytes, false};
 ghost use Rattle.std.specs.Io.KnownBytes.{Appends};
 ghost use Rattle.mysql_wire_dump_commands.specs.Dumped.{DumpEnds, Dumps, ending_lines, field_form, status_of};
-ghost use Rattle.mysql_wire_dump_commands.specs.Packets.{AreFields};
+ghost use Rattle.mysql_wire_dump_fields.specs.Packets.{AreFields};
 ghost use Rattle.mysql_wire_dump_commands.specs.Dumping.{Goes};
 ghost use Rattle.mysql_wire_dump_commands.specs.Moments.{moment_of};
-ghost use Rattle.mysql_wire_dump_commands.specs.Naming.{IsOrBytes, kind_at};
-ghost use Rattle.mysql_wire_dump_commands.specs.Status.{end_status};
-ghost use Rattle.mysql_wire_dump_commands.specs.declared.kind.Kind.TheVariants.{TooLarge};
+ghost use Rattle.mysql_wire_dump_lines.specs.Naming.{IsOrBytes, kind_at};
+ghost use Rattle.mysql_wire_dump_lines.specs.Status.{end_status};
+ghost use Rattle.mysql_wire_dump_lines.specs.declared.kind.Kind.TheVariants.{TooLarge};
 
-use crate::fields::{FieldForm, Fields};
-use crate::kind::Kind;
-use crate::lines::{LineForm, Seen, push_ending, push_packet};
-use crate::place::Place;
 use crate::session::Session;
-use crate::side::Side;
-use crate::source::{End, Next, Source};
-use crate::status::{Stop, exit_status};
-use crate::turn::turn;
+use mysql_wire_dump_fields::fields::{FieldForm, Fields};
+use mysql_wire_dump_lines::kind::Kind;
+use mysql_wire_dump_lines::lines::{LineForm, Seen, push_ending, push_packet};
+use mysql_wire_dump_lines::place::Place;
+use mysql_wire_dump_lines::side::Side;
+use mysql_wire_dump_lines::source::{End, Next, Source};
+use mysql_wire_dump_lines::status::{Stop, exit_status};
+use mysql_wire_dump_lines::turn::turn;
 use std::alloc::{AllocError, Allocator, Global};
 use std::io::{Read, Write};
 
@@ -69,7 +69,7 @@ fn field_form(options: Options) -> FieldForm
 }
 
 // What a source's next packet is: its fields are put, and the session goes on behind it.
-#[tactic(auto, using(crate::proofs::PacketLemmas::shows_none, crate::proofs::PacketLemmas::shows_some))]
+#[tactic(auto, using(mysql_wire_dump_fields::proofs::PacketLemmas::shows_none, mysql_wire_dump_fields::proofs::PacketLemmas::shows_some))]
 fn name_packet<A: Allocator + Copy>(
     global: Global,
     side: Side,
@@ -106,10 +106,10 @@ fn shown_payload<A: Allocator + Copy>(source: &Source<A>) -> &[u8]
 
 impl<A: Allocator + Copy> Dump<A> {
     ghost use Rattle.mysql_wire_dump_commands.specs.Dumping.{Shows, StartsDump};
-    ghost use Rattle.mysql_wire_dump_commands.specs.Turns.{turn};
-    ghost use Rattle.mysql_wire_dump_commands.specs.declared.side.Side.TheVariants.{Client, Server};
-    ghost use Rattle.mysql_wire_dump_commands.specs.Sources.{id_of};
-    ghost use Rattle.mysql_wire_dump_commands.specs.declared.source.Next.TheVariants.{Ended};
+    ghost use Rattle.mysql_wire_dump_lines.specs.Turns.{turn};
+    ghost use Rattle.mysql_wire_dump_lines.specs.declared.side.Side.TheVariants.{Client, Server};
+    ghost use Rattle.mysql_wire_dump_lines.specs.Sources.{id_of};
+    ghost use Rattle.mysql_wire_dump_lines.specs.declared.source.Next.TheVariants.{Ended};
 
     fn new(alloc: A, global: Global, options: Options) -> Self
         ensures starts { StartsDump options result }

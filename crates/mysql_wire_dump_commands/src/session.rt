@@ -1,5 +1,5 @@
 //! A session, packet by packet: what each is at its place, and the place behind it.
-#![tactic(auto, using(crate::proofs::PacketLemmas::puts_nothing))]
+#![tactic(auto, using(mysql_wire_dump_fields::proofs::PacketLemmas::puts_nothing))]
 
 mod answers;
 mod commands;
@@ -7,21 +7,21 @@ mod connection;
 mod rows;
 
 ghost use Rattle.std.specs.Prelude.{◌≡◌, IfOk, OnOk};
-ghost use Rattle.mysql_wire_dump_commands.specs.Packets.{PutsSome};
-ghost use Rattle.mysql_wire_dump_commands.specs.Naming.{IsOrBytes, kind_at};
+ghost use Rattle.mysql_wire_dump_fields.specs.Packets.{PutsSome};
+ghost use Rattle.mysql_wire_dump_lines.specs.Naming.{IsOrBytes, kind_at};
 ghost use Rattle.mysql_wire_dump_commands.specs.Moments.{moment_of};
-ghost use Rattle.mysql_wire_dump_commands.specs.declared.place.Place.TheVariants.{Greeting};
-ghost use Rattle.mysql_wire_dump_commands.specs.declared.kind.Kind.{Kind};
+ghost use Rattle.mysql_wire_dump_lines.specs.declared.place.Place.TheVariants.{Greeting};
+ghost use Rattle.mysql_wire_dump_lines.specs.declared.kind.Kind.{Kind};
 
-use crate::fields::Fields;
-use crate::kind::Kind;
-use crate::naming::{Moment, kind_at};
-use crate::place::{Place, RowForm};
-use crate::refusal::Refusal;
-use crate::show;
-use crate::side::Side;
 use crate::statements::Statements;
-use crate::status::Stop;
+use mysql_wire_dump_fields::fields::Fields;
+use mysql_wire_dump_fields::show;
+use mysql_wire_dump_lines::kind::Kind;
+use mysql_wire_dump_lines::naming::{Moment, kind_at};
+use mysql_wire_dump_lines::place::{Place, RowForm};
+use mysql_wire_dump_lines::refusal::Refusal;
+use mysql_wire_dump_lines::side::Side;
+use mysql_wire_dump_lines::status::Stop;
 use mysql_wire_packets::places::{PayloadError, read_whole};
 use mysql_wire_packets::progress_report::ProgressReport;
 use std::alloc::{Allocator, Global};

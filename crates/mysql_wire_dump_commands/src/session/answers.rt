@@ -1,16 +1,16 @@
 //! The first packets of answers.
-#![tactic(auto, using(crate::proofs::PacketLemmas::puts_nothing))]
+#![tactic(auto, using(mysql_wire_dump_fields::proofs::PacketLemmas::puts_nothing))]
 
 ghost use Rattle.std.specs.Prelude.{IfOk, OnOk};
-ghost use Rattle.mysql_wire_dump_commands.specs.Packets.{PutsSome};
-ghost use Rattle.mysql_wire_dump_commands.specs.Naming.{IsOrBytes};
+ghost use Rattle.mysql_wire_dump_fields.specs.Packets.{PutsSome};
+ghost use Rattle.mysql_wire_dump_lines.specs.Naming.{IsOrBytes};
 
 use super::{Session, refused};
-use crate::fields::Fields;
-use crate::kind::Kind;
-use crate::place::{Behind, Place};
-use crate::show;
-use crate::status::Stop;
+use mysql_wire_dump_fields::fields::Fields;
+use mysql_wire_dump_fields::show;
+use mysql_wire_dump_lines::kind::Kind;
+use mysql_wire_dump_lines::place::{Behind, Place};
+use mysql_wire_dump_lines::status::Stop;
 use mysql_wire_packets::err_packet::ErrPacket;
 use mysql_wire_packets::places::read_whole;
 use mysql_wire_queries::column_count::ColumnCount;

@@ -1,20 +1,20 @@
 //! How a connection begins.
-#![tactic(auto, using(crate::proofs::PacketLemmas::puts_nothing))]
+#![tactic(auto, using(mysql_wire_dump_fields::proofs::PacketLemmas::puts_nothing))]
 
 ghost use Rattle.std.specs.Prelude.{IfOk, OnOk};
-ghost use Rattle.mysql_wire_dump_commands.specs.Packets.{PutsSome};
-ghost use Rattle.mysql_wire_dump_commands.specs.Naming.{IsOrBytes};
+ghost use Rattle.mysql_wire_dump_fields.specs.Packets.{PutsSome};
+ghost use Rattle.mysql_wire_dump_lines.specs.Naming.{IsOrBytes};
 
 use super::{Session, refused};
-use crate::fields::Fields;
-use crate::kind::Kind;
-use crate::place::Place;
-use crate::show;
-use crate::status::Stop;
 use mysql_wire_connection::auth_answer::AuthAnswer;
 use mysql_wire_connection::auth_switch_response::AuthSwitchResponse;
 use mysql_wire_connection::first_packet::{ClientFirst, ServerFirst};
 use mysql_wire_connection::handshake_response::HandshakeResponse41;
+use mysql_wire_dump_fields::fields::Fields;
+use mysql_wire_dump_fields::show;
+use mysql_wire_dump_lines::kind::Kind;
+use mysql_wire_dump_lines::place::Place;
+use mysql_wire_dump_lines::status::Stop;
 use mysql_wire_packets::places::read_whole;
 use std::alloc::{Allocator, Global};
 use wire_const::{CapabilityFlags, Flags};

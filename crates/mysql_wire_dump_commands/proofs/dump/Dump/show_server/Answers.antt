@@ -1,8 +1,8 @@
 use Rattle.std.proofs.Common.{◌≡◌, ◌++◌, ◌∙◌, ℕ, refl, string_bytes, subst, sym}
-use Rattle.mysql_wire_dump_commands.specs.declared.side.Side.TheVariants.{Server}
-use Rattle.mysql_wire_dump_commands.specs.declared.source.Next.{Next}
-use Rattle.mysql_wire_dump_commands.specs.Lines.{packet_line}
-use Rattle.mysql_wire_dump_commands.specs.Sources.{AtEnd}
+use Rattle.mysql_wire_dump_lines.specs.declared.side.Side.TheVariants.{Server}
+use Rattle.mysql_wire_dump_lines.specs.declared.source.Next.{Next}
+use Rattle.mysql_wire_dump_lines.specs.Lines.{packet_line}
+use Rattle.mysql_wire_dump_lines.specs.Sources.{AtEnd}
 use Rattle.mysql_wire_dump_commands.proofs.DumpLemmas.{packet_of, server_shown}
 use Rattle.mysql_wire_dump_commands.proofs.dump.Dump.show_server.Goals as goal
 

@@ -1,5 +1,0 @@
-use Rattle.mysql_wire_dump_commands.proofs.ValueLemmas.{Texts}
-use Rattle.mysql_wire_dump_commands.proofs.show.values.put_texts.Given as goal
-
-abbrev pub invariant-values : goal.invariant-values
-invariant-values g l = Texts l.place l.payload l.rest.0.now l.fn.fields l.fields

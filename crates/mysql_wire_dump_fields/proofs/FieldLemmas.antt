@@ -1,0 +1,68 @@
+-- The text of fields.
+use Rattle.std.proofs.Common.{◌≡◌, ℕ, List, [], ◌∷◌, ◌++◌, Bool, true, false, refl, ap, sym, ◌∙◌, append_assoc, arith}
+use Rattle.std.proofs.lemmas.Grind.{common_steps}
+use Rattle.std.specs.Prelude.{◌==◌}
+use Rattle.std.proofs.lemmas.List.{append-nil}
+use Rattle.std.specs.List.{flat_map}
+use Rattle.std.specs.Str.{IsUtf8, is_utf8}
+use Rattle.std.proofs.lemmas.Str.{IsUtf8-from_is_utf8}
+use Rattle.mysql_wire_dump_fields.specs.declared.fields.FieldForm.{FieldForm}
+use Rattle.mysql_wire_dump_fields.specs.declared.fields.FieldForm.TheVariants.{Hidden, Text, Json}
+use Rattle.mysql_wire_dump_fields.specs.Fields.{Member, Puts, Written, ended, fields_text, line, nothing, pair, put, puts}
+
+is_false : (test : Bool) → (test ≡ true → ⊥) → test ≡ false
+is_false true never = absurd (never refl)
+is_false false never = refl
+
+pub is_utf8-false : (text : List ℕ) → (IsUtf8 text → ⊥) → is_utf8 text ≡ false
+is_utf8-false text never = is_false (is_utf8 text) (λ is. never (IsUtf8-from_is_utf8 text is))
+
+puts-hidden : (text : List ℕ) (members : List Member)
+    → puts (record { form = Hidden; text = text }) members
+    ≡ record { form = Hidden; text = text }
+unfolding put
+puts-hidden text [] = refl
+puts-hidden text (member ∷ members) = puts-hidden text members
+
+puts-lines : (text : List ℕ) (members : List Member)
+    → puts (record { form = Text; text = text }) members
+    ≡ record { form = Text; text = text ++ flat_map line members }
+unfolding put
+puts-lines text [] = rw append-nil refl
+puts-lines text (member ∷ members) = puts-lines (text ++ line member) members ∙ simp append_assoc
+
+puts-pairs : (byte : ℕ) (text : List ℕ) (members : List Member)
+    → puts (record { form = Json; text = byte ∷ text }) members
+    ≡ record { form = Json; text = (byte ∷ text) ++ flat_map (λ member. 44 ∷ pair member) members }
+unfolding put
+puts-pairs byte text [] = rw append-nil refl
+puts-pairs byte text (member ∷ members) =
+    puts-pairs byte (text ++ 44 ∷ pair member) members
+    ∙ ap (λ (all : List ℕ). record { form = Json; text = byte ∷ all })
+    (append_assoc text (44 ∷ pair member) (flat_map (λ member. 44 ∷ pair member) members))
+
+-- the fields that were put and ended are their text
+pub fields_text-is : (form : FieldForm) (members : List Member)
+    → ended (puts (nothing form) members)
+    ≡ record { form = form; text = fields_text form members }
+unfolding put ended
+fields_text-is Hidden members = rw (puts-hidden [] members) refl
+fields_text-is Text members = rw (puts-lines [] members) refl
+fields_text-is Json [] = refl
+fields_text-is Json (first ∷ others) = rw (puts-pairs 44 _ others) (simp append_assoc)
+
+pub puts_append : (written : Written) (front back : List Member)
+    → puts written (front ++ back) ≡ puts (puts written front) back
+puts_append written [] back = refl
+puts_append written (member ∷ front) back = puts_append (put written member) front back
+
+-- some were put, and others behind them
+pub puts_then : {front back : List Member} {old middle new : Written} → Puts front old middle
+    → Puts back middle new → Puts (front ++ back) old new
+puts_then {front = front} {back = back} {old = old} first last = record {
+  are = last.are ∙ ap (λ (written : Written). puts written back) first.are
+      ∙ sym (puts_append old front back);
+}
+
+pub zero-false : (n : ℕ) → (n ≡ 0 → ⊥) → (n == 0) ≡ false
+zero-false n never = is_false (n == 0) (λ is. never (grind (arith, common_steps, is)))

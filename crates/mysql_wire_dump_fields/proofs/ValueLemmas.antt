@@ -1,0 +1,145 @@
+-- The values of rows, one more at a time.
+use Rattle.std.proofs.Common.{◌≡◌, ℕ, ◌+◌, true, false, List, [], ◌∷◌, ◌++◌, length, take, refl, sym, ap, ◌∙◌, append-nil, append_assoc, length-append, arith, Some, None}
+use Rattle.mysql_wire_dump_fields.specs.Fields.{Member, Octets, Puts, Written, put, puts}
+use Rattle.mysql_wire_dump_fields.specs.ValueFields.{AreTexts, AreValues, PutsColumn, PutsText, PutsTexts, PutsValues, rest_if}
+use Rattle.mysql_wire_dump_lines.specs.declared.refusal.Refusal.{Refusal}
+use Rattle.mysql_wire_statements.specs.declared.binary_row.BinaryRow.{BinaryRow}
+use Rattle.std.proofs.lemmas.List.{take_all}
+use Rattle.std.proofs.lemmas.Grind.{common_steps}
+use Rattle.std.specs.Prelude.{◌==◌, codes}
+use Rattle.mysql_wire_dump_fields.proofs.FieldLemmas.{puts_append}
+
+-- the texts up to this place were put; with those behind them they are those of the payload
+pub record Texts (place : ℕ) (payload bytes : List ℕ) (start now : Written) : Type 0 where
+  pub before : List Member
+  pub count : length before ≡ place
+  pub puts : Puts before start now
+  pub goes : (members : List Member) (rest : List ℕ) → AreTexts place bytes members rest
+      → AreTexts 0 payload (before ++ members) rest
+
+-- one more was put
+puts_one : (start old new : Written) (before : List Member) (member : Member)
+    → Puts before start old → Puts (member ∷ []) old new → Puts (before ++ member ∷ []) start new
+puts_one start old new before member was is = record {
+  are = is.are ∙ ap (λ (written : Written). put written member) was.are
+      ∙ sym (puts_append start before (member ∷ []));
+}
+
+pub texts-none : (payload : List ℕ) (start : Written) → Texts 0 payload payload start start
+texts-none payload start = record {
+  before = [];
+  count = refl;
+  puts = record { are = refl };
+  goes = λ members rest are. are;
+}
+
+pub texts-more : (place : ℕ) (payload bytes rest : List ℕ) (start old new : Written)
+    → Texts place payload bytes start old → PutsText place bytes rest None old new
+    → Texts (place + 1) payload rest start new
+texts-more place payload bytes rest start old new so one = record {
+  before = so.before ++ one.0 ∷ [];
+  count = omega (arith, length-append so.before (one.0 ∷ []), so.count);
+  puts = puts_one start old new so.before one.0 so.puts one.1.1;
+  goes = λ members end are. rw (append_assoc so.before (one.0 ∷ []) members)
+      (so.goes (one.0 ∷ members) end (rest, (one.1.0, are)));
+}
+
+pub texts-all : (place : ℕ) (payload bytes : List ℕ) (start now : Written)
+    → (so : Texts place payload bytes start now) → AreTexts 0 payload so.before bytes
+texts-all place payload bytes start now so =
+    rw append-nil at (so.goes [] bytes refl)
+
+-- the same of values in their binary form
+pub record Values (nulls types : List ℕ) (place : ℕ) (payload bytes : List ℕ)
+    (start now : Written) : Type 0 where
+  pub before : List Member
+  pub puts : Puts before start now
+  pub goes : (others : List ℕ) (members : List Member) (rest : List ℕ)
+      → AreValues nulls place others bytes members rest
+      → AreValues nulls 0 (take place types ++ others) payload (before ++ members) rest
+
+pub values-none : (nulls types payload : List ℕ) (start : Written)
+    → Values nulls types 0 payload payload start start
+values-none nulls types payload start = record {
+  before = [];
+  puts = record { are = refl };
+  goes = λ others members rest are. are;
+}
+
+pub values-more : (nulls types : List ℕ) (place number : ℕ) (payload bytes rest : List ℕ)
+    (start old new : Written) → take (place + 1) types ≡ take place types ++ number ∷ []
+    → Values nulls types place payload bytes start old
+    → PutsColumn nulls place number bytes rest None old new
+    → Values nulls types (place + 1) payload rest start new
+values-more nulls types place number payload bytes rest start old new more so one = record {
+  before = so.before ++ one.0 ∷ [];
+  puts = puts_one start old new so.before one.0 so.puts one.1.1;
+  goes = λ others members end are. rw (
+    more,
+    append_assoc (take place types) (number ∷ []) others,
+    append_assoc so.before (one.0 ∷ []) members,
+  )
+      (so.goes (number ∷ others) (one.0 ∷ members) end (rest, (one.1.0, are)));
+}
+
+pub values-all : (nulls types : List ℕ) (place : ℕ) (payload bytes : List ℕ)
+    (start now : Written) → (so : Values nulls types place payload bytes start now)
+    → AreValues nulls 0 (take place types) payload so.before bytes
+values-all nulls types place payload bytes start now so =
+    rw (append-nil (take place types), append-nil so.before) at (so.goes [] [] bytes refl)
+
+-- a row of texts that was refused
+pub texts-refused : (columns place : ℕ) (payload bytes : List ℕ) (start old new : Written) (refusal : Refusal)
+    → Texts place payload bytes start old → new ≡ old → PutsTexts columns payload (Some refusal) start new
+texts-refused columns place payload bytes start old new refusal so same = record {
+  members = so.before;
+  rest = bytes;
+  are = texts-all place payload bytes start old so;
+  ends = tt;
+  puts = record { are = same ∙ so.puts.are };
+}
+
+-- and one that was read
+pub texts-ended : (columns : ℕ) (payload bytes : List ℕ) (start now : Written)
+    → Texts columns payload bytes start now → bytes ≡ [] → PutsTexts columns payload None start now
+texts-ended columns payload bytes start now so none = record {
+  members = so.before;
+  rest = bytes;
+  are = texts-all columns payload bytes start now so;
+  ends = (so.count, none);
+  puts = so.puts;
+}
+
+-- the same of values in their binary form
+pub values-refused : (types : List ℕ) (place : ℕ) (row : BinaryRow) (bytes : List ℕ) (start old new : Written) (refusal : Refusal)
+    → Values row.nulls.0.now types place row.values.now bytes start old → new ≡ old → PutsValues types row (Some refusal) start new
+values-refused types place row bytes start old new refusal so same = record {
+  members = so.before;
+  rest = bytes;
+  are = (place, values-all row.nulls.0.now types place row.values.now bytes start old so);
+  puts = record { are = rw append-nil (same ∙ so.puts.are) };
+}
+
+pub values-ended : (types : List ℕ) (row : BinaryRow) (bytes : List ℕ) (start now new : Written)
+    → Values row.nulls.0.now types (length types) row.values.now bytes start now → Puts (rest_if None bytes) now new → PutsValues types row None start new
+values-ended types row bytes start now new so behind = record {
+  members = so.before;
+  rest = bytes;
+  are = rw (take_all (length types) types (omega arith)) at (values-all row.nulls.0.now types (length types) row.values.now bytes start now so);
+  puts = record {
+    are = behind.are ∙ ap (λ (written : Written). puts written (rest_if None bytes)) so.puts.are ∙ sym (puts_append start so.before (rest_if None bytes));
+  };
+}
+
+pub is_empty : (bytes : List ℕ) → (length bytes == 0) ≡ true → bytes ≡ []
+is_empty [] is = refl
+is_empty (byte ∷ bytes) is = absurd (grind (arith, common_steps, is))
+
+pub rest-none : (bytes : List ℕ) → (length bytes == 0) ≡ true → rest_if None bytes ≡ []
+rest-none [] is = refl
+rest-none (byte ∷ bytes) is = absurd (grind (arith, common_steps, is))
+
+pub rest-there : (bytes : List ℕ) → (length bytes == 0) ≡ false
+    → rest_if None bytes ≡ (codes "rest", Octets bytes) ∷ []
+rest-there [] is = absurd (grind (arith, common_steps, is))
+rest-there (byte ∷ bytes) is = refl

@@ -1,0 +1,169 @@
+-- The fields of rows: their values, by their places.
+use Rattle.fast_float.specs.Parse.{parse_float}
+use Rattle.ryu.specs.Plain.{IsPlainNumber, word_of}
+use Rattle.std.specs.Float.{Float, Format, binary32, binary64, float_is_finite}
+use Rattle.std.specs.Fmt.{decimal}
+use Rattle.std.specs.Prelude.{◌≡◌, ◌≢◌, ◌⊎◌, ℕ, ◌+◌, Bool, true, false, from_bits, List, [], ◌∷◌, ◌++◌, codes, length, take, drop, ⊤, Option, Some, None, Ok}
+use Rattle.wire_buf.specs.Reading.{Reads}
+use Rattle.wire_const.specs.declared.column_type.ColumnType.{ColumnType}
+use Rattle.wire_const.specs.declared.column_type.ColumnType.TheVariants.{MYSQL_TYPE_UNKNOWN}
+use Rattle.wire_const.specs.EnumNumbers.{column_type_number}
+use Rattle.mysql_wire_queries.specs.TextValues.{ReadsValue}
+use Rattle.mysql_wire_statements.specs.Bitmaps.{IsSet}
+use Rattle.mysql_wire_statements.specs.Values.{ReadsForm, form_of}
+use Rattle.mysql_wire_statements.specs.declared.binary_row.BinaryRow.{BinaryRow}
+use Rattle.mysql_wire_statements.specs.declared.binary_value.BinaryValue.{BinaryValue}
+use Rattle.mysql_wire_statements.specs.declared.binary_value.BinaryValue.TheVariants as binary
+use Rattle.mysql_wire_dump_fields.specs.Fields.{Date, Member, Null, Number, Octets, Printed, Time, Value, Puts, Word, Words, Written}
+use Rattle.mysql_wire_dump_lines.specs.declared.refusal.Refusal.{Refusal}
+
+abbrev pub text_shown : Option (List ℕ) → Value
+text_shown None = Null
+text_shown (Some text) = Words text
+
+-- a text stands in front of these bytes, and is this field; behind it stand these
+pub record IsTextAt (place : ℕ) (bytes : List ℕ) (member : Member) (behind : List ℕ) : Type 0
+  where
+    pub value : Option (List ℕ)
+    pub eaten : ℕ
+    pub reads : ReadsValue bytes (Ok value) eaten
+    pub behind_is : behind ≡ drop eaten bytes
+    pub member_is : member ≡ (decimal place, text_shown value)
+
+-- these are the texts that stand one behind another in front of these bytes, from this place of a
+-- row on; behind them stands the rest
+abbrev pub AreTexts : ℕ → List ℕ → List Member → List ℕ → Type 0
+AreTexts place bytes [] rest = rest ≡ bytes
+AreTexts place bytes (member ∷ members) rest =
+    (behind : List ℕ) × (IsTextAt place bytes member behind
+    × AreTexts (place + 1) behind members rest)
+
+-- all columns of a row were read, and no byte is left; or it was refused
+abbrev pub EndsRow : ℕ → Option Refusal → List Member → List ℕ → Type 0
+EndsRow columns None members rest = (length members ≡ columns) × (rest ≡ [])
+EndsRow columns (Some refusal) members rest = ⊤
+
+-- the values of a row of texts were put, up to where it was refused
+pub record PutsTexts (columns : ℕ) (payload : List ℕ) (refusal : Option Refusal)
+    (old new : Written) : Type 0 where
+  pub members : List Member
+  pub rest : List ℕ
+  pub are : AreTexts 0 payload members rest
+  pub ends : EndsRow columns refusal members rest
+  pub puts : Puts members old new
+
+-- a text was put, or refused
+abbrev pub PutsText : ℕ → List ℕ → List ℕ → Option Refusal → Written → Written → Type 0
+PutsText place bytes rest None old new =
+    (member : Member) × (IsTextAt place bytes member rest × Puts (member ∷ []) old new)
+PutsText place bytes rest (Some refusal) old new = new ≡ old
+
+-- a number whose digits read back as the float, and no definition says which they are; or a word
+abbrev pub IsFloatIf : Bool → Format → Float → Value → Type 0
+IsFloatIf true format float shown =
+    (digits : List ℕ) × (IsPlainNumber digits × ((parse_float format digits ≡ Some float)
+    × (shown ≡ Printed digits)))
+IsFloatIf false format float shown = shown ≡ Word (word_of float)
+
+abbrev pub IsFloat : Format → ℕ → Value → Type 0
+IsFloat format bits shown =
+    IsFloatIf (float_is_finite (from_bits format bits)) format (from_bits format bits) shown
+
+abbrev pub PutsFloat : Format → ℕ → ℕ → Written → Written → Type 0
+PutsFloat format bits place old new =
+    (shown : Value) × (IsFloat format bits shown × Puts ((decimal place, shown) ∷ []) old new)
+
+-- how a value in its binary form is shown
+abbrev pub IsShownAs : BinaryValue → Value → Type 0
+IsShownAs binary.Null shown = shown ≡ Null
+IsShownAs (binary.Tiny number) shown = shown ≡ Number number
+IsShownAs (binary.Short number) shown = shown ≡ Number number
+IsShownAs (binary.Long number) shown = shown ≡ Number number
+IsShownAs (binary.LongLong number) shown = shown ≡ Number number
+IsShownAs (binary.Float bits) shown = IsFloat binary32 bits shown
+IsShownAs (binary.Double bits) shown = IsFloat binary64 bits shown
+IsShownAs (binary.Date date) shown = shown ≡ Date date
+IsShownAs (binary.Time time) shown = shown ≡ Time time
+IsShownAs (binary.Text text) shown = shown ≡ Words text.now
+
+-- a value of this form was put at this place
+abbrev pub PutsShown : ℕ → BinaryValue → Written → Written → Type 0
+PutsShown place value old new =
+    (shown : Value) × (IsShownAs value shown × Puts ((decimal place, shown) ∷ []) old new)
+
+-- the type of a column that is told by this number
+abbrev pub IsTypeOf : ℕ → ColumnType → Type 0
+IsTypeOf number type =
+    (column_type_number type ≡ number) ⊎ (type ≡ MYSQL_TYPE_UNKNOWN)
+
+-- the value of the column at this place, whose type has this number
+pub record IsValueAt (nulls : List ℕ) (place number : ℕ) (bytes : List ℕ) (value : BinaryValue)
+    (rest : List ℕ) : Type 0 where
+  pub null : IsSet nulls (2 + place) → (value ≡ binary.Null) × (rest ≡ bytes)
+  pub there : (IsSet nulls (2 + place) → ⊥) → (type : ColumnType) × (IsTypeOf number type
+      × Reads (ReadsForm (form_of type)) bytes (Ok value) rest)
+
+-- and it is this field
+pub record IsColumnAt (nulls : List ℕ) (place number : ℕ) (bytes : List ℕ) (member : Member)
+    (rest : List ℕ) : Type 0 where
+  pub value : BinaryValue
+  pub shown : Value
+  pub is : IsValueAt nulls place number bytes value rest
+  pub is_shown : IsShownAs value shown
+  pub member_is : member ≡ (decimal place, shown)
+
+-- it was put, or refused
+abbrev pub PutsColumn : List ℕ → ℕ → ℕ → List ℕ → List ℕ → Option Refusal → Written → Written
+    → Type 0
+PutsColumn nulls place number bytes rest None old new =
+    (member : Member) × (IsColumnAt nulls place number bytes member rest
+    × Puts (member ∷ []) old new)
+PutsColumn nulls place number bytes rest (Some refusal) old new = new ≡ old
+
+-- these are the values of columns of these types, from this place of a row on
+abbrev pub AreValues : List ℕ → ℕ → List ℕ → List ℕ → List Member → List ℕ → Type 0
+AreValues nulls place [] bytes [] rest = rest ≡ bytes
+AreValues nulls place [] bytes (member ∷ members) rest = ⊥
+AreValues nulls place (number ∷ types) bytes [] rest = ⊥
+AreValues nulls place (number ∷ types) bytes (member ∷ members) rest =
+    (behind : List ℕ) × (IsColumnAt nulls place number bytes member behind
+    × AreValues nulls (place + 1) types behind members rest)
+
+-- bytes behind the last value
+abbrev pub rest_if : Option Refusal → List ℕ → List Member
+rest_if None [] = []
+rest_if None (byte ∷ bytes) = (codes "rest", Octets (byte ∷ bytes)) ∷ []
+rest_if (Some refusal) rest = []
+
+-- the row's bytes, where the types of its columns are not known
+abbrev pub row_bytes_fields : BinaryRow → List Member
+row_bytes_fields row =
+    (codes "null_bitmap", Octets row.nulls.0.now) ∷ (codes "values", Octets row.values.now) ∷ []
+
+-- all values of a row were read; or only those before the one that is refused
+abbrev pub AreRowValues : BinaryRow → List ℕ → Option Refusal → List Member → List ℕ → Type 0
+AreRowValues row types None members rest =
+    AreValues row.nulls.0.now 0 types row.values.now members rest
+AreRowValues row types (Some refusal) members rest =
+    (count : ℕ) × AreValues row.nulls.0.now 0 (take count types) row.values.now members rest
+
+-- the values of a row were put, up to where it was refused, and what stands behind the last
+pub record PutsValues (types : List ℕ) (row : BinaryRow) (refusal : Option Refusal)
+    (old new : Written) : Type 0 where
+  pub members : List Member
+  pub rest : List ℕ
+  pub are : AreRowValues row types refusal members rest
+  pub puts : Puts (members ++ rest_if refusal rest) old new
+
+abbrev pub PutsRow : ℕ → List ℕ → BinaryRow → Option Refusal → Written → Written → Type 0
+PutsRow columns types row refusal old new =
+    ((length types ≡ columns) × PutsValues types row refusal old new)
+    ⊎ ((length types ≢ columns) × ((refusal ≡ None) × Puts (row_bytes_fields row) old new))
+
+-- the fields of a row: its values, as far as it was read, or its bytes
+abbrev pub AreRowFields : ℕ → List ℕ → BinaryRow → List Member → Type 0
+AreRowFields columns types row members =
+    ((length types ≡ columns) × ((refusal : Option Refusal) × ((values : List Member)
+    × ((rest : List ℕ) × (AreRowValues row types refusal values rest
+    × (members ≡ values ++ rest_if refusal rest))))))
+    ⊎ ((length types ≢ columns) × (members ≡ row_bytes_fields row))

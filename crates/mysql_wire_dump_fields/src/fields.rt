@@ -1,0 +1,259 @@
+//! The fields of a packet, as text or as members of a JSON object.
+
+ghost use Rattle.std.specs.Prelude.{◌≡◌, ◌++◌, ◌∷◌, [], IfOk, OnOk, string_bytes};
+ghost use Rattle.std.specs.Fmt.{decimal};
+ghost use Rattle.json.specs.Print.{quoted};
+ghost use Rattle.mysql_wire_dump_fields.specs.Fields.{Flags, Number, Puts, Octets, Words, ended, flags_text, nothing, octets_text, value_of, value_text, with_end, with_member, words_text};
+
+use crate::moments::{push_date, push_time};
+use json::Writer;
+use mysql_wire_statements::moments::{BinaryDate, BinaryTime};
+use std::alloc::{AllocError, Allocator, Global};
+use std::marker::Model;
+
+/// How fields are shown.
+#[derive(Debug, Clone, Copy, PartialEq, Eq)]
+pub enum FieldForm {
+    Hidden,
+    /// Each on a line of its own.
+    Text,
+    Json,
+}
+
+/// The value of a field.
+#[derive(Debug, Clone, Copy, PartialEq, Eq)]
+pub enum FieldValue<'a> {
+    Null,
+    Number(u64),
+    /// A set of flags.
+    Flags(u64),
+    /// A text, where the bytes are one.
+    Text(&'a [u8]),
+    Bytes(&'a [u8]),
+    Date(&'a BinaryDate),
+    Time(&'a BinaryTime),
+    /// The text of a number.
+    Printed(&'a str),
+    /// The word that stands for what is no number.
+    Word(&'a str),
+}
+
+fn push_digits<A: Allocator + Copy>(
+    text: &mut String<A>,
+    form: FieldForm,
+    bytes: &[u8],
+) -> Result<(), AllocError>
+    ensures { OnOk result (string_bytes text.new ≡ string_bytes text.old ++ octets_text form bytes.now) }
+{
+    let digits = hex::encode(*text.allocator(), bytes)?;
+    let digits = digits.as_str();
+    match form {
+        FieldForm::Json => write!(text, "{{\"hex\":\"{digits}\"}}"),
+        _ => write!(text, "x'{digits}'"),
+    }
+}
+
+// A text as JSON quotes it.
+#[tactic(auto, unfolding(json::specs::Print::print_from))]
+fn quoted<A: Allocator>(alloc: A, words: &str) -> Result<Vec<u8, A>, AllocError>
+    ensures { IfOk result (λ text. text.items ≡ quoted words.now) }
+{
+    let mut writer = Writer::new(Vec::new(alloc));
+    writer.string(words)?;
+    Ok(writer.into_inner())
+}
+
+fn push_quoted<A: Allocator + Copy>(text: &mut String<A>, words: &str) -> Result<(), AllocError>
+    ensures { OnOk result (string_bytes text.new ≡ string_bytes text.old ++ quoted words.now) }
+{
+    let quoted = quoted(*text.allocator(), words)?;
+    match std::str::from_utf8(&quoted) {
+        Ok(quoted) => text.push_str(quoted),
+        Err(_) => Err(AllocError),
+    }
+}
+
+fn push_text<A: Allocator + Copy>(
+    text: &mut String<A>,
+    form: FieldForm,
+    bytes: &[u8],
+) -> Result<(), AllocError>
+    ensures { OnOk result (string_bytes text.new ≡ string_bytes text.old ++ words_text form bytes.now) }
+{
+    match std::str::from_utf8(bytes) {
+        Ok(words) => push_quoted(text, words),
+        Err(_) => push_digits(text, form, bytes),
+    }
+}
+
+fn push_flags<A: Allocator>(
+    text: &mut String<A>,
+    form: FieldForm,
+    bits: u64,
+) -> Result<(), AllocError>
+    ensures { OnOk result (string_bytes text.new ≡ string_bytes text.old ++ flags_text form bits) }
+{
+    match form {
+        FieldForm::Json => write!(text, "{bits}"),
+        _ => write!(text, "0x{bits:x}"),
+    }
+}
+
+fn push_value<A: Allocator + Copy>(
+    text: &mut String<A>,
+    form: FieldForm,
+    value: FieldValue<'_>,
+) -> Result<(), AllocError>
+    ensures { OnOk result (string_bytes text.new
+        ≡ string_bytes text.old ++ value_text form (value_of value.entry)) }
+{
+    match value {
+        FieldValue::Null => text.push_str("null"),
+        FieldValue::Number(number) => write!(text, "{number}"),
+        FieldValue::Flags(bits) => push_flags(text, form, bits),
+        FieldValue::Text(bytes) => push_text(text, form, bytes),
+        FieldValue::Bytes(bytes) => push_digits(text, form, bytes),
+        FieldValue::Date(date) => {
+            text.push_str("\"")?;
+            push_date(text, date)?;
+            text.push_str("\"")
+        }
+        FieldValue::Time(time) => {
+            text.push_str("\"")?;
+            push_time(text, time)?;
+            text.push_str("\"")
+        }
+        FieldValue::Printed(number) => text.push_str(number),
+        FieldValue::Word(word) => write!(text, "\"{word}\""),
+    }
+}
+
+fn push_member<A: Allocator + Copy>(
+    text: &mut String<A>,
+    form: FieldForm,
+    name: &str,
+    value: FieldValue<'_>,
+) -> Result<(), AllocError>
+    ensures { OnOk result (string_bytes text.new
+        ≡ with_member form (string_bytes text.old) (name.now, value_of value.entry)) }
+{
+    match form {
+        FieldForm::Hidden => Ok(()),
+        FieldForm::Text => {
+            write!(text, "\n  {name} ")?;
+            push_value(text, form, value)
+        }
+        FieldForm::Json => {
+            let before = if text.is_empty() {
+                ",\"fields\":{"
+            } else {
+                ","
+            };
+            write!(text, "{before}\"{name}\":")?;
+            push_value(text, form, value)
+        }
+    }
+}
+
+// Ends the object of JSON, where one was begun.
+fn push_closing<A: Allocator>(text: &mut String<A>, form: FieldForm) -> Result<(), AllocError>
+    ensures { OnOk result (string_bytes text.new ≡ with_end form (string_bytes text.old)) }
+{
+    if form == FieldForm::Json && !text.is_empty() {
+        text.push_str("}")
+    } else {
+        Ok(())
+    }
+}
+
+/// The fields of one packet.
+#[derive(Drop)]
+pub struct Fields<A: Allocator + Copy = Global> {
+    form: FieldForm,
+    text: String<A>,
+}
+
+impl<A: Allocator + Copy> Model for Fields<A> {
+    ghost use Rattle.std.specs.Prelude.{string_bytes};
+    ghost use Rattle.mysql_wire_dump_fields.specs.Fields.{Written};
+
+    ghost Value = { Written };
+
+    ghost view = { λ fields. record { form = fields.form; text = string_bytes fields.text } };
+}
+
+impl<A: Allocator + Copy> Fields<A> {
+    pub fn new(alloc: A) -> Self {
+        Fields {
+            form: FieldForm::Hidden,
+            text: String::new(alloc),
+        }
+    }
+
+    /// What was put so far.
+    pub fn text(&self) -> &str
+        ensures { result.now ≡ self.now.text }
+    {
+        self.text.as_str()
+    }
+
+    /// Begins the fields of another packet.
+    pub fn begin(&mut self, form: FieldForm)
+        ensures { self.new ≡ nothing form }
+    {
+        self.form = form;
+        self.text.clear();
+    }
+
+    /// Puts a field.
+    #[tactic(auto, unfolding(crate::specs::Fields::put))]
+    pub fn put(&mut self, name: &str, value: FieldValue<'_>) -> Result<(), AllocError>
+        ensures { OnOk result (Puts ((name.now, value_of value.entry) ∷ []) self.old self.new) }
+    {
+        push_member(&mut self.text, self.form, name, value)
+    }
+
+    /// Puts a value that has no name but its place, counted from 0.
+    pub fn put_at(&mut self, place: u64, value: FieldValue<'_>) -> Result<(), AllocError>
+        ensures { OnOk result (Puts ((decimal place, value_of value.entry) ∷ []) self.old self.new) }
+    {
+        let mut digits = itoa::Buffer::new();
+        self.put(digits.format(place), value)
+    }
+
+    /// Puts a field that is a number.
+    pub fn number(&mut self, name: &str, number: u64) -> Result<(), AllocError>
+        ensures { OnOk result (Puts ((name.now, Number number) ∷ []) self.old self.new) }
+    {
+        self.put(name, FieldValue::Number(number))
+    }
+
+    /// Puts a field that is a set of flags.
+    pub fn flags(&mut self, name: &str, bits: u64) -> Result<(), AllocError>
+        ensures { OnOk result (Puts ((name.now, Flags bits) ∷ []) self.old self.new) }
+    {
+        self.put(name, FieldValue::Flags(bits))
+    }
+
+    /// Puts a field that is a text.
+    pub fn words(&mut self, name: &str, text: &[u8]) -> Result<(), AllocError>
+        ensures { OnOk result (Puts ((name.now, Words text.now) ∷ []) self.old self.new) }
+    {
+        self.put(name, FieldValue::Text(text))
+    }
+
+    /// Puts a field that is bytes.
+    pub fn bytes(&mut self, name: &str, bytes: &[u8]) -> Result<(), AllocError>
+        ensures { OnOk result (Puts ((name.now, Octets bytes.now) ∷ []) self.old self.new) }
+    {
+        self.put(name, FieldValue::Bytes(bytes))
+    }
+
+    /// Ends the fields of the packet.
+    #[tactic(auto, unfolding(crate::specs::Fields::ended))]
+    pub fn end(&mut self) -> Result<(), AllocError>
+        ensures { OnOk result (self.new ≡ ended self.old) }
+    {
+        push_closing(&mut self.text, self.form)
+    }
+}

@@ -1,0 +1,70 @@
+//! Payloads that are not read further, and texts.
+
+ghost use Rattle.std.specs.Prelude.{OnOk};
+ghost use Rattle.mysql_wire_dump_fields.specs.Packets.{ColumnBytes, Event, OtherCommand, Prepare, PutsFields, RowBytes, Statistics};
+
+use crate::fields::Fields;
+use std::alloc::{AllocError, Allocator};
+
+/// The query of a statement that is to be prepared.
+pub fn prepare<A: Allocator + Copy>(
+    fields: &mut Fields<A>,
+    payload: &[u8],
+) -> Result<(), AllocError>
+    ensures { OnOk result (PutsFields (Prepare payload.now) fields.old fields.new) }
+{
+    fields.words("query", payload)?;
+    Ok(())
+}
+
+/// What a server says of itself.
+pub fn statistics<A: Allocator + Copy>(
+    fields: &mut Fields<A>,
+    payload: &[u8],
+) -> Result<(), AllocError>
+    ensures { OnOk result (PutsFields (Statistics payload.now) fields.old fields.new) }
+{
+    fields.words("statistics", payload)?;
+    Ok(())
+}
+
+/// A command of another kind.
+pub fn other_command<A: Allocator + Copy>(
+    fields: &mut Fields<A>,
+    payload: &[u8],
+) -> Result<(), AllocError>
+    ensures { OnOk result (PutsFields (OtherCommand payload.now) fields.old fields.new) }
+{
+    fields.bytes("payload", payload)?;
+    Ok(())
+}
+
+/// One of the columns of a table, with its default behind it.
+pub fn column_bytes<A: Allocator + Copy>(
+    fields: &mut Fields<A>,
+    payload: &[u8],
+) -> Result<(), AllocError>
+    ensures { OnOk result (PutsFields (ColumnBytes payload.now) fields.old fields.new) }
+{
+    fields.bytes("column", payload)?;
+    Ok(())
+}
+
+/// A row in a form that is not known.
+pub fn row_bytes<A: Allocator + Copy>(
+    fields: &mut Fields<A>,
+    payload: &[u8],
+) -> Result<(), AllocError>
+    ensures { OnOk result (PutsFields (RowBytes payload.now) fields.old fields.new) }
+{
+    fields.bytes("values", payload)?;
+    Ok(())
+}
+
+/// An event of a binary log.
+pub fn event<A: Allocator + Copy>(fields: &mut Fields<A>, payload: &[u8]) -> Result<(), AllocError>
+    ensures { OnOk result (PutsFields (Event payload.now) fields.old fields.new) }
+{
+    fields.bytes("event", payload)?;
+    Ok(())
+}

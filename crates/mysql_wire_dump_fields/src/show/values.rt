@@ -1,0 +1,231 @@
+//! The values of rows.
+
+ghost use Rattle.std.specs.Float.{binary32, binary64};
+ghost use Rattle.std.specs.Prelude.{◌≡◌, ◌++◌, IfOk, OnOk};
+ghost use Rattle.mysql_wire_dump_fields.specs.Fields.{Written};
+ghost use Rattle.mysql_wire_dump_fields.specs.Packets.{PutsFields, Row, Texts};
+ghost use Rattle.mysql_wire_dump_fields.specs.ValueFields.{IsTypeOf, PutsColumn, PutsFloat, PutsRow, PutsShown, PutsText, PutsTexts, PutsValues};
+
+use crate::fields::{FieldValue, Fields};
+use mysql_wire_dump_lines::refusal::Refusal;
+use mysql_wire_dump_lines::status::Stop;
+use mysql_wire_queries::text_row::TextValue;
+use mysql_wire_statements::binary_row::BinaryRow;
+use mysql_wire_statements::binary_value::BinaryValue;
+use ryu::Buffer;
+use std::alloc::{AllocError, Allocator, Global};
+use std::num::{f32_from_bits_with_nan, f64_from_bits_with_nan};
+use wire_buf::error::WireError;
+use wire_buf::io::ParseBuf;
+use wire_const::ColumnType;
+
+// Reads the text of a column, and puts it. The answer is why it is none.
+fn put_text<A: Allocator + Copy>(
+    global: Global,
+    fields: &mut Fields<A>,
+    place: u64,
+    rest: &mut ParseBuf<'_>,
+) -> Result<Option<Refusal>, Stop>
+    ensures { IfOk result (λ refusal. PutsText place rest.old.0.now rest.new.0.now refusal
+        fields.old fields.new) }
+{
+    match rest.parse::<TextValue<'_>>(global, ()) {
+        Ok(TextValue::Null) => {
+            fields.put_at(place, FieldValue::Null)?;
+            Ok(None)
+        }
+        Ok(TextValue::Text(text)) => {
+            fields.put_at(place, FieldValue::Text(text))?;
+            Ok(None)
+        }
+        Err(error) => Ok(Some(Refusal::of_wire(error)?)),
+    }
+}
+
+// Reads a row of so many columns, value by value, and puts each. The answer is why it is none.
+fn put_texts<A: Allocator + Copy>(
+    global: Global,
+    fields: &mut Fields<A>,
+    columns: u64,
+    payload: &[u8],
+) -> Result<Option<Refusal>, Stop>
+    ensures { IfOk result (λ refusal. PutsTexts columns payload.now refusal
+        fields.old fields.new) }
+{
+    let mut rest = ParseBuf(payload);
+    'values: for place in 0..columns {
+        match put_text(global, fields, place, &mut rest)? {
+            None => {}
+            Some(refusal) => return Ok(Some(refusal)),
+        }
+    }
+    Ok(if rest.0.is_empty() {
+        None
+    } else {
+        Some(Refusal::TrailingBytes)
+    })
+}
+
+/// Reads a row of so many columns, value by value, and puts each. The answer is why it is none.
+pub fn text_row<A: Allocator + Copy>(
+    global: Global,
+    fields: &mut Fields<A>,
+    columns: u64,
+    payload: &[u8],
+) -> Result<Option<Refusal>, Stop>
+    ensures texts { IfOk result (λ refusal. PutsTexts columns payload.now refusal
+        fields.old fields.new) }
+    ensures fields { OnOk result (PutsFields (Texts payload.now) fields.old fields.new) }
+{
+    let refusal = put_texts(global, fields, columns, payload)?;
+    Ok(refusal)
+}
+
+// Puts a number of these bits.
+fn put_float<A: Allocator + Copy>(
+    fields: &mut Fields<A>,
+    place: u64,
+    bits: u32,
+) -> Result<(), AllocError>
+    ensures { OnOk result (PutsFloat binary32 bits place fields.old fields.new) }
+{
+    let number = f32_from_bits_with_nan(bits);
+    let mut buffer = Buffer::new();
+    let printed = buffer.format(number);
+    if number.is_finite() {
+        fields.put_at(place, FieldValue::Printed(printed))
+    } else {
+        fields.put_at(place, FieldValue::Word(printed))
+    }
+}
+
+// Puts a number of these bits.
+fn put_double<A: Allocator + Copy>(
+    fields: &mut Fields<A>,
+    place: u64,
+    bits: u64,
+) -> Result<(), AllocError>
+    ensures { OnOk result (PutsFloat binary64 bits place fields.old fields.new) }
+{
+    let number = f64_from_bits_with_nan(bits);
+    let mut buffer = Buffer::new();
+    let printed = buffer.format(number);
+    if number.is_finite() {
+        fields.put_at(place, FieldValue::Printed(printed))
+    } else {
+        fields.put_at(place, FieldValue::Word(printed))
+    }
+}
+
+// Puts a value in its binary form.
+fn put_value<A: Allocator + Copy>(
+    fields: &mut Fields<A>,
+    place: u64,
+    value: &BinaryValue<'_>,
+) -> Result<(), AllocError>
+    ensures { OnOk result (PutsShown place value.now fields.old fields.new) }
+{
+    match value {
+        BinaryValue::Null => fields.put_at(place, FieldValue::Null),
+        BinaryValue::Tiny(number) => fields.put_at(place, FieldValue::Number(*number as u64)),
+        BinaryValue::Short(number) => fields.put_at(place, FieldValue::Number(*number as u64)),
+        BinaryValue::Long(number) => fields.put_at(place, FieldValue::Number(*number as u64)),
+        BinaryValue::LongLong(number) => fields.put_at(place, FieldValue::Number(*number)),
+        BinaryValue::Text(text) => fields.put_at(place, FieldValue::Text(*text)),
+        BinaryValue::Float(bits) => put_float(fields, place, *bits),
+        BinaryValue::Double(bits) => put_double(fields, place, *bits),
+        BinaryValue::Date(date) => fields.put_at(place, FieldValue::Date(date)),
+        BinaryValue::Time(time) => fields.put_at(place, FieldValue::Time(time)),
+    }
+}
+
+// The type that a column's definition tells by this number.
+fn column_type(number: u8) -> ColumnType
+    ensures { IsTypeOf number result }
+{
+    match ColumnType::try_from(number) {
+        Ok(column_type) => column_type,
+        Err(_) => ColumnType::MYSQL_TYPE_UNKNOWN,
+    }
+}
+
+// Puts the value of the column at this place, whose type has this number.
+fn put_column<'a, A: Allocator + Copy>(
+    global: Global,
+    fields: &mut Fields<A>,
+    place: usize,
+    number: u8,
+    row: &BinaryRow<'a>,
+    rest: &mut ParseBuf<'a>,
+) -> Result<Option<Refusal>, Stop>
+    ensures { IfOk result (λ refusal. PutsColumn row.now.nulls.0.now place number rest.old.0.now rest.new.0.now refusal fields.old fields.new) }
+{
+    match row.value(global, place, column_type(number), rest) {
+        Ok(value) => {
+            put_value(fields, place as u64, &value)?;
+            Ok(None)
+        }
+        Err(error) => Ok(Some(Refusal::of_wire(error)?)),
+    }
+}
+
+// The values of a row whose columns have these types, and what stands behind them.
+fn binary_values<A: Allocator + Copy>(
+    global: Global,
+    fields: &mut Fields<A>,
+    types: &[u8],
+    row: &BinaryRow<'_>,
+) -> Result<Option<Refusal>, Stop>
+    ensures { IfOk result (λ refusal. PutsValues types.now row.now refusal fields.old
+        fields.new) }
+{
+    let mut rest = ParseBuf(row.values);
+    'columns: for place in 0..types.len() {
+        match put_column(global, fields, place, types[place], row, &mut rest)? {
+            None => {}
+            Some(refusal) => return Ok(Some(refusal)),
+        }
+    }
+    if !rest.0.is_empty() {
+        fields.bytes("rest", rest.0)?;
+    }
+    Ok(None)
+}
+
+// Puts the values of a row whose columns have these types, where there are as many, and else the
+// row's bytes.
+fn put_row<A: Allocator + Copy>(
+    global: Global,
+    fields: &mut Fields<A>,
+    columns: u64,
+    types: &[u8],
+    row: &BinaryRow<'_>,
+) -> Result<Option<Refusal>, Stop>
+    ensures { IfOk result (λ refusal. PutsRow columns types.now row.now refusal fields.old
+        fields.new) }
+{
+    if types.len() as u64 == columns {
+        return binary_values(global, fields, types, row);
+    }
+    fields.bytes("null_bitmap", row.nulls.0)?;
+    fields.bytes("values", row.values)?;
+    Ok(None)
+}
+
+/// Puts the values of a row whose columns have these types, where there are as many, and else the
+/// row's bytes. The answer is why it is none.
+pub fn binary_row<A: Allocator + Copy>(
+    global: Global,
+    fields: &mut Fields<A>,
+    columns: u64,
+    types: &[u8],
+    row: &BinaryRow<'_>,
+) -> Result<Option<Refusal>, Stop>
+    ensures row { IfOk result (λ refusal. PutsRow columns types.now row.now refusal fields.old
+        fields.new) }
+    ensures fields { OnOk result (PutsFields (Row columns types.now row.now) fields.old
+        fields.new) }
+{
+    let refusal = put_row(global, fields, columns, types, row)?;
+    Ok(refusal)
+}

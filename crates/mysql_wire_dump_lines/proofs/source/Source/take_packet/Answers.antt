@@ -1,0 +1,31 @@
+use Rattle.std.proofs.Common.{◌∙◌}
+use Rattle.mysql_wire_dump_lines.specs.declared.source.End.TheVariants.{OutOfSync, Unfinished}
+use Rattle.mysql_wire_dump_lines.specs.declared.source.Next.TheVariants.{Packet, Ended}
+use Rattle.mysql_wire_dump_lines.specs.declared.source.Step.TheVariants.{Waits, Whole, LosesSync}
+use Rattle.mysql_wire_dump_lines.proofs.SourceLemmas.{goes_on, found_by}
+use Rattle.mysql_wire_dump_lines.proofs.source.Source.take_packet.Goals as goal
+
+pub returns-in-Whole-clause-found : goal.returns-in-Whole-clause-found
+returns-in-Whole-clause-found g c ready =
+    found_by c.args.id Whole (Packet c.args.id) c.args.self.now c.spans.self c.step.new.self (g.R.Read.remaining c.args.input.now) (g.R.Read.remaining c.spans.input)
+    (g.R.Read.remaining c.step.new.input) (c.spans.invariant.going ready) (rw c.in-Whole.is at c.in_ok-step.ensures) (λ begun is. is)
+
+pub returns-in-LosesSync-clause-found : goal.returns-in-LosesSync-clause-found
+returns-in-LosesSync-clause-found g c ready =
+    found_by c.args.id LosesSync (Ended OutOfSync) c.args.self.now c.spans.self c.step.new.self (g.R.Read.remaining c.args.input.now) (g.R.Read.remaining c.spans.input)
+    (g.R.Read.remaining c.step.new.input) (c.spans.invariant.going ready) (rw c.in-LosesSync.is at c.in_ok-step.ensures) (λ begun is. is)
+
+pub returns-in-Waits-clause-found : goal.returns-in-Waits-clause-found
+returns-in-Waits-clause-found g c ready =
+    found_by c.args.id Waits (Ended Unfinished) c.args.self.now c.spans.self c.step.new.self (g.R.Read.remaining c.args.input.now) (g.R.Read.remaining c.spans.input)
+    (g.R.Read.remaining c.step.new.input) (c.spans.invariant.going ready) (rw c.in-Waits.is at c.in_ok-step.ensures) (λ begun is. is)
+
+pub spans-preserved : goal.spans-preserved
+spans-preserved g c =
+    let step = rw c.in-Goes.is at c.in_ok-step.ensures in
+    record {
+      next = step.next ∙ c.spans.invariant.next;
+      limit = step.limit ∙ c.spans.invariant.limit;
+      going = λ ready. goes_on c.args.id c.args.self.now c.spans.self c.step.new.self (g.R.Read.remaining c.args.input.now) (g.R.Read.remaining c.spans.input)
+          (g.R.Read.remaining c.step.new.input) (c.spans.invariant.going ready) step;
+    }

@@ -1,0 +1,6 @@
+pub mod Names
+pub mod Naming
+pub mod Status
+pub mod Sources
+pub mod Turns
+pub mod Lines

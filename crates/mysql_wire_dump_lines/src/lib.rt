@@ -1,0 +1,13 @@
+//! The lines of a dump: whose packet is next, what it is by its place, and how a direction is read and
+//! ends.
+#![tactic(auto)]
+
+pub mod kind;
+pub mod lines;
+pub mod naming;
+pub mod place;
+pub mod refusal;
+pub mod side;
+pub mod source;
+pub mod status;
+pub mod turn;

@@ -1,0 +1,171 @@
+//! The lines that are written.
+
+ghost use Rattle.std.specs.Prelude.{◌≡◌, ◌++◌, IfOk, OnOk, string_bytes};
+ghost use Rattle.mysql_wire_dump_lines.specs.Lines.{bytes_part, ending_line, line_end, packet_front, packet_line, refused_words, shown_bytes};
+ghost use Rattle.mysql_wire_dump_lines.specs.Names.{end_name, refusal_name};
+
+use crate::kind::Kind;
+use crate::refusal::Refusal;
+use crate::side::Side;
+use crate::source::End;
+use std::alloc::{AllocError, Allocator};
+
+/// How packets are shown.
+#[derive(Debug, Clone, Copy, PartialEq, Eq)]
+pub enum LineForm {
+    Text,
+    Json,
+}
+
+/// A packet, as its line says it.
+#[derive(Debug, Clone, Copy, PartialEq, Eq)]
+pub struct Seen {
+    pub side: Side,
+    /// The id of its first chunk.
+    pub id: u8,
+    /// How many payload bytes it has.
+    pub len: usize,
+    pub kind: Kind,
+}
+
+// At most 32 bytes in digits, and two dots for those behind them.
+fn shown_bytes<A: Allocator>(alloc: A, payload: &[u8]) -> Result<String<A>, AllocError>
+    ensures { IfOk result (λ text. string_bytes text ≡ shown_bytes payload.now) }
+{
+    if payload.len() > 32 {
+        let (front, _) = payload.split_at(32);
+        let mut text = hex::encode(alloc, front)?;
+        text.push_str("..")?;
+        Ok(text)
+    } else {
+        hex::encode(alloc, payload)
+    }
+}
+
+// The digits of a payload's bytes, and the name of a refusal.
+fn push_words<A: Allocator + Copy>(
+    text: &mut String<A>,
+    form: LineForm,
+    digits: &str,
+    name: &str,
+) -> Result<(), AllocError>
+    ensures { OnOk result (string_bytes text.new
+        ≡ string_bytes text.old ++ refused_words form digits.now name.now) }
+{
+    match form {
+        LineForm::Text => write!(text, " {digits} {name}"),
+        LineForm::Json => write!(text, ",\"bytes\":\"{digits}\",\"refusal\":\"{name}\""),
+    }
+}
+
+// Why a payload is no packet of its place, behind its bytes.
+fn push_refused<A: Allocator + Copy>(
+    text: &mut String<A>,
+    form: LineForm,
+    refusal: Refusal,
+    payload: &[u8],
+) -> Result<(), AllocError>
+    ensures { OnOk result (string_bytes text.new ≡ string_bytes text.old
+        ++ refused_words form (shown_bytes payload.now) (refusal_name refusal)) }
+{
+    let digits = shown_bytes(*text.allocator(), payload)?;
+    push_words(text, form, digits.as_str(), refusal.name())
+}
+
+// The bytes of a payload that its place's type refuses, and why.
+fn push_bytes<A: Allocator + Copy>(
+    text: &mut String<A>,
+    form: LineForm,
+    kind: Kind,
+    payload: &[u8],
+) -> Result<(), AllocError>
+    ensures { OnOk result (string_bytes text.new
+        ≡ string_bytes text.old ++ bytes_part form kind payload.now) }
+{
+    match kind {
+        Kind::Bytes(refusal) => push_refused(text, form, refusal, payload),
+        _ => Ok(()),
+    }
+}
+
+// Who sent a packet, the id of its first chunk, its length, and what it is.
+fn push_front<A: Allocator + Copy>(
+    text: &mut String<A>,
+    form: LineForm,
+    seen: &Seen,
+) -> Result<(), AllocError>
+    ensures { OnOk result (string_bytes text.new
+        ≡ string_bytes text.old ++ packet_front form seen.now) }
+{
+    let side = seen.side.name();
+    let id = seen.id;
+    let len = seen.len;
+    let kind = seen.kind.name();
+    match form {
+        LineForm::Text => write!(text, "{side} {id} {len} {kind}"),
+        LineForm::Json => write!(
+            text,
+            "{{\"from\":\"{side}\",\"id\":{id},\"length\":{len},\"packet\":\"{kind}\""
+        ),
+    }
+}
+
+// The end of a line.
+fn push_end<A: Allocator + Copy>(text: &mut String<A>, form: LineForm) -> Result<(), AllocError>
+    ensures { OnOk result (string_bytes text.new ≡ string_bytes text.old ++ line_end form) }
+{
+    match form {
+        LineForm::Text => text.push_str("\n"),
+        LineForm::Json => text.push_str("}\n"),
+    }
+}
+
+/// Appends the line of a packet, with its fields.
+pub fn push_packet<A: Allocator + Copy>(
+    text: &mut String<A>,
+    form: LineForm,
+    seen: &Seen,
+    payload: &[u8],
+    fields: &str,
+) -> Result<(), AllocError>
+    ensures { OnOk result (string_bytes text.new
+        ≡ string_bytes text.old ++ packet_line form seen.now payload.now fields.now) }
+{
+    push_front(text, form, seen)?;
+    push_bytes(text, form, seen.kind, payload)?;
+    text.push_str(fields)?;
+    push_end(text, form)
+}
+
+fn end_name(end: End) -> &'static str
+    ensures { result.now ≡ end_name end }
+{
+    match end {
+        End::Between => "end",
+        End::Unfinished => "unfinished",
+        End::OutOfSync => "out of sync",
+        End::Encrypted => "encrypted",
+    }
+}
+
+/// Appends how a direction ends, and how many bytes its packets have.
+pub fn push_ending<A: Allocator + Copy>(
+    text: &mut String<A>,
+    form: LineForm,
+    side: Side,
+    end: End,
+    at: u64,
+) -> Result<(), AllocError>
+    ensures { OnOk result (string_bytes text.new
+        ≡ string_bytes text.old ++ ending_line form side end at) }
+{
+    let side = side.name();
+    let end = end_name(end);
+    match form {
+        LineForm::Text => writeln!(text, "{side} {end} at {at}"),
+        LineForm::Json => writeln!(
+            text,
+            "{{\"from\":\"{side}\",\"end\":\"{end}\",\"at\":{at}}}"
+        ),
+    }
+}

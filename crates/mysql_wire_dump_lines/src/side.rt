@@ -1,0 +1,23 @@
+//! Who speaks.
+
+ghost use Rattle.std.specs.Prelude.{◌≡◌};
+ghost use Rattle.mysql_wire_dump_lines.specs.Names.{side_name};
+
+/// One of the two that a connection joins.
+#[derive(Debug, Clone, Copy, PartialEq, Eq)]
+pub enum Side {
+    Client,
+    Server,
+}
+
+impl Side {
+    /// The name that is shown.
+    pub fn name(self) -> &'static str
+        ensures { result.now ≡ side_name self }
+    {
+        match self {
+            Side::Client => "client",
+            Side::Server => "server",
+        }
+    }
+}
