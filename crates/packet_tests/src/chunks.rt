@@ -220,16 +220,21 @@ fn first_wrong(alloc: Global, first: usize, rows: &[Row]) -> Option<usize> {
 }
 
 // The rows of each kind are counted from a hundred more.
-#[test]
-fn a_chunk_goes_by_the_state_of_its_decoder(rt: HostRuntime) -> Result<(), Fail> {
-    let alloc = rt.alloc();
-    let wrong = first_wrong(alloc, 0, WITHOUT_A_HEADER)
+fn wrong_header(alloc: Global) -> Option<usize> {
+    first_wrong(alloc, 0, WITHOUT_A_HEADER)
         .or(first_wrong(alloc, 100, EMPTY))
         .or(first_wrong(alloc, 200, TOO_LARGE))
-        .or(first_wrong(alloc, 300, REMEMBERED))
+}
+
+fn wrong_chunk(alloc: Global) -> Option<usize> {
+    first_wrong(alloc, 300, REMEMBERED)
         .or(first_wrong(alloc, 400, WHOLE))
-        .or(first_wrong(alloc, 500, COUNTS));
-    no_row(wrong)
+        .or(first_wrong(alloc, 500, COUNTS))
+}
+
+#[test]
+fn a_chunk_goes_by_the_state_of_its_decoder(rt: HostRuntime) -> Result<(), Fail> {
+    no_row(wrong_header(rt.alloc()).or(wrong_chunk(rt.alloc())))
 }
 
 // A decoder that needs so many bytes, where so many are there and so many held, and its answer.

@@ -106,6 +106,9 @@ const ROWS: &[Row] = &[
         left: b"\x02",
         held: b"",
     },
+];
+
+const LATER_ROWS: &[Row] = &[
     // A run goes on where the last one stopped, also over no pieces.
     Row {
         limit: MANY,
@@ -154,14 +157,22 @@ const ROWS: &[Row] = &[
     },
 ];
 
-#[test]
-fn pieces_become_packets(rt: HostRuntime) -> Result<(), Fail> {
-    let alloc = rt.alloc();
+fn wrong_row(alloc: Global, rows: &[Row]) -> Option<usize> {
     let mut wrong = None;
-    for i in 0..ROWS.len() {
-        if !goes(alloc, &ROWS[i]) {
+    for i in 0..rows.len() {
+        if !goes(alloc, &rows[i]) {
             wrong = Some(i);
         }
     }
-    no_row(wrong)
+    wrong
+}
+
+fn wrong_later_row(alloc: Global) -> Option<usize> {
+    wrong_row(alloc, LATER_ROWS)
+}
+
+#[test]
+fn pieces_become_packets(rt: HostRuntime) -> Result<(), Fail> {
+    no_row(wrong_row(rt.alloc(), ROWS))?;
+    no_row(wrong_later_row(rt.alloc()))
 }

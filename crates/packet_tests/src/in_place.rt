@@ -91,7 +91,7 @@ fn is_taken(limit: usize, pieces: &[&[u8]], decoded: &mut Receiver<Global>, want
     let mut lent = Receiver::new(decoded.alloc, limit);
     let mut all = take_all(&mut lent, pieces) == wanted;
     all &= are_same(decoded.out.as_slice(), lent.out.as_slice()) & left_alike(decoded, &lent);
-    all & (decoded.next_id() == lent.next_id())
+    all & (decoded.codec.sequence_id() == lent.codec.sequence_id())
 }
 
 /// Whether all ways hand out the same packets of these pieces, say the same, and leave the same.

@@ -217,11 +217,10 @@ const SHORT: &Row = &Row {
     ..taken::ROW
 };
 
-type ShortTaker = Taker<'static, Global, Global>;
-
 // Whether `can_skip` is false where the limit was lowered below the chunk that is open, and no
 // packet is handed out in the midst of one that is skipped.
-fn lower_limit_is_seen(taker: &mut ShortTaker) -> bool {
+fn lower_limit_is_seen(alloc: Global) -> bool {
+    let mut taker = Taker::new(alloc, alloc, alloc, SHORT);
     let mut all = taker.says(Way::Skipped) == Said::Io;
     all &= (taker.says(Way::HandedOut) != Said::Packet) & (taker.reader.reads() == 2);
     taker.codec.max_allowed_packet = 2;
@@ -231,7 +230,8 @@ fn lower_limit_is_seen(taker: &mut ShortTaker) -> bool {
 }
 
 // The same of a header that is remembered, of a packet that is not skipped yet.
-fn remembered_header_is_seen(taker: &mut ShortTaker) -> bool {
+fn remembered_header_is_seen(alloc: Global) -> bool {
+    let mut taker = Taker::new(alloc, alloc, alloc, SHORT);
     let mut all = taker.says(Way::HandedOut) == Said::Io;
     all &= taker.reader.can_skip(&taker.codec);
     taker.codec.max_allowed_packet = 2;
@@ -246,7 +246,7 @@ fn packets_are_skipped_from_their_midst(rt: HostRuntime) -> Result<(), Fail> {
     all_hold(&[
         held_is_skipped(alloc, 2049),
         held_is_skipped(alloc, 2050),
-        lower_limit_is_seen(&mut Taker::new(alloc, alloc, alloc, SHORT)),
-        remembered_header_is_seen(&mut Taker::new(alloc, alloc, alloc, SHORT)),
+        lower_limit_is_seen(alloc),
+        remembered_header_is_seen(alloc),
     ])
 }

@@ -8,7 +8,6 @@ use std::alloc::Global;
 use std::test::Fail;
 use test_support::case::{Case, are_same};
 use test_support::facts::{all_hold, no_row, same};
-use test_support::fixture::raise_to;
 use test_support::generated::{Draws, Stream, pieces_of};
 use test_support::receiver::Receiver;
 use test_support::reference::{between, header_at, low_byte};
@@ -80,7 +79,7 @@ impl Spanned {
             b""
         };
         are_same(self.packets.as_slice(), case.reading.packets.as_slice())
-            & (self.opened.as_slice() == opened)
+            & same(self.opened.as_slice(), opened)
     }
 
     fn agrees(&self, case: &Case) -> bool {
@@ -129,11 +128,11 @@ fn codec_goes_on(alloc: Global, case: &Case, front: &[u8], pieces: &[&[u8]]) -> 
 // Whether a codec ends as the stream's reading says, where spans have brought so many bytes.
 fn codec_ends(alloc: Global, case: &Case, came: Spanned, there: usize, pieces: &[&[u8]]) -> bool {
     let mut receiver = Receiver::new(alloc, case.limit);
-    raise_to(&mut receiver.codec, alloc, came.decoder.sequence_id());
+    receiver.codec.set_sequence_id(came.decoder.sequence_id());
     let Spanned { packets, .. } = came;
     receiver.out = packets;
     let run = receiver.deliver(pieces);
-    case.is_ended(&mut receiver, there, pieces, run)
+    case.is_ended(&receiver, there, pieces, run)
 }
 
 // Whether spans go on where a codec has taken these bytes. True where they don't end between two
@@ -221,7 +220,7 @@ fn renumbered_agrees(alloc: Global, case: &Case, id: u8, pieces: &[&[u8]]) -> bo
     renumbered.pass_all(alloc, pieces);
     let place = place_of(case);
     let mut wanted = Receiver::new(alloc, usize::MAX);
-    raise_to(&mut wanted.codec, alloc, id);
+    wanted.codec.set_sequence_id(id);
     let next_id = encoded(&mut wanted, case, place, renumbered.out.len());
     renumbered.stands_at(case, place)
         & same(renumbered.out.as_slice(), wanted.src.as_slice())
