@@ -359,7 +359,7 @@ fn show_session<A: Allocator + Copy, R: Read, S: Read, W: Write>(
 /// Shows a session whose directions are these inputs, packet by packet. The answer is the exit
 /// status: 0 where each input ended between two packets, 3 where one ended inside a packet, 5 where
 /// the chunks of a packet are out of sync, 2 where a read or a write failed, 6 where memory was
-/// refused. All memory is `alloc`'s: `global` is only named where packets are read, which takes none.
+/// refused. All memory is `alloc`'s: with `global` packets are read, which takes none.
 pub fn run_dump<A: Allocator + Copy, R: Read, S: Read, W: Write>(
     alloc: A,
     global: Global,

@@ -3,7 +3,7 @@
 ghost use Rattle.std.specs.Prelude.{◌≡◌, ◌++◌, ◌∷◌, [], IfOk, OnOk, string_bytes};
 ghost use Rattle.std.specs.Fmt.{decimal};
 ghost use Rattle.json.specs.Print.{quoted};
-ghost use Rattle.mysql_wire_dump_fields.specs.Fields.{Flags, Number, Puts, Octets, Words, ended, flags_text, nothing, octets_text, value_of, value_text, with_end, with_member, words_text};
+ghost use Rattle.mysql_wire_dump_fields.specs.Fields.{Flags, Number, Octets, Puts, Words, ended, flags_text, nothing, octets_text, value_of, value_text, with_end, with_member, words_text};
 
 use crate::moments::{push_date, push_time};
 use json::Writer;
@@ -43,7 +43,8 @@ fn push_digits<A: Allocator + Copy>(
     form: FieldForm,
     bytes: &[u8],
 ) -> Result<(), AllocError>
-    ensures { OnOk result (string_bytes text.new ≡ string_bytes text.old ++ octets_text form bytes.now) }
+    ensures { OnOk result (string_bytes text.new
+        ≡ string_bytes text.old ++ octets_text form bytes.now) }
 {
     let digits = hex::encode(*text.allocator(), bytes)?;
     let digits = digits.as_str();
@@ -78,7 +79,8 @@ fn push_text<A: Allocator + Copy>(
     form: FieldForm,
     bytes: &[u8],
 ) -> Result<(), AllocError>
-    ensures { OnOk result (string_bytes text.new ≡ string_bytes text.old ++ words_text form bytes.now) }
+    ensures { OnOk result (string_bytes text.new
+        ≡ string_bytes text.old ++ words_text form bytes.now) }
 {
     match std::str::from_utf8(bytes) {
         Ok(words) => push_quoted(text, words),
@@ -215,7 +217,8 @@ impl<A: Allocator + Copy> Fields<A> {
 
     /// Puts a value that has no name but its place, counted from 0.
     pub fn put_at(&mut self, place: u64, value: FieldValue<'_>) -> Result<(), AllocError>
-        ensures { OnOk result (Puts ((decimal place, value_of value.entry) ∷ []) self.old self.new) }
+        ensures { OnOk result (Puts ((decimal place, value_of value.entry) ∷ [])
+            self.old self.new) }
     {
         let mut digits = itoa::Buffer::new();
         self.put(digits.format(place), value)

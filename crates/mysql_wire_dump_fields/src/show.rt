@@ -52,7 +52,8 @@ fn put_words_if<A: Allocator + Copy, T: BytesRepr>(
     name: &str,
     text: &Option<RawBytes<'_, T>>,
 ) -> Result<(), AllocError>
-    ensures { OnOk result (Puts (row_if (λ text. (name.now, Words (cow_slice_items text.0))) text.now)
+    ensures { OnOk result (Puts
+        (row_if (λ text. (name.now, Words (cow_slice_items text.0))) text.now)
         fields.old fields.new) }
 {
     match text {
@@ -67,7 +68,8 @@ fn put_bytes_if<A: Allocator + Copy, T: BytesRepr>(
     name: &str,
     text: &Option<RawBytes<'_, T>>,
 ) -> Result<(), AllocError>
-    ensures { OnOk result (Puts (row_if (λ text. (name.now, Octets (cow_slice_items text.0))) text.now)
+    ensures { OnOk result (Puts
+        (row_if (λ text. (name.now, Octets (cow_slice_items text.0))) text.now)
         fields.old fields.new) }
 {
     match text {

@@ -37,7 +37,8 @@ fn state<A: Allocator + Copy>(
     fields: &mut Fields<A>,
     state: &Option<[u8; 5]>,
 ) -> Result<(), AllocError>
-    ensures { OnOk result (Puts (row_if (λ state. (codes "sql_state", Words state)) state.now) fields.old fields.new) }
+    ensures { OnOk result (Puts (row_if (λ state. (codes "sql_state", Words state)) state.now)
+        fields.old fields.new) }
 {
     match state {
         Some(state) => fields.words("sql_state", state),

@@ -48,7 +48,9 @@ fn character_set<A: Allocator + Copy>(
     fields: &mut Fields<A>,
     number: &Option<RawInt<LeU16>>,
 ) -> Result<(), AllocError>
-    ensures { OnOk result (Puts (row_if (λ number. (codes "character_set", Number number.0)) number.now) fields.old fields.new) }
+    ensures { OnOk result (Puts
+        (row_if (λ number. (codes "character_set", Number number.0)) number.now)
+        fields.old fields.new) }
 {
     match number {
         Some(number) => fields.number("character_set", number.0 as u64),
@@ -121,7 +123,9 @@ fn types<A: Allocator + Copy>(
     fields: &mut Fields<A>,
     types: &Option<ParamTypes<'_>>,
 ) -> Result<(), AllocError>
-    ensures { OnOk result (Puts (row_if (λ types. (codes "parameter_type", Octets types.0.now)) types.now) fields.old fields.new) }
+    ensures { OnOk result (Puts
+        (row_if (λ types. (codes "parameter_type", Octets types.0.now)) types.now)
+        fields.old fields.new) }
 {
     match types {
         Some(types) => fields.bytes("parameter_type", types.0),

@@ -61,7 +61,12 @@ fn auth_response<A: Allocator + Copy>(
     fields: &mut Fields<A>,
     response: &AuthResponse<'_>,
 ) -> Result<(), AllocError>
-    ensures { OnOk result (Puts ((codes "auth_response", Octets (by_side (λ text. cow_slice_items text.0) (λ text. cow_slice_items text.0) response.now)) ∷ []) fields.old fields.new) }
+    ensures { OnOk result (Puts ((
+      codes "auth_response",
+      Octets (by_side
+          (λ text. cow_slice_items text.0) (λ text. cow_slice_items text.0) response.now),
+    ) ∷ [])
+        fields.old fields.new) }
 {
     match response {
         Either::Left(response) => put_bytes(fields, "auth_response", response),

@@ -158,7 +158,8 @@ fn put_column<'a, A: Allocator + Copy>(
     row: &BinaryRow<'a>,
     rest: &mut ParseBuf<'a>,
 ) -> Result<Option<Refusal>, Stop>
-    ensures { IfOk result (λ refusal. PutsColumn row.now.nulls.0.now place number rest.old.0.now rest.new.0.now refusal fields.old fields.new) }
+    ensures { IfOk result (λ refusal. PutsColumn row.now.nulls.0.now place number
+        rest.old.0.now rest.new.0.now refusal fields.old fields.new) }
 {
     match row.value(global, place, column_type(number), rest) {
         Ok(value) => {
