@@ -1,5 +1,7 @@
 //! The callers of fields, and the representations of one's own, run.
 
+use field_examples::own_fields::{BeU16, U16Bytes, read_name, read_port};
+use field_examples::parameters::{Parameter, put_parameters, read_parameters};
 use mysql_wire::io::ParseBuf;
 use mysql_wire::misc::raw::bytes::RawBytes;
 use mysql_wire::misc::raw::int::RawInt;
@@ -7,8 +9,6 @@ use mysql_wire::proto::MySerialize;
 use mysql_wire_examples::field_callers::{
     EofPacket, put_named, put_schema, read_eof, read_error, read_named, read_ok, write_name,
 };
-use field_examples::own_fields::{BeU16, U16Bytes, read_name, read_port};
-use field_examples::parameters::{Parameter, put_parameters, read_parameters};
 use std::alloc::Global;
 use std::test::Fail;
 use test_support::facts::{all_hold, ensure, same};
