@@ -29,22 +29,22 @@ use wire_forms::constant::ConstU8;
 use wire_forms::halves::{LeU32LowerHalf, LeU32UpperHalf};
 use wire_forms::null::NullBytes;
 use wire_forms::undelimited::{BareU8Bytes, EofBytes};
-use wire_repr::int::{LeU16, LeU32, RawInt};
+use wire_repr::int::{LeU16, LeU32};
 use wire_repr::text::RawBytes;
 use wire_repr::wire::Wire;
 
 // The payload's fields up to the authentication data's second part.
 type Head<'a> = Both<ConstU8<(), 0x0a>, Both<RawBytes<'a, NullBytes>, Ids>>;
 
-type Ids = Both<RawInt<LeU32>, Both<[u8; 8], Both<RawInt<u8>, Capabilities>>>;
+type Ids = Both<u32, Both<[u8; 8], Both<u8, Capabilities>>>;
 
 type Capabilities = Both<RawFlags<CapabilityFlags, LeU32LowerHalf>, State>;
 
-type State = Both<RawInt<u8>, Both<RawFlags<StatusFlags, LeU16>, Upper>>;
+type State = Both<u8, Both<u16, Upper>>;
 
-type Upper = Both<RawFlags<CapabilityFlags, LeU32UpperHalf>, Both<RawInt<u8>, Reserved>>;
+type Upper = Both<RawFlags<CapabilityFlags, LeU32UpperHalf>, Both<u8, Reserved>>;
 
-type Reserved = Both<[u8; 6], RawFlags<MariadbCapabilities, LeU32>>;
+type Reserved = Both<[u8; 6], u32>;
 
 // And those behind it.
 type Tail<'a> = Both<RawBytes<'a, BareU8Bytes>, Optional<PluginName<'a>>>;
@@ -101,22 +101,22 @@ fn of_fields<'a>(head: Head<'a>, tail: Tail<'a>) -> HandshakeV10<'a>
       (
         result.server_version,
         (
-          (result.thread_id, _),
+          result.thread_id,
           (
             result.auth_plugin_data_part_1,
             (
-              (result.filler, _),
+              result.filler,
               (
                 result.capability_flags_1,
                 (
-                  (result.character_set, _),
+                  result.character_set,
                   (
-                    result.status_flags,
+                    result.status_flags.0,
                     (
                       result.capability_flags_2,
                       (
-                        (result.auth_plugin_data_len, _),
-                        (result.reserved, result.mariadb_capabilities),
+                        result.auth_plugin_data_len,
+                        (result.reserved, result.mariadb_capabilities.0),
                       ),
                     ),
                   ),
@@ -134,21 +134,21 @@ fn of_fields<'a>(head: Head<'a>, tail: Tail<'a>) -> HandshakeV10<'a>
     let auth_plugin_data_part_1 = data.0;
     let Both(_, Both(filler, Both(capability_flags_1, state))) = data;
     let Both(character_set, Both(status_flags, Both(capability_flags_2, data))) = state;
-    let Both(data_len, reserved) = data;
+    let Both(auth_plugin_data_len, reserved) = data;
     let bytes = reserved.0;
     let Both(auth_plugin_data_part_2, name) = tail;
     HandshakeV10 {
         server_version,
-        thread_id: thread_id.0,
+        thread_id,
         auth_plugin_data_part_1,
-        filler: filler.0,
+        filler,
         capability_flags_1,
-        character_set: character_set.0,
-        status_flags,
+        character_set,
+        status_flags: RawFlags::new(status_flags),
         capability_flags_2,
-        auth_plugin_data_len: data_len.0,
+        auth_plugin_data_len,
         reserved: bytes,
-        mariadb_capabilities: reserved.1,
+        mariadb_capabilities: RawFlags::new(reserved.1),
         auth_plugin_data_part_2,
         auth_plugin_name: value_of(name),
     }
@@ -185,17 +185,19 @@ impl MySerialize for HandshakeV10<'_> {
     ghost bytes = { λ h. head_bytes h ++ tail_bytes h };
 
     fn serialize<A: Allocator>(&self, buf: &mut Vec<u8, A>) -> Result<(), WireError> {
-        let data_len = RawInt::<u8>::new(self.auth_plugin_data_len);
-        let reserved = Both(self.reserved, self.mariadb_capabilities);
-        let upper = Both(self.capability_flags_2, Both(data_len, reserved));
-        let character_set = RawInt::<u8>::new(self.character_set);
-        let state = Both(character_set, Both(self.status_flags, upper));
+        let reserved = Both(self.reserved, self.mariadb_capabilities.0);
+        let upper = Both(
+            self.capability_flags_2,
+            Both(self.auth_plugin_data_len, reserved),
+        );
+        let state = Both(self.character_set, Both(self.status_flags.0, upper));
         let part_1 = self.auth_plugin_data_part_1;
-        let filler = RawInt::<u8>::new(self.filler);
-        let part_1 = Both(part_1, Both(filler, Both(self.capability_flags_1, state)));
-        let thread_id = RawInt::<LeU32>::new(self.thread_id);
+        let part_1 = Both(
+            part_1,
+            Both(self.filler, Both(self.capability_flags_1, state)),
+        );
         let server_version = Lent(&self.server_version);
-        let head = Both(server_version, Both(thread_id, part_1));
+        let head = Both(server_version, Both(self.thread_id, part_1));
         let name = LentIf(&self.auth_plugin_name);
         let tail = Both(Lent(&self.auth_plugin_data_part_2), name);
         Both(Both(ConstU8::<(), 0x0a>::new(), head), tail).serialize(buf)
@@ -215,22 +217,22 @@ impl<'de> MyDeserialize<'de, Global> for HandshakeV10<'de> {
           (
             h.server_version,
             (
-              (h.thread_id, _),
+              h.thread_id,
               (
                 h.auth_plugin_data_part_1,
                 (
-                  (h.filler, _),
+                  h.filler,
                   (
                     h.capability_flags_1,
                     (
-                      (h.character_set, _),
+                      h.character_set,
                       (
-                        h.status_flags,
+                        h.status_flags.0,
                         (
                           h.capability_flags_2,
                           (
-                            (h.auth_plugin_data_len, _),
-                            (h.reserved, h.mariadb_capabilities),
+                            h.auth_plugin_data_len,
+                            (h.reserved, h.mariadb_capabilities.0),
                           ),
                         ),
                       ),
@@ -246,14 +248,14 @@ impl<'de> MyDeserialize<'de, Global> for HandshakeV10<'de> {
         (tt, (tt, (tt, (tt, (tt, (tt, (tt, (tt, (tt, (tt, (tt, tt))))))))))))
         (λ head input. let upper = head.1.1.1.1.1.1.1.1 in
         ⟦<Tail<'de> as MyDeserialize<'de, Global>>⟧.reads
-        (tail_at upper.0.0 upper.1.0.0 input) input) };
+        (tail_at upper.0.0 upper.1.0 input) input) };
 
     fn deserialize(alloc: Global, _: (), buf: &mut ParseBuf<'de>) -> Result<Self, WireError> {
         let state = ((), ((), ((), ((), ((), ())))));
         match buf.parse::<Head<'de>>(alloc, ((), ((), ((), ((), ((), ((), state))))))) {
             Ok(head) => {
                 let upper = &head.1.1.1.1.1.1.1.1;
-                let ctx = tail_ctx(upper.0.0, upper.1.0.0, buf.0);
+                let ctx = tail_ctx(upper.0.0, upper.1.0, buf.0);
                 match buf.parse::<Tail<'de>>(alloc, ctx) {
                     Ok(tail) => Ok(of_fields(head, tail)),
                     Err(error) => Err(error),
@@ -319,7 +321,7 @@ impl<'de> Wire<'de, Global> for HandshakeV10<'de> {
         (tt, (tt, (tt, (tt, (tt, (tt, (tt, (tt, (tt, (tt, (tt, tt))))))))))))
         (λ head input. let upper = head.1.1.1.1.1.1.1.1 in
         ⟦<Tail<'de> as MyDeserialize<'de, Global>>⟧.reads
-        (tail_at upper.0.0 upper.1.0.0 input) input)
+        (tail_at upper.0.0 upper.1.0 input) input)
         (head_bytes h) (tail_bytes h)
         (λ tail. IsBorrowedText tail.0.0 (take 255 (cow_slice_items h.auth_plugin_data_part_2.0))
         × KeptField (SameSide (λ name back. IsBorrowedText back.0 (clean name.0))
@@ -346,20 +348,20 @@ impl<'de> Wire<'de, Global> for HandshakeV10<'de> {
               back.auth_plugin_name (λ name back same. same) tail.1;
         })
         (both const_u8 (both (null_text (λ text. text.0) (cow_slice_items h.server_version.0))
-        (both (number (λ int. int.0) 4 h.thread_id value.thread_id)
+        (both (number (λ n. n) 4 h.thread_id value.thread_id)
         (both (array 8 h.auth_plugin_data_part_1 value.auth_plugin_data_part_1)
-        (both (byte (λ int. int.0) h.filler) (both (number_by (λ flags. flags.0) 2 le_number
+        (both (byte (λ n. n) h.filler) (both (number_by (λ flags. flags.0) 2 le_number
         (le_bytes 2 h.capability_flags_1.0) (h.capability_flags_1.0 % 65536)
         (length-le_bytes 2 h.capability_flags_1.0) (le_number-le_bytes 2 h.capability_flags_1.0))
-        (both (byte (λ int. int.0) h.character_set)
-        (both (number (λ flags. flags.0) 2 h.status_flags.0 value.status_flags)
+        (both (byte (λ n. n) h.character_set)
+        (both (number (λ n. n) 2 h.status_flags.0 value.status_flags)
         (both (number_by (λ flags. flags.0) 2 (λ bytes. 65536 * le_number bytes)
         (le_bytes 2 (h.capability_flags_2.0 / 65536)) (upper_half h.capability_flags_2.0)
         (length-le_bytes 2 (h.capability_flags_2.0 / 65536))
         (upper_half-back h.capability_flags_2.0 value.capability_flags_2))
-        (both (byte (λ int. int.0) h.auth_plugin_data_len)
+        (both (byte (λ n. n) h.auth_plugin_data_len)
         (both (array 6 h.reserved value.reserved)
-        (number (λ flags. flags.0) 4 h.mariadb_capabilities.0
+        (number (λ n. n) 4 h.mariadb_capabilities.0
         value.mariadb_capabilities))))))))))))
         (λ head came. let state = came.1.1.1.1.1 in rw (state.1.1.1.0, state.1.1.1.1.0)
         (at_input (tail_at (upper_half h.capability_flags_2.0) h.auth_plugin_data_len)

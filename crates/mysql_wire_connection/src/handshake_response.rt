@@ -13,7 +13,7 @@ ghost use Rattle.mysql_wire_connection.specs.Responses.{answer_bytes, client_byt
 ghost use Rattle.mysql_wire_packets.specs.Then.{ReadsThen, then_back};
 
 use mysql_wire_packets::lent::{Lent, LentIf};
-use mysql_wire_packets::optional::{Optional, byte_of, field_of_byte, known_text, under, value_of};
+use mysql_wire_packets::optional::{Optional, field_of_byte, known_text, under, value_of};
 use std::alloc::{Allocator, Global};
 use wire_buf::error::WireError;
 use wire_buf::io::ParseBuf;
@@ -25,16 +25,16 @@ use wire_forms::constant::Skip;
 use wire_forms::lenenc::LenEnc;
 use wire_forms::null::NullBytes;
 use wire_forms::prefixed::U8Bytes;
-use wire_repr::int::{LeU32, RawInt};
+use wire_repr::int::LeU32;
 use wire_repr::text::RawBytes;
 use wire_repr::wire::Wire;
 
 // The payload's fields up to the name of the user.
-type Client<'a> = Both<RawFlags<CapabilityFlags, LeU32>, Both<RawInt<LeU32>, User<'a>>>;
+type Client<'a> = Both<u32, Both<u32, User<'a>>>;
 
-type User<'a> = Both<RawInt<u8>, Both<Reserved, RawBytes<'a, NullBytes>>>;
+type User<'a> = Both<u8, Both<Reserved, RawBytes<'a, NullBytes>>>;
 
-type Reserved = Both<[u8; 19], RawFlags<MariadbCapabilities, LeU32>>;
+type Reserved = Both<[u8; 19], u32>;
 
 // And those behind it, on which the client's capabilities decide.
 type Answer<'a> = Both<AuthResponse<'a>, Both<Optional<RawBytes<'a, NullBytes>>, Plugin<'a>>>;
@@ -43,7 +43,7 @@ type Plugin<'a> = Both<Optional<RawBytes<'a, NullBytes>>, Both<Attributes<'a>, L
 
 type Attributes<'a> = Optional<RawBytes<'a, LenEnc>>;
 
-type Level = Optional<RawInt<u8>>;
+type Level = Optional<u8>;
 
 /// What answers the authentication data: behind a length-encoded integer under
 /// `CLIENT_PLUGIN_AUTH_LENENC_CLIENT_DATA`, and else behind one byte.
@@ -80,12 +80,12 @@ pub struct HandshakeResponse41<'a> {
 // An answer of its fields.
 fn of_fields<'a>(client: Client<'a>, answer: Answer<'a>) -> HandshakeResponse41<'a>
     ensures client { (
-      result.client_flag,
+      result.client_flag.0,
       (
-        (result.max_packet_size, _),
+        result.max_packet_size,
         (
-          (result.character_set, _),
-          ((result.filler, result.mariadb_capabilities), result.username),
+          result.character_set,
+          ((result.filler, result.mariadb_capabilities.0), result.username),
         ),
       ),
     ) ≡ client.entry }
@@ -97,7 +97,7 @@ fn of_fields<'a>(client: Client<'a>, answer: Answer<'a>) -> HandshakeResponse41<
           field (λ name. name) _ result.client_plugin_name,
           (
             field (λ attrs. attrs) _ result.connect_attrs,
-            field (λ level. (level, _)) _ result.zstd_compression_level,
+            field (λ level. level) _ result.zstd_compression_level,
           ),
         ),
       ),
@@ -108,17 +108,17 @@ fn of_fields<'a>(client: Client<'a>, answer: Answer<'a>) -> HandshakeResponse41<
     let filler = reserved.0;
     let Both(auth_response, Both(database, Both(plugin, Both(attrs, level)))) = answer;
     HandshakeResponse41 {
-        client_flag,
-        max_packet_size: max_packet_size.0,
-        character_set: character_set.0,
+        client_flag: RawFlags::new(client_flag),
+        max_packet_size,
+        character_set,
         filler,
-        mariadb_capabilities: reserved.1,
+        mariadb_capabilities: RawFlags::new(reserved.1),
         username,
         auth_response,
         database: value_of(database),
         client_plugin_name: value_of(plugin),
         connect_attrs: value_of(attrs),
-        zstd_compression_level: byte_of(level),
+        zstd_compression_level: value_of(level),
     }
 }
 
@@ -136,11 +136,9 @@ impl MySerialize for HandshakeResponse41<'_> {
             Both(database, Both(plugin, Both(attrs, level))),
         );
         let username = Lent(&self.username);
-        let character_set = RawInt::<u8>::new(self.character_set);
-        let max_packet_size = RawInt::<LeU32>::new(self.max_packet_size);
-        let reserved = Both(self.filler, self.mariadb_capabilities);
-        let user = Both(character_set, Both(reserved, username));
-        let client = Both(self.client_flag, Both(max_packet_size, user));
+        let reserved = Both(self.filler, self.mariadb_capabilities.0);
+        let user = Both(self.character_set, Both(reserved, username));
+        let client = Both(self.client_flag.0, Both(self.max_packet_size, user));
         Both(client, answer).serialize(buf)
     }
 }
@@ -154,10 +152,10 @@ impl<'de> MyDeserialize<'de, Global> for HandshakeResponse41<'de> {
 
     ghost reads = { λ _. ReadsThen
         (λ h. (
-          h.client_flag,
+          h.client_flag.0,
           (
-            (h.max_packet_size, _),
-            ((h.character_set, _), ((h.filler, h.mariadb_capabilities), h.username)),
+            h.max_packet_size,
+            (h.character_set, ((h.filler, h.mariadb_capabilities.0), h.username)),
           ),
         ))
         (λ h. (
@@ -168,21 +166,21 @@ impl<'de> MyDeserialize<'de, Global> for HandshakeResponse41<'de> {
               field (λ name. name) _ h.client_plugin_name,
               (
                 field (λ attrs. attrs) _ h.connect_attrs,
-                field (λ level. (level, _)) _ h.zstd_compression_level,
+                field (λ level. level) _ h.zstd_compression_level,
               ),
             ),
           ),
         ))
         (⟦<Client<'de> as MyDeserialize<'de, Global>>⟧.reads (tt, (tt, (tt, ((tt, tt), tt)))))
         (λ client. ⟦<Answer<'de> as MyDeserialize<'de, Global>>⟧.reads (
-          side tt (has client.0.0 0x200000),
+          side tt (has client.0 0x200000),
           (
-            side tt (has client.0.0 0x8),
+            side tt (has client.0 0x8),
             (
-              side tt (has client.0.0 0x80000),
+              side tt (has client.0 0x80000),
               (
-                side tt (has client.0.0 0x100000),
-                side tt (has client.0.0 0x4000000),
+                side tt (has client.0 0x100000),
+                side tt (has client.0 0x4000000),
               ),
             ),
           ),
@@ -191,7 +189,7 @@ impl<'de> MyDeserialize<'de, Global> for HandshakeResponse41<'de> {
     fn deserialize(alloc: Global, _: (), buf: &mut ParseBuf<'de>) -> Result<Self, WireError> {
         match buf.parse::<Client<'de>>(alloc, ((), ((), ((), (((), ()), ()))))) {
             Ok(client) => {
-                let bits = client.0.0;
+                let bits = client.0;
                 let answer = under(
                     bits,
                     CapabilityFlags::CLIENT_PLUGIN_AUTH_LENENC_CLIENT_DATA,
@@ -267,14 +265,14 @@ impl<'de> Wire<'de, Global> for HandshakeResponse41<'de> {
         then_back _ _ (⟦<Client<'de> as MyDeserialize<'de, Global>>⟧.reads
         (tt, (tt, (tt, ((tt, tt), tt)))))
         (λ client. ⟦<Answer<'de> as MyDeserialize<'de, Global>>⟧.reads (
-          side tt (has client.0.0 0x200000),
+          side tt (has client.0 0x200000),
           (
-            side tt (has client.0.0 0x8),
+            side tt (has client.0 0x8),
             (
-              side tt (has client.0.0 0x80000),
+              side tt (has client.0 0x80000),
               (
-                side tt (has client.0.0 0x100000),
-                side tt (has client.0.0 0x4000000),
+                side tt (has client.0 0x100000),
+                side tt (has client.0 0x4000000),
               ),
             ),
           ),
@@ -287,7 +285,7 @@ impl<'de> Wire<'de, Global> for HandshakeResponse41<'de> {
         answer.1.1.0
         × (KeptField (λ attrs field. IsBorrowedText field.0 (cow_slice_items attrs.0))
         h.connect_attrs answer.1.1.1.0
-        × KeptField (λ level field. field.0 ≡ level) h.zstd_compression_level
+        × KeptField (λ level field. field ≡ level) h.zstd_compression_level
         answer.1.1.1.1)))) _
         (λ back client answer. record {
           client_flag = client.0;
@@ -308,14 +306,14 @@ impl<'de> Wire<'de, Global> for HandshakeResponse41<'de> {
               (λ attrs field. IsBorrowedText field.0 (cow_slice_items attrs.0)) _
               (λ attrs. attrs) (λ attrs back. IsBorrowedText back.0 (cow_slice_items attrs.0))
               h.connect_attrs back.connect_attrs (λ attrs back same. same) answer.1.1.1.0;
-          zstd_compression_level = kept_field (λ level field. field.0 ≡ level) _
-              (λ level. (level, _)) (λ level back. back ≡ level) h.zstd_compression_level
+          zstd_compression_level = kept_field (λ level field. field ≡ level) _
+              (λ level. level) (λ level back. back ≡ level) h.zstd_compression_level
               back.zstd_compression_level (λ level back same. same) answer.1.1.1.1;
         })
-        (both (number (λ flags. flags.0) 4 h.client_flag.0 value.client_flag)
-        (both (number (λ int. int.0) 4 h.max_packet_size value.max_packet_size)
-        (both (byte (λ int. int.0) h.character_set)
-        (both (both (array 19 h.filler value.filler) (number (λ flags. flags.0) 4
+        (both (number (λ n. n) 4 h.client_flag.0 value.client_flag)
+        (both (number (λ n. n) 4 h.max_packet_size value.max_packet_size)
+        (both (byte (λ n. n) h.character_set)
+        (both (both (array 19 h.filler value.filler) (number (λ n. n) 4
         h.mariadb_capabilities.0 value.mariadb_capabilities)) (null_text (λ text. text.0) (cow_slice_items h.username.0))))))
         (λ client came. rw came.0
         (both (one_of (⟦<RawBytes<'de, LenEnc> as MyDeserialize<'de, Global>>⟧.reads)
@@ -344,10 +342,10 @@ impl<'de> Wire<'de, Global> for HandshakeResponse41<'de> {
         (λ attrs is. lenenc_text (λ text. text.0) (cow_slice_items attrs.0)
         (subst (OnIf (λ attrs. IsText (cow_slice_items attrs.0))) is value.connect_attrs)))
         (optional (λ ctx. Parses (Some 1)
-        (⟦<RawInt<u8> as MyDeserialize<'de, Global>>⟧.reads ctx)) tt
+        (⟦<u8 as MyDeserialize<'de, Global>>⟧.reads ctx)) tt
         (has h.client_flag.0 0x4000000) h.zstd_compression_level
-        (λ level field. field.0 ≡ level) (λ level. level ∷ []) good.zstd_compression_level
-        (λ level is. byte (λ int. int.0) level)))))))
+        (λ level field. field ≡ level) (λ level. level ∷ []) good.zstd_compression_level
+        (λ level is. byte (λ n. n) level)))))))
         answer eaten read };
 
     ghost of_size = { λ h size _ stated. Prim.cc };

@@ -12,13 +12,13 @@ use wire_buf::proto::{HasSize, MyDeserialize, MySerialize, Varying};
 use wire_const::{CapabilityFlags, MariadbCapabilities};
 use wire_field::converted::RawFlags;
 use wire_field::row::Both;
-use wire_repr::int::{LeU32, RawInt};
+use wire_repr::int::LeU32;
 use wire_repr::wire::Wire;
 
 // The payload's fields, in order.
-type Fields = Both<RawFlags<CapabilityFlags, LeU32>, Both<RawInt<LeU32>, Rest>>;
+type Fields = Both<u32, Both<u32, Rest>>;
 
-type Rest = Both<RawInt<u8>, Both<[u8; 19], RawFlags<MariadbCapabilities, LeU32>>>;
+type Rest = Both<u8, Both<[u8; 19], u32>>;
 
 /// The client asks for TLS: the front of its answer to the handshake, 32 bytes, under `CLIENT_SSL`.
 /// The whole answer follows on the encrypted connection.
@@ -40,21 +40,21 @@ pub struct SslRequest {
 // A request of its fields.
 fn of_fields(fields: Fields) -> SslRequest
     ensures { (
-      result.client_flag,
+      result.client_flag.0,
       (
-        (result.max_packet_size, _),
-        ((result.character_set, _), (result.filler, result.mariadb_capabilities)),
+        result.max_packet_size,
+        (result.character_set, (result.filler, result.mariadb_capabilities.0)),
       ),
     ) ≡ fields }
 {
     let Both(client_flag, Both(max_packet_size, Both(character_set, reserved))) = fields;
     let filler = reserved.0;
     SslRequest {
-        client_flag,
-        max_packet_size: max_packet_size.0,
-        character_set: character_set.0,
+        client_flag: RawFlags::new(client_flag),
+        max_packet_size,
+        character_set,
         filler,
-        mariadb_capabilities: reserved.1,
+        mariadb_capabilities: RawFlags::new(reserved.1),
     }
 }
 
@@ -64,11 +64,9 @@ impl MySerialize for SslRequest {
         ∷ (request.filler ++ le_bytes 4 request.mariadb_capabilities.0)) };
 
     fn serialize<A: Allocator>(&self, buf: &mut Vec<u8, A>) -> Result<(), WireError> {
-        let reserved = Both(self.filler, self.mariadb_capabilities);
-        let character_set = RawInt::<u8>::new(self.character_set);
-        let max_packet_size = RawInt::<LeU32>::new(self.max_packet_size);
-        let rest = Both(max_packet_size, Both(character_set, reserved));
-        Both(self.client_flag, rest).serialize(buf)
+        let reserved = Both(self.filler, self.mariadb_capabilities.0);
+        let rest = Both(self.max_packet_size, Both(self.character_set, reserved));
+        Both(self.client_flag.0, rest).serialize(buf)
     }
 }
 
@@ -81,10 +79,10 @@ impl<'de, A: Allocator + Copy> MyDeserialize<'de, A> for SslRequest {
 
     ghost reads = { λ _ input. Through
         (λ request. (
-          request.client_flag,
+          request.client_flag.0,
           (
-            (request.max_packet_size, _),
-            ((request.character_set, _), (request.filler, request.mariadb_capabilities)),
+            request.max_packet_size,
+            (request.character_set, (request.filler, request.mariadb_capabilities.0)),
           ),
         ))
         (⟦<Fields as MyDeserialize<'de, A>>⟧.reads (tt, (tt, (tt, (tt, tt)))) input) };
@@ -133,10 +131,10 @@ impl<'de, A: Allocator + Copy> Wire<'de, A> for SslRequest {
           filler = came.1.1.1.0;
           mariadb_capabilities = came.1.1.1.1;
         })
-        (both (number (λ flags. flags.0) 4 request.client_flag.0 value.client_flag)
-        (both (number (λ int. int.0) 4 request.max_packet_size value.max_packet_size)
-        (both (byte (λ int. int.0) request.character_set)
-        (both (array 19 request.filler value.filler) (number (λ flags. flags.0) 4
+        (both (number (λ n. n) 4 request.client_flag.0 value.client_flag)
+        (both (number (λ n. n) 4 request.max_packet_size value.max_packet_size)
+        (both (byte (λ n. n) request.character_set)
+        (both (array 19 request.filler value.filler) (number (λ n. n) 4
         request.mariadb_capabilities.0 value.mariadb_capabilities)))))
         answer eaten read };
 

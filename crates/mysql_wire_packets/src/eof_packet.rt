@@ -13,11 +13,11 @@ use wire_const::StatusFlags;
 use wire_field::converted::RawFlags;
 use wire_field::row::Both;
 use wire_forms::constant::ConstU8;
-use wire_repr::int::{LeU16, RawInt};
+use wire_repr::int::LeU16;
 use wire_repr::wire::Wire;
 
 // The payload's fields, in order.
-type Fields = Both<ConstU8<(), 0xfe>, Both<RawInt<LeU16>, RawFlags<StatusFlags, LeU16>>>;
+type Fields = Both<ConstU8<(), 0xfe>, Both<u16, u16>>;
 
 /// What ends the definitions of columns and the rows of an answer, on a connection under
 /// `CLIENT_PROTOCOL_41` and without `CLIENT_DEPRECATE_EOF`.
@@ -34,10 +34,9 @@ impl MySerialize for EofPacket {
     ghost bytes = { λ eof. 0xfe ∷ (le_bytes 2 eof.warnings ++ le_bytes 2 eof.status_flags.0) };
 
     fn serialize<A: Allocator>(&self, buf: &mut Vec<u8, A>) -> Result<(), WireError> {
-        let warnings = RawInt::<LeU16>::new(self.warnings);
         Both(
             ConstU8::<(), 0xfe>::new(),
-            Both(warnings, self.status_flags),
+            Both(self.warnings, self.status_flags.0),
         )
         .serialize(buf)
     }
@@ -51,14 +50,14 @@ impl<'de, A: Allocator + Copy> MyDeserialize<'de, A> for EofPacket {
     type Ctx = ();
 
     ghost reads = { λ _ input. Through
-        (λ eof. (_, ((eof.warnings, _), eof.status_flags)))
+        (λ eof. (_, (eof.warnings, eof.status_flags.0)))
         (⟦<Fields as MyDeserialize<'de, A>>⟧.reads (tt, (tt, tt)) input) };
 
     fn deserialize(alloc: A, _: (), buf: &mut ParseBuf<'de>) -> Result<Self, WireError> {
         match buf.parse_in::<Fields, A>(alloc, ((), ((), ()))) {
             Ok(Both(_, Both(warnings, status_flags))) => Ok(EofPacket {
-                warnings: warnings.0,
-                status_flags,
+                warnings,
+                status_flags: RawFlags::new(status_flags),
             }),
             Err(error) => Err(error),
         }
@@ -83,8 +82,8 @@ impl<'de, A: Allocator + Copy> Wire<'de, A> for EofPacket {
     ghost comes_back = { λ ctx eof rest answer eaten value good read.
         packet (⟦<Fields as MyDeserialize<'de, A>>⟧.reads (tt, (tt, tt)))
         _ _ (λ back came. came.1)
-        (both const_u8 (both (number (λ int. int.0) 2 eof.warnings value.0)
-        (number (λ flags. flags.0) 2 eof.status_flags.0 value.1)))
+        (both const_u8 (both (number (λ n. n) 2 eof.warnings value.0)
+        (number (λ n. n) 2 eof.status_flags.0 value.1)))
         answer eaten read };
 
     ghost of_size = { λ eof size _ stated. Prim.cc };

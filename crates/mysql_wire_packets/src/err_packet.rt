@@ -20,12 +20,11 @@ use wire_const::{CapabilityFlags, Flags};
 use wire_field::row::{Both, Either};
 use wire_forms::constant::{ConstU8, Skip};
 use wire_forms::undelimited::EofBytes;
-use wire_repr::int::{LeU16, RawInt};
 use wire_repr::text::RawBytes;
 use wire_repr::wire::Wire;
 
 // The payload's fields, in order.
-type Fields<'a> = Both<ConstU8<(), 0xff>, Both<RawInt<LeU16>, Message<'a>>>;
+type Fields<'a> = Both<ConstU8<(), 0xff>, Both<u16, Message<'a>>>;
 
 type Message<'a> = Both<Optional<State>, RawBytes<'a, EofBytes>>;
 
@@ -84,9 +83,8 @@ impl MySerialize for ErrPacket<'_> {
         ++ cow_slice_items err.error_message.0)) };
 
     fn serialize<A: Allocator>(&self, buf: &mut Vec<u8, A>) -> Result<(), WireError> {
-        let error_code = RawInt::<LeU16>::new(self.error_code);
         let message = Both(field_of(self.sql_state), Lent(&self.error_message));
-        Both(ConstU8::<(), 0xff>::new(), Both(error_code, message)).serialize(buf)
+        Both(ConstU8::<(), 0xff>::new(), Both(self.error_code, message)).serialize(buf)
     }
 }
 
@@ -101,7 +99,7 @@ impl<'de> MyDeserialize<'de, Global> for ErrPacket<'de> {
         (λ err. (
           _,
           (
-            (err.error_code, _),
+            err.error_code,
             (
               field (λ state. (_, state)) _ err.sql_state,
               err.error_message,
@@ -123,7 +121,7 @@ impl<'de> MyDeserialize<'de, Global> for ErrPacket<'de> {
         );
         match buf.parse::<Fields<'de>>(alloc, ((), ((), (state, ())))) {
             Ok(Both(_, Both(error_code, Both(state, error_message)))) => Ok(ErrPacket {
-                error_code: error_code.0,
+                error_code,
                 sql_state: state_of(state),
                 error_message,
             }),
@@ -162,7 +160,7 @@ impl<'de> Wire<'de, Global> for ErrPacket<'de> {
               back.sql_state (λ state back came. came.1) message.0,
           message.1,
         ))
-        (both const_u8 (both (number (λ int. int.0) 2 err.error_code value.0)
+        (both const_u8 (both (number (λ n. n) 2 err.error_code value.0)
         (both (optional (⟦<State as MyDeserialize<'de, Global>>⟧.reads) (tt, tt)
         (has (capability_flags_bits ctx) 0x200) err.sql_state
         (λ state back. Unit {0} × (back.1 ≡ state)) (λ state. 0x23 ∷ state) good.0

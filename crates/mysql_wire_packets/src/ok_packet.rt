@@ -30,7 +30,7 @@ use wire_repr::wire::Wire;
 // The payload's fields up to the warnings.
 type Counts<const HEADER: u8> = Both<ConstU8<(), HEADER>, Both<RawInt<LenEnc>, Rest>>;
 
-type Rest = Both<RawInt<LenEnc>, Both<RawFlags<StatusFlags, LeU16>, RawInt<LeU16>>>;
+type Rest = Both<RawInt<LenEnc>, Both<u16, u16>>;
 
 // And those behind them.
 type Words<'a> = Both<Optional<OkInfo<'a>>, Optional<RawBytes<'a, LenEnc>>>;
@@ -106,8 +106,8 @@ fn of_fields<'a, const HEADER: u8>(counts: Counts<HEADER>, words: Words<'a>) -> 
         (
           (result.last_insert_id, _),
           (
-            result.status_flags,
-            (result.warnings, _),
+            result.status_flags.0,
+            result.warnings,
           ),
         ),
       ),
@@ -123,8 +123,8 @@ fn of_fields<'a, const HEADER: u8>(counts: Counts<HEADER>, words: Words<'a>) -> 
     OkForm {
         affected_rows: affected_rows.0,
         last_insert_id: last_insert_id.0,
-        status_flags,
-        warnings: warnings.0,
+        status_flags: RawFlags::new(status_flags),
+        warnings,
         info: value_of(info),
         session_state: value_of(session_state),
     }
@@ -172,8 +172,7 @@ impl<const HEADER: u8> MySerialize for OkForm<'_, HEADER> {
     fn serialize<A: Allocator>(&self, buf: &mut Vec<u8, A>) -> Result<(), WireError> {
         let affected_rows = RawInt::<LenEnc>::new(self.affected_rows);
         let last_insert_id = RawInt::<LenEnc>::new(self.last_insert_id);
-        let warnings = RawInt::<LeU16>::new(self.warnings);
-        let state = Both(self.status_flags, warnings);
+        let state = Both(self.status_flags.0, self.warnings);
         let counts = Both(affected_rows, Both(last_insert_id, state));
         let words = Both(LentIf(&self.info), LentIf(&self.session_state));
         Both(Both(ConstU8::<(), HEADER>::new(), counts), words).serialize(buf)
@@ -194,14 +193,14 @@ impl<'de, const HEADER: u8> MyDeserialize<'de, Global> for OkForm<'de, HEADER> {
             (ok.affected_rows, _),
             (
               (ok.last_insert_id, _),
-              (ok.status_flags, (ok.warnings, _)),
+              (ok.status_flags.0, ok.warnings),
             ),
           ),
         ))
         (λ ok. (field (λ info. info) _ ok.info, field (λ state. state) _ ok.session_state))
         (⟦<Counts<HEADER> as MyDeserialize<'de, Global>>⟧.reads (tt, (tt, (tt, (tt, tt)))))
         (λ counts input. ⟦<Words<'de> as MyDeserialize<'de, Global>>⟧.reads
-        (words_ctx form counts.1.1.1.0.0 input) input) };
+        (words_ctx form counts.1.1.1.0 input) input) };
 
     fn deserialize(
         alloc: Global,
@@ -210,7 +209,7 @@ impl<'de, const HEADER: u8> MyDeserialize<'de, Global> for OkForm<'de, HEADER> {
     ) -> Result<Self, WireError> {
         match buf.parse::<Counts<HEADER>>(alloc, ((), ((), ((), ((), ()))))) {
             Ok(counts) => {
-                let ctx = context(form, counts.1.1.1.0.0, buf);
+                let ctx = context(form, counts.1.1.1.0, buf);
                 match buf.parse::<Words<'de>>(alloc, ctx) {
                     Ok(words) => Ok(of_fields(counts, words)),
                     Err(error) => Err(error),
@@ -268,7 +267,7 @@ impl<'de, const HEADER: u8> Wire<'de, Global> for OkForm<'de, HEADER> {
         then_back _ _
         (⟦<Counts<HEADER> as MyDeserialize<'de, Global>>⟧.reads (tt, (tt, (tt, (tt, tt)))))
         (λ counts input. ⟦<Words<'de> as MyDeserialize<'de, Global>>⟧.reads
-        (words_ctx form counts.1.1.1.0.0 input) input)
+        (words_ctx form counts.1.1.1.0 input) input)
         (counts_bytes HEADER ok.affected_rows ok.last_insert_id ok.status_flags.0 ok.warnings)
         (words_bytes ok)
         (λ words. KeptField (SameSide
@@ -294,8 +293,8 @@ impl<'de, const HEADER: u8> Wire<'de, Global> for OkForm<'de, HEADER> {
         })
         (both const_u8 (both (lenenc_int (λ int. int.0) ok.affected_rows value.affected_rows)
         (both (lenenc_int (λ int. int.0) ok.last_insert_id value.last_insert_id)
-        (both (number (λ flags. flags.0) 2 ok.status_flags.0 value.status_flags)
-        (number (λ int. int.0) 2 ok.warnings value.warnings)))))
+        (both (number (λ n. n) 2 ok.status_flags.0 value.status_flags)
+        (number (λ n. n) 2 ok.warnings value.warnings)))))
         (λ counts came. rw came.1.1.1.0 (at_input (words_ctx form ok.status_flags.0)
         (⟦<Words<'de> as MyDeserialize<'de, Global>>⟧.reads)
         (both (optional (⟦<OkInfo<'de> as MyDeserialize<'de, Global>>⟧.reads)

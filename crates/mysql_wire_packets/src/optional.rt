@@ -18,7 +18,6 @@ use wire_const::{CapabilityFlags, Flags};
 use wire_field::row::Either;
 use wire_forms::constant::Skip;
 use wire_forms::lenenc::LenEnc;
-use wire_repr::int::RawInt;
 use wire_repr::text::RawBytes;
 use wire_repr::wire::Wire;
 
@@ -46,22 +45,12 @@ pub fn value_of<T>(part: Optional<T>) -> Option<T>
     }
 }
 
-/// The value of a byte.
-pub fn byte_of(part: Optional<RawInt<u8>>) -> Option<u8>
-    ensures { field (λ byte. (byte, _)) _ result ≡ part }
-{
-    match part {
-        Either::Left(byte) => Some(byte.0),
-        Either::Right(_) => None,
-    }
-}
-
 /// The field of a byte.
-pub fn field_of_byte(byte: Option<u8>) -> Optional<RawInt<u8>>
-    ensures { by_side (λ byte. byte.0 ∷ []) (λ _. []) result ≡ bytes_if (λ byte. byte ∷ []) byte }
+pub fn field_of_byte(byte: Option<u8>) -> Optional<u8>
+    ensures { by_side (λ byte. byte ∷ []) (λ _. []) result ≡ bytes_if (λ byte. byte ∷ []) byte }
 {
     match byte {
-        Some(byte) => Either::Left(RawInt::new(byte)),
+        Some(byte) => Either::Left(byte),
         None => Either::Right(Skip),
     }
 }

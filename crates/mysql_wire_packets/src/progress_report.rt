@@ -23,7 +23,7 @@ use wire_repr::wire::Wire;
 // An error's header, and the error 65535.
 type Head = Both<ConstU8<(), 0xff>, Both<ConstU8<(), 0xff>, ConstU8<(), 0xff>>>;
 
-type Stages = Both<RawInt<u8>, Both<RawInt<u8>, RawInt<u8>>>;
+type Stages = Both<u8, Both<u8, u8>>;
 
 // The payload's fields, in order.
 type Fields<'a> = Both<Head, Both<Stages, Both<RawInt<LeU24>, RawBytes<'a, LenEnc>>>>;
@@ -54,9 +54,7 @@ impl MySerialize for ProgressReport<'_> {
 
     fn serialize<A: Allocator>(&self, buf: &mut Vec<u8, A>) -> Result<(), WireError> {
         let head: Head = Both(ConstU8::new(), Both(ConstU8::new(), ConstU8::new()));
-        let strings = RawInt::<u8>::new(self.strings);
-        let stage = RawInt::<u8>::new(self.stage);
-        let stages = Both(strings, Both(stage, RawInt::<u8>::new(self.max_stage)));
+        let stages = Both(self.strings, Both(self.stage, self.max_stage));
         let progress = RawInt::<LeU24>::new(self.progress);
         Both(head, Both(stages, Both(progress, Lent(&self.info)))).serialize(buf)
     }
@@ -73,7 +71,7 @@ impl<'de> MyDeserialize<'de, Global> for ProgressReport<'de> {
         (λ report. (
           _,
           (
-            ((report.strings, _), ((report.stage, _), (report.max_stage, _))),
+            (report.strings, (report.stage, report.max_stage)),
             ((report.progress, _), report.info),
           ),
         ))
@@ -85,9 +83,9 @@ impl<'de> MyDeserialize<'de, Global> for ProgressReport<'de> {
             Ok(Both(_, Both(stages, Both(progress, info)))) => {
                 let Both(strings, Both(stage, max_stage)) = stages;
                 Ok(ProgressReport {
-                    strings: strings.0,
-                    stage: stage.0,
-                    max_stage: max_stage.0,
+                    strings,
+                    stage,
+                    max_stage,
                     progress: progress.0,
                     info,
                 })
@@ -120,8 +118,8 @@ impl<'de> Wire<'de, Global> for ProgressReport<'de> {
         (λ back came. let stages = came.1.0 in let last = came.1.1 in
         (stages.0, stages.1.0, stages.1.1, last.0, last.1))
         (both (both const_u8 (both const_u8 const_u8))
-        (both (both (byte (λ int. int.0) report.strings)
-        (both (byte (λ int. int.0) report.stage) (byte (λ int. int.0) report.max_stage)))
+        (both (both (byte (λ n. n) report.strings)
+        (both (byte (λ n. n) report.stage) (byte (λ n. n) report.max_stage)))
         (both (cut_number (λ int. int.0) 3 report.progress)
         (lenenc_text (λ text. text.0) (cow_slice_items report.info.0) value))))
         answer eaten read };

@@ -7,7 +7,7 @@ ghost use Rattle.wire_buf.specs.Reading.{Parses, Through};
 ghost use Rattle.mysql_wire_packets.specs.InOrder.{packet, both, byte, lenenc_int};
 ghost use Rattle.mysql_wire_packets.specs.Optional.{BothIf, IsThere, bytes_if, field, has, kept_field, optional, side};
 
-use mysql_wire_packets::optional::{Optional, byte_of, field_of_byte, under};
+use mysql_wire_packets::optional::{Optional, field_of_byte, under, value_of};
 use std::alloc::Allocator;
 use wire_buf::error::WireError;
 use wire_buf::io::ParseBuf;
@@ -19,7 +19,7 @@ use wire_repr::int::RawInt;
 use wire_repr::wire::Wire;
 
 // The payload's fields, in order.
-type Fields = Both<Optional<RawInt<u8>>, Both<RawInt<LenEnc>, Optional<RawInt<u8>>>>;
+type Fields = Both<Optional<u8>, Both<RawInt<LenEnc>, Optional<u8>>>;
 
 /// How many columns a result set has, the first packet of it. The context are the capabilities of
 /// the connection, and MariaDB's.
@@ -73,8 +73,8 @@ impl<'de, A: Allocator + Copy> MyDeserialize<'de, A> for ColumnCount {
 
     ghost reads = { λ ctx input. Through
         (λ count. (
-          field (λ follows. (follows, _)) _ count.metadata_follows,
-          ((count.column_count, _), field (λ follows. (follows, _)) _ count.mariadb_metadata_follows),
+          field (λ follows. follows) _ count.metadata_follows,
+          ((count.column_count, _), field (λ follows. follows) _ count.mariadb_metadata_follows),
         ))
         (⟦<Fields as MyDeserialize<'de, A>>⟧.reads (
           side tt (has (capability_flags_bits ctx.0) 0x2000000),
@@ -93,9 +93,9 @@ impl<'de, A: Allocator + Copy> MyDeserialize<'de, A> for ColumnCount {
         );
         match buf.parse_in::<Fields, A>(alloc, (follows, ((), cached_under(mariadb)))) {
             Ok(Both(follows, Both(column_count, cached))) => Ok(ColumnCount {
-                metadata_follows: byte_of(follows),
+                metadata_follows: value_of(follows),
                 column_count: column_count.0,
-                mariadb_metadata_follows: byte_of(cached),
+                mariadb_metadata_follows: value_of(cached),
             }),
             Err(error) => Err(error),
         }
@@ -127,25 +127,25 @@ impl<'de, A: Allocator + Copy> Wire<'de, A> for ColumnCount {
           (tt, side tt (has (mariadb_capabilities_bits ctx.1) 0x10)),
         )) _ _
         (λ back came. (
-          kept_field (λ follows field. field.0 ≡ follows) _ (λ follows. (follows, _))
+          kept_field (λ follows field. field ≡ follows) _ (λ follows. follows)
               (λ follows back. back ≡ follows) count.metadata_follows back.metadata_follows
               (λ follows back same. same) came.0,
           came.1.0,
-          kept_field (λ follows field. field.0 ≡ follows) _ (λ follows. (follows, _))
+          kept_field (λ follows field. field ≡ follows) _ (λ follows. follows)
               (λ follows back. back ≡ follows) count.mariadb_metadata_follows
               back.mariadb_metadata_follows (λ follows back same. same) came.1.1,
         ))
         (both (optional (λ ctx. Parses (Some 1)
-        (⟦<RawInt<u8> as MyDeserialize<'de, A>>⟧.reads ctx)) tt
+        (⟦<u8 as MyDeserialize<'de, A>>⟧.reads ctx)) tt
         (has (capability_flags_bits ctx.0) 0x2000000) count.metadata_follows
-        (λ follows field. field.0 ≡ follows) (λ follows. follows ∷ []) good.0
-        (λ follows is. byte (λ int. int.0) follows))
+        (λ follows field. field ≡ follows) (λ follows. follows ∷ []) good.0
+        (λ follows is. byte (λ n. n) follows))
         (both (lenenc_int (λ int. int.0) count.column_count value)
         (optional (λ ctx. Parses (Some 1)
-        (⟦<RawInt<u8> as MyDeserialize<'de, A>>⟧.reads ctx)) tt
+        (⟦<u8 as MyDeserialize<'de, A>>⟧.reads ctx)) tt
         (has (mariadb_capabilities_bits ctx.1) 0x10) count.mariadb_metadata_follows
-        (λ follows field. field.0 ≡ follows) (λ follows. follows ∷ []) good.1
-        (λ follows is. byte (λ int. int.0) follows))))
+        (λ follows field. field ≡ follows) (λ follows. follows ∷ []) good.1
+        (λ follows is. byte (λ n. n) follows))))
         answer eaten read };
 
     ghost of_size = { λ count size _ stated. Prim.cc };

@@ -21,7 +21,7 @@ use wire_field::converted::{RawConst, RawFlags};
 use wire_field::row::{Both, Either};
 use wire_forms::constant::ConstU8;
 use wire_forms::lenenc::LenEnc;
-use wire_repr::int::{LeU16, LeU32, RawInt};
+use wire_repr::int::LeU16;
 use wire_repr::text::RawBytes;
 use wire_repr::wire::Wire;
 
@@ -34,12 +34,9 @@ type Pair<'a> = Both<RawBytes<'a, LenEnc>, RawBytes<'a, LenEnc>>;
 
 type Numbers = Both<Sizes, Kind>;
 
-type Sizes = Both<ConstU8<(), 0x0c>, Both<RawInt<LeU16>, RawInt<LeU32>>>;
+type Sizes = Both<ConstU8<(), 0x0c>, Both<u16, u32>>;
 
-type Kind = Both<
-    Both<RawConst<u8, ColumnType>, RawFlags<ColumnFlags, LeU16>>,
-    Both<RawInt<u8>, [u8; 2]>,
->;
+type Kind = Both<Both<u8, u16>, Both<u8, [u8; 2]>>;
 
 /// What a server says of a column, on a connection under `CLIENT_PROTOCOL_41`. The context are the
 /// capabilities of MariaDB that both sides have; none of them with MySQL. Another length of the
@@ -83,8 +80,8 @@ fn of_fields<'a>(fields: Fields<'a>) -> ColumnDefinition41<'a>
       (
         field (λ text. text) _ result.extended_metadata,
         (
-          (_, ((result.character_set, _), (result.column_length, _))),
-          ((result.column_type, result.flags), ((result.decimals, _), result.reserved)),
+          (_, (result.character_set, result.column_length)),
+          ((result.column_type.0, result.flags.0), (result.decimals, result.reserved)),
         ),
       ),
     )
@@ -105,11 +102,11 @@ fn of_fields<'a>(fields: Fields<'a>) -> ColumnDefinition41<'a>
         name,
         org_name,
         extended_metadata: value_of(metadata),
-        character_set: character_set.0,
-        column_length: column_length.0,
-        column_type,
-        flags,
-        decimals: end.0.0,
+        character_set,
+        column_length,
+        column_type: RawConst::new(column_type),
+        flags: RawFlags::new(flags),
+        decimals: end.0,
         reserved,
     }
 }
@@ -138,16 +135,13 @@ impl MySerialize for ColumnDefinition41<'_> {
         let schemas = Both(Lent(&self.catalog), Lent(&self.schema));
         let tables = Both(Lent(&self.table), Lent(&self.org_table));
         let names = Both(Lent(&self.name), Lent(&self.org_name));
-        let character_set = RawInt::<LeU16>::new(self.character_set);
-        let column_length = RawInt::<LeU32>::new(self.column_length);
         let sizes = Both(
             ConstU8::<(), 0x0c>::new(),
-            Both(character_set, column_length),
+            Both(self.character_set, self.column_length),
         );
-        let decimals = RawInt::<u8>::new(self.decimals);
         let kind = Both(
-            Both(self.column_type, self.flags),
-            Both(decimals, self.reserved),
+            Both(self.column_type.0, self.flags.0),
+            Both(self.decimals, self.reserved),
         );
         let numbers = Both(LentIf(&self.extended_metadata), Both(sizes, kind));
         Both(Both(schemas, Both(tables, names)), numbers).serialize(buf)
@@ -170,8 +164,8 @@ impl<'de> MyDeserialize<'de, Global> for ColumnDefinition41<'de> {
           (
             field (λ text. text) _ column.extended_metadata,
             (
-              (_, ((column.character_set, _), (column.column_length, _))),
-              ((column.column_type, column.flags), ((column.decimals, _), column.reserved)),
+              (_, (column.character_set, column.column_length)),
+              ((column.column_type.0, column.flags.0), (column.decimals, column.reserved)),
             ),
           ),
         ))
@@ -290,11 +284,11 @@ impl<'de> Wire<'de, Global> for ColumnDefinition41<'de> {
         (λ text is. lenenc_text (λ text. text.0) (cow_slice_items text.0)
         (subst (OnIf (λ text. IsText (cow_slice_items text.0))) is value.extended_metadata)))
         (both (both const_u8
-        (both (number (λ int. int.0) 2 column.character_set value.character_set)
-        (number (λ int. int.0) 4 column.column_length value.column_length)))
-        (both (both (byte (λ raw. raw.0) column.column_type.0)
-        (number (λ flags. flags.0) 2 column.flags.0 value.flags))
-        (both (byte (λ int. int.0) column.decimals) (array 2 column.reserved value.reserved))))))
+        (both (number (λ n. n) 2 column.character_set value.character_set)
+        (number (λ n. n) 4 column.column_length value.column_length)))
+        (both (both (byte (λ n. n) column.column_type.0)
+        (number (λ n. n) 2 column.flags.0 value.flags))
+        (both (byte (λ n. n) column.decimals) (array 2 column.reserved value.reserved))))))
         answer eaten read };
 
     ghost of_size = { λ column size _ stated. Prim.cc };

@@ -13,12 +13,11 @@ use wire_buf::io::ParseBuf;
 use wire_buf::proto::{HasSize, MyDeserialize, MySerialize, Varying};
 use wire_field::row::Both;
 use wire_forms::lenenc::LenEnc;
-use wire_repr::int::RawInt;
 use wire_repr::text::RawBytes;
 use wire_repr::wire::Wire;
 
 // The fields, in order.
-type Fields<'a> = Both<RawInt<u8>, RawBytes<'a, LenEnc>>;
+type Fields<'a> = Both<u8, RawBytes<'a, LenEnc>>;
 
 /// One detail of a column's type, of those that a `ColumnDefinition41`'s `extended_metadata` lists.
 /// They are read one after another until no bytes are left.
@@ -35,7 +34,7 @@ impl MySerialize for TypeDetail<'_> {
     ghost bytes = { λ detail. detail.kind ∷ text_bytes detail.value.0 };
 
     fn serialize<A: Allocator>(&self, buf: &mut Vec<u8, A>) -> Result<(), WireError> {
-        Both(RawInt::<u8>::new(self.kind), Lent(&self.value)).serialize(buf)
+        Both(self.kind, Lent(&self.value)).serialize(buf)
     }
 }
 
@@ -46,15 +45,12 @@ impl HasSize for TypeDetail<'_> {
 impl<'de> MyDeserialize<'de, Global> for TypeDetail<'de> {
     type Ctx = ();
 
-    ghost reads = { λ _ input. Through (λ detail. ((detail.kind, _), detail.value))
+    ghost reads = { λ _ input. Through (λ detail. (detail.kind, detail.value))
         (⟦<Fields<'de> as MyDeserialize<'de, Global>>⟧.reads (tt, tt) input) };
 
     fn deserialize(alloc: Global, _: (), buf: &mut ParseBuf<'de>) -> Result<Self, WireError> {
         match buf.parse::<Fields<'de>>(alloc, ((), ())) {
-            Ok(Both(kind, value)) => Ok(TypeDetail {
-                kind: kind.0,
-                value,
-            }),
+            Ok(Both(kind, value)) => Ok(TypeDetail { kind, value }),
             Err(error) => Err(error),
         }
     }
@@ -77,7 +73,7 @@ impl<'de> Wire<'de, Global> for TypeDetail<'de> {
     ghost comes_back = { λ ctx detail rest answer eaten value good read.
         packet (⟦<Fields<'de> as MyDeserialize<'de, Global>>⟧.reads (tt, tt)) _ _
         (λ back came. came)
-        (both (byte (λ int. int.0) detail.kind)
+        (both (byte (λ n. n) detail.kind)
         (lenenc_text (λ text. text.0) (cow_slice_items detail.value.0) value))
         answer eaten read };
 

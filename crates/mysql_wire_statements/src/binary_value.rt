@@ -15,7 +15,6 @@ use wire_buf::io::ParseBuf;
 use wire_buf::proto::{HasSize, MyDeserialize, MySerialize, Varying};
 use wire_const::ColumnType;
 use wire_forms::lenenc::LenEnc;
-use wire_repr::int::{LeU16, LeU32, LeU64, RawInt};
 use wire_repr::text::RawBytes;
 use wire_repr::wire::Wire;
 
@@ -104,11 +103,11 @@ impl MySerialize for BinaryValue<'_> {
         match self {
             BinaryValue::Null => Ok(()),
             BinaryValue::Tiny(number) => [*number].serialize(buf),
-            BinaryValue::Short(number) => RawInt::<LeU16>::new(*number).serialize(buf),
-            BinaryValue::Long(number) => RawInt::<LeU32>::new(*number).serialize(buf),
-            BinaryValue::LongLong(number) => RawInt::<LeU64>::new(*number).serialize(buf),
-            BinaryValue::Float(bits) => RawInt::<LeU32>::new(*bits).serialize(buf),
-            BinaryValue::Double(bits) => RawInt::<LeU64>::new(*bits).serialize(buf),
+            BinaryValue::Short(number) => number.serialize(buf),
+            BinaryValue::Long(number) => number.serialize(buf),
+            BinaryValue::LongLong(number) => number.serialize(buf),
+            BinaryValue::Float(bits) => bits.serialize(buf),
+            BinaryValue::Double(bits) => bits.serialize(buf),
             BinaryValue::Date(date) => date.serialize(buf),
             BinaryValue::Time(time) => time.serialize(buf),
             BinaryValue::Text(text) => RawBytes::<LenEnc>::from(*text).serialize(buf),

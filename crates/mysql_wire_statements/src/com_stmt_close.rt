@@ -13,11 +13,10 @@ use wire_buf::io::ParseBuf;
 use wire_buf::proto::{HasSize, MyDeserialize, MySerialize, Varying};
 use wire_field::row::Both;
 use wire_forms::constant::ConstU8;
-use wire_repr::int::{LeU32, RawInt};
 use wire_repr::wire::Wire;
 
 // The payload's fields, in order.
-type Fields = Both<ConstU8<(), 0x19>, RawInt<LeU32>>;
+type Fields = Both<ConstU8<(), 0x19>, u32>;
 
 /// A statement is dropped. The server does not answer.
 ///
@@ -31,8 +30,7 @@ impl MySerialize for ComStmtClose {
     ghost bytes = { λ command. 0x19 ∷ le_bytes 4 command.statement_id };
 
     fn serialize<A: Allocator>(&self, buf: &mut Vec<u8, A>) -> Result<(), WireError> {
-        let statement_id = RawInt::<LeU32>::new(self.statement_id);
-        Both(ConstU8::<(), 0x19>::new(), statement_id).serialize(buf)
+        Both(ConstU8::<(), 0x19>::new(), self.statement_id).serialize(buf)
     }
 }
 
@@ -43,14 +41,12 @@ impl HasSize for ComStmtClose {
 impl<'de, A: Allocator + Copy> MyDeserialize<'de, A> for ComStmtClose {
     type Ctx = ();
 
-    ghost reads = { λ _ input. Through (λ command. (_, (command.statement_id, _)))
+    ghost reads = { λ _ input. Through (λ command. (_, command.statement_id))
         (⟦<Fields as MyDeserialize<'de, A>>⟧.reads (tt, tt) input) };
 
     fn deserialize(alloc: A, _: (), buf: &mut ParseBuf<'de>) -> Result<Self, WireError> {
         match buf.parse_in::<Fields, A>(alloc, ((), ())) {
-            Ok(Both(_, statement_id)) => Ok(ComStmtClose {
-                statement_id: statement_id.0,
-            }),
+            Ok(Both(_, statement_id)) => Ok(ComStmtClose { statement_id }),
             Err(error) => Err(error),
         }
     }
@@ -71,7 +67,7 @@ impl<'de, A: Allocator + Copy> Wire<'de, A> for ComStmtClose {
 
     ghost comes_back = { λ ctx command rest answer eaten value good read.
         packet (⟦<Fields as MyDeserialize<'de, A>>⟧.reads (tt, tt)) _ _ (λ back came. came.1)
-        (both const_u8 (number (λ int. int.0) 4 command.statement_id value)) answer eaten read };
+        (both const_u8 (number (λ n. n) 4 command.statement_id value)) answer eaten read };
 
     ghost of_size = { λ command size _ stated. Prim.cc };
 }
@@ -81,7 +77,7 @@ impl<'de, A: Allocator + Copy> WrittenBack<'de, A> for ComStmtClose {
 
     ghost again = { λ ctx input command eaten are shortest read.
         packet_again (⟦<Fields as MyDeserialize<'de, A>>⟧.reads (tt, tt))
-        (λ command. (_, (command.statement_id, _)))
-        (both_again (const_again 0x19) (number_again (λ int. int.0) 4))
+        (λ command. (_, command.statement_id))
+        (both_again (const_again 0x19) (number_again (λ n. n) 4))
         input command eaten are read };
 }

@@ -23,13 +23,12 @@ use wire_const::CursorType;
 use wire_field::converted::RawFlags;
 use wire_field::row::{Both, Either};
 use wire_forms::constant::{ConstU8, Skip};
-use wire_repr::int::{LeU32, RawInt};
 use wire_repr::wire::Wire;
 
 // The payload's fields, in order.
-type Fields<'a> = Both<ConstU8<(), 0x17>, Both<RawInt<LeU32>, Cursor<'a>>>;
+type Fields<'a> = Both<ConstU8<(), 0x17>, Both<u32, Cursor<'a>>>;
 
-type Cursor<'a> = Both<RawFlags<CursorType, u8>, Both<RawInt<LeU32>, Params<'a>>>;
+type Cursor<'a> = Both<RawFlags<CursorType, u8>, Both<u32, Params<'a>>>;
 
 // Parameters, or no bytes.
 type Params<'a> = Either<StmtParams<'a>, Skip<0>>;
@@ -87,10 +86,11 @@ impl MySerialize for ComStmtExecute<'_> {
         ++ bytes_if params_bytes command.params))) };
 
     fn serialize<A: Allocator>(&self, buf: &mut Vec<u8, A>) -> Result<(), WireError> {
-        let statement_id = RawInt::<LeU32>::new(self.statement_id);
-        let count = RawInt::<LeU32>::new(self.iteration_count);
-        let cursor = Both(self.flags, Both(count, field_of(self.params)));
-        Both(ConstU8::<(), 0x17>::new(), Both(statement_id, cursor)).serialize(buf)
+        let cursor = Both(
+            self.flags,
+            Both(self.iteration_count, field_of(self.params)),
+        );
+        Both(ConstU8::<(), 0x17>::new(), Both(self.statement_id, cursor)).serialize(buf)
     }
 }
 
@@ -105,11 +105,11 @@ impl<'de, A: Allocator + Copy> MyDeserialize<'de, A> for ComStmtExecute<'de> {
         (λ command. (
           _,
           (
-            (command.statement_id, _),
+            command.statement_id,
             (
               command.flags,
               (
-                (command.iteration_count, _),
+                command.iteration_count,
                 field (λ params. params) _ command.params,
               ),
             ),
@@ -123,9 +123,9 @@ impl<'de, A: Allocator + Copy> MyDeserialize<'de, A> for ComStmtExecute<'de> {
         match buf.parse_in::<Fields<'de>, A>(alloc, ((), ((), ((), ((), params))))) {
             Ok(Both(_, Both(statement_id, Both(flags, Both(count, params))))) => {
                 Ok(ComStmtExecute {
-                    statement_id: statement_id.0,
+                    statement_id,
                     flags,
-                    iteration_count: count.0,
+                    iteration_count: count,
                     params: params_of(params),
                 })
             }
@@ -162,11 +162,11 @@ impl<'de, A: Allocator + Copy> Wire<'de, A> for ComStmtExecute<'de> {
         (λ command. (
           _,
           (
-            (command.statement_id, _),
+            command.statement_id,
             (
               command.flags,
               (
-                (command.iteration_count, _),
+                command.iteration_count,
                 field (λ params. params) _ command.params,
               ),
             ),
@@ -179,9 +179,9 @@ impl<'de, A: Allocator + Copy> Wire<'de, A> for ComStmtExecute<'de> {
           kept_field _ _ (λ params. params) SameParams command.params back.params
               (λ params back came. came) cursor.1.1,
         ))
-        (both const_u8 (both (number (λ int. int.0) 4 command.statement_id value.0)
+        (both const_u8 (both (number (λ n. n) 4 command.statement_id value.0)
         (both (byte (λ flags. flags.0) command.flags.0)
-        (both (number (λ int. int.0) 4 command.iteration_count value.2)
+        (both (number (λ n. n) 4 command.iteration_count value.2)
         (optional (⟦<StmtParams<'de> as MyDeserialize<'de, A>>⟧.reads) num_params
         (nat_lt 0 num_params) command.params SameParams params_bytes good.0
         (λ params is. record {
@@ -215,18 +215,18 @@ impl<'de, A: Allocator + Copy> WrittenBack<'de, A> for ComStmtExecute<'de> {
         (λ command. (
           _,
           (
-            (command.statement_id, _),
+            command.statement_id,
             (
               command.flags,
               (
-                (command.iteration_count, _),
+                command.iteration_count,
                 field (λ params. params) _ command.params,
               ),
             ),
           ),
         ))
-        (both_again (const_again 0x17) (both_again (number_again (λ int. int.0) 4)
-        (both_again (byte_again (λ flags. flags.0)) (both_again (number_again (λ int. int.0) 4)
+        (both_again (const_again 0x17) (both_again (number_again (λ n. n) 4)
+        (both_again (byte_again (λ flags. flags.0)) (both_again (number_again (λ n. n) 4)
         (optional_again (⟦<StmtParams<'de> as MyDeserialize<'de, A>>⟧.reads) num_params
         (nat_lt 0 num_params) params_bytes (record {
           law = packet_again

@@ -13,11 +13,10 @@ use wire_buf::io::ParseBuf;
 use wire_buf::proto::{HasSize, MyDeserialize, MySerialize, Varying};
 use wire_field::row::Both;
 use wire_forms::constant::ConstU8;
-use wire_repr::int::{LeU32, RawInt};
 use wire_repr::wire::Wire;
 
 // The payload's fields, in order.
-type Fields = Both<ConstU8<(), 0x1c>, Both<RawInt<LeU32>, RawInt<LeU32>>>;
+type Fields = Both<ConstU8<(), 0x1c>, Both<u32, u32>>;
 
 /// Rows are asked for, of a statement that was executed with a cursor. The answer are the rows, each
 /// a `BinaryRow`, and the packet that ends them.
@@ -35,9 +34,11 @@ impl MySerialize for ComStmtFetch {
         ++ le_bytes 4 command.num_rows) };
 
     fn serialize<A: Allocator>(&self, buf: &mut Vec<u8, A>) -> Result<(), WireError> {
-        let statement_id = RawInt::<LeU32>::new(self.statement_id);
-        let num_rows = RawInt::<LeU32>::new(self.num_rows);
-        Both(ConstU8::<(), 0x1c>::new(), Both(statement_id, num_rows)).serialize(buf)
+        Both(
+            ConstU8::<(), 0x1c>::new(),
+            Both(self.statement_id, self.num_rows),
+        )
+        .serialize(buf)
     }
 }
 
@@ -49,14 +50,14 @@ impl<'de, A: Allocator + Copy> MyDeserialize<'de, A> for ComStmtFetch {
     type Ctx = ();
 
     ghost reads = { λ _ input. Through
-        (λ command. (_, ((command.statement_id, _), (command.num_rows, _))))
+        (λ command. (_, (command.statement_id, command.num_rows)))
         (⟦<Fields as MyDeserialize<'de, A>>⟧.reads (tt, (tt, tt)) input) };
 
     fn deserialize(alloc: A, _: (), buf: &mut ParseBuf<'de>) -> Result<Self, WireError> {
         match buf.parse_in::<Fields, A>(alloc, ((), ((), ()))) {
             Ok(Both(_, Both(statement_id, num_rows))) => Ok(ComStmtFetch {
-                statement_id: statement_id.0,
-                num_rows: num_rows.0,
+                statement_id,
+                num_rows,
             }),
             Err(error) => Err(error),
         }
@@ -82,8 +83,8 @@ impl<'de, A: Allocator + Copy> Wire<'de, A> for ComStmtFetch {
     ghost comes_back = { λ ctx command rest answer eaten value good read.
         packet (⟦<Fields as MyDeserialize<'de, A>>⟧.reads (tt, (tt, tt))) _ _
         (λ back came. came.1)
-        (both const_u8 (both (number (λ int. int.0) 4 command.statement_id value.0)
-        (number (λ int. int.0) 4 command.num_rows value.1)))
+        (both const_u8 (both (number (λ n. n) 4 command.statement_id value.0)
+        (number (λ n. n) 4 command.num_rows value.1)))
         answer eaten read };
 
     ghost of_size = { λ command size _ stated. Prim.cc };
@@ -94,8 +95,8 @@ impl<'de, A: Allocator + Copy> WrittenBack<'de, A> for ComStmtFetch {
 
     ghost again = { λ ctx input command eaten are shortest read.
         packet_again (⟦<Fields as MyDeserialize<'de, A>>⟧.reads (tt, (tt, tt)))
-        (λ command. (_, ((command.statement_id, _), (command.num_rows, _))))
+        (λ command. (_, (command.statement_id, command.num_rows)))
         (both_again (const_again 0x1c)
-        (both_again (number_again (λ int. int.0) 4) (number_again (λ int. int.0) 4)))
+        (both_again (number_again (λ n. n) 4) (number_again (λ n. n) 4)))
         input command eaten are read };
 }

@@ -11,13 +11,12 @@ use wire_buf::io::ParseBuf;
 use wire_buf::proto::{HasSize, MyDeserialize, MySerialize, Varying};
 use wire_field::row::Both;
 use wire_forms::constant::{ConstU8, Skip};
-use wire_repr::int::{LeU16, LeU32, RawInt};
 use wire_repr::wire::Wire;
 
 // The payload's fields, in order.
-type Fields = Both<ConstU8<(), 0x00>, Both<RawInt<LeU32>, Counts>>;
+type Fields = Both<ConstU8<(), 0x00>, Both<u32, Counts>>;
 
-type Counts = Both<RawInt<LeU16>, Both<RawInt<LeU16>, Both<Skip<1>, RawInt<LeU16>>>>;
+type Counts = Both<u16, Both<u16, Both<Skip<1>, u16>>>;
 
 /// A statement was prepared: `COM_STMT_PREPARE_OK`, on a connection without
 /// `CLIENT_OPTIONAL_RESULTSET_METADATA`. The definitions of its parameters and columns follow as
@@ -37,15 +36,11 @@ impl MySerialize for ComStmtPrepareOk {
         ++ (le_bytes 2 ok.num_params ++ 0x00 ∷ le_bytes 2 ok.warning_count))) };
 
     fn serialize<A: Allocator>(&self, buf: &mut Vec<u8, A>) -> Result<(), WireError> {
-        let statement_id = RawInt::<LeU32>::new(self.statement_id);
-        let num_columns = RawInt::<LeU16>::new(self.num_columns);
-        let num_params = RawInt::<LeU16>::new(self.num_params);
-        let warning_count = RawInt::<LeU16>::new(self.warning_count);
         let counts = Both(
-            num_columns,
-            Both(num_params, Both(Skip::<1>, warning_count)),
+            self.num_columns,
+            Both(self.num_params, Both(Skip::<1>, self.warning_count)),
         );
-        Both(ConstU8::<(), 0x00>::new(), Both(statement_id, counts)).serialize(buf)
+        Both(ConstU8::<(), 0x00>::new(), Both(self.statement_id, counts)).serialize(buf)
     }
 }
 
@@ -60,12 +55,12 @@ impl<'de, A: Allocator + Copy> MyDeserialize<'de, A> for ComStmtPrepareOk {
         (λ ok. (
           _,
           (
-            (ok.statement_id, _),
+            ok.statement_id,
             (
-              (ok.num_columns, _),
+              ok.num_columns,
               (
-                (ok.num_params, _),
-                (_, (ok.warning_count, _)),
+                ok.num_params,
+                (_, ok.warning_count),
               ),
             ),
           ),
@@ -80,10 +75,10 @@ impl<'de, A: Allocator + Copy> MyDeserialize<'de, A> for ComStmtPrepareOk {
                     Both(statement_id, Both(num_columns, Both(num_params, Both(_, warning_count)))),
                 ),
             ) => Ok(ComStmtPrepareOk {
-                statement_id: statement_id.0,
-                num_columns: num_columns.0,
-                num_params: num_params.0,
-                warning_count: warning_count.0,
+                statement_id,
+                num_columns,
+                num_params,
+                warning_count,
             }),
             Err(error) => Err(error),
         }
@@ -113,10 +108,10 @@ impl<'de, A: Allocator + Copy> Wire<'de, A> for ComStmtPrepareOk {
         packet (⟦<Fields as MyDeserialize<'de, A>>⟧.reads (tt, (tt, (tt, (tt, (tt, tt))))))
         _ _ (λ back came. let counts = came.1.1 in
         (came.1.0, counts.0, counts.1.0, counts.1.1.1))
-        (both const_u8 (both (number (λ int. int.0) 4 ok.statement_id value.0)
-        (both (number (λ int. int.0) 2 ok.num_columns value.1)
-        (both (number (λ int. int.0) 2 ok.num_params value.2)
-        (both (skip 1) (number (λ int. int.0) 2 ok.warning_count value.3))))))
+        (both const_u8 (both (number (λ n. n) 4 ok.statement_id value.0)
+        (both (number (λ n. n) 2 ok.num_columns value.1)
+        (both (number (λ n. n) 2 ok.num_params value.2)
+        (both (skip 1) (number (λ n. n) 2 ok.warning_count value.3))))))
         answer eaten read };
 
     ghost of_size = { λ ok size _ stated. Prim.cc };

@@ -13,11 +13,10 @@ use wire_buf::io::ParseBuf;
 use wire_buf::proto::{HasSize, MyDeserialize, MySerialize, Varying};
 use wire_field::row::Both;
 use wire_forms::constant::ConstU8;
-use wire_repr::int::{LeU32, RawInt};
 use wire_repr::wire::Wire;
 
 // The payload's fields, in order.
-type Fields = Both<ConstU8<(), 0x1a>, RawInt<LeU32>>;
+type Fields = Both<ConstU8<(), 0x1a>, u32>;
 
 /// The data that were sent for a statement's parameters are dropped, and its cursor is closed. The
 /// answer is an OK or an error.
@@ -32,8 +31,7 @@ impl MySerialize for ComStmtReset {
     ghost bytes = { λ command. 0x1a ∷ le_bytes 4 command.statement_id };
 
     fn serialize<A: Allocator>(&self, buf: &mut Vec<u8, A>) -> Result<(), WireError> {
-        let statement_id = RawInt::<LeU32>::new(self.statement_id);
-        Both(ConstU8::<(), 0x1a>::new(), statement_id).serialize(buf)
+        Both(ConstU8::<(), 0x1a>::new(), self.statement_id).serialize(buf)
     }
 }
 
@@ -44,14 +42,12 @@ impl HasSize for ComStmtReset {
 impl<'de, A: Allocator + Copy> MyDeserialize<'de, A> for ComStmtReset {
     type Ctx = ();
 
-    ghost reads = { λ _ input. Through (λ command. (_, (command.statement_id, _)))
+    ghost reads = { λ _ input. Through (λ command. (_, command.statement_id))
         (⟦<Fields as MyDeserialize<'de, A>>⟧.reads (tt, tt) input) };
 
     fn deserialize(alloc: A, _: (), buf: &mut ParseBuf<'de>) -> Result<Self, WireError> {
         match buf.parse_in::<Fields, A>(alloc, ((), ())) {
-            Ok(Both(_, statement_id)) => Ok(ComStmtReset {
-                statement_id: statement_id.0,
-            }),
+            Ok(Both(_, statement_id)) => Ok(ComStmtReset { statement_id }),
             Err(error) => Err(error),
         }
     }
@@ -72,7 +68,7 @@ impl<'de, A: Allocator + Copy> Wire<'de, A> for ComStmtReset {
 
     ghost comes_back = { λ ctx command rest answer eaten value good read.
         packet (⟦<Fields as MyDeserialize<'de, A>>⟧.reads (tt, tt)) _ _ (λ back came. came.1)
-        (both const_u8 (number (λ int. int.0) 4 command.statement_id value)) answer eaten read };
+        (both const_u8 (number (λ n. n) 4 command.statement_id value)) answer eaten read };
 
     ghost of_size = { λ command size _ stated. Prim.cc };
 }
@@ -82,7 +78,7 @@ impl<'de, A: Allocator + Copy> WrittenBack<'de, A> for ComStmtReset {
 
     ghost again = { λ ctx input command eaten are shortest read.
         packet_again (⟦<Fields as MyDeserialize<'de, A>>⟧.reads (tt, tt))
-        (λ command. (_, (command.statement_id, _)))
-        (both_again (const_again 0x1a) (number_again (λ int. int.0) 4))
+        (λ command. (_, command.statement_id))
+        (both_again (const_again 0x1a) (number_again (λ n. n) 4))
         input command eaten are read };
 }

@@ -15,11 +15,10 @@ use wire_buf::io::ParseBuf;
 use wire_buf::proto::{HasSize, MyDeserialize, MySerialize, Varying};
 use wire_field::row::Both;
 use wire_forms::constant::ConstU8;
-use wire_repr::int::{LeU16, LeU32, RawInt};
 use wire_repr::wire::Wire;
 
 // The payload's fields, in order.
-type Fields<'a> = Both<ConstU8<(), 0x18>, Both<RawInt<LeU32>, Both<RawInt<LeU16>, Rest<'a>>>>;
+type Fields<'a> = Both<ConstU8<(), 0x18>, Both<u32, Both<u16, Rest<'a>>>>;
 
 /// A part of the value of one parameter. Parts of one value follow each other, and the value does
 /// not stand in the `ComStmtExecute` that comes after them. The server does not answer.
@@ -39,9 +38,7 @@ impl MySerialize for ComStmtSendLongData<'_> {
         ++ (le_bytes 2 command.param_id ++ command.data.now)) };
 
     fn serialize<A: Allocator>(&self, buf: &mut Vec<u8, A>) -> Result<(), WireError> {
-        let statement_id = RawInt::<LeU32>::new(self.statement_id);
-        let param_id = RawInt::<LeU16>::new(self.param_id);
-        let place = Both(statement_id, Both(param_id, Rest(self.data)));
+        let place = Both(self.statement_id, Both(self.param_id, Rest(self.data)));
         Both(ConstU8::<(), 0x18>::new(), place).serialize(buf)
     }
 }
@@ -56,16 +53,16 @@ impl<'de, A: Allocator + Copy> MyDeserialize<'de, A> for ComStmtSendLongData<'de
     ghost reads = { λ _ input. Through
         (λ command. (
           _,
-          ((command.statement_id, _), ((command.param_id, _), record { 0 = command.data })),
+          (command.statement_id, (command.param_id, record { 0 = command.data })),
         ))
         (⟦<Fields<'de> as MyDeserialize<'de, A>>⟧.reads (tt, (tt, (tt, tt))) input) };
 
     fn deserialize(alloc: A, _: (), buf: &mut ParseBuf<'de>) -> Result<Self, WireError> {
         match buf.parse_in::<Fields<'de>, A>(alloc, ((), ((), ((), ())))) {
             Ok(Both(_, Both(statement_id, Both(param_id, data)))) => Ok(ComStmtSendLongData {
-                statement_id: statement_id.0,
-                param_id: param_id.0,
-                data: data.0,
+                statement_id,
+                param_id,
+                data,
             }),
             Err(error) => Err(error),
         }
@@ -93,11 +90,11 @@ impl<'de, A: Allocator + Copy> Wire<'de, A> for ComStmtSendLongData<'de> {
         packet (⟦<Fields<'de> as MyDeserialize<'de, A>>⟧.reads (tt, (tt, (tt, tt))))
         (λ command. (
           _,
-          ((command.statement_id, _), ((command.param_id, _), record { 0 = command.data })),
+          (command.statement_id, (command.param_id, record { 0 = command.data })),
         ))
         _ (λ back came. (came.1.0, came.1.1.0, came.1.1.1))
-        (both const_u8 (both (number (λ int. int.0) 4 command.statement_id value.0)
-        (both (number (λ int. int.0) 2 command.param_id value.1)
+        (both const_u8 (both (number (λ n. n) 4 command.statement_id value.0)
+        (both (number (λ n. n) 2 command.param_id value.1)
         (rest_of (λ text. text.0.now) command.data.now good))))
         answer eaten read };
 
@@ -111,9 +108,9 @@ impl<'de, A: Allocator + Copy> WrittenBack<'de, A> for ComStmtSendLongData<'de> 
         packet_again (⟦<Fields<'de> as MyDeserialize<'de, A>>⟧.reads (tt, (tt, (tt, tt))))
         (λ command. (
           _,
-          ((command.statement_id, _), ((command.param_id, _), record { 0 = command.data })),
+          (command.statement_id, (command.param_id, record { 0 = command.data })),
         ))
-        (both_again (const_again 0x18) (both_again (number_again (λ int. int.0) 4)
-        (both_again (number_again (λ int. int.0) 2) (rest_again (λ text. text.0.now)))))
+        (both_again (const_again 0x18) (both_again (number_again (λ n. n) 4)
+        (both_again (number_again (λ n. n) 2) (rest_again (λ text. text.0.now)))))
         input command eaten are read };
 }

@@ -11,7 +11,6 @@ use wire_buf::io::ParseBuf;
 use wire_buf::proto::{HasSize, MyDeserialize, MySerialize, Varying};
 use wire_field::row::Both;
 use wire_forms::constant::ConstU8;
-use wire_repr::int::{LeU16, LeU32, RawInt};
 use wire_repr::wire::Wire;
 
 /// A day. MySQL has days whose month or day is 0.
@@ -77,8 +76,7 @@ impl MySerialize for Day {
     ghost bytes = { day_bytes };
 
     fn serialize<A: Allocator>(&self, buf: &mut Vec<u8, A>) -> Result<(), WireError> {
-        let year = RawInt::<LeU16>::new(self.year);
-        Both(year, [self.month, self.day]).serialize(buf)
+        Both(self.year, [self.month, self.day]).serialize(buf)
     }
 }
 
@@ -94,8 +92,7 @@ impl MySerialize for Span {
     ghost bytes = { span_bytes };
 
     fn serialize<A: Allocator>(&self, buf: &mut Vec<u8, A>) -> Result<(), WireError> {
-        let days = RawInt::<LeU32>::new(self.days);
-        Both([self.sign], Both(days, self.clock)).serialize(buf)
+        Both([self.sign], Both(self.days, self.clock)).serialize(buf)
     }
 }
 
@@ -108,7 +105,7 @@ impl MySerialize for BinaryDate {
             BinaryDate::Date(day) => Both([4], *day).serialize(buf),
             BinaryDate::Seconds(day, clock) => Both([7], Both(*day, *clock)).serialize(buf),
             BinaryDate::Micros(day, clock, micros) => {
-                let micros = RawInt::<LeU32>::new(*micros);
+                let micros = *micros;
                 Both([11], Both(*day, Both(*clock, micros))).serialize(buf)
             }
         }
@@ -123,7 +120,7 @@ impl MySerialize for BinaryTime {
             BinaryTime::Zero => [0].serialize(buf),
             BinaryTime::Seconds(span) => Both([8], *span).serialize(buf),
             BinaryTime::Micros(span, micros) => {
-                let micros = RawInt::<LeU32>::new(*micros);
+                let micros = *micros;
                 Both([12], Both(*span, micros)).serialize(buf)
             }
         }

@@ -5,6 +5,8 @@ ghost use Rattle.wire_buf.specs.declared.error.WireError.{WireError};
 ghost use Rattle.wire_buf.specs.declared.error.WireError.TheVariants.{OutOfMemory};
 ghost use Rattle.wire_buf.specs.Reading.{HasBytes, Reads, Answers, Through, front_at};
 
+mod ints;
+
 use crate::error::WireError;
 use crate::io::ParseBuf;
 use std::alloc::Allocator;

@@ -1,8 +1,11 @@
 //! The law of a value that is written and read.
 
-ghost use Rattle.std.specs.Prelude.{◌≡◌, ℕ, List, ◌++◌, length, Some, Result};
+ghost use Rattle.std.specs.Prelude.{◌≡◌, ◌<◌, ◌^◌, ◌∷◌, [], ℕ, List, ◌++◌, length, Some, Result, refl};
+ghost use Rattle.wire_buf.specs.Numbers.{le_bytes, le_number};
+ghost use Rattle.wire_buf.specs.NumberLemmas.{length-le_bytes};
 ghost use Rattle.wire_buf.specs.declared.error.WireError.{WireError};
-ghost use Rattle.wire_repr.specs.Law.{ComesBack, array-back, size-is};
+ghost use Rattle.wire_repr.specs.Law.{ComesBack, ReadsFixed, Through-back, array-back, size-is};
+ghost use Rattle.wire_repr.specs.Numbers.{byte-back, le_bytes-back};
 
 use std::alloc::Allocator;
 use wire_buf::proto::{MyDeserialize, MySerialize};
@@ -54,4 +57,84 @@ impl<'de, A: Allocator + Copy, const LEN: usize> Wire<'de, A> for [u8; LEN] {
         array-back LEN bytes rest is answer eaten read };
 
     ghost of_size = { λ bytes size is stated. size-is LEN size (length bytes) stated (is) };
+}
+
+impl<'de, A: Allocator + Copy> Wire<'de, A> for u8 {
+    ghost is_value = { λ n. n < 2 ^ 8 };
+
+    ghost good = { λ _ _ _. Unit {0} };
+
+    ghost kept = { λ n back. back ≡ n };
+
+    ghost takes_memory = { ⊥ };
+
+    fn known(&self) {
+        let _n = *self;
+    }
+
+    ghost comes_back = { λ ctx n rest answer eaten is good read.
+        Through-back (λ back. back) (ReadsFixed 1 le_number (n ∷ [] ++ rest)) n (length (n ∷ []))
+        (byte-back n rest) answer eaten read };
+
+    ghost of_size = { λ n size is stated. size-is 1 size (length (n ∷ [])) stated refl };
+}
+
+impl<'de, A: Allocator + Copy> Wire<'de, A> for u16 {
+    ghost is_value = { λ n. n < 2 ^ 16 };
+
+    ghost good = { λ _ _ _. Unit {0} };
+
+    ghost kept = { λ n back. back ≡ n };
+
+    ghost takes_memory = { ⊥ };
+
+    fn known(&self) {
+        let _n = *self;
+    }
+
+    ghost comes_back = { λ ctx n rest answer eaten is good read.
+        Through-back (λ back. back) (ReadsFixed 2 le_number (le_bytes 2 n ++ rest)) n (length (le_bytes 2 n))
+        (le_bytes-back 2 n rest is) answer eaten read };
+
+    ghost of_size = { λ n size is stated. size-is 2 size (length (le_bytes 2 n)) stated (length-le_bytes 2 n) };
+}
+
+impl<'de, A: Allocator + Copy> Wire<'de, A> for u32 {
+    ghost is_value = { λ n. n < 2 ^ 32 };
+
+    ghost good = { λ _ _ _. Unit {0} };
+
+    ghost kept = { λ n back. back ≡ n };
+
+    ghost takes_memory = { ⊥ };
+
+    fn known(&self) {
+        let _n = *self;
+    }
+
+    ghost comes_back = { λ ctx n rest answer eaten is good read.
+        Through-back (λ back. back) (ReadsFixed 4 le_number (le_bytes 4 n ++ rest)) n (length (le_bytes 4 n))
+        (le_bytes-back 4 n rest is) answer eaten read };
+
+    ghost of_size = { λ n size is stated. size-is 4 size (length (le_bytes 4 n)) stated (length-le_bytes 4 n) };
+}
+
+impl<'de, A: Allocator + Copy> Wire<'de, A> for u64 {
+    ghost is_value = { λ n. n < 2 ^ 64 };
+
+    ghost good = { λ _ _ _. Unit {0} };
+
+    ghost kept = { λ n back. back ≡ n };
+
+    ghost takes_memory = { ⊥ };
+
+    fn known(&self) {
+        let _n = *self;
+    }
+
+    ghost comes_back = { λ ctx n rest answer eaten is good read.
+        Through-back (λ back. back) (ReadsFixed 8 le_number (le_bytes 8 n ++ rest)) n (length (le_bytes 8 n))
+        (le_bytes-back 8 n rest is) answer eaten read };
+
+    ghost of_size = { λ n size is stated. size-is 8 size (length (le_bytes 8 n)) stated (length-le_bytes 8 n) };
 }

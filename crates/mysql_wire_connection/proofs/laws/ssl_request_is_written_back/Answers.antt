@@ -4,12 +4,12 @@ use Rattle.mysql_wire_connection.proofs.laws.ssl_request_is_written_back.Goals a
 pub returns : goal.returns
 returns c = λ input packet eaten is read. (packet_again
     (λ request. (
-      request.client_flag,
+      request.client_flag.0,
       (
-        (request.max_packet_size, _),
-        ((request.character_set, _), (request.filler, request.mariadb_capabilities)),
+        request.max_packet_size,
+        (request.character_set, (request.filler, request.mariadb_capabilities.0)),
       ),
     ))
-    (both_again (number_again (λ flags. flags.0) 4) (both_again (number_again (λ int. int.0) 4)
-    (both_again (byte_again (λ int. int.0)) (both_again (array_again 19)
-    (number_again (λ flags. flags.0) 4)))))).law input is packet eaten read
+    (both_again (number_again (λ n. n) 4) (both_again (number_again (λ n. n) 4)
+    (both_again (byte_again (λ n. n)) (both_again (array_again 19)
+    (number_again (λ n. n) 4)))))).law input is packet eaten read

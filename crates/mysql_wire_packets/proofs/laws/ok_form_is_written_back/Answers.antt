@@ -8,8 +8,8 @@ returns g c = λ form input packet eaten is read.
     written_back _ _ ((then_at (λ ok. ok) (λ ok. words_ctx form ok.status_flags.0)
     (both_of (part_of (λ ok. _) (exact (const_again _)))
     (both_of (int_of (λ ok. ok.affected_rows)) (both_of (int_of (λ ok. ok.last_insert_id))
-    (part_of (λ ok. (ok.status_flags, (ok.warnings, _)))
-    (exact (both_again (number_again (λ flags. flags.0) 2) (number_again (λ int. int.0) 2)))))))
+    (part_of (λ ok. (ok.status_flags.0, ok.warnings))
+    (exact (both_again (number_again (λ n. n) 2) (number_again (λ n. n) 2)))))))
     (both_at (optional_of (λ ok. ok.info) (λ info. info) _
     (either_of (λ left. text_of (λ text. text.0))
     (λ right. exact (eof_text_again (λ text. text.0)))))

@@ -17,10 +17,10 @@ returns c = λ capabilities input packet eaten is read.
     (λ ctx. text_of (λ text. text.0))
     (side tt (has (mariadb_capabilities_bits capabilities) 0x8)))
     (part_of (λ column. (
-      (_, ((column.character_set, _), (column.column_length, _))),
-      ((column.column_type, column.flags), ((column.decimals, _), column.reserved)),
+      (_, (column.character_set, column.column_length)),
+      ((column.column_type.0, column.flags.0), (column.decimals, column.reserved)),
     ))
-    (exact (both_again (both_again (const_again 0x0c) (both_again (number_again (λ int. int.0) 2)
-    (number_again (λ int. int.0) 4)))
-    (both_again (both_again (byte_again (λ raw. raw.0)) (number_again (λ flags. flags.0) 2))
-    (both_again (byte_again (λ int. int.0)) (array_again 2)))))))).law input is packet eaten read)
+    (exact (both_again (both_again (const_again 0x0c) (both_again (number_again (λ n. n) 2)
+    (number_again (λ n. n) 4)))
+    (both_again (both_again (byte_again (λ n. n)) (number_again (λ n. n) 2))
+    (both_again (byte_again (λ n. n)) (array_again 2)))))))).law input is packet eaten read)

@@ -5,5 +5,5 @@ use Rattle.mysql_wire_queries.proofs.laws.type_detail_is_written_back.Goals as g
 pub returns : goal.returns
 returns c = λ input packet eaten is read.
     written_back _ _ ((both_of
-    (part_of (λ detail. (detail.kind, _)) (exact (byte_again (λ int. int.0))))
+    (part_of (λ detail. detail.kind) (exact (byte_again (λ n. n))))
     (part_of (λ detail. detail.value) (text_of (λ text. text.0)))).law input is packet eaten read)

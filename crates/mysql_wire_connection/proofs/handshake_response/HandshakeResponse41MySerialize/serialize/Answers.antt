@@ -1,8 +1,4 @@
 use Rattle.mysql_wire_connection.proofs.handshake_response.HandshakeResponse41MySerialize.serialize.Goals as goal
 
 pub returns-clause-ok : goal.returns-clause-ok
-returns-clause-ok g c = rw (
-  c.new-max_packet_size.ensures,
-  c.new-character_set.ensures,
-  c.field_of_byte-level.ensures,
-) at c.serialize.ensures.ok
+returns-clause-ok g c = rw c.field_of_byte-level.ensures at c.serialize.ensures.ok
