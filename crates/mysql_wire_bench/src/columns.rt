@@ -4,8 +4,8 @@ use crate::check::{REFUSED, summary};
 use mysql_wire::constants::{ColumnFlags, ColumnType};
 use mysql_wire::io::{BufMutExt, ParseBuf, WireError};
 use mysql_wire::misc::raw::bytes::{LenEnc, RawBytes};
-use mysql_wire::misc::raw::int::{ConstU8, LeU16, LeU32};
-use mysql_wire::misc::raw::{Both, Const, RawFlags, RawInt, Skip};
+use mysql_wire::misc::raw::int::{ConstU8, LeU16};
+use mysql_wire::misc::raw::{Both, Const, RawFlags, Skip};
 use mysql_wire::proto::MySerialize;
 use std::alloc::Global;
 
@@ -30,13 +30,10 @@ type Names<'a> = Both<
 type Numbers = Both<
     ConstU8<FixedFields, FIXED_FIELDS>,
     Both<
-        RawInt<LeU16>,
+        u16,
         Both<
-            RawInt<LeU32>,
-            Both<
-                Const<ColumnType, u8>,
-                Both<RawFlags<ColumnFlags, LeU16>, Both<RawInt<u8>, Skip<2>>>,
-            >,
+            u32,
+            Both<Const<ColumnType, u8>, Both<RawFlags<ColumnFlags, LeU16>, Both<u8, Skip<2>>>>,
         >,
     >,
 >;
@@ -64,11 +61,20 @@ fn of_names(names: &Names<'_>) -> u64 {
 fn of_numbers(numbers: &Numbers) -> u64 {
     let Both(_, Both(collation, Both(length, Both(column_type, Both(flags, Both(decimals, _)))))) =
         numbers;
-    (collation.0 as u64)
-        .wrapping_add(length.0 as u64)
+    (*collation as u64)
+        .wrapping_add(*length as u64)
         .wrapping_add(column_type.0 as u64)
         .wrapping_add(flags.0 as u64)
-        .wrapping_add(decimals.0 as u64)
+        .wrapping_add(*decimals as u64)
+}
+
+// Reads a definition, and tells it.
+#[inline(always)]
+fn next_definition(alloc: Global, buf: &mut ParseBuf<'_>) -> Option<u64> {
+    match read(alloc, buf) {
+        Ok(Both(names, numbers)) => Some(of_names(&names).wrapping_add(of_numbers(&numbers))),
+        Err(_) => None,
+    }
 }
 
 // The definitions, one after another, each parsed as a field.
@@ -79,10 +85,7 @@ fn definitions(alloc: Global, bytes: &[u8]) -> Option<u64> {
         if buf.is_empty() {
             break;
         }
-        let definition = read(alloc, &mut buf).ok()?;
-        sum = sum
-            .wrapping_add(of_names(&definition.0))
-            .wrapping_add(of_numbers(&definition.1));
+        sum = sum.wrapping_add(next_definition(alloc, &mut buf)?);
     }
     Some(sum)
 }

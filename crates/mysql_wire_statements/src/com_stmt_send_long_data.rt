@@ -62,7 +62,7 @@ impl<'de, A: Allocator + Copy> MyDeserialize<'de, A> for ComStmtSendLongData<'de
             Ok(Both(_, Both(statement_id, Both(param_id, data)))) => Ok(ComStmtSendLongData {
                 statement_id,
                 param_id,
-                data,
+                data: data.0,
             }),
             Err(error) => Err(error),
         }
