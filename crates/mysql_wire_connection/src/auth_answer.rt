@@ -11,7 +11,7 @@ use crate::auth_more_data::AuthMoreData;
 use crate::auth_switch::AuthSwitchRequest;
 use mysql_wire_packets::err_packet::ErrPacket;
 use mysql_wire_packets::ok_packet::{InfoForm, OkPacket};
-use mysql_wire_packets::places::{PayloadError, read_whole};
+use mysql_wire_packets::places::{PayloadError, read_as};
 use std::alloc::Global;
 use wire_buf::error::WireError;
 use wire_buf::proto::MyDeserialize;
@@ -56,23 +56,11 @@ impl<'a> AuthAnswer<'a> {
         match payload.first() {
             Some(0x00) => {
                 let form = InfoForm::of(capabilities);
-                match read_whole::<OkPacket<'a>>(alloc, form, payload) {
-                    Ok(packet) => Ok(AuthAnswer::Done(packet)),
-                    Err(error) => Err(error),
-                }
+                read_as(alloc, form, payload, AuthAnswer::Done)
             }
-            Some(0xff) => match read_whole::<ErrPacket<'a>>(alloc, capabilities, payload) {
-                Ok(packet) => Ok(AuthAnswer::Failed(packet)),
-                Err(error) => Err(error),
-            },
-            Some(0xfe) => match read_whole::<AuthSwitchRequest<'a>>(alloc, (), payload) {
-                Ok(packet) => Ok(AuthAnswer::Switch(packet)),
-                Err(error) => Err(error),
-            },
-            Some(0x01) => match read_whole::<AuthMoreData<'a>>(alloc, (), payload) {
-                Ok(packet) => Ok(AuthAnswer::MoreData(packet)),
-                Err(error) => Err(error),
-            },
+            Some(0xff) => read_as(alloc, capabilities, payload, AuthAnswer::Failed),
+            Some(0xfe) => read_as(alloc, (), payload, AuthAnswer::Switch),
+            Some(0x01) => read_as(alloc, (), payload, AuthAnswer::MoreData),
             Some(byte) => Err(PayloadError::OtherHeader(*byte)),
             None => Err(PayloadError::Refused(WireError::UnexpectedEof)),
         }

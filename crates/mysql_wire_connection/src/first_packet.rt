@@ -10,7 +10,7 @@ use crate::handshake::HandshakeV10;
 use crate::handshake_response::HandshakeResponse41;
 use crate::ssl_request::SslRequest;
 use mysql_wire_packets::err_packet::ErrPacket;
-use mysql_wire_packets::places::{PayloadError, read_whole};
+use mysql_wire_packets::places::{PayloadError, read_as, read_whole};
 use std::alloc::Global;
 use wire_buf::error::WireError;
 use wire_buf::proto::MyDeserialize;
@@ -39,16 +39,10 @@ impl<'a> ServerFirst<'a> {
         ensures other { IsOther (0x0a ∷ 0xff ∷ []) payload.entry.now result }
     {
         match payload.first() {
-            Some(0x0a) => match read_whole::<HandshakeV10<'a>>(alloc, (), payload) {
-                Ok(packet) => Ok(ServerFirst::Greeting(packet)),
-                Err(error) => Err(error),
-            },
+            Some(0x0a) => read_as(alloc, (), payload, ServerFirst::Greeting),
             Some(0xff) => {
                 let none = CapabilityFlags::empty();
-                match read_whole::<ErrPacket<'a>>(alloc, none, payload) {
-                    Ok(packet) => Ok(ServerFirst::Failed(packet)),
-                    Err(error) => Err(error),
-                }
+                read_as(alloc, none, payload, ServerFirst::Failed)
             }
             Some(byte) => Err(PayloadError::OtherHeader(*byte)),
             None => Err(PayloadError::Refused(WireError::UnexpectedEof)),
@@ -81,10 +75,7 @@ impl<'a> ClientFirst<'a> {
                 Err(error) => Err(error),
             }
         } else {
-            match read_whole::<HandshakeResponse41<'a>>(alloc, (), payload) {
-                Ok(packet) => Ok(ClientFirst::Login(packet)),
-                Err(error) => Err(error),
-            }
+            read_as(alloc, (), payload, ClientFirst::Login)
         }
     }
 }

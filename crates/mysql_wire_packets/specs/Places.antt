@@ -16,6 +16,12 @@ ReadsWhole {X = X} reads payload (Err (Trailing count)) = (packet : X) × (0 < c
 ReadsWhole reads payload (Err (OtherHeader byte)) = ⊥
 ReadsWhole reads payload (Err OtherSpelling) = ⊥
 
+-- what is answered is made of such a packet
+abbrev pub WrapsBy : {X Y : Type 0} → (X → Y → Type 0) → (Result X PayloadError → Type 0)
+    → Result Y PayloadError → Type 0
+WrapsBy {X = X} makes says (Ok answer) = (packet : X) × makes packet answer × says (Ok packet)
+WrapsBy makes says (Err error) = says (Err error)
+
 -- what is answered is such a packet, as this variant
 abbrev pub Wraps : {X Y : Type 0} → (X → Y) → (Result X PayloadError → Type 0)
     → Result Y PayloadError → Type 0

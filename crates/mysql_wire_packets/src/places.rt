@@ -2,7 +2,7 @@
 
 ghost use Rattle.std.specs.Prelude.{◌≡◌, Ok, length, IfOk};
 ghost use Rattle.wire_buf.specs.Reading.{Parses};
-ghost use Rattle.mysql_wire_packets.specs.Places.{ReadsWhole};
+ghost use Rattle.mysql_wire_packets.specs.Places.{ReadsWhole, WrapsBy};
 
 use std::alloc::Global;
 use wire_buf::error::WireError;
@@ -37,6 +37,23 @@ pub fn read_whole<'de, T: MyDeserialize<'de, Global>>(
             left => Err(PayloadError::Trailing(left)),
         },
         Err(error) => Err(PayloadError::Refused(error)),
+    }
+}
+
+/// Reads a payload that is one packet, as this variant of the packets of its place.
+pub fn read_as<'de, T: MyDeserialize<'de, Global>, U, F: FnOnce(T) -> U>(
+    alloc: Global,
+    ctx: T::Ctx,
+    payload: &'de [u8],
+    variant: F,
+) -> Result<U, PayloadError>
+    requires { (packet : T) → F.pre variant packet }
+    ensures { WrapsBy (F.post variant)
+        (ReadsWhole (Parses T.Size.SIZE (T.reads ctx)) payload.entry.now) result }
+{
+    match read_whole::<T>(alloc, ctx, payload) {
+        Ok(packet) => Ok(variant(packet)),
+        Err(error) => Err(error),
     }
 }
 

@@ -12,7 +12,7 @@ use crate::com_ping::ComPing;
 use crate::com_query::ComQuery;
 use crate::com_query_attributes::ComQueryWithAttributes;
 use crate::com_quit::ComQuit;
-use mysql_wire_packets::places::{PayloadError, read_whole};
+use mysql_wire_packets::places::{PayloadError, read_as, read_whole};
 use std::alloc::Global;
 use wire_buf::error::WireError;
 use wire_buf::proto::MyDeserialize;
@@ -48,15 +48,9 @@ fn read_query<'a>(
         payload.entry.now) result }
 {
     if capabilities.contains(CapabilityFlags::CLIENT_QUERY_ATTRIBUTES) {
-        match read_whole::<ComQueryWithAttributes<'a>>(alloc, (), payload) {
-            Ok(command) => Ok(ClientCommand::AttributedQuery(command)),
-            Err(error) => Err(error),
-        }
+        read_as(alloc, (), payload, ClientCommand::AttributedQuery)
     } else {
-        match read_whole::<ComQuery<'a>>(alloc, (), payload) {
-            Ok(command) => Ok(ClientCommand::Query(command)),
-            Err(error) => Err(error),
-        }
+        read_as(alloc, (), payload, ClientCommand::Query)
     }
 }
 
@@ -96,19 +90,13 @@ impl<'a> ClientCommand<'a> {
                 Ok(command) => Ok(ClientCommand::Quit(command)),
                 Err(error) => Err(error),
             },
-            Some(0x02) => match read_whole::<ComInitDb<'a>>(alloc, (), payload) {
-                Ok(command) => Ok(ClientCommand::InitDb(command)),
-                Err(error) => Err(error),
-            },
+            Some(0x02) => read_as(alloc, (), payload, ClientCommand::InitDb),
             Some(0x03) => read_query(alloc, capabilities, payload),
             Some(0x0e) => match read_whole::<ComPing>(alloc, (), payload) {
                 Ok(command) => Ok(ClientCommand::Ping(command)),
                 Err(error) => Err(error),
             },
-            Some(0x11) => match read_whole::<ComChangeUser<'a>>(alloc, capabilities, payload) {
-                Ok(command) => Ok(ClientCommand::ChangeUser(command)),
-                Err(error) => Err(error),
-            },
+            Some(0x11) => read_as(alloc, capabilities, payload, ClientCommand::ChangeUser),
             Some(byte) => Err(PayloadError::OtherHeader(*byte)),
             None => Err(PayloadError::Refused(WireError::UnexpectedEof)),
         }

@@ -10,7 +10,7 @@ use crate::column_count::ColumnCount;
 use crate::local_infile::LocalInfileRequest;
 use mysql_wire_packets::err_packet::ErrPacket;
 use mysql_wire_packets::ok_packet::{InfoForm, OkPacket};
-use mysql_wire_packets::places::{PayloadError, read_whole};
+use mysql_wire_packets::places::{PayloadError, read_as, read_whole};
 use std::alloc::Global;
 use wire_buf::proto::MyDeserialize;
 use wire_const::{CapabilityFlags, MariadbCapabilities};
@@ -56,19 +56,10 @@ impl<'a> QueryAnswer<'a> {
         match payload.first() {
             Some(0x00) => {
                 let form = InfoForm::of(capabilities);
-                match read_whole::<OkPacket<'a>>(alloc, form, payload) {
-                    Ok(packet) => Ok(QueryAnswer::Done(packet)),
-                    Err(error) => Err(error),
-                }
+                read_as(alloc, form, payload, QueryAnswer::Done)
             }
-            Some(0xff) => match read_whole::<ErrPacket<'a>>(alloc, capabilities, payload) {
-                Ok(packet) => Ok(QueryAnswer::Failed(packet)),
-                Err(error) => Err(error),
-            },
-            Some(0xfb) => match read_whole::<LocalInfileRequest<'a>>(alloc, (), payload) {
-                Ok(packet) => Ok(QueryAnswer::File(packet)),
-                Err(error) => Err(error),
-            },
+            Some(0xff) => read_as(alloc, capabilities, payload, QueryAnswer::Failed),
+            Some(0xfb) => read_as(alloc, (), payload, QueryAnswer::File),
             _ => match read_whole::<ColumnCount>(alloc, (capabilities, mariadb), payload) {
                 Ok(packet) => Ok(QueryAnswer::Columns(packet)),
                 Err(error) => Err(error),

@@ -11,7 +11,7 @@ use crate::text_row::TextRow;
 use mysql_wire_packets::eof_packet::EofPacket;
 use mysql_wire_packets::err_packet::ErrPacket;
 use mysql_wire_packets::ok_packet::{InfoForm, RowsEnd};
-use mysql_wire_packets::places::{PayloadError, read_whole};
+use mysql_wire_packets::places::{PayloadError, read_as, read_whole};
 use std::alloc::Global;
 use wire_buf::proto::MyDeserialize;
 use wire_const::{CapabilityFlags, Flags};
@@ -73,17 +73,11 @@ impl<'a> RowAnswer<'a> {
     {
         let is_deprecated = capabilities.contains(CapabilityFlags::CLIENT_DEPRECATE_EOF);
         match payload.first() {
-            Some(0xff) => match read_whole::<ErrPacket<'a>>(alloc, capabilities, payload) {
-                Ok(packet) => Ok(RowAnswer::Failed(packet)),
-                Err(error) => Err(error),
-            },
+            Some(0xff) => read_as(alloc, capabilities, payload, RowAnswer::Failed),
             Some(0xfe) if is_end(is_deprecated, payload.len()) => {
                 if is_deprecated {
                     let form = InfoForm::of(capabilities);
-                    match read_whole::<RowsEnd<'a>>(alloc, form, payload) {
-                        Ok(packet) => Ok(RowAnswer::End(packet)),
-                        Err(error) => Err(error),
-                    }
+                    read_as(alloc, form, payload, RowAnswer::End)
                 } else {
                     match read_whole::<EofPacket>(alloc, (), payload) {
                         Ok(packet) => Ok(RowAnswer::Eof(packet)),
@@ -91,10 +85,7 @@ impl<'a> RowAnswer<'a> {
                     }
                 }
             }
-            _ => match read_whole::<TextRow<'a>>(alloc, column_count, payload) {
-                Ok(packet) => Ok(RowAnswer::Row(packet)),
-                Err(error) => Err(error),
-            },
+            _ => read_as(alloc, column_count, payload, RowAnswer::Row),
         }
     }
 }
