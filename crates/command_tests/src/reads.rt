@@ -12,7 +12,7 @@ use std::alloc::{AllocError, Global};
 use std::io;
 use std::io::{BufReader, Cursor, Read};
 use std::test::Fail;
-use test_support::facts::same;
+use test_support::facts::{all_hold, same};
 
 // Two chunks of one packet.
 const INPUT: &[u8] = b"\x03\0\0\0123\0\0\0\x01";
@@ -118,17 +118,14 @@ const STEPS: &[usize] = &[1, 2, 9, 65536];
 // Places in the input and behind it.
 const PLACES: &[usize] = &[0, 1, 5, 8, 11, 12, 4294967295];
 
-// Whether the reads are right, made by a command line and by a call.
-fn stops_at(memory: Memory<'_>, step: usize, at: usize) -> bool {
-    let line = format!(in memory.0; "unframe {step} 9 9 {at}");
-    is_right(memory, line, step, at) & is_called_right(memory.0, step, at)
-}
-
-// The same where the limit changes at each of the places, and where it doesn't change.
+// Whether the reads are right, made by a command line and by a call, where the limit changes at each
+// of the places, and where it doesn't change.
 fn are_asked(memory: Memory<'_>, step: usize) -> bool {
     let mut all = is_right(memory, format!(in memory.0; "unframe {step} 9"), step, 0);
     for place in PLACES {
-        all &= stops_at(memory, step, *place);
+        let at = *place;
+        let line = format!(in memory.0; "unframe {step} 9 9 {at}");
+        all &= is_right(memory, line, step, at) & is_called_right(memory.0, step, at);
     }
     all
 }
@@ -144,13 +141,19 @@ fn is_unframed<R: NotedRead + Drop>(alloc: Global, mut input: R) -> bool {
     (status == 0) & same(output.as_slice(), b"3 313233\n0 -\nrest 0\n")
 }
 
+// Whether readers of std go in as they are.
+fn are_unframed(alloc: Global, buffered: BufReader<&[u8]>) -> [bool; 5] {
+    [
+        is_unframed(alloc, INPUT),
+        is_unframed(alloc, &mut INPUT),
+        is_unframed(alloc, Cursor::new(INPUT)),
+        is_unframed(alloc, INPUT.take(100)),
+        is_unframed(alloc, buffered),
+    ]
+}
+
 #[test]
 fn readers_of_std_go_in_as_they_are(rt: HostRuntime) -> Result<(), Fail> {
-    let alloc = rt.alloc();
-    assert!(rt; is_unframed(alloc, INPUT));
-    assert!(rt; is_unframed(alloc, &mut INPUT));
-    assert!(rt; is_unframed(alloc, Cursor::new(INPUT)));
-    assert!(rt; is_unframed(alloc, INPUT.take(100)));
-    assert!(rt; is_unframed(alloc, BufReader::new(alloc, INPUT)?));
-    Ok(())
+    let buffered = BufReader::new(rt.alloc(), INPUT)?;
+    all_hold(&are_unframed(rt.alloc(), buffered))
 }

@@ -1,15 +1,10 @@
 // The commands on real bytes, row by row.
 
-ghost use Rattle.std.specs.Prelude.{◌<◌};
-
 use crate::run::{Memory, each_goes, end_of};
-use mysql_wire_commands::noted_read::NotedRead;
-use mysql_wire_commands::unframe::{run_unframe, run_unframe_limited};
 use refusing_allocator::NEVER;
-use std::alloc::{Allocator, Global};
-use std::io::Write;
+use std::alloc::Global;
 use std::test::Fail;
-use test_support::facts::{no_row, same, wrong_row};
+use test_support::facts::same;
 use test_support::fixture::FILL;
 
 // The line, the input, and the status and the text that they end with.
@@ -147,108 +142,68 @@ fn is_untouched(memory: Memory<'_>, line: &str) -> bool {
     (ending.status == 1) & (ending.left == 3) & ending.output.is_empty()
 }
 
-#[test]
-fn other_words_read_and_write_nothing(rt: HostRuntime) -> Result<(), Fail> {
-    each_goes(rt.alloc(), OTHER_LINES, is_untouched)
-}
-
-// The limit, the later limit and the place from which on it holds, if it changes, the input, and
-// the status and the text, whatever the step is.
-type Stream<'a> = (usize, Option<(usize, usize)>, &'a [u8], u8, &'a [u8]);
-
 // One chunk of two bytes, and behind it one of one byte.
 const TWO: &[u8] = b"\x02\0\0\0ab\x01\0\0\x01c";
 
-const STREAMS: &[Stream] = &[
+// The limit, and the later limit and the place from which on it holds, if it changes; the input, and
+// the status and the text, whatever the step is.
+const STREAMS: &[Row] = &[
     (
-        1,
-        None,
+        "1",
         b"\x01\0\0\0a\x01\0\0\x01b\0\0\0\x02",
         0,
         b"1 61\n1 62\n0 -\nrest 0\n",
     ),
+    ("2", b"\x01\0\0\0a\x03\0\0\x09b", 4, b"1 61\ntoo large\n"),
+    ("3", b"\x01\0\0\0a\x03\0\0\x09b", 3, b"1 61\nrest 5\n"),
     (
-        2,
-        None,
-        b"\x01\0\0\0a\x03\0\0\x09b",
-        4,
-        b"1 61\ntoo large\n",
-    ),
-    (3, None, b"\x01\0\0\0a\x03\0\0\x09b", 3, b"1 61\nrest 5\n"),
-    (
-        3,
-        None,
+        "3",
         b"\x01\0\0\0a\x03\0\0\x09bcd",
         5,
         b"1 61\nout of sync\n",
     ),
     // From the first byte on, and from one behind the end.
-    (0, Some((2, 0)), TWO, 0, b"2 6162\n1 63\nrest 0\n"),
-    (2, Some((0, 11)), TWO, 0, b"2 6162\n1 63\nrest 0\n"),
-    (2, Some((0, 4294967295)), TWO, 0, b"2 6162\n1 63\nrest 0\n"),
+    ("0 2 0", TWO, 0, b"2 6162\n1 63\nrest 0\n"),
+    ("2 0 11", TWO, 0, b"2 6162\n1 63\nrest 0\n"),
+    ("2 0 4294967295", TWO, 0, b"2 6162\n1 63\nrest 0\n"),
     // From the fourth byte of a header on, and from the byte behind it.
-    (0, Some((2, 3)), TWO, 0, b"2 6162\n1 63\nrest 0\n"),
-    (0, Some((2, 4)), TWO, 4, b"too large\n"),
-    (2, Some((0, 3)), TWO, 4, b"too large\n"),
-    (2, Some((0, 4)), TWO, 4, b"2 6162\ntoo large\n"),
-    (2, Some((0, 9)), TWO, 4, b"2 6162\ntoo large\n"),
-    (2, Some((0, 10)), TWO, 0, b"2 6162\n1 63\nrest 0\n"),
+    ("0 2 3", TWO, 0, b"2 6162\n1 63\nrest 0\n"),
+    ("0 2 4", TWO, 4, b"too large\n"),
+    ("2 0 3", TWO, 4, b"too large\n"),
+    ("2 0 4", TWO, 4, b"2 6162\ntoo large\n"),
+    ("2 0 9", TWO, 4, b"2 6162\ntoo large\n"),
+    ("2 0 10", TWO, 0, b"2 6162\n1 63\nrest 0\n"),
     // The ends behind a change.
     (
-        2,
-        Some((1, 6)),
+        "2 1 6",
         b"\x02\0\0\0ab\x01\0\0\x05c",
         5,
         b"2 6162\nout of sync\n",
     ),
+    ("2 1 6", b"\x02\0\0\0ab\x01\0\0\x01", 3, b"2 6162\nrest 4\n"),
     (
-        2,
-        Some((1, 6)),
-        b"\x02\0\0\0ab\x01\0\0\x01",
-        3,
-        b"2 6162\nrest 4\n",
-    ),
-    (
-        2,
-        Some((1, 6)),
+        "2 1 6",
         b"\x02\0\0\0ab\x02\0\0\x01",
         4,
         b"2 6162\ntoo large\n",
     ),
 ];
 
-// The status of an `unframe` whose limit changes as told, if it changes.
-fn unframe<A: Allocator + Copy, R: NotedRead, W: Write>(
-    alloc: A,
-    step: usize,
-    limit: usize,
-    change: Option<(usize, usize)>,
-    input: &mut R,
-    output: &mut W,
-) -> u8
-    requires { 0 < step }
-{
-    match change {
-        Some((later, at)) => run_unframe_limited(alloc, step, limit, later, at, input, output),
-        None => run_unframe(alloc, step, limit, input, output),
-    }
-}
-
-fn is_same_by_each_step(alloc: Global, row: Stream<'_>) -> bool {
-    let (limit, change, bytes, wanted, text) = row;
+fn is_same_by_each_step(memory: Memory<'_>, row: Row<'_>) -> bool {
+    let (limits, input, status, text) = row;
     let mut all = true;
     for step in 1..16usize {
-        let mut input = bytes;
-        let mut output = Vec::new(alloc);
-        all &= unframe(alloc, step, limit, change, &mut input, &mut output) == wanted;
-        all &= same(output.as_slice(), text);
+        all &= match format!(in memory.0; "unframe {step} {limits}") {
+            Ok(line) => goes(memory, (line.as_str(), input, status, text)),
+            Err(_) => false,
+        };
     }
     all
 }
 
 #[test]
 fn unframe_writes_the_same_however_it_reads(rt: HostRuntime) -> Result<(), Fail> {
-    no_row(wrong_row(rt.alloc(), STREAMS, is_same_by_each_step))
+    each_goes(rt.alloc(), STREAMS, is_same_by_each_step)
 }
 
 // The header of a chunk of so many bytes, and how its line begins.
@@ -278,6 +233,7 @@ fn is_shown(memory: Memory<'_>, row: (&[u8], usize, &[u8])) -> bool {
 }
 
 #[test]
-fn a_chunk_may_be_as_long_as_a_chunk_can_be(rt: HostRuntime) -> Result<(), Fail> {
+fn other_words_write_nothing_and_long_chunks_are_shown(rt: HostRuntime) -> Result<(), Fail> {
+    each_goes(rt.alloc(), OTHER_LINES, is_untouched)?;
     each_goes(rt.alloc(), LENGTHS, is_shown)
 }

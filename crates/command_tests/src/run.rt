@@ -8,16 +8,12 @@ use std::test::Fail;
 use test_support::facts::{no_row, wrong_row};
 use test_support::fixture::Heap;
 
-// The word as a shell gives it to the program: `''` is one of no letters.
-fn unquoted(word: &str) -> &str {
-    if word == "''" { "" } else { word }
-}
-
-// The words of a command line.
+// The words of a command line, as a shell gives them to the program: `''` is one of no letters.
 fn given<A: Allocator + Copy>(alloc: A, line: &str) -> Vec<String<A>, A> {
     let mut given = Vec::new(alloc);
     for word in line.split_whitespace() {
-        if let Ok(word) = unquoted(word).to_string(alloc) {
+        let word = if word == "''" { "" } else { word };
+        if let Ok(word) = word.to_string(alloc) {
             let _ = given.push(word);
         }
     }

@@ -11,21 +11,21 @@ use mysql_wire::proto::codec::{PacketCodec, deliver};
 use std::alloc::{AllocError, Allocator, Global};
 
 /// A packet, and how many bytes each read of it gives; the last gives what is left.
-#[derive(Clone, Copy, Debug)]
+#[derive(Clone, Copy)]
 pub struct Sent<'a> {
     pub packet: &'a [u8],
     pub reads: &'a [usize],
 }
 
 /// A command, and the packets of its answer.
-#[derive(Clone, Copy, Debug)]
+#[derive(Clone, Copy)]
 pub struct Exchange<'a> {
     pub command: Sent<'a>,
     pub answer: &'a [Sent<'a>],
 }
 
 /// One end: its codec, the bytes that have come, and the packet that isn't whole.
-#[derive(Debug, Drop)]
+#[derive(Drop)]
 pub struct End<A: Allocator + Copy = Global> {
     pub codec: PacketCodec,
     pub input: BytesMut<A>,
@@ -106,7 +106,7 @@ pub fn pass<A: Allocator + Copy>(
 }
 
 /// What both ends heard, and which id each expected behind each packet: first the end that sent it.
-#[derive(Debug, Drop)]
+#[derive(Drop)]
 pub struct Heard<A: Allocator + Copy = Global> {
     pub commands: Vec<Vec<u8, A>, A>,
     pub answers: Vec<Vec<u8, A>, A>,

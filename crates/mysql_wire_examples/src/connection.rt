@@ -13,7 +13,7 @@ use std::alloc::{Allocator, Global};
 
 /// A server's codec, with the bytes that have come and aren't read, and the packet that isn't
 /// whole.
-#[derive(Debug, Drop)]
+#[derive(Drop)]
 pub struct Connection<A: Allocator + Copy = Global> {
     pub codec: PacketCodec,
     pub input: BytesMut<A>,

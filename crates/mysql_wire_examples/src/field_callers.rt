@@ -16,7 +16,7 @@ use mysql_wire::proto::MySerialize;
 use std::alloc::Global;
 
 /// What the server says at the end of rows.
-#[derive(Clone, Copy, Debug, PartialEq, Eq)]
+#[derive(Clone, Copy, PartialEq, Eq)]
 pub struct EofPacket {
     pub warnings: u16,
     pub status_flags: u16,

@@ -19,7 +19,7 @@ use std::alloc::Allocator;
 use std::io::Read;
 
 /// The two columns of a row, as texts that lie in the row's packet.
-#[derive(Clone, Copy, Debug)]
+#[derive(Clone, Copy)]
 pub struct Account<'a> {
     pub name: &'a [u8],
     pub mail: &'a [u8],
@@ -120,7 +120,7 @@ fn ends_rows(packet: &[u8]) -> bool
 }
 
 /// Counts packets, and their bytes.
-#[derive(Clone, Copy, Debug)]
+#[derive(Clone, Copy)]
 pub struct Tally {
     pub packets: u64,
     pub bytes: u64,

@@ -14,7 +14,7 @@ use std::alloc::{Allocator, Global};
 use std::io::Read;
 
 /// The receiving side of a connection, for a server that has a budget for each of them.
-#[derive(Debug, Drop)]
+#[derive(Drop)]
 pub struct Inbox<A: Allocator + Copy = Global> {
     codec: PacketCodec,
     src: BytesMut<A>,

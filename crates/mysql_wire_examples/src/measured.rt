@@ -9,7 +9,7 @@ use mysql_wire::laws;
 use mysql_wire::proto::codec::{SpanDecoder, SpanError, VisitSpan, visit_spans};
 
 /// How many packets have come whole, and how many payload bytes, those of an unfinished packet too.
-#[derive(Clone, Copy, Debug)]
+#[derive(Clone, Copy)]
 pub struct StreamSize {
     pub packets: u64,
     pub bytes: u64,

@@ -64,6 +64,30 @@ pub fn replay<A: Allocator + Copy>(
     Ok(packets)
 }
 
+// Counts the packets of a stream, by a pass that copies none that lies whole.
+fn counted<A: Allocator + Copy>(
+    alloc: A,
+    limit: usize,
+    pieces: &[&[u8]],
+) -> Result<Tally, PacketCodecError>
+    ensures { IfOk result (λ tally. (packets : List (List ℕ)) × (unfinished : List ℕ)
+        × (rest : List ℕ)
+        × (tally.packets ≡ min (length packets) (2 ^ 64 - 1))
+        × Delivers [] (joined pieces.now) 0 limit packets Waiting unfinished rest) }
+{
+    let mut codec = PacketCodec::default();
+    codec.max_allowed_packet = limit;
+    let mut src = BytesMut::new(alloc);
+    let mut dst = Vec::new(alloc);
+    let mut tally = Tally {
+        packets: 0,
+        bytes: 0,
+    };
+    let (_, result) = deliver_each(&mut codec, &mut src, &mut dst, pieces, &mut tally);
+    result?;
+    Ok(tally)
+}
+
 /// Takes a recorded stream into a list that is grown once: its packets are counted first, by a pass
 /// that copies none that lies whole. The count is of just the packets that are then in the list.
 pub fn take_counted<A: Allocator + Copy>(
@@ -74,23 +98,15 @@ pub fn take_counted<A: Allocator + Copy>(
     ensures { IfOk result (λ taken.
         taken.0.packets ≡ min (vec_len taken.1) (2 ^ 64 - 1)) }
 {
-    laws::one_run();
+    laws::one_delivery();
+    let tally = counted(alloc, limit, pieces)?;
     let mut codec = PacketCodec::default();
-    let mut again = PacketCodec::default();
     codec.max_allowed_packet = limit;
-    again.max_allowed_packet = limit;
-    let mut tally = Tally {
-        packets: 0,
-        bytes: 0,
-    };
-    let (mut src, mut dst) = (BytesMut::new(alloc), Vec::new(alloc));
-    let (_, result) = deliver_each(&mut codec, &mut src, &mut dst, pieces, &mut tally);
-    result?;
-
+    let mut src = BytesMut::new(alloc);
+    let mut dst = Vec::new(alloc);
     let mut packets = Vec::new(alloc);
     packets.reserve(tally.packets as usize)?;
-    let (mut src, mut dst) = (BytesMut::new(alloc), Vec::new(alloc));
-    let (_, result) = deliver(&mut again, &mut src, &mut dst, pieces, &mut packets);
+    let (_, result) = deliver(&mut codec, &mut src, &mut dst, pieces, &mut packets);
     result?;
     Ok((tally, packets))
 }

@@ -60,8 +60,13 @@ pub fn replay_session<A: Allocator + Copy>(
     let mut src = BytesMut::new(alloc);
     let mut dst = Vec::new(alloc);
     let mut packets = Vec::new(alloc);
-    let pieces = [login, session];
-    let (_, result) = deliver_limited(&mut codec, &mut src, &mut dst, &pieces, &mut packets);
+    let (_, result) = deliver_limited(
+        &mut codec,
+        &mut src,
+        &mut dst,
+        &[login, session],
+        &mut packets,
+    );
     result?;
     Ok(packets)
 }

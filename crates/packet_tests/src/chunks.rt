@@ -22,20 +22,6 @@ struct Row {
     new_held: &'static [u8],
 }
 
-impl Row {
-    fn steps(&self) -> [Step; 7] {
-        [
-            Step::Remember(self.state),
-            Step::Src(self.src),
-            Step::Dst(self.held),
-            Step::Chunk(self.limit, self.told),
-            Step::Remembers(self.new_state),
-            Step::Left(self.left),
-            Step::Held(self.new_held),
-        ]
-    }
-}
-
 // A row that changes nothing.
 macro_rules! unchanged {
     ($state:expr, $src:literal, $held:literal, $limit:expr, $told:expr $(,)?) => {
@@ -209,27 +195,30 @@ const COUNTS: &[Row] = &[
     unchanged!(Some((9, usize::MAX - 4)), b"\0\0\0\0", b"", 0, Told::Waits),
 ];
 
-// The number of the first row that goes otherwise, where they are counted from this one.
-fn first_wrong(alloc: Global, first: usize, rows: &[Row]) -> Option<usize> {
-    for i in 0..rows.len() {
-        if first_fault(alloc, &rows[i].steps()).is_some() {
-            return Some(first.wrapping_add(i));
-        }
-    }
-    None
+fn goes(alloc: Global, row: Row) -> bool {
+    let steps = [
+        Step::Remember(row.state),
+        Step::Src(row.src),
+        Step::Dst(row.held),
+        Step::Chunk(row.limit, row.told),
+        Step::Remembers(row.new_state),
+        Step::Left(row.left),
+        Step::Held(row.new_held),
+    ];
+    first_fault(alloc, &steps).is_none()
 }
 
-// The rows of each kind are counted from a hundred more.
+// One table of all costs its proof more than several.
 fn wrong_header(alloc: Global) -> Option<usize> {
-    first_wrong(alloc, 0, WITHOUT_A_HEADER)
-        .or(first_wrong(alloc, 100, EMPTY))
-        .or(first_wrong(alloc, 200, TOO_LARGE))
+    wrong_row(alloc, WITHOUT_A_HEADER, goes)
+        .or(wrong_row(alloc, EMPTY, goes))
+        .or(wrong_row(alloc, TOO_LARGE, goes))
 }
 
 fn wrong_chunk(alloc: Global) -> Option<usize> {
-    first_wrong(alloc, 300, REMEMBERED)
-        .or(first_wrong(alloc, 400, WHOLE))
-        .or(first_wrong(alloc, 500, COUNTS))
+    wrong_row(alloc, REMEMBERED, goes)
+        .or(wrong_row(alloc, WHOLE, goes))
+        .or(wrong_row(alloc, COUNTS, goes))
 }
 
 #[test]
@@ -237,87 +226,49 @@ fn a_chunk_goes_by_the_state_of_its_decoder(rt: HostRuntime) -> Result<(), Fail>
     no_row(wrong_header(rt.alloc()).or(wrong_chunk(rt.alloc())))
 }
 
-// A decoder that needs so many bytes, where so many are there and so many held, and its answer.
-#[derive(Clone, Copy)]
-struct Long {
-    needed: usize,
-    there: usize,
-    held: usize,
-    told: Told,
-}
-
-impl Long {
-    // What is remembered, left and held after the call.
-    fn after(&self) -> (Remembered, usize, usize) {
-        if self.told == Told::Waits {
-            let left = self.there.saturating_add(4);
-            (Some((9, self.needed)), left, self.held)
-        } else {
-            let left = self.there.saturating_sub(self.needed);
-            (None, left, self.held.saturating_add(self.needed))
-        }
-    }
-
-    fn steps(&self) -> [Step; 8] {
-        let (remembered, left, held) = self.after();
-        [
-            Step::Remember(Some((9, self.needed))),
-            Step::Src(b"\x01\x02\x03\x04"),
-            Step::ComesMany(self.there),
-            Step::DstMany(self.held),
-            Step::Chunk(0, self.told),
-            Step::Remembers(remembered),
-            Step::LeftMany(left),
-            Step::HeldMany(held),
-        ]
-    }
-}
+// A decoder that needs so many bytes, where so many are there and so many held; its answer, and how
+// many bytes are left and held then.
+type Long = (usize, usize, usize, Told, usize, usize);
 
 fn goes_on(alloc: Global, row: Long) -> bool {
-    first_fault(alloc, &row.steps()).is_none()
+    let (needed, there, held, told, left, new_held) = row;
+    let needs = Some((9, needed));
+    let remembers = if told == Told::Waits { needs } else { None };
+    let steps = [
+        Step::Remember(needs),
+        Step::Src(b"\x01\x02\x03\x04"),
+        Step::ComesMany(there),
+        Step::DstMany(held),
+        Step::Chunk(0, told),
+        Step::Remembers(remembers),
+        Step::LeftMany(left),
+        Step::HeldMany(new_held),
+    ];
+    first_fault(alloc, &steps).is_none()
 }
 
-macro_rules! long_row {
-    ($needed:expr, $there:expr, $held:expr, $told:expr $(,)?) => {
-        Long {
-            needed: $needed,
-            there: $there,
-            held: $held,
-            told: $told,
-        }
-    };
-}
+const MAX: usize = MAX_PAYLOAD_LEN;
 
 const MIDDLE: Told = Told::Middle(9);
 
 const LAST: Told = Told::Last(9);
 
 const LONG: &[Long] = &[
-    long_row!(MAX_PAYLOAD_LEN, MAX_PAYLOAD_LEN, 0, MIDDLE),
-    long_row!(MAX_PAYLOAD_LEN, MAX_PAYLOAD_LEN + 1, 0, MIDDLE),
-    long_row!(MAX_PAYLOAD_LEN - 1, MAX_PAYLOAD_LEN - 1, 0, LAST),
+    (MAX, MAX, 0, MIDDLE, 0, MAX),
+    (MAX, MAX + 1, 0, MIDDLE, 1, MAX),
+    (MAX - 1, MAX - 1, 0, LAST, 0, MAX - 1),
     // More than a header can state.
-    long_row!(MAX_PAYLOAD_LEN + 1, MAX_PAYLOAD_LEN + 1, 0, LAST),
-    long_row!(2 * MAX_PAYLOAD_LEN, 2 * MAX_PAYLOAD_LEN, 0, MIDDLE),
+    (MAX + 1, MAX + 1, 0, LAST, 0, MAX + 1),
+    (2 * MAX, 2 * MAX, 0, MIDDLE, 0, 2 * MAX),
     // What was held counts.
-    long_row!(
-        MAX_PAYLOAD_LEN + 1,
-        MAX_PAYLOAD_LEN + 1,
-        MAX_PAYLOAD_LEN - 1,
-        MIDDLE,
-    ),
-    long_row!(MAX_PAYLOAD_LEN, MAX_PAYLOAD_LEN, 1, LAST),
-    long_row!(MAX_PAYLOAD_LEN, MAX_PAYLOAD_LEN, MAX_PAYLOAD_LEN, MIDDLE),
-    long_row!(1, 1, MAX_PAYLOAD_LEN, LAST),
-    long_row!(1, 1, MAX_PAYLOAD_LEN - 1, MIDDLE),
+    (MAX + 1, MAX + 1, MAX - 1, MIDDLE, 0, 2 * MAX),
+    (MAX, MAX, 1, LAST, 0, MAX + 1),
+    (MAX, MAX, MAX, MIDDLE, 0, 2 * MAX),
+    (1, 1, MAX, LAST, 0, MAX + 1),
+    (1, 1, MAX - 1, MIDDLE, 0, MAX),
     // One byte is missing.
-    long_row!(MAX_PAYLOAD_LEN, MAX_PAYLOAD_LEN - 1, 0, Told::Waits),
-    long_row!(
-        MAX_PAYLOAD_LEN + 1,
-        MAX_PAYLOAD_LEN,
-        MAX_PAYLOAD_LEN - 1,
-        Told::Waits,
-    ),
+    (MAX, MAX - 1, 0, Told::Waits, MAX + 3, 0),
+    (MAX + 1, MAX, MAX - 1, Told::Waits, MAX + 4, MAX - 1),
 ];
 
 #[test]

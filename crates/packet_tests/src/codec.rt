@@ -120,9 +120,61 @@ const CALLS: &[Script] = &[
     },
 ];
 
+// A table of all of them costs its proof more than two.
+const IDS: &[Script] = &[
+    Script {
+        name: "the id that is set is expected",
+        steps: &[
+            Step::Id(7),
+            Step::Src(b"\x01\0\0\x07a"),
+            Step::Decode(Told::Whole),
+            Step::Encode(b"", Told::Done),
+            Step::Left(b"\0\0\0\x08"),
+            Step::Dst(b""),
+            Step::Id(255),
+            Step::Src(b"\0\0\0\xff"),
+            Step::Decode(Told::Whole),
+            Step::Encode(b"", Told::Done),
+            Step::Left(b"\0\0\0\0"),
+            Step::Id(7),
+            Step::Src(b"\x01\0\0\x08a"),
+            Step::Decode(Told::OutOfSync),
+            Step::Encode(b"", Told::Done),
+            Step::Left(b"\0\0\0\x07"),
+        ],
+    },
+    Script {
+        name: "the id that is set between two pieces",
+        steps: &[
+            // A header that has not come whole bears the id that is set last.
+            Step::Id(7),
+            Step::Src(b"\x01\0"),
+            Step::Decode(Told::Waits),
+            Step::Id(9),
+            Step::Comes(b"\0\x09a"),
+            Step::Decode(Told::Whole),
+            // One that is remembered stays, with its own.
+            Step::Dst(b""),
+            Step::Id(7),
+            Step::Src(b"\x01\0\0\x07"),
+            Step::Decode(Told::Waits),
+            Step::Id(9),
+            Step::Comes(b"a"),
+            Step::Decode(Told::OutOfSync),
+            Step::Encode(b"", Told::Done),
+            Step::Left(b"\0\0\0\x09"),
+        ],
+    },
+];
+
+fn ids_that_are_set_are_expected(alloc: Global) -> Result<(), Fail> {
+    play(alloc, IDS)
+}
+
 #[test]
 fn each_call_goes_by_the_stream(rt: HostRuntime) -> Result<(), Fail> {
-    play(rt.alloc(), CALLS)
+    play(rt.alloc(), CALLS)?;
+    ids_that_are_set_are_expected(rt.alloc())
 }
 
 // Where a codec stands, and what it remembers.
@@ -313,7 +365,7 @@ const GROWTHS: &[Script] = &[
     },
 ];
 
-// A table of all of them costs its proof more than two.
+// And what more of it is grown.
 const LATER_GROWTHS: &[Script] = &[
     Script {
         name: "a remembered full chunk and the next one grow at once",

@@ -45,7 +45,7 @@ const ROWS: &[Row] = &[
     Row {
         parts: &[(b"\x01\0\0\0a\x02\0\0\x01bc\x01\0", 0)],
         said: &[Said::Packet, Said::Packet, Said::UnexpectedEnd],
-        unread: b"\x01\0",
+        unread: Some(b"\x01\0"),
         ids_after: (2, 7),
         ..ROW
     },
@@ -76,7 +76,7 @@ const ROWS: &[Row] = &[
         room: 0,
         said: &[Said::WriteZero, Said::WriteZero],
         out: b"",
-        unread: b"abc",
+        unread: Some(b"abc"),
         ids_after: (0, 7),
         ..ROW
     },
@@ -85,7 +85,7 @@ const ROWS: &[Row] = &[
         parts: &[(b"\x01\0\0\x05a", 0)],
         said: &[Said::OutOfSync, Said::OutOfSync],
         out: b"",
-        unread: b"\x01\0\0\x05a",
+        unread: Some(b"\x01\0\0\x05a"),
         ids_after: (0, 7),
         ..ROW
     },
@@ -93,7 +93,7 @@ const ROWS: &[Row] = &[
         parts: &[(b"\x04\0\0\0abcd", 0)],
         said: &[Said::TooLarge, Said::TooLarge],
         out: b"",
-        unread: b"\x04\0\0\0abcd",
+        unread: Some(b"\x04\0\0\0abcd"),
         ids_after: (0, 7),
         ..ROW
     },
@@ -142,7 +142,7 @@ fn goes_long(alloc: Global, (parts, zeros, id): (&[(&[u8], usize)], usize, u8)) 
         zeros: zeros.wrapping_add(4 * usize::from(id)),
         ..copied
     };
-    goes(alloc, Way::Copied, &copied, 3, 16384) & goes(alloc, Way::PassedOn, &passed_on, 3, 16384)
+    goes(alloc, Way::Copied, &copied, 3, 16384) & goes(alloc, Way::PassedOn, &passed_on, 6, 16384)
 }
 
 // No request is larger than the buffer of one read and its growth, or what is pending of it.

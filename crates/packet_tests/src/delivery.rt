@@ -1,8 +1,10 @@
-//! Packets from a stream that comes in pieces, row by row.
+//! Packets from a stream that comes in pieces, row by row: delivered, visited, and taken one by one,
+//! lent where they lie.
 
+use mysql_wire::proto::codec::Visit;
 use std::alloc::Global;
 use std::test::Fail;
-use test_support::facts::no_row;
+use test_support::facts::{no_row, same, wrong_row};
 use test_support::receiver::Receiver;
 use test_support::told::Told;
 
@@ -21,13 +23,77 @@ struct Row<'a> {
     held: &'a [u8],
 }
 
-fn goes(alloc: Global, row: &Row) -> bool {
-    let mut receiver = Receiver::<Global>::new(alloc, row.limit);
-    let comes = receiver.src.extend_from_slice(row.src).is_ok();
-    let run = receiver.deliver_in_two(row.pieces, row.first);
-    let mut all = comes & (run == (row.count, row.told));
-    all &= receiver.shows(row.packets, row.left, row.held);
-    all & (receiver.codec.max_allowed_packet == row.limit)
+/// Compares the packets that it sees with these.
+#[derive(Drop)]
+pub struct Compared<'a> {
+    left: &'a [&'a [u8]],
+    all: bool,
+}
+
+impl<'a> Compared<'a> {
+    pub fn new(packets: &'a [&'a [u8]]) -> Self {
+        Compared {
+            left: packets,
+            all: true,
+        }
+    }
+
+    /// Whether it saw just these packets.
+    pub fn is_done(&self) -> bool {
+        self.all & self.left.is_empty()
+    }
+}
+
+impl Visit for Compared<'_> {
+    ghost sees = { λ _ _ _. Unit {0} };
+
+    fn visit(&mut self, packet: &[u8]) {
+        match self.left {
+            [first, rest @ ..] => {
+                self.all &= same(packet, *first);
+                self.left = rest;
+            }
+            [] => self.all = false,
+        }
+    }
+}
+
+fn is_visited(alloc: Global, row: &Row) -> bool {
+    let mut to = Receiver::holding(alloc, row.limit, row.src);
+    let mut seen = Compared::new(row.packets);
+    let run = to.visit(row.pieces, &mut seen);
+    (run == (row.count, row.told)) & seen.is_done() & to.shows(&[], row.left, row.held)
+}
+
+// Takes the packets that came, each where it lies if it can be lent, and tells why there is none.
+fn take_all(to: &mut Receiver<Global>) -> Told {
+    for _ in 0..1000 {
+        let told = to.take_next();
+        if told != Told::Whole {
+            return told;
+        }
+    }
+    Told::Whole
+}
+
+fn is_taken(alloc: Global, row: &Row) -> bool {
+    let mut to = Receiver::holding(alloc, row.limit, row.src);
+    let mut told = take_all(&mut to);
+    for piece in row.pieces {
+        if told == Told::Waits {
+            let _ = to.src.extend_from_slice(*piece);
+            told = take_all(&mut to);
+        }
+    }
+    (told == row.told) & to.shows(row.packets, row.left, row.held)
+}
+
+fn goes(alloc: Global, row: Row<'_>) -> bool {
+    let mut to = Receiver::holding(alloc, row.limit, row.src);
+    let run = to.deliver_in_two(row.pieces, row.first);
+    let mut all = (run == (row.count, row.told)) & to.shows(row.packets, row.left, row.held);
+    all &= to.codec.max_allowed_packet == row.limit;
+    all & is_visited(alloc, &row) & is_taken(alloc, &row)
 }
 
 const MANY: usize = 4194304;
@@ -106,21 +172,7 @@ const ROWS: &[Row] = &[
         left: b"\x02",
         held: b"",
     },
-];
-
-const LATER_ROWS: &[Row] = &[
     // A run goes on where the last one stopped, also over no pieces.
-    Row {
-        limit: MANY,
-        src: b"",
-        pieces: &[b"\x03\0"],
-        first: 0,
-        count: 1,
-        told: Told::Waits,
-        packets: &[],
-        left: b"\x03\0",
-        held: b"",
-    },
     Row {
         limit: MANY,
         src: b"",
@@ -157,22 +209,35 @@ const LATER_ROWS: &[Row] = &[
     },
 ];
 
-fn wrong_row(alloc: Global, rows: &[Row]) -> Option<usize> {
-    let mut wrong = None;
-    for i in 0..rows.len() {
-        if !goes(alloc, &rows[i]) {
-            wrong = Some(i);
-        }
-    }
-    wrong
+#[test]
+fn pieces_become_packets(rt: HostRuntime) -> Result<(), Fail> {
+    no_row(wrong_row(rt.alloc(), ROWS, goes))
 }
 
-fn wrong_later_row(alloc: Global) -> Option<usize> {
-    wrong_row(alloc, LATER_ROWS)
+// Bytes, a limit, and the packet that is lent, if one is.
+type Front = (&'static [u8], usize, Option<&'static [u8]>);
+
+const FRONTS: &[Front] = &[
+    (b"\x02\0\0\0ab\xff", 2, Some(b"ab")),
+    (b"\0\0\0\0", 0, Some(b"")),
+    (b"\x02\0\0\0ab", 1, None),
+    (b"\x02\0\0\x01ab", 2, None),
+    (b"\x02\0\0\0a", 2, None),
+    (b"\x02\0\0", 2, None),
+    (b"", 2, None),
+];
+
+// Whether it is lent.
+fn is_lent(alloc: Global, front: Front) -> bool {
+    let (bytes, limit, wanted) = front;
+    let mut to = Receiver::holding(alloc, limit, bytes);
+    match wanted {
+        Some(packet) => to.lends(packet),
+        None => !to.take_front(),
+    }
 }
 
 #[test]
-fn pieces_become_packets(rt: HostRuntime) -> Result<(), Fail> {
-    no_row(wrong_row(rt.alloc(), ROWS))?;
-    no_row(wrong_later_row(rt.alloc()))
+fn a_packet_is_lent_where_it_is_whole(rt: HostRuntime) -> Result<(), Fail> {
+    no_row(wrong_row(rt.alloc(), FRONTS, is_lent))
 }

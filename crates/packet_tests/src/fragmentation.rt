@@ -1,15 +1,13 @@
-//! One stream cut in many ways, and many streams: each run is compared with the reference reading
-//! of the whole stream.
+//! Streams cut in many ways, damaged at each byte and cut short: each run is compared with the
+//! reference reading of the whole stream.
 
 use mysql_wire::constants::MAX_PAYLOAD_LEN;
 use std::alloc::Global;
 use std::test::Fail;
 use test_support::case::{Case, Wanted};
-use test_support::facts::{all_hold, no_row, wrong_row};
+use test_support::facts::{no_row, wrong_row};
 use test_support::fixture::FILL;
-use test_support::generated::{Draws, Stream, pieces_of};
-use test_support::reference::{between, chunk_count, low_byte, put_framing, reading_of};
-use test_support::refused::agrees_refused;
+use test_support::reference::{between, low_byte};
 use test_support::told::Told;
 
 // The stream, cut behind its byte number i + 1 where bit i of the number is set, and an empty piece
@@ -146,29 +144,49 @@ fn all_cuttings_of_a_stream_agree(rt: HostRuntime) -> Result<(), Fail> {
 fn three_pieces_agree(alloc: Global, case: &Case, a: usize, b: usize) -> bool {
     let stream = case.stream;
     let first = between(stream, 0, a);
-    let second = between(stream, a, b);
-    let third = between(stream, b, stream.len());
-    let all = [first, second, third];
-    let rest = [second, third];
-    let mut agree = case.agrees(alloc, b"", &all, 0);
-    agree &= case.agrees(alloc, first, &rest, 0);
-    agree &= case.agrees(alloc, b"", &all, 1);
-    agree & case.agrees(alloc, first, &rest, 1)
-}
-
-// Whether a stream agrees, cut at any two places.
-fn all_three_pieces_agree(alloc: Global, case: &Case) -> bool {
-    let len = case.stream.len();
+    let all = [
+        first,
+        between(stream, a, b),
+        between(stream, b, stream.len()),
+    ];
     let mut agree = true;
-    for a in 0..=len {
-        for b in a..=len {
-            agree &= three_pieces_agree(alloc, case, a, b);
-        }
+    for runs in 0..2 {
+        agree &= case.agrees(alloc, b"", &all, runs);
+        agree &= case.agrees(alloc, first, &all[1..], runs);
     }
     agree
 }
 
-const SHORT_STREAMS: &[(u8, usize, &[u8])] = &[
+// Whether a run over a stream cut at this place agrees, where it stops at the limit and goes on
+// without one.
+fn raised_agrees(alloc: Global, case: &Case, limit: usize, at: usize) -> bool {
+    let pieces = [
+        between(case.stream, 0, at),
+        between(case.stream, at, case.stream.len()),
+    ];
+    case.agrees_raised(alloc, limit, &pieces)
+}
+
+// Whether a stream agrees, cut at any two places.
+fn agrees(alloc: Global, first_id: u8, limit: usize, stream: &[u8]) -> bool {
+    let case = Case::new(alloc, first_id, limit, stream);
+    let unlimited = Case::new(alloc, first_id, usize::MAX, stream);
+    let (Ok(case), Ok(unlimited)) = (case, unlimited) else {
+        return false;
+    };
+    let mut agree = true;
+    for a in 0..=stream.len() {
+        for b in a..=stream.len() {
+            agree &= three_pieces_agree(alloc, &case, a, b);
+        }
+        agree &= raised_agrees(alloc, &unlimited, limit, a);
+    }
+    agree
+}
+
+type Short = (u8, usize, &'static [u8]);
+
+const SHORT_STREAMS: &[Short] = &[
     (0, 9, b"\x03\0\0\x00123\x01\0\0\x01\xff\0"),
     // Empty packets, and one of another id.
     (0, 0, b"\0\0\0\0\0\0\0\x01\0\0\0\x03\0\0\0\x02"),
@@ -192,11 +210,27 @@ const SHORT_STREAMS: &[(u8, usize, &[u8])] = &[
     (0, 9, b"\x09\0\0\0abcdefghi\x01\0"),
 ];
 
-fn short_agrees(alloc: Global, row: (u8, usize, &[u8])) -> bool {
-    match Case::new(alloc, row.0, row.1, row.2) {
-        Ok(case) => all_three_pieces_agree(alloc, &case),
-        Err(_) => false,
+// Whether a stream agrees whose byte at this place is another one.
+fn damaged_agrees(alloc: Global, row: Short, at: usize, byte: u8) -> bool {
+    let (first_id, limit, bytes) = row;
+    let mut stream = Vec::new(alloc);
+    let _ = stream.extend_from_slice(between(bytes, 0, at));
+    let _ = stream.push(byte);
+    let _ = stream.extend_from_slice(between(bytes, at.saturating_add(1), bytes.len()));
+    agrees(alloc, first_id, limit, stream.as_slice())
+}
+
+// Whether a stream agrees, whole, cut short at each place, and damaged there.
+fn short_agrees(alloc: Global, row: Short) -> bool {
+    let (first_id, limit, bytes) = row;
+    let mut all = agrees(alloc, first_id, limit, bytes);
+    for at in 0..bytes.len() {
+        all &= agrees(alloc, first_id, limit, between(bytes, 0, at));
+        for byte in [0, 1, 4, 255] {
+            all &= damaged_agrees(alloc, row, at, byte);
+        }
     }
+    all
 }
 
 #[test]
@@ -204,44 +238,25 @@ fn streams_cut_at_any_two_places_agree(rt: HostRuntime) -> Result<(), Fail> {
     no_row(wrong_row(rt.alloc(), SHORT_STREAMS, short_agrees))
 }
 
-// A stream with full chunks: the lengths of its packets, a byte that is another one, and what comes
-// of it.
+// A stream with full chunks, by its parts: these bytes, and so many bytes `42` behind them; and what
+// comes of it.
 #[derive(Clone, Copy)]
 struct Long<'a> {
     first_id: u8,
-    lens: &'a [usize],
-    damage: Option<(usize, u8)>,
+    parts: &'a [(&'a [u8], usize)],
     limit: usize,
     told: Told,
     packets: usize,
     held: usize,
 }
 
-// Puts a packet of so many bytes `42` behind a stream.
-fn put_filled(alloc: Global, stream: &mut Vec<u8>, id: u8, len: usize) {
-    if let Ok(payload) = Vec::from_elem(alloc, FILL, len) {
-        let _ = put_framing(stream, id, payload.as_slice());
-    }
-}
-
 impl Long<'_> {
-    // The packets one behind another.
-    fn framed(&self, alloc: Global) -> Vec<u8> {
-        let mut stream = Vec::new(alloc);
-        let mut id = self.first_id;
-        for len in self.lens {
-            put_filled(alloc, &mut stream, id, *len);
-            id = id.wrapping_add(low_byte(chunk_count(*len)));
-        }
-        stream
-    }
-
     fn stream(&self, alloc: Global) -> Vec<u8> {
-        let mut stream = self.framed(alloc);
-        if let Some((at, byte)) = self.damage {
-            if at < stream.len() {
-                stream[at] = byte;
-            }
+        let mut stream = Vec::new(alloc);
+        for (bytes, count) in self.parts {
+            let _ = stream.extend_from_slice(*bytes);
+            let len = stream.len().saturating_add(*count);
+            let _ = stream.resize(len, FILL);
         }
         stream
     }
@@ -253,22 +268,26 @@ impl Long<'_> {
     }
 }
 
-// Whether a stream is read as it says, and agrees with its reading when it is cut near the headers.
-fn agrees(alloc: Global, row: Long<'_>) -> bool {
+// Whether a stream cut near the headers agrees, in one run and in two.
+fn all_agree_at(alloc: Global, case: &Case) -> bool {
+    let mut all = true;
+    for at in PLACES {
+        let pieces = [
+            between(case.stream, 0, *at),
+            between(case.stream, *at, case.stream.len()),
+        ];
+        all &= case.agrees(alloc, b"", &pieces, 0) & case.agrees(alloc, b"", &pieces, 1);
+    }
+    all
+}
+
+// Whether a stream is read as it says, and agrees with its reading when it is cut.
+fn long_agrees(alloc: Global, row: Long<'_>) -> bool {
     let stream = row.stream(alloc);
     match Case::new(alloc, row.first_id, row.limit, stream.as_slice()) {
         Ok(case) => row.is_read(&case) & all_agree_at(alloc, &case),
         Err(_) => false,
     }
-}
-
-// Whether a stream cut at this place agrees, in one run and in two.
-fn agrees_at(alloc: Global, case: &Case, at: usize) -> bool {
-    let pieces = [
-        between(case.stream, 0, at),
-        between(case.stream, at, case.stream.len()),
-    ];
-    case.agrees(alloc, b"", &pieces, 0) & case.agrees(alloc, b"", &pieces, 1)
 }
 
 // Near the headers.
@@ -290,227 +309,96 @@ const PLACES: &[usize] = &[
     2 * SECOND + 10,
 ];
 
-fn all_agree_at(alloc: Global, case: &Case) -> bool {
-    let mut all = true;
-    for at in PLACES {
-        all &= agrees_at(alloc, case, *at);
-    }
-    all
-}
-
 // Where the second chunk's header begins, behind a full chunk.
 const SECOND: usize = MAX_PAYLOAD_LEN + 4;
 
+const FULL: (&[u8], usize) = (b"\xff\xff\xff\0", MAX_PAYLOAD_LEN);
+
+// A full chunk, and an empty one behind it.
+const ROW: Long = Long {
+    first_id: 0,
+    parts: &[FULL, (b"\0\0\0\x01", 0)],
+    limit: MAX_PAYLOAD_LEN,
+    told: Told::Waits,
+    packets: 1,
+    held: 0,
+};
+
+// It is held, and what is behind it is not taken.
+const HELD: Long = Long {
+    packets: 0,
+    held: MAX_PAYLOAD_LEN,
+    ..ROW
+};
+
 const LONG: &[Long] = &[
+    ROW,
     Long {
-        first_id: 0,
-        lens: &[MAX_PAYLOAD_LEN],
-        damage: None,
-        limit: MAX_PAYLOAD_LEN,
-        told: Told::Waits,
-        packets: 1,
-        held: 0,
-    },
-    Long {
-        first_id: 0,
-        lens: &[MAX_PAYLOAD_LEN],
-        damage: None,
         limit: MAX_PAYLOAD_LEN - 1,
         told: Told::TooLarge,
         packets: 0,
-        held: 0,
+        ..ROW
     },
     Long {
-        first_id: 0,
-        lens: &[MAX_PAYLOAD_LEN + 1],
-        damage: None,
-        limit: MAX_PAYLOAD_LEN,
+        parts: &[FULL, (b"\x01\0\0\x01", 1)],
         told: Told::TooLarge,
-        packets: 0,
-        held: MAX_PAYLOAD_LEN,
+        ..HELD
     },
+    // Two full chunks, and another packet.
     Long {
-        first_id: 0,
-        lens: &[2 * MAX_PAYLOAD_LEN, 1],
-        damage: None,
+        parts: &[
+            FULL,
+            (b"\xff\xff\xff\x01", MAX_PAYLOAD_LEN),
+            (b"\0\0\0\x02\x01\0\0\x03", 1),
+        ],
         limit: 2 * MAX_PAYLOAD_LEN,
-        told: Told::Waits,
         packets: 2,
-        held: 0,
+        ..ROW
     },
     // Ids that pass 255 inside a packet.
     Long {
         first_id: 254,
-        lens: &[2, MAX_PAYLOAD_LEN + 1, 1],
-        damage: None,
+        parts: &[
+            (b"\x02\0\0\xfeab\xff\xff\xff\xff", MAX_PAYLOAD_LEN),
+            (b"\x01\0\0\0c\x01\0\0\x01", 1),
+        ],
         limit: MAX_PAYLOAD_LEN + 1,
-        told: Told::Waits,
         packets: 3,
-        held: 0,
+        ..ROW
     },
     // The first chunk's id is another one, and the second one's.
     Long {
-        first_id: 0,
-        lens: &[MAX_PAYLOAD_LEN],
-        damage: Some((3, 1)),
-        limit: MAX_PAYLOAD_LEN,
+        parts: &[(b"\xff\xff\xff\x01", MAX_PAYLOAD_LEN), (b"\0\0\0\x01", 0)],
         told: Told::OutOfSync,
-        packets: 0,
-        held: MAX_PAYLOAD_LEN,
+        ..HELD
     },
     Long {
-        first_id: 0,
-        lens: &[MAX_PAYLOAD_LEN],
-        damage: Some((SECOND + 3, 0)),
-        limit: MAX_PAYLOAD_LEN,
+        parts: &[FULL, (b"\0\0\0\0", 0)],
         told: Told::OutOfSync,
-        packets: 0,
-        held: MAX_PAYLOAD_LEN,
+        ..HELD
     },
     Long {
-        first_id: 0,
-        lens: &[MAX_PAYLOAD_LEN + 2],
-        damage: Some((SECOND + 3, 2)),
+        parts: &[FULL, (b"\x02\0\0\x02", 2)],
         limit: usize::MAX,
         told: Told::OutOfSync,
-        packets: 0,
         held: MAX_PAYLOAD_LEN + 2,
+        ..HELD
     },
-    // The second chunk's length is another one: more than comes, and past the limit.
+    // More of the second chunk than comes, and past the limit.
     Long {
-        first_id: 0,
-        lens: &[MAX_PAYLOAD_LEN + 2],
-        damage: Some((SECOND, 3)),
+        parts: &[FULL, (b"\x03\0\0\x01", 2)],
         limit: MAX_PAYLOAD_LEN + 3,
-        told: Told::Waits,
-        packets: 0,
-        held: MAX_PAYLOAD_LEN,
+        ..HELD
     },
     Long {
-        first_id: 0,
-        lens: &[MAX_PAYLOAD_LEN + 2],
-        damage: Some((SECOND, 3)),
+        parts: &[FULL, (b"\x03\0\0\x01", 2)],
         limit: MAX_PAYLOAD_LEN + 2,
         told: Told::TooLarge,
-        packets: 0,
-        held: MAX_PAYLOAD_LEN,
+        ..HELD
     },
 ];
 
 #[test]
 fn long_packets_cut_near_their_headers_agree(rt: HostRuntime) -> Result<(), Fail> {
-    no_row(wrong_row(rt.alloc(), LONG, agrees))
-}
-
-// Whether each front of the stream waits, if it doesn't show the fault.
-fn fronts_wait(alloc: Global, case: &Case) -> bool {
-    let mut all = true;
-    for end in 0..=case.stream.len() {
-        let front = between(case.stream, 0, end);
-        all &= match reading_of(alloc, case.first_id, case.limit, front) {
-            Ok(reading) => (reading.told == Told::Waits) == (end < case.reading.shown_at),
-            Err(_) => false,
-        };
-    }
-    all
-}
-
-// Whether a stream agrees in these pieces, some of it in `src` and some in a run of its own.
-fn drawn_agrees(alloc: Global, draws: &mut Draws, case: &Case, at: usize) -> bool {
-    let rest = between(case.stream, at, case.stream.len());
-    match pieces_of(alloc, draws, rest) {
-        Ok(pieces) => {
-            let first = draws.below(pieces.len());
-            case.agrees(alloc, between(case.stream, 0, at), pieces.as_slice(), first)
-        }
-        Err(_) => false,
-    }
-}
-
-// Whether a run that stops at the limit goes on without one as if it had begun so.
-fn raised_agrees(alloc: Global, case: &Case, pieces: &[&[u8]]) -> bool {
-    match Case::new(alloc, case.first_id, usize::MAX, case.stream) {
-        Ok(unlimited) => unlimited.agrees_raised(alloc, case.limit, pieces),
-        Err(_) => false,
-    }
-}
-
-// Whether it agrees in these pieces where requests for memory are refused, and where a run stops at
-// the limit.
-fn stops_agree(alloc: Global, case: &Case, pieces: &[&[u8]], nth: u64) -> bool {
-    agrees_refused(alloc, case, pieces, nth) & raised_agrees(alloc, case, pieces)
-}
-
-fn drawn_stops_agree(alloc: Global, draws: &mut Draws, case: &Case) -> bool {
-    match pieces_of(alloc, draws, case.stream) {
-        Ok(pieces) => stops_agree(alloc, case, pieces.as_slice(), draws.below(4) as u64),
-        Err(_) => false,
-    }
-}
-
-// What a stream is told at its end, if it agrees, cut at drawn places.
-fn end_of(alloc: Global, draws: &mut Draws, case: &Case) -> Option<Told> {
-    let at = draws.one_of(&[0, 0, 3, 7]);
-    let mut all = drawn_agrees(alloc, draws, case, at);
-    all &= drawn_stops_agree(alloc, draws, case);
-    all &= fronts_wait(alloc, case);
-    all.then_some(case.reading.told)
-}
-
-// The same of the generated stream of this seed.
-fn generated_agrees(alloc: Global, seed: u64) -> Option<Told> {
-    let mut draws = Draws::new(seed);
-    let first_id = low_byte(draws.one_of(&[0, 0, 1, 253, 255]));
-    let Ok(stream) = Stream::damaged(alloc, &mut draws, first_id) else {
-        return None;
-    };
-    let limit = stream.limit(&mut draws);
-    match Case::new(alloc, first_id, limit, stream.bytes.as_slice()) {
-        Ok(case) => end_of(alloc, &mut draws, &case),
-        Err(_) => None,
-    }
-}
-
-// How often the streams ended so.
-#[derive(Clone, Copy)]
-struct Ends {
-    waits: u64,
-    too_large: u64,
-    out_of_sync: u64,
-}
-
-impl Ends {
-    // Counts one more, if it is one of these.
-    fn count(&mut self, told: Option<Told>) -> bool {
-        let ends = match told {
-            Some(Told::Waits) => &mut self.waits,
-            Some(Told::TooLarge) => &mut self.too_large,
-            Some(Told::OutOfSync) => &mut self.out_of_sync,
-            _ => return false,
-        };
-        *ends = ends.wrapping_add(1);
-        true
-    }
-}
-
-#[test]
-fn generated_streams_agree(rt: HostRuntime) -> Result<(), Fail> {
-    let mut ends = Ends {
-        waits: 0,
-        too_large: 0,
-        out_of_sync: 0,
-    };
-    let mut wrong = None;
-    for seed in 0..3000usize {
-        if !ends.count(generated_agrees(rt.alloc(), seed as u64)) {
-            wrong = Some(seed);
-        }
-    }
-    no_row(wrong)?;
-    // Each end comes often.
-    all_hold(&[
-        ends.waits > 300,
-        ends.too_large > 300,
-        ends.out_of_sync > 300,
-    ])
+    no_row(wrong_row(rt.alloc(), LONG, long_agrees))
 }

@@ -1,13 +1,11 @@
-//! Packets framed as their bytes come: each cutting of a short packet, long ones beside
-//! `packet_to_chunks`, ids over 255, and a packet begun inside another.
+//! Packets framed as their bytes come: each cutting of a short packet, ids over 255, and a packet
+//! begun inside another.
 
 use crate::spanned::each_cut;
-use bytes::BytesMut;
-use mysql_wire::constants::MAX_PAYLOAD_LEN;
-use mysql_wire::proto::codec::{FrameWriter, UnfinishedPacket, packet_to_chunks};
+use mysql_wire::proto::codec::{FrameWriter, UnfinishedPacket};
 use std::alloc::Global;
 use std::test::Fail;
-use test_support::facts::{all_hold, no_row, same, wrong_row};
+use test_support::facts::{all_hold, same};
 use test_support::reference::{between, low_byte};
 
 fn writer_from(seq_id: u8) -> FrameWriter {
@@ -125,33 +123,8 @@ fn packets_are_framed_as_they_come(rt: HostRuntime) -> Result<(), Fail> {
     ])
 }
 
-// Lengths, and the headers of their chunks from the id 254 on.
-const LENGTHS: &[(usize, &[u8])] = &[
-    (0, b"\0\0\0\xfe"),
-    (1, b"\x01\0\0\xfe"),
-    (5, b"\x05\0\0\xfe"),
-    (16777214, b"\xfe\xff\xff\xfe"),
-    (16777215, b"\xff\xff\xff\xfe\0\0\0\xff"),
-    (16777216, b"\xff\xff\xff\xfe\x01\0\0\xff"),
-    (33554430, b"\xff\xff\xff\xfe\xff\xff\xff\xff\0\0\0\0"),
-    (33554435, b"\xff\xff\xff\xfe\xff\xff\xff\xff\x05\0\0\0"),
-];
-
-// Whether these headers stand in front of the chunks, and the bytes are so many.
-fn has_headers(bytes: &[u8], headers: &[u8], len: usize) -> bool {
-    let mut all = bytes.len() == len.wrapping_add(headers.len());
-    let mut at = 0usize;
-    for i in 0..headers.len() / 4 {
-        let start = i.wrapping_mul(4);
-        let header = between(headers, start, start.wrapping_add(4));
-        all &= same(between(bytes, at, at.wrapping_add(4)), header);
-        at = at.wrapping_add(MAX_PAYLOAD_LEN + 4);
-    }
-    all
-}
-
-// Whether a payload goes in pieces of so many bytes, from the id 254 on, as it is framed.
-fn goes_as(alloc: Global, payload: &[u8], at_once: usize, framed: &[u8], next_id: u8) -> bool {
+/// Whether a payload goes in pieces of so many bytes, from the id 254 on, as it is framed.
+pub fn goes_as(alloc: Global, payload: &[u8], at_once: usize, framed: &[u8], next_id: u8) -> bool {
     let mut writer = writer_from(254);
     let mut out = Vec::new(alloc);
     let mut all = writer.begin(payload.len()).is_ok();
@@ -164,31 +137,4 @@ fn goes_as(alloc: Global, payload: &[u8], at_once: usize, framed: &[u8], next_id
     }
     all &= (ended == 1) & same(out.as_slice(), framed);
     all & (writer.sequence_id() == next_id)
-}
-
-// Whether a payload is framed with these headers, at once and as it comes.
-fn is_framed(alloc: Global, payload: &[u8], headers: &[u8]) -> bool {
-    let mut framed = BytesMut::new(alloc);
-    let mut packet = payload;
-    match packet_to_chunks(254, &mut packet, &mut framed) {
-        Ok(next_id) => {
-            let framed = framed.as_slice();
-            has_headers(framed, headers, payload.len())
-                & goes_as(alloc, payload, 1 << 20, framed, next_id)
-                & goes_as(alloc, payload, usize::MAX, framed, next_id)
-        }
-        Err(_) => false,
-    }
-}
-
-fn is_length(alloc: Global, row: (usize, &[u8])) -> bool {
-    match Vec::from_elem(alloc, 7u8, row.0) {
-        Ok(payload) => is_framed(alloc, payload.as_slice(), row.1),
-        Err(_) => false,
-    }
-}
-
-#[test]
-fn long_packets_are_framed_as_they_come(rt: HostRuntime) -> Result<(), Fail> {
-    no_row(wrong_row(rt.alloc(), LENGTHS, is_length))
 }

@@ -17,11 +17,7 @@ mod framed;
 #[cfg(test)]
 mod framing;
 #[cfg(test)]
-mod generated;
-#[cfg(test)]
 mod ids;
-#[cfg(test)]
-mod in_place;
 #[cfg(test)]
 mod limits;
 #[cfg(test)]
@@ -36,8 +32,6 @@ mod skips;
 mod span_rows;
 #[cfg(test)]
 mod spanned;
-#[cfg(test)]
-mod spans;
 #[cfg(test)]
 mod taken;
 #[cfg(test)]

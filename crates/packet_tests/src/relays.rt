@@ -53,7 +53,7 @@ const ROWS: &[Row] = &[
         parts: &[(b"\x01\0\0\0a\x02\0\0\x01bc\x01\0", 0)],
         said: &[Said::Packet, Said::Packet, Said::UnexpectedEnd],
         out: b"\x01\0\0\x07a\x02\0\0\x08bc",
-        unread: b"\x01\0",
+        unread: Some(b"\x01\0"),
         ids_after: (2, 9),
         ..ROW
     },
@@ -87,7 +87,7 @@ const ROWS: &[Row] = &[
         parts: &[(b"\x01\0\0\x05a", 0)],
         said: &[Said::OutOfSync, Said::OutOfSync],
         out: b"",
-        unread: b"\x01\0\0\x05a",
+        unread: Some(b"\x01\0\0\x05a"),
         ids_after: (0, 7),
         ..ROW
     },
@@ -95,7 +95,7 @@ const ROWS: &[Row] = &[
         parts: &[(b"\x04\0\0\0abcd", 0)],
         said: &[Said::TooLarge, Said::TooLarge],
         out: b"",
-        unread: b"\x04\0\0\0abcd",
+        unread: Some(b"\x04\0\0\0abcd"),
         ids_after: (0, 7),
         ..ROW
     },
@@ -115,11 +115,11 @@ const FAILING: &[Row] = &[
     },
 ];
 
-// Whichever request for memory is refused: there are the buffer of a read, and its growth. Where a
-// write or flush fails, none is: a call that is made again counts for those.
+// Whichever request for memory is refused: there are the buffer of a read, its growth, and what is
+// pending. Where a write or flush fails, none is: a call that is made again counts for those.
 #[test]
 fn each_packet_is_passed_on(rt: HostRuntime) -> Result<(), Fail> {
     let alloc = rt.alloc();
-    no_row(wrong_row(alloc, Way::PassedOn, ROWS, 3, 16384))?;
+    no_row(wrong_row(alloc, Way::PassedOn, ROWS, 9, 16384))?;
     no_row(wrong_row(alloc, Way::PassedOn, FAILING, 0, 16384))
 }

@@ -1,10 +1,9 @@
 //! Packets from readers that are skipped: whole, cut, ended, failing, and of several chunks.
 
 use crate::said::Said;
-use crate::taken::{self, Row, Taker, Way, wrong_row};
-use std::alloc::Global;
+use crate::taken::{self, Row, Step, Steps, Way, plays, wrong_row};
 use std::test::Fail;
-use test_support::facts::{all_hold, no_row, same};
+use test_support::facts::{self, no_row};
 
 // A packet, and the end.
 const ROW: Row = Row {
@@ -28,7 +27,7 @@ const ROWS: &[Row] = &[
     Row {
         parts: &[(b"\x01\0\0", 0)],
         said: &[Said::UnexpectedEnd, Said::UnexpectedEnd],
-        unread: b"\x01\0\0",
+        unread: Some(b"\x01\0\0"),
         ids_after: (0, 7),
         ..ROW
     },
@@ -69,7 +68,7 @@ const ROWS: &[Row] = &[
     Row {
         parts: &[(b"\x01\0\0\x05a\0", 0)],
         said: &[Said::OutOfSync, Said::OutOfSync],
-        unread: b"\0",
+        unread: Some(b"\0"),
         reads: Some(1),
         ids_after: (0, 7),
         ..ROW
@@ -78,7 +77,7 @@ const ROWS: &[Row] = &[
     Row {
         parts: &[(b"\x04\0\0\x001234", 0)],
         said: &[Said::TooLarge, Said::TooLarge],
-        unread: b"\x04\0\0\x001234",
+        unread: Some(b"\x04\0\0\x001234"),
         reads: Some(1),
         ids_after: (0, 7),
         ..ROW
@@ -87,7 +86,7 @@ const ROWS: &[Row] = &[
     Row {
         parts: &[(b"\x01\0\0\0a\x02\0\0\x01bc\x01\0", 0)],
         said: &[Said::Packet, Said::Packet],
-        unread: b"\x01\0",
+        unread: Some(b"\x01\0"),
         reads: Some(1),
         ids_after: (2, 7),
         ..ROW
@@ -174,8 +173,7 @@ const LONG_ROWS: &[Row] = &[
     },
 ];
 
-// No request is larger than the buffer
-// of one read and its growth.
+// No request is larger than the buffer of one read and its growth.
 #[test]
 fn each_packet_is_skipped(rt: HostRuntime) -> Result<(), Fail> {
     let alloc = rt.alloc();
@@ -185,68 +183,83 @@ fn each_packet_is_skipped(rt: HostRuntime) -> Result<(), Fail> {
 
 // ---- in the midst of a packet
 
-// A packet of which a full chunk is held, and one behind it.
-const HELD: &Row = &Row {
+// A packet of which a full chunk is held, and one behind it. Its read of some number fails.
+const HELD: Row = Row {
     parts: &[
         (b"\xff\xff\xff\0", 16777215),
         (b"\x01\0\0\x01", 1),
         (b"\x02\0\0\x02", 2),
     ],
     limit: 16777216,
+    out: b"\0\0",
     ..taken::ROW
 };
 
-// Whether it is skipped, and the one behind it handed out. The read behind this many fails.
-fn held_is_skipped(alloc: Global, until_fault: usize) -> bool {
-    let row = Row {
-        until_fault,
-        ..*HELD
-    };
-    let mut taker = Taker::new(alloc, alloc, alloc, &row);
-    let mut all = taker.says(Way::HandedOut) == Said::Io;
-    all &= taker.codec.sequence_id() == 1;
-    all &= taker.says(Way::Skipped) == Said::Packet;
-    all &= taker.says(Way::HandedOut) == Said::Packet;
-    all & same(taker.packets.as_slice(), b"\0\0") & (taker.codec.sequence_id() == 3)
-}
+// It is skipped, and the one behind it handed out.
+const HELD_STEPS: &[Step] = &[
+    Step::Says(Way::HandedOut, Said::Io),
+    Step::Id(1),
+    Step::Says(Way::Skipped, Said::Packet),
+    Step::Says(Way::HandedOut, Said::Packet),
+    Step::Id(3),
+];
 
 // A packet whose second read fails.
-const SHORT: &Row = &Row {
+const SHORT: Row = Row {
     parts: &[(b"\x03\0\0\0", 3)],
     until_fault: 1,
     ..taken::ROW
 };
 
-// Whether `can_skip` is false where the limit was lowered below the chunk that is open, and no
-// packet is handed out in the midst of one that is skipped.
-fn lower_limit_is_seen(alloc: Global) -> bool {
-    let mut taker = Taker::new(alloc, alloc, alloc, SHORT);
-    let mut all = taker.says(Way::Skipped) == Said::Io;
-    all &= (taker.says(Way::HandedOut) != Said::Packet) & (taker.reader.reads() == 2);
-    taker.codec.max_allowed_packet = 2;
-    all &= (taker.says(Way::Skipped) == Said::Wrong) & taker.reader.fits(&taker.codec);
-    taker.codec.max_allowed_packet = 3;
-    all & (taker.says(Way::Skipped) == Said::Packet) & (taker.codec.sequence_id() == 1)
-}
-
-// The same of a header that is remembered, of a packet that is not skipped yet.
-fn remembered_header_is_seen(alloc: Global) -> bool {
-    let mut taker = Taker::new(alloc, alloc, alloc, SHORT);
-    let mut all = taker.says(Way::HandedOut) == Said::Io;
-    all &= taker.reader.can_skip(&taker.codec);
-    taker.codec.max_allowed_packet = 2;
-    all &= (taker.says(Way::Skipped) == Said::Wrong) & !taker.reader.fits(&taker.codec);
-    taker.codec.max_allowed_packet = 3;
-    all & (taker.says(Way::Skipped) == Said::Packet)
-}
+const ON: &[Steps] = &[
+    (
+        Row {
+            until_fault: 2049,
+            ..HELD
+        },
+        HELD_STEPS,
+        0,
+    ),
+    (
+        Row {
+            until_fault: 2050,
+            ..HELD
+        },
+        HELD_STEPS,
+        0,
+    ),
+    // `can_skip` is false where the limit was lowered below the chunk that is open, and no packet is
+    // handed out in the midst of one that is skipped.
+    (
+        SHORT,
+        &[
+            Step::Says(Way::Skipped, Said::Io),
+            Step::Says(Way::HandedOut, Said::OutOfSync),
+            Step::Reads(2),
+            Step::Limit(2),
+            Step::Fits(true, false),
+            Step::Limit(3),
+            Step::Says(Way::Skipped, Said::Packet),
+            Step::Id(1),
+        ],
+        0,
+    ),
+    // The same of a header that is remembered, of a packet that is not skipped yet.
+    (
+        SHORT,
+        &[
+            Step::Says(Way::HandedOut, Said::Io),
+            Step::Fits(true, true),
+            Step::Limit(2),
+            Step::Fits(false, false),
+            Step::Limit(3),
+            Step::Says(Way::Skipped, Said::Packet),
+        ],
+        0,
+    ),
+];
 
 #[test]
 fn packets_are_skipped_from_their_midst(rt: HostRuntime) -> Result<(), Fail> {
-    let alloc = rt.alloc();
-    all_hold(&[
-        held_is_skipped(alloc, 2049),
-        held_is_skipped(alloc, 2050),
-        lower_limit_is_seen(alloc),
-        remembered_header_is_seen(alloc),
-    ])
+    no_row(facts::wrong_row(rt.alloc(), ON, plays))
 }

@@ -1,5 +1,6 @@
 //! Packets in spans and with other ids, row by row: each cutting of a small stream, limits and ids
-//! that refuse, and how a stream goes on; ids over 255; decoders in plain numbers.
+//! that refuse, and how a stream goes on; spans behind a codec, and a codec behind spans; ids over
+//! 255; decoders in plain numbers.
 
 use crate::spanned::{Renumbered, Spanned, decoder_of, each_cut};
 use mysql_wire::constants::MAX_PAYLOAD_LEN;
@@ -7,8 +8,9 @@ use mysql_wire::proto::codec::{Renumber, SpanDecoder, SpanError, SpanParts};
 use std::alloc::Global;
 use std::test::Fail;
 use test_support::facts::{all_hold, same};
-use test_support::receiver::are_packets;
+use test_support::receiver::{Receiver, are_packets};
 use test_support::reference::{between, low_byte};
+use test_support::told::Told;
 
 // What comes to a decoder, and what comes of it in spans and with other ids.
 #[derive(Clone, Copy)]
@@ -301,6 +303,35 @@ fn is_cut(alloc: Global, [front, middle, end]: [&[u8]; 3]) -> bool {
         .is_some()
 }
 
+// The first packet of the stream, and what comes behind it.
+const FRONT: &[u8] = b"\x03\0\0\xfeabc";
+
+const BEHIND: &[u8] = b"\0\0\0\xff\x01\0\0\0z\x02\0\0\x01";
+
+// Whether spans go on behind a codec that took the first packet.
+fn spans_go_on(alloc: Global) -> bool {
+    let mut receiver = Receiver::new(alloc, 9);
+    receiver.codec.set_sequence_id(254);
+    let mut all = receiver.deliver(&[FRONT]) == (1, Told::Waits);
+    let mut spanned = Spanned::new(alloc, decoder_of(receiver.codec.sequence_id(), 9));
+    spanned.feed(alloc, BEHIND);
+    all &= are_packets(spanned.packets.as_slice(), &[b"", b"z"]);
+    all & spanned.stop.is_none() & (spanned.decoder.sequence_id() == 2)
+}
+
+// Whether a codec goes on behind spans that brought it.
+fn a_codec_goes_on(alloc: Global) -> bool {
+    let mut spanned = Spanned::new(alloc, decoder_of(254, 9));
+    spanned.feed(alloc, FRONT);
+    let mut receiver = Receiver::new(alloc, 9);
+    receiver
+        .codec
+        .set_sequence_id(spanned.decoder.sequence_id());
+    let run = receiver.deliver(&[BEHIND]);
+    let is_between = spanned.decoder.is_between_packets();
+    is_between & (run == (1, Told::Waits)) & receiver.shows(&[b"", b"z"], b"\x02\0\0\x01", b"")
+}
+
 // Whether 600 small packets, or 257 empty ones, pass the id 255.
 fn ids_begin_again(alloc: Global) -> bool {
     let mut spanned = Spanned::new(alloc, decoder_of(0, 0));
@@ -334,6 +365,8 @@ fn streams_go_in_spans_and_with_other_ids(rt: HostRuntime) -> Result<(), Fail> {
         each_cut(alloc, STREAM, is_cut),
         ids_begin_again(alloc),
         other_ids_begin_again(alloc),
+        spans_go_on(alloc),
+        a_codec_goes_on(alloc),
     ])
 }
 

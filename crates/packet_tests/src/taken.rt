@@ -1,14 +1,14 @@
-//! How packets are taken from a reader: each call that takes one, and what is heard of it.
+//! How packets are taken from a reader and put into a writer: each call, and what it says.
 
-use crate::said::{Said, said_of};
+use crate::said::{Said, said_by, said_of};
 use mysql_wire::proto::codec::PacketCodec;
 use mysql_wire::proto::packet_io::{PacketIoError, PacketReader, PacketWriter};
 use refusing_allocator::{NEVER, Refusing};
-use std::alloc::{Allocator, Global};
+use std::alloc::Global;
 use std::io::ErrorKind;
 use test_support::facts::same;
+use test_support::fixture::Heap;
 use test_support::readers::{Narrow, Parts};
-use test_support::reference::between;
 
 /// How a packet is taken.
 #[derive(Clone, Copy)]
@@ -17,8 +17,8 @@ pub enum Way {
     HandedOut,
     /// By `fill_packet`, `packet` and `take_packet`.
     Lent,
-    /// By `fill_packet`, twice, and then `next_packet`.
-    LentAndHandedOut,
+    /// By `fill_packet` alone.
+    Filled,
     /// By `skip_packet`.
     Skipped,
     /// By `copy_packet`.
@@ -44,12 +44,12 @@ pub struct Row<'a> {
     pub ids: (u8, u8),
     pub ids_after: (u8, u8),
     pub said: &'a [Said],
-    /// What is handed out or written, and how many zeros behind it.
+    /// What is handed out or written, and how many bytes behind it.
     pub out: &'a [u8],
     pub zeros: usize,
     pub pending: &'a [u8],
-    pub unread: &'a [u8],
-    /// How many reads there are, where that is looked at.
+    /// What is unread, and how many reads there are, where that is looked at.
+    pub unread: Option<&'a [u8]>,
     pub reads: Option<u64>,
 }
 
@@ -68,9 +68,36 @@ pub const ROW: Row = Row {
     out: b"",
     zeros: 0,
     pending: b"",
-    unread: b"",
+    unread: Some(b""),
     reads: None,
 };
+
+/// One thing that a taker does, or that is looked at.
+#[derive(Clone, Copy)]
+pub enum Step {
+    /// The limit of the reader's codec becomes this one.
+    Limit(usize),
+    /// The request for memory of this number, counted from 0 at this step, is refused.
+    Refuse(u64),
+    /// A packet is taken, and this is said.
+    Says(Way, Said),
+    /// A packet is put into the writer, under the id that the reader's codec has.
+    Queues(&'static [u8], Said),
+    /// What is pending is written.
+    Writes(Said),
+    /// These bytes were handed out.
+    Has(&'static [u8]),
+    /// These bytes are pending.
+    Pending(&'static [u8]),
+    /// This packet is lent.
+    Lends(&'static [u8]),
+    /// The id that the reader's codec expects.
+    Id(u8),
+    /// So many reads were made.
+    Reads(u64),
+    /// Whether the reader fits its codec, and whether it can skip.
+    Fits(bool, bool),
+}
 
 fn said_if(answer: Result<bool, PacketIoError>) -> Said {
     match answer {
@@ -88,21 +115,21 @@ fn codec_at(id: u8, limit: usize) -> PacketCodec {
     codec
 }
 
-/// A reader and its codec, and where packets go: those that are handed out, that are copied, and
-/// that are passed on.
+/// A reader and its codec, where packets go that are handed out or copied, and a writer to which
+/// they are passed on.
 #[derive(Drop)]
-pub struct Taker<'a, A: Allocator + Copy, B: Allocator + Copy> {
-    pub codec: PacketCodec,
-    pub reader: PacketReader<Parts<'a>, A>,
-    pub packets: Vec<u8>,
-    pub copies: Narrow,
-    pub writer: PacketWriter<Narrow, B>,
-    pub writer_codec: PacketCodec,
+pub struct Taker<'a> {
+    heap: &'a Heap,
+    codec: PacketCodec,
+    reader: PacketReader<Parts<'a>, &'a Heap>,
+    out: Narrow,
+    writer: PacketWriter<Narrow, &'a Heap>,
+    writer_codec: PacketCodec,
 }
 
-impl<'a, A: Allocator + Copy, B: Allocator + Copy> Taker<'a, A, B> {
+impl<'a> Taker<'a> {
     /// Nothing is taken yet.
-    pub fn new(alloc: A, other: B, kept: Global, row: &Row<'a>) -> Self {
+    pub fn new(heap: &'a Heap, kept: Global, row: &Row<'a>) -> Self {
         let input = Parts::new(
             row.parts,
             row.at_once,
@@ -111,11 +138,11 @@ impl<'a, A: Allocator + Copy, B: Allocator + Copy> Taker<'a, A, B> {
         );
         let output = Narrow::new(kept, row.room, row.until_refusal, ErrorKind::BrokenPipe);
         Taker {
+            heap,
             codec: codec_at(row.ids.0, row.limit),
-            reader: PacketReader::new(alloc, input).unwrap(),
-            packets: Vec::new(kept),
-            copies: Narrow::new(kept, row.room, row.until_refusal, ErrorKind::BrokenPipe),
-            writer: PacketWriter::new(other, output).unwrap(),
+            reader: PacketReader::new(heap, input).unwrap(),
+            out: Narrow::new(kept, row.room, row.until_refusal, ErrorKind::BrokenPipe),
+            writer: PacketWriter::new(heap, output).unwrap(),
             writer_codec: codec_at(row.ids.1, 0),
         }
     }
@@ -127,7 +154,7 @@ impl<'a, A: Allocator + Copy, B: Allocator + Copy> Taker<'a, A, B> {
         }
         match self.reader.next_packet(&mut self.codec) {
             Ok(Some(packet)) => {
-                let _ = self.packets.extend_from_slice(packet.as_slice());
+                let _ = self.out.taken.extend_from_slice(packet.as_slice());
                 Said::Packet
             }
             Ok(None) => Said::End,
@@ -135,44 +162,22 @@ impl<'a, A: Allocator + Copy, B: Allocator + Copy> Taker<'a, A, B> {
         }
     }
 
-    /// Has a packet ready by `fill_packet`.
-    pub fn fills(&mut self) -> Said {
+    // Has a packet ready by `fill_packet`.
+    fn fills(&mut self) -> Said {
         if !self.reader.fits(&self.codec) {
             return Said::Wrong;
         }
         said_if(self.reader.fill_packet(&mut self.codec))
     }
 
-    /// Takes the packet that is ready, behind the others.
-    pub fn takes(&mut self) -> Said {
-        if !self.reader.is_ready(&self.codec) {
-            return Said::Wrong;
-        }
-        let _ = self.packets.extend_from_slice(self.reader.packet());
-        self.reader.take_packet();
-        Said::Packet
-    }
-
-    // A packet that is looked at twice is read once.
-    fn fills_twice(&mut self) -> Said {
-        let said = self.fills();
-        let reads = self.reader.reads();
-        if said != Said::Packet {
-            return said;
-        }
-        if (self.fills() != Said::Packet) | (self.reader.reads() != reads) {
-            return Said::Wrong;
-        }
-        self.hands_out()
-    }
-
+    // Has a packet ready, and takes it behind the others.
     fn lends(&mut self) -> Said {
         let said = self.fills();
         if said == Said::Packet {
-            self.takes()
-        } else {
-            said
+            let _ = self.out.taken.extend_from_slice(self.reader.packet());
+            self.reader.take_packet();
         }
+        said
     }
 
     fn skips(&mut self) -> Said {
@@ -186,7 +191,7 @@ impl<'a, A: Allocator + Copy, B: Allocator + Copy> Taker<'a, A, B> {
         if !self.reader.can_copy(&self.codec) {
             return Said::Wrong;
         }
-        said_if(self.reader.copy_packet(&mut self.codec, &mut self.copies))
+        said_if(self.reader.copy_packet(&mut self.codec, &mut self.out))
     }
 
     fn passes_on(&mut self) -> Said {
@@ -199,177 +204,147 @@ impl<'a, A: Allocator + Copy, B: Allocator + Copy> Taker<'a, A, B> {
         )
     }
 
-    /// Puts a packet into the writer, under the id that the reader's codec has.
-    pub fn queues(&mut self, packet: &[u8]) -> bool {
-        let mut packet = packet;
-        self.writer.queue(&mut self.codec, &mut packet).is_ok()
+    // Puts a packet into the writer. One that is refused stays as it is.
+    fn queues(&mut self, bytes: &[u8]) -> Said {
+        let mut packet = bytes;
+        let said = said_by(self.writer.queue(&mut self.codec, &mut packet));
+        let left = if said == Said::Done { 0 } else { bytes.len() };
+        if packet.len() == left {
+            said
+        } else {
+            Said::Wrong
+        }
     }
 
-    /// One call.
-    pub fn says(&mut self, way: Way) -> Said {
+    // One call.
+    fn says(&mut self, way: Way) -> Said {
         match way {
             Way::HandedOut => self.hands_out(),
             Way::Lent => self.lends(),
-            Way::LentAndHandedOut => self.fills_twice(),
+            Way::Filled => self.fills(),
             Way::Skipped => self.skips(),
             Way::Copied => self.copies(),
             Way::PassedOn => self.passes_on(),
         }
     }
 
-    // Calls so often, and once more after each refusal of memory.
-    fn goes(&mut self, way: Way, calls: usize, limit: usize, heard: &mut Heard) {
-        for _ in 0..calls {
+    // Whether the calls say this, where each is made once more after a refusal of memory.
+    fn says_all(&mut self, way: Way, row: &Row) -> bool {
+        let mut all = true;
+        for wanted in row.said {
             let mut said = self.says(way);
             if said == Said::OutOfMemory {
                 said = self.says(way);
             }
-            let _ = heard.said.push(said);
-            self.codec.max_allowed_packet = limit;
-        }
-    }
-
-    // What there is in the end.
-    fn tells(self, heard: &mut Heard) {
-        let ids = (self.codec.sequence_id(), self.writer_codec.sequence_id());
-        let _ = heard.unread.extend_from_slice(self.reader.unread());
-        let _ = heard.pending.extend_from_slice(self.writer.pending());
-        let _ = heard.out.extend_from_slice(self.packets.as_slice());
-        let _ = heard.out.extend_from_slice(self.copies.taken.as_slice());
-        heard.ids = ids;
-        heard.reads = self.reader.reads();
-        heard.flushes = self.copies.flushes;
-        let Taker { reader, writer, .. } = self;
-        heard.odd_reads = reader.into_inner().odd_reads;
-        let _ = heard
-            .out
-            .extend_from_slice(writer.into_inner().taken.as_slice());
-    }
-}
-
-/// What a reader and a writer said, call after call; what was handed out or written, what is
-/// pending, and what is unread in the end; how many reads there were, how many of them weren't of
-/// 8192 bytes, and how often a copy was flushed; the ids that come next; whether a request for
-/// memory was refused, and the largest one.
-#[derive(Drop)]
-pub struct Heard {
-    pub said: Vec<Said>,
-    pub out: Vec<u8>,
-    pub pending: Vec<u8>,
-    pub unread: Vec<u8>,
-    pub reads: u64,
-    pub odd_reads: usize,
-    pub flushes: usize,
-    pub ids: (u8, u8),
-    pub refused: bool,
-    pub largest: usize,
-}
-
-fn said_nothing(alloc: Global) -> Heard {
-    Heard {
-        said: Vec::new(alloc),
-        out: Vec::new(alloc),
-        pending: Vec::new(alloc),
-        unread: Vec::new(alloc),
-        reads: 0,
-        odd_reads: 1,
-        flushes: 0,
-        ids: (0, 0),
-        refused: false,
-        largest: 0,
-    }
-}
-
-impl Heard {
-    // Takes a row's packets, so many bytes a read, with the memory of the reader and that of the
-    // writer.
-    fn listen<A, B>(&mut self, alloc: A, other: B, way: Way, row: &Row)
-    where
-        A: Allocator + Copy,
-        B: Allocator + Copy,
-    {
-        let kept = *self.said.allocator();
-        let mut taker = Taker::new(alloc, other, kept, row);
-        taker.goes(way, row.said.len(), row.later_limit, self);
-        taker.tells(self);
-    }
-
-    /// Whether this was said, and this was handed out or written.
-    pub fn is_said(&self, said: &[Said], out: &[u8], zeros: usize) -> bool {
-        let (front, behind) = self.out.as_slice().split_at(out.len().min(self.out.len()));
-        (self.said.as_slice() == said) & same(front, out) & (behind.len() == zeros)
-    }
-
-    // Whether zeros alone were handed out behind these bytes.
-    fn are_zeros(&self, out: &[u8]) -> bool {
-        let mut all = true;
-        for byte in between(self.out.as_slice(), out.len(), self.out.len()) {
-            all &= *byte == 0;
+            all &= said == *wanted;
+            self.codec.max_allowed_packet = row.later_limit;
         }
         all
     }
 
-    // Whether this is left behind.
-    fn is_left(&self, pending: &[u8], unread: &[u8], ids: (u8, u8)) -> bool {
-        same(self.pending.as_slice(), pending)
-            & same(self.unread.as_slice(), unread)
-            & (self.ids == ids)
-            & (self.odd_reads == 0)
-            & (self.flushes == 0)
+    // Whether all is as the step says.
+    fn shows(&self, step: Step) -> bool {
+        match step {
+            Step::Has(out) => same(self.out.taken.as_slice(), out),
+            Step::Pending(bytes) => same(self.writer.pending(), bytes),
+            Step::Lends(packet) => same(self.reader.packet(), packet),
+            Step::Id(id) => self.codec.sequence_id() == id,
+            Step::Reads(reads) => self.reader.reads() == reads,
+            Step::Fits(fits, can_skip) => {
+                let is_fit = self.reader.fits(&self.codec) == fits;
+                is_fit & (self.reader.can_skip(&self.codec) == can_skip)
+            }
+            _ => true,
+        }
     }
 
-    // Whether all is as the row says.
-    fn is_as(&self, row: &Row) -> bool {
-        self.is_said(row.said, row.out, row.zeros)
-            & self.is_left(row.pending, row.unread, row.ids_after)
-            & (self.reads == row.reads.unwrap_or(self.reads))
+    // Whether the step goes as it says.
+    fn goes(&mut self, step: Step) -> bool {
+        let (said, wanted) = match step {
+            Step::Says(way, wanted) => (self.says(way), wanted),
+            Step::Queues(packet, wanted) => (self.queues(packet), wanted),
+            Step::Writes(wanted) => (said_by(self.writer.write_pending()), wanted),
+            _ => {
+                self.changes(step);
+                return self.shows(step);
+            }
+        };
+        said == wanted
     }
 
-    // Whether all is as another one has it.
-    fn is_alike(&self, other: &Heard) -> bool {
-        let out = other.out.as_slice();
-        self.is_said(other.said.as_slice(), out, 0)
-            & self.is_left(other.pending.as_slice(), other.unread.as_slice(), other.ids)
-            & (self.reads == other.reads)
+    fn changes(&mut self, step: Step) {
+        match step {
+            Step::Limit(limit) => self.codec.max_allowed_packet = limit,
+            Step::Refuse(nth) => self.heap.refuse(nth),
+            _ => {}
+        }
+    }
+
+    // Whether all steps go as they say.
+    fn goes_on(&mut self, steps: &[Step]) -> bool {
+        let mut all = true;
+        for step in steps {
+            all &= self.goes(*step);
+        }
+        all
+    }
+
+    // Whether this is unread and pending, and these ids are next.
+    fn is_left(&self, row: &Row) -> bool {
+        let unread = self.reader.unread();
+        same(unread, row.unread.unwrap_or(unread))
+            & same(self.writer.pending(), row.pending)
+            & (self.codec.sequence_id() == row.ids_after.0)
+            & (self.writer_codec.sequence_id() == row.ids_after.1)
+            & (self.reader.reads() == row.reads.unwrap_or(self.reader.reads()))
+    }
+
+    // Whether what was handed out or written is as the row says, each read was of 8192 bytes, and
+    // no copy was flushed. And how often the writer was.
+    fn ends(self, row: &Row) -> (bool, usize) {
+        let Taker {
+            reader,
+            out,
+            writer,
+            ..
+        } = self;
+        let sent = writer.into_inner();
+        let is_out = row.is_out(out.taken.as_slice()) | row.is_out(sent.taken.as_slice());
+        let len = out.taken.len().saturating_add(sent.taken.len());
+        let all = is_out & (len == row.out.len().saturating_add(row.zeros));
+        let is_even = (reader.into_inner().odd_reads == 0) & (out.flushes == 0);
+        (all & is_even, sent.flushes)
     }
 }
 
-/// What is heard of a row where this request of the reader for memory is refused. Where none is,
-/// the requests of the writer count too.
-pub fn hear(alloc: Global, nth: u64, way: Way, row: &Row) -> Heard {
-    let heap = Refusing::new(alloc, nth);
-    let mut heard = said_nothing(alloc);
-    if nth == NEVER {
-        heard.listen(&heap, &heap, way, row);
-    } else {
-        heard.listen(&heap, alloc, way, row);
+impl Row<'_> {
+    // Whether this was handed out or written.
+    fn is_out(&self, bytes: &[u8]) -> bool {
+        match bytes.strip_prefix(self.out) {
+            Some(rest) => rest.len() == self.zeros,
+            None => false,
+        }
     }
-    heard.refused = heap.has_refused();
-    heard.largest = heap.largest();
-    heard
+}
+
+// Whether packets are taken from a row's reader as it says.
+fn is_taken(heap: &Heap, kept: Global, way: Way, row: &Row) -> bool {
+    let mut taker = Taker::new(heap, kept, row);
+    let all = taker.says_all(way, row) & taker.is_left(row);
+    all & taker.ends(row).0
 }
 
 /// Whether a row goes as it says by a way, where no request for memory is refused, and where each
 /// of so many is, of which the last is not made. None is larger than `largest`.
 pub fn goes(alloc: Global, way: Way, row: &Row, requests: u64, largest: usize) -> bool {
-    let heard = hear(alloc, NEVER, way, row);
-    let mut all = heard.is_as(row) & (heard.largest <= largest);
+    let heap = Refusing::new(alloc, NEVER);
+    let mut all = is_taken(&heap, alloc, way, row) & (heap.largest() <= largest);
     for nth in 0..requests {
-        let heard = hear(alloc, nth, way, row);
-        all &= heard.is_as(row) & (!heard.refused | (nth + 1 < requests));
+        heap.refuse(nth);
+        all &= is_taken(&heap, alloc, way, row);
+        all &= !heap.has_refused() | (nth + 1 < requests);
     }
     all
-}
-
-/// Whether packets are handed out and lent alike, so many bytes a read; and as the row says, where
-/// it says that.
-pub fn goes_alike(alloc: Global, row: &Row, at_once: usize, as_said: bool) -> bool {
-    let row = Row { at_once, ..*row };
-    let first = hear(alloc, NEVER, Way::HandedOut, &row);
-    let mut all = first.is_said(row.said, row.out, row.zeros) & first.are_zeros(row.out) | !as_said;
-    all &= first.said.len() == row.said.len();
-    all &= hear(alloc, NEVER, Way::Lent, &row).is_alike(&first);
-    all & hear(alloc, NEVER, Way::LentAndHandedOut, &row).is_alike(&first)
 }
 
 /// The number of a row that goes otherwise by a way, counted from 0, if there is one.
@@ -387,4 +362,15 @@ pub fn wrong_row(
         }
     }
     wrong
+}
+
+/// A row, and what is done one after another; and what was sent and how often the writer was
+/// flushed in the end.
+pub type Steps = (Row<'static>, &'static [Step], usize);
+
+/// Whether the steps go as they say.
+pub fn plays(alloc: Global, (row, steps, flushes): Steps) -> bool {
+    let heap = Refusing::new(alloc, NEVER);
+    let mut taker = Taker::new(&heap, alloc, &row);
+    taker.goes_on(steps) & (taker.ends(&row) == (true, flushes))
 }

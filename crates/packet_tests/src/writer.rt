@@ -1,106 +1,165 @@
-//! Packets to writers: in parts, to one that fails, to one that takes nothing.
+//! Packets to writers: in parts, to one that fails, to one that takes nothing; refused; and as
+//! answers to what a reader hands out or lends.
 
-use crate::said::{Said, said_by};
-use mysql_wire::proto::codec::PacketCodec;
-use mysql_wire::proto::packet_io::PacketWriter;
-use refusing_allocator::{NEVER, Refusing};
-use std::alloc::{Allocator, Global};
-use std::io::ErrorKind;
+use crate::said::Said;
+use crate::taken::{self, Row, Step, Steps, Way, plays};
 use std::test::Fail;
-use test_support::facts::{no_row, same};
-use test_support::fixture::Heap;
-use test_support::readers::Narrow;
-use test_support::reference::between;
+use test_support::facts::{no_row, wrong_row};
 
 const FRAMED: &[u8] = b"\x03\0\0\0123";
 
-// Two calls: what the first and the second answer, and what is pending between them. In the end the
-// packet went out, and there was one flush for each call that was done.
-fn is_written<A: Allocator + Copy>(
-    alloc: A,
-    output: Narrow,
-    first: Said,
-    second: Said,
-    left: &[u8],
-) -> bool {
-    let mut writer = PacketWriter::new(alloc, output).unwrap();
-    let mut codec = PacketCodec::default();
-    let mut packet = b"123".as_slice();
-    let mut all = writer.queue(&mut codec, &mut packet).is_ok();
-    all &= same(writer.pending(), FRAMED);
-    all &= said_by(writer.write_pending()) == first;
-    all &= same(writer.pending(), left);
-    all &= said_by(writer.write_pending()) == second;
-    let pending = writer.pending().len();
-    let sent = FRAMED.len().saturating_sub(pending);
-    let done = usize::from(first == Said::Done) + usize::from(second == Said::Done);
-    all & is_sent(writer.into_inner(), sent, done)
-}
+const QUEUED: Step = Step::Queues(b"123", Said::Done);
 
-// Whether so many bytes of the packet were taken, and there were so many flushes.
-fn is_sent(output: Narrow, sent: usize, flushes: usize) -> bool {
-    same(output.taken.as_slice(), between(FRAMED, 0, sent)) & (output.flushes == flushes)
-}
+// A writer that takes three bytes a write: the third takes the last one, and the fourth call is the
+// flush.
+const THREE: Row = Row {
+    room: 3,
+    out: FRAMED,
+    ..taken::ROW
+};
 
-// Whether a packet is refused under this limit, or where this request for memory is, and what was
-// pending stays.
-fn is_unchanged<A: Allocator + Copy>(
-    heap: &Heap,
-    alloc: A,
-    output: Narrow,
-    limit: usize,
-    nth: u64,
-    wanted: Said,
-) -> bool {
-    let mut writer = PacketWriter::new(alloc, output).unwrap();
-    let mut codec = PacketCodec::default();
-    let mut first = b"123".as_slice();
-    let mut all = writer.queue(&mut codec, &mut first).is_ok();
-    codec.max_allowed_packet = limit;
-    let mut packet = [7; 5000].as_slice();
-    heap.refuse(nth);
-    all &= said_by(writer.queue(&mut codec, &mut packet)) == wanted;
-    all &= heap.has_refused() == (wanted == Said::OutOfMemory);
-    heap.refuse(NEVER);
-    all & same(writer.pending(), FRAMED) & (packet.len() == 5000)
-}
+const NONE: Row = Row {
+    room: 0,
+    ..taken::ROW
+};
 
-const COUNT: usize = 6;
+// More than a buffer has room for that holds a few bytes.
+const LONG: &[u8] = &[7; 200];
 
-// How many bytes are taken a write, and the call that fails; what two calls answer, and what is
-// pending between them. Of three bytes a write the third takes the last one, and the fourth call is
-// the flush.
-const CALLS: &[(usize, usize, Said, Said, &[u8]); COUNT] = &[
-    (3, 0, Said::Io, Said::Done, FRAMED),
-    (3, 1, Said::Io, Said::Done, b"\x00123"),
-    (3, 2, Said::Io, Said::Done, b"3"),
-    (3, 3, Said::Io, Said::Done, b""),
-    (3, usize::MAX, Said::Done, Said::Done, b""),
-    (0, usize::MAX, Said::WriteZero, Said::WriteZero, FRAMED),
+// A packet that answers a command, and two commands.
+const ANSWER: Row = Row {
+    parts: &[(b"\x01\0\0\x01\x02", 0)],
+    out: b"\x02",
+    ..taken::ROW
+};
+
+const ASKED: Row = Row {
+    parts: &[(b"\x01\0\0\0a\x01\0\0\x02b", 0)],
+    out: b"ab",
+    ..taken::ROW
+};
+
+const ROWS: &[Steps] = &[
+    (
+        Row {
+            until_refusal: 0,
+            ..THREE
+        },
+        &[
+            QUEUED,
+            Step::Pending(FRAMED),
+            Step::Writes(Said::Io),
+            Step::Pending(FRAMED),
+            Step::Writes(Said::Done),
+        ],
+        1,
+    ),
+    (
+        Row {
+            until_refusal: 1,
+            ..THREE
+        },
+        &[
+            QUEUED,
+            Step::Writes(Said::Io),
+            Step::Pending(b"\x00123"),
+            Step::Writes(Said::Done),
+        ],
+        1,
+    ),
+    (
+        Row {
+            until_refusal: 2,
+            ..THREE
+        },
+        &[
+            QUEUED,
+            Step::Writes(Said::Io),
+            Step::Pending(b"3"),
+            Step::Writes(Said::Done),
+        ],
+        1,
+    ),
+    (
+        Row {
+            until_refusal: 3,
+            ..THREE
+        },
+        &[
+            QUEUED,
+            Step::Writes(Said::Io),
+            Step::Pending(b""),
+            Step::Writes(Said::Done),
+        ],
+        1,
+    ),
+    (
+        THREE,
+        &[
+            QUEUED,
+            Step::Writes(Said::Done),
+            Step::Pending(b""),
+            Step::Writes(Said::Done),
+        ],
+        2,
+    ),
+    (
+        NONE,
+        &[
+            QUEUED,
+            Step::Writes(Said::WriteZero),
+            Step::Writes(Said::WriteZero),
+            Step::Pending(FRAMED),
+        ],
+        0,
+    ),
+    // What is refused changes nothing.
+    (
+        NONE,
+        &[
+            QUEUED,
+            Step::Limit(2),
+            Step::Queues(LONG, Said::TooLarge),
+            Step::Pending(FRAMED),
+            Step::Limit(200),
+            Step::Refuse(0),
+            Step::Queues(LONG, Said::OutOfMemory),
+            Step::Pending(FRAMED),
+            Step::Id(1),
+        ],
+        0,
+    ),
+    // A writer and then a reader go by one id.
+    (
+        ANSWER,
+        &[
+            Step::Queues(b"\x01", Said::Done),
+            Step::Says(Way::HandedOut, Said::Packet),
+            Step::Has(b"\x02"),
+        ],
+        0,
+    ),
+    // An answer that is queued while its command is lent is numbered on from it, and the command is
+    // the same until it is taken. One that is looked at twice is read once.
+    (
+        ASKED,
+        &[
+            Step::Says(Way::Filled, Said::Packet),
+            Step::Queues(b"ok", Said::Done),
+            Step::Pending(b"\x02\0\0\x01ok"),
+            Step::Lends(b"a"),
+            Step::Says(Way::Filled, Said::Packet),
+            Step::Reads(1),
+            Step::Says(Way::Lent, Said::Packet),
+            Step::Says(Way::Filled, Said::Packet),
+            Step::Lends(b"b"),
+            Step::Says(Way::HandedOut, Said::Packet),
+        ],
+        0,
+    ),
 ];
-
-// A row that goes otherwise, or the place behind them where a refusal changes something.
-fn wrong_row<A: Allocator + Copy>(heap: &Heap, alloc: A, kept: Global) -> Option<usize> {
-    let mut wrong = None;
-    for (i, row) in CALLS.iter().enumerate() {
-        let (at_once, until_fault, first, second, left) = *row;
-        let output = Narrow::new(kept, at_once, until_fault, ErrorKind::Other);
-        if !is_written(alloc, output, first, second, left) {
-            wrong = Some(i);
-        }
-    }
-    for (limit, nth, wanted) in [(2, NEVER, Said::TooLarge), (9999, 0, Said::OutOfMemory)] {
-        let output = Narrow::new(kept, 9, usize::MAX, ErrorKind::Other);
-        if !is_unchanged(heap, alloc, output, limit, nth, wanted) {
-            wrong = Some(COUNT);
-        }
-    }
-    wrong
-}
 
 #[test]
 fn what_is_pending_is_written_or_stays(rt: HostRuntime) -> Result<(), Fail> {
-    let alloc = rt.alloc();
-    let heap = &Refusing::new(alloc, NEVER);
-    no_row(wrong_row(heap, heap, alloc))
+    no_row(wrong_row(rt.alloc(), ROWS, plays))
 }
