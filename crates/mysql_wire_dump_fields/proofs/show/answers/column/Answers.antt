@@ -1,12 +1,9 @@
 use Rattle.std.proofs.Common.{refl}
-use Rattle.mysql_wire_dump_fields.specs.AnswerFields.{column_fields}
-use Rattle.mysql_wire_dump_fields.proofs.FieldLemmas.{puts_then}
+use Rattle.std.specs.Prelude.{codes}
+use Rattle.mysql_wire_dump_fields.specs.Packets.{Column}
+use Rattle.mysql_wire_dump_fields.proofs.PacketLemmas.{puts_fields}
 use Rattle.mysql_wire_dump_fields.proofs.show.answers.column.Goals as goal
 
 pub returns : goal.returns
 returns g c =
-    record {
-      members = column_fields c.args.packet.now;
-      has = refl;
-      puts = puts_then c.in_ok-column_names.ensures (puts_then c.in_ok-put_bytes_if.ensures (puts_then c.in_ok-number.ensures (puts_then c.in_ok-number-2.ensures (puts_then c.in_ok-number-3.ensures (puts_then c.in_ok-flags.ensures c.in_ok-number-4.ensures)))));
-    }
+    puts_fields c.put_all.result (Column c.args.packet.now) _ c.args.fields.now c.put_all.new.self c.put_all.ensures (rw (c.as_slice.ensures.value, c.as_slice-2.ensures.value, c.as_slice-3.ensures.value, c.as_slice-4.ensures.value, c.as_slice-5.ensures.value, c.as_slice-6.ensures.value, c.bytes_if.ensures (codes "extended_metadata")) refl)

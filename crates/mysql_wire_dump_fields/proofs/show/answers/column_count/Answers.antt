@@ -1,12 +1,10 @@
+use Rattle.std.proofs.lemmas.List.{append-nil}
 use Rattle.std.proofs.Common.{refl}
-use Rattle.mysql_wire_dump_fields.specs.AnswerFields.{column_count_fields}
-use Rattle.mysql_wire_dump_fields.proofs.FieldLemmas.{puts_then}
+use Rattle.std.specs.Prelude.{codes}
+use Rattle.mysql_wire_dump_fields.specs.Packets.{Columns}
+use Rattle.mysql_wire_dump_fields.proofs.PacketLemmas.{puts_fields}
 use Rattle.mysql_wire_dump_fields.proofs.show.answers.column_count.Goals as goal
 
 pub returns : goal.returns
 returns g c =
-    record {
-      members = column_count_fields c.args.packet.now;
-      has = refl;
-      puts = puts_then c.in_ok-put_number_if.ensures (puts_then c.in_ok-number.ensures c.in_ok-put_number_if-2.ensures);
-    }
+    puts_fields c.put_all.result (Columns c.args.packet.now) _ c.args.fields.now c.put_all.new.self c.put_all.ensures (rw (c.number_if.ensures (codes "metadata_follows"), c.number_if-2.ensures (codes "mariadb_metadata_follows"), append-nil) refl)

@@ -1,12 +1,10 @@
+use Rattle.std.proofs.lemmas.List.{append-nil}
 use Rattle.std.proofs.Common.{refl}
-use Rattle.mysql_wire_dump_fields.specs.AnswerFields.{ok_fields}
-use Rattle.mysql_wire_dump_fields.proofs.FieldLemmas.{puts_then}
+use Rattle.std.specs.Prelude.{codes}
+use Rattle.mysql_wire_dump_fields.specs.Packets.{Done}
+use Rattle.mysql_wire_dump_fields.proofs.PacketLemmas.{puts_fields}
 use Rattle.mysql_wire_dump_fields.proofs.show.answers.ok.Goals as goal
 
 pub returns : goal.returns
 returns g c =
-    record {
-      members = ok_fields c.args.packet.now;
-      has = refl;
-      puts = puts_then c.in_ok-number.ensures (puts_then c.in_ok-number-2.ensures (puts_then c.in_ok-flags.ensures (puts_then c.in_ok-number-3.ensures (puts_then c.in_ok-put_side_if.ensures c.in_ok-put_bytes_if.ensures))));
-    }
+    puts_fields c.put_all.result (Done _ c.args.packet.now) _ c.args.fields.now c.put_all.new.self c.put_all.ensures (rw (c.side_if.ensures (codes "info"), c.bytes_if.ensures (codes "session_state_info"), append-nil) refl)

@@ -1,12 +1,8 @@
 use Rattle.std.proofs.Common.{refl}
-use Rattle.mysql_wire_dump_fields.specs.AnswerFields.{prepared_fields}
-use Rattle.mysql_wire_dump_fields.proofs.FieldLemmas.{puts_then}
+use Rattle.mysql_wire_dump_fields.specs.Packets.{Prepared}
+use Rattle.mysql_wire_dump_fields.proofs.PacketLemmas.{puts_fields}
 use Rattle.mysql_wire_dump_fields.proofs.show.answers.prepared.Goals as goal
 
 pub returns : goal.returns
 returns g c =
-    record {
-      members = prepared_fields c.args.packet.now;
-      has = refl;
-      puts = puts_then c.in_ok-number.ensures (puts_then c.in_ok-number-2.ensures (puts_then c.in_ok-number-3.ensures c.in_ok-number-4.ensures));
-    }
+    puts_fields c.put_all.result (Prepared c.args.packet.now) _ c.args.fields.now c.put_all.new.self c.put_all.ensures refl

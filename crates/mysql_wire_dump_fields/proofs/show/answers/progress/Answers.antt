@@ -1,12 +1,8 @@
 use Rattle.std.proofs.Common.{refl}
-use Rattle.mysql_wire_dump_fields.specs.AnswerFields.{progress_fields}
-use Rattle.mysql_wire_dump_fields.proofs.FieldLemmas.{puts_then}
+use Rattle.mysql_wire_dump_fields.specs.Packets.{Progress}
+use Rattle.mysql_wire_dump_fields.proofs.PacketLemmas.{puts_fields}
 use Rattle.mysql_wire_dump_fields.proofs.show.answers.progress.Goals as goal
 
 pub returns : goal.returns
 returns g c =
-    record {
-      members = progress_fields c.args.packet.now;
-      has = refl;
-      puts = puts_then c.in_ok-number.ensures (puts_then c.in_ok-number-2.ensures (puts_then c.in_ok-number-3.ensures (puts_then c.in_ok-number-4.ensures c.in_ok-put_words.ensures)));
-    }
+    puts_fields c.put_all.result (Progress c.args.packet.now) _ c.args.fields.now c.put_all.new.self c.put_all.ensures (rw c.as_slice.ensures.value refl)

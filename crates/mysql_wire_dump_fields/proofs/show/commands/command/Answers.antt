@@ -1,11 +1,8 @@
 use Rattle.std.proofs.Common.{refl}
-use Rattle.mysql_wire_dump_fields.specs.CommandFields.{plain_fields}
+use Rattle.mysql_wire_dump_fields.specs.Packets.{Command}
+use Rattle.mysql_wire_dump_fields.proofs.PacketLemmas.{puts_fields}
 use Rattle.mysql_wire_dump_fields.proofs.show.commands.command.Goals as goal
 
 pub returns : goal.returns
 returns g c =
-    record {
-      members = plain_fields c.args.command.now;
-      has = refl;
-      puts = c.in_ok-put_plain.ensures;
-    }
+    puts_fields c.put_plain.result (Command c.args.command.now) _ c.args.fields.now c.put_plain.new.fields c.put_plain.ensures refl

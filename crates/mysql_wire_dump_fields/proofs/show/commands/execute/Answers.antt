@@ -8,5 +8,5 @@ returns g c =
     record {
       members = execute_fields c.args.packet.now;
       has = refl;
-      puts = puts_then c.in_ok-number.ensures (puts_then c.in_ok-flags.ensures (puts_then c.in_ok-number-2.ensures c.in_ok-params.ensures));
+      puts = puts_then c.in_ok-put_all.ensures c.in_ok-params.ensures;
     }

@@ -1,12 +1,8 @@
 use Rattle.std.proofs.Common.{refl}
-use Rattle.mysql_wire_dump_fields.specs.CommandFields.{long_data_fields}
-use Rattle.mysql_wire_dump_fields.proofs.FieldLemmas.{puts_then}
+use Rattle.mysql_wire_dump_fields.specs.Packets.{LongData}
+use Rattle.mysql_wire_dump_fields.proofs.PacketLemmas.{puts_fields}
 use Rattle.mysql_wire_dump_fields.proofs.show.commands.long_data.Goals as goal
 
 pub returns : goal.returns
 returns g c =
-    record {
-      members = long_data_fields c.args.packet.now;
-      has = refl;
-      puts = puts_then c.in_ok-number.ensures (puts_then c.in_ok-number-2.ensures c.in_ok-bytes.ensures);
-    }
+    puts_fields c.put_all.result (LongData c.args.packet.now) _ c.args.fields.now c.put_all.new.self c.put_all.ensures refl
