@@ -4,7 +4,7 @@ ghost use Rattle.std.specs.Prelude.{◌≡◌, ◌++◌, ◌∷◌, [], IfOk, On
 ghost use Rattle.std.specs.Fmt.{decimal};
 ghost use Rattle.json.specs.Print.{quoted};
 ghost use Rattle.mysql_wire_dump_fields.specs.FieldTables.{members_of, row_if};
-ghost use Rattle.mysql_wire_dump_fields.specs.Fields.{Puts, ended, flags_text, nothing, octets_text, value_of, value_text, with_end, with_member, words_text};
+ghost use Rattle.mysql_wire_dump_fields.specs.Fields.{Puts, digits_text, ended, flags_text, nothing, octets_text, value_of, value_text, with_end, with_member, words_text};
 
 use crate::moments::{push_date, push_time};
 use json::Writer;
@@ -42,6 +42,21 @@ pub enum FieldValue<'a> {
 /// A field: its name, and its value, where it is there.
 pub type Field<'a> = (&'a str, Option<FieldValue<'a>>);
 
+// Bytes, of which these are the digits.
+fn push_octets<A: Allocator>(
+    text: &mut String<A>,
+    form: FieldForm,
+    digits: &str,
+) -> Result<(), AllocError>
+    ensures { OnOk result (string_bytes text.new
+        ≡ string_bytes text.old ++ digits_text form digits.now) }
+{
+    match form {
+        FieldForm::Json => write!(text, "{{\"hex\":\"{digits}\"}}"),
+        _ => write!(text, "x'{digits}'"),
+    }
+}
+
 fn push_digits<A: Allocator + Copy>(
     text: &mut String<A>,
     form: FieldForm,
@@ -51,11 +66,7 @@ fn push_digits<A: Allocator + Copy>(
         ≡ string_bytes text.old ++ octets_text form bytes.now) }
 {
     let digits = hex::encode(*text.allocator(), bytes)?;
-    let digits = digits.as_str();
-    match form {
-        FieldForm::Json => write!(text, "{{\"hex\":\"{digits}\"}}"),
-        _ => write!(text, "x'{digits}'"),
-    }
+    push_octets(text, form, digits.as_str())
 }
 
 // A text as JSON quotes it.

@@ -1,9 +1,10 @@
 //! The fields of each packet, by MySQL's names.
 
 ghost use Rattle.std.specs.Cow.{cow_slice_items};
-ghost use Rattle.std.specs.Prelude.{◌≡◌, ℕ, List};
+ghost use Rattle.std.specs.Prelude.{◌≡◌, ℕ, List, OnOk};
 ghost use Rattle.wire_field.specs.Rows.{by_side};
 ghost use Rattle.mysql_wire_dump_fields.specs.FieldTables.{row_if};
+ghost use Rattle.mysql_wire_dump_fields.specs.Packets.{Packet, PutsFields};
 ghost use Rattle.mysql_wire_dump_fields.specs.Fields.{Number, Octets, Words, value_of};
 
 mod answers;
@@ -12,14 +13,23 @@ mod connection;
 mod unread;
 mod values;
 
-use crate::fields::FieldValue;
-pub use answers::{column, column_count, eof, error, local_infile, ok, prepared, progress};
-pub use commands::{command, execute, fetch, long_data, number_of_statement};
-pub use connection::{auth_answer, auth_more_data, auth_switch, greeting, login, tls_request};
-pub use unread::{column_bytes, event, other_command, prepare, row_bytes, statistics};
+use crate::fields::{FieldValue, Fields};
+pub use commands::number_of_statement;
+use std::alloc::{AllocError, Allocator};
+pub use unread::{column_bytes, event, other_command, row_bytes, statistics};
 pub use values::{binary_row, text_row};
 use wire_field::row::Either;
 use wire_repr::text::{BytesRepr, RawBytes};
+
+/// A packet that has fields.
+pub trait Show {
+    /// The packet whose fields these are.
+    ghost packet: { Self → Packet };
+
+    /// Puts its fields, by MySQL's names.
+    fn show<A: Allocator + Copy>(&self, fields: &mut Fields<A>) -> Result<(), AllocError>
+        ensures { OnOk result (PutsFields (packet self.now) fields.old fields.new) };
+}
 
 // A text, where it is there.
 fn words_if<'a, T: BytesRepr>(text: &'a Option<RawBytes<'_, T>>) -> Option<FieldValue<'a>>

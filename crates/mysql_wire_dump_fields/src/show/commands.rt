@@ -4,15 +4,18 @@ ghost use Rattle.std.specs.Prelude.{◌≡◌, ◌∷◌, ℕ, List, [], OnOk};
 ghost use Rattle.mysql_wire_dump_fields.specs.CommandFields.{attributes_and_query, params_fields, plain_fields};
 ghost use Rattle.mysql_wire_dump_fields.specs.FieldTables.{row_if};
 ghost use Rattle.mysql_wire_dump_fields.specs.Fields.{Number, Octets, Puts, value_of};
-ghost use Rattle.mysql_wire_dump_fields.specs.Packets.{Command, Execute, Fetch, LongData, OfStatement, PutsFields};
+ghost use Rattle.mysql_wire_dump_fields.specs.Packets.{Command, Execute, Fetch, LongData, OfStatement, Prepare, PutsFields};
 
-use super::{bytes_if, words_if};
+use super::{Show, bytes_if, words_if};
 use crate::fields::FieldValue::{Bytes, Flags, Number, Text};
 use crate::fields::{Field, FieldValue, Fields};
 use mysql_wire_queries::client_command::ClientCommand;
 use mysql_wire_queries::com_query_attributes::ComQueryWithAttributes;
+use mysql_wire_statements::com_stmt_close::ComStmtClose;
 use mysql_wire_statements::com_stmt_execute::ComStmtExecute;
 use mysql_wire_statements::com_stmt_fetch::ComStmtFetch;
+use mysql_wire_statements::com_stmt_prepare::ComStmtPrepare;
+use mysql_wire_statements::com_stmt_reset::ComStmtReset;
 use mysql_wire_statements::com_stmt_send_long_data::ComStmtSendLongData;
 use mysql_wire_statements::params::{ParamTypes, StmtParams};
 use std::alloc::{AllocError, Allocator};
@@ -75,13 +78,12 @@ fn put_plain<A: Allocator + Copy>(
 }
 
 /// A command without prepared statements.
-pub fn command<A: Allocator + Copy>(
-    fields: &mut Fields<A>,
-    command: &ClientCommand<'_>,
-) -> Result<(), AllocError>
-    ensures { OnOk result (PutsFields (Command command.now) fields.old fields.new) }
-{
-    put_plain(fields, command)
+impl Show for ClientCommand<'_> {
+    ghost packet = { λ command. Command command };
+
+    fn show<A: Allocator + Copy>(&self, fields: &mut Fields<A>) -> Result<(), AllocError> {
+        put_plain(fields, self)
+    }
 }
 
 pub fn number_of_statement<A: Allocator + Copy>(
@@ -120,45 +122,63 @@ fn params<A: Allocator + Copy>(
     }
 }
 
-pub fn execute<A: Allocator + Copy>(
-    fields: &mut Fields<A>,
-    packet: &ComStmtExecute<'_>,
-) -> Result<(), AllocError>
-    ensures { OnOk result (PutsFields (Execute packet.now) fields.old fields.new) }
-{
-    fields.put_all(&[
-        ("statement_id", Some(Number(packet.statement_id as u64))),
-        ("flags", Some(Flags(packet.flags.0 as u64))),
-        (
-            "iteration_count",
-            Some(Number(packet.iteration_count as u64)),
-        ),
-    ])?;
-    params(fields, &packet.params)?;
-    Ok(())
+impl Show for ComStmtExecute<'_> {
+    ghost packet = { λ packet. Execute packet };
+
+    fn show<A: Allocator + Copy>(&self, fields: &mut Fields<A>) -> Result<(), AllocError> {
+        fields.put_all(&[
+            ("statement_id", Some(Number(self.statement_id as u64))),
+            ("flags", Some(Flags(self.flags.0 as u64))),
+            ("iteration_count", Some(Number(self.iteration_count as u64))),
+        ])?;
+        params(fields, &self.params)?;
+        Ok(())
+    }
 }
 
-pub fn long_data<A: Allocator + Copy>(
-    fields: &mut Fields<A>,
-    packet: &ComStmtSendLongData<'_>,
-) -> Result<(), AllocError>
-    ensures { OnOk result (PutsFields (LongData packet.now) fields.old fields.new) }
-{
-    fields.put_all(&[
-        ("statement_id", Some(Number(packet.statement_id as u64))),
-        ("param_id", Some(Number(packet.param_id as u64))),
-        ("data", Some(Bytes(packet.data))),
-    ])
+impl Show for ComStmtSendLongData<'_> {
+    ghost packet = { λ packet. LongData packet };
+
+    fn show<A: Allocator + Copy>(&self, fields: &mut Fields<A>) -> Result<(), AllocError> {
+        fields.put_all(&[
+            ("statement_id", Some(Number(self.statement_id as u64))),
+            ("param_id", Some(Number(self.param_id as u64))),
+            ("data", Some(Bytes(self.data))),
+        ])
+    }
 }
 
-pub fn fetch<A: Allocator + Copy>(
-    fields: &mut Fields<A>,
-    packet: &ComStmtFetch,
-) -> Result<(), AllocError>
-    ensures { OnOk result (PutsFields (Fetch packet.now) fields.old fields.new) }
-{
-    fields.put_all(&[
-        ("statement_id", Some(Number(packet.statement_id as u64))),
-        ("num_rows", Some(Number(packet.num_rows as u64))),
-    ])
+impl Show for ComStmtFetch {
+    ghost packet = { λ packet. Fetch packet };
+
+    fn show<A: Allocator + Copy>(&self, fields: &mut Fields<A>) -> Result<(), AllocError> {
+        fields.put_all(&[
+            ("statement_id", Some(Number(self.statement_id as u64))),
+            ("num_rows", Some(Number(self.num_rows as u64))),
+        ])
+    }
+}
+
+impl Show for ComStmtPrepare<'_> {
+    ghost packet = { λ packet. Prepare packet.query.now };
+
+    fn show<A: Allocator + Copy>(&self, fields: &mut Fields<A>) -> Result<(), AllocError> {
+        fields.put("query", Text(self.query))
+    }
+}
+
+impl Show for ComStmtClose {
+    ghost packet = { λ packet. OfStatement packet.statement_id };
+
+    fn show<A: Allocator + Copy>(&self, fields: &mut Fields<A>) -> Result<(), AllocError> {
+        number_of_statement(fields, self.statement_id)
+    }
+}
+
+impl Show for ComStmtReset {
+    ghost packet = { λ packet. OfStatement packet.statement_id };
+
+    fn show<A: Allocator + Copy>(&self, fields: &mut Fields<A>) -> Result<(), AllocError> {
+        number_of_statement(fields, self.statement_id)
+    }
 }

@@ -1,20 +1,10 @@
 //! Payloads that are not read further, and texts.
 
 ghost use Rattle.std.specs.Prelude.{OnOk};
-ghost use Rattle.mysql_wire_dump_fields.specs.Packets.{ColumnBytes, Event, OtherCommand, Prepare, PutsFields, RowBytes, Statistics};
+ghost use Rattle.mysql_wire_dump_fields.specs.Packets.{ColumnBytes, Event, OtherCommand, PutsFields, RowBytes, Statistics};
 
 use crate::fields::{FieldValue, Fields};
 use std::alloc::{AllocError, Allocator};
-
-/// The query of a statement that is to be prepared.
-pub fn prepare<A: Allocator + Copy>(
-    fields: &mut Fields<A>,
-    payload: &[u8],
-) -> Result<(), AllocError>
-    ensures { OnOk result (PutsFields (Prepare payload.now) fields.old fields.new) }
-{
-    fields.put("query", FieldValue::Text(payload))
-}
 
 /// What a server says of itself.
 pub fn statistics<A: Allocator + Copy>(
