@@ -1,10 +1,8 @@
 // Long packets, and reads and writes that fail.
 
-use crate::run::{PLAIN, Row, goes};
-use mysql_wire_dump_commands::dump::{Sides, run_dump};
+use crate::run::{Fault, PLAIN, Row, dump, goes};
+use mysql_wire_dump_commands::dump::Sides;
 use std::alloc::{AllocError, Global};
-use std::io;
-use std::io::{ErrorKind, Read, Write};
 use std::test::Fail;
 use test_support::facts::ensure;
 
@@ -46,59 +44,20 @@ fn another_id_is_a_fault(rt: HostRuntime) -> Result<(), Fail> {
     ensure(goes(rt.alloc(), &row), "a chunk of another id")
 }
 
-// Gives nothing, and takes nothing.
-#[derive(Drop)]
-struct Broken;
-
-impl Read for Broken {
-    fn read(&mut self, _buf: &mut [u8]) -> io::Result<usize> {
-        Err(io::Error::from(ErrorKind::Other))
-    }
-}
-
-impl Write for Broken {
-    fn write(&mut self, _buf: &[u8]) -> io::Result<usize> {
-        Err(io::Error::from(ErrorKind::Other))
-    }
-
-    fn flush(&mut self) -> io::Result<()> {
-        Err(io::Error::from(ErrorKind::Other))
-    }
-}
-
 #[test]
 fn failures_are_told(rt: HostRuntime) -> Result<(), Fail> {
     let alloc = rt.alloc();
-    let mut empty = b"".as_slice();
-    let mut text = Vec::new(alloc);
-    let sides = Sides::Both;
-    let read = run_dump(
-        alloc,
-        alloc,
-        PLAIN,
-        sides,
-        &mut empty,
-        &mut Broken,
-        &mut text,
-    );
-    let other = run_dump(
-        alloc,
-        alloc,
-        PLAIN,
-        sides,
-        &mut Broken,
-        &mut empty,
-        &mut text,
-    );
-    let mut more = b"".as_slice();
-    let written = run_dump(
-        alloc,
-        alloc,
-        PLAIN,
-        sides,
-        &mut empty,
-        &mut more,
-        &mut Broken,
-    );
-    ensure((read == 2) & (other == 2) & (written == 2), "a failure")
+    let row = Row {
+        options: PLAIN,
+        sides: Sides::Both,
+        client: b"",
+        server: b"",
+        status: 2,
+        text: b"",
+    };
+    let mut holds = true;
+    for fault in [Fault::Client, Fault::Server, Fault::Output] {
+        holds &= dump(alloc, &row, u64::MAX, fault).status == 2;
+    }
+    ensure(holds, "a failure")
 }

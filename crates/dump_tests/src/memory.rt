@@ -1,9 +1,8 @@
 // Each request for memory refused in turn.
 
 use crate::rows::WITH_FIELDS;
-use crate::run::{PLAIN, Row};
-use mysql_wire_dump_commands::dump::{Sides, run_dump};
-use refusing_allocator::Refusing;
+use crate::run::{Fault, PLAIN, Row, dump};
+use mysql_wire_dump_commands::dump::Sides;
 use std::alloc::{AllocError, Global};
 use std::test::Fail;
 use test_support::facts::ensure;
@@ -14,23 +13,12 @@ const MOST: u64 = 200;
 // Whether the request of this number was refused, the status is 6 then, and what was written is a
 // front of the text; or else the dump goes as it must.
 fn is_refused(alloc: Global, row: &Row<'_>, nth: u64) -> Option<bool> {
-    let heap = Refusing::new(alloc, nth);
-    let mut client = row.client;
-    let mut server = row.server;
-    let mut text = Vec::new(alloc);
-    let status = run_dump(
-        &heap,
-        alloc,
-        row.options,
-        row.sides,
-        &mut client,
-        &mut server,
-        &mut text,
-    );
-    if heap.has_refused() {
-        ((status == 6) & row.text.starts_with(text.as_slice())).then_some(true)
+    let ended = dump(alloc, row, nth, Fault::Nowhere);
+    let text = ended.text.as_slice();
+    if ended.has_refused {
+        ((ended.status == 6) & row.text.starts_with(text)).then_some(true)
     } else {
-        ((status == row.status) & (text.as_slice() == row.text)).then_some(false)
+        ((ended.status == row.status) & (text == row.text)).then_some(false)
     }
 }
 

@@ -6,12 +6,12 @@ use mysql_wire_dump_lines::status::{Stop, USAGE, exit_status};
 use std::alloc::{Allocator, Global};
 use std::fs::File;
 use std::io;
-use std::io::Write;
+use std::io::{Read, Write};
 use std::rt::Files;
 use wire_const::DEFAULT_MAX_ALLOWED_PACKET;
 
 /// A session to be shown: how, and the files of its directions.
-#[derive(Debug, Clone, Copy, PartialEq, Eq)]
+#[derive(Clone, Copy, PartialEq, Eq)]
 pub struct Request<'a> {
     pub options: Options,
     pub client: Option<&'a str>,
@@ -19,7 +19,7 @@ pub struct Request<'a> {
 }
 
 /// What the words ask for.
-#[derive(Debug, Clone, Copy, PartialEq, Eq)]
+#[derive(Clone, Copy, PartialEq, Eq)]
 pub enum Asked<'a> {
     Help,
     Dump(Request<'a>),
@@ -152,6 +152,39 @@ pub fn what_is_asked<'a, A: Allocator>(words: &'a [String<A>]) -> Option<Asked<'
     }
 }
 
+// A file that was opened, or no bytes.
+#[derive(Drop)]
+struct Input<T: Drop>(Option<T>);
+
+// The file of this name, where there is one.
+fn open<F: Files>(files: &F, name: Option<&str>) -> Result<Input<F::File>, Stop> {
+    match name {
+        Some(name) => Ok(Input(Some(File::open(files, name)?))),
+        None => Ok(Input(None)),
+    }
+}
+
+impl<T: Read + Drop> Read for Input<T> {
+    fn read(&mut self, buf: &mut [u8]) -> io::Result<usize> {
+        match &mut self.0 {
+            Some(file) => file.read(buf),
+            None => Ok(0),
+        }
+    }
+}
+
+impl<'a> Request<'a> {
+    // The directions whose files are named.
+    fn sides(self) -> Option<Sides> {
+        match (self.client, self.server) {
+            (Some(_), Some(_)) => Some(Sides::Both),
+            (Some(_), None) => Some(Sides::Client),
+            (None, Some(_)) => Some(Sides::Server),
+            (None, None) => None,
+        }
+    }
+}
+
 // Shows the sessions of files.
 fn dump_files<F: Files, W: Write>(
     files: &F,
@@ -159,47 +192,20 @@ fn dump_files<F: Files, W: Write>(
     request: Request<'_>,
     output: &mut W,
 ) -> Result<u8, Stop> {
-    let options = request.options;
-    match (request.client, request.server) {
-        (Some(client), Some(server)) => {
-            let mut client = File::open(files, client)?;
-            let mut server = File::open(files, server)?;
-            Ok(run_dump(
-                alloc,
-                alloc,
-                options,
-                Sides::Both,
-                &mut client,
-                &mut server,
-                output,
-            ))
-        }
-        (Some(client), None) => {
-            let mut client = File::open(files, client)?;
-            Ok(run_dump(
-                alloc,
-                alloc,
-                options,
-                Sides::Client,
-                &mut client,
-                &mut io::empty(),
-                output,
-            ))
-        }
-        (None, Some(server)) => {
-            let mut server = File::open(files, server)?;
-            Ok(run_dump(
-                alloc,
-                alloc,
-                options,
-                Sides::Server,
-                &mut io::empty(),
-                &mut server,
-                output,
-            ))
-        }
-        (None, None) => Ok(1),
-    }
+    let Some(sides) = request.sides() else {
+        return Ok(1);
+    };
+    let mut client = open(files, request.client)?;
+    let mut server = open(files, request.server)?;
+    Ok(run_dump(
+        alloc,
+        alloc,
+        request.options,
+        sides,
+        &mut client,
+        &mut server,
+        output,
+    ))
 }
 
 // Writes the usage line.

@@ -4,7 +4,7 @@ ghost use Rattle.std.specs.Prelude.{◌≡◌, ◌≢◌, ◌<◌, ◌≤◌, �
 ghost use Rattle.std.specs.Io.KnownBytes.{Appends};
 ghost use Rattle.mysql_wire_dump_commands.specs.Dumped.{DumpEnds, Dumps, ending_lines, field_form, status_of};
 ghost use Rattle.mysql_wire_dump_fields.specs.Packets.{AreFields};
-ghost use Rattle.mysql_wire_dump_commands.specs.Dumping.{Goes};
+ghost use Rattle.mysql_wire_dump_commands.specs.Dumping.{Goes, StartsDump};
 ghost use Rattle.mysql_wire_dump_commands.specs.Moments.{moment_of};
 ghost use Rattle.mysql_wire_dump_lines.specs.Naming.{IsOrBytes, kind_at};
 ghost use Rattle.mysql_wire_dump_lines.specs.Status.{end_status};
@@ -23,7 +23,7 @@ use std::alloc::{AllocError, Allocator, Global};
 use std::io::{Read, Write};
 
 /// How a session is shown.
-#[derive(Debug, Clone, Copy, PartialEq, Eq)]
+#[derive(Clone, Copy, PartialEq, Eq)]
 pub struct Options {
     pub form: LineForm,
     /// Whether packets are shown with their fields.
@@ -33,7 +33,7 @@ pub struct Options {
 }
 
 /// Which directions are shown.
-#[derive(Debug, Clone, Copy, PartialEq, Eq)]
+#[derive(Clone, Copy, PartialEq, Eq)]
 pub enum Sides {
     Client,
     Server,
@@ -105,7 +105,7 @@ fn shown_payload<A: Allocator + Copy>(source: &Source<A>) -> &[u8]
 }
 
 impl<A: Allocator + Copy> Dump<A> {
-    ghost use Rattle.mysql_wire_dump_commands.specs.Dumping.{Shows, StartsDump};
+    ghost use Rattle.mysql_wire_dump_commands.specs.Dumping.{Shows};
     ghost use Rattle.mysql_wire_dump_lines.specs.Turns.{turn};
     ghost use Rattle.mysql_wire_dump_lines.specs.declared.side.Side.TheVariants.{Client, Server};
     ghost use Rattle.mysql_wire_dump_lines.specs.Sources.{id_of};
@@ -329,6 +329,33 @@ fn status_of(sides: Sides, client: End, server: End) -> u8
     }
 }
 
+// Shows what a dump that begins is given, and how each of its sides ends. The answer is the exit
+// status.
+fn show_whole<A: Allocator + Copy, R: Read, S: Read, W: Write>(
+    dump: &mut Dump<A>,
+    options: Options,
+    sides: Sides,
+    client: &mut R,
+    server: &mut S,
+    output: &mut W,
+) -> Result<u8, Stop>
+    ensures { IfOk result (λ status. StartsDump options dump.old
+        → Dumps options sides (R.remaining client.old) (R.remaining client.new)
+        (S.remaining server.old) (S.remaining server.new) (W.contents output.old)
+        (W.contents output.new) status) }
+{
+    show_all(dump, client, server, output)?;
+    let Some((client_end, server_end)) = dump.ends() else {
+        return Err(Stop::Io);
+    };
+    let of_client = (client_end, dump.client.place());
+    let of_server = (server_end, dump.server.place());
+    push_endings(&mut dump.text, options.form, sides, of_client, of_server)?;
+    output.write_all(dump.text.as_bytes())?;
+    output.flush()?;
+    Ok(status_of(sides, client_end, server_end))
+}
+
 // Shows a session, and how each of its sides ends. The answer is the exit status.
 fn show_session<A: Allocator + Copy, R: Read, S: Read, W: Write>(
     alloc: A,
@@ -344,16 +371,8 @@ fn show_session<A: Allocator + Copy, R: Read, S: Read, W: Write>(
         (W.contents output.new)) }
 {
     let mut dump = Dump::new(alloc, global, options);
-    show_all(&mut dump, client, server, output)?;
-    let Some((client_end, server_end)) = dump.ends() else {
-        return Err(Stop::Io);
-    };
-    let of_client = (client_end, dump.client.place());
-    let of_server = (server_end, dump.server.place());
-    push_endings(&mut dump.text, options.form, sides, of_client, of_server)?;
-    output.write_all(dump.text.as_bytes())?;
-    output.flush()?;
-    Ok(status_of(sides, client_end, server_end))
+    let status = show_whole(&mut dump, options, sides, client, server, output)?;
+    Ok(status)
 }
 
 /// Shows a session whose directions are these inputs, packet by packet. The answer is the exit

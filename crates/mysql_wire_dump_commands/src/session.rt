@@ -14,17 +14,20 @@ ghost use Rattle.mysql_wire_dump_lines.specs.declared.place.Place.TheVariants.{G
 ghost use Rattle.mysql_wire_dump_lines.specs.declared.kind.Kind.{Kind};
 
 use crate::statements::Statements;
+use mysql_wire_connection::auth_switch_response::AuthSwitchResponse;
 use mysql_wire_dump_fields::fields::Fields;
-use mysql_wire_dump_fields::show;
+use mysql_wire_dump_fields::show::Show;
 use mysql_wire_dump_lines::kind::Kind;
 use mysql_wire_dump_lines::naming::{Moment, kind_at};
 use mysql_wire_dump_lines::place::{Place, RowForm};
 use mysql_wire_dump_lines::refusal::Refusal;
 use mysql_wire_dump_lines::side::Side;
 use mysql_wire_dump_lines::status::Stop;
+use mysql_wire_packets::err_packet::ErrPacket;
 use mysql_wire_packets::places::{PayloadError, read_whole};
 use mysql_wire_packets::progress_report::ProgressReport;
 use std::alloc::{Allocator, Global};
+use wire_buf::proto::MyDeserialize;
 use wire_const::{CapabilityFlags, Flags, MariadbCapabilities};
 
 // How many columns' types are kept, at most: as many as a table may have.
@@ -53,21 +56,32 @@ fn refused(error: PayloadError) -> Result<Kind, Stop>
     }
 }
 
-// A report on a command, behind which the session stands where it did.
-fn read_report<A: Allocator + Copy>(
-    global: Global,
+// The kind of a packet, whose fields are put.
+fn show_as<A: Allocator + Copy, T: Show>(
     kind: Kind,
-    payload: &[u8],
+    packet: &T,
     fields: &mut Fields<A>,
 ) -> Result<Kind, Stop>
     ensures named { IfOk result (λ named. IsOrBytes kind named) }
     ensures puts { OnOk result (PutsSome fields.old fields.new) }
 {
-    match read_whole::<ProgressReport<'_>>(global, (), payload) {
-        Ok(report) => {
-            show::progress(fields, &report)?;
-            Ok(kind)
-        }
+    packet.show(fields)?;
+    Ok(kind)
+}
+
+// Reads a payload that is one packet of this type, and puts its fields.
+fn read_as<'a, T: MyDeserialize<'a, Global> + Show + Drop, A: Allocator + Copy>(
+    global: Global,
+    kind: Kind,
+    ctx: T::Ctx,
+    payload: &'a [u8],
+    fields: &mut Fields<A>,
+) -> Result<Kind, Stop>
+    ensures named { IfOk result (λ named. IsOrBytes kind named) }
+    ensures puts { OnOk result (PutsSome fields.old fields.new) }
+{
+    match read_whole::<T>(global, ctx, payload) {
+        Ok(packet) => show_as(kind, &packet, fields),
         Err(error) => refused(error),
     }
 }
@@ -158,7 +172,9 @@ impl<A: Allocator + Copy> Session<A> {
         }
         match kind {
             Kind::TlsRequest | Kind::Login => self.read_login(global, kind, payload, fields),
-            Kind::AuthAnswer => self.read_auth_answer(global, kind, payload, fields),
+            Kind::AuthAnswer => {
+                read_as::<AuthSwitchResponse<'_>, A>(global, kind, (), payload, fields)
+            }
             _ => {
                 if payload.is_empty() {
                     self.place = Place::Answer;
@@ -182,8 +198,13 @@ impl<A: Allocator + Copy> Session<A> {
         match (kind, self.place) {
             (Kind::Bytes(_), _) => Ok(kind),
             (Kind::Error, Place::Greeting) => self.read_greeting(global, kind, payload, fields),
-            (Kind::Error, _) => self.read_error(global, kind, payload, fields),
-            (Kind::Progress, _) => read_report(global, kind, payload, fields),
+            (Kind::Error, _) => {
+                self.place = Place::Command;
+                read_as::<ErrPacket<'_>, A>(global, kind, self.capabilities, payload, fields)
+            }
+            (Kind::Progress, _) => {
+                read_as::<ProgressReport<'_>, A>(global, kind, (), payload, fields)
+            }
             (Kind::Greeting, _) => self.read_greeting(global, kind, payload, fields),
             (_, Place::Login | Place::Authentication) => {
                 self.read_outcome(global, kind, payload, fields)

@@ -1,11 +1,12 @@
 -- The fields of packets.
-use Rattle.std.proofs.Common.{◌≡◌, ℕ, List, [], ◌++◌, refl, ap, ◌∙◌, inl, inr, Option}
+use Rattle.std.proofs.Common.{◌≡◌, ℕ, List, [], ◌++◌, refl, ap, subst, ◌∙◌, inl, inr, Option, Result, Ok, Err}
+use Rattle.std.specs.Prelude.{OnOk}
 use Rattle.mysql_wire_dump_fields.specs.declared.fields.FieldForm.{FieldForm}
 use Rattle.mysql_wire_dump_fields.specs.declared.fields.FieldForm.TheVariants.{Hidden, Text, Json}
 use Rattle.mysql_wire_dump_lines.specs.declared.refusal.Refusal.{Refusal}
 use Rattle.mysql_wire_statements.specs.declared.binary_row.BinaryRow.{BinaryRow}
-use Rattle.mysql_wire_dump_fields.specs.Fields.{Written, ended, nothing, puts}
-use Rattle.mysql_wire_dump_fields.specs.Packets.{AreFields, Nothing, PutsFields, PutsSome, Row, Texts}
+use Rattle.mysql_wire_dump_fields.specs.Fields.{Member, Puts, Written, ended, nothing, puts}
+use Rattle.mysql_wire_dump_fields.specs.Packets.{AreFields, HasFields, Nothing, Packet, PutsFields, PutsSome, Row, Texts}
 use Rattle.mysql_wire_dump_fields.specs.ValueFields.{PutsRow, PutsTexts, rest_if, row_bytes_fields}
 use Rattle.mysql_wire_dump_fields.proofs.FieldLemmas.{fields_text-is}
 
@@ -15,6 +16,22 @@ puts_nothing written = record {
   packet = Nothing;
   puts = record { members = []; has = refl; puts = record { are = refl } };
 }
+
+-- what was put is these fields
+pub puts_are : {X E : Type 0} (result : Result X E) (members : List Member) (wanted : List Member)
+    (old new : Written) → OnOk result (Puts members old new) → members ≡ wanted
+    → OnOk result (Puts wanted old new)
+puts_are (Ok done) members wanted old new put is =
+    subst (λ (these : List Member). Puts these old new) is put
+puts_are (Err error) members wanted old new put is = tt
+
+-- what was put is a packet's fields
+pub puts_fields : {X E : Type 0} (result : Result X E) (packet : Packet) (members : List Member)
+    (old new : Written) → OnOk result (Puts members old new) → HasFields packet members
+    → OnOk result (PutsFields packet old new)
+puts_fields (Ok done) packet members old new put has =
+    record { members = members; has = has; puts = put }
+puts_fields (Err error) packet members old new put has = tt
 
 -- the fields of a packet that was not read
 pub shows_none : (form : FieldForm) (begun : Written) → begun ≡ nothing form

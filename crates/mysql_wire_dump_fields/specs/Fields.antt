@@ -32,11 +32,15 @@ Member = List ℕ × Value
 abbrev pub in_quotes : List ℕ → List ℕ
 in_quotes text = codes "\"" ++ text ++ codes "\""
 
+-- bytes, of which these are the digits
+abbrev pub digits_text : FieldForm → List ℕ → List ℕ
+digits_text Hidden digits = codes "x'" ++ digits ++ codes "'"
+digits_text Text digits = codes "x'" ++ digits ++ codes "'"
+digits_text Json digits = codes "{\"hex\":\"" ++ digits ++ codes "\"}"
+
 -- bytes in hex digits
 abbrev pub octets_text : FieldForm → List ℕ → List ℕ
-octets_text Hidden octets = codes "x'" ++ encode_lower octets ++ codes "'"
-octets_text Text octets = codes "x'" ++ encode_lower octets ++ codes "'"
-octets_text Json octets = codes "{\"hex\":\"" ++ encode_lower octets ++ codes "\"}"
+octets_text form octets = digits_text form (encode_lower octets)
 
 -- a text as JSON quotes it, where the bytes are one
 abbrev pub words_text : FieldForm → List ℕ → List ℕ

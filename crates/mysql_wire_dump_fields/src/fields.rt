@@ -3,7 +3,8 @@
 ghost use Rattle.std.specs.Prelude.{◌≡◌, ◌++◌, ◌∷◌, [], IfOk, OnOk, string_bytes};
 ghost use Rattle.std.specs.Fmt.{decimal};
 ghost use Rattle.json.specs.Print.{quoted};
-ghost use Rattle.mysql_wire_dump_fields.specs.Fields.{Flags, Number, Octets, Puts, Words, ended, flags_text, nothing, octets_text, value_of, value_text, with_end, with_member, words_text};
+ghost use Rattle.mysql_wire_dump_fields.specs.FieldTables.{members_of, row_if};
+ghost use Rattle.mysql_wire_dump_fields.specs.Fields.{Puts, digits_text, ended, flags_text, nothing, octets_text, value_of, value_text, with_end, with_member, words_text};
 
 use crate::moments::{push_date, push_time};
 use json::Writer;
@@ -21,7 +22,7 @@ pub enum FieldForm {
 }
 
 /// The value of a field.
-#[derive(Debug, Clone, Copy, PartialEq, Eq)]
+#[derive(Clone, Copy)]
 pub enum FieldValue<'a> {
     Null,
     Number(u64),
@@ -38,6 +39,24 @@ pub enum FieldValue<'a> {
     Word(&'a str),
 }
 
+/// A field: its name, and its value, where it is there.
+pub type Field<'a> = (&'a str, Option<FieldValue<'a>>);
+
+// Bytes, of which these are the digits.
+fn push_octets<A: Allocator>(
+    text: &mut String<A>,
+    form: FieldForm,
+    digits: &str,
+) -> Result<(), AllocError>
+    ensures { OnOk result (string_bytes text.new
+        ≡ string_bytes text.old ++ digits_text form digits.now) }
+{
+    match form {
+        FieldForm::Json => write!(text, "{{\"hex\":\"{digits}\"}}"),
+        _ => write!(text, "x'{digits}'"),
+    }
+}
+
 fn push_digits<A: Allocator + Copy>(
     text: &mut String<A>,
     form: FieldForm,
@@ -47,11 +66,7 @@ fn push_digits<A: Allocator + Copy>(
         ≡ string_bytes text.old ++ octets_text form bytes.now) }
 {
     let digits = hex::encode(*text.allocator(), bytes)?;
-    let digits = digits.as_str();
-    match form {
-        FieldForm::Json => write!(text, "{{\"hex\":\"{digits}\"}}"),
-        _ => write!(text, "x'{digits}'"),
-    }
+    push_octets(text, form, digits.as_str())
 }
 
 // A text as JSON quotes it.
@@ -215,6 +230,27 @@ impl<A: Allocator + Copy> Fields<A> {
         push_member(&mut self.text, self.form, name, value)
     }
 
+    /// Puts a field, where its value is there.
+    pub fn put_if(&mut self, name: &str, value: Option<FieldValue<'_>>) -> Result<(), AllocError>
+        ensures { OnOk result (Puts
+            (row_if (λ value. (name.now, value_of value)) value.entry) self.old self.new) }
+    {
+        match value {
+            Some(value) => self.put(name, value),
+            None => Ok(()),
+        }
+    }
+
+    /// Puts fields in their order.
+    pub fn put_all(&mut self, fields: &[Field<'_>]) -> Result<(), AllocError>
+        ensures { OnOk result (Puts (members_of fields.now) self.old self.new) }
+    {
+        'fields: for field in fields {
+            self.put_if(field.0, field.1)?;
+        }
+        Ok(())
+    }
+
     /// Puts a value that has no name but its place, counted from 0.
     pub fn put_at(&mut self, place: u64, value: FieldValue<'_>) -> Result<(), AllocError>
         ensures { OnOk result (Puts ((decimal place, value_of value.entry) ∷ [])
@@ -222,34 +258,6 @@ impl<A: Allocator + Copy> Fields<A> {
     {
         let mut digits = itoa::Buffer::new();
         self.put(digits.format(place), value)
-    }
-
-    /// Puts a field that is a number.
-    pub fn number(&mut self, name: &str, number: u64) -> Result<(), AllocError>
-        ensures { OnOk result (Puts ((name.now, Number number) ∷ []) self.old self.new) }
-    {
-        self.put(name, FieldValue::Number(number))
-    }
-
-    /// Puts a field that is a set of flags.
-    pub fn flags(&mut self, name: &str, bits: u64) -> Result<(), AllocError>
-        ensures { OnOk result (Puts ((name.now, Flags bits) ∷ []) self.old self.new) }
-    {
-        self.put(name, FieldValue::Flags(bits))
-    }
-
-    /// Puts a field that is a text.
-    pub fn words(&mut self, name: &str, text: &[u8]) -> Result<(), AllocError>
-        ensures { OnOk result (Puts ((name.now, Words text.now) ∷ []) self.old self.new) }
-    {
-        self.put(name, FieldValue::Text(text))
-    }
-
-    /// Puts a field that is bytes.
-    pub fn bytes(&mut self, name: &str, bytes: &[u8]) -> Result<(), AllocError>
-        ensures { OnOk result (Puts ((name.now, Octets bytes.now) ∷ []) self.old self.new) }
-    {
-        self.put(name, FieldValue::Bytes(bytes))
     }
 
     /// Ends the fields of the packet.

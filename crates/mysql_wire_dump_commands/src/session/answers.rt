@@ -5,13 +5,12 @@ ghost use Rattle.std.specs.Prelude.{IfOk, OnOk};
 ghost use Rattle.mysql_wire_dump_fields.specs.Packets.{PutsSome};
 ghost use Rattle.mysql_wire_dump_lines.specs.Naming.{IsOrBytes};
 
-use super::{Session, refused};
+use super::{Session, refused, show_as};
 use mysql_wire_dump_fields::fields::Fields;
 use mysql_wire_dump_fields::show;
 use mysql_wire_dump_lines::kind::Kind;
 use mysql_wire_dump_lines::place::{Behind, Place};
 use mysql_wire_dump_lines::status::Stop;
-use mysql_wire_packets::err_packet::ErrPacket;
 use mysql_wire_packets::places::read_whole;
 use mysql_wire_queries::column_count::ColumnCount;
 use mysql_wire_queries::query_answer::QueryAnswer;
@@ -33,26 +32,6 @@ impl<A: Allocator + Copy> Session<A> {
         } else {
             Place::Command
         };
-    }
-
-    pub(super) fn read_error(
-        &mut self,
-        global: Global,
-        kind: Kind,
-        payload: &[u8],
-        fields: &mut Fields<A>,
-    ) -> Result<Kind, Stop>
-        ensures named { IfOk result (λ named. IsOrBytes kind named) }
-        ensures puts { OnOk result (PutsSome fields.old fields.new) }
-    {
-        self.place = Place::Command;
-        match read_whole::<ErrPacket<'_>>(global, self.capabilities, payload) {
-            Ok(packet) => {
-                show::error(fields, &packet)?;
-                Ok(kind)
-            }
-            Err(error) => refused(error),
-        }
     }
 
     // The first packet of an answer, or what is no packet of a table.
@@ -95,22 +74,16 @@ impl<A: Allocator + Copy> Session<A> {
         match QueryAnswer::read(global, self.capabilities, self.mariadb, payload) {
             Ok(QueryAnswer::Done(packet)) => {
                 self.end_answer(packet.status_flags);
-                show::ok(fields, &packet)?;
-                Ok(kind)
+                show_as(kind, &packet, fields)
             }
-            Ok(QueryAnswer::Failed(packet)) => {
-                show::error(fields, &packet)?;
-                Ok(kind)
-            }
+            Ok(QueryAnswer::Failed(packet)) => show_as(kind, &packet, fields),
             Ok(QueryAnswer::File(packet)) => {
                 self.place = Place::File;
-                show::local_infile(fields, &packet)?;
-                Ok(kind)
+                show_as(kind, &packet, fields)
             }
             Ok(QueryAnswer::Columns(packet)) => {
                 self.expect_columns(&packet);
-                show::column_count(fields, &packet)?;
-                Ok(kind)
+                show_as(kind, &packet, fields)
             }
             Err(error) => refused(error),
         }
@@ -173,13 +146,9 @@ impl<A: Allocator + Copy> Session<A> {
         match read_whole::<PrepareAnswer<'_>>(global, self.capabilities, payload) {
             Ok(PrepareAnswer::Prepared(packet)) => {
                 self.expect_definitions(&packet);
-                show::prepared(fields, &packet)?;
-                Ok(kind)
+                show_as(kind, &packet, fields)
             }
-            Ok(PrepareAnswer::Failed(packet)) => {
-                show::error(fields, &packet)?;
-                Ok(kind)
-            }
+            Ok(PrepareAnswer::Failed(packet)) => show_as(kind, &packet, fields),
             Err(error) => refused(error),
         }
     }

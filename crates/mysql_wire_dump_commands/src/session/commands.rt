@@ -5,7 +5,7 @@ ghost use Rattle.std.specs.Prelude.{IfOk, OnOk};
 ghost use Rattle.mysql_wire_dump_fields.specs.Packets.{PutsSome};
 ghost use Rattle.mysql_wire_dump_lines.specs.Naming.{IsOrBytes};
 
-use super::{Session, refused};
+use super::{Session, read_as, refused, show_as};
 use mysql_wire_dump_fields::fields::Fields;
 use mysql_wire_dump_fields::show;
 use mysql_wire_dump_lines::kind::Kind;
@@ -86,10 +86,7 @@ impl<A: Allocator + Copy> Session<A> {
         ensures puts { OnOk result (PutsSome fields.old fields.new) }
     {
         match ClientCommand::read(global, self.capabilities, payload) {
-            Ok(command) => {
-                show::command(fields, &command)?;
-                Ok(kind)
-            }
+            Ok(command) => show_as(kind, &command, fields),
             Err(error) => refused(error),
         }
     }
@@ -106,31 +103,18 @@ impl<A: Allocator + Copy> Session<A> {
         ensures puts { OnOk result (PutsSome fields.old fields.new) }
     {
         match kind {
-            Kind::Prepare => self.read_prepare(global, kind, payload, fields),
+            Kind::Prepare => { read_as::<ComStmtPrepare<'_>, A>(global, kind, (), payload, fields) }
             Kind::Execute => self.read_execute(global, kind, payload, fields),
-            Kind::LongData => self.read_long_data(global, kind, payload, fields),
-            Kind::CloseStatement => self.read_close(global, kind, payload, fields),
-            Kind::ResetStatement => self.read_reset(global, kind, payload, fields),
-            _ => self.read_fetch(global, kind, payload, fields),
-        }
-    }
-
-    fn read_prepare(
-        &mut self,
-        global: Global,
-        kind: Kind,
-        payload: &[u8],
-        fields: &mut Fields<A>,
-    ) -> Result<Kind, Stop>
-        ensures named { IfOk result (λ named. IsOrBytes kind named) }
-        ensures puts { OnOk result (PutsSome fields.old fields.new) }
-    {
-        match read_whole::<ComStmtPrepare<'_>>(global, (), payload) {
-            Ok(packet) => {
-                show::prepare(fields, packet.query)?;
-                Ok(kind)
+            Kind::LongData => {
+                read_as::<ComStmtSendLongData<'_>, A>(global, kind, (), payload, fields)
             }
-            Err(error) => refused(error),
+            Kind::CloseStatement => {
+                read_as::<ComStmtClose, A>(global, kind, (), payload, fields)
+            }
+            Kind::ResetStatement => {
+                read_as::<ComStmtReset, A>(global, kind, (), payload, fields)
+            }
+            _ => self.read_fetch(global, kind, payload, fields),
         }
     }
 
@@ -152,70 +136,7 @@ impl<A: Allocator + Copy> Session<A> {
             show::number_of_statement(fields, statement_id)?;
             return Ok(kind);
         };
-        match read_whole::<ComStmtExecute<'_>>(global, statement.num_params, payload) {
-            Ok(packet) => {
-                show::execute(fields, &packet)?;
-                Ok(kind)
-            }
-            Err(error) => refused(error),
-        }
-    }
-
-    fn read_long_data(
-        &mut self,
-        global: Global,
-        kind: Kind,
-        payload: &[u8],
-        fields: &mut Fields<A>,
-    ) -> Result<Kind, Stop>
-        ensures named { IfOk result (λ named. IsOrBytes kind named) }
-        ensures puts { OnOk result (PutsSome fields.old fields.new) }
-    {
-        match read_whole::<ComStmtSendLongData<'_>>(global, (), payload) {
-            Ok(packet) => {
-                show::long_data(fields, &packet)?;
-                Ok(kind)
-            }
-            Err(error) => refused(error),
-        }
-    }
-
-    fn read_close(
-        &mut self,
-        global: Global,
-        kind: Kind,
-        payload: &[u8],
-        fields: &mut Fields<A>,
-    ) -> Result<Kind, Stop>
-        ensures named { IfOk result (λ named. IsOrBytes kind named) }
-        ensures puts { OnOk result (PutsSome fields.old fields.new) }
-    {
-        match read_whole::<ComStmtClose>(global, (), payload) {
-            Ok(packet) => {
-                show::number_of_statement(fields, packet.statement_id)?;
-                Ok(kind)
-            }
-            Err(error) => refused(error),
-        }
-    }
-
-    fn read_reset(
-        &mut self,
-        global: Global,
-        kind: Kind,
-        payload: &[u8],
-        fields: &mut Fields<A>,
-    ) -> Result<Kind, Stop>
-        ensures named { IfOk result (λ named. IsOrBytes kind named) }
-        ensures puts { OnOk result (PutsSome fields.old fields.new) }
-    {
-        match read_whole::<ComStmtReset>(global, (), payload) {
-            Ok(packet) => {
-                show::number_of_statement(fields, packet.statement_id)?;
-                Ok(kind)
-            }
-            Err(error) => refused(error),
-        }
+        read_as::<ComStmtExecute<'_>, A>(global, kind, statement.num_params, payload, fields)
     }
 
     fn read_fetch(
@@ -232,8 +153,7 @@ impl<A: Allocator + Copy> Session<A> {
         match read_whole::<ComStmtFetch>(global, (), payload) {
             Ok(packet) => {
                 self.expect_rows_of(packet.statement_id);
-                show::fetch(fields, &packet)?;
-                Ok(kind)
+                show_as(kind, &packet, fields)
             }
             Err(error) => refused(error),
         }

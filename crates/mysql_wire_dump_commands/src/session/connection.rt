@@ -5,17 +5,14 @@ ghost use Rattle.std.specs.Prelude.{IfOk, OnOk};
 ghost use Rattle.mysql_wire_dump_fields.specs.Packets.{PutsSome};
 ghost use Rattle.mysql_wire_dump_lines.specs.Naming.{IsOrBytes};
 
-use super::{Session, refused};
+use super::{Session, refused, show_as};
 use mysql_wire_connection::auth_answer::AuthAnswer;
-use mysql_wire_connection::auth_switch_response::AuthSwitchResponse;
 use mysql_wire_connection::first_packet::{ClientFirst, ServerFirst};
 use mysql_wire_connection::handshake_response::HandshakeResponse41;
 use mysql_wire_dump_fields::fields::Fields;
-use mysql_wire_dump_fields::show;
 use mysql_wire_dump_lines::kind::Kind;
 use mysql_wire_dump_lines::place::Place;
 use mysql_wire_dump_lines::status::Stop;
-use mysql_wire_packets::places::read_whole;
 use std::alloc::{Allocator, Global};
 use wire_const::{CapabilityFlags, Flags};
 
@@ -33,13 +30,11 @@ impl<A: Allocator + Copy> Session<A> {
         match ServerFirst::read(global, payload) {
             Ok(ServerFirst::Greeting(packet)) => {
                 self.place = Place::Login;
-                show::greeting(fields, &packet)?;
-                Ok(kind)
+                show_as(kind, &packet, fields)
             }
             Ok(ServerFirst::Failed(packet)) => {
                 self.place = Place::Closed;
-                show::error(fields, &packet)?;
-                Ok(kind)
+                show_as(kind, &packet, fields)
             }
             Err(error) => {
                 self.place = Place::Login;
@@ -72,37 +67,16 @@ impl<A: Allocator + Copy> Session<A> {
         match ClientFirst::read(global, payload) {
             Ok(ClientFirst::Tls(packet)) => {
                 self.place = Place::Encrypted;
-                show::tls_request(fields, &packet)?;
-                Ok(kind)
+                show_as(kind, &packet, fields)
             }
             Ok(ClientFirst::Login(packet)) => {
                 self.log_in(&packet);
-                show::login(fields, &packet)?;
-                Ok(kind)
+                show_as(kind, &packet, fields)
             }
             Err(error) => {
                 self.place = Place::Authentication;
                 refused(error)
             }
-        }
-    }
-
-    pub(super) fn read_auth_answer(
-        &mut self,
-        global: Global,
-        kind: Kind,
-        payload: &[u8],
-        fields: &mut Fields<A>,
-    ) -> Result<Kind, Stop>
-        ensures named { IfOk result (λ named. IsOrBytes kind named) }
-        ensures puts { OnOk result (PutsSome fields.old fields.new) }
-    {
-        match read_whole::<AuthSwitchResponse<'_>>(global, (), payload) {
-            Ok(packet) => {
-                show::auth_answer(fields, &packet)?;
-                Ok(kind)
-            }
-            Err(error) => refused(error),
         }
     }
 
@@ -121,22 +95,14 @@ impl<A: Allocator + Copy> Session<A> {
         match AuthAnswer::read(global, self.capabilities, payload) {
             Ok(AuthAnswer::Done(packet)) => {
                 self.place = Place::Command;
-                show::ok(fields, &packet)?;
-                Ok(kind)
+                show_as(kind, &packet, fields)
             }
             Ok(AuthAnswer::Failed(packet)) => {
                 self.place = Place::Command;
-                show::error(fields, &packet)?;
-                Ok(kind)
+                show_as(kind, &packet, fields)
             }
-            Ok(AuthAnswer::Switch(packet)) => {
-                show::auth_switch(fields, &packet)?;
-                Ok(kind)
-            }
-            Ok(AuthAnswer::MoreData(packet)) => {
-                show::auth_more_data(fields, &packet)?;
-                Ok(kind)
-            }
+            Ok(AuthAnswer::Switch(packet)) => show_as(kind, &packet, fields),
+            Ok(AuthAnswer::MoreData(packet)) => show_as(kind, &packet, fields),
             Err(error) => refused(error),
         }
     }

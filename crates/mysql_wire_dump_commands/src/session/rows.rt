@@ -5,7 +5,7 @@ ghost use Rattle.std.specs.Prelude.{IfOk, OnOk};
 ghost use Rattle.mysql_wire_dump_fields.specs.Packets.{PutsSome};
 ghost use Rattle.mysql_wire_dump_lines.specs.Naming.{IsOrBytes};
 
-use super::{MOST_COLUMNS, Session, refused};
+use super::{MOST_COLUMNS, Session, refused, show_as};
 use mysql_wire_dump_fields::fields::Fields;
 use mysql_wire_dump_fields::show;
 use mysql_wire_dump_lines::kind::Kind;
@@ -106,13 +106,10 @@ impl<A: Allocator + Copy> Session<A> {
         ensures puts { OnOk result (PutsSome fields.old fields.new) }
     {
         match read_whole::<ColumnDefinition41<'_>>(global, self.mariadb, payload) {
-            Ok(packet) => {
-                show::column(fields, &packet)?;
-                match self.note_type(packet.column_type.0) {
-                    Ok(()) => Ok(kind),
-                    Err(stop) => Err(stop),
-                }
-            }
+            Ok(packet) => match self.note_type(packet.column_type.0) {
+                Ok(()) => show_as(kind, &packet, fields),
+                Err(stop) => Err(stop),
+            },
             Err(error) => refused(error),
         }
     }
@@ -138,8 +135,7 @@ impl<A: Allocator + Copy> Session<A> {
                 {
                     self.place = Place::Command;
                 }
-                show::eof(fields, &packet)?;
-                Ok(kind)
+                show_as(kind, &packet, fields)
             }
             Err(error) => refused(error),
         }
@@ -163,8 +159,7 @@ impl<A: Allocator + Copy> Session<A> {
         match read_whole::<EofPacket>(global, (), payload) {
             Ok(packet) => {
                 self.end_answer(packet.status_flags);
-                show::eof(fields, &packet)?;
-                Ok(kind)
+                show_as(kind, &packet, fields)
             }
             Err(error) => refused(error),
         }
@@ -185,8 +180,7 @@ impl<A: Allocator + Copy> Session<A> {
         match read_whole::<RowsEnd<'_>>(global, form, payload) {
             Ok(packet) => {
                 self.end_answer(packet.status_flags);
-                show::ok(fields, &packet)?;
-                Ok(kind)
+                show_as(kind, &packet, fields)
             }
             Err(error) => refused(error),
         }

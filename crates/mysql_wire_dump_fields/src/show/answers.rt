@@ -1,13 +1,14 @@
 //! Answers to commands.
 
-ghost use Rattle.std.specs.Prelude.{OnOk, codes};
-ghost use Rattle.mysql_wire_dump_fields.specs.AnswerFields.{column_count_fields, column_fields, column_names, eof_fields, error_fields, local_infile_fields, ok_fields, prepared_fields, progress_fields};
+ghost use Rattle.std.specs.Prelude.{◌≡◌, ℕ, List};
+ghost use Rattle.mysql_wire_dump_fields.specs.AnswerFields.{column_count_fields, column_fields, eof_fields, error_fields, local_infile_fields, ok_fields, prepared_fields, progress_fields};
 ghost use Rattle.mysql_wire_dump_fields.specs.FieldTables.{row_if};
-ghost use Rattle.mysql_wire_dump_fields.specs.Fields.{Puts, Words};
-ghost use Rattle.mysql_wire_dump_fields.specs.Packets.{Column, Columns, Done, End, Failed, File, Prepared, Progress, PutsFields};
+ghost use Rattle.mysql_wire_dump_fields.specs.Fields.{Words, value_of};
+ghost use Rattle.mysql_wire_dump_fields.specs.Packets.{Column, Columns, Done, End, Failed, File, Prepared, Progress};
 
-use super::{put_bytes_if, put_number_if, put_side_if, put_words};
-use crate::fields::Fields;
+use super::{Show, bytes_if, number_if, side_if};
+use crate::fields::FieldValue::{Flags, Number, Text};
+use crate::fields::{FieldValue, Fields};
 use mysql_wire_packets::eof_packet::EofPacket;
 use mysql_wire_packets::err_packet::ErrPacket;
 use mysql_wire_packets::ok_packet::OkForm;
@@ -18,137 +19,122 @@ use mysql_wire_queries::local_infile::LocalInfileRequest;
 use mysql_wire_statements::com_stmt_prepare_ok::ComStmtPrepareOk;
 use std::alloc::{AllocError, Allocator};
 
-pub fn ok<A: Allocator + Copy, const HEADER: u8>(
-    fields: &mut Fields<A>,
-    packet: &OkForm<'_, HEADER>,
-) -> Result<(), AllocError>
-    ensures { OnOk result (PutsFields (Done HEADER packet.now) fields.old fields.new) }
-{
-    fields.number("affected_rows", packet.affected_rows)?;
-    fields.number("last_insert_id", packet.last_insert_id)?;
-    fields.flags("status_flags", packet.status_flags.0 as u64)?;
-    fields.number("warnings", packet.warnings as u64)?;
-    put_side_if(fields, "info", &packet.info)?;
-    put_bytes_if(fields, "session_state_info", &packet.session_state)?;
-    Ok(())
-}
+impl<const HEADER: u8> Show for OkForm<'_, HEADER> {
+    ghost packet = { λ packet. Done HEADER packet };
 
-fn state<A: Allocator + Copy>(
-    fields: &mut Fields<A>,
-    state: &Option<[u8; 5]>,
-) -> Result<(), AllocError>
-    ensures { OnOk result (Puts (row_if (λ state. (codes "sql_state", Words state)) state.now)
-        fields.old fields.new) }
-{
-    match state {
-        Some(state) => fields.words("sql_state", state),
-        None => Ok(()),
+    fn show<A: Allocator + Copy>(&self, fields: &mut Fields<A>) -> Result<(), AllocError> {
+        fields.put_all(&[
+            ("affected_rows", Some(Number(self.affected_rows))),
+            ("last_insert_id", Some(Number(self.last_insert_id))),
+            ("status_flags", Some(Flags(self.status_flags.0 as u64))),
+            ("warnings", Some(Number(self.warnings as u64))),
+            ("info", side_if(&self.info)),
+            ("session_state_info", bytes_if(&self.session_state)),
+        ])
     }
 }
 
-pub fn error<A: Allocator + Copy>(
-    fields: &mut Fields<A>,
-    packet: &ErrPacket<'_>,
-) -> Result<(), AllocError>
-    ensures { OnOk result (PutsFields (Failed packet.now) fields.old fields.new) }
+// The state, where it is there.
+fn state_if(state: &Option<[u8; 5]>) -> Option<FieldValue<'_>>
+    ensures { (name : List ℕ) → row_if (λ value. (name, value_of value)) result
+        ≡ row_if (λ state. (name, Words state)) state.now }
 {
-    fields.number("error_code", packet.error_code as u64)?;
-    state(fields, &packet.sql_state)?;
-    put_words(fields, "error_message", &packet.error_message)?;
-    Ok(())
+    match state {
+        Some(state) => Some(Text(state)),
+        None => None,
+    }
 }
 
-pub fn progress<A: Allocator + Copy>(
-    fields: &mut Fields<A>,
-    packet: &ProgressReport<'_>,
-) -> Result<(), AllocError>
-    ensures { OnOk result (PutsFields (Progress packet.now) fields.old fields.new) }
-{
-    fields.number("strings", packet.strings as u64)?;
-    fields.number("stage", packet.stage as u64)?;
-    fields.number("max_stage", packet.max_stage as u64)?;
-    fields.number("progress", packet.progress as u64)?;
-    put_words(fields, "info", &packet.info)?;
-    Ok(())
+impl Show for ErrPacket<'_> {
+    ghost packet = { λ packet. Failed packet };
+
+    fn show<A: Allocator + Copy>(&self, fields: &mut Fields<A>) -> Result<(), AllocError> {
+        fields.put_all(&[
+            ("error_code", Some(Number(self.error_code as u64))),
+            ("sql_state", state_if(&self.sql_state)),
+            ("error_message", Some(Text(self.error_message.0.as_slice()))),
+        ])
+    }
 }
 
-pub fn eof<A: Allocator + Copy>(
-    fields: &mut Fields<A>,
-    packet: &EofPacket,
-) -> Result<(), AllocError>
-    ensures { OnOk result (PutsFields (End packet.now) fields.old fields.new) }
-{
-    fields.number("warnings", packet.warnings as u64)?;
-    fields.flags("status_flags", packet.status_flags.0 as u64)?;
-    Ok(())
+impl Show for ProgressReport<'_> {
+    ghost packet = { λ packet. Progress packet };
+
+    fn show<A: Allocator + Copy>(&self, fields: &mut Fields<A>) -> Result<(), AllocError> {
+        fields.put_all(&[
+            ("strings", Some(Number(self.strings as u64))),
+            ("stage", Some(Number(self.stage as u64))),
+            ("max_stage", Some(Number(self.max_stage as u64))),
+            ("progress", Some(Number(self.progress as u64))),
+            ("info", Some(Text(self.info.0.as_slice()))),
+        ])
+    }
 }
 
-pub fn local_infile<A: Allocator + Copy>(
-    fields: &mut Fields<A>,
-    packet: &LocalInfileRequest<'_>,
-) -> Result<(), AllocError>
-    ensures { OnOk result (PutsFields (File packet.now) fields.old fields.new) }
-{
-    put_words(fields, "filename", &packet.file_name)?;
-    Ok(())
+impl Show for EofPacket {
+    ghost packet = { λ packet. End packet };
+
+    fn show<A: Allocator + Copy>(&self, fields: &mut Fields<A>) -> Result<(), AllocError> {
+        fields.put_all(&[
+            ("warnings", Some(Number(self.warnings as u64))),
+            ("status_flags", Some(Flags(self.status_flags.0 as u64))),
+        ])
+    }
 }
 
-pub fn column_count<A: Allocator + Copy>(
-    fields: &mut Fields<A>,
-    packet: &ColumnCount,
-) -> Result<(), AllocError>
-    ensures { OnOk result (PutsFields (Columns packet.now) fields.old fields.new) }
-{
-    put_number_if(fields, "metadata_follows", packet.metadata_follows)?;
-    fields.number("column_count", packet.column_count)?;
-    put_number_if(
-        fields,
-        "mariadb_metadata_follows",
-        packet.mariadb_metadata_follows,
-    )?;
-    Ok(())
+impl Show for LocalInfileRequest<'_> {
+    ghost packet = { λ packet. File packet };
+
+    fn show<A: Allocator + Copy>(&self, fields: &mut Fields<A>) -> Result<(), AllocError> {
+        fields.put_all(&[("filename", Some(Text(self.file_name.0.as_slice())))])
+    }
 }
 
-fn column_names<A: Allocator + Copy>(
-    fields: &mut Fields<A>,
-    packet: &ColumnDefinition41<'_>,
-) -> Result<(), AllocError>
-    ensures { OnOk result (Puts (column_names packet.now) fields.old fields.new) }
-{
-    put_words(fields, "catalog", &packet.catalog)?;
-    put_words(fields, "schema", &packet.schema)?;
-    put_words(fields, "table", &packet.table)?;
-    put_words(fields, "org_table", &packet.org_table)?;
-    put_words(fields, "name", &packet.name)?;
-    put_words(fields, "org_name", &packet.org_name)?;
-    Ok(())
+impl Show for ColumnCount {
+    ghost packet = { λ packet. Columns packet };
+
+    fn show<A: Allocator + Copy>(&self, fields: &mut Fields<A>) -> Result<(), AllocError> {
+        fields.put_all(&[
+            ("metadata_follows", number_if(self.metadata_follows)),
+            ("column_count", Some(Number(self.column_count))),
+            (
+                "mariadb_metadata_follows",
+                number_if(self.mariadb_metadata_follows),
+            ),
+        ])
+    }
 }
 
-pub fn column<A: Allocator + Copy>(
-    fields: &mut Fields<A>,
-    packet: &ColumnDefinition41<'_>,
-) -> Result<(), AllocError>
-    ensures { OnOk result (PutsFields (Column packet.now) fields.old fields.new) }
-{
-    column_names(fields, packet)?;
-    put_bytes_if(fields, "extended_metadata", &packet.extended_metadata)?;
-    fields.number("character_set", packet.character_set as u64)?;
-    fields.number("column_length", packet.column_length as u64)?;
-    fields.number("type", packet.column_type.0 as u64)?;
-    fields.flags("flags", packet.flags.0 as u64)?;
-    fields.number("decimals", packet.decimals as u64)?;
-    Ok(())
+impl Show for ColumnDefinition41<'_> {
+    ghost packet = { λ packet. Column packet };
+
+    fn show<A: Allocator + Copy>(&self, fields: &mut Fields<A>) -> Result<(), AllocError> {
+        fields.put_all(&[
+            ("catalog", Some(Text(self.catalog.0.as_slice()))),
+            ("schema", Some(Text(self.schema.0.as_slice()))),
+            ("table", Some(Text(self.table.0.as_slice()))),
+            ("org_table", Some(Text(self.org_table.0.as_slice()))),
+            ("name", Some(Text(self.name.0.as_slice()))),
+            ("org_name", Some(Text(self.org_name.0.as_slice()))),
+            ("extended_metadata", bytes_if(&self.extended_metadata)),
+            ("character_set", Some(Number(self.character_set as u64))),
+            ("column_length", Some(Number(self.column_length as u64))),
+            ("type", Some(Number(self.column_type.0 as u64))),
+            ("flags", Some(Flags(self.flags.0 as u64))),
+            ("decimals", Some(Number(self.decimals as u64))),
+        ])
+    }
 }
 
-pub fn prepared<A: Allocator + Copy>(
-    fields: &mut Fields<A>,
-    packet: &ComStmtPrepareOk,
-) -> Result<(), AllocError>
-    ensures { OnOk result (PutsFields (Prepared packet.now) fields.old fields.new) }
-{
-    fields.number("statement_id", packet.statement_id as u64)?;
-    fields.number("num_columns", packet.num_columns as u64)?;
-    fields.number("num_params", packet.num_params as u64)?;
-    fields.number("warning_count", packet.warning_count as u64)?;
-    Ok(())
+impl Show for ComStmtPrepareOk {
+    ghost packet = { λ packet. Prepared packet };
+
+    fn show<A: Allocator + Copy>(&self, fields: &mut Fields<A>) -> Result<(), AllocError> {
+        fields.put_all(&[
+            ("statement_id", Some(Number(self.statement_id as u64))),
+            ("num_columns", Some(Number(self.num_columns as u64))),
+            ("num_params", Some(Number(self.num_params as u64))),
+            ("warning_count", Some(Number(self.warning_count as u64))),
+        ])
+    }
 }

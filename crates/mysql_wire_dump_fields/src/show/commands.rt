@@ -1,86 +1,48 @@
 //! Commands.
 
-ghost use Rattle.std.specs.Prelude.{◌∷◌, [], OnOk, codes};
-ghost use Rattle.mysql_wire_dump_fields.specs.CommandFields.{attributed_query_fields, attributes_and_query, change_user_fields, change_user_options, execute_fields, fetch_fields, long_data_fields, number_fields, param_fields, params_fields, plain_fields};
+ghost use Rattle.std.specs.Prelude.{◌≡◌, ◌∷◌, ℕ, List, [], OnOk};
+ghost use Rattle.mysql_wire_dump_fields.specs.CommandFields.{attributes_and_query, params_fields, plain_fields};
 ghost use Rattle.mysql_wire_dump_fields.specs.FieldTables.{row_if};
-ghost use Rattle.mysql_wire_dump_fields.specs.Fields.{Number, Octets, Puts};
-ghost use Rattle.mysql_wire_dump_fields.specs.Packets.{Command, Execute, Fetch, LongData, OfStatement, PutsFields};
+ghost use Rattle.mysql_wire_dump_fields.specs.Fields.{Number, Octets, Puts, value_of};
+ghost use Rattle.mysql_wire_dump_fields.specs.Packets.{Command, Execute, Fetch, LongData, OfStatement, Prepare, PutsFields};
 
-use super::{put_bytes, put_bytes_if, put_words, put_words_if};
-use crate::fields::Fields;
+use super::{Show, bytes_if, words_if};
+use crate::fields::FieldValue::{Bytes, Flags, Number, Text};
+use crate::fields::{Field, FieldValue, Fields};
 use mysql_wire_queries::client_command::ClientCommand;
-use mysql_wire_queries::com_change_user::ComChangeUser;
 use mysql_wire_queries::com_query_attributes::ComQueryWithAttributes;
+use mysql_wire_statements::com_stmt_close::ComStmtClose;
 use mysql_wire_statements::com_stmt_execute::ComStmtExecute;
 use mysql_wire_statements::com_stmt_fetch::ComStmtFetch;
+use mysql_wire_statements::com_stmt_prepare::ComStmtPrepare;
+use mysql_wire_statements::com_stmt_reset::ComStmtReset;
 use mysql_wire_statements::com_stmt_send_long_data::ComStmtSendLongData;
 use mysql_wire_statements::params::{ParamTypes, StmtParams};
 use std::alloc::{AllocError, Allocator};
 use wire_repr::int::{LeU16, RawInt};
 
 // Without parameters the query stands alone.
-fn attributes_and_query<A: Allocator + Copy>(
-    fields: &mut Fields<A>,
-    packet: &ComQueryWithAttributes<'_>,
-) -> Result<(), AllocError>
-    ensures { OnOk result (Puts (attributes_and_query packet.now ∷ []) fields.old fields.new) }
+fn attributes_and_query<'a>(packet: &'a ComQueryWithAttributes<'_>) -> Field<'a>
+    ensures { row_if (λ value. (result.0.now, value_of value)) result.1
+        ≡ attributes_and_query packet.now ∷ [] }
 {
+    let bytes = packet.attributes_and_query.0.as_slice();
     if packet.parameter_count == 0 {
-        put_words(fields, "query", &packet.attributes_and_query)
+        ("query", Some(Text(bytes)))
     } else {
-        put_bytes(fields, "attributes_and_query", &packet.attributes_and_query)
+        ("attributes_and_query", Some(Bytes(bytes)))
     }
 }
 
-fn attributed_query<A: Allocator + Copy>(
-    fields: &mut Fields<A>,
-    packet: &ComQueryWithAttributes<'_>,
-) -> Result<(), AllocError>
-    ensures { OnOk result (Puts (attributed_query_fields packet.now) fields.old fields.new) }
-{
-    fields.number("parameter_count", packet.parameter_count)?;
-    fields.number("parameter_set_count", packet.parameter_set_count)?;
-    attributes_and_query(fields, packet)?;
-    Ok(())
-}
-
-fn character_set<A: Allocator + Copy>(
-    fields: &mut Fields<A>,
-    number: &Option<RawInt<LeU16>>,
-) -> Result<(), AllocError>
-    ensures { OnOk result (Puts
-        (row_if (λ number. (codes "character_set", Number number.0)) number.now)
-        fields.old fields.new) }
+// The number of a character set, where it is there.
+fn character_set(number: &Option<RawInt<LeU16>>) -> Option<FieldValue<'_>>
+    ensures { (name : List ℕ) → row_if (λ value. (name, value_of value)) result
+        ≡ row_if (λ number. (name, Number number.0)) number.now }
 {
     match number {
-        Some(number) => fields.number("character_set", number.0 as u64),
-        None => Ok(()),
+        Some(number) => Some(Number(number.0 as u64)),
+        None => None,
     }
-}
-
-fn change_user_options<A: Allocator + Copy>(
-    fields: &mut Fields<A>,
-    packet: &ComChangeUser<'_>,
-) -> Result<(), AllocError>
-    ensures { OnOk result (Puts (change_user_options packet.now) fields.old fields.new) }
-{
-    character_set(fields, &packet.character_set)?;
-    put_words_if(fields, "auth_plugin_name", &packet.auth_plugin_name)?;
-    put_bytes_if(fields, "connect_attrs", &packet.connect_attrs)?;
-    Ok(())
-}
-
-fn change_user<A: Allocator + Copy>(
-    fields: &mut Fields<A>,
-    packet: &ComChangeUser<'_>,
-) -> Result<(), AllocError>
-    ensures { OnOk result (Puts (change_user_fields packet.now) fields.old fields.new) }
-{
-    put_words(fields, "user", &packet.user)?;
-    put_bytes(fields, "auth_plugin_data", &packet.auth_plugin_data)?;
-    put_words(fields, "database", &packet.database)?;
-    change_user_options(fields, packet)?;
-    Ok(())
 }
 
 fn put_plain<A: Allocator + Copy>(
@@ -90,23 +52,38 @@ fn put_plain<A: Allocator + Copy>(
     ensures { OnOk result (Puts (plain_fields command.now) fields.old fields.new) }
 {
     match command {
-        ClientCommand::InitDb(packet) => put_words(fields, "schema", &packet.schema),
-        ClientCommand::Query(packet) => put_words(fields, "query", &packet.query),
-        ClientCommand::AttributedQuery(packet) => attributed_query(fields, packet),
-        ClientCommand::ChangeUser(packet) => change_user(fields, packet),
+        ClientCommand::InitDb(packet) => { fields.put("schema", Text(packet.schema.0.as_slice())) }
+        ClientCommand::Query(packet) => fields.put("query", Text(packet.query.0.as_slice())),
+        ClientCommand::AttributedQuery(packet) => fields.put_all(&[
+            ("parameter_count", Some(Number(packet.parameter_count))),
+            (
+                "parameter_set_count",
+                Some(Number(packet.parameter_set_count)),
+            ),
+            attributes_and_query(packet),
+        ]),
+        ClientCommand::ChangeUser(packet) => fields.put_all(&[
+            ("user", Some(Text(packet.user.0.as_slice()))),
+            (
+                "auth_plugin_data",
+                Some(Bytes(packet.auth_plugin_data.0.as_slice())),
+            ),
+            ("database", Some(Text(packet.database.0.as_slice()))),
+            ("character_set", character_set(&packet.character_set)),
+            ("auth_plugin_name", words_if(&packet.auth_plugin_name)),
+            ("connect_attrs", bytes_if(&packet.connect_attrs)),
+        ]),
         ClientCommand::Quit(_) | ClientCommand::Ping(_) => Ok(()),
     }
 }
 
 /// A command without prepared statements.
-pub fn command<A: Allocator + Copy>(
-    fields: &mut Fields<A>,
-    command: &ClientCommand<'_>,
-) -> Result<(), AllocError>
-    ensures { OnOk result (PutsFields (Command command.now) fields.old fields.new) }
-{
-    put_plain(fields, command)?;
-    Ok(())
+impl Show for ClientCommand<'_> {
+    ghost packet = { λ command. Command command };
+
+    fn show<A: Allocator + Copy>(&self, fields: &mut Fields<A>) -> Result<(), AllocError> {
+        put_plain(fields, self)
+    }
 }
 
 pub fn number_of_statement<A: Allocator + Copy>(
@@ -115,34 +92,18 @@ pub fn number_of_statement<A: Allocator + Copy>(
 ) -> Result<(), AllocError>
     ensures { OnOk result (PutsFields (OfStatement statement_id) fields.old fields.new) }
 {
-    fields.number("statement_id", statement_id as u64)?;
-    Ok(())
+    fields.put("statement_id", Number(statement_id as u64))
 }
 
-fn types<A: Allocator + Copy>(
-    fields: &mut Fields<A>,
-    types: &Option<ParamTypes<'_>>,
-) -> Result<(), AllocError>
-    ensures { OnOk result (Puts
-        (row_if (λ types. (codes "parameter_type", Octets types.0.now)) types.now)
-        fields.old fields.new) }
+// The types of parameters, where they are there.
+fn types_if<'a>(types: &'a Option<ParamTypes<'_>>) -> Option<FieldValue<'a>>
+    ensures { (name : List ℕ) → row_if (λ value. (name, value_of value)) result
+        ≡ row_if (λ types. (name, Octets types.0.now)) types.now }
 {
     match types {
-        Some(types) => fields.bytes("parameter_type", types.0),
-        None => Ok(()),
+        Some(types) => Some(Bytes(types.0)),
+        None => None,
     }
-}
-
-fn param_bytes<A: Allocator + Copy>(
-    fields: &mut Fields<A>,
-    params: &StmtParams<'_>,
-) -> Result<(), AllocError>
-    ensures { OnOk result (Puts (param_fields params.now) fields.old fields.new) }
-{
-    fields.bytes("null_bitmap", params.nulls.0)?;
-    types(fields, &params.types)?;
-    fields.bytes("parameter_values", params.values)?;
-    Ok(())
 }
 
 fn params<A: Allocator + Copy>(
@@ -152,43 +113,72 @@ fn params<A: Allocator + Copy>(
     ensures { OnOk result (Puts (params_fields params.now) fields.old fields.new) }
 {
     match params {
-        Some(params) => param_bytes(fields, params),
+        Some(params) => fields.put_all(&[
+            ("null_bitmap", Some(Bytes(params.nulls.0))),
+            ("parameter_type", types_if(&params.types)),
+            ("parameter_values", Some(Bytes(params.values))),
+        ]),
         None => Ok(()),
     }
 }
 
-pub fn execute<A: Allocator + Copy>(
-    fields: &mut Fields<A>,
-    packet: &ComStmtExecute<'_>,
-) -> Result<(), AllocError>
-    ensures { OnOk result (PutsFields (Execute packet.now) fields.old fields.new) }
-{
-    fields.number("statement_id", packet.statement_id as u64)?;
-    fields.flags("flags", packet.flags.0 as u64)?;
-    fields.number("iteration_count", packet.iteration_count as u64)?;
-    params(fields, &packet.params)?;
-    Ok(())
+impl Show for ComStmtExecute<'_> {
+    ghost packet = { λ packet. Execute packet };
+
+    fn show<A: Allocator + Copy>(&self, fields: &mut Fields<A>) -> Result<(), AllocError> {
+        fields.put_all(&[
+            ("statement_id", Some(Number(self.statement_id as u64))),
+            ("flags", Some(Flags(self.flags.0 as u64))),
+            ("iteration_count", Some(Number(self.iteration_count as u64))),
+        ])?;
+        params(fields, &self.params)?;
+        Ok(())
+    }
 }
 
-pub fn long_data<A: Allocator + Copy>(
-    fields: &mut Fields<A>,
-    packet: &ComStmtSendLongData<'_>,
-) -> Result<(), AllocError>
-    ensures { OnOk result (PutsFields (LongData packet.now) fields.old fields.new) }
-{
-    fields.number("statement_id", packet.statement_id as u64)?;
-    fields.number("param_id", packet.param_id as u64)?;
-    fields.bytes("data", packet.data)?;
-    Ok(())
+impl Show for ComStmtSendLongData<'_> {
+    ghost packet = { λ packet. LongData packet };
+
+    fn show<A: Allocator + Copy>(&self, fields: &mut Fields<A>) -> Result<(), AllocError> {
+        fields.put_all(&[
+            ("statement_id", Some(Number(self.statement_id as u64))),
+            ("param_id", Some(Number(self.param_id as u64))),
+            ("data", Some(Bytes(self.data))),
+        ])
+    }
 }
 
-pub fn fetch<A: Allocator + Copy>(
-    fields: &mut Fields<A>,
-    packet: &ComStmtFetch,
-) -> Result<(), AllocError>
-    ensures { OnOk result (PutsFields (Fetch packet.now) fields.old fields.new) }
-{
-    fields.number("statement_id", packet.statement_id as u64)?;
-    fields.number("num_rows", packet.num_rows as u64)?;
-    Ok(())
+impl Show for ComStmtFetch {
+    ghost packet = { λ packet. Fetch packet };
+
+    fn show<A: Allocator + Copy>(&self, fields: &mut Fields<A>) -> Result<(), AllocError> {
+        fields.put_all(&[
+            ("statement_id", Some(Number(self.statement_id as u64))),
+            ("num_rows", Some(Number(self.num_rows as u64))),
+        ])
+    }
+}
+
+impl Show for ComStmtPrepare<'_> {
+    ghost packet = { λ packet. Prepare packet.query.now };
+
+    fn show<A: Allocator + Copy>(&self, fields: &mut Fields<A>) -> Result<(), AllocError> {
+        fields.put("query", Text(self.query))
+    }
+}
+
+impl Show for ComStmtClose {
+    ghost packet = { λ packet. OfStatement packet.statement_id };
+
+    fn show<A: Allocator + Copy>(&self, fields: &mut Fields<A>) -> Result<(), AllocError> {
+        number_of_statement(fields, self.statement_id)
+    }
+}
+
+impl Show for ComStmtReset {
+    ghost packet = { λ packet. OfStatement packet.statement_id };
+
+    fn show<A: Allocator + Copy>(&self, fields: &mut Fields<A>) -> Result<(), AllocError> {
+        number_of_statement(fields, self.statement_id)
+    }
 }

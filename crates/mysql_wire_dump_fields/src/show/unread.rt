@@ -1,21 +1,10 @@
 //! Payloads that are not read further, and texts.
 
 ghost use Rattle.std.specs.Prelude.{OnOk};
-ghost use Rattle.mysql_wire_dump_fields.specs.Packets.{ColumnBytes, Event, OtherCommand, Prepare, PutsFields, RowBytes, Statistics};
+ghost use Rattle.mysql_wire_dump_fields.specs.Packets.{ColumnBytes, Event, OtherCommand, PutsFields, RowBytes, Statistics};
 
-use crate::fields::Fields;
+use crate::fields::{FieldValue, Fields};
 use std::alloc::{AllocError, Allocator};
-
-/// The query of a statement that is to be prepared.
-pub fn prepare<A: Allocator + Copy>(
-    fields: &mut Fields<A>,
-    payload: &[u8],
-) -> Result<(), AllocError>
-    ensures { OnOk result (PutsFields (Prepare payload.now) fields.old fields.new) }
-{
-    fields.words("query", payload)?;
-    Ok(())
-}
 
 /// What a server says of itself.
 pub fn statistics<A: Allocator + Copy>(
@@ -24,8 +13,7 @@ pub fn statistics<A: Allocator + Copy>(
 ) -> Result<(), AllocError>
     ensures { OnOk result (PutsFields (Statistics payload.now) fields.old fields.new) }
 {
-    fields.words("statistics", payload)?;
-    Ok(())
+    fields.put("statistics", FieldValue::Text(payload))
 }
 
 /// A command of another kind.
@@ -35,8 +23,7 @@ pub fn other_command<A: Allocator + Copy>(
 ) -> Result<(), AllocError>
     ensures { OnOk result (PutsFields (OtherCommand payload.now) fields.old fields.new) }
 {
-    fields.bytes("payload", payload)?;
-    Ok(())
+    fields.put("payload", FieldValue::Bytes(payload))
 }
 
 /// One of the columns of a table, with its default behind it.
@@ -46,8 +33,7 @@ pub fn column_bytes<A: Allocator + Copy>(
 ) -> Result<(), AllocError>
     ensures { OnOk result (PutsFields (ColumnBytes payload.now) fields.old fields.new) }
 {
-    fields.bytes("column", payload)?;
-    Ok(())
+    fields.put("column", FieldValue::Bytes(payload))
 }
 
 /// A row in a form that is not known.
@@ -57,14 +43,12 @@ pub fn row_bytes<A: Allocator + Copy>(
 ) -> Result<(), AllocError>
     ensures { OnOk result (PutsFields (RowBytes payload.now) fields.old fields.new) }
 {
-    fields.bytes("values", payload)?;
-    Ok(())
+    fields.put("values", FieldValue::Bytes(payload))
 }
 
 /// An event of a binary log.
 pub fn event<A: Allocator + Copy>(fields: &mut Fields<A>, payload: &[u8]) -> Result<(), AllocError>
     ensures { OnOk result (PutsFields (Event payload.now) fields.old fields.new) }
 {
-    fields.bytes("event", payload)?;
-    Ok(())
+    fields.put("event", FieldValue::Bytes(payload))
 }

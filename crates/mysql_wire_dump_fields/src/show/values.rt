@@ -188,7 +188,7 @@ fn binary_values<A: Allocator + Copy>(
         }
     }
     if !rest.0.is_empty() {
-        fields.bytes("rest", rest.0)?;
+        fields.put("rest", FieldValue::Bytes(rest.0))?;
     }
     Ok(None)
 }
@@ -208,8 +208,10 @@ fn put_row<A: Allocator + Copy>(
     if types.len() as u64 == columns {
         return binary_values(global, fields, types, row);
     }
-    fields.bytes("null_bitmap", row.nulls.0)?;
-    fields.bytes("values", row.values)?;
+    fields.put_all(&[
+        ("null_bitmap", Some(FieldValue::Bytes(row.nulls.0))),
+        ("values", Some(FieldValue::Bytes(row.values))),
+    ])?;
     Ok(None)
 }
 

@@ -1,11 +1,8 @@
-use Rattle.std.proofs.Common.{◌∷◌, [], refl}
-use Rattle.std.specs.Prelude.{codes}
-use Rattle.mysql_wire_dump_fields.specs.Fields.{Octets}
+use Rattle.std.proofs.Common.{refl}
+use Rattle.mysql_wire_dump_fields.specs.Packets.{Event}
+use Rattle.mysql_wire_dump_fields.proofs.PacketLemmas.{puts_fields}
 use Rattle.mysql_wire_dump_fields.proofs.show.unread.event.Goals as goal
 
 pub returns : goal.returns
-returns g c = record {
-  members = (codes "event", Octets c.args.payload.now) ∷ [];
-  has = refl;
-  puts = c.in_ok-bytes.ensures;
-}
+returns g c =
+    puts_fields c.put.result (Event c.args.payload.now) _ c.args.fields.now c.put.new.self c.put.ensures refl

@@ -1,11 +1,8 @@
-use Rattle.std.proofs.Common.{◌∷◌, [], refl}
-use Rattle.std.specs.Prelude.{codes}
-use Rattle.mysql_wire_dump_fields.specs.Fields.{Words}
+use Rattle.std.proofs.Common.{refl}
+use Rattle.mysql_wire_dump_fields.specs.Packets.{Statistics}
+use Rattle.mysql_wire_dump_fields.proofs.PacketLemmas.{puts_fields}
 use Rattle.mysql_wire_dump_fields.proofs.show.unread.statistics.Goals as goal
 
 pub returns : goal.returns
-returns g c = record {
-  members = (codes "statistics", Words c.args.payload.now) ∷ [];
-  has = refl;
-  puts = c.in_ok-words.ensures;
-}
+returns g c =
+    puts_fields c.put.result (Statistics c.args.payload.now) _ c.args.fields.now c.put.new.self c.put.ensures refl

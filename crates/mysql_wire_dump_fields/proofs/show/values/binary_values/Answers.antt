@@ -15,13 +15,13 @@ columns-preserved g c =
     c.put_column.new.rest.0.now c.args.fields.now c.columns.fields c.put_column.new.fields (take_more c.args.types.now c.columns.place 0 c.columns-test.true)
     c.columns.invariant (rw c.in-None.is at c.in_ok-put_column.ensures)
 
-pub returns-in_ok-bytes : goal.returns-in_ok-bytes
-returns-in_ok-bytes g c =
-    values-ended c.args.types.now c.args.row.now c.columns.rest.0.now c.args.fields.now c.columns.fields c.bytes.new.self
+pub returns-in_ok-put : goal.returns-in_ok-put
+returns-in_ok-put g c =
+    values-ended c.args.types.now c.args.row.now c.columns.rest.0.now c.args.fields.now c.columns.fields c.put.new.self
     (subst (λ (place : ℕ). Values c.args.row.now.nulls.0.now c.args.types.now place c.args.row.now.values.now c.columns.rest.0.now c.args.fields.now c.columns.fields)
     (omega arith) c.columns.invariant)
-    (subst (λ (members : List Member). Puts members c.columns.fields c.bytes.new.self) (sym (rest-there c.columns.rest.0.now (sym c.is_empty.ensures ∙ c.if-not-is_empty.true)))
-    c.in_ok-bytes.ensures)
+    (subst (λ (members : List Member). Puts members c.columns.fields c.put.new.self) (sym (rest-there c.columns.rest.0.now (sym c.is_empty.ensures ∙ c.if-not-is_empty.true)))
+    c.in_ok-put.ensures)
 
 pub returns-else-not-is_empty : goal.returns-else-not-is_empty
 returns-else-not-is_empty g c =

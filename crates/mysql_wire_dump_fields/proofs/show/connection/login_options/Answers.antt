@@ -1,6 +1,0 @@
-use Rattle.mysql_wire_dump_fields.proofs.FieldLemmas.{puts_then}
-use Rattle.mysql_wire_dump_fields.proofs.show.connection.login_options.Goals as goal
-
-pub returns : goal.returns
-returns g c =
-    puts_then c.in_ok-put_words_if.ensures (puts_then c.in_ok-put_words_if-2.ensures (puts_then c.in_ok-put_bytes_if.ensures c.in_ok-put_number_if.ensures))

@@ -1,0 +1,12 @@
+use Rattle.std.proofs.Common.{◌≡◌, ◌++◌, ◌∙◌, List, ℕ, ap, append_assoc}
+use Rattle.std.proofs.KnownBytes.{Consumes-trans}
+use Rattle.mysql_wire_dump_lines.proofs.source.read_header.Goals as goal
+
+pub reads-preserved : goal.reads-preserved
+reads-preserved g c =
+    let before = c.reads.invariant in
+    let came = c.in_ok-read_more.ensures.came in (
+      before.0 ++ came.0,
+      came.2 ∙ ap (λ (z : List ℕ). z ++ came.0) before.1 ∙ append_assoc c.args.src.now.items before.0 came.0,
+      Consumes-trans (g.R.Read.remaining c.args.input.now) (g.R.Read.remaining c.reads.input) (g.R.Read.remaining c.read_more.new.input) before.0 came.0 before.2 came.3,
+    )
