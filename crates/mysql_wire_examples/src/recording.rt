@@ -1,9 +1,11 @@
 //! A stream that was recorded: compared, decoded once more, and taken into a list of its size.
 
-ghost use Rattle.std.specs.Prelude.{◌≡◌, ◌↔◌, ◌-◌, ◌^◌, ℕ, List, [], ◌++◌, min, length, take, IfOk, IsTrue, vec_len};
+ghost use Rattle.std.specs.Prelude.{◌≡◌, ◌↔◌, ◌-◌, ◌^◌, ℕ, List, [], ◌++◌, min, length, take, IfOk, IsTrue, Ok, vec_len};
+ghost use Rattle.mysql_wire.specs.Codec.{CodecState};
 ghost use Rattle.mysql_wire.specs.Delivery.{Delivers, Waiting};
 ghost use Rattle.mysql_wire.specs.Framing.{framing};
-ghost use Rattle.mysql_wire.specs.Runs.{joined, payloads};
+ghost use Rattle.mysql_wire.specs.Laws.{empty_state};
+ghost use Rattle.mysql_wire.specs.Runs.{RunsOver, joined, payloads};
 
 use crate::in_place::Tally;
 use bytes::BytesMut;
@@ -70,10 +72,9 @@ fn counted<A: Allocator + Copy>(
     limit: usize,
     pieces: &[&[u8]],
 ) -> Result<Tally, PacketCodecError>
-    ensures { IfOk result (λ tally. (packets : List (List ℕ)) × (unfinished : List ℕ)
-        × (rest : List ℕ)
-        × (tally.packets ≡ min (length packets) (2 ^ 64 - 1))
-        × Delivers [] (joined pieces.now) 0 limit packets Waiting unfinished rest) }
+    ensures { IfOk result (λ tally. (after : CodecState) × (packets : List (List ℕ))
+        × (left : List ℕ) × (tally.packets ≡ min (length packets) (2 ^ 64 - 1))
+        × RunsOver (empty_state 0 limit) (joined pieces.now) (Ok tt) packets after left) }
 {
     let mut codec = PacketCodec::default();
     codec.max_allowed_packet = limit;
@@ -98,7 +99,7 @@ pub fn take_counted<A: Allocator + Copy>(
     ensures { IfOk result (λ taken.
         taken.0.packets ≡ min (vec_len taken.1) (2 ^ 64 - 1)) }
 {
-    laws::one_delivery();
+    laws::one_run();
     let tally = counted(alloc, limit, pieces)?;
     let mut codec = PacketCodec::default();
     codec.max_allowed_packet = limit;

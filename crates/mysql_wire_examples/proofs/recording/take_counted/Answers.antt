@@ -1,9 +1,9 @@
-use Rattle.std.proofs.Common.{rules, ℕ, ◌≡◌, ◌-◌, ◌^◌, List, [], ◌++◌, length, min, drop, ap, sym, ◌∙◌, vec_len}
+use Rattle.std.proofs.Common.{rules, ℕ, ◌≡◌, ◌-◌, ◌^◌, List, ◌++◌, length, min, drop, ap, sym, ◌∙◌, Ok, vec_len}
 use Rattle.std.proofs.lemmas.List.{length-map}
 use Rattle.mysql_wire.specs.Codec.{CodecState, codec_state, header_of}
-use Rattle.mysql_wire.specs.Delivery.{Delivers, Waiting}
+use Rattle.mysql_wire.specs.Laws.{empty_state}
 use Rattle.mysql_wire.specs.Runs.{joined, payloads}
-use Rattle.mysql_wire_examples.proofs.CallerLemmas.{fresh_delivers}
+use Rattle.mysql_wire_examples.proofs.CallerLemmas.{fresh_run}
 use Rattle.mysql_wire_examples.proofs.recording.take_counted.Goals as goal
 
 pub returns : goal.returns
@@ -17,12 +17,12 @@ returns g c =
     let before : CodecState = record { limit = limit; id = c.default-codec.result.seq_id; header = header_of c.default-codec.result; unread = c.new-src.result.items; held = c.new-dst.result.items } in
     let after : CodecState = codec_state call.new.codec call.new.src.items call.new.dst.items in
     let left : List ℕ = joined (drop call.result.0 c.args.pieces.now) in
-    let mine : Delivers [] input 0 limit runs.0 Waiting after.held (after.unread ++ left) =
-    fresh_delivers before after limit input left call.result.1 runs.0
+    let mine = fresh_run before after limit input left call.result.1 runs.0
     (λ i. record { limit = limit; id = codec.0 i; header = codec.1 i; unread = c.new-src.ensures.items i; held = c.new-dst.ensures.items i })
     (search rules) runs.3 in
-    let same = c.one_delivery.ensures [] input 0 limit runs.0 seen.0 Waiting Waiting after.held seen.1 (after.unread ++ left) seen.2 mine seen.4 in
-    let all : payloads call.new.out.items ≡ seen.0 =
-    runs.1 ∙ ap (λ (z : List _). payloads z ++ runs.0) (c.in_ok-reserve.ensures.items ∙ c.new-packets.ensures.items) ∙ same.0 in
-    let count : length seen.0 ≡ vec_len call.new.out = ap (λ (z : List (List ℕ)). length z) (sym all) ∙ length-map call.new.out.items (λ packet. packet.items) ∙ sym call.new.out.ok.0 in
+    let same = c.one_run.ensures (empty_state 0 limit) seen.0 after input (Ok tt) (Ok tt) seen.1 runs.0 seen.2 left
+    (λ e. absurd cc) (λ e. absurd cc) seen.4 mine in
+    let all : payloads call.new.out.items ≡ seen.1 =
+    runs.1 ∙ ap (λ (z : List _). payloads z ++ runs.0) (c.in_ok-reserve.ensures.items ∙ c.new-packets.ensures.items) ∙ sym same.0 in
+    let count : length seen.1 ≡ vec_len call.new.out = ap (λ (z : List (List ℕ)). length z) (sym all) ∙ length-map call.new.out.items (λ packet. packet.items) ∙ sym call.new.out.ok.0 in
     seen.3 ∙ ap (λ (n : ℕ). min n (2 ^ 64 - 1)) count
