@@ -33,6 +33,8 @@ mod span_rows;
 #[cfg(test)]
 mod spanned;
 #[cfg(test)]
+mod spans;
+#[cfg(test)]
 mod taken;
 #[cfg(test)]
 mod writer;
