@@ -21,7 +21,7 @@ pub mod misc {
     /// Numbers, texts and constants as fields of packets, and fields in a row and in lists.
     pub mod raw {
         pub use wire_field::converted::{Const, IntoNumber, Numbered, RawConst, RawFlags};
-        pub use wire_field::raw_seq::RawSeq;
+        pub use wire_list::raw_seq::RawSeq;
         pub use wire_field::row::{Both, Either, Slice};
         pub use wire_forms::constant::Skip;
         pub use wire_repr::int::RawInt;
@@ -30,7 +30,7 @@ pub mod misc {
         /// What was written is read back, and how wrappers are compared, as functions.
         pub mod field_laws {
             pub use crate::field_laws::{constants, converted, numbers, rows};
-            pub use wire_field::field_laws::{compared, lists};
+            pub use wire_list::field_laws::{compared, lists};
             pub use wire_forms::field_laws::texts;
             pub use wire_repr::field_laws::{
                 number_back, number_comes_back, parse_back, text_comes_back,
@@ -49,8 +49,8 @@ pub mod misc {
 
         /// Lists, by the representations of their count.
         pub mod seq {
-            pub use wire_field::raw_seq::RawSeq;
-            pub use wire_field::seq::{Seq, SeqRepr, Unknown};
+            pub use wire_list::raw_seq::RawSeq;
+            pub use wire_list::seq::{Seq, SeqRepr, Unknown};
         }
 
         /// Numbers, by their representations.

@@ -7,13 +7,13 @@ ghost use Rattle.mysql_wire_packets.specs.Optional.{OnIf};
 ghost use Rattle.mysql_wire_queries.specs.TextValues.{value_of, value_bytes, ReadsValue, SameValue, row_bytes, value-back, row-back};
 ghost use Rattle.std.specs.Cow.{cow_slice_items};
 ghost use Rattle.std.specs.List.{All};
-ghost use Rattle.wire_field.specs.Elements.{AllKept};
+ghost use Rattle.wire_list.specs.Elements.{AllKept};
 
 use std::alloc::{Allocator, Global};
 use wire_buf::error::{InvalidLengthEncodedInteger, WireError};
 use wire_buf::io::ParseBuf;
 use wire_buf::proto::{HasSize, MyDeserialize, MySerialize, Varying};
-use wire_field::seq::{Seq, Unknown};
+use wire_list::seq::{Seq, Unknown};
 use wire_forms::lenenc::LenEnc;
 use wire_repr::text::RawBytes;
 use wire_repr::wire::Wire;

@@ -1,5 +1,3 @@
 pub mod ConvertedLemmas
-pub mod CountedLemmas
-pub mod ReadLemmas
 pub mod RowLemmas
 pub mod WriteLemmas

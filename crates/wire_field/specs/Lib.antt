@@ -1,6 +1,3 @@
 pub mod Converted
 pub mod Borrowed
 pub mod Rows
-pub mod Copies
-pub mod Elements
-pub mod Counted

@@ -1,0 +1,3 @@
+pub mod CountedLemmas
+pub mod ReadLemmas
+pub mod WriteLemmas

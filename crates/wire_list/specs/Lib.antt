@@ -1,0 +1,3 @@
+pub mod Copies
+pub mod Elements
+pub mod Counted

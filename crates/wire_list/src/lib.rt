@@ -1,0 +1,7 @@
+//! Lists of fields: of values behind their count, and of numbers that stand for constants; and how
+//! fields are compared.
+#![tactic(auto)]
+
+pub mod field_laws;
+pub mod raw_seq;
+pub mod seq;
