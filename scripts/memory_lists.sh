@@ -1,10 +1,10 @@
 #!/usr/bin/env bash
-# Compares the public functions of the layers with the tables of memory_tests and the lists of
-# memory_support, in both directions. Each function stands in the lists of its kind, and in no list of another:
+# Compares the public functions of the layers with the tables and the lists of memory_support, in
+# both directions. Each function stands in the lists of its kind, and in no list of another:
 #
-# - An allocator is within its reach: in a table of memory_tests that is run. That is one of the
-#   functions that take memory (each request refused in turn), the one of those that ask for none,
-#   or both where it depends on what the function is called with.
+# - An allocator is within its reach: in a table that is run. That is one of the functions that take
+#   memory (each request refused in turn), the one of those that ask for none, or both where it
+#   depends on what the function is called with.
 # - It names `Global`, which no test can refuse: in global.txt, with the call that is its whole
 #   body. That call is in a table that is run, or is in global.txt itself, and its own call is.
 # - It names neither, so that it can't ask: in no_allocator.txt. Its signature, its body and the
@@ -23,10 +23,10 @@ export LC_ALL=C
 cd "$(dirname "$0")/.." || exit 1
 source scripts/checks.sh
 layers=(wire_const wire_buf wire_ext wire_repr wire_forms wire_field wire_list wire_codec wire_span wire_packet_io mysql_wire)
-tests=crates/memory_tests/src/requests
+tests=crates/memory_support/src/requests
 lists=crates/memory_support
 
-# Prints the names in the tables of these modules of memory_tests.
+# Prints the names in the tables of these modules.
 in_tables() {
     for module in "$@"; do
         sed -n '/^\(pub \)\?const ROWS/,/^];/p' "$tests/$module.rt"
@@ -77,15 +77,15 @@ sed 's/: .*//' "$work/global.list" >"$work/global_names"
 
 holds_for_none 'a name of two functions' <"$work/twice"
 holds_for_none 'a function that public_functions.py cannot read' <"$work/unread"
-holds_for_none 'an allocator is within reach, and no table of memory_tests has it' \
+holds_for_none 'an allocator is within reach, and no table has it' \
     < <(comm -23 "$work/within" "$work/tables")
-holds_for_none 'in a table of memory_tests, and no function with an allocator within reach' \
+holds_for_none 'in a table, and no function with an allocator within reach' \
     < <(comm -13 "$work/within" "$work/tables")
 holds_for_none 'names Global, and global.txt has no such line' \
     < <(comm -23 "$work/global" "$work/global.list")
 holds_for_none 'in global.txt, and no function of Global alone, or not by this call' \
     < <(comm -13 "$work/global" "$work/global.list")
-holds_for_none 'passes its work to what no table of memory_tests has' < <(not_run)
+holds_for_none 'passes its work to what no table has' < <(not_run)
 holds_for_none 'names no allocator, and no_allocator.txt lacks it' \
     < <(comm -23 "$work/none" "$work/no_allocator.list")
 holds_for_none 'in no_allocator.txt, and no function without an allocator within reach' \

@@ -5,24 +5,29 @@ use mysql_wire::misc::raw::bytes::{BareBytes, BytesRepr, EofBytes};
 use std::alloc::Global;
 use std::borrow::CowSlice;
 use std::test::Fail;
-use test_support::facts::all_hold;
+use test_support::facts::{all_hold, same};
 
-// Whether a text holds all of these bytes, and shows the first of them.
+// Whether a text holds all of these bytes, and shows the first of them, which are those or fewer.
 fn is_cut<T: BytesRepr>(text: &RawBytes<'_, T>, whole: &[u8], bytes: &[u8]) -> bool {
     let mut all = text.len() == bytes.len();
     all &= text.is_empty() == bytes.is_empty();
-    all &= text.as_bytes() == bytes;
+    all &= same(text.as_bytes(), bytes);
     all &= text.eq_bytes(whole);
-    all & (text.eq_bytes(bytes) == (whole == bytes))
+    all & (text.eq_bytes(bytes) == (whole.len() == bytes.len()))
+}
+
+// Whether a text is this string.
+fn is_string<T: BytesRepr>(alloc: Global, text: &RawBytes<'_, T>, string: &str) -> bool {
+    match text.as_str(alloc) {
+        Ok(shown) => shown.as_str() == string,
+        Err(_) => false,
+    }
 }
 
 // Whether a text shows these bytes of all that it holds, and this string.
 fn is_shown<T: BytesRepr>(alloc: Global, whole: &[u8], bytes: &[u8], string: &str) -> bool {
     let text = RawBytes::<T>::new(CowSlice::Borrowed(whole));
-    match text.as_str(alloc) {
-        Ok(shown) => is_cut(&text, whole, bytes) & (shown.as_str() == string),
-        Err(_) => false,
-    }
+    is_cut(&text, whole, bytes) & is_string(alloc, &text, string)
 }
 
 // What is cut away is not looked at, and what is no UTF-8 is replaced in a string.

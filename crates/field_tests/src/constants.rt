@@ -106,36 +106,31 @@ const NO_TEXT: &[Refused<()>] = &[
     ((), 0, b"\xfebim\0d", OTHER, 2),
 ];
 
-fn are_constants<A: Allocator + Copy>(heap: &Heap, alloc: A) -> [bool; 6] {
+fn are_constants<A: Allocator + Copy>(heap: &Heap, alloc: A) -> bool {
     let magic = ConstBytes::<Magic, 4>::default();
     let nothing = ConstBytes::<Nothing, 0>::default();
     let number = ConstU32::<(), 0x01020304>::new();
     let most = ConstU32::<(), 0xffffffff>::default();
-    [
-        is_byte::<7, A>(heap, alloc, ConstU8::new(), b"\x07\x07\0", NO_BYTE),
-        is_byte::<255, A>(heap, alloc, ConstU8::default(), b"\xff", &[]),
-        is_number(heap, alloc, number, b"\x04\x03\x02\x01\0", NO_NUMBER),
-        is_number(heap, alloc, most, b"\xff\xff\xff\xff\xff", &[]),
-        is_at(heap, alloc, &magic, b"\xfebin\0", 4, NO_TEXT),
-        is_at(heap, alloc, &nothing, b"a", 0, &[]),
-    ]
+    let mut all = is_byte::<7, A>(heap, alloc, ConstU8::new(), b"\x07\x07\0", NO_BYTE);
+    all &= is_byte::<255, A>(heap, alloc, ConstU8::default(), b"\xff", &[]);
+    all &= is_number(heap, alloc, number, b"\x04\x03\x02\x01\0", NO_NUMBER);
+    all &= is_number(heap, alloc, most, b"\xff\xff\xff\xff\xff", &[]);
+    all &= is_at(heap, alloc, &magic, b"\xfebin\0", 4, NO_TEXT);
+    all & is_at(heap, alloc, &nothing, b"a", 0, &[])
 }
 
 // Arrays, and bytes to skip, in whose place anything is read.
-fn are_bytes<A: Allocator + Copy>(heap: &Heap, alloc: A) -> [bool; 7] {
-    [
-        is_array(heap, alloc, *b"abc", b"abcde"),
-        is_array(heap, alloc, [], b"a"),
-        is_array(heap, alloc, [1; 40], &[1; 41]),
-        is_skipped::<0, A>(heap, alloc, b"\x01"),
-        is_skipped::<3, A>(heap, alloc, b"\0\0\0\x01"),
-        gives::<Skip<3>, (), A>(alloc, (), b"abcd", &Skip, 1),
-        // The other sizes are looked at with their values.
-        has_size::<ParseBuf<'_>>(None),
-    ]
+fn are_bytes<A: Allocator + Copy>(heap: &Heap, alloc: A) -> bool {
+    let mut all = is_array(heap, alloc, *b"abc", b"abcde");
+    all &= is_array(heap, alloc, [], b"a");
+    all &= is_skipped::<0, A>(heap, alloc, b"\x01");
+    all &= is_skipped::<3, A>(heap, alloc, b"\0\0\0\x01");
+    all &= gives::<Skip<3>, (), A>(alloc, (), b"abcd", &Skip, 1);
+    // The other sizes are looked at with their values.
+    all & has_size::<ParseBuf<'_>>(None)
 }
 
 /// Whether constants are written and read, and others refused.
 pub fn all_constants<A: Allocator + Copy>(heap: &Heap, alloc: A) -> bool {
-    (are_constants(heap, alloc) == [true; 6]) & (are_bytes(heap, alloc) == [true; 7])
+    are_constants(heap, alloc) & are_bytes(heap, alloc)
 }

@@ -4,7 +4,7 @@
 mod errors;
 mod lenenc;
 mod numbers;
-mod parse;
+pub mod parse;
 mod streams;
 mod varlen;
 mod versions;

@@ -9,12 +9,10 @@ use mysql_wire::misc::raw::int::{IntRepr, LeU16, LeU32, LeU64, VarLen};
 use mysql_wire::misc::raw::seq::{Seq, SeqRepr, Unknown};
 use mysql_wire::misc::raw::{Const, RawBytes, RawInt, Skip};
 use mysql_wire::proto::{MyDeserialize, MySerialize};
-use refusing_allocator::{NEVER, Refusing};
+use refusing_allocator::NEVER;
 use std::alloc::Allocator;
 use std::borrow::CowSlice;
-use std::test::Fail;
 use test_support::answers::Fault;
-use test_support::facts::all_hold;
 use test_support::fixture::Heap;
 
 const EOF: Fault = Fault::UnexpectedEof;
@@ -92,7 +90,7 @@ where
 
 // Each count, with its numbers and without. What is called once for each type is generic in the
 // allocator, since each call at a type proves anew that it is one.
-fn are_numbers<'de, A>(heap: &Heap, alloc: A, two: &'de [RawInt<LeU16>]) -> [bool; 5]
+fn are_numbers<'de, A>(heap: &Heap, alloc: A, two: &'de [RawInt<LeU16>]) -> bool
 where
     A: 'de + Allocator + Copy,
 {
@@ -106,13 +104,11 @@ where
     let no_bare: &[Refused<'de, usize>] = BARE;
     let no_varying: &[Refused<'de, ()>] = VARYING;
     let nothing: &[Refused<'de, ()>] = &[];
-    [
-        is_list_of_numbers::<LeU16, LeU32, A>(heap, alloc, (), four, no_four),
-        is_list_of_numbers::<LeU16, LeU32, A>(heap, alloc, (), none, nothing),
-        is_list_of_numbers::<LeU16, LeU64, A>(heap, alloc, (), eight, no_eight),
-        is_list_of_numbers::<LeU16, Unknown, A>(heap, alloc, 2, bare, no_bare),
-        is_list_of_numbers::<VarLen, LeU32, A>(heap, alloc, (), varying, no_varying),
-    ]
+    let mut all = is_list_of_numbers::<LeU16, LeU32, A>(heap, alloc, (), four, no_four);
+    all &= is_list_of_numbers::<LeU16, LeU32, A>(heap, alloc, (), none, nothing);
+    all &= is_list_of_numbers::<LeU16, LeU64, A>(heap, alloc, (), eight, no_eight);
+    all &= is_list_of_numbers::<LeU16, Unknown, A>(heap, alloc, 2, bare, no_bare);
+    all & is_list_of_numbers::<VarLen, LeU32, A>(heap, alloc, (), varying, no_varying)
 }
 
 // ---- lists of other elements
@@ -129,7 +125,7 @@ const NO_TEXTS: &[Refused<()>] = &[
 ];
 
 // Elements of no bytes, and constants.
-fn are_others<'de, A>(heap: &Heap, alloc: A, types: &'de [Const<ColumnType, u8>]) -> [bool; 2]
+fn are_others<'de, A>(heap: &Heap, alloc: A, types: &'de [Const<ColumnType, u8>]) -> bool
 where
     A: 'de + Allocator + Copy,
 {
@@ -137,10 +133,8 @@ where
     let types: List<'de, Const<ColumnType, u8>> = (types, b"\x01\0\0\0\xf5\0", 5, 4);
     let no_types: &[Refused<'de, ()>] = NO_TYPES;
     let nothing: &[Refused<'de, ()>] = &[];
-    [
-        is_list::<Skip<0>, LeU32, A>(heap, alloc, (), none, nothing),
-        is_list::<Const<ColumnType, u8>, LeU32, A>(heap, alloc, (), types, no_types),
-    ]
+    let mut all = is_list::<Skip<0>, LeU32, A>(heap, alloc, (), none, nothing);
+    all & is_list::<Const<ColumnType, u8>, LeU32, A>(heap, alloc, (), types, no_types)
 }
 
 // Two texts, with one byte behind them.
@@ -152,25 +146,13 @@ where
     is_list::<RawBytes<'de, U8Bytes, A>, LeU32, A>(heap, alloc, (), texts, NO_TEXTS)
 }
 
-fn are_lists<'de, A>(heap: &Heap, alloc: A, texts: &'de [RawBytes<'de, U8Bytes, A>]) -> [bool; 3]
+/// Whether lists are written and read, and others refused. The texts are `a` and one of no bytes.
+pub fn are_lists<'de, A>(heap: &Heap, alloc: A, texts: &'de [RawBytes<'de, U8Bytes, A>]) -> bool
 where
     A: 'de + Allocator + Copy,
 {
     let two = [RawInt::<LeU16>::new(1), RawInt::<LeU16>::new(2)];
     let types = [Const::<ColumnType, u8>::new(ColumnType::MYSQL_TYPE_JSON)];
-    [
-        are_numbers(heap, alloc, &two) == [true; 5],
-        are_others(heap, alloc, &types) == [true; 2],
-        are_texts(heap, alloc, texts),
-    ]
-}
-
-#[test]
-fn lists_are_written_and_read_and_others_refused(rt: HostRuntime) -> Result<(), Fail> {
-    let heap = &Refusing::new(rt.alloc(), 0);
-    let texts = [
-        RawBytes::<U8Bytes, &Heap>::from(b"a".as_slice()),
-        RawBytes::<U8Bytes, &Heap>::from(b"".as_slice()),
-    ];
-    all_hold(&are_lists(heap, heap, &texts))
+    let are_numbers = are_numbers(heap, alloc, &two);
+    are_numbers & are_others(heap, alloc, &types) & are_texts(heap, alloc, texts)
 }

@@ -19,11 +19,11 @@ type Row<'a> = Both<RawInt<LeU16>, Both<RawBytes<'a, LenEnc>, RawBytes<'a, EofBy
 type List<'a> = Seq<'a, RawInt<LeU16>, LeU32, Global>;
 
 // 40 numbers, behind their count.
-const NUMBERS: &[u8; 84] =
+const NUMBERS: &[u8] =
     b"\x28\0\0\0BBBBBBBBBBBBBBBBBBBBBBBBBBBBBBBBBBBBBBBBBBBBBBBBBBBBBBBBBBBBBBBBBBBBBBBBBBBBBBBB";
 
 // A number, a text of 40 bytes behind its length, and a text to the end.
-const ROW: &[u8; 103] =
+const ROW: &[u8] =
     b"\x02\x01\x28aaaaaaaaaaaaaaaaaaaaaaaaaaaaaaaaaaaaaaaabbbbbbbbbbbbbbbbbbbbbbbbbbbbbbbbbbbbbbbbbbbbbbbbbbbbbbbbbbbb";
 
 // A row of three fields.

@@ -60,15 +60,13 @@ where
 }
 
 // A number of a byte, whatever it stands for; of three; and the halves of a set.
-fn are_raw_numbers<A: Allocator + Copy>(heap: &Heap, alloc: A) -> [bool; 5] {
+fn are_raw_numbers<A: Allocator + Copy>(heap: &Heap, alloc: A) -> bool {
     let more = RawFlags::<CapabilityFlags, LeU32LowerHalf>::new(0x10002);
-    [
-        is_raw_const::<u8, ColumnType, A>(heap, alloc, 1, 244, b"\xf4\x01"),
-        is_raw_const::<LeU24, (), A>(heap, alloc, 3, 0x010203, b"\x03\x02\x01\0"),
-        are_raw_flags::<StatusFlags, LeU16, A>(heap, alloc, 2, 7, b"\x07\0\xff"),
-        are_raw_flags::<CapabilityFlags, LeU32LowerHalf, A>(heap, alloc, 2, 2, b"\x02\0\x01"),
-        is_written(heap, &more, b"\x02\0"),
-    ]
+    let mut all = is_raw_const::<u8, ColumnType, A>(heap, alloc, 1, 244, b"\xf4\x01");
+    all &= is_raw_const::<LeU24, (), A>(heap, alloc, 3, 0x010203, b"\x03\x02\x01\0");
+    all &= are_raw_flags::<StatusFlags, LeU16, A>(heap, alloc, 2, 7, b"\x07\0\xff");
+    all &= are_raw_flags::<CapabilityFlags, LeU32LowerHalf, A>(heap, alloc, 2, 2, b"\x02\0\x01");
+    all & is_written(heap, &more, b"\x02\0")
 }
 
 fn are_shown() -> bool {
@@ -111,24 +109,20 @@ const NO_STATUS: &[Refused<()>] = &[((), 0, b"\x04\0\0", UNKNOWN, 1)];
 
 // Numbers of constants, of which some are read and not written, and numbers that stand for none.
 // Reading takes no memory.
-fn are_constants<A: Allocator + Copy>(heap: &Heap, alloc: A) -> [bool; 4] {
+fn are_constants<A: Allocator + Copy>(heap: &Heap, alloc: A) -> bool {
     let cursor = Const::<CursorType, u8>::new(CursorType::CURSOR_TYPE_READ_ONLY);
     let invalid = Const::<ItemResult, i8>::new(ItemResult::INVALID_RESULT);
-    [
-        is_at(heap, alloc, &cursor, b"\x01\xff", 1, NO_CURSOR),
-        gives(alloc, (), b"\xff\x01", &invalid, 1) & (heap.left() == 0),
-        are_refused::<Const<ItemResult, i8>, (), A>(heap, alloc, Some(1), NO_RESULT),
-        are_refused::<Const<StatusFlags, LeU16>, (), A>(heap, alloc, Some(2), NO_STATUS),
-    ]
+    let mut all = is_at(heap, alloc, &cursor, b"\x01\xff", 1, NO_CURSOR);
+    all &= gives(alloc, (), b"\xff\x01", &invalid, 1) & (heap.left() == 0);
+    all &= are_refused::<Const<ItemResult, i8>, (), A>(heap, alloc, Some(1), NO_RESULT);
+    all & are_refused::<Const<StatusFlags, LeU16>, (), A>(heap, alloc, Some(2), NO_STATUS)
 }
 
 /// Numbers that stand for constants and flags, or for none. Few types stand in each function: what it
 /// costs grows faster than its calls.
-pub fn are_named<A: Allocator + Copy>(heap: &Heap, alloc: A) -> [bool; 4] {
-    [
-        are_raw_numbers(heap, alloc) == [true; 5],
-        are_shown(),
-        are_column_types(heap, alloc),
-        are_constants(heap, alloc) == [true; 4],
-    ]
+pub fn are_named<A: Allocator + Copy>(heap: &Heap, alloc: A) -> bool {
+    let mut all = are_raw_numbers(heap, alloc);
+    all &= are_shown();
+    all &= are_column_types(heap, alloc);
+    all & are_constants(heap, alloc)
 }

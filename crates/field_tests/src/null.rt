@@ -1,11 +1,14 @@
 // The end of a text at its first zero, wherever that stands.
 
-use mysql_wire::io::{InvalidReason, ParseBuf};
+use crate::io::parse::eats_null_str;
+use mysql_wire::io::InvalidReason;
 use mysql_wire::misc::raw::RawBytes;
 use mysql_wire::misc::raw::bytes::NullBytes;
 use mysql_wire::proto::MySerialize;
 use std::alloc::Global;
 use test_support::answers::Fault;
+use test_support::facts::same;
+use test_support::fields::{gives, stops};
 use test_support::reference::{between, first_zero};
 
 // Whether the text up to its first zero is written, and a zero.
@@ -14,28 +17,35 @@ fn is_written(buf: &mut Vec<u8>, text: &[u8], zero: usize) -> bool {
     let is_put = RawBytes::<NullBytes>::from(text).serialize(buf).is_ok();
     let bytes = buf.as_slice();
     let is_end = (first_zero(bytes) == zero) & (bytes.len() == zero.saturating_add(1));
-    is_put & is_end & (between(bytes, 0, zero) == between(text, 0, zero))
+    is_put & is_end & same(between(bytes, 0, zero), between(text, 0, zero))
 }
 
-// Whether the text is read up to its first zero, which is eaten; where there is none, whether that
-// is said and nothing is eaten.
-fn is_read(alloc: Global, input: &[u8], zero: usize) -> bool {
-    let mut buf = ParseBuf(input);
-    let no_zero = Fault::Invalid(InvalidReason::NoNullTerminator);
-    match buf.parse::<RawBytes<'_, NullBytes>>(alloc, ()) {
-        Ok(text) => {
-            let is_text = text.eq_bytes(between(input, 0, zero));
-            let left = between(input, zero.saturating_add(1), input.len());
-            (zero < input.len()) & is_text & (buf.0 == left)
-        }
-        Err(error) => (zero == input.len()) & (Fault::of(&error) == no_zero) & (buf.0 == input),
+// Whether the text before its first zero is read, and this is left behind that; where there is no
+// zero, whether that is said and nothing is eaten.
+fn is_read(alloc: Global, input: &[u8], text: &[u8], left: &[u8]) -> bool {
+    if text.len() == input.len() {
+        let no_zero = Fault::Invalid(InvalidReason::NoNullTerminator);
+        stops::<RawBytes<'_, NullBytes>, (), Global>(alloc, (), input, no_zero, input.len())
+    } else {
+        gives(
+            alloc,
+            (),
+            input,
+            &RawBytes::<NullBytes>::from(text),
+            left.len(),
+        )
     }
 }
 
-// Whether the text ends at the zero that a plain loop finds in it, which stands at this place.
-fn ends_at(alloc: Global, buf: &mut Vec<u8>, text: &[u8], place: usize) -> bool {
-    let zero = first_zero(text);
-    (zero == place) & is_written(buf, text, zero) & is_read(alloc, text, zero)
+// Whether the text ends at the zero that a plain loop finds in it, which stands at this place, by
+// each of those that look for it.
+fn ends_at(alloc: Global, buf: &mut Vec<u8>, input: &[u8], place: usize) -> bool {
+    let zero = first_zero(input);
+    let text = between(input, 0, zero);
+    let left = between(input, zero.saturating_add(1), input.len());
+    let is_eaten = eats_null_str(input, text, left);
+    let is_read = is_read(alloc, input, text, left);
+    (zero == place) & is_eaten & is_read & is_written(buf, input, zero)
 }
 
 // One zero at each place, and none; and two, of which the first ends the text.

@@ -205,41 +205,35 @@ const VARLEN: &[Row<VarLen>] = &[
 
 // Fixed widths without a sign: of a wider number the low bytes are written. Few types stand in one
 // function: what it costs grows faster than they do.
-fn are_unsigned<A: Allocator + Copy>(heap: &Heap, alloc: A) -> [bool; 7] {
+fn are_unsigned<A: Allocator + Copy>(heap: &Heap, alloc: A) -> bool {
     let none = Eaten::Nothing;
-    [
-        are_numbers::<u8, A>(heap, alloc, Some(1), none, U8),
-        are_numbers::<LeU16, A>(heap, alloc, Some(2), none, LE_U16),
-        are_numbers::<LeU24, A>(heap, alloc, Some(3), none, LE_U24),
-        are_numbers::<LeU32, A>(heap, alloc, Some(4), none, LE_U32),
-        are_numbers::<LeU48, A>(heap, alloc, Some(6), none, LE_U48),
-        are_numbers::<LeU56, A>(heap, alloc, Some(7), none, LE_U56),
-        are_numbers::<LeU64, A>(heap, alloc, Some(8), none, LE_U64),
-    ]
+    let mut all = are_numbers::<u8, A>(heap, alloc, Some(1), none, U8);
+    all &= are_numbers::<LeU16, A>(heap, alloc, Some(2), none, LE_U16);
+    all &= are_numbers::<LeU24, A>(heap, alloc, Some(3), none, LE_U24);
+    all &= are_numbers::<LeU32, A>(heap, alloc, Some(4), none, LE_U32);
+    all &= are_numbers::<LeU48, A>(heap, alloc, Some(6), none, LE_U48);
+    all &= are_numbers::<LeU56, A>(heap, alloc, Some(7), none, LE_U56);
+    all & are_numbers::<LeU64, A>(heap, alloc, Some(8), none, LE_U64)
 }
 
 // And with one.
-fn are_signed<A: Allocator + Copy>(heap: &Heap, alloc: A) -> [bool; 6] {
+fn are_signed<A: Allocator + Copy>(heap: &Heap, alloc: A) -> bool {
     let none = Eaten::Nothing;
-    [
-        are_numbers::<i8, A>(heap, alloc, Some(1), none, I8),
-        are_numbers::<LeI16, A>(heap, alloc, Some(2), none, LE_I16),
-        are_numbers::<LeI24, A>(heap, alloc, Some(3), none, LE_I24),
-        are_numbers::<LeI32, A>(heap, alloc, Some(4), none, LE_I32),
-        are_numbers::<LeI56, A>(heap, alloc, Some(7), none, LE_I56),
-        are_numbers::<LeI64, A>(heap, alloc, Some(8), none, LE_I64),
-    ]
+    let mut all = are_numbers::<i8, A>(heap, alloc, Some(1), none, I8);
+    all &= are_numbers::<LeI16, A>(heap, alloc, Some(2), none, LE_I16);
+    all &= are_numbers::<LeI24, A>(heap, alloc, Some(3), none, LE_I24);
+    all &= are_numbers::<LeI32, A>(heap, alloc, Some(4), none, LE_I32);
+    all &= are_numbers::<LeI56, A>(heap, alloc, Some(7), none, LE_I56);
+    all & are_numbers::<LeI64, A>(heap, alloc, Some(8), none, LE_I64)
 }
 
 // Halves of a number, and numbers at the ends of their forms.
-fn are_others<A: Allocator + Copy>(heap: &Heap, alloc: A) -> [bool; 4] {
+fn are_others<A: Allocator + Copy>(heap: &Heap, alloc: A) -> bool {
     let none = Eaten::Nothing;
-    [
-        are_numbers::<LeU32LowerHalf, A>(heap, alloc, Some(2), none, LOWER_HALVES),
-        are_numbers::<LeU32UpperHalf, A>(heap, alloc, Some(2), none, UPPER_HALVES),
-        are_numbers::<LenEnc, A>(heap, alloc, None, Eaten::First, LENENC),
-        are_numbers::<VarLen, A>(heap, alloc, None, Eaten::All, VARLEN),
-    ]
+    let mut all = are_numbers::<LeU32LowerHalf, A>(heap, alloc, Some(2), none, LOWER_HALVES);
+    all &= are_numbers::<LeU32UpperHalf, A>(heap, alloc, Some(2), none, UPPER_HALVES);
+    all &= are_numbers::<LenEnc, A>(heap, alloc, None, Eaten::First, LENENC);
+    all & are_numbers::<VarLen, A>(heap, alloc, None, Eaten::All, VARLEN)
 }
 
 // The marks are read as zero.
@@ -283,19 +277,15 @@ const LONGER_VARLEN: &[Spelled<VarLen>] = &[
     (b"\xff\x80\xff\x80", Err(EOF), 0),
 ];
 
-fn are_longer_or_none<A: Allocator + Copy>(heap: &Heap, alloc: A) -> [bool; 2] {
-    [
-        are_spelled::<LenEnc, A>(heap, alloc, Eaten::First, LONGER_LENENC),
-        are_spelled::<VarLen, A>(heap, alloc, Eaten::All, LONGER_VARLEN),
-    ]
+fn are_longer_or_none<A: Allocator + Copy>(heap: &Heap, alloc: A) -> bool {
+    let mut all = are_spelled::<LenEnc, A>(heap, alloc, Eaten::First, LONGER_LENENC);
+    all & are_spelled::<VarLen, A>(heap, alloc, Eaten::All, LONGER_VARLEN)
 }
 
 /// Whether numbers are written and read, and longer spellings of them are read or too long.
-pub fn are_each<A: Allocator + Copy>(heap: &Heap, alloc: A) -> [bool; 4] {
-    [
-        are_unsigned(heap, alloc) == [true; 7],
-        are_signed(heap, alloc) == [true; 6],
-        are_others(heap, alloc) == [true; 4],
-        are_longer_or_none(heap, alloc) == [true; 2],
-    ]
+pub fn are_each<A: Allocator + Copy>(heap: &Heap, alloc: A) -> bool {
+    let mut all = are_unsigned(heap, alloc);
+    all &= are_signed(heap, alloc);
+    all &= are_others(heap, alloc);
+    all & are_longer_or_none(heap, alloc)
 }

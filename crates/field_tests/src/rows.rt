@@ -83,15 +83,13 @@ fn are_numbers<A: Allocator + Copy>(heap: &Heap, alloc: A) -> bool {
 }
 
 /// Bytes and numbers in a row, one of two values by each side, and two one after the other.
-pub fn are_rows<A: Allocator + Copy>(heap: &Heap, alloc: A) -> [bool; 8] {
-    [
-        are_bytes(heap, alloc),
-        is_row_of_states(heap, alloc, b"\0\x05\x09\xff"),
-        is_row_of_states(heap, alloc, b"\xff"),
-        are_shown(heap, alloc, b"\0\x05\x09"),
-        is_either(heap, alloc),
-        Number::Left(RawInt::new(1)).unwrap_left().0 == 1,
-        Number::Right(RawInt::new(1)).unwrap_right().0 == 1,
-        are_numbers(heap, alloc),
-    ]
+pub fn are_rows<A: Allocator + Copy>(heap: &Heap, alloc: A) -> bool {
+    let mut all = are_bytes(heap, alloc);
+    all &= is_row_of_states(heap, alloc, b"\0\x05\x09\xff");
+    all &= is_row_of_states(heap, alloc, b"\xff");
+    all &= are_shown(heap, alloc, b"\0\x05\x09");
+    all &= is_either(heap, alloc);
+    all &= Number::Left(RawInt::new(1)).unwrap_left().0 == 1;
+    all &= Number::Right(RawInt::new(1)).unwrap_right().0 == 1;
+    all & are_numbers(heap, alloc)
 }

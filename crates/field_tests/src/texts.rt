@@ -13,7 +13,7 @@ use test_support::answers::Fault;
 use test_support::fields::{Eaten, Short, gives, is_written, last, stops};
 use test_support::fixture::Heap;
 use test_support::reference::between;
-use test_support::texts::{Row, are_texts, borrows, is_bounded, is_text, puts_of};
+use test_support::texts::{Row, are_texts, is_bounded, is_text, puts_of};
 
 // ---- texts behind their length
 
@@ -56,20 +56,28 @@ const VARLEN: &[Row] = &[
 // A context, an input, the text that is read from it or why none is, and how many bytes are left.
 type Read<'a, C> = (C, &'a [u8], Result<&'a [u8], Fault>, usize);
 
+// Whether the row is read so.
+fn is_read<T: BytesRepr<Ctx = C>, C: Copy, A: Allocator + Copy>(
+    alloc: A,
+    row: &Read<'_, C>,
+) -> bool {
+    let (ctx, input, wanted, left) = *row;
+    match wanted {
+        Ok(text) => gives(alloc, ctx, input, &RawBytes::<T, A>::from(text), left),
+        Err(why) => stops::<RawBytes<'_, T, A>, C, A>(alloc, ctx, input, why, left),
+    }
+}
+
 // Whether each row is read so, which takes no memory.
 fn are_read<T: BytesRepr<Ctx = C>, C: Copy, A: Allocator + Copy>(
     heap: &Heap,
     alloc: A,
     rows: &[Read<'_, C>],
 ) -> bool {
-    let mut all = true;
     heap.refuse(0);
+    let mut all = true;
     for row in rows {
-        let (ctx, input, wanted, left) = *row;
-        all &= match wanted {
-            Ok(text) => gives(alloc, ctx, input, &RawBytes::<T, A>::from(text), left),
-            Err(why) => stops::<RawBytes<'_, T, A>, C, A>(alloc, ctx, input, why, left),
-        };
+        all &= is_read::<T, C, A>(alloc, row);
     }
     all & (heap.left() == 0)
 }
@@ -106,13 +114,11 @@ const BARE_READ: &[Read<usize>] = &[
     (usize::MAX, b"abc", Err(EOF), 3),
 ];
 
-fn are_behind<A: Allocator + Copy>(heap: &Heap, alloc: A, text: &[u8]) -> [bool; 4] {
-    [
-        are_texts::<LenEnc, A>(heap, alloc, text, Eaten::First, LENENC, usize::MAX),
-        are_texts::<U8Bytes, A>(heap, alloc, text, Eaten::Nothing, U8, 255),
-        are_texts::<U32Bytes, A>(heap, alloc, text, Eaten::Nothing, U32, 4294967295),
-        are_texts::<VarLen, A>(heap, alloc, text, Eaten::All, VARLEN, 4294967295),
-    ]
+fn are_behind<A: Allocator + Copy>(heap: &Heap, alloc: A, text: &[u8]) -> bool {
+    let mut all = are_texts::<LenEnc, A>(heap, alloc, text, Eaten::First, LENENC, usize::MAX);
+    all &= are_texts::<U8Bytes, A>(heap, alloc, text, Eaten::Nothing, U8, 255);
+    all &= are_texts::<U32Bytes, A>(heap, alloc, text, Eaten::Nothing, U32, 4294967295);
+    all & are_texts::<VarLen, A>(heap, alloc, text, Eaten::All, VARLEN, 4294967295)
 }
 
 // ---- texts that a zero ends
@@ -153,11 +159,10 @@ fn are_null<A: Allocator + Copy>(heap: &Heap, alloc: A, long: &[u8]) -> bool {
 // Whether a text is written as it is, and all of an input is read.
 fn is_all<A: Allocator + Copy>(heap: &Heap, alloc: A, text: &[u8]) -> bool {
     let value = RawBytes::<EofBytes, A>::from(text);
-    let mut all = is_written(heap, &value, text);
-    all &= is_bounded::<EofBytes>(text, usize::MAX, None);
+    let is_put = is_written(heap, &value, text);
     heap.refuse(0);
-    all &= borrows::<EofBytes, (), A>(alloc, (), text);
-    all & gives(alloc, (), text, &value, 0) & (heap.left() == 0)
+    let is_back = gives(alloc, (), text, &value, 0) & (heap.left() == 0);
+    is_put & is_back & is_bounded::<EofBytes>(text, usize::MAX, None)
 }
 
 fn are_all<A: Allocator + Copy>(heap: &Heap, alloc: A, letters: &[u8]) -> bool {
@@ -230,21 +235,18 @@ fn are_fixed<A: Allocator + Copy>(heap: &Heap, alloc: A, filled: &[u8]) -> bool 
 
 // Longer, hostile and refused lengths: whatever length is declared, no memory is asked for. And
 // texts whose end is found by other means.
-fn are_others<A: Allocator + Copy>(heap: &Heap, alloc: A, letters: &[u8]) -> [bool; 8] {
-    [
-        are_read::<LenEnc, (), A>(heap, alloc, LENENC_READ),
-        are_read::<VarLen, (), A>(heap, alloc, VARLEN_READ),
-        are_read::<U32Bytes, (), A>(heap, alloc, U32_READ),
-        are_read::<BareBytes<2>, usize, A>(heap, alloc, BARE_READ),
-        are_null(heap, alloc, between(letters, 0, 300)),
-        are_all(heap, alloc, letters),
-        are_bare(heap, alloc, letters),
-        are_fixed(heap, alloc, last(letters, 302)),
-    ]
+fn are_others<A: Allocator + Copy>(heap: &Heap, alloc: A, letters: &[u8]) -> bool {
+    let mut all = are_read::<LenEnc, (), A>(heap, alloc, LENENC_READ);
+    all &= are_read::<VarLen, (), A>(heap, alloc, VARLEN_READ);
+    all &= are_read::<U32Bytes, (), A>(heap, alloc, U32_READ);
+    all &= are_read::<BareBytes<2>, usize, A>(heap, alloc, BARE_READ);
+    all &= are_null(heap, alloc, between(letters, 0, 300));
+    all &= are_all(heap, alloc, letters);
+    all &= are_bare(heap, alloc, letters);
+    all & are_fixed(heap, alloc, last(letters, 302))
 }
 
 /// Whether texts are written and read.
 pub fn all_texts<A: Allocator + Copy>(heap: &Heap, alloc: A, letters: &[u8]) -> bool {
-    (are_behind(heap, alloc, letters) == [true; 4])
-        & (are_others(heap, alloc, letters) == [true; 8])
+    are_behind(heap, alloc, letters) & are_others(heap, alloc, letters)
 }

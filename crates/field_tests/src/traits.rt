@@ -1,5 +1,4 @@
-// The traits of the types, the sizes of some, and that a wrapper is compared, ordered, hashed and
-// shown by its field.
+// The traits of the types, and that a wrapper is compared, ordered, hashed and shown by its field.
 
 use crate::constants::Magic;
 use mysql_wire::constants::{ColumnType, StatusFlags};
@@ -23,7 +22,6 @@ use std::marker::PhantomData;
 use std::test::Fail;
 use test_support::answers::shows_debug;
 use test_support::facts::all_hold;
-use test_support::fields::has_size;
 
 // A type that stands in one of these has its traits: with one that has not, this doesn't compile.
 pub struct IsPlain<T: Copy + Debug + Eq + Hash>(PhantomData<T>);
@@ -137,8 +135,7 @@ fn is_shown<T: Debug + Drop>(alloc: Global, value: T, text: &str) -> bool {
     shows_debug(alloc, &value, text)
 }
 
-// Two numbers that are written alike are yet two. The sizes of the other types are looked at with
-// their values.
+// Two numbers that are written alike are yet two.
 #[test]
 fn numbers_are_compared_by_their_field(rt: HostRuntime) -> Result<(), Fail> {
     let one = RawInt::<LeI16>::new(1);
@@ -152,8 +149,6 @@ fn numbers_are_compared_by_their_field(rt: HostRuntime) -> Result<(), Fail> {
         is_less(zero, wide),
         is_shown(rt.alloc(), less, "RawInt(-1, PhantomData<_>)"),
         is_shown(rt.alloc(), raw, "RawConst(7, PhantomData<_>)"),
-        has_size::<Both<RawInt<u8>, RawInt<LeU16>>>(None),
-        has_size::<Either<RawInt<u8>, RawInt<LeU16>>>(None),
     ])
 }
 

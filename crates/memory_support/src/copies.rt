@@ -69,28 +69,13 @@ fn is_refused(error: &WireError) -> bool {
 // ---- what is copied
 
 // A value that may be lent or owned.
-trait Held<'a, A: Allocator + Copy>: Sized + Drop {
-    // What a list is of.
-    type Item;
-
-    // The value that lends; a list lends these.
-    fn lent(items: &'a [Self::Item]) -> Self;
-
+trait Held<A: Allocator>: Sized + PartialEq + Drop {
     fn copied(&self, alloc: A) -> Result<Self, WireError>;
 
     fn owned(self, alloc: A) -> Result<Self, WireError>;
-
-    // Whether it is the one that `lent` gives, and owned or not.
-    fn is_there(&self, is_owned: bool) -> bool;
 }
 
-impl<'a, A: Allocator + Copy> Held<'a, A> for Text<'a, A> {
-    type Item = ();
-
-    fn lent(_: &'a [()]) -> Self {
-        RawBytes::from(b"abc".as_slice())
-    }
-
+impl<A: Allocator + Copy> Held<A> for Text<'_, A> {
     fn copied(&self, _: A) -> Result<Self, WireError> {
         Ok(self.clone()?)
     }
@@ -98,19 +83,9 @@ impl<'a, A: Allocator + Copy> Held<'a, A> for Text<'a, A> {
     fn owned(self, alloc: A) -> Result<Self, WireError> {
         self.into_owned(alloc)
     }
-
-    fn is_there(&self, is_owned: bool) -> bool {
-        self.eq_bytes(b"abc") & (matches!(self.0, CowSlice::Owned(_)) == is_owned)
-    }
 }
 
-impl<'a, A: Allocator + Copy> Held<'a, A> for Numbers<'a, A> {
-    type Item = ();
-
-    fn lent(_: &'a [()]) -> Self {
-        RawSeq::new(CowSlice::Borrowed(b"ab"))
-    }
-
+impl<A: Allocator + Copy> Held<A> for Numbers<'_, A> {
     fn copied(&self, _: A) -> Result<Self, WireError> {
         Ok(self.clone()?)
     }
@@ -118,19 +93,9 @@ impl<'a, A: Allocator + Copy> Held<'a, A> for Numbers<'a, A> {
     fn owned(self, alloc: A) -> Result<Self, WireError> {
         self.into_owned(alloc)
     }
-
-    fn is_there(&self, is_owned: bool) -> bool {
-        same(self.0.as_slice(), b"ab") & (matches!(self.0, CowSlice::Owned(_)) == is_owned)
-    }
 }
 
-impl<'a, A: Allocator + Copy> Held<'a, A> for Texts<'a, A> {
-    type Item = Text<'a, A>;
-
-    fn lent(texts: &'a [Text<'a, A>]) -> Self {
-        Seq::new(CowSlice::Borrowed(texts))
-    }
-
+impl<A: Allocator + Copy> Held<A> for Texts<'_, A> {
     fn copied(&self, alloc: A) -> Result<Self, WireError> {
         self.clone(alloc)
     }
@@ -138,64 +103,72 @@ impl<'a, A: Allocator + Copy> Held<'a, A> for Texts<'a, A> {
     fn owned(self, alloc: A) -> Result<Self, WireError> {
         self.into_owned(alloc)
     }
+}
 
-    fn is_there(&self, is_owned: bool) -> bool {
-        let are_texts = match self.as_slice() {
-            [first, second] => first.is_there(true) & second.is_there(true),
-            _ => false,
-        };
-        are_texts & (matches!(self.0, CowSlice::Owned(_)) == is_owned)
+// Whether a copy was refused, or is this value.
+fn is_copy<T: PartialEq + Drop>(copy: Result<T, WireError>, value: &T) -> Option<bool> {
+    match copy {
+        Ok(copy) => (copy == *value).then_some(false),
+        Err(error) => is_refused(&error).then_some(true),
     }
 }
 
-// Whether a copy of a value that is lent was refused, or is the value, and owned or lent as it must
-// be.
-fn copies<'a, T: Held<'a, A>, A>(
+// Whether the copy of a value was refused, or is this one.
+fn copies_once<T, A>(alloc: A, value: T, by_clone: bool, same: &T) -> Option<bool>
+where
+    T: Held<A>,
+    A: Allocator + Copy,
+{
+    if by_clone {
+        is_copy(value.copied(alloc), same)
+    } else {
+        is_copy(value.owned(alloc), same)
+    }
+}
+
+// Whether the copy of a value that is lent was refused, or is this one. That it is owned or lent as
+// it must be, its requests for memory tell: what is lent takes none, and can't be made of what is
+// owned.
+fn copies<T, A>(
     heap: &Heap,
     alloc: A,
-    lent: &'a [T::Item],
+    lent: T,
     copying: Copying,
     nth: u64,
+    same: &T,
 ) -> Option<bool>
 where
+    T: Held<A>,
     A: Allocator + Copy,
 {
     heap.refuse(NEVER);
-    let mut value = T::lent(lent);
     let (of_owned, by_clone) = match copying {
         Copying::CloneLent => (false, true),
         Copying::CloneOwned => (true, true),
         Copying::OwnLent => (false, false),
         Copying::OwnOwned => (true, false),
     };
-    if of_owned {
-        value = value.owned(alloc).ok()?;
-    }
-    heap.refuse(nth);
-    let copy = if by_clone {
-        value.copied(alloc)
+    let value = if of_owned {
+        lent.owned(alloc).ok()?
     } else {
-        value.owned(alloc)
+        lent
     };
-    match copy {
-        Ok(copy) => copy.is_there(of_owned | !by_clone).then_some(false),
-        Err(error) => is_refused(&error).then_some(true),
-    }
+    heap.refuse(nth);
+    copies_once(alloc, value, by_clone, same)
 }
 
 // Whether a copy that a derive makes was refused, or is equal.
-fn clones<T: Clone + PartialEq>(heap: &Heap, value: &T, nth: u64) -> Option<bool> {
+fn clones<T: Clone + PartialEq + Drop>(heap: &Heap, value: T, nth: u64) -> Option<bool> {
     heap.refuse(nth);
     match value.clone() {
-        Ok(copy) => (copy == *value).then_some(false),
+        Ok(copy) => (copy == value).then_some(false),
         Err(_) => Some(true),
     }
 }
 
 // A text of its own.
 fn owned_text<'a, A: Allocator + Copy>(alloc: A) -> Option<Text<'a, A>> {
-    let text: Text<'_, A> = RawBytes::from(b"abc".as_slice());
-    text.into_owned(alloc).ok()
+    text().into_owned(alloc).ok()
 }
 
 // Puts one behind the others, if there is memory.
@@ -213,32 +186,18 @@ fn two_texts<'a, A: Allocator + Copy>(alloc: A) -> Option<Vec<Text<'a, A>, A>> {
     if are_two { Some(texts) } else { None }
 }
 
-// The same of a value that may not have been made.
-fn clones_made<T: Clone + PartialEq + Drop>(
-    heap: &Heap,
-    value: Option<T>,
-    nth: u64,
-) -> Option<bool> {
-    clones(heap, &value?, nth)
-}
-
-fn both_of<'a, A: Allocator + Copy>(
-    (first, second): (Text<'a, A>, Text<'a, A>),
-) -> Both<Text<'a, A>, Text<'a, A>> {
-    Both(first, second)
-}
-
 /// Whether a copy of what is made of owned texts was refused, or is equal.
 pub fn clones_owner<A>(heap: &Heap, alloc: A, owner: Owner, nth: u64) -> Option<bool>
 where
     A: Allocator + Copy,
 {
     heap.refuse(NEVER);
-    let text = owned_text(alloc);
+    let text = owned_text(alloc)?;
+    let other = owned_text(alloc)?;
     match owner {
-        Owner::Both => clones_made(heap, text.zip(owned_text(alloc)).map(both_of), nth),
-        Owner::Either => clones_made(heap, text.map(Either::<Text<'_, A>, RawInt<u8>>::Left), nth),
-        Owner::Const => clones_made(heap, text.map(Const::<Text<'_, A>, u8>::new), nth),
+        Owner::Both => clones(heap, Both(text, other), nth),
+        Owner::Either => clones(heap, Either::<Text<'_, A>, RawInt<u8>>::Left(text), nth),
+        Owner::Const => clones(heap, Const::<Text<'_, A>, u8>::new(text), nth),
     }
 }
 
@@ -261,7 +220,7 @@ fn is_list<A: Allocator + Copy>(list: &List<'_, A>) -> bool {
 pub fn reads_text<A: Allocator + Copy>(alloc: A, reading: Reading, input: &[u8]) -> (bool, usize) {
     let (text, left) = read::<Text<'_, A>, A>(alloc, reading, input);
     match text {
-        Ok(text) => (text.is_there(false), left),
+        Ok(text) => (text.eq_bytes(b"abc"), left),
         Err(_) => (false, left),
     }
 }
@@ -334,7 +293,19 @@ where
     }
 }
 
-/// Whether a copy was refused, or is the value, and owned or lent as it must be.
+fn text<'a, A: Allocator>() -> Text<'a, A> {
+    RawBytes::from(b"abc".as_slice())
+}
+
+fn numbers<'a, A: Allocator>() -> Numbers<'a, A> {
+    RawSeq::new(CowSlice::Borrowed(b"ab"))
+}
+
+fn list<'a, A: Allocator + Copy>(texts: &'a [Text<'a, A>]) -> Texts<'a, A> {
+    Seq::new(CowSlice::Borrowed(texts))
+}
+
+/// Whether a copy was refused, or is the value.
 pub fn copies_held<A>(
     heap: &Heap,
     alloc: A,
@@ -346,12 +317,13 @@ where
     A: Allocator + Copy,
 {
     match holding {
-        Holding::Text => copies::<Text<'_, A>, A>(heap, alloc, &[], copying, nth),
-        Holding::Numbers => copies::<Numbers<'_, A>, A>(heap, alloc, &[], copying, nth),
+        Holding::Text => copies(heap, alloc, text(), copying, nth, &text()),
+        Holding::Numbers => copies(heap, alloc, numbers(), copying, nth, &numbers()),
         Holding::Texts => {
             heap.refuse(NEVER);
             let texts = two_texts(alloc)?;
-            copies::<Texts<'_, A>, A>(heap, alloc, texts.as_slice(), copying, nth)
+            let texts = texts.as_slice();
+            copies(heap, alloc, list(texts), copying, nth, &list(texts))
         }
     }
 }
@@ -381,22 +353,21 @@ pub fn shows_text<A: Allocator + Copy>(alloc: A, bytes: &[u8], string: &str) -> 
 pub fn reads_by_representation<A: Allocator + Copy>(input: &[u8]) -> bool {
     let mut buf = ParseBuf(input);
     match <LenEnc as BytesRepr>::deserialize::<A>((), &mut buf) {
-        Ok(text) => Text::<'_, A>::new(text).is_there(false) & (buf.len() == 1),
+        Ok(text) => same(text.as_slice(), b"abc") & (buf.len() == 1),
         Err(_) => false,
     }
 }
 
 /// Calls the laws of a text, which do nothing.
 pub fn know_text<A: Allocator + Copy>() {
-    let text: Text<'_, A> = RawBytes::from(b"abc".as_slice());
-    knows::<Text<'_, A>, A>(&text);
+    knows::<Text<'_, A>, A>(&text());
 }
 
 /// Whether the calls of a text in hand give what they must, the next request being refused.
 pub fn texts_work<A: Allocator + Copy>(heap: &Heap, alloc: A) -> bool {
-    let lent: Text<'_, A> = RawBytes::from(b"abc".as_slice());
+    let lent: Text<'_, A> = text();
     let mut all = (lent.len() == 3) & !lent.is_empty() & same(lent.as_bytes(), b"abc");
-    all &= lent.is_there(false);
+    all &= lent.eq_bytes(b"abc");
     let empty = Text::<'_, A>::default();
     all &= empty.is_empty() & empty.eq_bytes(b"");
     heap.refuse(NEVER);
@@ -404,7 +375,7 @@ pub fn texts_work<A: Allocator + Copy>(heap: &Heap, alloc: A) -> bool {
     all &= bytes.extend_from_slice(b"abc").is_ok();
     heap.refuse(0);
     let owned: Text<'_, A> = RawBytes::from(bytes);
-    all & owned.is_there(true)
+    all & owned.eq_bytes(b"abc")
 }
 
 /// The same of a list.
@@ -417,6 +388,6 @@ pub fn lists_work<A: Allocator>() -> bool {
 
 /// The same of numbers.
 pub fn numbers_work<A: Allocator>() -> bool {
-    let lent: Numbers<'_, A> = RawSeq::new(CowSlice::Borrowed(b"ab"));
+    let lent: Numbers<'_, A> = numbers();
     (lent.len() == 2) & !lent.is_empty() & lent.get(1).is_some()
 }

@@ -24,7 +24,8 @@ fn told_if(answer: Result<bool, PacketIoError>) -> Result<bool, Told> {
     }
 }
 
-fn told_of(answer: Result<(), PacketIoError>) -> Told {
+/// What a writer answered.
+pub fn told_of(answer: Result<(), PacketIoError>) -> Told {
     match answer {
         Ok(()) => Told::Done,
         Err(error) => told(&error),
@@ -42,8 +43,8 @@ impl fmt::Write for Length {
     }
 }
 
-// How many bytes a value shows itself in.
-fn shown_len(value: &impl Debug) -> usize {
+/// How many bytes a value shows itself in.
+pub fn shown_len(value: &impl Debug) -> usize {
     let mut text = Length(0);
     let _ = write!(text, "{value:?}");
     text.0
@@ -62,26 +63,6 @@ impl<'a, A: Allocator + Copy> Source<'a, A> {
             reader: PacketReader::new(alloc, bytes).ok()?,
             codec: PacketCodec::default(),
         })
-    }
-
-    pub fn fits(&self) -> bool {
-        self.reader.fits(&self.codec)
-    }
-
-    pub fn can_skip(&self) -> bool {
-        self.reader.can_skip(&self.codec)
-    }
-
-    pub fn can_copy(&self) -> bool {
-        self.reader.can_copy(&self.codec)
-    }
-
-    pub fn unread(&self) -> &[u8] {
-        self.reader.unread()
-    }
-
-    pub fn reads(&self) -> u64 {
-        self.reader.reads()
     }
 
     /// Whether the next packet is this one.
@@ -142,16 +123,6 @@ impl<'a, A: Allocator + Copy> Source<'a, A> {
         self.reader.take_packet();
         is_ready
     }
-
-    /// How many bytes the reader shows itself in.
-    pub fn shown_len(&self) -> usize {
-        shown_len(&self.reader)
-    }
-
-    /// What isn't read.
-    pub fn into_inner(self) -> &'a [u8] {
-        self.reader.into_inner()
-    }
 }
 
 /// A writer to nowhere.
@@ -171,24 +142,5 @@ impl<A: Allocator + Copy> Outlet<A> {
 
     pub fn queue(&mut self, packet: &mut &[u8]) -> Told {
         told_of(self.writer.queue(&mut self.codec, packet))
-    }
-
-    pub fn pending(&self) -> &[u8] {
-        self.writer.pending()
-    }
-
-    /// Writes all that is pending.
-    pub fn write(&mut self) -> Told {
-        told_of(self.writer.write_pending())
-    }
-
-    /// How many bytes the writer shows itself in.
-    pub fn shown_len(&self) -> usize {
-        shown_len(&self.writer)
-    }
-
-    /// The writer's end.
-    pub fn end(self) {
-        let _ = self.writer.into_inner();
     }
 }

@@ -22,7 +22,7 @@ pub enum Reading {
     PacketBack,
     /// As the second of two sides, of which the first is a number.
     Either,
-    /// As the first of two values, of which the second is a byte, 2.
+    /// As the first of two values, of which the second is a byte.
     Both,
 }
 
@@ -44,8 +44,7 @@ where
     T: Wire<'de, A, Ctx = ()>,
 {
     match rows::both::<T, RawInt<u8>, A>(alloc, ((), ()), buf) {
-        Ok(Both(value, number)) if number.0 == 2 => Ok(value),
-        Ok(_) => Err(WireError::UnexpectedEof),
+        Ok(Both(value, _)) => Ok(value),
         Err(error) => Err(error),
     }
 }

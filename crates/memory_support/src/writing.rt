@@ -32,7 +32,7 @@ pub enum Writing {
 
 const TEXT: &[u8] = b"0123456789012345678901234567890123456789";
 
-fn put_text<A: Allocator>(writing: Writing, buf: &mut Vec<u8, A>) -> Result<(), WireError> {
+fn put_text<B: BufMutExt>(writing: Writing, buf: &mut B) -> Result<(), WireError> {
     match writing {
         Writing::LenencInt => buf.put_lenenc_int(0x1_02_03),
         Writing::LenencStr => buf.put_lenenc_str(TEXT),
@@ -41,7 +41,7 @@ fn put_text<A: Allocator>(writing: Writing, buf: &mut Vec<u8, A>) -> Result<(), 
     }
 }
 
-fn put_number<A: Allocator>(writing: Writing, buf: &mut Vec<u8, A>) -> Result<(), WireError> {
+fn put_number<B: BufMutExt>(writing: Writing, buf: &mut B) -> Result<(), WireError> {
     match writing {
         Writing::U24 => buf.put_u24_le(0x1_02_03),
         Writing::I24 => buf.put_i24_le(-1),

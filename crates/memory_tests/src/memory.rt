@@ -1,7 +1,8 @@
 //! What a call leaves when its first, second, third request for memory is refused, and so on, and
-//! how it goes on. `requests` has a row for each call.
+//! how it goes on. `memory_support::requests` has a row for each call.
 
 use bytes::BytesMut;
+use memory_support::requests::wrong_of_all;
 use mysql_wire::constants::MAX_PAYLOAD_LEN;
 use mysql_wire::io::WireError;
 use mysql_wire::proto::codec::{PacketCodec, PacketDst, packet_to_chunks};
@@ -18,6 +19,16 @@ use test_support::told::Told;
 
 // No run that a test makes asks so often.
 const MOST: u64 = 100;
+
+// Every call, with each of its requests refused in turn, or the next where it takes none.
+#[test]
+fn each_call_goes_on_after_a_refusal_or_asks_for_nothing(rt: HostRuntime) -> Result<(), Fail> {
+    let heap = &Refusing::new(rt.alloc(), NEVER);
+    match wrong_of_all(heap, heap) {
+        None => Ok(()),
+        Some(name) => Err(Fail::new(name)),
+    }
+}
 
 // How much room a vector asks for, whether it is given, and how many requests may still come then.
 const GROWTHS: &[(usize, bool, u64)] = &[

@@ -1,6 +1,6 @@
 //! What readers and writers of fields answered, in a form that tests compare.
 
-use std::alloc::Global;
+use std::alloc::{AllocError, Global};
 use std::fmt::{Debug, Display};
 use wire_buf::error::{InvalidReason, WireError};
 
@@ -42,18 +42,20 @@ pub fn fault_of<T: Drop>(answer: Result<T, WireError>) -> Option<Fault> {
     }
 }
 
-/// Whether the value is shown as this text for debugging.
-pub fn shows_debug<T: Debug>(alloc: Global, value: &T, text: &str) -> bool {
-    match format!(in alloc; "{value:?}") {
+// Whether what is shown is this text.
+fn is_text(shown: Result<String, AllocError>, text: &str) -> bool {
+    match shown {
         Ok(shown) => shown.as_str() == text,
         Err(_) => false,
     }
 }
 
+/// Whether the value is shown as this text for debugging.
+pub fn shows_debug<T: Debug>(alloc: Global, value: &T, text: &str) -> bool {
+    is_text(format!(in alloc; "{value:?}"), text)
+}
+
 /// Whether the value is shown as this text.
 pub fn shows<T: Display>(alloc: Global, value: &T, text: &str) -> bool {
-    match format!(in alloc; "{value}") {
-        Ok(shown) => shown.as_str() == text,
-        Err(_) => false,
-    }
+    is_text(format!(in alloc; "{value}"), text)
 }

@@ -30,11 +30,8 @@ fn least_count(shown_at: usize, there: usize, pieces: &[&[u8]]) -> usize {
 
 /// Whether two lists, each with an allocator of its own, have the same packets.
 pub fn are_same<A: Allocator>(packets: &[Vec<u8, A>], wanted: &[Vec<u8>]) -> bool {
-    if packets.len() != wanted.len() {
-        return false;
-    }
-    let mut all = true;
-    for i in 0..packets.len() {
+    let mut all = packets.len() == wanted.len();
+    for i in 0..packets.len().min(wanted.len()) {
         all &= same(packets[i].as_slice(), wanted[i].as_slice());
     }
     all
@@ -43,13 +40,13 @@ pub fn are_same<A: Allocator>(packets: &[Vec<u8, A>], wanted: &[Vec<u8>]) -> boo
 // Whether the pieces one after another are these bytes.
 fn are_joined(pieces: &[&[u8]], bytes: &[u8]) -> bool {
     let mut rest = bytes;
+    let mut all = true;
     for piece in pieces {
-        match rest.strip_prefix(piece) {
-            Some(more) => rest = more,
-            None => return false,
-        }
+        let (front, more) = rest.split_at(piece.len().min(rest.len()));
+        all &= same(front, *piece);
+        rest = more;
     }
-    rest.is_empty()
+    all & rest.is_empty()
 }
 
 impl<'a> Case<'a> {
@@ -74,12 +71,6 @@ impl<'a> Case<'a> {
         receiver
     }
 
-    // Whether these packets came out, and these bytes are held.
-    fn is_delivered<A: Allocator + Copy>(&self, receiver: &Receiver<A>) -> bool {
-        are_same(receiver.out.as_slice(), self.reading.packets.as_slice())
-            && same(receiver.dst.as_slice(), self.reading.held.as_slice())
-    }
-
     // Whether what stands in `src`, and then the pieces that were not appended, are left.
     fn is_left(&self, src: &[u8], pieces: &[&[u8]]) -> bool {
         let left = between(self.stream, self.reading.left, self.stream.len());
@@ -96,11 +87,12 @@ impl<'a> Case<'a> {
         told: Told,
         left: &[&[u8]],
     ) -> bool {
-        told == self.reading.told
-            && self.is_delivered(receiver)
-            && self.is_left(receiver.src.as_slice(), left)
-            && receiver.codec.max_allowed_packet == self.limit
-            && (told == Told::OutOfSync || receiver.stands())
+        let mut all = are_same(receiver.out.as_slice(), self.reading.packets.as_slice());
+        all &= same(receiver.dst.as_slice(), self.reading.held.as_slice());
+        all &= self.is_left(receiver.src.as_slice(), left);
+        all &= receiver.codec.max_allowed_packet == self.limit;
+        all &= (told == Told::OutOfSync) | receiver.stands();
+        all & (told == self.reading.told)
     }
 
     /// Whether a receiver that had so many bytes in `src`, and then took pieces, ended as the
@@ -113,9 +105,9 @@ impl<'a> Case<'a> {
         run: Run,
     ) -> bool {
         let (count, told) = run;
-        self.ends(receiver, told, pieces_from(pieces, count))
-            && count == least_count(self.reading.shown_at, there, pieces)
-            && receiver.codec.sequence_id() == self.reading.next_id
+        let mut all = self.ends(receiver, told, pieces_from(pieces, count));
+        all &= count == least_count(self.reading.shown_at, there, pieces);
+        all & (receiver.codec.sequence_id() == self.reading.next_id)
     }
 
     /// Whether the stream in pieces, the first bytes in `src` and the first pieces in a run of
@@ -149,9 +141,8 @@ pub struct Wanted<'a> {
 impl Wanted<'_> {
     /// Whether it is read so.
     pub fn is_read(&self, reading: &Reading) -> bool {
-        are_packets(reading.packets.as_slice(), self.packets)
-            && reading.told == self.told
-            && same(reading.held.as_slice(), self.held)
-            && reading.left == self.left
+        let mut all = are_packets(reading.packets.as_slice(), self.packets);
+        all &= same(reading.held.as_slice(), self.held);
+        all & (reading.told == self.told) & (reading.left == self.left)
     }
 }

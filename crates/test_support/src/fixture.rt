@@ -98,6 +98,17 @@ impl<'h, A: Allocator + Copy, T: Target> Fixture<'h, A, T> {
         }
     }
 
+    /// These bytes come in behind `src`.
+    pub fn comes(&mut self, bytes: &[u8]) -> bool {
+        self.src.extend_from_slice(bytes).is_ok()
+    }
+
+    /// `src` becomes these bytes.
+    pub fn replace_src(&mut self, bytes: &[u8]) -> bool {
+        self.src.clear();
+        self.comes(bytes)
+    }
+
     /// So many bytes `42` come in behind `src`.
     pub fn comes_many(&mut self, len: usize) -> bool {
         let len = self.src.len().saturating_add(len);
@@ -134,9 +145,9 @@ impl<'h, A: Allocator + Copy, T: Target> Fixture<'h, A, T> {
 
     /// Whether `dst` was asked for room so often, and for so much at last. Targets that don't
     /// count agree to all.
-    pub fn grew(&self, growths: u64, room: usize) -> bool {
-        match self.dst.growth() {
-            Some(counted) => counted == (growths, room),
+    pub fn grew(&mut self, growths: u64, room: usize) -> bool {
+        match self.dst.growth(None) {
+            Some((asked, last)) => (asked == growths) & (last == room),
             None => true,
         }
     }

@@ -127,12 +127,12 @@ pub fn pieces_of<'a>(
     stream: &'a [u8],
 ) -> Result<Vec<&'a [u8]>, AllocError> {
     let mut pieces = Vec::new(alloc);
-    let mut at = 0usize;
+    let mut rest = stream;
     for _ in 0..stream.len() {
-        let end = at.saturating_add(draws.below(5));
-        pieces.push(between(stream, at, end))?;
-        at = end;
+        let (piece, behind) = rest.split_at(draws.below(5).min(rest.len()));
+        pieces.push(piece)?;
+        rest = behind;
     }
-    pieces.push(between(stream, at, stream.len()))?;
+    pieces.push(rest)?;
     Ok(pieces)
 }

@@ -19,17 +19,10 @@ impl Read for OneByOne<'_> {
             return Err(io::Error::from(self.kind));
         }
         self.until_fault -= 1;
-        if buf.is_empty() {
-            return Ok(0);
-        }
-        match self.bytes {
-            [] => Ok(0),
-            [first, rest @ ..] => {
-                buf[0] = *first;
-                self.bytes = rest;
-                Ok(1)
-            }
-        }
+        let (front, rest) = self.bytes.split_at(self.bytes.len().min(buf.len()).min(1));
+        buf[..front.len()].copy_from_slice(front);
+        self.bytes = rest;
+        Ok(front.len())
     }
 }
 

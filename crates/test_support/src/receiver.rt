@@ -1,11 +1,9 @@
 //! A codec to which a stream is given in pieces.
 
 use crate::answers::{Fault, told};
-use crate::facts::{are_parts, same};
-use crate::fixture::Heap;
+use crate::facts::same;
 use crate::told::Told;
 use bytes::{Buf, BytesMut};
-use refusing_allocator::NEVER;
 use std::alloc::Allocator;
 use wire_codec::codec::{
     PacketCodec, Visit, deliver, deliver_each, deliver_each_limited, deliver_limited, encode_value,
@@ -40,6 +38,14 @@ pub struct Receiver<A: Allocator> {
 
 /// How many pieces were appended, and what was answered.
 pub type Run = (usize, Told);
+
+// Puts a copy of a packet behind the others, if there is memory.
+fn put_copy<A: Allocator + Copy>(alloc: A, out: &mut Vec<Vec<u8, A>, A>, packet: &[u8]) -> bool {
+    match Vec::from_slice(alloc, packet) {
+        Ok(packet) => out.push(packet).is_ok(),
+        Err(_) => false,
+    }
+}
 
 impl<A: Allocator + Copy> Receiver<A> {
     pub fn new(alloc: A, limit: usize) -> Self {
@@ -154,67 +160,52 @@ impl<A: Allocator + Copy> Receiver<A> {
         (count, Told::of_deliver(answer))
     }
 
-    // A copy of the packet that can be lent.
-    fn front(&self) -> Option<Vec<u8, A>> {
-        match self.codec.front_packet(&self.src, &[]) {
-            Some(packet) => Vec::from_slice(self.alloc, packet).ok(),
-            None => None,
-        }
-    }
-
     /// Hands out the next packet, where it lies if it can be lent, and else by `decode`. One that
     /// finds no memory is missing in the end.
     pub fn take_next(&mut self) -> Told {
-        if self.dst.is_empty() {
-            if let Some(packet) = self.front() {
-                let _ = self.out.push(packet);
-                self.take_front();
-                return Told::Whole;
-            }
+        let dst = self.dst.as_slice();
+        let is_lent = match self.codec.front_packet(&self.src, dst) {
+            Some(packet) => put_copy(self.alloc, &mut self.out, packet),
+            None => false,
+        };
+        if is_lent {
+            self.take_front();
+            return Told::Whole;
         }
         let told = Told::of_decode(self.codec.decode(&mut self.src, &mut self.dst));
         if told == Told::Whole {
-            if let Ok(packet) = Vec::from_slice(self.alloc, self.dst.as_slice()) {
-                let _ = self.out.push(packet);
-            }
+            put_copy(self.alloc, &mut self.out, self.dst.as_slice());
             self.dst.clear();
         }
         told
     }
 
-    // A run more, after one that ended so, over the pieces behind those that it appended.
-    fn deliver_more(&mut self, before: usize, pieces: &[&[u8]]) -> Run {
-        let (count, told) = self.deliver(pieces);
-        (before.wrapping_add(count), told)
+    // A run, and where it is answered so, one more over what is left of these pieces.
+    fn deliver_again(&mut self, until: usize, pieces: &[&[u8]], after: Told, limit: usize) -> Run {
+        let (count, told) = self.deliver(&pieces[..until.min(pieces.len())]);
+        self.codec.max_allowed_packet = limit;
+        if told != after {
+            return (count, told);
+        }
+        let (more, told) = self.deliver(pieces_from(pieces, count));
+        (count.wrapping_add(more), told)
     }
 
     /// As `deliver`, in two runs, the first over so many pieces.
     pub fn deliver_in_two(&mut self, pieces: &[&[u8]], first: usize) -> Run {
-        let (front, back) = pieces.split_at(first.min(pieces.len()));
-        let (count, told) = self.deliver(front);
-        if told == Told::Waits {
-            self.deliver_more(count, back)
-        } else {
-            (count, told)
-        }
+        let limit = self.codec.max_allowed_packet;
+        self.deliver_again(first, pieces, Told::Waits, limit)
     }
 
     /// As `deliver`; where it stops at the limit, it goes on under another one.
     pub fn deliver_raised(&mut self, pieces: &[&[u8]], limit: usize) -> Run {
-        let (count, told) = self.deliver(pieces);
-        self.codec.max_allowed_packet = limit;
-        if told == Told::TooLarge {
-            self.deliver_more(count, pieces_from(pieces, count))
-        } else {
-            (count, told)
-        }
+        self.deliver_again(pieces.len(), pieces, Told::TooLarge, limit)
     }
 
     /// Whether these packets came out, and these bytes stand in `src` and in `dst`.
     pub fn shows(&self, packets: &[&[u8]], src: &[u8], dst: &[u8]) -> bool {
-        are_packets(self.out.as_slice(), packets)
-            && same(self.src.as_slice(), src)
-            && same(self.dst.as_slice(), dst)
+        let are_out = are_packets(self.out.as_slice(), packets);
+        are_out & same(self.src.as_slice(), src) & same(self.dst.as_slice(), dst)
     }
 }
 
@@ -225,41 +216,9 @@ pub fn pieces_from<'a, 'b>(pieces: &'a [&'b [u8]], count: usize) -> &'a [&'b [u8
 
 /// Whether these are the packets that are wanted.
 pub fn are_packets<A: Allocator>(packets: &[Vec<u8, A>], wanted: &[&[u8]]) -> bool {
-    if packets.len() != wanted.len() {
-        return false;
-    }
-    let mut all = true;
-    for i in 0..packets.len() {
+    let mut all = packets.len() == wanted.len();
+    for i in 0..packets.len().min(wanted.len()) {
         all &= same(packets[i].as_slice(), wanted[i]);
     }
     all
-}
-
-/// Whether a packet of two pieces was refused, and neither it nor the buffer, which holds `ab`, is
-/// changed; it is then framed from this id by one chunk. The parts are `ab` with the header, and
-/// the pieces.
-pub fn frames<A: Allocator + Copy>(
-    heap: &Heap,
-    alloc: A,
-    id: u8,
-    parts: [&'static [u8]; 3],
-    nth: u64,
-) -> Option<bool> {
-    heap.refuse(NEVER);
-    let mut to = Receiver::holding(alloc, 0, b"ab");
-    let [_, first, second] = parts;
-    let mut packet = first.chain(second);
-    let len = packet.remaining();
-    heap.refuse(nth);
-    let mut next_id = to.frame(id, &mut packet);
-    let refused = next_id == Err(Fault::OutOfMemory);
-    let mut all = true;
-    if refused {
-        all &= same(to.src.as_slice(), b"ab");
-        all &= same(packet.chunk(), first) & (packet.remaining() == len);
-        next_id = to.frame(id, &mut packet);
-    }
-    all &= (next_id == Ok(id.wrapping_add(1))) & (packet.remaining() == 0);
-    all &= are_parts(to.src.as_slice(), parts);
-    all.then_some(refused)
 }

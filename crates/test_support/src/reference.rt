@@ -217,6 +217,20 @@ impl Reading {
         Ok(())
     }
 
+    // Takes these chunks, which are good, and stops behind them.
+    fn take_all(
+        &mut self,
+        alloc: Global,
+        stream: &[u8],
+        places: &[Place],
+        limit: usize,
+    ) -> Result<(), AllocError> {
+        for place in places {
+            self.take(alloc, stream, *place)?;
+        }
+        self.stop(stream, limit)
+    }
+
     // Stops where no good chunk is left.
     fn stop(&mut self, stream: &[u8], limit: usize) -> Result<(), AllocError> {
         let rest = between(stream, self.left, stream.len());
@@ -241,9 +255,7 @@ pub fn reading_of(
     let places = whole_chunks(alloc, stream)?;
     let count = good_count(places.as_slice(), first_id, limit);
     let mut reading = Reading::new(alloc, id_at(first_id, count));
-    for i in 0..count.min(places.len()) {
-        reading.take(alloc, stream, places[i])?;
-    }
-    reading.stop(stream, limit)?;
+    let good = &places.as_slice()[..count.min(places.len())];
+    reading.take_all(alloc, stream, good, limit)?;
     Ok(reading)
 }

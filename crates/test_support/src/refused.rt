@@ -11,14 +11,15 @@ use std::alloc::{Allocator, Global};
 const MOST: u64 = 100;
 
 // Delivers these pieces, and goes on with those that were not appended until no request is refused.
-// One request is refused, or `many`: one in each call, each time a later one. Says what all runs
-// together did, and how many were refused, if just those ran out of memory.
+// One request is refused, or `many`: one in each call, each time a later one. Says how many were
+// refused, if just those ran out of memory, and the end is that of the stream's reading.
 fn deliver_on<A: Allocator + Copy>(
     heap: &Heap,
+    case: &Case,
     receiver: &mut Receiver<A>,
     pieces: &[&[u8]],
     many: bool,
-) -> Option<(usize, Told, u64)> {
+) -> Option<u64> {
     let mut count = 0usize;
     for refused in 0..MOST {
         let (more, told) = receiver.deliver(pieces_from(pieces, count));
@@ -28,7 +29,8 @@ fn deliver_on<A: Allocator + Copy>(
             return None;
         }
         if !again {
-            return Some((count, told, refused));
+            let is_ended = case.is_ended(receiver, 0, pieces, (count, told));
+            return is_ended.then_some(refused);
         }
         heap.refuse(if many { refused + 1 } else { NEVER });
     }
@@ -57,11 +59,7 @@ fn deliver_over<A: Allocator + Copy>(
 ) -> Option<u64> {
     let mut receiver = case.receiver(alloc);
     heap.refuse(nth);
-    let ended = deliver_on(heap, &mut receiver, pieces, many);
-    heap.refuse(NEVER);
-    let (count, told, refused) = ended?;
-    let is_ended = case.is_ended(&receiver, 0, pieces, (count, told));
-    is_ended.then_some(refused)
+    deliver_on(heap, case, &mut receiver, pieces, many)
 }
 
 /// Whether a stream in pieces is delivered as it is read, with request number `nth` refused, and

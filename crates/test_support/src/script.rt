@@ -84,20 +84,19 @@ impl<A: Allocator + Copy, T: Target> Fixture<'_, A, T> {
             Step::Sync => self.codec.sync_seq_id(),
             Step::Remember(remembered) => self.decoder = decoder_of(remembered),
             Step::Refuse(nth) => self.refuse(nth),
-            Step::RefusePut(nth) => self.dst.refuse_put(nth),
+            Step::RefusePut(nth) => {
+                self.dst.growth(Some(nth));
+            }
             _ => {}
         }
     }
 
     // Whether bytes came in.
-    fn comes(&mut self, step: Step) -> bool {
+    fn takes(&mut self, step: Step) -> bool {
         match step {
-            Step::Comes(bytes) => self.src.extend_from_slice(bytes).is_ok(),
+            Step::Comes(bytes) => self.comes(bytes),
             Step::ComesMany(len) => self.comes_many(len),
-            Step::Src(bytes) => {
-                self.src.clear();
-                self.src.extend_from_slice(bytes).is_ok()
-            }
+            Step::Src(bytes) => self.replace_src(bytes),
             Step::Dst(bytes) => self.replace_dst(bytes),
             Step::DstMany(len) => self.replace_dst_many(len),
             _ => {
@@ -116,7 +115,7 @@ impl<A: Allocator + Copy, T: Target> Fixture<'_, A, T> {
             Step::Grew(growths, room) => self.grew(growths, room),
             Step::Unasked(left) => self.requests().0 == left,
             Step::Refused(refused) => self.requests().1 == refused,
-            _ => self.comes(step),
+            _ => self.takes(step),
         }
     }
 
@@ -145,7 +144,7 @@ impl<A: Allocator + Copy, T: Target> Fixture<'_, A, T> {
 
     /// Goes through these steps, and gives the number of the first that goes otherwise.
     pub fn fault(&mut self, steps: &[Step]) -> Option<usize> {
-        let counts = self.dst.growth().is_some();
+        let counts = self.dst.growth(None).is_some();
         for (i, step) in steps.iter().enumerate() {
             if matches!(step, Step::Counting) && !counts {
                 return None;

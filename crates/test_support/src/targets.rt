@@ -13,24 +13,28 @@ pub trait Target: PacketDst + Drop {
     /// Nothing is held any more, and nothing is counted.
     fn clear(&mut self);
 
-    /// How often it was asked for room, and for how much at last. None where it doesn't count.
-    fn growth(&self) -> Option<(u64, usize)> {
-        None
-    }
-
-    /// The put of this number, counted from 0 at this call, is refused, where the target can.
-    fn refuse_put(&mut self, _: u64) {}
+    /// How often it was asked for room, and for how much at last. None where it doesn't count. The
+    /// put of the number that is given, counted from 0 at this call, is then refused.
+    fn growth(&mut self, refused: Option<u64>) -> Option<(u64, usize)>;
 }
 
 impl<A: Allocator> Target for Vec<u8, A> {
     fn clear(&mut self) {
         Vec::clear(self);
     }
+
+    fn growth(&mut self, _: Option<u64>) -> Option<(u64, usize)> {
+        None
+    }
 }
 
 impl<A: Allocator + Copy> Target for BytesMut<A> {
     fn clear(&mut self) {
         BytesMut::clear(self);
+    }
+
+    fn growth(&mut self, _: Option<u64>) -> Option<(u64, usize)> {
+        None
     }
 }
 
@@ -92,12 +96,9 @@ impl<A: Allocator> Target for Counting<A> {
         self.room = 0;
     }
 
-    fn growth(&self) -> Option<(u64, usize)> {
+    fn growth(&mut self, refused: Option<u64>) -> Option<(u64, usize)> {
+        self.puts_left = refused.unwrap_or(self.puts_left);
         Some((self.asked, self.room))
-    }
-
-    fn refuse_put(&mut self, nth: u64) {
-        self.puts_left = nth;
     }
 }
 

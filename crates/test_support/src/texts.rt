@@ -6,8 +6,6 @@ use crate::fields::{Eaten, MORE, Short, has_size, is_read, is_refused_at_least, 
 use crate::fixture::Heap;
 use crate::reference::between;
 use std::alloc::Allocator;
-use std::borrow::CowSlice;
-use wire_buf::io::ParseBuf;
 use wire_repr::text::{BytesRepr, RawBytes};
 
 /// A text of 65536 bytes, none of them a zero, and two zeros behind it. It is shorter where memory
@@ -22,19 +20,6 @@ pub fn letters<A: Allocator>(alloc: A) -> Vec<u8, A> {
     text
 }
 
-/// Whether a text is read, and borrows from the input.
-pub fn borrows<'de, T, C, A>(alloc: A, ctx: C, input: &'de [u8]) -> bool
-where
-    T: 'de + BytesRepr<Ctx = C>,
-    A: 'de + Allocator + Copy,
-{
-    let mut buf = ParseBuf(input);
-    match buf.parse_in::<RawBytes<'de, T, A>, A>(alloc, ctx) {
-        Ok(text) => matches!(text.0, CowSlice::Borrowed(_)),
-        Err(_) => false,
-    }
-}
-
 /// How a text is written: the bytes before it, the text, what is read back of it, the bytes behind
 /// it, and how many of the requests for memory that this takes are refused in turn, at least.
 pub type Text<'a> = (&'a [u8], &'a [u8], &'a [u8], &'a [u8], u64);
@@ -44,8 +29,26 @@ pub fn puts_of(text: &[u8]) -> u64 {
     if text.len() < 200 { 0 } else { 2 }
 }
 
-/// Whether a text is written so, and what is read back, whatever follows, borrows from the input
-/// and takes no memory.
+// Whether a text is written as these bytes.
+fn is_put<T: BytesRepr, A: Allocator>(heap: &Heap, text: &[u8], bytes: &[u8], least: u64) -> bool {
+    is_refused_at_least(heap, &RawBytes::<T, A>::from(text), bytes, least)
+}
+
+// Whether a text is read back, which takes no memory: it borrows from the input.
+fn is_back<T: BytesRepr<Ctx = C>, C: Copy, A: Allocator + Copy>(
+    heap: &Heap,
+    alloc: A,
+    ctx: C,
+    (input, len): (&[u8], usize),
+    text: &[u8],
+    short: Short,
+) -> bool {
+    heap.refuse(0);
+    let back = RawBytes::<T, A>::from(text);
+    is_read(alloc, ctx, input, len, &back, short) & (heap.left() == 0)
+}
+
+/// Whether a text is written so, and what is read back, whatever follows, takes no memory.
 pub fn is_text<T: BytesRepr<Ctx = C>, C: Copy, A: Allocator + Copy>(
     heap: &Heap,
     alloc: A,
@@ -56,13 +59,8 @@ pub fn is_text<T: BytesRepr<Ctx = C>, C: Copy, A: Allocator + Copy>(
     let input = joined(heap, alloc, &[front, cut, end, MORE]);
     let input = input.as_slice();
     let len = input.len().saturating_sub(MORE.len());
-    let value = RawBytes::<T, A>::from(text);
-    let is_put = is_refused_at_least(heap, &value, between(input, 0, len), least);
-    let back = RawBytes::<T, A>::from(cut);
-    heap.refuse(0);
-    let is_read = is_read(alloc, ctx, input, len, &back, short);
-    let is_lent = borrows::<T, C, A>(alloc, ctx, input);
-    is_put & is_read & is_lent & (heap.left() == 0)
+    let is_put = is_put::<T, A>(heap, text, between(input, 0, len), least);
+    is_put & is_back::<T, C, A>(heap, alloc, ctx, (input, len), cut, short)
 }
 
 /// Whether at most so many bytes of a text are written, and it has this size.

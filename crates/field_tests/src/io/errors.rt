@@ -4,20 +4,10 @@ use mysql_wire::io::{InvalidLengthEncodedInteger, InvalidReason, WireError};
 use mysql_wire::proto::codec::error::PacketCodecError;
 use mysql_wire::proto::packet_io::{PacketIoError, PacketReader, PacketWriter};
 use std::alloc::Global;
-use std::fmt::{Debug, Display};
 use std::io::{self, ErrorKind};
 use std::test::Fail;
-use test_support::answers::{self, shows_debug};
+use test_support::answers::{shows, shows_debug};
 use test_support::facts::all_hold;
-
-// Whether an error shows as this text, and has some text for its programmers.
-fn shows<E: Display + Debug>(alloc: Global, error: &E, text: &str) -> bool {
-    let is_debugged = match format!(in alloc; "{error:?}") {
-        Ok(debugged) => !debugged.is_empty(),
-        Err(_) => false,
-    };
-    answers::shows(alloc, error, text) & is_debugged
-}
 
 const READER: &str =
     "PacketReader { reader: [97], unread: 0, is_lent: false, is_lost: false, reads: 0, .. }";

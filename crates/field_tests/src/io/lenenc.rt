@@ -7,9 +7,8 @@ use mysql_wire::io::{BufMutExt, ParseBuf, WireError, WriteMysqlExt};
 use mysql_wire::misc::{lenenc_int_len, lenenc_str_len};
 use std::alloc::Global;
 use std::convert::AsSlice;
-use std::test::Fail;
 use test_support::answers::{Fault, told};
-use test_support::facts::{all_hold, same, same_if_any};
+use test_support::facts::{are_parts, same, same_if_any};
 use test_support::reference::between;
 
 // ---- length-encoded integers
@@ -84,20 +83,8 @@ fn is_spelled(alloc: Global, row: &Row<'_, u64>) -> bool {
 
 // ---- numbers of a fixed width, and texts
 
-// Puts a number of a fixed width, or a text behind its length, each as it stands in `PUT`.
-fn put_fixed<B: BufMutExt>(nth: usize, buf: &mut B) -> Result<(), WireError> {
-    match nth {
-        0 => buf.put_u24_le(0x01020304),
-        1 => buf.put_i24_le(8388608),
-        2 => buf.put_i24_le(-2),
-        3 => buf.put_u48_le(1),
-        4 => buf.put_u56_le(1),
-        5 => buf.put_i56_le(-2),
-        6 => buf.put_lenenc_str(b"a"),
-        7 => buf.put_u8_str(b"b"),
-        8 => buf.put_u32_str(b"c"),
-        _ => buf.put_u8_str(&[b'd'; 256]),
-    }
+fn is_done(answer: Result<(), WireError>) -> bool {
+    answer.is_ok()
 }
 
 const PUT: &[u8] = b"\x04\x03\x02\
@@ -108,16 +95,29 @@ const PUT: &[u8] = b"\x04\x03\x02\
     \xfe\xff\xff\xff\xff\xff\xff\
     \x01a\x01b\x01\0\0\0c\xff";
 
+// Puts numbers of a fixed width, and texts behind their length, each as it stands in `PUT`.
+fn put_fixed(buf: &mut Vec<u8>, long: &[u8]) -> [bool; 10] {
+    [
+        is_done(buf.put_u24_le(0x01020304)),
+        is_done(buf.put_i24_le(8388608)),
+        is_done(buf.put_i24_le(-2)),
+        is_done(buf.put_u48_le(1)),
+        is_done(buf.put_u56_le(1)),
+        is_done(buf.put_i56_le(-2)),
+        is_done(buf.put_lenenc_str(b"a")),
+        is_done(buf.put_u8_str(b"b")),
+        is_done(buf.put_u32_str(b"c")),
+        is_done(buf.put_u8_str(long)),
+    ]
+}
+
 // Whether these are put one behind the other, and of a text whose length its byte can't say, as
 // much as that says.
 fn all_are_put(alloc: Global) -> bool {
     let mut buf = Vec::new(alloc);
-    let mut all = true;
-    for nth in 0..10usize {
-        all &= put_fixed(nth, &mut buf).is_ok();
-    }
-    let (front, rest) = buf.as_slice().split_at(PUT.len().min(buf.len()));
-    all & same(front, PUT) & same(rest, &[b'd'; 255])
+    let long = [b'd'; 256];
+    let are_put = put_fixed(&mut buf, &long) == [true; 10];
+    are_put & are_parts(buf.as_slice(), [PUT, &long[1..], b""])
 }
 
 // What the length of a text is.
@@ -232,42 +232,23 @@ fn is_text_left(alloc: Global, text: &[u8]) -> bool {
     all
 }
 
-fn numbers_are_spelled(alloc: Global) -> bool {
-    let mut all = true;
-    for row in WRITTEN {
-        all &= is_spelled(alloc, row);
-    }
-    all
-}
-
-fn texts_are_eaten() -> bool {
-    let mut all = true;
-    for row in EATEN {
-        all &= is_eaten(row);
-    }
-    all
-}
-
 // How long texts are.
 const LENGTHS: &[usize] = &[0, 1, 3, 250, 251, 300];
 
-fn texts_are_left(alloc: Global) -> bool {
-    let mut all = true;
+// Each number is put and written, each text eaten, and each put into a buffer of each size.
+#[test]
+fn numbers_and_texts_are_put_and_eaten(rt: HostRuntime) {
+    let alloc = rt.alloc();
+    let mut all = all_are_put(alloc);
+    for row in WRITTEN {
+        all &= is_spelled(alloc, row);
+    }
+    for row in EATEN {
+        all &= is_eaten(row);
+    }
     for len in LENGTHS {
         all &= is_text_left(alloc, between(&[b'a'; 300], 0, *len));
     }
-    all
-}
-
-#[test]
-fn numbers_and_texts_are_put_and_eaten(rt: HostRuntime) -> Result<(), Fail> {
-    let alloc = rt.alloc();
-    all_hold(&[
-        all_are_put(alloc),
-        numbers_are_spelled(alloc),
-        texts_are_eaten(),
-        texts_are_left(alloc),
-        // The length of a refused text is left.
-        leaves(alloc, Some(b"abc"), 0, 2, 1, b"\x03abc"),
-    ])
+    // The length of a refused text is left.
+    assert!(rt; all & leaves(alloc, Some(b"abc"), 0, 2, 1, b"\x03abc"));
 }

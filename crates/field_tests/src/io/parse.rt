@@ -12,7 +12,6 @@ use std::io::Read;
 use std::test::Fail;
 use test_support::answers::{Fault, told};
 use test_support::facts::{all_hold, same, same_if_any};
-use test_support::reference::{between, first_zero};
 
 fn checked_slices_are_the_eaten_part() -> bool {
     let mut buf = ParseBuf(b"abcdefgh");
@@ -38,44 +37,10 @@ fn slices_are_the_eaten_part() -> bool {
     all & buf.is_empty() & !ParseBuf(b"a").is_empty()
 }
 
-// Whether this text is eaten up to its zero, and this is left.
-fn eats_null_str(input: &[u8], text: &[u8], left: &[u8]) -> bool {
+/// Whether this text is eaten up to its zero, and this is left.
+pub fn eats_null_str(input: &[u8], text: &[u8], left: &[u8]) -> bool {
     let mut buf = ParseBuf(input);
     same(buf.eat_null_str(), text) & same(buf.0, left)
-}
-
-// Whether a text is eaten up to the zero that a plain loop finds in it, which stands at this place.
-fn ends_at(text: &[u8], place: usize) -> bool {
-    let zero = first_zero(text);
-    let left = between(text, zero.saturating_add(1), text.len());
-    (zero == place) & eats_null_str(text, between(text, 0, zero), left)
-}
-
-// A text of each length up to 300, with a zero at each place, and with none.
-fn the_zero_is_found() -> bool {
-    let mut all = true;
-    for len in 0..301usize {
-        let mut bytes = [b'a'; 300];
-        for zero in 0..len {
-            bytes[zero] = 0;
-            all &= ends_at(&bytes[..len], zero);
-            bytes[zero] = b'a';
-        }
-        all &= ends_at(&bytes[..len], len);
-    }
-    all
-}
-
-// The first of two zeros ends a text.
-fn the_first_zero_is_found() -> bool {
-    let mut all = true;
-    for zero in 0..299usize {
-        let mut bytes = [b'a'; 300];
-        bytes[zero] = 0;
-        bytes[299] = 0;
-        all &= ends_at(&bytes, zero);
-    }
-    all
 }
 
 // How many bytes a read into two gives, what then stands in these, and how many are left.
@@ -102,8 +67,6 @@ fn slices_and_null_strs_are_eaten(_: HostRuntime) -> Result<(), Fail> {
         eats_null_str(b"b", b"b", b""),
         eats_null_str(b"", b"", b""),
         eats_null_str(b"\0", b"", b""),
-        the_zero_is_found(),
-        the_first_zero_is_found(),
     ])
 }
 

@@ -36,15 +36,16 @@ fn is_read(row: &Row<'_, u64>) -> bool {
     all
 }
 
-// Whether a number is read from a spelling of a first byte and so many bytes behind it.
-fn is_spelled(first: u8, behind: usize, number: u64) -> bool {
-    let mut bytes = [0; 10];
-    bytes[0] = first;
-    bytes[1..9].copy_from_slice(&number.to_le_bytes());
-    let width = behind.min(8) + 1;
-    let row = (width, &bytes[..width + 1], number);
-    is_read(&row) & numbers::is_read::<Lenenc>(&row, 1)
-}
+// Small numbers in longer spellings than they are written in, which slices take too.
+const LONGER: &[Row<u64>] = &[
+    (3, b"\xfc\0\0\xfe", 0),
+    (3, b"\xfc\x05\0\xfe", 5),
+    (3, b"\xfc\xfa\0\xfe", 250),
+    (4, b"\xfd\x05\0\0\xfe", 5),
+    (4, b"\xfd\xff\xff\0\xfe", 65535),
+    (9, b"\xfe\x05\0\0\0\0\0\0\0\xfe", 5),
+    (9, b"\xfe\xff\xff\xff\0\0\0\0\0\xfe", 16777215),
+];
 
 // Whether the numbers are read, and small ones from longer spellings, which slices take too.
 fn lenenc_ints_are_read() -> bool {
@@ -52,10 +53,8 @@ fn lenenc_ints_are_read() -> bool {
     for row in WRITTEN {
         all &= is_read(row);
     }
-    for number in 0..300u64 {
-        for (first, behind) in [(0xfc, 2usize), (0xfd, 3), (0xfe, 8)] {
-            all &= is_spelled(first, behind, number);
-        }
+    for row in LONGER {
+        all &= is_read(row) & numbers::is_read::<Lenenc>(row, 1);
     }
     all
 }

@@ -1,6 +1,6 @@
 //! The functions that write behind what a vector holds.
 
-use memory_support::writing::{Writing, write};
+use crate::writing::{Writing, write};
 use std::alloc::Allocator;
 use test_support::answers::Fault;
 use test_support::facts::are_parts;

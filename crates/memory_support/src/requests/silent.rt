@@ -1,12 +1,12 @@
 //! The functions that have an allocator within reach and ask for no memory: the next request would
 //! be refused, and none is made. Those that take memory of what they are called with, `copies` has.
 
-use bytes::BytesMut;
-use memory_support::copies::{
+use crate::copies::{
     know_text, lists_work, numbers_work, reads_by_representation, reads_text, texts_work,
 };
-use memory_support::packets::{Outlet, Source};
-use memory_support::reading::Reading;
+use crate::packets::{Outlet, Source, shown_len, told_of};
+use crate::reading::Reading;
+use bytes::BytesMut;
 use mysql_wire::proto::codec::Skipped;
 use refusing_allocator::NEVER;
 use std::alloc::Allocator;
@@ -256,15 +256,17 @@ fn reader_lends<A: Allocator + Copy>(heap: &Heap, alloc: A) -> bool {
     let mut all = from.fill() == Ok(true);
     heap.refuse(0);
     all &= (from.fill() == Ok(true)) & from.lends(b"ab") & from.take();
-    all & from.unread().is_empty() & !from.take()
+    all & from.reader.unread().is_empty() & !from.take()
 }
 
 fn reader_works<A: Allocator + Copy>(alloc: A) -> bool {
     let Some(from) = Source::new(alloc, b"ab") else {
         return false;
     };
-    let all = from.fits() & from.can_skip() & from.can_copy() & from.unread().is_empty();
-    all & (from.reads() == 0) & (from.shown_len() > 0) & same(from.into_inner(), b"ab")
+    let (reader, codec) = (from.reader, from.codec);
+    let mut all = reader.fits(&codec) & reader.can_skip(&codec) & reader.can_copy(&codec);
+    all &= reader.unread().is_empty() & (reader.reads() == 0) & (shown_len(&reader) > 0);
+    all & same(reader.into_inner(), b"ab")
 }
 
 // The writer's own memory is another's.
@@ -276,9 +278,10 @@ fn writer_works<A: Allocator + Copy>(heap: &Heap, alloc: A) -> bool {
     heap.refuse(NEVER);
     let mut all = to.queue(&mut packet) == Told::Done;
     heap.refuse(0);
-    all &= (to.pending().len() == 6) & (to.write() == Told::Done);
-    all &= to.pending().is_empty() & (to.shown_len() > 0);
-    to.end();
+    all &= to.writer.pending().len() == 6;
+    all &= told_of(to.writer.write_pending()) == Told::Done;
+    all &= to.writer.pending().is_empty() & (shown_len(&to.writer) > 0);
+    let _ = to.writer.into_inner();
     all
 }
 

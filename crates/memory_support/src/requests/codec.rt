@@ -1,31 +1,17 @@
 //! The functions of the packet codec that take memory. Each is called again after a refusal, and
 //! then does what it does where none comes.
 
-use bytes::BytesMut;
-use memory_support::packets::{Outlet, Source};
+use crate::packets::{Outlet, Source};
+use crate::requests::{Call, Row, copies};
+use bytes::{Buf, BytesMut};
 use mysql_wire::proto::codec::PacketDst;
 use refusing_allocator::NEVER;
 use std::alloc::Allocator;
+use test_support::answers::Fault;
 use test_support::facts::{are_parts, same};
 use test_support::fixture::{Fixture, Heap};
-use test_support::receiver::{Receiver, Run, Tally, frames, pieces_from};
+use test_support::receiver::{Receiver, Run, Tally, pieces_from};
 use test_support::told::Told;
-
-/// A call that takes memory.
-#[derive(Clone, Copy)]
-pub enum Taking {
-    PacketToChunks,
-    PiecesToChunks,
-    Encode,
-    EncodeValue,
-    Queue,
-    ChunkDecode,
-    Decode,
-    Reserve,
-    PutSlice,
-    Deliver(Runner),
-    Read(Way),
-}
 
 /// What runs over pieces.
 #[derive(Clone, Copy)]
@@ -36,36 +22,29 @@ pub enum Runner {
     DeliverEachLimited,
 }
 
-/// A function by its name, and how often it asks for memory where none is refused.
-pub type Row = (&'static str, Taking, u64);
-
 pub const ROWS: &[Row] = &[
-    ("packet_to_chunks", Taking::PacketToChunks, 1),
-    ("packet_to_chunks", Taking::PiecesToChunks, 1),
-    ("PacketCodec::encode", Taking::Encode, 1),
-    ("encode_value", Taking::EncodeValue, 2),
-    ("PacketWriter::queue", Taking::Queue, 1),
-    ("ChunkDecoder::decode", Taking::ChunkDecode, 1),
-    ("PacketCodec::decode", Taking::Decode, 1),
-    ("PacketDst::reserve", Taking::Reserve, 1),
-    ("PacketDst::put_slice", Taking::PutSlice, 1),
-    ("deliver", Taking::Deliver(Runner::Deliver), 6),
-    ("deliver_each", Taking::Deliver(Runner::DeliverEach), 3),
-    (
-        "deliver_limited",
-        Taking::Deliver(Runner::DeliverLimited),
-        6,
-    ),
+    ("packet_to_chunks", Call::PacketToChunks, 1),
+    ("packet_to_chunks", Call::PiecesToChunks, 1),
+    ("PacketCodec::encode", Call::Encode, 1),
+    ("encode_value", Call::EncodeValue, 2),
+    ("PacketWriter::queue", Call::Queue, 1),
+    ("ChunkDecoder::decode", Call::ChunkDecode, 1),
+    ("PacketCodec::decode", Call::Decode, 1),
+    ("PacketDst::reserve", Call::Reserve, 1),
+    ("PacketDst::put_slice", Call::PutSlice, 1),
+    ("deliver", Call::Deliver(Runner::Deliver), 6),
+    ("deliver_each", Call::Deliver(Runner::DeliverEach), 3),
+    ("deliver_limited", Call::Deliver(Runner::DeliverLimited), 6),
     (
         "deliver_each_limited",
-        Taking::Deliver(Runner::DeliverEachLimited),
+        Call::Deliver(Runner::DeliverEachLimited),
         3,
     ),
-    ("PacketReader::next_packet", Taking::Read(Way::Next), 2),
-    ("PacketReader::fill_packet", Taking::Read(Way::Fill), 1),
-    ("PacketReader::skip_packet", Taking::Read(Way::Skip), 1),
-    ("PacketReader::copy_packet", Taking::Read(Way::Copy), 1),
-    ("PacketReader::relay_packet", Taking::Read(Way::Relay), 3),
+    ("PacketReader::next_packet", Call::Read(Way::Next), 2),
+    ("PacketReader::fill_packet", Call::Read(Way::Fill), 1),
+    ("PacketReader::skip_packet", Call::Read(Way::Skip), 1),
+    ("PacketReader::copy_packet", Call::Read(Way::Copy), 1),
+    ("PacketReader::relay_packet", Call::Read(Way::Relay), 3),
 ];
 
 // More than a buffer has room for that holds a few bytes.
@@ -88,33 +67,75 @@ fn begun<A: Allocator + Copy>(heap: &Heap, alloc: A) -> Receiver<A> {
     Receiver::holding(alloc, LEN, b"ab")
 }
 
-fn encode_once<A>(to: &mut Receiver<A>, packet: &mut &[u8], as_value: bool) -> Told
+// What frames a packet, or a value: by itself from an id on, or as a codec's first packet.
+#[derive(Clone, Copy)]
+enum Framing {
+    Chunks(u8),
+    Packet,
+    Value,
+}
+
+fn frame_once<A, T>(to: &mut Receiver<A>, packet: &mut T, framing: Framing) -> Told
 where
     A: Allocator + Copy,
+    T: Buf,
 {
-    if as_value {
-        to.encode_text(TEXT)
-    } else {
-        to.encode(packet)
+    match framing {
+        Framing::Chunks(id) => match to.frame(id, packet) {
+            Ok(next) if next == id.wrapping_add(1) => Told::Done,
+            Err(Fault::OutOfMemory) => Told::OutOfMemory,
+            _ => Told::Fallen,
+        },
+        Framing::Packet => Told::of_encode(to.codec.encode(packet, &mut to.src)),
+        Framing::Value => to.encode_text(TEXT),
     }
 }
 
 // Whether a packet, or a value, was refused, and neither it nor the buffer is changed; it is then
-// framed from the id 0.
-fn encodes<A: Allocator + Copy>(heap: &Heap, alloc: A, as_value: bool, nth: u64) -> Option<bool> {
-    let mut to = begun(heap, alloc);
-    let mut packet = TEXT;
+// framed by one chunk. The parts are what the buffer holds in the end: `ab` with the header, and
+// the packet's pieces.
+fn frames<A, T>(
+    heap: &Heap,
+    to: &mut Receiver<A>,
+    packet: &mut T,
+    framing: Framing,
+    (parts, nth): ([&[u8]; 3], u64),
+) -> Option<bool>
+where
+    A: Allocator + Copy,
+    T: Buf,
+{
+    let len = packet.remaining();
     heap.refuse(nth);
-    let mut told = encode_once(&mut to, &mut packet, as_value);
+    let mut told = frame_once(to, packet, framing);
     let refused = told == Told::OutOfMemory;
     let mut all = true;
     if refused {
-        all &= same(to.src.as_slice(), b"ab") & (packet.len() == LEN);
-        told = encode_once(&mut to, &mut packet, as_value);
+        all &= same(to.src.as_slice(), b"ab");
+        all &= same(packet.chunk(), parts[1]) & (packet.remaining() == len);
+        told = frame_once(to, packet, framing);
     }
-    all &= (told == Told::Done) & (packet.is_empty() != as_value);
-    all &= are_parts(to.src.as_slice(), FRAMED);
-    all.then_some(refused)
+    let is_value = matches!(framing, Framing::Value);
+    all &= (told == Told::Done) & ((packet.remaining() == 0) != is_value);
+    (all & are_parts(to.src.as_slice(), parts)).then_some(refused)
+}
+
+// The same of a packet of one piece, and of two.
+fn frames_text<A>(heap: &Heap, alloc: A, framing: Framing, nth: u64) -> Option<bool>
+where
+    A: Allocator + Copy,
+{
+    let mut packet = TEXT;
+    let mut to = begun(heap, alloc);
+    frames(heap, &mut to, &mut packet, framing, (FRAMED, nth))
+}
+
+fn frames_pieces<A: Allocator + Copy>(heap: &Heap, alloc: A, nth: u64) -> Option<bool> {
+    let [_, first, second] = FRAMED_FROM_255;
+    let mut packet = first.chain(second);
+    let mut to = begun(heap, alloc);
+    let framing = Framing::Chunks(255);
+    frames(heap, &mut to, &mut packet, framing, (FRAMED_FROM_255, nth))
 }
 
 fn queues<A: Allocator + Copy>(heap: &Heap, alloc: A, nth: u64) -> Option<bool> {
@@ -126,11 +147,11 @@ fn queues<A: Allocator + Copy>(heap: &Heap, alloc: A, nth: u64) -> Option<bool> 
     let refused = told == Told::OutOfMemory;
     let mut all = true;
     if refused {
-        all &= to.pending().is_empty() & (packet.len() == LEN);
+        all &= to.writer.pending().is_empty() & (packet.len() == LEN);
         told = to.queue(&mut packet);
     }
     all &= (told == Told::Done) & packet.is_empty();
-    all &= are_parts(to.pending(), [HEADER, TEXT, b""]);
+    all &= are_parts(to.writer.pending(), [HEADER, TEXT, b""]);
     all.then_some(refused)
 }
 
@@ -274,8 +295,8 @@ where
 fn is_read<A: Allocator + Copy>(from: &Source<'_, A>, to: &Outlet<A>, way: Way) -> bool {
     match way {
         Way::Fill => from.lends(b"123"),
-        Way::Relay => (to.pending() == PACKET) & (to.codec.sequence_id() == 1),
-        _ => from.unread().is_empty(),
+        Way::Relay => (to.writer.pending() == PACKET) & (to.codec.sequence_id() == 1),
+        _ => from.reader.unread().is_empty(),
     }
 }
 
@@ -308,19 +329,21 @@ fn reads<A: Allocator + Copy>(heap: &Heap, alloc: A, way: Way, nth: u64) -> Opti
 
 // ---- all
 
-/// Whether the request was refused, and what stands then is right.
-pub fn tries<A: Allocator + Copy>(heap: &Heap, alloc: A, call: Taking, nth: u64) -> Option<bool> {
+/// Whether the request was refused, and what stands then is right; of the other calls, as `copies`
+/// says.
+pub fn tries<A: Allocator + Copy>(heap: &Heap, alloc: A, call: Call, nth: u64) -> Option<bool> {
     match call {
-        Taking::PacketToChunks => frames(heap, alloc, 0, FRAMED, nth),
-        Taking::PiecesToChunks => frames(heap, alloc, 255, FRAMED_FROM_255, nth),
-        Taking::Encode => encodes(heap, alloc, false, nth),
-        Taking::EncodeValue => encodes(heap, alloc, true, nth),
-        Taking::Queue => queues(heap, alloc, nth),
-        Taking::ChunkDecode => decodes(heap, alloc, true, nth),
-        Taking::Decode => decodes(heap, alloc, false, nth),
-        Taking::Reserve => both_put(heap, alloc, false, nth),
-        Taking::PutSlice => both_put(heap, alloc, true, nth),
-        Taking::Deliver(runner) => delivers(heap, alloc, runner, nth),
-        Taking::Read(way) => reads(heap, alloc, way, nth),
+        Call::PacketToChunks => frames_text(heap, alloc, Framing::Chunks(0), nth),
+        Call::PiecesToChunks => frames_pieces(heap, alloc, nth),
+        Call::Encode => frames_text(heap, alloc, Framing::Packet, nth),
+        Call::EncodeValue => frames_text(heap, alloc, Framing::Value, nth),
+        Call::Queue => queues(heap, alloc, nth),
+        Call::ChunkDecode => decodes(heap, alloc, true, nth),
+        Call::Decode => decodes(heap, alloc, false, nth),
+        Call::Reserve => both_put(heap, alloc, false, nth),
+        Call::PutSlice => both_put(heap, alloc, true, nth),
+        Call::Deliver(runner) => delivers(heap, alloc, runner, nth),
+        Call::Read(way) => reads(heap, alloc, way, nth),
+        _ => copies::tries(heap, alloc, call, nth),
     }
 }
