@@ -1,9 +1,9 @@
-use Rattle.std.proofs.Common.{rules, ℕ, ◌≡◌, ◌-◌, ◌^◌, List, [], ◌++◌, length, min, drop, ap, sym, ◌∙◌, vec_len}
-use Rattle.std.proofs.lemmas.List.{length-map}
+use Rattle.std.proofs.Common.{rules, ℕ, ◌≡◌, List, [], ◌++◌, drop, ap, ◌∙◌, vec_len}
 use Rattle.mysql_wire.specs.Codec.{CodecState, codec_state, header_of}
 use Rattle.mysql_wire.specs.Delivery.{Delivers, Waiting}
 use Rattle.mysql_wire.specs.Runs.{joined, payloads}
 use Rattle.mysql_wire_examples.proofs.CallerLemmas.{fresh_delivers}
+use Rattle.mysql_wire_examples.proofs.TallyLemmas.{counted_list}
 use Rattle.mysql_wire_examples.proofs.recording.take_counted.Goals as goal
 
 pub returns : goal.returns
@@ -24,5 +24,4 @@ returns g c =
     let same = c.one_delivery.ensures [] input 0 limit runs.0 seen.0 Waiting Waiting after.held seen.1 (after.unread ++ left) seen.2 mine seen.4 in
     let all : payloads call.new.out.items ≡ seen.0 =
     runs.1 ∙ ap (λ (z : List _). payloads z ++ runs.0) (c.in_ok-reserve.ensures.items ∙ c.new-packets.ensures.items) ∙ same.0 in
-    let count : length seen.0 ≡ vec_len call.new.out = ap (λ (z : List (List ℕ)). length z) (sym all) ∙ length-map call.new.out.items (λ packet. packet.items) ∙ sym call.new.out.ok.0 in
-    seen.3 ∙ ap (λ (n : ℕ). min n (2 ^ 64 - 1)) count
+    counted_list (λ packet. packet.items) call.new.out.items seen.0 (vec_len call.new.out) c.in_ok-tally.tally.packets all call.new.out.ok.0 seen.3
