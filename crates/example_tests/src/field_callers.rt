@@ -50,6 +50,7 @@ fn fields_are_put_and_read(rt: HostRuntime) -> Result<(), Fail> {
     ensure(put & is_named(rt.alloc()), "a field is put otherwise")
 }
 
+// Whether a port and a name are read, and none of them where a byte is missing.
 fn is_own(alloc: Global, bytes: &[u8]) -> bool {
     let mut buf = ParseBuf(bytes);
     let port = match read_port(alloc, &mut buf) {
@@ -60,7 +61,17 @@ fn is_own(alloc: Global, bytes: &[u8]) -> bool {
         Ok(name) => same(name.as_bytes(), b"id"),
         Err(_) => false,
     };
-    (port == 0x1234) & name & buf.is_empty()
+    let is_cut = read_port(alloc, &mut ParseBuf(b"\x12")).is_err()
+        & read_name(alloc, &mut ParseBuf(b"\0\x02i")).is_err();
+    (port == 0x1234) & name & buf.is_empty() & is_cut
+}
+
+// Whether just as many bytes of a text stand behind their length as two bytes can state.
+fn is_bounded(alloc: Global) -> bool {
+    match Vec::from_elem(alloc, b'a', 65536) {
+        Ok(long) => RawBytes::<U16Bytes>::from(long.as_slice()).len() == 65535,
+        Err(_) => false,
+    }
 }
 
 #[test]
@@ -70,7 +81,7 @@ fn own_fields_are_written_and_read(rt: HostRuntime) -> Result<(), Fail> {
     let name = RawBytes::<U16Bytes>::from(b"id".as_slice());
     let mut own = port.serialize(&mut buf).is_ok() & name.serialize(&mut buf).is_ok();
     own &= same(buf.as_slice(), b"\x12\x34\0\x02id");
-    own &= is_own(rt.alloc(), buf.as_slice());
+    own &= is_own(rt.alloc(), buf.as_slice()) & is_bounded(rt.alloc());
     ensure(own, "a port and a name")
 }
 

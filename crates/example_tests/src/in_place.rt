@@ -31,10 +31,7 @@ fn rows_of(reader: &mut PacketReader<&[u8]>) -> Option<u64> {
 
 // How many rows there are.
 fn rows(alloc: Global, bytes: &[u8]) -> Option<u64> {
-    match PacketReader::new(alloc, bytes) {
-        Ok(mut reader) => rows_of(&mut reader),
-        Err(_) => None,
-    }
+    rows_of(&mut PacketReader::new(alloc, bytes).unwrap())
 }
 
 // Whether two packets of 11 bytes are counted.

@@ -16,8 +16,6 @@ mod long_packet;
 #[cfg(test)]
 mod measured;
 #[cfg(test)]
-mod own_fields;
-#[cfg(test)]
 mod recorded;
 #[cfg(test)]
 mod session;

@@ -1,5 +1,7 @@
 //! The callers whose limit rises, run.
 
+ghost use Rattle.std.specs.Prelude.{◌≡◌, []};
+
 use bytes::BytesMut;
 use mysql_wire::proto::codec::PacketCodec;
 use mysql_wire_examples::session::{go_on_under, replay_session};
@@ -14,27 +16,39 @@ const LOGIN: &[u8] = b"\x02\0\0\0ab\x03\0\0\x01c";
 // The other half, and a packet of none.
 const SESSION: &[u8] = b"de\0\0\0\x02";
 
-// Whether a session goes on under its second limit, and comes once more.
-fn is_replayed(alloc: Global, before: usize, behind: usize) -> Option<bool> {
+// Whether a session goes on under its second limit, and comes once more, with nothing in its buffers
+// before.
+fn goes_on(
+    alloc: Global,
+    limits: (usize, usize),
+    src: &mut BytesMut,
+    dst: &mut Vec<u8>,
+    packets: &mut Vec<Vec<u8>>,
+) -> Option<bool>
+    requires unread { src.old.items ≡ [] }
+    requires held { dst.old.items ≡ [] }
+    requires taken { packets.old.items ≡ [] }
+{
+    let (before, behind) = limits;
     let mut codec = PacketCodec::default();
     codec.max_allowed_packet = before;
+    src.extend_from_slice(LOGIN).ok()?;
+    go_on_under(&mut codec, src, dst, behind, SESSION, packets).ok()?;
+    let (login, session) = ((before, LOGIN), (behind, SESSION));
+    match replay_session(alloc, login, session, packets.as_slice()) {
+        Ok(again) => {
+            let wanted: &[&[u8]] = &[b"ab", b"cde", b""];
+            Some(are_packets(packets.as_slice(), wanted) & are_packets(again.as_slice(), wanted))
+        }
+        Err(_) => None,
+    }
+}
+
+fn is_replayed(alloc: Global, before: usize, behind: usize) -> Option<bool> {
     let mut src = BytesMut::new(alloc);
     let mut dst = Vec::new(alloc);
     let mut packets = Vec::new(alloc);
-    src.extend_from_slice(LOGIN).ok()?;
-    go_on_under(
-        &mut codec,
-        &mut src,
-        &mut dst,
-        behind,
-        SESSION,
-        &mut packets,
-    )
-    .ok()?;
-    let (login, session) = ((before, LOGIN), (behind, SESSION));
-    let again = replay_session(alloc, login, session, packets.as_slice()).ok()?;
-    let wanted: &[&[u8]] = &[b"ab", b"cde", b""];
-    Some(are_packets(packets.as_slice(), wanted) & are_packets(again.as_slice(), wanted))
+    goes_on(alloc, (before, behind), &mut src, &mut dst, &mut packets)
 }
 
 #[test]

@@ -1,5 +1,6 @@
 -- Packets that are counted.
-use Rattle.std.proofs.Common.{◌≡◌, ℕ, ◌+◌, ◌-◌, ◌^◌, ◌<◌, List, [], ◌∷◌, length, min, arith, ap}
+use Rattle.std.proofs.Common.{◌≡◌, ℕ, ◌+◌, ◌-◌, ◌^◌, ◌<◌, List, [], ◌∷◌, length, map, min, arith, ap, sym, ◌∙◌}
+use Rattle.std.proofs.lemmas.List.{length-map}
 use Rattle.std.specs.List.{FoldsTo}
 use Rattle.mysql_wire_examples.specs.declared.in_place.Tally.{Tally}
 
@@ -19,3 +20,8 @@ pub tally_packets : (payloads : List (List ℕ)) (new : Tally) → FoldsTo talli
 tally_packets payloads new folds =
     let all = counted record { packets = 0; bytes = 0 } payloads new (omega arith) folds in
     omega arith
+
+-- the same count, of a list that holds what was counted
+pub counted_list : {X : Type 0} (bytes_of : X → List ℕ) (items : List X) (seen : List (List ℕ)) (len count : ℕ) → map bytes_of items ≡ seen → len ≡ length items → count ≡ min (length seen) (2 ^ 64 - 1) → count ≡ min len (2 ^ 64 - 1)
+counted_list bytes_of items seen len count all is counts =
+    counts ∙ ap (λ (n : ℕ). min n (2 ^ 64 - 1)) (ap (λ (z : List (List ℕ)). length z) (sym all) ∙ length-map items bytes_of ∙ sym is)
