@@ -57,9 +57,9 @@ fn refused(error: PayloadError) -> Result<Kind, Stop>
 }
 
 // The kind of a packet, whose fields are put.
-fn show_as<A: Allocator + Copy, T: Show>(
+fn show_as<A: Allocator + Copy, T: Show + Drop>(
     kind: Kind,
-    packet: &T,
+    packet: T,
     fields: &mut Fields<A>,
 ) -> Result<Kind, Stop>
     ensures named { IfOk result (λ named. IsOrBytes kind named) }
@@ -67,6 +67,21 @@ fn show_as<A: Allocator + Copy, T: Show>(
 {
     packet.show(fields)?;
     Ok(kind)
+}
+
+// The same, where it was read, or is refused.
+fn show_read<A: Allocator + Copy, T: Show + Drop>(
+    kind: Kind,
+    packet: Result<T, PayloadError>,
+    fields: &mut Fields<A>,
+) -> Result<Kind, Stop>
+    ensures named { IfOk result (λ named. IsOrBytes kind named) }
+    ensures puts { OnOk result (PutsSome fields.old fields.new) }
+{
+    match packet {
+        Ok(packet) => show_as(kind, packet, fields),
+        Err(error) => refused(error),
+    }
 }
 
 // Reads a payload that is one packet of this type, and puts its fields.
@@ -80,10 +95,7 @@ fn read_as<'a, T: MyDeserialize<'a, Global> + Show + Drop, A: Allocator + Copy>(
     ensures named { IfOk result (λ named. IsOrBytes kind named) }
     ensures puts { OnOk result (PutsSome fields.old fields.new) }
 {
-    match read_whole::<T>(global, ctx, payload) {
-        Ok(packet) => show_as(kind, &packet, fields),
-        Err(error) => refused(error),
-    }
+    show_read(kind, read_whole::<T>(global, ctx, payload), fields)
 }
 
 impl<A: Allocator + Copy> Session<A> {

@@ -1,17 +1,16 @@
 -- The text of fields.
-use Rattle.std.proofs.Common.{◌≡◌, ℕ, List, [], ◌∷◌, ◌++◌, Bool, true, false, refl, ap, sym, ◌∙◌, append_assoc, arith, ◌+◌, ◌<◌, length, take, get_or, Option, Some, None}
+use Rattle.std.proofs.Common.{◌≡◌, ℕ, List, [], ◌∷◌, ◌++◌, Bool, true, false, refl, ap, sym, ◌∙◌, append_assoc, arith, ◌+◌, ◌<◌, length, take, get_or}
 use Rattle.std.proofs.lemmas.Grind.{common_steps}
 use Rattle.std.specs.Prelude.{◌==◌}
 use Rattle.std.proofs.lemmas.List.{append-nil, take_more}
-use Rattle.std.specs.Borrow.{Bor}
 use Rattle.std.specs.List.{flat_map}
 use Rattle.std.specs.Str.{IsUtf8, is_utf8}
 use Rattle.std.proofs.lemmas.Str.{IsUtf8-from_is_utf8}
 use Rattle.mysql_wire_dump_fields.specs.declared.fields.FieldForm.{FieldForm}
-use Rattle.mysql_wire_dump_fields.specs.declared.fields.FieldValue.{FieldValue}
+use Rattle.mysql_wire_dump_fields.specs.declared.fields.Field.{Field}
 use Rattle.mysql_wire_dump_fields.specs.declared.fields.FieldForm.TheVariants.{Hidden, Text, Json}
-use Rattle.mysql_wire_dump_fields.specs.Fields.{Member, Puts, Written, ended, fields_text, line, nothing, pair, put, puts, value_of}
-use Rattle.mysql_wire_dump_fields.specs.FieldTables.{members_of, row_if}
+use Rattle.mysql_wire_dump_fields.specs.Fields.{Member, Puts, Written, ended, fields_text, line, nothing, pair, put, puts}
+use Rattle.mysql_wire_dump_fields.specs.FieldTables.{members_in, members_of}
 
 is_false : (test : Bool) → (test ≡ true → ⊥) → test ≡ false
 is_false true never = absurd (never refl)
@@ -71,18 +70,16 @@ pub zero-false : (n : ℕ) → (n ≡ 0 → ⊥) → (n == 0) ≡ false
 zero-false n never = is_false (n == 0) (λ is. never (grind (arith, common_steps, is)))
 
 -- the members of fields one behind another
-pub members_append : (front back : List (Bor (List ℕ) × Option FieldValue))
-    → members_of (front ++ back) ≡ members_of front ++ members_of back
+pub members_append : (front back : List Field) → members_of (front ++ back) ≡ members_of front ++ members_of back
 members_append [] back = refl
-members_append ((name, Some value) ∷ front) back = ap (λ (members : List Member). (name.now, value_of value) ∷ members) (members_append front back)
-members_append ((name, None) ∷ front) back = members_append front back
+members_append (field ∷ front) back =
+    ap (λ (members : List Member). members_in field ++ members) (members_append front back)
+    ∙ sym (append_assoc (members_in field) (members_of front) (members_of back))
 
 -- one field more
-pub members_more : (fields : List (Bor (List ℕ) × Option FieldValue)) (place : ℕ) (other : Bor (List ℕ) × Option FieldValue)
-    → place < length fields → members_of (take (place + 1) fields)
-    ≡ members_of (take place fields) ++ row_if (λ value. ((get_or fields place other).0.now, value_of value)) (get_or fields place other).1
+pub members_more : (fields : List Field) (place : ℕ) (other : Field) → place < length fields
+    → members_of (take (place + 1) fields) ≡ members_of (take place fields) ++ members_in (get_or fields place other)
 members_more fields place other within =
     ap members_of (take_more fields place other within)
     ∙ members_append (take place fields) (get_or fields place other ∷ [])
-    ∙ ap (λ (members : List Member). members_of (take place fields) ++ members)
-    (append-nil (row_if (λ value. ((get_or fields place other).0.now, value_of value)) (get_or fields place other).1))
+    ∙ ap (λ (members : List Member). members_of (take place fields) ++ members) (append-nil (members_in (get_or fields place other)))

@@ -1,16 +1,23 @@
 -- Fields that are there, or not.
-use Rattle.std.specs.Borrow.{Bor}
-use Rattle.std.specs.Prelude.{ℕ, List, [], ◌∷◌, ◌++◌, Option, Some, None}
-use Rattle.mysql_wire_dump_fields.specs.declared.fields.FieldValue.{FieldValue}
-use Rattle.mysql_wire_dump_fields.specs.Fields.{Member, value_of}
+use Rattle.std.specs.Prelude.{List, [], ◌∷◌, ◌++◌, Option, Some, None}
+use Rattle.mysql_wire_dump_fields.specs.declared.fields.Field.{Field}
+use Rattle.mysql_wire_dump_fields.specs.declared.fields.Field.TheVariants as field
+use Rattle.mysql_wire_dump_fields.specs.Fields.{Flags, Member, Number, Octets, Words}
 
 -- a field, where its value is there
 abbrev pub row_if : {X : Type 0} → (X → Member) → Option X → List Member
 row_if row (Some value) = row value ∷ []
 row_if row None = []
 
--- fields in their order, each with its name
-abbrev pub members_of : List (Bor (List ℕ) × Option FieldValue) → List Member
+-- a field, where there is one
+abbrev pub members_in : Field → List Member
+members_in (field.Number name number) = (name.now, Number number) ∷ []
+members_in (field.Flags name bits) = (name.now, Flags bits) ∷ []
+members_in (field.Text name text) = (name.now, Words text.now) ∷ []
+members_in (field.Bytes name bytes) = (name.now, Octets bytes.now) ∷ []
+members_in field.Missing = []
+
+-- fields in their order
+abbrev pub members_of : List Field → List Member
 members_of [] = []
-members_of (field ∷ fields) =
-    row_if (λ value. (field.0.now, value_of value)) field.1 ++ members_of fields
+members_of (field ∷ fields) = members_in field ++ members_of fields

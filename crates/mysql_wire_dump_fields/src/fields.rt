@@ -3,7 +3,7 @@
 ghost use Rattle.std.specs.Prelude.{◌≡◌, ◌++◌, ◌∷◌, [], IfOk, OnOk, string_bytes};
 ghost use Rattle.std.specs.Fmt.{decimal};
 ghost use Rattle.json.specs.Print.{quoted};
-ghost use Rattle.mysql_wire_dump_fields.specs.FieldTables.{members_of, row_if};
+ghost use Rattle.mysql_wire_dump_fields.specs.FieldTables.{members_in, members_of};
 ghost use Rattle.mysql_wire_dump_fields.specs.Fields.{Puts, digits_text, ended, flags_text, nothing, octets_text, value_of, value_text, with_end, with_member, words_text};
 
 use crate::moments::{push_date, push_time};
@@ -39,8 +39,18 @@ pub enum FieldValue<'a> {
     Word(&'a str),
 }
 
-/// A field: its name, and its value, where it is there.
-pub type Field<'a> = (&'a str, Option<FieldValue<'a>>);
+/// A field, with its name, or none.
+#[derive(Clone, Copy)]
+pub enum Field<'a> {
+    /// The packet has none.
+    Missing,
+    Number(&'a str, u64),
+    /// A set of flags.
+    Flags(&'a str, u64),
+    /// A text, where the bytes are one.
+    Text(&'a str, &'a [u8]),
+    Bytes(&'a str, &'a [u8]),
+}
 
 // Bytes, of which these are the digits.
 fn push_octets<A: Allocator>(
@@ -230,14 +240,16 @@ impl<A: Allocator + Copy> Fields<A> {
         push_member(&mut self.text, self.form, name, value)
     }
 
-    /// Puts a field, where its value is there.
-    pub fn put_if(&mut self, name: &str, value: Option<FieldValue<'_>>) -> Result<(), AllocError>
-        ensures { OnOk result (Puts
-            (row_if (λ value. (name.now, value_of value)) value.entry) self.old self.new) }
+    // Puts a field, where there is one.
+    fn put_field(&mut self, field: Field<'_>) -> Result<(), AllocError>
+        ensures { OnOk result (Puts (members_in field.entry) self.old self.new) }
     {
-        match value {
-            Some(value) => self.put(name, value),
-            None => Ok(()),
+        match field {
+            Field::Number(name, number) => self.put(name, FieldValue::Number(number)),
+            Field::Flags(name, bits) => self.put(name, FieldValue::Flags(bits)),
+            Field::Text(name, text) => self.put(name, FieldValue::Text(text)),
+            Field::Bytes(name, bytes) => self.put(name, FieldValue::Bytes(bytes)),
+            Field::Missing => Ok(()),
         }
     }
 
@@ -246,7 +258,7 @@ impl<A: Allocator + Copy> Fields<A> {
         ensures { OnOk result (Puts (members_of fields.now) self.old self.new) }
     {
         'fields: for field in fields {
-            self.put_if(field.0, field.1)?;
+            self.put_field(*field)?;
         }
         Ok(())
     }

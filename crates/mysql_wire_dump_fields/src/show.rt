@@ -1,11 +1,11 @@
 //! The fields of each packet, by MySQL's names.
 
 ghost use Rattle.std.specs.Cow.{cow_slice_items};
-ghost use Rattle.std.specs.Prelude.{◌≡◌, ℕ, List, OnOk};
+ghost use Rattle.std.specs.Prelude.{◌≡◌, OnOk};
 ghost use Rattle.wire_field.specs.Rows.{by_side};
-ghost use Rattle.mysql_wire_dump_fields.specs.FieldTables.{row_if};
+ghost use Rattle.mysql_wire_dump_fields.specs.FieldTables.{members_in, row_if};
 ghost use Rattle.mysql_wire_dump_fields.specs.Packets.{Packet, PutsFields};
-ghost use Rattle.mysql_wire_dump_fields.specs.Fields.{Number, Octets, Words, value_of};
+ghost use Rattle.mysql_wire_dump_fields.specs.Fields.{Number, Octets, Words};
 
 mod answers;
 mod commands;
@@ -13,7 +13,7 @@ mod connection;
 mod unread;
 mod values;
 
-use crate::fields::{FieldValue, Fields};
+use crate::fields::{Field, Fields};
 pub use commands::number_of_statement;
 use std::alloc::{AllocError, Allocator};
 pub use unread::{column_bytes, event, other_command, row_bytes, statistics};
@@ -32,35 +32,35 @@ pub trait Show {
 }
 
 // A text, where it is there.
-fn words_if<'a, T: BytesRepr>(text: &'a Option<RawBytes<'_, T>>) -> Option<FieldValue<'a>>
-    ensures { (name : List ℕ) → row_if (λ value. (name, value_of value)) result
-        ≡ row_if (λ text. (name, Words (cow_slice_items text.0))) text.now }
+fn words_if<'a, T: BytesRepr>(name: &'a str, text: &'a Option<RawBytes<'_, T>>) -> Field<'a>
+    ensures { members_in result
+        ≡ row_if (λ text. (name.now, Words (cow_slice_items text.0))) text.now }
 {
     match text {
-        Some(text) => Some(FieldValue::Text(text.0.as_slice())),
-        None => None,
+        Some(text) => Field::Text(name, text.0.as_slice()),
+        None => Field::Missing,
     }
 }
 
 // Bytes, where they are there.
-fn bytes_if<'a, T: BytesRepr>(bytes: &'a Option<RawBytes<'_, T>>) -> Option<FieldValue<'a>>
-    ensures { (name : List ℕ) → row_if (λ value. (name, value_of value)) result
-        ≡ row_if (λ bytes. (name, Octets (cow_slice_items bytes.0))) bytes.now }
+fn bytes_if<'a, T: BytesRepr>(name: &'a str, bytes: &'a Option<RawBytes<'_, T>>) -> Field<'a>
+    ensures { members_in result
+        ≡ row_if (λ bytes. (name.now, Octets (cow_slice_items bytes.0))) bytes.now }
 {
     match bytes {
-        Some(bytes) => Some(FieldValue::Bytes(bytes.0.as_slice())),
-        None => None,
+        Some(bytes) => Field::Bytes(name, bytes.0.as_slice()),
+        None => Field::Missing,
     }
 }
 
 // A number, where it is there.
-fn number_if<'a>(number: Option<u8>) -> Option<FieldValue<'a>>
-    ensures { (name : List ℕ) → row_if (λ value. (name, value_of value)) result
-        ≡ row_if (λ number. (name, Number number)) number }
+fn number_if<'a>(name: &'a str, number: Option<u8>) -> Field<'a>
+    ensures { members_in result
+        ≡ row_if (λ number. (name.now, Number number)) number }
 {
     match number {
-        Some(number) => Some(FieldValue::Number(number as u64)),
-        None => None,
+        Some(number) => Field::Number(name, number as u64),
+        None => Field::Missing,
     }
 }
 
@@ -79,16 +79,17 @@ fn of_side<'a, T: BytesRepr, U: BytesRepr>(
 
 // Such a text, where it is there.
 fn side_if<'a, T: BytesRepr, U: BytesRepr>(
+    name: &'a str,
     text: &'a Option<Either<RawBytes<'_, T>, RawBytes<'_, U>>>,
-) -> Option<FieldValue<'a>>
-    ensures { (name : List ℕ) → row_if (λ value. (name, value_of value)) result ≡ row_if (λ text. (
-      name,
+) -> Field<'a>
+    ensures { members_in result ≡ row_if (λ text. (
+      name.now,
       Words (by_side
           (λ text. cow_slice_items text.0) (λ text. cow_slice_items text.0) text),
     )) text.now }
 {
     match text {
-        Some(text) => Some(FieldValue::Text(of_side(text))),
-        None => None,
+        Some(text) => Field::Text(name, of_side(text)),
+        None => Field::Missing,
     }
 }

@@ -1,6 +1,6 @@
 //! The fields of commands.
 
-use crate::shown::{Fields, Shown};
+use crate::shown::{Field, Fields, Shown, text_if, texts_if};
 use mysql_wire_queries::com_change_user::ComChangeUser;
 use mysql_wire_queries::com_init_db::ComInitDb;
 use mysql_wire_queries::com_ping::ComPing;
@@ -10,51 +10,53 @@ use mysql_wire_queries::com_quit::ComQuit;
 
 impl Shown for ComQuit {
     fn show(&self, fields: &mut Fields) {
-        fields.number(0x01);
+        fields.put(Field::Number(0x01));
     }
 }
 
 impl Shown for ComInitDb<'_> {
     fn show(&self, fields: &mut Fields) {
-        fields.number(0x02);
-        fields.text(self.schema.as_bytes());
+        fields.put_all(&[Field::Number(0x02), Field::Text(self.schema.as_bytes())]);
     }
 }
 
 impl Shown for ComQuery<'_> {
     fn show(&self, fields: &mut Fields) {
-        fields.number(0x03);
-        fields.text(self.query.as_bytes());
+        fields.put_all(&[Field::Number(0x03), Field::Text(self.query.as_bytes())]);
     }
 }
 
 impl Shown for ComQueryWithAttributes<'_> {
     fn show(&self, fields: &mut Fields) {
-        fields.number(0x03);
-        fields.number(self.parameter_count);
-        fields.number(self.parameter_set_count);
-        fields.text(self.attributes_and_query.as_bytes());
+        fields.put_all(&[
+            Field::Number(0x03),
+            Field::Number(self.parameter_count),
+            Field::Number(self.parameter_set_count),
+            Field::Text(self.attributes_and_query.as_bytes()),
+        ]);
     }
 }
 
 impl Shown for ComPing {
     fn show(&self, fields: &mut Fields) {
-        fields.number(0x0e);
+        fields.put(Field::Number(0x0e));
     }
 }
 
 impl Shown for ComChangeUser<'_> {
     fn show(&self, fields: &mut Fields) {
-        fields.number(0x11);
-        fields.text(self.user.as_bytes());
-        fields.text(self.auth_plugin_data.as_bytes());
-        fields.text(self.database.as_bytes());
-        if let Some(set) = &self.character_set {
-            fields.number(set.0.into());
-        }
-        fields.text_if(&self.auth_plugin_name);
-        if let Some(attributes) = &self.connect_attrs {
-            fields.texts(attributes.as_bytes());
-        }
+        let character_set = match &self.character_set {
+            Some(number) => Field::Number(number.0 as u64),
+            None => Field::Missing,
+        };
+        fields.put_all(&[
+            Field::Number(0x11),
+            Field::Text(self.user.as_bytes()),
+            Field::Text(self.auth_plugin_data.as_bytes()),
+            Field::Text(self.database.as_bytes()),
+            character_set,
+            text_if(&self.auth_plugin_name),
+            texts_if(&self.connect_attrs),
+        ]);
     }
 }

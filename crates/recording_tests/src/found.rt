@@ -2,9 +2,9 @@
 
 use crate::place::Kind;
 use crate::shown::{Fields, Shown};
-use mysql_wire::proto::{MyDeserialize, MySerialize};
 use mysql_wire_packets::places::read_exact;
 use std::alloc::Global;
+use wire_buf::proto::{MyDeserialize, MySerialize};
 
 /// A payload, and its first fields as other programs read them, where they are listed.
 #[derive(Clone, Copy)]

@@ -1,14 +1,14 @@
 //! Parts that a packet lists one after another.
 
-use mysql_wire::io::ParseBuf;
-use mysql_wire::misc::raw::RawBytes;
-use mysql_wire::misc::raw::bytes::LenEnc;
-use mysql_wire::proto::{MyDeserialize, MySerialize};
 use mysql_wire_packets::ok_packet::OkForm;
 use mysql_wire_packets::session_change::SessionChange;
 use mysql_wire_queries::column_definition::ColumnDefinition41;
 use mysql_wire_queries::type_detail::TypeDetail;
 use std::alloc::Global;
+use wire_buf::io::ParseBuf;
+use wire_buf::proto::{MyDeserialize, MySerialize};
+use wire_forms::lenenc::LenEnc;
+use wire_repr::text::RawBytes;
 
 // Whether a list is parts of this type, which are written back.
 fn are_parts<'a, T>(alloc: Global, list: &'a Option<RawBytes<'a, LenEnc>>) -> bool

@@ -1,7 +1,7 @@
 //! The records of the input: three bytes of length, the lowest first, one byte of kind, and as many
 //! bytes as the length says.
 
-use mysql_wire::io::ParseBuf;
+use wire_buf::io::ParseBuf;
 
 /// What a record is of, with its payload.
 #[derive(Clone, Copy)]

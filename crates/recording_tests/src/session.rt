@@ -5,9 +5,6 @@ use crate::parts::{has_changes, has_details};
 use crate::place::{Defined, Kind, Place};
 use crate::statement::has_columns;
 use crate::statements::Statements;
-use mysql_wire::constants::{CapabilityFlags, ColumnType, Flags, MariadbCapabilities, StatusFlags};
-use mysql_wire::misc::raw::int::LeU16;
-use mysql_wire::misc::raw::{RawConst, RawFlags};
 use mysql_wire_connection::auth_answer::AuthAnswer;
 use mysql_wire_connection::auth_switch_response::AuthSwitchResponse;
 use mysql_wire_connection::first_packet::{ClientFirst, ServerFirst};
@@ -24,6 +21,9 @@ use mysql_wire_statements::com_stmt_fetch::ComStmtFetch;
 use mysql_wire_statements::com_stmt_prepare::ComStmtPrepare;
 use mysql_wire_statements::prepare_answer::PrepareAnswer;
 use std::alloc::Global;
+use wire_const::{CapabilityFlags, ColumnType, Flags, MariadbCapabilities, StatusFlags};
+use wire_field::converted::{RawConst, RawFlags};
+use wire_repr::int::LeU16;
 
 /// What both sides have said so far.
 #[derive(Drop)]

@@ -1,9 +1,6 @@
 //! The fields of packets in a plain form, each a word with a space behind it: a number in decimal,
 //! and a text as `x` and its bytes in hex. The word `end` stands behind the last.
 
-use mysql_wire::io::ParseBuf;
-use mysql_wire::misc::raw::bytes::{BytesRepr, LenEnc};
-use mysql_wire::misc::raw::{Either, RawBytes};
 use mysql_wire_connection::auth_switch::AuthSwitchRequest;
 use mysql_wire_connection::auth_switch_response::AuthSwitchResponse;
 use mysql_wire_connection::handshake::HandshakeV10;
@@ -17,6 +14,64 @@ use mysql_wire_queries::column_definition::ColumnDefinition41;
 use mysql_wire_queries::local_infile::LocalInfileRequest;
 use mysql_wire_queries::text_row::{TextRow, TextValue};
 use std::alloc::Global;
+use wire_buf::io::ParseBuf;
+use wire_field::row::Either;
+use wire_forms::lenenc::LenEnc;
+use wire_repr::text::{BytesRepr, RawBytes};
+
+/// A field.
+#[derive(Clone, Copy)]
+pub enum Field<'a> {
+    Number(u64),
+    Text(&'a [u8]),
+    /// Keys and values in turn, each behind its length: how many bytes they have, and each.
+    Texts(&'a [u8]),
+    Missing,
+}
+
+/// A text that may be missing.
+pub fn text_if<'a, T: BytesRepr>(text: &'a Option<RawBytes<'_, T>>) -> Field<'a> {
+    match text {
+        Some(text) => Field::Text(text.as_bytes()),
+        None => Field::Missing,
+    }
+}
+
+/// Keys and values that may be missing.
+pub fn texts_if<'a, T: BytesRepr>(texts: &'a Option<RawBytes<'_, T>>) -> Field<'a> {
+    match texts {
+        Some(texts) => Field::Texts(texts.as_bytes()),
+        None => Field::Missing,
+    }
+}
+
+// A number that may be missing.
+fn number_if<'a>(number: Option<u8>) -> Field<'a> {
+    match number {
+        Some(number) => Field::Number(number as u64),
+        None => Field::Missing,
+    }
+}
+
+// A text in one of two forms.
+fn of_side<'a, T: BytesRepr, U: BytesRepr>(
+    text: &'a Either<RawBytes<'_, T>, RawBytes<'_, U>>,
+) -> &'a [u8] {
+    match text {
+        Either::Left(text) => text.as_bytes(),
+        Either::Right(text) => text.as_bytes(),
+    }
+}
+
+// Such a text, which may be missing.
+fn side_if<'a, T: BytesRepr, U: BytesRepr>(
+    text: &'a Option<Either<RawBytes<'_, T>, RawBytes<'_, U>>>,
+) -> Field<'a> {
+    match text {
+        Some(text) => Field::Text(of_side(text)),
+        None => Field::Missing,
+    }
+}
 
 /// Fields that were shown.
 #[derive(Drop)]
@@ -36,11 +91,11 @@ impl Fields {
         }
     }
 
-    pub fn number(&mut self, number: u64) {
+    fn number(&mut self, number: u64) {
         self.is_whole &= write!(self.words, "{number} ").is_ok();
     }
 
-    pub fn text(&mut self, text: &[u8]) {
+    fn text(&mut self, text: &[u8]) {
         self.is_whole &= self.words.push('x').is_ok();
         for byte in text {
             self.is_whole &= write!(self.words, "{byte:02x}").is_ok();
@@ -48,26 +103,7 @@ impl Fields {
         self.is_whole &= self.words.push(' ').is_ok();
     }
 
-    /// A text that may be missing.
-    pub fn text_if<T: BytesRepr>(&mut self, text: &Option<RawBytes<'_, T>>) {
-        if let Some(text) = text {
-            self.text(text.as_bytes());
-        }
-    }
-
-    /// A text in one of two forms.
-    pub fn side<T: BytesRepr, U: BytesRepr>(
-        &mut self,
-        text: &Either<RawBytes<'_, T>, RawBytes<'_, U>>,
-    ) {
-        match text {
-            Either::Left(text) => self.text(text.as_bytes()),
-            Either::Right(text) => self.text(text.as_bytes()),
-        }
-    }
-
-    /// Keys and values in turn, each behind its length: how many bytes they have, and each.
-    pub fn texts(&mut self, texts: &[u8]) {
+    fn texts(&mut self, texts: &[u8]) {
         self.number(texts.len() as u64);
         let mut rest = ParseBuf(texts);
         for _ in 0..texts.len() {
@@ -77,6 +113,21 @@ impl Fields {
             }
         }
         self.is_whole &= rest.is_empty();
+    }
+
+    pub fn put(&mut self, field: Field<'_>) {
+        match field {
+            Field::Number(number) => self.number(number),
+            Field::Text(text) => self.text(text),
+            Field::Texts(texts) => self.texts(texts),
+            Field::Missing => {}
+        }
+    }
+
+    pub fn put_all(&mut self, fields: &[Field<'_>]) {
+        for field in fields {
+            self.put(*field);
+        }
     }
 
     /// Those of a packet, and the word behind the last.
@@ -100,146 +151,149 @@ pub trait Shown {
 
 impl Shown for HandshakeV10<'_> {
     fn show(&self, fields: &mut Fields) {
-        fields.number(0x0a);
-        fields.text(self.server_version.as_bytes());
-        fields.number(self.thread_id.into());
-        fields.text(&self.auth_plugin_data_part_1);
-        fields.number(self.filler.into());
-        fields.number(self.capability_flags_1.0.into());
-        fields.number(self.character_set.into());
-        fields.number(self.status_flags.0.into());
-        fields.number(self.capability_flags_2.0.into());
-        fields.number(self.auth_plugin_data_len.into());
-        fields.number(self.mariadb_capabilities.0.into());
-        fields.text(self.auth_plugin_data_part_2.as_bytes());
-        if let Some(name) = &self.auth_plugin_name {
-            fields.side(name);
-        }
+        fields.put_all(&[
+            Field::Number(0x0a),
+            Field::Text(self.server_version.as_bytes()),
+            Field::Number(self.thread_id as u64),
+            Field::Text(&self.auth_plugin_data_part_1),
+            Field::Number(self.filler as u64),
+            Field::Number(self.capability_flags_1.0 as u64),
+            Field::Number(self.character_set as u64),
+            Field::Number(self.status_flags.0 as u64),
+            Field::Number(self.capability_flags_2.0 as u64),
+            Field::Number(self.auth_plugin_data_len as u64),
+            Field::Number(self.mariadb_capabilities.0 as u64),
+            Field::Text(self.auth_plugin_data_part_2.as_bytes()),
+            side_if(&self.auth_plugin_name),
+        ]);
     }
 }
 
 impl Shown for HandshakeResponse41<'_> {
     fn show(&self, fields: &mut Fields) {
-        fields.number(self.client_flag.0.into());
-        fields.number(self.max_packet_size.into());
-        fields.number(self.character_set.into());
-        fields.text(self.username.as_bytes());
-        fields.side(&self.auth_response);
-        fields.text_if(&self.database);
-        fields.text_if(&self.client_plugin_name);
-        if let Some(attributes) = &self.connect_attrs {
-            fields.texts(attributes.as_bytes());
-        }
-        if let Some(level) = self.zstd_compression_level {
-            fields.number(level.into());
-        }
+        fields.put_all(&[
+            Field::Number(self.client_flag.0 as u64),
+            Field::Number(self.max_packet_size as u64),
+            Field::Number(self.character_set as u64),
+            Field::Text(self.username.as_bytes()),
+            Field::Text(of_side(&self.auth_response)),
+            text_if(&self.database),
+            text_if(&self.client_plugin_name),
+            texts_if(&self.connect_attrs),
+            number_if(self.zstd_compression_level),
+        ]);
     }
 }
 
 impl<const HEADER: u8> Shown for OkForm<'_, HEADER> {
     fn show(&self, fields: &mut Fields) {
-        fields.number(HEADER.into());
-        fields.number(self.affected_rows);
-        fields.number(self.last_insert_id);
-        fields.number(self.status_flags.0.into());
-        fields.number(self.warnings.into());
-        if let Some(info) = &self.info {
-            fields.side(info);
-        }
-        fields.text_if(&self.session_state);
+        fields.put_all(&[
+            Field::Number(HEADER as u64),
+            Field::Number(self.affected_rows),
+            Field::Number(self.last_insert_id),
+            Field::Number(self.status_flags.0 as u64),
+            Field::Number(self.warnings as u64),
+            side_if(&self.info),
+            text_if(&self.session_state),
+        ]);
     }
 }
 
 impl Shown for ErrPacket<'_> {
     fn show(&self, fields: &mut Fields) {
-        fields.number(0xff);
-        fields.number(self.error_code.into());
+        fields.put(Field::Number(0xff));
+        fields.put(Field::Number(self.error_code as u64));
         if let Some(state) = &self.sql_state {
-            fields.number(b'#'.into());
-            fields.text(state);
+            fields.put(Field::Number(b'#' as u64));
+            fields.put(Field::Text(state));
         }
-        fields.text(self.error_message.as_bytes());
+        fields.put(Field::Text(self.error_message.as_bytes()));
     }
 }
 
 impl Shown for ProgressReport<'_> {
     fn show(&self, fields: &mut Fields) {
-        fields.number(0xff);
-        fields.number(0xffff);
-        fields.number(self.strings.into());
-        fields.number(self.stage.into());
-        fields.number(self.max_stage.into());
-        fields.number(self.progress.into());
-        fields.text(self.info.as_bytes());
+        fields.put_all(&[
+            Field::Number(0xff),
+            Field::Number(0xffff),
+            Field::Number(self.strings as u64),
+            Field::Number(self.stage as u64),
+            Field::Number(self.max_stage as u64),
+            Field::Number(self.progress as u64),
+            Field::Text(self.info.as_bytes()),
+        ]);
     }
 }
 
 impl Shown for EofPacket {
     fn show(&self, fields: &mut Fields) {
-        fields.number(0xfe);
-        fields.number(self.warnings.into());
-        fields.number(self.status_flags.0.into());
+        fields.put_all(&[
+            Field::Number(0xfe),
+            Field::Number(self.warnings as u64),
+            Field::Number(self.status_flags.0 as u64),
+        ]);
     }
 }
 
 impl Shown for ColumnCount {
     fn show(&self, fields: &mut Fields) {
-        if let Some(follows) = self.metadata_follows {
-            fields.number(follows.into());
-        }
-        fields.number(self.column_count);
-        if let Some(follows) = self.mariadb_metadata_follows {
-            fields.number(follows.into());
-        }
+        fields.put_all(&[
+            number_if(self.metadata_follows),
+            Field::Number(self.column_count),
+            number_if(self.mariadb_metadata_follows),
+        ]);
     }
 }
 
 impl Shown for ColumnDefinition41<'_> {
     fn show(&self, fields: &mut Fields) {
-        fields.text(self.catalog.as_bytes());
-        fields.text(self.schema.as_bytes());
-        fields.text(self.table.as_bytes());
-        fields.text(self.org_table.as_bytes());
-        fields.text(self.name.as_bytes());
-        fields.text(self.org_name.as_bytes());
-        fields.text_if(&self.extended_metadata);
-        fields.number(0x0c);
-        fields.number(self.character_set.into());
-        fields.number(self.column_length.into());
-        fields.number(self.column_type.0.into());
-        fields.number(self.flags.0.into());
-        fields.number(self.decimals.into());
+        fields.put_all(&[
+            Field::Text(self.catalog.as_bytes()),
+            Field::Text(self.schema.as_bytes()),
+            Field::Text(self.table.as_bytes()),
+            Field::Text(self.org_table.as_bytes()),
+            Field::Text(self.name.as_bytes()),
+            Field::Text(self.org_name.as_bytes()),
+            text_if(&self.extended_metadata),
+            Field::Number(0x0c),
+            Field::Number(self.character_set as u64),
+            Field::Number(self.column_length as u64),
+            Field::Number(self.column_type.0 as u64),
+            Field::Number(self.flags.0 as u64),
+            Field::Number(self.decimals as u64),
+        ]);
     }
 }
 
 impl Shown for TextRow<'_> {
     fn show(&self, fields: &mut Fields) {
         for value in self.values.as_slice() {
-            match value {
-                TextValue::Null => fields.number(0xfb),
-                TextValue::Text(text) => fields.text(text),
-            }
+            fields.put(match value {
+                TextValue::Null => Field::Number(0xfb),
+                TextValue::Text(text) => Field::Text(text),
+            });
         }
     }
 }
 
 impl Shown for LocalInfileRequest<'_> {
     fn show(&self, fields: &mut Fields) {
-        fields.number(0xfb);
-        fields.text(self.file_name.as_bytes());
+        fields.put_all(&[Field::Number(0xfb), Field::Text(self.file_name.as_bytes())]);
     }
 }
 
 impl Shown for AuthSwitchRequest<'_> {
     fn show(&self, fields: &mut Fields) {
-        fields.number(0xfe);
-        fields.text(self.plugin_name.as_bytes());
-        fields.text(self.plugin_data.as_bytes());
+        fields.put_all(&[
+            Field::Number(0xfe),
+            Field::Text(self.plugin_name.as_bytes()),
+            Field::Text(self.plugin_data.as_bytes()),
+        ]);
     }
 }
 
 impl Shown for AuthSwitchResponse<'_> {
     fn show(&self, fields: &mut Fields) {
-        fields.text(self.data.as_bytes());
+        fields.put(Field::Text(self.data.as_bytes()));
     }
 }

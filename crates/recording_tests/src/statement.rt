@@ -1,14 +1,15 @@
 //! A prepared statement: what has to be known of it to read its parameters and its rows.
 
-use mysql_wire::constants::ColumnType;
-use mysql_wire::io::{ParseBuf, WireError};
-use mysql_wire::proto::MySerialize;
 use mysql_wire_statements::binary_row::BinaryRow;
 use mysql_wire_statements::binary_value::BinaryValue;
 use mysql_wire_statements::com_stmt_execute::ComStmtExecute;
 use mysql_wire_statements::com_stmt_prepare_ok::ComStmtPrepareOk;
 use mysql_wire_statements::params::{ParamTypes, StmtParams};
 use std::alloc::Global;
+use wire_buf::error::WireError;
+use wire_buf::io::ParseBuf;
+use wire_buf::proto::MySerialize;
+use wire_const::ColumnType;
 
 /// A statement that is prepared.
 #[derive(Drop)]

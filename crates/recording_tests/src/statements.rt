@@ -3,7 +3,6 @@
 use crate::found::{Found, Payload};
 use crate::place::Kind;
 use crate::statement::Statement;
-use mysql_wire::io::ParseBuf;
 use mysql_wire_packets::places::read_whole;
 use mysql_wire_statements::com_stmt_close::ComStmtClose;
 use mysql_wire_statements::com_stmt_execute::ComStmtExecute;
@@ -11,6 +10,7 @@ use mysql_wire_statements::com_stmt_prepare_ok::ComStmtPrepareOk;
 use mysql_wire_statements::com_stmt_reset::ComStmtReset;
 use mysql_wire_statements::com_stmt_send_long_data::ComStmtSendLongData;
 use std::alloc::Global;
+use wire_buf::io::ParseBuf;
 
 /// The statements.
 #[derive(Drop)]

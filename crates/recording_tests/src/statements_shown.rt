@@ -1,6 +1,6 @@
 //! The fields of the packets of prepared statements.
 
-use crate::shown::{Fields, Shown};
+use crate::shown::{Field, Fields, Shown};
 use mysql_wire_statements::binary_row::BinaryRow;
 use mysql_wire_statements::com_stmt_close::ComStmtClose;
 use mysql_wire_statements::com_stmt_execute::ComStmtExecute;
@@ -12,72 +12,79 @@ use mysql_wire_statements::com_stmt_send_long_data::ComStmtSendLongData;
 
 impl Shown for ComStmtPrepare<'_> {
     fn show(&self, fields: &mut Fields) {
-        fields.number(0x16);
-        fields.text(self.query);
+        fields.put_all(&[Field::Number(0x16), Field::Text(self.query)]);
     }
 }
 
 impl Shown for ComStmtPrepareOk {
     fn show(&self, fields: &mut Fields) {
-        fields.number(0x00);
-        fields.number(self.statement_id.into());
-        fields.number(self.num_columns.into());
-        fields.number(self.num_params.into());
-        fields.number(self.warning_count.into());
+        fields.put_all(&[
+            Field::Number(0x00),
+            Field::Number(self.statement_id as u64),
+            Field::Number(self.num_columns as u64),
+            Field::Number(self.num_params as u64),
+            Field::Number(self.warning_count as u64),
+        ]);
     }
 }
 
 impl Shown for ComStmtExecute<'_> {
     fn show(&self, fields: &mut Fields) {
-        fields.number(0x17);
-        fields.number(self.statement_id.into());
-        fields.number(self.flags.0.into());
-        fields.number(self.iteration_count.into());
+        fields.put_all(&[
+            Field::Number(0x17),
+            Field::Number(self.statement_id as u64),
+            Field::Number(self.flags.0 as u64),
+            Field::Number(self.iteration_count as u64),
+        ]);
         if let Some(params) = &self.params {
-            fields.text(params.nulls.0);
+            fields.put(Field::Text(params.nulls.0));
             if let Some(types) = &params.types {
-                fields.text(types.0);
+                fields.put(Field::Text(types.0));
             }
-            fields.text(params.values);
+            fields.put(Field::Text(params.values));
         }
     }
 }
 
 impl Shown for ComStmtSendLongData<'_> {
     fn show(&self, fields: &mut Fields) {
-        fields.number(0x18);
-        fields.number(self.statement_id.into());
-        fields.number(self.param_id.into());
-        fields.text(self.data);
+        fields.put_all(&[
+            Field::Number(0x18),
+            Field::Number(self.statement_id as u64),
+            Field::Number(self.param_id as u64),
+            Field::Text(self.data),
+        ]);
     }
 }
 
 impl Shown for ComStmtReset {
     fn show(&self, fields: &mut Fields) {
-        fields.number(0x1a);
-        fields.number(self.statement_id.into());
+        fields.put_all(&[Field::Number(0x1a), Field::Number(self.statement_id as u64)]);
     }
 }
 
 impl Shown for ComStmtFetch {
     fn show(&self, fields: &mut Fields) {
-        fields.number(0x1c);
-        fields.number(self.statement_id.into());
-        fields.number(self.num_rows.into());
+        fields.put_all(&[
+            Field::Number(0x1c),
+            Field::Number(self.statement_id as u64),
+            Field::Number(self.num_rows as u64),
+        ]);
     }
 }
 
 impl Shown for ComStmtClose {
     fn show(&self, fields: &mut Fields) {
-        fields.number(0x19);
-        fields.number(self.statement_id.into());
+        fields.put_all(&[Field::Number(0x19), Field::Number(self.statement_id as u64)]);
     }
 }
 
 impl Shown for BinaryRow<'_> {
     fn show(&self, fields: &mut Fields) {
-        fields.number(0x00);
-        fields.text(self.nulls.0);
-        fields.text(self.values);
+        fields.put_all(&[
+            Field::Number(0x00),
+            Field::Text(self.nulls.0),
+            Field::Text(self.values),
+        ]);
     }
 }

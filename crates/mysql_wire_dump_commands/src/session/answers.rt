@@ -74,16 +74,16 @@ impl<A: Allocator + Copy> Session<A> {
         match QueryAnswer::read(global, self.capabilities, self.mariadb, payload) {
             Ok(QueryAnswer::Done(packet)) => {
                 self.end_answer(packet.status_flags);
-                show_as(kind, &packet, fields)
+                show_as(kind, packet, fields)
             }
-            Ok(QueryAnswer::Failed(packet)) => show_as(kind, &packet, fields),
+            Ok(QueryAnswer::Failed(packet)) => show_as(kind, packet, fields),
             Ok(QueryAnswer::File(packet)) => {
                 self.place = Place::File;
-                show_as(kind, &packet, fields)
+                show_as(kind, packet, fields)
             }
             Ok(QueryAnswer::Columns(packet)) => {
                 self.expect_columns(&packet);
-                show_as(kind, &packet, fields)
+                show_as(kind, packet, fields)
             }
             Err(error) => refused(error),
         }
@@ -146,9 +146,9 @@ impl<A: Allocator + Copy> Session<A> {
         match read_whole::<PrepareAnswer<'_>>(global, self.capabilities, payload) {
             Ok(PrepareAnswer::Prepared(packet)) => {
                 self.expect_definitions(&packet);
-                show_as(kind, &packet, fields)
+                show_as(kind, packet, fields)
             }
-            Ok(PrepareAnswer::Failed(packet)) => show_as(kind, &packet, fields),
+            Ok(PrepareAnswer::Failed(packet)) => show_as(kind, packet, fields),
             Err(error) => refused(error),
         }
     }

@@ -5,7 +5,7 @@ ghost use Rattle.std.specs.Prelude.{IfOk, OnOk};
 ghost use Rattle.mysql_wire_dump_fields.specs.Packets.{PutsSome};
 ghost use Rattle.mysql_wire_dump_lines.specs.Naming.{IsOrBytes};
 
-use super::{Session, read_as, refused, show_as};
+use super::{Session, read_as, refused, show_as, show_read};
 use mysql_wire_dump_fields::fields::Fields;
 use mysql_wire_dump_fields::show;
 use mysql_wire_dump_lines::kind::Kind;
@@ -85,10 +85,8 @@ impl<A: Allocator + Copy> Session<A> {
         ensures named { IfOk result (λ named. IsOrBytes kind named) }
         ensures puts { OnOk result (PutsSome fields.old fields.new) }
     {
-        match ClientCommand::read(global, self.capabilities, payload) {
-            Ok(command) => show_as(kind, &command, fields),
-            Err(error) => refused(error),
-        }
+        let command = ClientCommand::read(global, self.capabilities, payload);
+        show_read(kind, command, fields)
     }
 
     // A command of a prepared statement.
@@ -153,7 +151,7 @@ impl<A: Allocator + Copy> Session<A> {
         match read_whole::<ComStmtFetch>(global, (), payload) {
             Ok(packet) => {
                 self.expect_rows_of(packet.statement_id);
-                show_as(kind, &packet, fields)
+                show_as(kind, packet, fields)
             }
             Err(error) => refused(error),
         }

@@ -30,11 +30,11 @@ impl<A: Allocator + Copy> Session<A> {
         match ServerFirst::read(global, payload) {
             Ok(ServerFirst::Greeting(packet)) => {
                 self.place = Place::Login;
-                show_as(kind, &packet, fields)
+                show_as(kind, packet, fields)
             }
             Ok(ServerFirst::Failed(packet)) => {
                 self.place = Place::Closed;
-                show_as(kind, &packet, fields)
+                show_as(kind, packet, fields)
             }
             Err(error) => {
                 self.place = Place::Login;
@@ -67,11 +67,11 @@ impl<A: Allocator + Copy> Session<A> {
         match ClientFirst::read(global, payload) {
             Ok(ClientFirst::Tls(packet)) => {
                 self.place = Place::Encrypted;
-                show_as(kind, &packet, fields)
+                show_as(kind, packet, fields)
             }
             Ok(ClientFirst::Login(packet)) => {
                 self.log_in(&packet);
-                show_as(kind, &packet, fields)
+                show_as(kind, packet, fields)
             }
             Err(error) => {
                 self.place = Place::Authentication;
@@ -95,14 +95,14 @@ impl<A: Allocator + Copy> Session<A> {
         match AuthAnswer::read(global, self.capabilities, payload) {
             Ok(AuthAnswer::Done(packet)) => {
                 self.place = Place::Command;
-                show_as(kind, &packet, fields)
+                show_as(kind, packet, fields)
             }
             Ok(AuthAnswer::Failed(packet)) => {
                 self.place = Place::Command;
-                show_as(kind, &packet, fields)
+                show_as(kind, packet, fields)
             }
-            Ok(AuthAnswer::Switch(packet)) => show_as(kind, &packet, fields),
-            Ok(AuthAnswer::MoreData(packet)) => show_as(kind, &packet, fields),
+            Ok(AuthAnswer::Switch(packet)) => show_as(kind, packet, fields),
+            Ok(AuthAnswer::MoreData(packet)) => show_as(kind, packet, fields),
             Err(error) => refused(error),
         }
     }

@@ -5,7 +5,7 @@ ghost use Rattle.std.specs.Prelude.{IfOk, OnOk};
 ghost use Rattle.mysql_wire_dump_fields.specs.Packets.{PutsSome};
 ghost use Rattle.mysql_wire_dump_lines.specs.Naming.{IsOrBytes};
 
-use super::{MOST_COLUMNS, Session, refused, show_as};
+use super::{MOST_COLUMNS, Session, refused, show_as, show_read};
 use mysql_wire_dump_fields::fields::Fields;
 use mysql_wire_dump_fields::show;
 use mysql_wire_dump_lines::kind::Kind;
@@ -107,7 +107,7 @@ impl<A: Allocator + Copy> Session<A> {
     {
         match read_whole::<ColumnDefinition41<'_>>(global, self.mariadb, payload) {
             Ok(packet) => match self.note_type(packet.column_type.0) {
-                Ok(()) => show_as(kind, &packet, fields),
+                Ok(()) => show_as(kind, packet, fields),
                 Err(stop) => Err(stop),
             },
             Err(error) => refused(error),
@@ -135,7 +135,7 @@ impl<A: Allocator + Copy> Session<A> {
                 {
                     self.place = Place::Command;
                 }
-                show_as(kind, &packet, fields)
+                show_as(kind, packet, fields)
             }
             Err(error) => refused(error),
         }
@@ -159,7 +159,7 @@ impl<A: Allocator + Copy> Session<A> {
         match read_whole::<EofPacket>(global, (), payload) {
             Ok(packet) => {
                 self.end_answer(packet.status_flags);
-                show_as(kind, &packet, fields)
+                show_as(kind, packet, fields)
             }
             Err(error) => refused(error),
         }
@@ -177,13 +177,11 @@ impl<A: Allocator + Copy> Session<A> {
         ensures puts { OnOk result (PutsSome fields.old fields.new) }
     {
         let form = InfoForm::of(self.capabilities);
-        match read_whole::<RowsEnd<'_>>(global, form, payload) {
-            Ok(packet) => {
-                self.end_answer(packet.status_flags);
-                show_as(kind, &packet, fields)
-            }
-            Err(error) => refused(error),
+        let end = read_whole::<RowsEnd<'_>>(global, form, payload);
+        if let Ok(packet) = &end {
+            self.end_answer(packet.status_flags);
         }
+        show_read(kind, end, fields)
     }
 
     // A row of texts. One of a command that was not seen is not read.

@@ -1,14 +1,14 @@
 //! Answers to commands.
 
-ghost use Rattle.std.specs.Prelude.{◌≡◌, ℕ, List};
+ghost use Rattle.std.specs.Prelude.{◌≡◌};
 ghost use Rattle.mysql_wire_dump_fields.specs.AnswerFields.{column_count_fields, column_fields, eof_fields, error_fields, local_infile_fields, ok_fields, prepared_fields, progress_fields};
-ghost use Rattle.mysql_wire_dump_fields.specs.FieldTables.{row_if};
-ghost use Rattle.mysql_wire_dump_fields.specs.Fields.{Words, value_of};
+ghost use Rattle.mysql_wire_dump_fields.specs.FieldTables.{members_in, row_if};
+ghost use Rattle.mysql_wire_dump_fields.specs.Fields.{Words};
 ghost use Rattle.mysql_wire_dump_fields.specs.Packets.{Column, Columns, Done, End, Failed, File, Prepared, Progress};
 
 use super::{Show, bytes_if, number_if, side_if};
-use crate::fields::FieldValue::{Flags, Number, Text};
-use crate::fields::{FieldValue, Fields};
+use crate::fields::Field::{Flags, Number, Text};
+use crate::fields::{Field, Fields};
 use mysql_wire_packets::eof_packet::EofPacket;
 use mysql_wire_packets::err_packet::ErrPacket;
 use mysql_wire_packets::ok_packet::OkForm;
@@ -24,24 +24,23 @@ impl<const HEADER: u8> Show for OkForm<'_, HEADER> {
 
     fn show<A: Allocator + Copy>(&self, fields: &mut Fields<A>) -> Result<(), AllocError> {
         fields.put_all(&[
-            ("affected_rows", Some(Number(self.affected_rows))),
-            ("last_insert_id", Some(Number(self.last_insert_id))),
-            ("status_flags", Some(Flags(self.status_flags.0 as u64))),
-            ("warnings", Some(Number(self.warnings as u64))),
-            ("info", side_if(&self.info)),
-            ("session_state_info", bytes_if(&self.session_state)),
+            Number("affected_rows", self.affected_rows),
+            Number("last_insert_id", self.last_insert_id),
+            Flags("status_flags", self.status_flags.0 as u64),
+            Number("warnings", self.warnings as u64),
+            side_if("info", &self.info),
+            bytes_if("session_state_info", &self.session_state),
         ])
     }
 }
 
 // The state, where it is there.
-fn state_if(state: &Option<[u8; 5]>) -> Option<FieldValue<'_>>
-    ensures { (name : List ℕ) → row_if (λ value. (name, value_of value)) result
-        ≡ row_if (λ state. (name, Words state)) state.now }
+fn state_if<'a>(name: &'a str, state: &'a Option<[u8; 5]>) -> Field<'a>
+    ensures { members_in result ≡ row_if (λ state. (name.now, Words state)) state.now }
 {
     match state {
-        Some(state) => Some(Text(state)),
-        None => None,
+        Some(state) => Text(name, state),
+        None => Field::Missing,
     }
 }
 
@@ -50,9 +49,9 @@ impl Show for ErrPacket<'_> {
 
     fn show<A: Allocator + Copy>(&self, fields: &mut Fields<A>) -> Result<(), AllocError> {
         fields.put_all(&[
-            ("error_code", Some(Number(self.error_code as u64))),
-            ("sql_state", state_if(&self.sql_state)),
-            ("error_message", Some(Text(self.error_message.0.as_slice()))),
+            Number("error_code", self.error_code as u64),
+            state_if("sql_state", &self.sql_state),
+            Text("error_message", self.error_message.0.as_slice()),
         ])
     }
 }
@@ -62,11 +61,11 @@ impl Show for ProgressReport<'_> {
 
     fn show<A: Allocator + Copy>(&self, fields: &mut Fields<A>) -> Result<(), AllocError> {
         fields.put_all(&[
-            ("strings", Some(Number(self.strings as u64))),
-            ("stage", Some(Number(self.stage as u64))),
-            ("max_stage", Some(Number(self.max_stage as u64))),
-            ("progress", Some(Number(self.progress as u64))),
-            ("info", Some(Text(self.info.0.as_slice()))),
+            Number("strings", self.strings as u64),
+            Number("stage", self.stage as u64),
+            Number("max_stage", self.max_stage as u64),
+            Number("progress", self.progress as u64),
+            Text("info", self.info.0.as_slice()),
         ])
     }
 }
@@ -76,8 +75,8 @@ impl Show for EofPacket {
 
     fn show<A: Allocator + Copy>(&self, fields: &mut Fields<A>) -> Result<(), AllocError> {
         fields.put_all(&[
-            ("warnings", Some(Number(self.warnings as u64))),
-            ("status_flags", Some(Flags(self.status_flags.0 as u64))),
+            Number("warnings", self.warnings as u64),
+            Flags("status_flags", self.status_flags.0 as u64),
         ])
     }
 }
@@ -86,7 +85,7 @@ impl Show for LocalInfileRequest<'_> {
     ghost packet = { λ packet. File packet };
 
     fn show<A: Allocator + Copy>(&self, fields: &mut Fields<A>) -> Result<(), AllocError> {
-        fields.put_all(&[("filename", Some(Text(self.file_name.0.as_slice())))])
+        fields.put_all(&[Text("filename", self.file_name.0.as_slice())])
     }
 }
 
@@ -95,12 +94,9 @@ impl Show for ColumnCount {
 
     fn show<A: Allocator + Copy>(&self, fields: &mut Fields<A>) -> Result<(), AllocError> {
         fields.put_all(&[
-            ("metadata_follows", number_if(self.metadata_follows)),
-            ("column_count", Some(Number(self.column_count))),
-            (
-                "mariadb_metadata_follows",
-                number_if(self.mariadb_metadata_follows),
-            ),
+            number_if("metadata_follows", self.metadata_follows),
+            Number("column_count", self.column_count),
+            number_if("mariadb_metadata_follows", self.mariadb_metadata_follows),
         ])
     }
 }
@@ -110,18 +106,18 @@ impl Show for ColumnDefinition41<'_> {
 
     fn show<A: Allocator + Copy>(&self, fields: &mut Fields<A>) -> Result<(), AllocError> {
         fields.put_all(&[
-            ("catalog", Some(Text(self.catalog.0.as_slice()))),
-            ("schema", Some(Text(self.schema.0.as_slice()))),
-            ("table", Some(Text(self.table.0.as_slice()))),
-            ("org_table", Some(Text(self.org_table.0.as_slice()))),
-            ("name", Some(Text(self.name.0.as_slice()))),
-            ("org_name", Some(Text(self.org_name.0.as_slice()))),
-            ("extended_metadata", bytes_if(&self.extended_metadata)),
-            ("character_set", Some(Number(self.character_set as u64))),
-            ("column_length", Some(Number(self.column_length as u64))),
-            ("type", Some(Number(self.column_type.0 as u64))),
-            ("flags", Some(Flags(self.flags.0 as u64))),
-            ("decimals", Some(Number(self.decimals as u64))),
+            Text("catalog", self.catalog.0.as_slice()),
+            Text("schema", self.schema.0.as_slice()),
+            Text("table", self.table.0.as_slice()),
+            Text("org_table", self.org_table.0.as_slice()),
+            Text("name", self.name.0.as_slice()),
+            Text("org_name", self.org_name.0.as_slice()),
+            bytes_if("extended_metadata", &self.extended_metadata),
+            Number("character_set", self.character_set as u64),
+            Number("column_length", self.column_length as u64),
+            Number("type", self.column_type.0 as u64),
+            Flags("flags", self.flags.0 as u64),
+            Number("decimals", self.decimals as u64),
         ])
     }
 }
@@ -131,10 +127,10 @@ impl Show for ComStmtPrepareOk {
 
     fn show<A: Allocator + Copy>(&self, fields: &mut Fields<A>) -> Result<(), AllocError> {
         fields.put_all(&[
-            ("statement_id", Some(Number(self.statement_id as u64))),
-            ("num_columns", Some(Number(self.num_columns as u64))),
-            ("num_params", Some(Number(self.num_params as u64))),
-            ("warning_count", Some(Number(self.warning_count as u64))),
+            Number("statement_id", self.statement_id as u64),
+            Number("num_columns", self.num_columns as u64),
+            Number("num_params", self.num_params as u64),
+            Number("warning_count", self.warning_count as u64),
         ])
     }
 }

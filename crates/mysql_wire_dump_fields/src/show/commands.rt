@@ -1,13 +1,13 @@
 //! Commands.
 
-ghost use Rattle.std.specs.Prelude.{◌≡◌, ◌∷◌, ℕ, List, [], OnOk};
+ghost use Rattle.std.specs.Prelude.{◌≡◌, ◌∷◌, [], OnOk};
 ghost use Rattle.mysql_wire_dump_fields.specs.CommandFields.{attributes_and_query, params_fields, plain_fields};
-ghost use Rattle.mysql_wire_dump_fields.specs.FieldTables.{row_if};
-ghost use Rattle.mysql_wire_dump_fields.specs.Fields.{Number, Octets, Puts, value_of};
+ghost use Rattle.mysql_wire_dump_fields.specs.FieldTables.{members_in, row_if};
+ghost use Rattle.mysql_wire_dump_fields.specs.Fields.{Number, Octets, Puts};
 ghost use Rattle.mysql_wire_dump_fields.specs.Packets.{Command, Execute, Fetch, LongData, OfStatement, Prepare, PutsFields};
 
 use super::{Show, bytes_if, words_if};
-use crate::fields::FieldValue::{Bytes, Flags, Number, Text};
+use crate::fields::Field::{Bytes, Flags, Number, Text};
 use crate::fields::{Field, FieldValue, Fields};
 use mysql_wire_queries::client_command::ClientCommand;
 use mysql_wire_queries::com_query_attributes::ComQueryWithAttributes;
@@ -23,25 +23,23 @@ use wire_repr::int::{LeU16, RawInt};
 
 // Without parameters the query stands alone.
 fn attributes_and_query<'a>(packet: &'a ComQueryWithAttributes<'_>) -> Field<'a>
-    ensures { row_if (λ value. (result.0.now, value_of value)) result.1
-        ≡ attributes_and_query packet.now ∷ [] }
+    ensures { members_in result ≡ attributes_and_query packet.now ∷ [] }
 {
     let bytes = packet.attributes_and_query.0.as_slice();
     if packet.parameter_count == 0 {
-        ("query", Some(Text(bytes)))
+        Text("query", bytes)
     } else {
-        ("attributes_and_query", Some(Bytes(bytes)))
+        Bytes("attributes_and_query", bytes)
     }
 }
 
 // The number of a character set, where it is there.
-fn character_set(number: &Option<RawInt<LeU16>>) -> Option<FieldValue<'_>>
-    ensures { (name : List ℕ) → row_if (λ value. (name, value_of value)) result
-        ≡ row_if (λ number. (name, Number number.0)) number.now }
+fn character_set<'a>(name: &'a str, number: &Option<RawInt<LeU16>>) -> Field<'a>
+    ensures { members_in result ≡ row_if (λ number. (name.now, Number number.0)) number.now }
 {
     match number {
-        Some(number) => Some(Number(number.0 as u64)),
-        None => None,
+        Some(number) => Number(name, number.0 as u64),
+        None => Field::Missing,
     }
 }
 
@@ -52,26 +50,25 @@ fn put_plain<A: Allocator + Copy>(
     ensures { OnOk result (Puts (plain_fields command.now) fields.old fields.new) }
 {
     match command {
-        ClientCommand::InitDb(packet) => { fields.put("schema", Text(packet.schema.0.as_slice())) }
-        ClientCommand::Query(packet) => fields.put("query", Text(packet.query.0.as_slice())),
+        ClientCommand::InitDb(packet) => {
+            fields.put("schema", FieldValue::Text(packet.schema.0.as_slice()))
+        }
+        ClientCommand::Query(packet) => fields.put(
+            "query",
+            FieldValue::Text(packet.query.0.as_slice()),
+        ),
         ClientCommand::AttributedQuery(packet) => fields.put_all(&[
-            ("parameter_count", Some(Number(packet.parameter_count))),
-            (
-                "parameter_set_count",
-                Some(Number(packet.parameter_set_count)),
-            ),
+            Number("parameter_count", packet.parameter_count),
+            Number("parameter_set_count", packet.parameter_set_count),
             attributes_and_query(packet),
         ]),
         ClientCommand::ChangeUser(packet) => fields.put_all(&[
-            ("user", Some(Text(packet.user.0.as_slice()))),
-            (
-                "auth_plugin_data",
-                Some(Bytes(packet.auth_plugin_data.0.as_slice())),
-            ),
-            ("database", Some(Text(packet.database.0.as_slice()))),
-            ("character_set", character_set(&packet.character_set)),
-            ("auth_plugin_name", words_if(&packet.auth_plugin_name)),
-            ("connect_attrs", bytes_if(&packet.connect_attrs)),
+            Text("user", packet.user.0.as_slice()),
+            Bytes("auth_plugin_data", packet.auth_plugin_data.0.as_slice()),
+            Text("database", packet.database.0.as_slice()),
+            character_set("character_set", &packet.character_set),
+            words_if("auth_plugin_name", &packet.auth_plugin_name),
+            bytes_if("connect_attrs", &packet.connect_attrs),
         ]),
         ClientCommand::Quit(_) | ClientCommand::Ping(_) => Ok(()),
     }
@@ -92,17 +89,16 @@ pub fn number_of_statement<A: Allocator + Copy>(
 ) -> Result<(), AllocError>
     ensures { OnOk result (PutsFields (OfStatement statement_id) fields.old fields.new) }
 {
-    fields.put("statement_id", Number(statement_id as u64))
+    fields.put("statement_id", FieldValue::Number(statement_id as u64))
 }
 
 // The types of parameters, where they are there.
-fn types_if<'a>(types: &'a Option<ParamTypes<'_>>) -> Option<FieldValue<'a>>
-    ensures { (name : List ℕ) → row_if (λ value. (name, value_of value)) result
-        ≡ row_if (λ types. (name, Octets types.0.now)) types.now }
+fn types_if<'a>(name: &'a str, types: &'a Option<ParamTypes<'_>>) -> Field<'a>
+    ensures { members_in result ≡ row_if (λ types. (name.now, Octets types.0.now)) types.now }
 {
     match types {
-        Some(types) => Some(Bytes(types.0)),
-        None => None,
+        Some(types) => Bytes(name, types.0),
+        None => Field::Missing,
     }
 }
 
@@ -114,9 +110,9 @@ fn params<A: Allocator + Copy>(
 {
     match params {
         Some(params) => fields.put_all(&[
-            ("null_bitmap", Some(Bytes(params.nulls.0))),
-            ("parameter_type", types_if(&params.types)),
-            ("parameter_values", Some(Bytes(params.values))),
+            Bytes("null_bitmap", params.nulls.0),
+            types_if("parameter_type", &params.types),
+            Bytes("parameter_values", params.values),
         ]),
         None => Ok(()),
     }
@@ -127,9 +123,9 @@ impl Show for ComStmtExecute<'_> {
 
     fn show<A: Allocator + Copy>(&self, fields: &mut Fields<A>) -> Result<(), AllocError> {
         fields.put_all(&[
-            ("statement_id", Some(Number(self.statement_id as u64))),
-            ("flags", Some(Flags(self.flags.0 as u64))),
-            ("iteration_count", Some(Number(self.iteration_count as u64))),
+            Number("statement_id", self.statement_id as u64),
+            Flags("flags", self.flags.0 as u64),
+            Number("iteration_count", self.iteration_count as u64),
         ])?;
         params(fields, &self.params)?;
         Ok(())
@@ -141,9 +137,9 @@ impl Show for ComStmtSendLongData<'_> {
 
     fn show<A: Allocator + Copy>(&self, fields: &mut Fields<A>) -> Result<(), AllocError> {
         fields.put_all(&[
-            ("statement_id", Some(Number(self.statement_id as u64))),
-            ("param_id", Some(Number(self.param_id as u64))),
-            ("data", Some(Bytes(self.data))),
+            Number("statement_id", self.statement_id as u64),
+            Number("param_id", self.param_id as u64),
+            Bytes("data", self.data),
         ])
     }
 }
@@ -153,8 +149,8 @@ impl Show for ComStmtFetch {
 
     fn show<A: Allocator + Copy>(&self, fields: &mut Fields<A>) -> Result<(), AllocError> {
         fields.put_all(&[
-            ("statement_id", Some(Number(self.statement_id as u64))),
-            ("num_rows", Some(Number(self.num_rows as u64))),
+            Number("statement_id", self.statement_id as u64),
+            Number("num_rows", self.num_rows as u64),
         ])
     }
 }
@@ -163,7 +159,7 @@ impl Show for ComStmtPrepare<'_> {
     ghost packet = { λ packet. Prepare packet.query.now };
 
     fn show<A: Allocator + Copy>(&self, fields: &mut Fields<A>) -> Result<(), AllocError> {
-        fields.put("query", Text(self.query))
+        fields.put("query", FieldValue::Text(self.query))
     }
 }
 

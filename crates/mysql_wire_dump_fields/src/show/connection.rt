@@ -3,7 +3,7 @@
 ghost use Rattle.mysql_wire_dump_fields.specs.Packets.{AuthAnswer, AuthSwitch, Greeting, Login, MoreData, PutsFields, TlsRequest};
 
 use super::{Show, bytes_if, number_if, of_side, side_if, words_if};
-use crate::fields::FieldValue::{Bytes, Flags, Number, Text};
+use crate::fields::Field::{Bytes, Flags, Number, Text};
 use crate::fields::Fields;
 use mysql_wire_connection::auth_more_data::AuthMoreData;
 use mysql_wire_connection::auth_switch::AuthSwitchRequest;
@@ -18,34 +18,22 @@ impl Show for HandshakeV10<'_> {
 
     fn show<A: Allocator + Copy>(&self, fields: &mut Fields<A>) -> Result<(), AllocError> {
         fields.put_all(&[
-            (
-                "server_version",
-                Some(Text(self.server_version.0.as_slice())),
-            ),
-            ("thread_id", Some(Number(self.thread_id as u64))),
-            (
-                "auth_plugin_data_part_1",
-                Some(Bytes(&self.auth_plugin_data_part_1)),
-            ),
-            (
+            Text("server_version", self.server_version.0.as_slice()),
+            Number("thread_id", self.thread_id as u64),
+            Bytes("auth_plugin_data_part_1", &self.auth_plugin_data_part_1),
+            Flags(
                 "capability_flags",
-                Some(Flags((self.capability_flags_1.0 | self.capability_flags_2.0) as u64)),
+                (self.capability_flags_1.0 | self.capability_flags_2.0) as u64,
             ),
-            ("character_set", Some(Number(self.character_set as u64))),
-            ("status_flags", Some(Flags(self.status_flags.0 as u64))),
-            (
-                "auth_plugin_data_len",
-                Some(Number(self.auth_plugin_data_len as u64)),
-            ),
-            (
-                "mariadb_capabilities",
-                Some(Flags(self.mariadb_capabilities.0 as u64)),
-            ),
-            (
+            Number("character_set", self.character_set as u64),
+            Flags("status_flags", self.status_flags.0 as u64),
+            Number("auth_plugin_data_len", self.auth_plugin_data_len as u64),
+            Flags("mariadb_capabilities", self.mariadb_capabilities.0 as u64),
+            Bytes(
                 "auth_plugin_data_part_2",
-                Some(Bytes(self.auth_plugin_data_part_2.0.as_slice())),
+                self.auth_plugin_data_part_2.0.as_slice(),
             ),
-            ("auth_plugin_name", side_if(&self.auth_plugin_name)),
+            side_if("auth_plugin_name", &self.auth_plugin_name),
         ])
     }
 }
@@ -55,13 +43,10 @@ impl Show for SslRequest {
 
     fn show<A: Allocator + Copy>(&self, fields: &mut Fields<A>) -> Result<(), AllocError> {
         fields.put_all(&[
-            ("client_flag", Some(Flags(self.client_flag.0 as u64))),
-            ("max_packet_size", Some(Number(self.max_packet_size as u64))),
-            ("character_set", Some(Number(self.character_set as u64))),
-            (
-                "mariadb_capabilities",
-                Some(Flags(self.mariadb_capabilities.0 as u64)),
-            ),
+            Flags("client_flag", self.client_flag.0 as u64),
+            Number("max_packet_size", self.max_packet_size as u64),
+            Number("character_set", self.character_set as u64),
+            Flags("mariadb_capabilities", self.mariadb_capabilities.0 as u64),
         ])
     }
 }
@@ -71,22 +56,16 @@ impl Show for HandshakeResponse41<'_> {
 
     fn show<A: Allocator + Copy>(&self, fields: &mut Fields<A>) -> Result<(), AllocError> {
         fields.put_all(&[
-            ("client_flag", Some(Flags(self.client_flag.0 as u64))),
-            ("max_packet_size", Some(Number(self.max_packet_size as u64))),
-            ("character_set", Some(Number(self.character_set as u64))),
-            (
-                "mariadb_capabilities",
-                Some(Flags(self.mariadb_capabilities.0 as u64)),
-            ),
-            ("username", Some(Text(self.username.0.as_slice()))),
-            ("auth_response", Some(Bytes(of_side(&self.auth_response)))),
-            ("database", words_if(&self.database)),
-            ("client_plugin_name", words_if(&self.client_plugin_name)),
-            ("connect_attrs", bytes_if(&self.connect_attrs)),
-            (
-                "zstd_compression_level",
-                number_if(self.zstd_compression_level),
-            ),
+            Flags("client_flag", self.client_flag.0 as u64),
+            Number("max_packet_size", self.max_packet_size as u64),
+            Number("character_set", self.character_set as u64),
+            Flags("mariadb_capabilities", self.mariadb_capabilities.0 as u64),
+            Text("username", self.username.0.as_slice()),
+            Bytes("auth_response", of_side(&self.auth_response)),
+            words_if("database", &self.database),
+            words_if("client_plugin_name", &self.client_plugin_name),
+            bytes_if("connect_attrs", &self.connect_attrs),
+            number_if("zstd_compression_level", self.zstd_compression_level),
         ])
     }
 }
@@ -96,8 +75,8 @@ impl Show for AuthSwitchRequest<'_> {
 
     fn show<A: Allocator + Copy>(&self, fields: &mut Fields<A>) -> Result<(), AllocError> {
         fields.put_all(&[
-            ("plugin_name", Some(Text(self.plugin_name.0.as_slice()))),
-            ("plugin_data", Some(Bytes(self.plugin_data.0.as_slice()))),
+            Text("plugin_name", self.plugin_name.0.as_slice()),
+            Bytes("plugin_data", self.plugin_data.0.as_slice()),
         ])
     }
 }
@@ -106,7 +85,7 @@ impl Show for AuthMoreData<'_> {
     ghost packet = { λ packet. MoreData packet };
 
     fn show<A: Allocator + Copy>(&self, fields: &mut Fields<A>) -> Result<(), AllocError> {
-        fields.put_all(&[("data", Some(Bytes(self.data.0.as_slice())))])
+        fields.put_all(&[Bytes("data", self.data.0.as_slice())])
     }
 }
 
@@ -114,6 +93,6 @@ impl Show for AuthSwitchResponse<'_> {
     ghost packet = { λ packet. AuthAnswer packet };
 
     fn show<A: Allocator + Copy>(&self, fields: &mut Fields<A>) -> Result<(), AllocError> {
-        fields.put_all(&[("data", Some(Bytes(self.data.0.as_slice())))])
+        fields.put_all(&[Bytes("data", self.data.0.as_slice())])
     }
 }

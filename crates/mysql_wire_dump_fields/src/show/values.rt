@@ -6,7 +6,7 @@ ghost use Rattle.mysql_wire_dump_fields.specs.Fields.{Written};
 ghost use Rattle.mysql_wire_dump_fields.specs.Packets.{PutsFields, Row, Texts};
 ghost use Rattle.mysql_wire_dump_fields.specs.ValueFields.{IsTypeOf, PutsColumn, PutsFloat, PutsRow, PutsShown, PutsText, PutsTexts, PutsValues};
 
-use crate::fields::{FieldValue, Fields};
+use crate::fields::{Field, FieldValue, Fields};
 use mysql_wire_dump_lines::refusal::Refusal;
 use mysql_wire_dump_lines::status::Stop;
 use mysql_wire_queries::text_row::TextValue;
@@ -209,8 +209,8 @@ fn put_row<A: Allocator + Copy>(
         return binary_values(global, fields, types, row);
     }
     fields.put_all(&[
-        ("null_bitmap", Some(FieldValue::Bytes(row.nulls.0))),
-        ("values", Some(FieldValue::Bytes(row.values))),
+        Field::Bytes("null_bitmap", row.nulls.0),
+        Field::Bytes("values", row.values),
     ])?;
     Ok(None)
 }

@@ -1,10 +1,11 @@
-use Rattle.std.proofs.Common.{List, [], None, subst, sym}
+use Rattle.std.proofs.Common.{List, subst, sym}
 use Rattle.mysql_wire_dump_fields.specs.Fields.{Member, Puts}
+use Rattle.mysql_wire_dump_fields.specs.declared.fields.Field.TheVariants.{Missing}
 use Rattle.mysql_wire_dump_fields.proofs.FieldLemmas.{members_more, puts_then}
 use Rattle.mysql_wire_dump_fields.proofs.fields.Fields.put_all.Goals as goal
 
 pub fields-preserved : goal.fields-preserved
 fields-preserved g c =
-    subst (λ (members : List Member). Puts members c.args.self.now c.put_if.new.self)
-    (sym (members_more c.args.fields.now c.fields.field-index (record { ref_ptr = (0, 0); now = [] }, None) c.fields-test.true))
-    (puts_then c.fields.invariant c.in_ok-put_if.ensures)
+    subst (λ (members : List Member). Puts members c.args.self.now c.put_field.new.self)
+    (sym (members_more c.args.fields.now c.fields.field-index Missing c.fields-test.true))
+    (puts_then c.fields.invariant c.in_ok-put_field.ensures)
