@@ -82,6 +82,16 @@ fn are_numbers<A: Allocator + Copy>(heap: &Heap, alloc: A) -> bool {
     is_field(heap, alloc, None, &value, &[])
 }
 
+// Numbers without a wrapper, the least significant byte first.
+fn are_plain<A: Allocator + Copy>(heap: &Heap, alloc: A) -> bool {
+    let small = Both(1u8, 0x0203u16);
+    let large = Both(0x0405_0607u32, 0x0809_0a0b_0c0d_0e0fu64);
+    let three = (&small, ((), ()), 0, b"\x01\x03\x02\xff".as_slice(), 3, 1);
+    let bytes = b"\x07\x06\x05\x04\x0f\x0e\x0d\x0c\x0b\x0a\x09\x08\xff".as_slice();
+    let twelve = (&large, ((), ()), 0, bytes, 12, 4);
+    is_field(heap, alloc, None, &three, &[]) & is_field(heap, alloc, None, &twelve, &[])
+}
+
 /// Bytes and numbers in a row, one of two values by each side, and two one after the other.
 pub fn are_rows<A: Allocator + Copy>(heap: &Heap, alloc: A) -> bool {
     let mut all = are_bytes(heap, alloc);
@@ -91,5 +101,6 @@ pub fn are_rows<A: Allocator + Copy>(heap: &Heap, alloc: A) -> bool {
     all &= is_either(heap, alloc);
     all &= Number::Left(RawInt::new(1)).unwrap_left().0 == 1;
     all &= Number::Right(RawInt::new(1)).unwrap_right().0 == 1;
+    all &= are_plain(heap, alloc);
     all & are_numbers(heap, alloc)
 }

@@ -1,9 +1,9 @@
-use Rattle.std.proofs.Common.{rules, ℕ, ◌≡◌, ◌-◌, ◌^◌, List, ◌++◌, length, min, drop, ap, sym, ◌∙◌, Ok, vec_len}
-use Rattle.std.proofs.lemmas.List.{length-map}
+use Rattle.std.proofs.Common.{rules, ℕ, ◌≡◌, List, ◌++◌, drop, ap, sym, ◌∙◌, Ok, vec_len}
 use Rattle.mysql_wire.specs.Codec.{CodecState, codec_state, header_of}
 use Rattle.mysql_wire.specs.Laws.{empty_state}
 use Rattle.mysql_wire.specs.Runs.{joined, payloads}
 use Rattle.mysql_wire_examples.proofs.CallerLemmas.{fresh_run}
+use Rattle.mysql_wire_examples.proofs.TallyLemmas.{counted_list}
 use Rattle.mysql_wire_examples.proofs.recording.take_counted.Goals as goal
 
 pub returns : goal.returns
@@ -24,5 +24,4 @@ returns g c =
     (λ e. absurd cc) (λ e. absurd cc) seen.4 mine in
     let all : payloads call.new.out.items ≡ seen.1 =
     runs.1 ∙ ap (λ (z : List _). payloads z ++ runs.0) (c.in_ok-reserve.ensures.items ∙ c.new-packets.ensures.items) ∙ sym same.0 in
-    let count : length seen.1 ≡ vec_len call.new.out = ap (λ (z : List (List ℕ)). length z) (sym all) ∙ length-map call.new.out.items (λ packet. packet.items) ∙ sym call.new.out.ok.0 in
-    seen.3 ∙ ap (λ (n : ℕ). min n (2 ^ 64 - 1)) count
+    counted_list (λ packet. packet.items) call.new.out.items seen.1 (vec_len call.new.out) c.in_ok-tally.tally.packets all call.new.out.ok.0 seen.3
