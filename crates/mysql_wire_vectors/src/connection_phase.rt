@@ -101,13 +101,24 @@ fn answer_of(alloc: Global, greeted: &Greeted<'_>) -> Result<Vec<u8>, AllocError
     Echo.answer(alloc, greeted.plugin_name(), plugin_data.as_slice())
 }
 
-fn logs_in(alloc: Global, greeted: Greeted<'_>, wire: &mut BytesMut) -> Option<Waiting> {
-    let answer = answer_of(alloc, &greeted).ok()?;
-    greeted.log_in(&login(answer.as_slice()), wire).ok()
+fn logs_in_by(greeted: Greeted<'_>, answer: &[u8], wire: &mut BytesMut) -> Option<Waiting> {
+    greeted.log_in(&login(answer), wire).ok()
 }
 
-fn is_login(sent: HandshakeResponse41<'_>) -> bool {
-    sent == login(b"firstabcdefghijklmnopqrst")
+fn logs_in(alloc: Global, greeted: Greeted<'_>, wire: &mut BytesMut) -> Option<Waiting> {
+    match answer_of(alloc, &greeted) {
+        Ok(answer) => logs_in_by(greeted, answer.as_slice(), wire),
+        Err(_) => None,
+    }
+}
+
+// Whether the user logs in by the first plugin's answer.
+fn is_login(sent: &HandshakeResponse41<'_>) -> bool {
+    let is_answer = match &sent.auth_response {
+        Either::Right(answer) => same(answer.as_bytes(), b"firstabcdefghijklmnopqrst"),
+        Either::Left(_) => false,
+    };
+    is_answer & same(sent.username.as_bytes(), b"u") & (sent.client_flag.0 == FLAGS)
 }
 
 fn switches(deciding: Deciding, wire: &mut BytesMut) -> Option<Asking> {
@@ -116,6 +127,14 @@ fn switches(deciding: Deciding, wire: &mut BytesMut) -> Option<Asking> {
         plugin_data: RawBytes::from(b"uvw".as_slice()),
     };
     deciding.switch(&request, wire).ok()
+}
+
+fn switches_if(is_login: bool, deciding: Deciding, wire: &mut BytesMut) -> Option<Asking> {
+    if is_login {
+        switches(deciding, wire)
+    } else {
+        None
+    }
 }
 
 // The server takes the login, and asks for another plugin.
@@ -130,11 +149,8 @@ fn asks(
     }
     match greeting.receive(alloc, input) {
         Ok(First::Login(deciding, sent)) => {
-            if is_login(sent) {
-                switches(deciding, wire)
-            } else {
-                None
-            }
+            let is_login = is_login(&sent);
+            switches_if(is_login, deciding, wire)
         }
         _ => None,
     }
@@ -213,6 +229,18 @@ fn id_of(wire: &BytesMut) -> Option<u8> {
     wire.as_slice().get(3).copied()
 }
 
+fn greets(hello: &mut BytesMut) -> Option<server::Greeting> {
+    Accepted::new(LIMIT).greet(&greeting(), hello).ok()
+}
+
+// The client logs in over a greeting that has come.
+fn answers_greeting(alloc: Global, hello: &[u8], first: &mut BytesMut) -> Option<Waiting> {
+    match is_greeted(alloc, &mut ParseBuf(hello)) {
+        Some(greeted) => logs_in(alloc, greeted, first),
+        None => None,
+    }
+}
+
 // Both ends up to the second plugin, each over what the other sent.
 fn both_begin(
     alloc: Global,
@@ -220,9 +248,8 @@ fn both_begin(
     first: &mut BytesMut,
     request: &mut BytesMut,
 ) -> Option<(Waiting, Asking)> {
-    let greeting = Accepted::new(LIMIT).greet(&greeting(), hello).ok()?;
-    let greeted = is_greeted(alloc, &mut ParseBuf(hello.as_slice()))?;
-    let waiting = logs_in(alloc, greeted, first)?;
+    let greeting = greets(hello)?;
+    let waiting = answers_greeting(alloc, hello.as_slice(), first)?;
     let asking = asks(alloc, greeting, &mut ParseBuf(first.as_slice()), request)?;
     Some((waiting, asking))
 }

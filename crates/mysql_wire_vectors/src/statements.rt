@@ -15,9 +15,9 @@ use std::alloc::Global;
 use std::test::Fail;
 use test_support::facts::all_hold;
 use test_support::fixture::Heap;
-use values::{are_dates, are_refused, are_times, are_values};
+use values::{are_refused, are_values};
 
-fn are_statements(heap: &Heap, alloc: Global) -> [bool; 11] {
+fn are_statements(heap: &Heap, alloc: Global) -> [bool; 9] {
     [
         are_answers(heap, alloc),
         are_commands(heap, alloc),
@@ -27,8 +27,6 @@ fn are_statements(heap: &Heap, alloc: Global) -> [bool; 11] {
         are_rows(heap, alloc),
         is_read_through(alloc),
         are_values(heap, alloc),
-        are_dates(heap, alloc),
-        are_times(heap, alloc),
         are_refused(alloc),
     ]
 }

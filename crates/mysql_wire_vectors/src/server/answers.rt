@@ -1,6 +1,6 @@
 // Answers of a server that are one packet. Another header is refused, having been eaten.
 
-use crate::server::payload::{OTHER, Refused, is_payload, text_if};
+use crate::server::payload::{OTHER, Refused, comes_back, is_payload, text_if};
 use mysql_wire::misc::raw::{Either, RawBytes, RawConst, RawFlags};
 use mysql_wire_packets::eof_packet::EofPacket;
 use mysql_wire_packets::ok_packet::{InfoForm, OkForm, OkInfo};
@@ -8,7 +8,7 @@ use mysql_wire_packets::progress_report::ProgressReport;
 use mysql_wire_packets::session_change::SessionChange;
 use mysql_wire_statements::com_stmt_prepare_ok::ComStmtPrepareOk;
 use std::alloc::Global;
-use test_support::fields::{gives, is_written, stops};
+use test_support::fields::stops;
 use test_support::fixture::Heap;
 
 // https://dev.mysql.com/doc/dev/mysql-server/latest/page_protocol_basic_eof_packet.html: the
@@ -145,12 +145,11 @@ const ENDS: &[OkRow] = &[
     ),
 ];
 
-fn info_of(info: (&[u8], bool)) -> OkInfo<'_> {
-    let (text, behind_length) = info;
-    if behind_length {
-        Either::Left(RawBytes::from(text))
-    } else {
-        Either::Right(RawBytes::from(text))
+fn info_if(info: Option<(&[u8], bool)>) -> Option<OkInfo<'_>> {
+    match info {
+        Some((text, true)) => Some(Either::Left(RawBytes::from(text))),
+        Some((text, false)) => Some(Either::Right(RawBytes::from(text))),
+        None => None,
     }
 }
 
@@ -171,14 +170,10 @@ fn are_of_form<const HEADER: u8>(
             last_insert_id,
             status_flags: RawFlags::new(status),
             warnings,
-            info: match words.0 {
-                Some(info) => Some(info_of(info)),
-                None => None,
-            },
+            info: info_if(words.0),
             session_state: text_if(words.1),
         };
-        all &= is_written(heap, &ok, payload);
-        all &= gives::<OkForm<'_, HEADER>, InfoForm, Global>(alloc, form, payload, &ok, 0);
+        all &= comes_back(heap, alloc, form, ok, payload);
     }
     all
 }

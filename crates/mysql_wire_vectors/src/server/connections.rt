@@ -1,7 +1,7 @@
 // The packets of a connection's beginning that have no file of their own, and what a command is
 // answered by at once. Payloads of MySQL's pages, or by hand where a page shows none.
 
-use crate::server::payload::{OTHER, Refused, is_payload, text_if};
+use crate::server::payload::{OTHER, Refused, comes_back, is_payload, text_if};
 use mysql_wire::constants::{CapabilityFlags, Flags, MariadbCapabilities};
 use mysql_wire::misc::raw::int::RawInt;
 use mysql_wire::misc::raw::{RawBytes, RawFlags};
@@ -13,7 +13,6 @@ use mysql_wire_queries::column_count::ColumnCount;
 use mysql_wire_queries::com_change_user::ComChangeUser;
 use mysql_wire_queries::local_infile::LocalInfileRequest;
 use std::alloc::Global;
-use test_support::fields::{gives, is_written};
 use test_support::fixture::Heap;
 
 // https://dev.mysql.com/doc/dev/mysql-server/latest/page_protocol_connection_phase_packets_protocol_ssl_request.html
@@ -162,14 +161,7 @@ fn are_changes(heap: &Heap, alloc: Global) -> bool {
             auth_plugin_name: text_if(name),
             connect_attrs: text_if(attrs),
         };
-        all &= is_written(heap, &command, payload);
-        all &= gives::<ComChangeUser<'_>, CapabilityFlags, Global>(
-            alloc,
-            capabilities,
-            payload,
-            &command,
-            0,
-        );
+        all &= comes_back(heap, alloc, capabilities, command, payload);
     }
     all
 }

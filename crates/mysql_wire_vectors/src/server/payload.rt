@@ -51,6 +51,22 @@ where
 }
 
 /// Whether a packet is written as a payload, whichever request for memory is refused, and read from
+/// it.
+pub fn comes_back<'de, T, C>(
+    heap: &Heap,
+    alloc: Global,
+    ctx: C,
+    packet: T,
+    payload: &'de [u8],
+) -> bool
+where
+    T: Drop + PartialEq + MySerialize + MyDeserialize<'de, Global, Ctx = C>,
+{
+    let is_written = is_written(heap, &packet, payload);
+    is_written & gives::<T, C, Global>(alloc, ctx, payload, &packet, 0)
+}
+
+/// Whether a packet is written as a payload, whichever request for memory is refused, and read from
 /// it; and whether the payload cut short at any length is refused, and so is each of the others. A
 /// packet whose last field takes all the rest is read from the first `least` bytes and more: then
 /// what is read is written as just those bytes.

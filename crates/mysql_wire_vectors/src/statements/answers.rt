@@ -21,28 +21,21 @@ const OTHER: &[Refused<'static, CapabilityFlags>] = &[(
     5,
 )];
 
-// What a server sent to a client in Go: three columns and a parameter.
-fn is_prepared(heap: &Heap, alloc: Global) -> bool {
-    let payload: &[u8] = b"\0\x11\0\0\0\x03\0\x01\0\0\0\0";
-    let answer = PrepareAnswer::Prepared(ComStmtPrepareOk {
+// What a server sent to a client in Go: three columns and a parameter; and that it refused.
+pub fn are_answers(heap: &Heap, alloc: Global) -> bool {
+    let prepared: &[u8] = b"\0\x11\0\0\0\x03\0\x01\0\0\0\0";
+    let ok = PrepareAnswer::Prepared(ComStmtPrepareOk {
         statement_id: 17,
         num_columns: 3,
         num_params: 1,
         warning_count: 0,
     });
-    is_payload(heap, alloc, FOUR_ONE, answer, (payload, 12), OTHER)
-}
-
-fn is_failed(heap: &Heap, alloc: Global) -> bool {
-    let payload: &[u8] = b"\xff\x28\x04#42000syntax";
-    let answer = PrepareAnswer::Failed(ErrPacket {
+    let is_prepared = is_payload(heap, alloc, FOUR_ONE, ok, (prepared, 12), OTHER);
+    let failed: &[u8] = b"\xff\x28\x04#42000syntax";
+    let error = PrepareAnswer::Failed(ErrPacket {
         error_code: 1064,
         sql_state: Some(*b"42000"),
         error_message: RawBytes::from(b"syntax".as_slice()),
     });
-    is_payload(heap, alloc, FOUR_ONE, answer, (payload, 9), &[])
-}
-
-pub fn are_answers(heap: &Heap, alloc: Global) -> bool {
-    is_prepared(heap, alloc) & is_failed(heap, alloc)
+    is_prepared & is_payload(heap, alloc, FOUR_ONE, error, (failed, 9), &[])
 }

@@ -17,9 +17,11 @@ use test_support::answers::Fault;
 use test_support::fields::stops;
 use test_support::fixture::Heap;
 
+type Row = (ColumnType, &'static [u8], BinaryValue<'static>);
+
 // https://dev.mysql.com/doc/dev/mysql-server/latest/page_protocol_binary_resultset.html: the page's
 // examples, and the other types that have their forms.
-const VALUES: &[(ColumnType, &[u8], BinaryValue<'static>)] = &[
+const VALUES: &[Row] = &[
     (MYSQL_TYPE_STRING, b"\x03foo", BinaryValue::Text(b"foo")),
     (
         MYSQL_TYPE_NEWDECIMAL,
@@ -56,9 +58,9 @@ const VALUES: &[(ColumnType, &[u8], BinaryValue<'static>)] = &[
 ];
 
 // Cut short, each is refused.
-pub fn are_values(heap: &Heap, alloc: Global) -> bool {
+fn are_of(heap: &Heap, alloc: Global, rows: &[Row]) -> bool {
     let mut all = true;
-    for row in VALUES {
+    for row in rows {
         let (column_type, bytes, value) = *row;
         all &= is_payload(heap, alloc, column_type, value, (bytes, bytes.len()), &[]);
     }
@@ -78,34 +80,24 @@ const CLOCK: Clock = Clock {
 };
 
 // The page's examples, of each length.
-const DATES: &[(ColumnType, &[u8], BinaryDate)] = &[
-    (MYSQL_TYPE_DATE, b"\0", BinaryDate::Zero),
+const DATES: &[Row] = &[
+    (MYSQL_TYPE_DATE, b"\0", BinaryValue::Date(BinaryDate::Zero)),
     (
         MYSQL_TYPE_DATE,
         b"\x04\xda\x07\x0a\x11",
-        BinaryDate::Date(DAY),
+        BinaryValue::Date(BinaryDate::Date(DAY)),
     ),
     (
         MYSQL_TYPE_TIMESTAMP,
         b"\x07\xda\x07\x0a\x11\x13\x1b\x1e",
-        BinaryDate::Seconds(DAY, CLOCK),
+        BinaryValue::Date(BinaryDate::Seconds(DAY, CLOCK)),
     ),
     (
         MYSQL_TYPE_DATETIME,
         b"\x0b\xda\x07\x0a\x11\x13\x1b\x1e\x01\0\0\0",
-        BinaryDate::Micros(DAY, CLOCK, 1),
+        BinaryValue::Date(BinaryDate::Micros(DAY, CLOCK, 1)),
     ),
 ];
-
-pub fn are_dates(heap: &Heap, alloc: Global) -> bool {
-    let mut all = true;
-    for row in DATES {
-        let (column_type, bytes, date) = *row;
-        let value = BinaryValue::Date(date);
-        all &= is_payload(heap, alloc, column_type, value, (bytes, bytes.len()), &[]);
-    }
-    all
-}
 
 const SPAN: Span = Span {
     sign: 1,
@@ -113,30 +105,22 @@ const SPAN: Span = Span {
     clock: CLOCK,
 };
 
-const TIMES: &[(&[u8], BinaryTime)] = &[
-    (b"\0", BinaryTime::Zero),
-    (b"\x08\x01\x78\0\0\0\x13\x1b\x1e", BinaryTime::Seconds(SPAN)),
+const TIMES: &[Row] = &[
+    (MYSQL_TYPE_TIME, b"\0", BinaryValue::Time(BinaryTime::Zero)),
     (
+        MYSQL_TYPE_TIME,
+        b"\x08\x01\x78\0\0\0\x13\x1b\x1e",
+        BinaryValue::Time(BinaryTime::Seconds(SPAN)),
+    ),
+    (
+        MYSQL_TYPE_TIME,
         b"\x0c\x01\x78\0\0\0\x13\x1b\x1e\x01\0\0\0",
-        BinaryTime::Micros(SPAN, 1),
+        BinaryValue::Time(BinaryTime::Micros(SPAN, 1)),
     ),
 ];
 
-pub fn are_times(heap: &Heap, alloc: Global) -> bool {
-    let mut all = true;
-    for row in TIMES {
-        let (bytes, time) = *row;
-        let value = BinaryValue::Time(time);
-        all &= is_payload(
-            heap,
-            alloc,
-            MYSQL_TYPE_TIME,
-            value,
-            (bytes, bytes.len()),
-            &[],
-        );
-    }
-    all
+pub fn are_values(heap: &Heap, alloc: Global) -> bool {
+    are_of(heap, alloc, VALUES) & are_of(heap, alloc, DATES) & are_of(heap, alloc, TIMES)
 }
 
 const UNKNOWN: Fault = Fault::Invalid(InvalidReason::UnknownValue);
