@@ -21,17 +21,17 @@ pub mod misc {
     /// Numbers, texts and constants as fields of packets, and fields in a row and in lists.
     pub mod raw {
         pub use wire_field::converted::{Const, IntoNumber, Numbered, RawConst, RawFlags};
-        pub use wire_list::raw_seq::RawSeq;
         pub use wire_field::row::{Both, Either, Slice};
         pub use wire_forms::constant::Skip;
+        pub use wire_list::raw_seq::RawSeq;
         pub use wire_repr::int::RawInt;
         pub use wire_repr::text::RawBytes;
 
         /// What was written is read back, and how wrappers are compared, as functions.
         pub mod field_laws {
             pub use crate::field_laws::{constants, converted, numbers, rows};
-            pub use wire_list::field_laws::{compared, lists};
             pub use wire_forms::field_laws::texts;
+            pub use wire_list::field_laws::{compared, lists};
             pub use wire_repr::field_laws::{
                 number_back, number_comes_back, parse_back, text_comes_back,
             };

@@ -13,8 +13,8 @@ use std::alloc::{Allocator, Global};
 use wire_buf::error::{InvalidLengthEncodedInteger, WireError};
 use wire_buf::io::ParseBuf;
 use wire_buf::proto::{HasSize, MyDeserialize, MySerialize, Varying};
-use wire_list::seq::{Seq, Unknown};
 use wire_forms::lenenc::LenEnc;
+use wire_list::seq::{Seq, Unknown};
 use wire_repr::text::RawBytes;
 use wire_repr::wire::Wire;
 
