@@ -61,11 +61,3 @@ fn deliver_over<A: Allocator + Copy>(
     heap.refuse(nth);
     deliver_on(heap, case, &mut receiver, pieces, many)
 }
-
-/// Whether a stream in pieces is delivered as it is read, with request number `nth` refused, and
-/// with later ones too.
-pub fn agrees_refused(alloc: Global, case: &Case, pieces: &[&[u8]], nth: u64) -> bool {
-    let one = deliver_refused(alloc, case, pieces, nth, false);
-    let many = deliver_refused(alloc, case, pieces, nth, true);
-    one.is_some() & many.is_some()
-}
