@@ -2,9 +2,11 @@
 use Rattle.std.specs.Prelude.{ℕ, ◌≡◌, ◌-◌, List, ◌++◌, length, take, bit_or, Result, Ok, Err}
 use Rattle.std.specs.Cow.{cow_slice_items}
 use Rattle.mysql_wire.specs.Codec.{expected_id}
+use Rattle.mysql_wire.specs.CapabilityFlags.{CapabilityFlags}
 use Rattle.mysql_wire.specs.FlagSets.{capability_flags_bits}
 use Rattle.mysql_wire.specs.Rows.{by_side}
 use Rattle.mysql_wire.specs.WireError.{WireError}
+use Rattle.mysql_wire_packets.specs.Oks.{form_of}
 use Rattle.mysql_wire_packets.specs.Optional.{bytes_if}
 use Rattle.mysql_wire_packets.specs.Places.{ReadsWhole, Wraps}
 use Rattle.mysql_wire_connection.specs.declared.auth_answer.AuthAnswer.{AuthAnswer}
@@ -15,6 +17,7 @@ use Rattle.mysql_wire_connection.specs.declared.auth_more_data.AuthMoreData.{Aut
 use Rattle.mysql_wire_connection.specs.declared.auth_switch.AuthSwitchRequest.{AuthSwitchRequest}
 use Rattle.mysql_wire_packets.specs.declared.err_packet.ErrPacket.{ErrPacket}
 use Rattle.mysql_wire_connection.specs.declared.handshake.HandshakeV10.{HandshakeV10}
+use Rattle.mysql_wire_packets.specs.declared.ok_packet.InfoForm.{InfoForm}
 use Rattle.mysql_wire_packets.specs.declared.ok_packet.OkForm.{OkForm}
 use Rattle.mysql_wire_packets.specs.declared.places.PayloadError.{PayloadError}
 use Rattle.connection_examples.specs.declared.client.Greeting.{Greeting}
@@ -49,10 +52,11 @@ abbrev pub IsGreeted : (List ℕ → Result HandshakeV10 WireError → ℕ → T
     → Result Greeting PayloadError → Type 0
 IsGreeted reads payload result = Wraps first.Greeting (ReadsWhole reads payload) (first_of result)
 
--- or an error
-abbrev pub IsRefused : (List ℕ → Result ErrPacket WireError → ℕ → Type 0) → List ℕ
-    → Result Greeting PayloadError → Type 0
-IsRefused reads payload result = Wraps first.Failed (ReadsWhole reads payload) (first_of result)
+-- or an error, as it is read where no capabilities are in force
+abbrev pub IsRefused : (CapabilityFlags → List ℕ → Result ErrPacket WireError → ℕ → Type 0)
+    → List ℕ → Result Greeting PayloadError → Type 0
+IsRefused reads payload result = (none : CapabilityFlags) × (capability_flags_bits none ≡ 0)
+    × Wraps first.Failed (ReadsWhole (reads none) payload) (first_of result)
 
 -- the answer to a greeting bears this id
 abbrev pub AnswersGreeting : ℕ → Result Greeting PayloadError → Type 0
@@ -67,6 +71,10 @@ answer_of (Ok (Failed error)) = Ok (answer.Failed error)
 answer_of (Ok (Switch next request)) = Ok (answer.Switch request)
 answer_of (Ok (MoreData next more)) = Ok (answer.MoreData more)
 answer_of (Err error) = Err error
+
+-- the form of an OK under these capabilities
+abbrev pub ok_form : CapabilityFlags → InfoForm
+ok_form capabilities = form_of (capability_flags_bits capabilities)
 
 -- the payload is an OK, or it is refused
 abbrev pub IsDone : (List ℕ → Result (OkForm 0) WireError → ℕ → Type 0) → List ℕ

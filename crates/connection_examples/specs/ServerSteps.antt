@@ -38,10 +38,8 @@ GoesOn id bits (Ok (Login next login)) = (expected_id next.line.codec ≡ id)
     × (capability_flags_bits next.capabilities ≡ bit_and bits login.client_flag.0)
 GoesOn id bits (Err error) = Unit {0}
 
--- the payload answers a plugin, what is said to it bears this id, and these capabilities stay; or it
--- is refused
-abbrev pub IsAnswer : (List ℕ → Result AuthSwitchResponse WireError → ℕ → Type 0) → List ℕ → ℕ
-    → ℕ → Result (Deciding × AuthSwitchResponse) PayloadError → Type 0
-IsAnswer reads payload id bits (Ok (next, response)) = ReadsWhole reads payload (Ok response)
-    × (expected_id next.line.codec ≡ id) × (capability_flags_bits next.capabilities ≡ bits)
-IsAnswer reads payload id bits (Err error) = ReadsWhole reads payload (Err error)
+-- the payload answers a plugin, or it is refused
+abbrev pub IsAnswer : (List ℕ → Result AuthSwitchResponse WireError → ℕ → Type 0) → List ℕ
+    → Result (Deciding × AuthSwitchResponse) PayloadError → Type 0
+IsAnswer reads payload (Ok (next, response)) = ReadsWhole reads payload (Ok response)
+IsAnswer reads payload (Err error) = ReadsWhole reads payload (Err error)

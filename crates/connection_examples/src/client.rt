@@ -5,8 +5,7 @@ ghost use Rattle.mysql_wire.specs.Codec.{codec_state, expected_id};
 ghost use Rattle.mysql_wire.specs.FlagSets.{capability_flags_bits};
 ghost use Rattle.mysql_wire.specs.Framing.{framing, next_id};
 ghost use Rattle.mysql_wire.specs.InPlace.{HasFront, front_payload};
-ghost use Rattle.mysql_wire_packets.specs.Oks.{form_of};
-ghost use Rattle.connection_examples.specs.ClientSteps.{plugin_data_of, plugin_name_of, server_bits, AnswersGreeting, GoesOn, IsDone, IsFailed, IsGreeted, IsMoreData, IsRefused, IsSwitch};
+ghost use Rattle.connection_examples.specs.ClientSteps.{ok_form, plugin_data_of, plugin_name_of, server_bits, AnswersGreeting, GoesOn, IsDone, IsFailed, IsGreeted, IsMoreData, IsRefused, IsSwitch};
 
 use crate::line::Line;
 use crate::secret::Secret;
@@ -126,10 +125,9 @@ fn read_greeting<'a>(
     ensures greeted { take 1 payload.entry.now ≡ 0x0a ∷ []
         → IsGreeted (⟦<HandshakeV10<'a> as MyDeserialize<'a, Global>>⟧.reads tt)
         payload.entry.now result }
-    ensures refused { take 1 payload.entry.now ≡ 0xff ∷ [] → (none : CapabilityFlags)
-        × (capability_flags_bits none ≡ 0)
-        × IsRefused (⟦<ErrPacket<'a> as MyDeserialize<'a, Global>>⟧.reads none)
-        payload.entry.now result }
+    ensures refused { take 1 payload.entry.now ≡ 0xff ∷ []
+        → IsRefused ⟦<ErrPacket<'a> as MyDeserialize<'a, Global>>⟧.reads payload.entry.now
+        result }
     ensures next { AnswersGreeting (expected_id line.codec) result }
 {
     match ServerFirst::read(alloc, payload) {
@@ -147,8 +145,8 @@ fn read_outcome<'a>(
     payload: &'a [u8],
 ) -> Result<Outcome<'a>, PayloadError>
     ensures done { take 1 payload.entry.now ≡ 0x00 ∷ []
-        → IsDone (⟦<OkPacket<'a> as MyDeserialize<'a, Global>>⟧.reads
-        (form_of (capability_flags_bits capabilities))) payload.entry.now result }
+        → IsDone (⟦<OkPacket<'a> as MyDeserialize<'a, Global>>⟧.reads (ok_form capabilities))
+        payload.entry.now result }
     ensures failed { take 1 payload.entry.now ≡ 0xff ∷ []
         → IsFailed (⟦<ErrPacket<'a> as MyDeserialize<'a, Global>>⟧.reads capabilities)
         payload.entry.now result }
@@ -201,10 +199,8 @@ impl Connecting {
             → IsGreeted (⟦<HandshakeV10<'a> as MyDeserialize<'a, Global>>⟧.reads tt) payload
             result }
         ensures refused { let payload = front_payload input.old.0.now in
-            take 1 payload ≡ 0xff ∷ [] → (none : CapabilityFlags)
-            × (capability_flags_bits none ≡ 0)
-            × IsRefused (⟦<ErrPacket<'a> as MyDeserialize<'a, Global>>⟧.reads none) payload
-            result }
+            take 1 payload ≡ 0xff ∷ []
+            → IsRefused ⟦<ErrPacket<'a> as MyDeserialize<'a, Global>>⟧.reads payload result }
         ensures next { AnswersGreeting
             (next_id (expected_id self.line.codec) (front_payload input.old.0.now)) result }
     {
@@ -247,9 +243,10 @@ impl<'a> Greeted<'a> {
         ensures sent { OnOk result (output.new.items ≡ output.old.items
             ++ framing (expected_id self.entry.line.codec)
             (⟦<SslRequest as MySerialize>⟧.bytes request.now)) }
-        ensures next { IfOk result (λ greeted. (greeted.greeting ≡ self.entry.greeting)
-            × (expected_id greeted.line.codec ≡ next_id (expected_id self.entry.line.codec)
-            (⟦<SslRequest as MySerialize>⟧.bytes request.now))) }
+        ensures next { IfOk result (λ greeted. expected_id greeted.line.codec
+            ≡ next_id (expected_id self.entry.line.codec)
+            (⟦<SslRequest as MySerialize>⟧.bytes request.now)) }
+        ensures greeting { IfOk result (λ greeted. greeted.greeting ≡ self.entry.greeting) }
     {
         let mut greeted = self;
         match greeted.line.send(request, output) {
@@ -293,7 +290,7 @@ impl Waiting {
         ensures done { let payload = front_payload input.old.0.now in
             take 1 payload ≡ 0x00 ∷ []
             → IsDone (⟦<OkPacket<'a> as MyDeserialize<'a, Global>>⟧.reads
-            (form_of (capability_flags_bits self.capabilities))) payload result }
+            (ok_form self.capabilities)) payload result }
         ensures failed { let payload = front_payload input.old.0.now in
             take 1 payload ≡ 0xff ∷ []
             → IsFailed (⟦<ErrPacket<'a> as MyDeserialize<'a, Global>>⟧.reads self.capabilities)

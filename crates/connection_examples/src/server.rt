@@ -102,8 +102,10 @@ fn read_answer<'a>(
     capabilities: CapabilityFlags,
     payload: &'a [u8],
 ) -> Result<(Deciding, AuthSwitchResponse<'a>), PayloadError>
-    ensures { IsAnswer (⟦<AuthSwitchResponse<'a> as MyDeserialize<'a, Global>>⟧.reads tt)
-        payload.entry.now (expected_id line.codec) (capability_flags_bits capabilities) result }
+    ensures answer { IsAnswer (⟦<AuthSwitchResponse<'a> as MyDeserialize<'a, Global>>⟧.reads tt)
+        payload.entry.now result }
+    ensures line { IfOk result (λ came. came.0.line ≡ line) }
+    ensures capabilities { IfOk result (λ came. came.0.capabilities ≡ capabilities) }
 {
     match read_whole::<AuthSwitchResponse<'a>>(alloc, (), payload) {
         Ok(response) => Ok((Deciding { line, capabilities }, response)),
@@ -277,8 +279,10 @@ impl Asking {
             (front_payload input.old.0.now) ++ input.new.0.now }
         ensures answer { let payload = front_payload input.old.0.now in
             IsAnswer (⟦<AuthSwitchResponse<'a> as MyDeserialize<'a, Global>>⟧.reads tt) payload
-            (next_id (expected_id self.line.codec) payload)
-            (capability_flags_bits self.capabilities) result }
+            result }
+        ensures next { IfOk result (λ came. expected_id came.0.line.codec
+            ≡ next_id (expected_id self.line.codec) (front_payload input.old.0.now)) }
+        ensures capabilities { IfOk result (λ came. came.0.capabilities ≡ self.capabilities) }
     {
         let Asking {
             mut line,

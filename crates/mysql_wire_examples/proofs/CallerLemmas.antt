@@ -49,6 +49,18 @@ pub fresh_delivers : (before after : CodecState) (limit : ℕ) (input left : Lis
 unfolding max_payload
 fresh_delivers before after limit input left answer gained is ok run = fresh_run before after limit input left answer gained is ok run
 
+-- where a new codec is behind a stream that waits
+abbrev pub waiting_state : ℕ → List ℕ → List ℕ → CodecState
+waiting_state limit unfinished rest = record (empty_state 0 limit) { unread = rest; held = unfinished }
+
+-- what is delivered of a stream so far, as a run of a new codec over all of it
+pub run_so_far : (limit : ℕ) (input unfinished rest : List ℕ) (gained : List (List ℕ))
+    → Delivers [] input 0 limit gained Waiting unfinished rest
+    → RunsOver (empty_state 0 limit) input (Ok tt) gained (waiting_state limit unfinished rest) []
+unfolding max_payload
+run_so_far limit input unfinished rest gained delivers =
+    subst (λ (z : List ℕ). Delivers [] input 0 limit gained Waiting unfinished z) (sym (append-nil rest)) delivers
+
 -- what is said where a call succeeds
 pub on_ok : (answer : Result (Unit {0}) PacketCodecError) (P : Type 0) → (answer ≡ Ok tt → P) → OnOk answer P
 on_ok (Ok done) P gives = gives refl

@@ -2,6 +2,8 @@ pub mod BothEnds
 pub mod Connection
 pub mod Inbox
 pub mod Accounts
+pub mod Received
 pub mod Relayed
 pub mod Session
 pub mod Measured
+pub mod Values

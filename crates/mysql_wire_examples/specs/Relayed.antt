@@ -3,7 +3,9 @@ use Rattle.std.specs.Prelude.{◌≡◌, ℕ, List, [], ◌∷◌, ◌++◌, len
 use Rattle.std.specs.Io.KnownBytes.{Appends}
 use Rattle.mysql_wire.specs.Codec.{CodecState}
 use Rattle.mysql_wire.specs.Framing.{framing}
-use Rattle.mysql_wire.specs.PacketIo.{NextPacket}
+use Rattle.mysql_wire.specs.Lent.{Reading, reading_state}
+use Rattle.mysql_wire.specs.PacketCodec.{PacketCodec}
+use Rattle.mysql_wire.specs.PacketIo.{NextPacket, Writing}
 use Rattle.mysql_wire_examples.specs.Accounts.{ends_rows}
 
 -- this packet is the next one, whatever the count of reads
@@ -21,31 +23,43 @@ AreNext before unread (packet ∷ packets) after left =
     × IsNext before unread packet mid behind × AreNext mid behind packets after left
 
 -- the same codec at an id
-abbrev pub at_id : ℕ → CodecState → CodecState
-at_id id state = record state { id = id }
+abbrev pub at_id : ℕ → PacketCodec → PacketCodec
+at_id id codec = record codec { seq_id = id }
 
--- the next packet came, and what answers it went out behind what was pending, numbered on from it
-pub record IsAnswered (before : CodecState) (unread left : Option (List ℕ)) (pending : List ℕ)
-    (written now : Option (List ℕ)) (answer : List ℕ → List ℕ) : Type 0 where
+-- at this codec a reader brings this packet next, which leaves the codec here
+abbrev pub Brings : {R : Type 0} → (R → Option (List ℕ)) → PacketCodec → Reading R → Reading R
+    → List ℕ → CodecState → Type 0
+Brings remaining codec old new packet behind =
+    IsNext (reading_state codec old) (remaining old.reader) packet behind (remaining new.reader)
+
+-- a writer sends these bytes behind what was pending
+abbrev pub Sends : {W : Type 0} → (W → Option (List ℕ)) → Writing W → Writing W → List ℕ → Type 0
+Sends contents old new bytes =
+    Appends (contents old.writer) (contents new.writer) (old.pending ++ bytes)
+
+-- a packet is brought, and what answers it is sent, numbered on from where that leaves the codec
+pub record IsAnswered (answer : List ℕ → List ℕ) (brings : List ℕ → CodecState → Type 0)
+    (sends : List ℕ → Type 0) : Type 0 where
   pub packet : List ℕ
   pub behind : CodecState
-  pub came : IsNext before unread packet behind left
-  pub sent : Appends written now (pending ++ framing behind.id (answer packet))
+  pub came : brings packet behind
+  pub sent : sends (framing behind.id (answer packet))
 
--- the next packet came, and went out behind what was pending, numbered from an id
-pub record IsRelayed (before : CodecState) (unread left : Option (List ℕ)) (pending : List ℕ)
-    (id : ℕ) (written now : Option (List ℕ)) : Type 0 where
+-- a packet is brought, and sent on, numbered from an id
+pub record IsRelayed (id : ℕ) (brings : List ℕ → CodecState → Type 0)
+    (sends : List ℕ → Type 0) : Type 0 where
   pub packet : List ℕ
   pub behind : CodecState
-  pub came : IsNext before unread packet behind left
-  pub sent : Appends written now (pending ++ framing id packet)
+  pub came : brings packet behind
+  pub sent : sends (framing id packet)
 
--- so many rows came, and then a packet that ends them
-pub record CountsRows (count : ℕ) (before : CodecState) (unread : Option (List ℕ))
-    (after : CodecState) (left : Option (List ℕ)) : Type 0 where
+-- from this codec and reader to those, so many rows came, and then a packet that ends them
+pub record CountsRows {R : Type 0} (remaining : R → Option (List ℕ)) (count : ℕ)
+    (codec : PacketCodec) (old : Reading R) (behind : PacketCodec) (new : Reading R) : Type 0 where
   pub rows : List (List ℕ)
   pub last : List ℕ
-  pub are : AreNext before unread (rows ++ last ∷ []) after left
+  pub are : AreNext (reading_state codec old) (remaining old.reader) (rows ++ last ∷ [])
+      (reading_state behind new) (remaining new.reader)
   pub counted : length rows ≡ count
   pub each : All (λ row. IsFalse (ends_rows row)) rows
   pub ends : IsTrue (ends_rows last)

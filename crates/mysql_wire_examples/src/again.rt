@@ -1,8 +1,9 @@
 //! A run that goes on where memory was refused.
 
-ghost use Rattle.std.specs.Prelude.{◌≡◌, ◌≢◌, ◌≤◌, List, ℕ, ◌++◌, length, take, Err, OnOk};
-ghost use Rattle.mysql_wire.specs.Codec.{codec_state, Stands};
-ghost use Rattle.mysql_wire.specs.Runs.{joined, payloads, RunsTo};
+ghost use Rattle.std.specs.Prelude.{◌≡◌, ◌≢◌, ◌≤◌, length, take, Err, OnOk};
+ghost use Rattle.mysql_wire.specs.Codec.{Stands};
+ghost use Rattle.mysql_wire.specs.Runs.{joined, RunsTo};
+ghost use Rattle.mysql_wire_examples.specs.Received.{Gains, state_at};
 
 use bytes::BytesMut;
 use mysql_wire::laws;
@@ -20,15 +21,14 @@ pub fn deliver_again<A: Allocator + Copy>(
     out: &mut Vec<Vec<u8, A>, A>,
     again: usize,
 ) -> (usize, Result<(), PacketCodecError>)
-    requires { Stands (codec_state codec.old src.old.items dst.old.items) }
-    ensures runs { let before = codec_state codec.old src.old.items dst.old.items in
-        let after = codec_state codec.new src.new.items dst.new.items in
-        (gained : List (List ℕ)) × (payloads out.new.items ≡ payloads out.old.items ++ gained)
-        × RunsTo before (joined (take result.0 pieces.now)) result.1 gained after }
+    requires { Stands (state_at codec.old src.old dst.old) }
+    ensures runs { Gains out.old.items out.new.items (λ gained. RunsTo
+        (state_at codec.old src.old dst.old) (joined (take result.0 pieces.now)) result.1 gained
+        (state_at codec.new src.new dst.new)) }
     ensures count { result.0 ≤ length pieces.now }
     ensures all { OnOk result.1 (result.0 ≡ length pieces.now) }
     ensures stands { result.1 ≢ Err PacketCodecError.PacketsOutOfSync
-        → Stands (codec_state codec.new src.new.items dst.new.items) }
+        → Stands (state_at codec.new src.new dst.new) }
     ensures limit { codec.new.max_allowed_packet ≡ codec.old.max_allowed_packet }
 {
     laws::run_goes_on();

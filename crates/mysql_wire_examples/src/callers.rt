@@ -2,10 +2,11 @@
 
 ghost use Rattle.std.specs.Prelude.{◌≡◌, ℕ, List, [], ◌++◌, OnOk, IfOk, IfSome};
 ghost use Rattle.std.specs.Io.KnownBytes.{IsAtEnd};
-ghost use Rattle.mysql_wire.specs.Codec.{codec_state, Stands};
+ghost use Rattle.mysql_wire.specs.Codec.{Stands};
 ghost use Rattle.mysql_wire.specs.Delivery.{Delivers, Waiting};
 ghost use Rattle.mysql_wire.specs.Framing.{framing, next_id};
 ghost use Rattle.mysql_wire.specs.Runs.{joined, payloads, RunsTo};
+ghost use Rattle.mysql_wire_examples.specs.Received.{DeliversSoFar, Gains, state_at};
 
 use bytes::BytesMut;
 use mysql_wire::laws;
@@ -46,12 +47,10 @@ fn take_unread<A: Allocator + Copy>(
     dst: &mut Vec<u8, A>,
     packets: &mut Vec<Vec<u8, A>, A>,
 ) -> Result<(), PacketCodecError>
-    requires { Stands (codec_state codec.old src.old.items dst.old.items) }
-    ensures run { let before = codec_state codec.old src.old.items dst.old.items in
-        let after = codec_state codec.new src.new.items dst.new.items in
-        OnOk result ((gained : List (List ℕ))
-        × (payloads packets.new.items ≡ payloads packets.old.items ++ gained)
-        × RunsTo before [] (Ok tt) gained after) }
+    requires { Stands (state_at codec.old src.old dst.old) }
+    ensures run { OnOk result (Gains packets.old.items packets.new.items (λ gained. RunsTo
+        (state_at codec.old src.old dst.old) [] (Ok tt) gained
+        (state_at codec.new src.new dst.new))) }
     ensures limit { codec.new.max_allowed_packet ≡ codec.old.max_allowed_packet }
 {
     let (_, result) = deliver(codec, src, dst, &[], packets);
@@ -66,8 +65,7 @@ pub fn read_packets<A: Allocator + Copy, R: Read>(
     reader: &mut R,
 ) -> Result<Vec<Vec<u8, A>, A>, PacketCodecError>
     ensures packets { IfOk result (λ packets. IfSome (R.remaining reader.old)
-        (λ input. (unfinished : List ℕ) × (rest : List ℕ)
-        × Delivers [] input 0 limit (payloads packets.items) Waiting unfinished rest)) }
+        (λ input. DeliversSoFar input 0 limit (payloads packets.items))) }
     ensures all_read { OnOk result (IsAtEnd (R.remaining reader.new)) }
 {
     laws::nothing_read();

@@ -2,12 +2,12 @@
 
 ghost use Rattle.std.specs.Prelude.{◌≡◌, ◌+◌, ◌-◌, ◌^◌, ◌<◌, ◌↔◌, ℕ, List, [], length, min, IfOk, IfSome, IsNone, IsSome, IsTrue};
 ghost use Rattle.mysql_wire.specs.Codec.{codec_state};
-ghost use Rattle.mysql_wire.specs.Delivery.{Delivers, Waiting};
 ghost use Rattle.mysql_wire.specs.InPlace.{HasFront, behind_front, front_payload};
 ghost use Rattle.mysql_wire.specs.Lent.{reading_state};
 ghost use Rattle.mysql_wire.specs.PacketIo.{FitsAt};
 ghost use Rattle.mysql_wire.specs.Runs.{joined};
 ghost use Rattle.mysql_wire_examples.specs.Accounts.{IsAccount, ends_rows};
+ghost use Rattle.mysql_wire_examples.specs.Received.{DeliversSoFar};
 ghost use Rattle.mysql_wire_examples.specs.Relayed.{CountsRows};
 
 use bytes::BytesMut;
@@ -88,9 +88,7 @@ pub fn count_rows<R: Read, A: Allocator + Copy>(
 ) -> Result<u64, PacketIoError>
     requires { FitsAt input.old.is_lost (reading_state codec.old input.old) }
     ensures counted { IfOk result (λ count. IsNone input.old.lent → count < 2 ^ 64 - 1
-        → CountsRows count
-        (reading_state codec.old input.old) (R.remaining input.old.reader)
-        (reading_state codec.new input.new) (R.remaining input.new.reader)) }
+        → CountsRows R.remaining count codec.old input.old codec.new input.new) }
     ensures fits { FitsAt input.new.is_lost (reading_state codec.new input.new) }
 {
     'rows: for count in 0..u64::MAX {
@@ -143,10 +141,9 @@ pub fn count_packets<A: Allocator + Copy>(
     alloc: A,
     answer: &[&[u8]],
 ) -> Result<Tally, PacketCodecError>
-    ensures { IfOk result (λ tally. (packets : List (List ℕ)) × (unfinished : List ℕ)
-        × (rest : List ℕ)
+    ensures { IfOk result (λ tally. (packets : List (List ℕ))
         × (tally.packets ≡ min (length packets) (2 ^ 64 - 1))
-        × Delivers [] (joined answer.now) 0 4194304 packets Waiting unfinished rest) }
+        × DeliversSoFar (joined answer.now) 0 4194304 packets) }
 {
     let mut codec = PacketCodec::default();
     let mut src = BytesMut::new(alloc);

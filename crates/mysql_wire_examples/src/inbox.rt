@@ -1,8 +1,9 @@
 //! What a peer can make a server hold.
 
-ghost use Rattle.std.specs.Prelude.{◌≡◌, ◌+◌, ◌≤◌, ℕ, List, ◌++◌, length, Ok, OnOk, IfOk};
+ghost use Rattle.std.specs.Prelude.{◌≡◌, ◌+◌, ◌≤◌, length, Ok, OnOk, IfOk};
 ghost use Rattle.mysql_wire.specs.Bounds.{most_read};
-ghost use Rattle.mysql_wire.specs.Runs.{payloads, RunsTo};
+ghost use Rattle.mysql_wire.specs.Runs.{RunsTo};
+ghost use Rattle.mysql_wire_examples.specs.Received.{Gains};
 
 use crate::again::deliver_again;
 use bytes::BytesMut;
@@ -56,9 +57,8 @@ impl<A: Allocator + Copy> Inbox<A> {
     ) -> Result<(), PacketCodecError>
         requires { HoldsFew self.old }
         ensures few { OnOk result (HoldsFew self.new) }
-        ensures packets { OnOk result ((gained : List (List ℕ))
-            × (payloads packets.new.items ≡ payloads packets.old.items ++ gained)
-            × RunsTo (inbox_state self.old) piece.now (Ok tt) gained (inbox_state self.new)) }
+        ensures packets { OnOk result (Gains packets.old.items packets.new.items (λ gained.
+            RunsTo (inbox_state self.old) piece.now (Ok tt) gained (inbox_state self.new))) }
         ensures limit { self.new.codec.max_allowed_packet ≡ self.old.codec.max_allowed_packet }
     {
         laws::bounded_delivery();

@@ -1,11 +1,9 @@
 //! A stream that was recorded: compared, decoded once more, and taken into a list of its size.
 
-ghost use Rattle.std.specs.Prelude.{◌≡◌, ◌↔◌, ◌-◌, ◌^◌, ℕ, List, [], ◌++◌, min, length, take, IfOk, IsTrue, Ok, vec_len};
-ghost use Rattle.mysql_wire.specs.Codec.{CodecState};
-ghost use Rattle.mysql_wire.specs.Delivery.{Delivers, Waiting};
+ghost use Rattle.std.specs.Prelude.{◌≡◌, ◌↔◌, ◌-◌, ◌^◌, ℕ, List, ◌++◌, min, length, take, IfOk, IsTrue, vec_len};
 ghost use Rattle.mysql_wire.specs.Framing.{framing};
-ghost use Rattle.mysql_wire.specs.Laws.{empty_state};
-ghost use Rattle.mysql_wire.specs.Runs.{RunsOver, joined, payloads};
+ghost use Rattle.mysql_wire.specs.Runs.{joined, payloads};
+ghost use Rattle.mysql_wire_examples.specs.Received.{DeliversSoFar};
 
 use crate::in_place::Tally;
 use bytes::BytesMut;
@@ -51,8 +49,7 @@ pub fn replay<A: Allocator + Copy>(
     pieces: &[&[u8]],
     received: &[Vec<u8, A>],
 ) -> Result<Vec<Vec<u8, A>, A>, PacketCodecError>
-    requires { (unfinished : List ℕ) × (rest : List ℕ)
-        × Delivers [] (joined pieces.now) 0 limit (payloads received.now) Waiting unfinished rest }
+    requires { DeliversSoFar (joined pieces.now) 0 limit (payloads received.now) }
     ensures { IfOk result (λ packets. payloads packets.items ≡ payloads received.now) }
 {
     laws::one_delivery();
@@ -72,9 +69,9 @@ fn counted<A: Allocator + Copy>(
     limit: usize,
     pieces: &[&[u8]],
 ) -> Result<Tally, PacketCodecError>
-    ensures { IfOk result (λ tally. (after : CodecState) × (packets : List (List ℕ))
-        × (left : List ℕ) × (tally.packets ≡ min (length packets) (2 ^ 64 - 1))
-        × RunsOver (empty_state 0 limit) (joined pieces.now) (Ok tt) packets after left) }
+    ensures { IfOk result (λ tally. (packets : List (List ℕ))
+        × (tally.packets ≡ min (length packets) (2 ^ 64 - 1))
+        × DeliversSoFar (joined pieces.now) 0 limit packets) }
 {
     let mut codec = PacketCodec::default();
     codec.max_allowed_packet = limit;

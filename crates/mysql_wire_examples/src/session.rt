@@ -1,11 +1,11 @@
 //! A connection whose limit rises, as it goes on and as it is decoded once more.
 
-ghost use Rattle.std.specs.Prelude.{◌≡◌, ℕ, List, [], ◌++◌, length, max, OnOk, IfOk};
-ghost use Rattle.mysql_wire.specs.Codec.{codec_state, first_id, input_of, Stands};
-ghost use Rattle.mysql_wire.specs.Delivery.{IsBounded, Waiting};
-ghost use Rattle.mysql_wire.specs.Limited.{DeliversUnder};
+ghost use Rattle.std.specs.Prelude.{◌≡◌, max, OnOk, IfOk};
+ghost use Rattle.mysql_wire.specs.Codec.{Stands};
+ghost use Rattle.mysql_wire.specs.Delivery.{IsBounded};
 ghost use Rattle.mysql_wire.specs.Runs.{payloads};
-ghost use Rattle.mysql_wire_examples.specs.Session.{session_limits};
+ghost use Rattle.mysql_wire_examples.specs.Received.{Gains, state_at};
+ghost use Rattle.mysql_wire_examples.specs.Session.{DeliversSession, GoesOnUnder};
 
 use bytes::BytesMut;
 use mysql_wire::laws;
@@ -24,13 +24,10 @@ pub fn go_on_under<A: Allocator + Copy>(
     piece: &[u8],
     packets: &mut Vec<Vec<u8, A>, A>,
 ) -> Result<(), PacketCodecError>
-    requires { Stands (codec_state codec.old src.old.items dst.old.items) }
-    ensures session { let before = codec_state codec.old src.old.items dst.old.items in
-        OnOk result ((gained : List (List ℕ))
-        × (payloads packets.new.items ≡ payloads packets.old.items ++ gained)
-        × DeliversUnder (session_limits before.limit limit (length (input_of before))) 0
-        before.held (input_of before ++ piece.now) (first_id before) gained Waiting
-        dst.new.items src.new.items) }
+    requires { Stands (state_at codec.old src.old dst.old) }
+    ensures session { OnOk result (Gains packets.old.items packets.new.items (λ gained. GoesOnUnder
+        limit (state_at codec.old src.old dst.old) piece.now gained
+        (state_at codec.new src.new dst.new))) }
     ensures bounded { OnOk result (IsBounded (max codec.old.max_allowed_packet limit)
         dst.old.items dst.new.items src.new.items) }
 {
@@ -48,9 +45,7 @@ pub fn replay_session<A: Allocator + Copy>(
     session: (usize, &[u8]),
     received: &[Vec<u8, A>],
 ) -> Result<Vec<Vec<u8, A>, A>, PacketCodecError>
-    requires { (unfinished : List ℕ) × (rest : List ℕ)
-        × DeliversUnder (session_limits login.0 session.0 (length login.1.now)) 0 []
-        (login.1.now ++ session.1.now) 0 (payloads received.now) Waiting unfinished rest }
+    requires { DeliversSession login session (payloads received.now) }
     ensures { IfOk result (λ packets. payloads packets.items ≡ payloads received.now) }
 {
     laws::empty_goes_on();

@@ -1,13 +1,12 @@
 //! Packets over any reader and any writer: a client's question, a server's loop, a proxy.
 
-ghost use Rattle.std.specs.Prelude.{◌≡◌, ◌++◌, IfOk, IsNone, OnOk, Ok, true, false};
-ghost use Rattle.std.specs.Io.KnownBytes.{Appends};
+ghost use Rattle.std.specs.Prelude.{◌≡◌, IfOk, IsNone, OnOk, Ok, true, false};
 ghost use Rattle.mysql_wire.specs.Codec.{expected_id, header_of};
 ghost use Rattle.mysql_wire.specs.Framing.{framing, next_id};
 ghost use Rattle.mysql_wire.specs.Lent.{reading_state};
 ghost use Rattle.mysql_wire.specs.PacketIo.{FitsAt};
 ghost use Rattle.mysql_wire_examples.specs.Connection.{answer_to};
-ghost use Rattle.mysql_wire_examples.specs.Relayed.{IsAnswered, IsNext, IsRelayed, at_id};
+ghost use Rattle.mysql_wire_examples.specs.Relayed.{Brings, IsAnswered, IsRelayed, Sends, at_id};
 
 use crate::connection::answer_to;
 use mysql_wire::proto::codec::PacketCodec;
@@ -21,9 +20,8 @@ pub fn send<W: Write, A: Allocator + Copy>(
     output: &mut PacketWriter<W, A>,
     packet: &[u8],
 ) -> Result<(), PacketIoError>
-    ensures sent { OnOk result (Appends
-        (W.contents output.old.writer) (W.contents output.new.writer)
-        (output.old.pending ++ framing (expected_id codec.old) packet.now)) }
+    ensures sent { OnOk result (Sends W.contents output.old output.new
+        (framing (expected_id codec.old) packet.now)) }
     ensures next { OnOk result
         (expected_id codec.new ≡ next_id (expected_id codec.old) packet.now) }
     ensures header { header_of codec.new ≡ header_of codec.old }
@@ -44,13 +42,11 @@ pub fn ask<R: Read, W: Write, A: Allocator + Copy>(
     output: &mut PacketWriter<W, A>,
     command: &[u8],
 ) -> Result<Vec<u8, A>, PacketIoError>
-    ensures sent { OnOk result (Appends
-        (W.contents output.old.writer) (W.contents output.new.writer)
-        (output.old.pending ++ framing 0 command.now)) }
-    ensures answered { IfOk result (λ answer. IsNone input.old.lent → IsNext
-        (at_id (next_id 0 command.now) (reading_state codec.old input.old))
-        (R.remaining input.old.reader) answer.items
-        (reading_state codec.new input.new) (R.remaining input.new.reader)) }
+    ensures sent { OnOk result
+        (Sends W.contents output.old output.new (framing 0 command.now)) }
+    ensures answered { IfOk result (λ answer. IsNone input.old.lent
+        → Brings R.remaining (at_id (next_id 0 command.now) codec.old) input.old input.new
+        answer.items (reading_state codec.new input.new)) }
 {
     codec.reset_seq_id();
     send(codec, output, command)?;
@@ -72,10 +68,9 @@ pub fn answer_next<R: Read, W: Write, A: Allocator + Copy>(
     output: &mut PacketWriter<W, A>,
 ) -> Result<bool, PacketIoError>
     requires { FitsAt input.old.is_lost (reading_state codec.old input.old) }
-    ensures answered { result ≡ Ok true → IsNone input.old.lent → IsAnswered
-        (at_id 0 (reading_state codec.old input.old))
-        (R.remaining input.old.reader) (R.remaining input.new.reader) output.old.pending
-        (W.contents output.old.writer) (W.contents output.new.writer) answer_to }
+    ensures answered { result ≡ Ok true → IsNone input.old.lent → IsAnswered answer_to
+        (Brings R.remaining (at_id 0 codec.old) input.old input.new)
+        (Sends W.contents output.old output.new) }
     ensures ended { result ≡ Ok false → output.new ≡ output.old }
     ensures fits { OnOk result (FitsAt input.new.is_lost (reading_state codec.new input.new)) }
 {
@@ -98,10 +93,9 @@ pub fn answer_in_place<R: Read, W: Write, A: Allocator + Copy>(
     output: &mut PacketWriter<W, A>,
 ) -> Result<bool, PacketIoError>
     requires { FitsAt input.old.is_lost (reading_state codec.old input.old) }
-    ensures answered { result ≡ Ok true → IsNone input.old.lent → IsAnswered
-        (at_id 0 (reading_state codec.old input.old))
-        (R.remaining input.old.reader) (R.remaining input.new.reader) output.old.pending
-        (W.contents output.old.writer) (W.contents output.new.writer) answer_to }
+    ensures answered { result ≡ Ok true → IsNone input.old.lent → IsAnswered answer_to
+        (Brings R.remaining (at_id 0 codec.old) input.old input.new)
+        (Sends W.contents output.old output.new) }
     ensures ended { result ≡ Ok false → output.new ≡ output.old }
     ensures taken { OnOk result (IsNone input.new.lent) }
     ensures fits { OnOk result (FitsAt input.new.is_lost (reading_state codec.new input.new)) }
@@ -128,9 +122,9 @@ pub fn relay<R: Read, W: Write, A: Allocator + Copy>(
     to: &mut PacketWriter<W, A>,
 ) -> Result<bool, PacketIoError>
     requires { FitsAt from.old.is_lost (reading_state from_codec.old from.old) }
-    ensures passed { result ≡ Ok true → IsNone from.old.lent → IsRelayed (reading_state from_codec.old from.old)
-        (R.remaining from.old.reader) (R.remaining from.new.reader) to.old.pending
-        (expected_id to_codec.old) (W.contents to.old.writer) (W.contents to.new.writer) }
+    ensures passed { result ≡ Ok true → IsNone from.old.lent → IsRelayed (expected_id to_codec.old)
+        (Brings R.remaining from_codec.old from.old from.new)
+        (Sends W.contents to.old to.new) }
     ensures ended { result ≡ Ok false → to.new ≡ to.old }
     ensures fits { FitsAt from.new.is_lost (reading_state from_codec.new from.new) }
 {

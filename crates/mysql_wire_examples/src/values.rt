@@ -1,11 +1,12 @@
 //! Values sent as packets, and read back from the bytes that came, wherever these are cut.
 
-ghost use Rattle.std.specs.Prelude.{◌≡◌, ◌≤◌, ℕ, List, [], ◌++◌, length, map, All, OnOk, IfOk};
+ghost use Rattle.std.specs.Prelude.{◌≡◌, ◌≤◌, List, ◌++◌, length, map, All, OnOk, IfOk};
 ghost use Rattle.std.specs.List.{AllZip};
 ghost use Rattle.mysql_wire.specs.Codec.{expected_id};
-ghost use Rattle.mysql_wire.specs.Delivery.{Delivers, Waiting};
 ghost use Rattle.mysql_wire.specs.Framing.{stream, id_after};
 ghost use Rattle.mysql_wire.specs.Runs.{payloads};
+ghost use Rattle.mysql_wire_examples.specs.Received.{DeliversSoFar};
+ghost use Rattle.mysql_wire_examples.specs.Values.{StandAlone};
 
 use bytes::BytesMut;
 use mysql_wire::io::WireError;
@@ -59,8 +60,8 @@ pub fn receive_packets<A: Allocator + Copy>(
     bytes: &[u8],
     cuts: (usize, usize),
 ) -> Result<Vec<Vec<u8, A>, A>, PacketCodecError>
-    ensures { IfOk result (λ packets. (unfinished : List ℕ) × (rest : List ℕ)
-        × Delivers [] bytes.now 0 limit (payloads packets.items) Waiting unfinished rest) }
+    ensures { IfOk result
+        (λ packets. DeliversSoFar bytes.now 0 limit (payloads packets.items)) }
 {
     let (front, others) = bytes.split_at(cuts.0.min(bytes.len()));
     let (middle, back) = others.split_at(cuts.1.min(others.len()));
@@ -81,7 +82,7 @@ pub fn read_values<'de, T: Wire<'de, A, Ctx = ()>, A: Allocator + Copy>(
     packets: &'de [Vec<u8, A>],
 ) -> Result<Vec<T, A>, WireError>
     ensures back { (values : List T) → payloads packets.entry.now ≡ map T.bytes values
-        → All T.is_value values → All (λ value. T.good tt value []) values
+        → All T.is_value values → StandAlone T.good values
         → IfOk result (λ back. AllZip T.kept values back.items) }
 {
     let mut values = Vec::new(alloc);
@@ -101,7 +102,7 @@ pub fn send_and_read<'de, T: Wire<'de, A, Ctx = ()>, A: Allocator + Copy>(
     cuts: (usize, usize),
     packets: &'de mut Vec<Vec<u8, A>, A>,
 ) -> Result<Vec<T, A>, TransferError>
-    ensures { All (λ value. T.good tt value []) values.now
+    ensures { StandAlone T.good values.now
         → IfOk result (λ back. AllZip T.kept values.now back.items) }
 {
     laws::values_come_back::<T, A>();

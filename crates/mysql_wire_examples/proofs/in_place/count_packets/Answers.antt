@@ -8,4 +8,4 @@ returns g c =
     let call = c.deliver_each-result in
     let runs = call.ensures.runs in
     let left : List ℕ = call.new.src.items ++ joined (drop call.result.0 c.args.answer.now) in
-    (runs.0, call.new.dst.items, left, tally_packets runs.0 call.new.visitor runs.1, search rules)
+    (runs.0, tally_packets runs.0 call.new.visitor runs.1, (call.new.dst.items, left, search rules))

@@ -21,7 +21,7 @@ returns-then-is_last-clause-counted g c clear less =
     let next = next_lent before after from left _ _ c.fill_packet.new.self.lent shown
     (c.in-Ok-true.ensures.lends.0.0 c.in-Ok-true.field-0-test) c.packet.ensures (c.in-Ok-true.ensures.fills found so_far.0) in
     let more = next_more start before after first from left so_far.1 shown so_far.4 next in
-    subst (λ z. CountsRows c.rows.count start first (reading_state c.fill_packet.new.codec z) (g.R.Read.remaining z.reader)) (sym c.take_packet.ensures)
+    subst (λ z. CountsRows g.R.Read.remaining c.rows.count c.args.codec.now c.args.input.now c.fill_packet.new.codec z) (sym c.take_packet.ensures)
     (record { rows = so_far.1; last = shown; are = more; counted = so_far.2; each = so_far.3; ends = sym c.ends_rows-is_last.ensures ∙ c.if-is_last.true })
 
 pub rows-preserved : goal.rows-preserved

@@ -1,8 +1,8 @@
-use Rattle.std.proofs.Common.{rules, ℕ, ◌≡◌, List, ◌++◌, drop, ap, sym, ◌∙◌, Ok, vec_len}
+use Rattle.std.proofs.Common.{rules, ℕ, ◌≡◌, List, [], ◌++◌, drop, ap, sym, ◌∙◌, Ok, vec_len}
 use Rattle.mysql_wire.specs.Codec.{CodecState, codec_state, header_of}
 use Rattle.mysql_wire.specs.Laws.{empty_state}
 use Rattle.mysql_wire.specs.Runs.{joined, payloads}
-use Rattle.mysql_wire_examples.proofs.CallerLemmas.{fresh_run}
+use Rattle.mysql_wire_examples.proofs.CallerLemmas.{fresh_run, run_so_far, waiting_state}
 use Rattle.mysql_wire_examples.proofs.TallyLemmas.{counted_list}
 use Rattle.mysql_wire_examples.proofs.recording.take_counted.Goals as goal
 
@@ -20,8 +20,8 @@ returns g c =
     let mine = fresh_run before after limit input left call.result.1 runs.0
     (λ i. record { limit = limit; id = codec.0 i; header = codec.1 i; unread = c.new-src.ensures.items i; held = c.new-dst.ensures.items i })
     (search rules) runs.3 in
-    let same = c.one_run.ensures (empty_state 0 limit) seen.0 after input (Ok tt) (Ok tt) seen.1 runs.0 seen.2 left
-    (λ e. absurd cc) (λ e. absurd cc) seen.4 mine in
-    let all : payloads call.new.out.items ≡ seen.1 =
+    let same = c.one_run.ensures (empty_state 0 limit) (waiting_state limit seen.2.0 seen.2.1) after input (Ok tt) (Ok tt) seen.0 runs.0 [] left
+    (λ e. absurd cc) (λ e. absurd cc) (run_so_far limit input seen.2.0 seen.2.1 seen.0 seen.2.2) mine in
+    let all : payloads call.new.out.items ≡ seen.0 =
     runs.1 ∙ ap (λ (z : List _). payloads z ++ runs.0) (c.in_ok-reserve.ensures.items ∙ c.new-packets.ensures.items) ∙ sym same.0 in
-    counted_list (λ packet. packet.items) call.new.out.items seen.1 (vec_len call.new.out) c.in_ok-tally.tally.packets all call.new.out.ok.0 seen.3
+    counted_list (λ packet. packet.items) call.new.out.items seen.0 (vec_len call.new.out) c.in_ok-tally.tally.packets all call.new.out.ok.0 seen.1
