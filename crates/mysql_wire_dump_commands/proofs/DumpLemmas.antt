@@ -26,7 +26,7 @@ use Rattle.mysql_wire_dump_commands.specs.Dumped.{field_form, Dumps, InOrder, Is
 use Rattle.mysql_wire_dump_commands.specs.Dumping.{Dumping, Goes, IsLooked, IsTurn, Pends, Shows, ShowsAll, SoFar, StartsDump, id_behind}
 use Rattle.mysql_wire_dump_commands.specs.Moments.{moment_of}
 use Rattle.mysql_wire_dump_lines.specs.Naming.{IsOrBytes, kind_at}
-use Rattle.mysql_wire_dump_fields.specs.Packets.{AreFields}
+use Rattle.mysql_wire_dump_commands.specs.Readings.{AreFields}
 use Rattle.mysql_wire_dump_lines.specs.Lines.{bytes_part, line_end, packet_front, packet_line}
 use Rattle.mysql_wire_dump_lines.specs.Sources.{AtEnd, HasPacket, Stands, StandsNext, collected, id_of}
 use Rattle.mysql_wire_dump_lines.proofs.SourceLemmas.{consumes_none}
@@ -104,7 +104,8 @@ same_line form seen shown payload fields limit same large =
 pub client_shown : {A : Type 0} (old new : Dump A) (id : ℕ) (kind : Kind) (bytes fields : List ℕ) → old.client.next ≡ Packet id
     → (old.client.limit < old.client.len → kind ≡ TooLarge)
     → (old.client.len ≤ old.client.limit → IsOrBytes (kind_at (moment_of old.session) Client id old.client.held.items) kind) → (old.client.len ≤ old.client.limit → bytes ≡ old.client.held.items)
-    → AreFields (field_form old.options) fields
+    → (old.client.limit < old.client.len → (payload : List ℕ) → AreFields (field_form old.options) kind payload fields)
+    → (old.client.len ≤ old.client.limit → AreFields (field_form old.options) kind old.client.held.items fields)
     → string_bytes new.text ≡ string_bytes old.text ++ packet_line old.options.form (record { side = Client; id = id; len = old.client.len; kind = kind }) bytes fields
     → new.next_id ≡ (span_state old.client.decoder).id → new.options ≡ old.options → new.server ≡ old.server
     → new.client.limit ≡ old.client.limit
@@ -112,7 +113,7 @@ pub client_shown : {A : Type 0} (old new : Dump A) (id : ℕ) (kind : Kind) (byt
     → (payload : List ℕ) × HasPacket number payload stands.begun (collected old.client) × Stands (packets ++ (number, payload) ∷ []) came new.client)
     → (shown : List Shown) (client server written : List ℕ) → Dumping shown client server written old → IsTurn Client old → IsLooked old
     → (one : Shown) × Dumping (shown ++ one ∷ []) client server written new
-client_shown {A = A} old new id kind bytes fields is large named same shows text next_id_is options other_same limit passes shown client server written dumping is_turn looked =
+client_shown {A = A} old new id kind bytes fields is large named same passed shows text next_id_is options other_same limit passes shown client server written dumping is_turn looked =
     let pass = passes (packets_of Client shown) client id is dumping.clients in
     let payload : List ℕ = pass.0 in
     let has = pass.1 in
@@ -126,7 +127,10 @@ client_shown {A = A} old new id kind bytes fields is large named same shows text
       named = λ within.
           let below : old.client.len ≤ old.client.limit = let len_is = has.len in omega (arith, len_is, limit_is, within) in
           subst (λ (z : List ℕ). IsOrBytes (kind_at (moment_of old.session) Client id z) kind) (has.held below) (named below);
-      has_fields = shows;
+      fields = elim (cases_lt old.client.limit old.client.len) [
+        | inl above ↦ passed above payload
+        | inr within ↦ subst (λ (z : List ℕ). AreFields (field_form old.options) kind z fields) (has.held within) (shows within)
+      ];
     } in
     let here : Pends old.client.next (Some id) = subst (λ (n : Next). Pends n (Some id)) (sym is) refl in
     let turn_is : turn old.session.place (id_behind 0 shown) (Some id) (id_of old.server.next) ≡ Some Client =
@@ -157,7 +161,8 @@ client_shown {A = A} old new id kind bytes fields is large named same shows text
 pub server_shown : {A : Type 0} (old new : Dump A) (id : ℕ) (kind : Kind) (bytes fields : List ℕ) → old.server.next ≡ Packet id
     → (old.server.limit < old.server.len → kind ≡ TooLarge)
     → (old.server.len ≤ old.server.limit → IsOrBytes (kind_at (moment_of old.session) Server id old.server.held.items) kind) → (old.server.len ≤ old.server.limit → bytes ≡ old.server.held.items)
-    → AreFields (field_form old.options) fields
+    → (old.server.limit < old.server.len → (payload : List ℕ) → AreFields (field_form old.options) kind payload fields)
+    → (old.server.len ≤ old.server.limit → AreFields (field_form old.options) kind old.server.held.items fields)
     → string_bytes new.text ≡ string_bytes old.text ++ packet_line old.options.form (record { side = Server; id = id; len = old.server.len; kind = kind }) bytes fields
     → new.next_id ≡ (span_state old.server.decoder).id → new.options ≡ old.options → new.client ≡ old.client
     → new.server.limit ≡ old.server.limit
@@ -165,7 +170,7 @@ pub server_shown : {A : Type 0} (old new : Dump A) (id : ℕ) (kind : Kind) (byt
     → (payload : List ℕ) × HasPacket number payload stands.begun (collected old.server) × Stands (packets ++ (number, payload) ∷ []) came new.server)
     → (shown : List Shown) (client server written : List ℕ) → Dumping shown client server written old → IsTurn Server old → IsLooked old
     → (one : Shown) × Dumping (shown ++ one ∷ []) client server written new
-server_shown {A = A} old new id kind bytes fields is large named same shows text next_id_is options other_same limit passes shown client server written dumping is_turn looked =
+server_shown {A = A} old new id kind bytes fields is large named same passed shows text next_id_is options other_same limit passes shown client server written dumping is_turn looked =
     let pass = passes (packets_of Server shown) server id is dumping.servers in
     let payload : List ℕ = pass.0 in
     let has = pass.1 in
@@ -179,7 +184,10 @@ server_shown {A = A} old new id kind bytes fields is large named same shows text
       named = λ within.
           let below : old.server.len ≤ old.server.limit = let len_is = has.len in omega (arith, len_is, limit_is, within) in
           subst (λ (z : List ℕ). IsOrBytes (kind_at (moment_of old.session) Server id z) kind) (has.held below) (named below);
-      has_fields = shows;
+      fields = elim (cases_lt old.server.limit old.server.len) [
+        | inl above ↦ passed above payload
+        | inr within ↦ subst (λ (z : List ℕ). AreFields (field_form old.options) kind z fields) (has.held within) (shows within)
+      ];
     } in
     let here : Pends old.server.next (Some id) = subst (λ (n : Next). Pends n (Some id)) (sym is) refl in
     let turn_is : turn old.session.place (id_behind 0 shown) (id_of old.client.next) (Some id) ≡ Some Server =

@@ -1,1 +1,2 @@
 pub mod DumpLemmas
+pub mod ReadLemmas

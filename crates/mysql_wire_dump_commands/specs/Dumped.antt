@@ -17,7 +17,7 @@ use Rattle.mysql_wire_dump_lines.specs.declared.side.Side.{Side}
 use Rattle.mysql_wire_dump_lines.specs.declared.side.Side.TheVariants.{Client, Server}
 use Rattle.mysql_wire_dump_lines.specs.declared.source.End.{End}
 use Rattle.mysql_wire_dump_lines.specs.declared.source.End.TheVariants.{Encrypted}
-use Rattle.mysql_wire_dump_fields.specs.Packets.{AreFields}
+use Rattle.mysql_wire_dump_commands.specs.Readings.{AreFields}
 use Rattle.mysql_wire_dump_lines.specs.Lines.{packet_line, ending_line}
 use Rattle.mysql_wire_dump_lines.specs.Naming.{IsOrBytes, kind_at}
 use Rattle.mysql_wire_dump_lines.specs.Sources.{EndsAs, ReadWhole, framed}
@@ -43,13 +43,13 @@ field_form options = form_if options.has_fields options.form
 
 -- its length is the payload's; it is named by the session's place, its first byte and its length,
 -- where its type reads it, and so where it is above the limit; and its fields are the text of those
--- of some packet, which is empty where none are asked for
+-- of the packet that the payload is read as, which is empty where none are asked for
 pub record IsShown (options : Options) (shown : Shown) : Type 0 where
   pub len : shown.seen.len ≡ length shown.payload
   pub large : options.limit < length shown.payload → shown.seen.kind ≡ TooLarge
   pub named : length shown.payload ≤ options.limit
       → IsOrBytes (kind_at shown.at shown.seen.side shown.seen.id shown.payload) shown.seen.kind
-  pub has_fields : AreFields (field_form options) shown.fields
+  pub fields : AreFields (field_form options) shown.seen.kind shown.payload shown.fields
 
 abbrev pub is_of : Side → Side → Bool
 is_of Client Client = true

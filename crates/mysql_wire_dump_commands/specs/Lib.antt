@@ -1,3 +1,4 @@
 pub mod Moments
+pub mod Readings
 pub mod Dumped
 pub mod Dumping

@@ -3,9 +3,9 @@
 ghost use Rattle.std.specs.Prelude.{◌≡◌, ◌≢◌, ◌<◌, ◌≤◌, ◌⊎◌, ◌++◌, ◌∷◌, ℕ, List, [], length, IfOk, IfSome, OnOk, string_bytes, false};
 ghost use Rattle.std.specs.Io.KnownBytes.{Appends};
 ghost use Rattle.mysql_wire_dump_commands.specs.Dumped.{DumpEnds, Dumps, ending_lines, field_form, status_of};
-ghost use Rattle.mysql_wire_dump_fields.specs.Packets.{AreFields};
 ghost use Rattle.mysql_wire_dump_commands.specs.Dumping.{Goes, StartsDump};
 ghost use Rattle.mysql_wire_dump_commands.specs.Moments.{moment_of};
+ghost use Rattle.mysql_wire_dump_commands.specs.Readings.{AreFields};
 ghost use Rattle.mysql_wire_dump_lines.specs.Naming.{IsOrBytes, kind_at};
 ghost use Rattle.mysql_wire_dump_lines.specs.Status.{end_status};
 ghost use Rattle.mysql_wire_dump_lines.specs.declared.kind.Kind.TheVariants.{TooLarge};
@@ -69,7 +69,7 @@ fn field_form(options: Options) -> FieldForm
 }
 
 // What a source's next packet is: its fields are put, and the session goes on behind it.
-#[tactic(auto, using(mysql_wire_dump_fields::proofs::PacketLemmas::shows_none, mysql_wire_dump_fields::proofs::PacketLemmas::shows_some))]
+#[tactic(auto, using(crate::proofs::ReadLemmas::shows_none, crate::proofs::ReadLemmas::shows_read))]
 fn name_packet<A: Allocator + Copy>(
     global: Global,
     side: Side,
@@ -82,7 +82,10 @@ fn name_packet<A: Allocator + Copy>(
     ensures large { IfOk result (λ kind. source.now.limit < source.now.len → kind ≡ TooLarge) }
     ensures named { IfOk result (λ kind. source.now.len ≤ source.now.limit
         → IsOrBytes (kind_at (moment_of session.old) side id source.now.held.items) kind) }
-    ensures shows { OnOk result (AreFields form fields.new.text) }
+    ensures passed { IfOk result (λ kind. source.now.limit < source.now.len
+        → (payload : List ℕ) → AreFields form kind payload fields.new.text) }
+    ensures shows { IfOk result (λ kind. source.now.len ≤ source.now.limit
+        → AreFields form kind source.now.held.items fields.new.text) }
 {
     fields.begin(form);
     let Some(payload) = source.payload() else {

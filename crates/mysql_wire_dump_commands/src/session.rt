@@ -1,20 +1,26 @@
 //! A session, packet by packet: what each is at its place, and the place behind it.
-#![tactic(auto, using(mysql_wire_dump_fields::proofs::PacketLemmas::puts_nothing))]
+#![tactic(auto, using(crate::proofs::ReadLemmas::puts_none))]
 
 mod answers;
 mod commands;
-mod connection;
+mod follow;
+mod named;
 mod rows;
 
-ghost use Rattle.std.specs.Prelude.{◌≡◌, IfOk, OnOk};
-ghost use Rattle.mysql_wire_dump_fields.specs.Packets.{PutsSome};
+ghost use Rattle.std.specs.Prelude.{◌≡◌, IfOk};
 ghost use Rattle.mysql_wire_dump_lines.specs.Naming.{IsOrBytes, kind_at};
-ghost use Rattle.mysql_wire_dump_commands.specs.Moments.{moment_of};
+ghost use Rattle.mysql_wire_dump_lines.specs.declared.kind.Kind.TheVariants.{Bytes, Error};
 ghost use Rattle.mysql_wire_dump_lines.specs.declared.place.Place.TheVariants.{Greeting};
-ghost use Rattle.mysql_wire_dump_lines.specs.declared.kind.Kind.{Kind};
+ghost use Rattle.mysql_wire_dump_lines.specs.declared.refusal.Refusal.{Refusal};
+ghost use Rattle.mysql_wire_dump_commands.specs.Moments.{moment_of};
+ghost use Rattle.mysql_wire_dump_commands.specs.Readings.{PutsRead};
 
 use crate::statements::Statements;
+use follow::Follow;
 use mysql_wire_connection::auth_switch_response::AuthSwitchResponse;
+use mysql_wire_connection::handshake::HandshakeV10;
+use mysql_wire_connection::handshake_response::HandshakeResponse41;
+use mysql_wire_connection::ssl_request::SslRequest;
 use mysql_wire_dump_fields::fields::Fields;
 use mysql_wire_dump_fields::show::Show;
 use mysql_wire_dump_lines::kind::Kind;
@@ -26,12 +32,9 @@ use mysql_wire_dump_lines::status::Stop;
 use mysql_wire_packets::err_packet::ErrPacket;
 use mysql_wire_packets::places::{PayloadError, read_whole};
 use mysql_wire_packets::progress_report::ProgressReport;
+use named::Named;
 use std::alloc::{Allocator, Global};
-use wire_buf::proto::MyDeserialize;
 use wire_const::{CapabilityFlags, Flags, MariadbCapabilities};
-
-// How many columns' types are kept, at most: as many as a table may have.
-const MOST_COLUMNS: usize = 4096;
 
 /// What both sides have said so far.
 #[derive(Drop)]
@@ -48,54 +51,12 @@ pub struct Session<A: Allocator + Copy = Global> {
 
 // The kind of a payload that its type refuses.
 fn refused(error: PayloadError) -> Result<Kind, Stop>
-    ensures { (kind : Kind) → IfOk result (λ named. IsOrBytes kind named) }
+    ensures { IfOk result (λ named. (refusal : Refusal) × (named ≡ Bytes refusal)) }
 {
     match Refusal::of(error) {
         Ok(refusal) => Ok(Kind::Bytes(refusal)),
         Err(stop) => Err(stop),
     }
-}
-
-// The kind of a packet, whose fields are put.
-fn show_as<A: Allocator + Copy, T: Show + Drop>(
-    kind: Kind,
-    packet: T,
-    fields: &mut Fields<A>,
-) -> Result<Kind, Stop>
-    ensures named { IfOk result (λ named. IsOrBytes kind named) }
-    ensures puts { OnOk result (PutsSome fields.old fields.new) }
-{
-    packet.show(fields)?;
-    Ok(kind)
-}
-
-// The same, where it was read, or is refused.
-fn show_read<A: Allocator + Copy, T: Show + Drop>(
-    kind: Kind,
-    packet: Result<T, PayloadError>,
-    fields: &mut Fields<A>,
-) -> Result<Kind, Stop>
-    ensures named { IfOk result (λ named. IsOrBytes kind named) }
-    ensures puts { OnOk result (PutsSome fields.old fields.new) }
-{
-    match packet {
-        Ok(packet) => show_as(kind, packet, fields),
-        Err(error) => refused(error),
-    }
-}
-
-// Reads a payload that is one packet of this type, and puts its fields.
-fn read_as<'a, T: MyDeserialize<'a, Global> + Show + Drop, A: Allocator + Copy>(
-    global: Global,
-    kind: Kind,
-    ctx: T::Ctx,
-    payload: &'a [u8],
-    fields: &mut Fields<A>,
-) -> Result<Kind, Stop>
-    ensures named { IfOk result (λ named. IsOrBytes kind named) }
-    ensures puts { OnOk result (PutsSome fields.old fields.new) }
-{
-    show_read(kind, read_whole::<T>(global, ctx, payload), fields)
 }
 
 impl<A: Allocator + Copy> Session<A> {
@@ -146,11 +107,11 @@ impl<A: Allocator + Copy> Session<A> {
     ) -> Result<Kind, Stop>
         ensures named { IfOk result (λ named.
             IsOrBytes (kind_at (moment_of self.old) side id payload.now) named) }
-        ensures puts { OnOk result (PutsSome fields.old fields.new) }
+        ensures puts { IfOk result (λ named. PutsRead named payload.now fields.old fields.new) }
     {
         let kind = kind_at(self.moment(), side, id, payload);
         match side {
-            Side::Client => self.read_client(global, kind, id, payload, fields),
+            Side::Client => self.read_client(global, kind, payload, fields),
             Side::Server => self.read_server(global, kind, payload, fields),
         }
     }
@@ -167,36 +128,63 @@ impl<A: Allocator + Copy> Session<A> {
         }
     }
 
+    // Reads a payload that is one packet of this type, follows it, and puts its fields.
+    fn read<'a, T: Named<'a> + Follow>(
+        &mut self,
+        global: Global,
+        kind: Kind,
+        ctx: T::Ctx,
+        payload: &'a [u8],
+        fields: &mut Fields<A>,
+    ) -> Result<Kind, Stop>
+        requires { kind ≡ T.kind }
+        ensures named { IfOk result (λ named. IsOrBytes kind named) }
+        ensures puts { IfOk result (λ named. PutsRead named payload.entry.now fields.old
+            fields.new) }
+    {
+        let packet = match read_whole::<T>(global, ctx, payload) {
+            Ok(packet) => packet,
+            Err(error) => return refused(error),
+        };
+        packet.follow(self)?;
+        packet.show(fields)?;
+        Ok(kind)
+    }
+
     // Reads a client's packet of this kind.
     fn read_client(
         &mut self,
         global: Global,
         kind: Kind,
-        id: u8,
         payload: &[u8],
         fields: &mut Fields<A>,
     ) -> Result<Kind, Stop>
         ensures named { IfOk result (λ named. IsOrBytes kind named) }
-        ensures puts { OnOk result (PutsSome fields.old fields.new) }
+        ensures puts { IfOk result (λ named. PutsRead named payload.now fields.old fields.new) }
     {
-        if id == 0 {
-            return self.read_command(global, kind, payload, fields);
-        }
         match kind {
-            Kind::TlsRequest | Kind::Login => self.read_login(global, kind, payload, fields),
-            Kind::AuthAnswer => {
-                read_as::<AuthSwitchResponse<'_>, A>(global, kind, (), payload, fields)
+            Kind::TlsRequest => {
+                self.place = Place::Authentication;
+                self.read::<SslRequest>(global, kind, (), payload, fields)
             }
-            _ => {
+            Kind::Login => {
+                self.place = Place::Authentication;
+                self.read::<HandshakeResponse41<'_>>(global, kind, (), payload, fields)
+            }
+            Kind::AuthAnswer => {
+                self.read::<AuthSwitchResponse<'_>>(global, kind, (), payload, fields)
+            }
+            Kind::File => {
                 if payload.is_empty() {
                     self.place = Place::Answer;
                 }
                 Ok(kind)
             }
+            _ => self.read_command(global, kind, payload, fields),
         }
     }
 
-    // Reads a server's packet of this kind, at its place.
+    // Reads a server's packet of this kind.
     fn read_server(
         &mut self,
         global: Global,
@@ -205,30 +193,38 @@ impl<A: Allocator + Copy> Session<A> {
         fields: &mut Fields<A>,
     ) -> Result<Kind, Stop>
         ensures named { IfOk result (λ named. IsOrBytes kind named) }
-        ensures puts { OnOk result (PutsSome fields.old fields.new) }
+        ensures puts { IfOk result (λ named. PutsRead named payload.now fields.old fields.new) }
     {
-        match (kind, self.place) {
-            (Kind::Bytes(_), _) => Ok(kind),
-            (Kind::Error, Place::Greeting) => self.read_greeting(global, kind, payload, fields),
-            (Kind::Error, _) => {
-                self.place = Place::Command;
-                read_as::<ErrPacket<'_>, A>(global, kind, self.capabilities, payload, fields)
+        match kind {
+            Kind::Greeting => {
+                self.place = Place::Login;
+                self.read::<HandshakeV10<'_>>(global, kind, (), payload, fields)
             }
-            (Kind::Progress, _) => {
-                read_as::<ProgressReport<'_>, A>(global, kind, (), payload, fields)
-            }
-            (Kind::Greeting, _) => self.read_greeting(global, kind, payload, fields),
-            (_, Place::Login | Place::Authentication) => {
-                self.read_outcome(global, kind, payload, fields)
-            }
-            (Kind::Eof, Place::ColumnsEnd(behind)) => {
-                self.read_columns_end(global, kind, behind, payload, fields)
-            }
-            (Kind::Eof, _) => self.read_end(global, kind, payload, fields),
-            (Kind::Column | Kind::Row | Kind::BinaryRow, _) => {
-                self.read_table(global, kind, payload, fields)
-            }
-            _ => self.read_first(global, kind, payload, fields),
+            Kind::Error => self.read_error(global, payload, fields),
+            Kind::Progress => self.read::<ProgressReport<'_>>(global, kind, (), payload, fields),
+            Kind::Eof => self.read_eof(global, payload, fields),
+            _ => self.read_answer(global, kind, payload, fields),
         }
+    }
+
+    // Where a server begins with an error, no capabilities are in force, and it says no more.
+    fn read_error(
+        &mut self,
+        global: Global,
+        payload: &[u8],
+        fields: &mut Fields<A>,
+    ) -> Result<Kind, Stop>
+        ensures named { IfOk result (λ named. IsOrBytes Error named) }
+        ensures puts { IfOk result (λ named. PutsRead named payload.now fields.old fields.new) }
+    {
+        let mut capabilities = self.capabilities;
+        self.place = match self.place {
+            Place::Greeting => {
+                capabilities = CapabilityFlags::empty();
+                Place::Closed
+            }
+            _ => Place::Command,
+        };
+        self.read::<ErrPacket<'_>>(global, Kind::Error, capabilities, payload, fields)
     }
 }

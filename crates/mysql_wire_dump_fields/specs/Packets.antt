@@ -1,5 +1,5 @@
 -- The fields of each packet.
-use Rattle.std.specs.Prelude.{◌≡◌, ℕ, List, [], ◌∷◌, codes}
+use Rattle.std.specs.Prelude.{◌≡◌, ℕ, List, [], ◌∷◌, codes, Option}
 use Rattle.mysql_wire_connection.specs.declared.auth_more_data.AuthMoreData.{AuthMoreData}
 use Rattle.mysql_wire_connection.specs.declared.auth_switch.AuthSwitchRequest.{AuthSwitchRequest}
 use Rattle.mysql_wire_connection.specs.declared.auth_switch_response.AuthSwitchResponse.{AuthSwitchResponse}
@@ -22,9 +22,9 @@ use Rattle.mysql_wire_statements.specs.declared.com_stmt_send_long_data.ComStmtS
 use Rattle.mysql_wire_dump_fields.specs.AnswerFields.{column_count_fields, column_fields, eof_fields, error_fields, local_infile_fields, ok_fields, prepared_fields, progress_fields}
 use Rattle.mysql_wire_dump_fields.specs.CommandFields.{execute_fields, fetch_fields, long_data_fields, number_fields, plain_fields}
 use Rattle.mysql_wire_dump_fields.specs.ConnectionFields.{auth_answer_fields, auth_more_data_fields, auth_switch_fields, greeting_fields, login_fields, tls_request_fields}
-use Rattle.mysql_wire_dump_fields.specs.Fields.{Member, Octets, Puts, Words, Written, fields_text}
-use Rattle.mysql_wire_dump_fields.specs.declared.fields.FieldForm.{FieldForm}
-use Rattle.mysql_wire_dump_fields.specs.ValueFields.{AreTexts, AreRowFields}
+use Rattle.mysql_wire_dump_fields.specs.Fields.{Member, Octets, Puts, Words, Written}
+use Rattle.mysql_wire_dump_fields.specs.ValueFields.{AreTexts, AreRowFields, EndsRow, row_bytes_fields}
+use Rattle.mysql_wire_dump_lines.specs.declared.refusal.Refusal.{Refusal}
 
 -- what a payload is, as far as it was read
 pub data Packet : Type 0 where
@@ -49,9 +49,11 @@ pub data Packet : Type 0 where
   LongData : ComStmtSendLongData → Packet
   Fetch : ComStmtFetch → Packet
   Statistics : List ℕ → Packet
-  -- a row of texts, and one of columns of these types
-  Texts : List ℕ → Packet
-  Row : ℕ → List ℕ → BinaryRow → Packet
+  -- a row of so many texts, and one of so many columns, of these types; or why it is none
+  Texts : ℕ → Option Refusal → List ℕ → Packet
+  Row : ℕ → List ℕ → BinaryRow → Option Refusal → Packet
+  -- a row, not further than its columns
+  RowParts : BinaryRow → Packet
   -- payloads that are not read further: of another command, of a column with its default, of a row
   -- in an unknown form, of a binary log
   OtherCommand : List ℕ → Packet
@@ -83,8 +85,10 @@ HasFields (Execute packet) members = members ≡ execute_fields packet
 HasFields (LongData packet) members = members ≡ long_data_fields packet
 HasFields (Fetch packet) members = members ≡ fetch_fields packet
 HasFields (Statistics text) members = members ≡ (codes "statistics", Words text) ∷ []
-HasFields (Texts payload) members = (rest : List ℕ) × AreTexts 0 payload members rest
-HasFields (Row columns types row) members = AreRowFields columns types row members
+HasFields (Texts columns refusal payload) members =
+    (rest : List ℕ) × AreTexts 0 payload members rest × EndsRow columns refusal members rest
+HasFields (Row columns types row refusal) members = AreRowFields columns types row refusal members
+HasFields (RowParts row) members = members ≡ row_bytes_fields row
 HasFields (OtherCommand payload) members = members ≡ (codes "payload", Octets payload) ∷ []
 HasFields (ColumnBytes payload) members = members ≡ (codes "column", Octets payload) ∷ []
 HasFields (RowBytes payload) members = members ≡ (codes "values", Octets payload) ∷ []
@@ -96,15 +100,3 @@ pub record PutsFields (packet : Packet) (old new : Written) : Type 0 where
   pub members : List Member
   pub has : HasFields packet members
   pub puts : Puts members old new
-
--- those of some packet were
-pub record PutsSome (old new : Written) : Type 0 where
-  pub packet : Packet
-  pub puts : PutsFields packet old new
-
--- the text of the fields of some packet
-pub record AreFields (form : FieldForm) (text : List ℕ) : Type 0 where
-  pub packet : Packet
-  pub members : List Member
-  pub has : HasFields packet members
-  pub is : text ≡ fields_text form members

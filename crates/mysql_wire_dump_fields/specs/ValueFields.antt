@@ -160,10 +160,9 @@ PutsRow columns types row refusal old new =
     ((length types ≡ columns) × PutsValues types row refusal old new)
     ⊎ ((length types ≢ columns) × ((refusal ≡ None) × Puts (row_bytes_fields row) old new))
 
--- the fields of a row: its values, as far as it was read, or its bytes
-abbrev pub AreRowFields : ℕ → List ℕ → BinaryRow → List Member → Type 0
-AreRowFields columns types row members =
-    ((length types ≡ columns) × ((refusal : Option Refusal) × ((values : List Member)
-    × ((rest : List ℕ) × (AreRowValues row types refusal values rest
-    × (members ≡ values ++ rest_if refusal rest))))))
-    ⊎ ((length types ≢ columns) × (members ≡ row_bytes_fields row))
+-- the fields of a row: its values, or those before the one that is refused; or its bytes
+abbrev pub AreRowFields : ℕ → List ℕ → BinaryRow → Option Refusal → List Member → Type 0
+AreRowFields columns types row refusal members =
+    ((length types ≡ columns) × ((values : List Member) × ((rest : List ℕ)
+    × (AreRowValues row types refusal values rest × (members ≡ values ++ rest_if refusal rest)))))
+    ⊎ ((length types ≢ columns) × ((refusal ≡ None) × (members ≡ row_bytes_fields row)))

@@ -3,4 +3,5 @@
 
 pub mod fields;
 mod moments;
+pub mod payload;
 pub mod show;

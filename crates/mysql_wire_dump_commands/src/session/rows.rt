@@ -1,15 +1,17 @@
 //! Definitions of columns, and rows.
-#![tactic(auto, using(mysql_wire_dump_fields::proofs::PacketLemmas::puts_nothing))]
+#![tactic(auto, using(crate::proofs::ReadLemmas::puts_none))]
 
-ghost use Rattle.std.specs.Prelude.{IfOk, OnOk};
-ghost use Rattle.mysql_wire_dump_fields.specs.Packets.{PutsSome};
+ghost use Rattle.std.specs.Prelude.{IfOk};
 ghost use Rattle.mysql_wire_dump_lines.specs.Naming.{IsOrBytes};
+ghost use Rattle.mysql_wire_dump_lines.specs.declared.kind.Kind.TheVariants as kind;
+ghost use Rattle.mysql_wire_dump_commands.specs.Readings.{PutsRead};
 
-use super::{MOST_COLUMNS, Session, refused, show_as, show_read};
+use super::{Session, refused};
 use mysql_wire_dump_fields::fields::Fields;
 use mysql_wire_dump_fields::show;
 use mysql_wire_dump_lines::kind::Kind;
 use mysql_wire_dump_lines::place::{Behind, Place, RowForm};
+use mysql_wire_dump_lines::refusal::Refusal;
 use mysql_wire_dump_lines::status::Stop;
 use mysql_wire_packets::eof_packet::EofPacket;
 use mysql_wire_packets::ok_packet::{InfoForm, RowsEnd};
@@ -17,7 +19,10 @@ use mysql_wire_packets::places::read_whole;
 use mysql_wire_queries::column_definition::ColumnDefinition41;
 use mysql_wire_statements::binary_row::BinaryRow;
 use std::alloc::{Allocator, Global};
-use wire_const::{CapabilityFlags, Flags, StatusFlags};
+use wire_const::{CapabilityFlags, Flags};
+
+// How many columns' types are kept, at most: as many as a table may have.
+const MOST_COLUMNS: usize = 4096;
 
 impl<A: Allocator + Copy> Session<A> {
     // What is waited for where no definition is left.
@@ -30,11 +35,23 @@ impl<A: Allocator + Copy> Session<A> {
     }
 
     // What is waited for behind the end of the definitions.
-    fn behind_definitions(&self, behind: Behind) -> Place {
+    pub(super) fn behind_definitions(&self, behind: Behind) -> Place {
         match behind {
             Behind::Rows => Place::Rows,
             Behind::StatementColumns(count) => self.statement_columns(count),
             Behind::Command => Place::Command,
+        }
+    }
+
+    // The definitions of a statement's columns follow, where it has some.
+    pub(super) fn statement_columns(&self, count: u16) -> Place {
+        if count > 0 {
+            Place::Columns {
+                left: count as u64,
+                behind: Behind::Command,
+            }
+        } else {
+            Place::Command
         }
     }
 
@@ -50,7 +67,7 @@ impl<A: Allocator + Copy> Session<A> {
     }
 
     // Keeps the type of one more column.
-    fn note_type(&mut self, number: u8) -> Result<(), Stop> {
+    pub(super) fn note_type(&mut self, number: u8) -> Result<(), Stop> {
         if self.types.len() < MOST_COLUMNS {
             self.types.push(number)?;
         }
@@ -77,146 +94,92 @@ impl<A: Allocator + Copy> Session<A> {
         fields: &mut Fields<A>,
     ) -> Result<Kind, Stop>
         ensures named { IfOk result (λ named. IsOrBytes kind named) }
-        ensures puts { OnOk result (PutsSome fields.old fields.new) }
+        ensures puts { IfOk result (λ named. PutsRead named payload.now fields.old fields.new) }
     {
         self.skip_columns_end();
-        match (kind, self.place) {
-            (Kind::Column, Place::Columns { left, behind }) => {
-                self.pass_column(left, behind);
-                self.read_column(global, kind, payload, fields)
-            }
-            (Kind::Row, _) => self.read_row(global, kind, payload, fields),
-            (Kind::BinaryRow, _) => self.read_binary_row(global, kind, payload, fields),
-            _ => {
-                // One of the columns of a table, with its default behind it.
-                show::column_bytes(fields, payload)?;
-                Ok(kind)
-            }
+        match kind {
+            Kind::Column => self.read_column(global, payload, fields),
+            Kind::Row => self.read_row(global, payload, fields),
+            Kind::BinaryRow => self.read_binary_row(global, payload, fields),
+            // (a table has no other)
+            _ => Ok(Kind::Bytes(Refusal::OtherHeader)),
         }
     }
 
+    // A definition of a column; where none is waited for it is one of the columns of a table, with
+    // its default behind it.
     fn read_column(
         &mut self,
         global: Global,
-        kind: Kind,
         payload: &[u8],
         fields: &mut Fields<A>,
     ) -> Result<Kind, Stop>
-        ensures named { IfOk result (λ named. IsOrBytes kind named) }
-        ensures puts { OnOk result (PutsSome fields.old fields.new) }
+        ensures named { IfOk result (λ named. IsOrBytes kind.Column named) }
+        ensures puts { IfOk result (λ named. PutsRead named payload.now fields.old fields.new) }
     {
-        match read_whole::<ColumnDefinition41<'_>>(global, self.mariadb, payload) {
-            Ok(packet) => match self.note_type(packet.column_type.0) {
-                Ok(()) => show_as(kind, packet, fields),
-                Err(stop) => Err(stop),
-            },
-            Err(error) => refused(error),
+        if let Place::Columns { left, behind } = self.place {
+            self.pass_column(left, behind);
+            let ctx = self.mariadb;
+            return self.read::<ColumnDefinition41<'_>>(global, Kind::Column, ctx, payload, fields);
         }
+        show::column_bytes(fields, payload)?;
+        Ok(Kind::Column)
     }
 
-    // The EOF that ends definitions. Behind it are no rows where a cursor has them.
-    pub(super) fn read_columns_end(
+    // The end of definitions, of rows, or of what else an EOF ends. An OK may stand in its place.
+    pub(super) fn read_eof(
         &mut self,
         global: Global,
-        kind: Kind,
-        behind: Behind,
         payload: &[u8],
         fields: &mut Fields<A>,
     ) -> Result<Kind, Stop>
-        ensures named { IfOk result (λ named. IsOrBytes kind named) }
-        ensures puts { OnOk result (PutsSome fields.old fields.new) }
+        ensures named { IfOk result (λ named. IsOrBytes kind.Eof named) }
+        ensures puts { IfOk result (λ named. PutsRead named payload.now fields.old fields.new) }
     {
-        self.place = self.behind_definitions(behind);
-        match read_whole::<EofPacket>(global, (), payload) {
-            Ok(packet) => {
-                let status = packet.status_flags.get();
-                if behind == Behind::Rows
-                    && status.contains(StatusFlags::SERVER_STATUS_CURSOR_EXISTS)
-                {
-                    self.place = Place::Command;
-                }
-                show_as(kind, packet, fields)
+        let is_ok = match self.place {
+            Place::ColumnsEnd(_) => false,
+            _ => {
+                self.place = Place::Command;
+                self.is_eof_deprecated && payload.len() != 5
             }
-            Err(error) => refused(error),
+        };
+        if is_ok {
+            let form = InfoForm::of(self.capabilities);
+            self.read::<RowsEnd<'_>>(global, Kind::Eof, form, payload, fields)
+        } else {
+            self.read::<EofPacket>(global, Kind::Eof, (), payload, fields)
         }
-    }
-
-    // The end of rows, or of what else an EOF ends.
-    pub(super) fn read_end(
-        &mut self,
-        global: Global,
-        kind: Kind,
-        payload: &[u8],
-        fields: &mut Fields<A>,
-    ) -> Result<Kind, Stop>
-        ensures named { IfOk result (λ named. IsOrBytes kind named) }
-        ensures puts { OnOk result (PutsSome fields.old fields.new) }
-    {
-        self.place = Place::Command;
-        if self.is_eof_deprecated && payload.len() != 5 {
-            return self.read_rows_end(global, kind, payload, fields);
-        }
-        match read_whole::<EofPacket>(global, (), payload) {
-            Ok(packet) => {
-                self.end_answer(packet.status_flags);
-                show_as(kind, packet, fields)
-            }
-            Err(error) => refused(error),
-        }
-    }
-
-    // The OK in place of an EOF.
-    fn read_rows_end(
-        &mut self,
-        global: Global,
-        kind: Kind,
-        payload: &[u8],
-        fields: &mut Fields<A>,
-    ) -> Result<Kind, Stop>
-        ensures named { IfOk result (λ named. IsOrBytes kind named) }
-        ensures puts { OnOk result (PutsSome fields.old fields.new) }
-    {
-        let form = InfoForm::of(self.capabilities);
-        let end = read_whole::<RowsEnd<'_>>(global, form, payload);
-        if let Ok(packet) = &end {
-            self.end_answer(packet.status_flags);
-        }
-        show_read(kind, end, fields)
     }
 
     // A row of texts. One of a command that was not seen is not read.
     fn read_row(
         &mut self,
         global: Global,
-        kind: Kind,
         payload: &[u8],
         fields: &mut Fields<A>,
     ) -> Result<Kind, Stop>
-        ensures named { IfOk result (λ named. IsOrBytes kind named) }
-        ensures puts { OnOk result (PutsSome fields.old fields.new) }
+        ensures named { IfOk result (λ named. IsOrBytes kind.Row named) }
+        ensures puts { IfOk result (λ named. PutsRead named payload.now fields.old fields.new) }
     {
-        match self.row_form {
-            RowForm::Text => match show::text_row(global, fields, self.columns, payload) {
-                Ok(None) => Ok(kind),
-                Ok(Some(refusal)) => Ok(Kind::Bytes(refusal)),
-                Err(stop) => Err(stop),
-            },
-            RowForm::Binary | RowForm::Unknown => {
-                show::row_bytes(fields, payload)?;
-                Ok(kind)
-            }
+        if self.row_form != RowForm::Text {
+            show::row_bytes(fields, payload)?;
+            return Ok(Kind::Row);
+        }
+        match show::text_row(global, fields, self.columns, payload) {
+            Ok(None) => Ok(Kind::Row),
+            Ok(Some(refusal)) => Ok(Kind::Bytes(refusal)),
+            Err(stop) => Err(stop),
         }
     }
 
     fn read_binary_row(
         &mut self,
         global: Global,
-        kind: Kind,
         payload: &[u8],
         fields: &mut Fields<A>,
     ) -> Result<Kind, Stop>
-        ensures named { IfOk result (λ named. IsOrBytes kind named) }
-        ensures puts { OnOk result (PutsSome fields.old fields.new) }
+        ensures named { IfOk result (λ named. IsOrBytes kind.BinaryRow named) }
+        ensures puts { IfOk result (λ named. PutsRead named payload.now fields.old fields.new) }
     {
         let row = match read_whole::<BinaryRow<'_>>(global, self.columns as usize, payload) {
             Ok(row) => row,
@@ -224,7 +187,7 @@ impl<A: Allocator + Copy> Session<A> {
         };
         let types = self.types.as_slice();
         match show::binary_row(global, fields, self.columns, types, &row) {
-            Ok(None) => Ok(kind),
+            Ok(None) => Ok(Kind::BinaryRow),
             Ok(Some(refusal)) => Ok(Kind::Bytes(refusal)),
             Err(stop) => Err(stop),
         }

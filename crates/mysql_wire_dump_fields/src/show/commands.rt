@@ -1,7 +1,8 @@
 //! Commands.
 
 ghost use Rattle.std.specs.Prelude.{◌≡◌, ◌∷◌, [], OnOk};
-ghost use Rattle.mysql_wire_dump_fields.specs.CommandFields.{attributes_and_query, params_fields, plain_fields};
+ghost use Rattle.mysql_wire_queries.specs.declared.client_command.ClientCommand.TheVariants.{AttributedQuery, ChangeUser, InitDb, Ping, Query, Quit};
+ghost use Rattle.mysql_wire_dump_fields.specs.CommandFields.{attributes_and_query, params_fields};
 ghost use Rattle.mysql_wire_dump_fields.specs.FieldTables.{members_in, row_if};
 ghost use Rattle.mysql_wire_dump_fields.specs.Fields.{Number, Octets, Puts};
 ghost use Rattle.mysql_wire_dump_fields.specs.Packets.{Command, Execute, Fetch, LongData, OfStatement, Prepare, PutsFields};
@@ -9,8 +10,12 @@ ghost use Rattle.mysql_wire_dump_fields.specs.Packets.{Command, Execute, Fetch, 
 use super::{Show, bytes_if, words_if};
 use crate::fields::Field::{Bytes, Flags, Number, Text};
 use crate::fields::{Field, FieldValue, Fields};
-use mysql_wire_queries::client_command::ClientCommand;
+use mysql_wire_queries::com_change_user::ComChangeUser;
+use mysql_wire_queries::com_init_db::ComInitDb;
+use mysql_wire_queries::com_ping::ComPing;
+use mysql_wire_queries::com_query::ComQuery;
 use mysql_wire_queries::com_query_attributes::ComQueryWithAttributes;
+use mysql_wire_queries::com_quit::ComQuit;
 use mysql_wire_statements::com_stmt_close::ComStmtClose;
 use mysql_wire_statements::com_stmt_execute::ComStmtExecute;
 use mysql_wire_statements::com_stmt_fetch::ComStmtFetch;
@@ -43,46 +48,66 @@ fn character_set<'a>(name: &'a str, number: &Option<RawInt<LeU16>>) -> Field<'a>
     }
 }
 
-fn put_plain<A: Allocator + Copy>(
-    fields: &mut Fields<A>,
-    command: &ClientCommand<'_>,
-) -> Result<(), AllocError>
-    ensures { OnOk result (Puts (plain_fields command.now) fields.old fields.new) }
-{
-    match command {
-        ClientCommand::InitDb(packet) => {
-            fields.put("schema", FieldValue::Text(packet.schema.0.as_slice()))
-        }
-        ClientCommand::Query(packet) => fields.put(
-            "query",
-            FieldValue::Text(packet.query.0.as_slice()),
-        ),
-        ClientCommand::AttributedQuery(packet) => fields.put_all(&[
-            Number("parameter_count", packet.parameter_count),
-            Number("parameter_set_count", packet.parameter_set_count),
-            attributes_and_query(packet),
-        ]),
-        ClientCommand::ChangeUser(packet) => fields.put_all(&[
-            Text("user", packet.user.0.as_slice()),
-            Bytes("auth_plugin_data", packet.auth_plugin_data.0.as_slice()),
-            Text("database", packet.database.0.as_slice()),
-            character_set("character_set", &packet.character_set),
-            words_if("auth_plugin_name", &packet.auth_plugin_name),
-            bytes_if("connect_attrs", &packet.connect_attrs),
-        ]),
-        ClientCommand::Quit(_) | ClientCommand::Ping(_) => Ok(()),
+impl Show for ComQuit {
+    ghost packet = { λ packet. Command (Quit packet) };
+
+    fn show<A: Allocator + Copy>(&self, _fields: &mut Fields<A>) -> Result<(), AllocError> {
+        Ok(())
     }
 }
 
-/// A command without prepared statements.
-impl Show for ClientCommand<'_> {
-    ghost packet = { λ command. Command command };
+impl Show for ComPing {
+    ghost packet = { λ packet. Command (Ping packet) };
+
+    fn show<A: Allocator + Copy>(&self, _fields: &mut Fields<A>) -> Result<(), AllocError> {
+        Ok(())
+    }
+}
+
+impl Show for ComInitDb<'_> {
+    ghost packet = { λ packet. Command (InitDb packet) };
 
     fn show<A: Allocator + Copy>(&self, fields: &mut Fields<A>) -> Result<(), AllocError> {
-        put_plain(fields, self)
+        fields.put("schema", FieldValue::Text(self.schema.0.as_slice()))
     }
 }
 
+impl Show for ComQuery<'_> {
+    ghost packet = { λ packet. Command (Query packet) };
+
+    fn show<A: Allocator + Copy>(&self, fields: &mut Fields<A>) -> Result<(), AllocError> {
+        fields.put("query", FieldValue::Text(self.query.0.as_slice()))
+    }
+}
+
+impl Show for ComQueryWithAttributes<'_> {
+    ghost packet = { λ packet. Command (AttributedQuery packet) };
+
+    fn show<A: Allocator + Copy>(&self, fields: &mut Fields<A>) -> Result<(), AllocError> {
+        fields.put_all(&[
+            Number("parameter_count", self.parameter_count),
+            Number("parameter_set_count", self.parameter_set_count),
+            attributes_and_query(self),
+        ])
+    }
+}
+
+impl Show for ComChangeUser<'_> {
+    ghost packet = { λ packet. Command (ChangeUser packet) };
+
+    fn show<A: Allocator + Copy>(&self, fields: &mut Fields<A>) -> Result<(), AllocError> {
+        fields.put_all(&[
+            Text("user", self.user.0.as_slice()),
+            Bytes("auth_plugin_data", self.auth_plugin_data.0.as_slice()),
+            Text("database", self.database.0.as_slice()),
+            character_set("character_set", &self.character_set),
+            words_if("auth_plugin_name", &self.auth_plugin_name),
+            bytes_if("connect_attrs", &self.connect_attrs),
+        ])
+    }
+}
+
+/// The number of a prepared statement.
 pub fn number_of_statement<A: Allocator + Copy>(
     fields: &mut Fields<A>,
     statement_id: u32,

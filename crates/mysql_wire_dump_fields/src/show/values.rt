@@ -3,9 +3,10 @@
 ghost use Rattle.std.specs.Float.{binary32, binary64};
 ghost use Rattle.std.specs.Prelude.{◌≡◌, ◌++◌, IfOk, OnOk};
 ghost use Rattle.mysql_wire_dump_fields.specs.Fields.{Written};
-ghost use Rattle.mysql_wire_dump_fields.specs.Packets.{PutsFields, Row, Texts};
+ghost use Rattle.mysql_wire_dump_fields.specs.Packets.{PutsFields, Row, RowParts, Texts};
 ghost use Rattle.mysql_wire_dump_fields.specs.ValueFields.{IsTypeOf, PutsColumn, PutsFloat, PutsRow, PutsShown, PutsText, PutsTexts, PutsValues};
 
+use super::Show;
 use crate::fields::{Field, FieldValue, Fields};
 use mysql_wire_dump_lines::refusal::Refusal;
 use mysql_wire_dump_lines::status::Stop;
@@ -75,7 +76,8 @@ pub fn text_row<A: Allocator + Copy>(
 ) -> Result<Option<Refusal>, Stop>
     ensures texts { IfOk result (λ refusal. PutsTexts columns payload.now refusal
         fields.old fields.new) }
-    ensures fields { OnOk result (PutsFields (Texts payload.now) fields.old fields.new) }
+    ensures fields { IfOk result (λ refusal. PutsFields (Texts columns refusal payload.now)
+        fields.old fields.new) }
 {
     let refusal = put_texts(global, fields, columns, payload)?;
     Ok(refusal)
@@ -193,6 +195,17 @@ fn binary_values<A: Allocator + Copy>(
     Ok(None)
 }
 
+impl Show for BinaryRow<'_> {
+    ghost packet = { λ row. RowParts row };
+
+    fn show<A: Allocator + Copy>(&self, fields: &mut Fields<A>) -> Result<(), AllocError> {
+        fields.put_all(&[
+            Field::Bytes("null_bitmap", self.nulls.0),
+            Field::Bytes("values", self.values),
+        ])
+    }
+}
+
 // Puts the values of a row whose columns have these types, where there are as many, and else the
 // row's bytes.
 fn put_row<A: Allocator + Copy>(
@@ -208,10 +221,7 @@ fn put_row<A: Allocator + Copy>(
     if types.len() as u64 == columns {
         return binary_values(global, fields, types, row);
     }
-    fields.put_all(&[
-        Field::Bytes("null_bitmap", row.nulls.0),
-        Field::Bytes("values", row.values),
-    ])?;
+    row.show(fields)?;
     Ok(None)
 }
 
@@ -226,8 +236,8 @@ pub fn binary_row<A: Allocator + Copy>(
 ) -> Result<Option<Refusal>, Stop>
     ensures row { IfOk result (λ refusal. PutsRow columns types.now row.now refusal fields.old
         fields.new) }
-    ensures fields { OnOk result (PutsFields (Row columns types.now row.now) fields.old
-        fields.new) }
+    ensures fields { IfOk result (λ refusal. PutsFields (Row columns types.now row.now refusal)
+        fields.old fields.new) }
 {
     let refusal = put_row(global, fields, columns, types, row)?;
     Ok(refusal)
