@@ -23,7 +23,7 @@ use Rattle.wire_span.proofs.PassingLemmas.{merged_spans}
 use Rattle.wire_packet_io.specs.declared.error.PacketIoError.{PacketIoError}
 use Rattle.wire_packet_io.specs.declared.error.PacketIoError.TheVariants.{Io, UnexpectedEnd, WriteZero, PacketTooLarge, PacketsOutOfSync, OutOfMemory}
 use Rattle.wire_packet_io.specs.PacketIo.{joined_reads, read_size, CountsUp, ReadFails}
-use Rattle.wire_packet_io.specs.Copying.{has_ended, CopiedPacket, CopiesNext, CopyStops, IsSpanRefusal, StepsCopy, StopsHere, WaitsBehind, WaitsHere}
+use Rattle.wire_packet_io.specs.Copying.{has_ended, Copies, CopiedPacket, CopiesNext, CopyStops, IsSpanRefusal, StepsCopy, StopsHere, WaitsBehind, WaitsHere}
 use Rattle.wire_packet_io.proofs.PacketIoLemmas.{reads_more, counted_more, length-push}
 
 -- nothing came, in a span of no bytes
@@ -61,13 +61,15 @@ bytes_step before after src rest buf n count ended held more is within fits some
     let all : take count buf ≡ x = ap (λ (z : List ℕ). take count z) is ∙ take-take count n src (omega (arith, fits, size)) in
     let left : length rest ≡ length src - count = ap (λ (z : List ℕ). length z) rest_is ∙ length-drop count src in
     let less : count ≤ length src = omega (arith, fits, size, within) in (
-      x,
       (
         x,
-        sym (take-append-drop count src) ∙ ap (λ (z : List ℕ). x ++ z) (sym rest_is),
-        subst (λ (i : ℕ). SpansOn before x ((x, ended) ∷ []) (sent after i)) (sym same) (came before.id x long),
+        (
+          x,
+          sym (take-append-drop count src) ∙ ap (λ (z : List ℕ). x ++ z) (sym rest_is),
+          subst (λ (i : ℕ). SpansOn before x ((x, ended) ∷ []) (sent after i)) (sym same) (came before.id x long),
+        ),
+        subst (λ (z : List ℕ). Appends held more z) all took,
       ),
-      subst (λ (z : List ℕ). Appends held more z) all took,
       between,
       λ goes. (let f = fewer goes in omega (arith, f, left, less), omega (arith, left, less, some)),
     )
@@ -85,14 +87,16 @@ pub header_step : (before after : SpanState) (src rest : List ℕ) (len id : ℕ
 header_step before after src rest len id ended held long len_is id_is spelled rest_is small ids came between fewer =
     let front : header len before.id ≡ take 4 src = ap (λ (i : ℕ). header len i) (sym ids.0) ∙ sym (header_is src len id long len_is id_is spelled) in
     let left : length rest ≡ length src - 4 = ap (λ (z : List ℕ). length z) rest_is ∙ length-drop 4 src in (
-      [],
       (
-        take 4 src,
-        sym (take-append-drop 4 src) ∙ ap (λ (z : List ℕ). take 4 src ++ z) (sym rest_is),
-        subst (λ (z : List ℕ). SpansOn before z (([], ended) ∷ []) after) front
-            (subst (λ (i : ℕ). SpansOn before (header len before.id) (([], ended) ∷ []) (sent after i)) (sym ids.1) (came before.id small)),
+        [],
+        (
+          take 4 src,
+          sym (take-append-drop 4 src) ∙ ap (λ (z : List ℕ). take 4 src ++ z) (sym rest_is),
+          subst (λ (z : List ℕ). SpansOn before z (([], ended) ∷ []) after) front
+              (subst (λ (i : ℕ). SpansOn before (header len before.id) (([], ended) ∷ []) (sent after i)) (sym ids.1) (came before.id small)),
+        ),
+        Appends-nil held,
       ),
-      Appends-nil held,
       between,
       λ goes. (let f = fewer goes in omega (arith, f, left, long), omega (arith, left, long)),
     )
@@ -276,14 +280,18 @@ at_end (Err OutOfMemory) state unread left h going e end = absurd cc
 at_end (Err WriteZero) state unread left h going e end = absurd cc
 at_end (Err (Io error)) state unread left h going e end = absurd cc
 
+-- more was written
+pub copies_more : (ends : Bool) (a m z : SpanState) (P Q T : List ℕ) (held some more : Option (List ℕ)) → m.limit ≡ a.limit
+    → Copies false a P held m Q some → Copies ends m Q some z T more → Copies ends a P held z T more
+copies_more ends a m z P Q T held some more same f g =
+    (f.0 ++ g.0, copied_more a m z P Q T f.0 g.0 ends same f.1 g.1, Appends-trans held some more f.0 g.0 f.2 g.2)
+
 -- a step at which nothing went
-pub copy_stays : (a m z : SpanState) (P Q T b : List ℕ) (held some more : Option (List ℕ)) → Appends held some b → EatsSpans a P ((b, false) ∷ []) Q m
-    → z ≡ m → T ≡ Q → Keeps some more → (bytes : List ℕ) × Appends held more bytes × EatsSpans a P ((bytes, false) ∷ []) T z
-copy_stays a m z P Q T b held some more took eats same is kept = (
-  b,
-  Appends-kept held some more b took kept,
-  subst (λ (s : SpanState). EatsSpans a P ((b, false) ∷ []) T s) (sym same) (subst (λ (w : List ℕ). EatsSpans a P ((b, false) ∷ []) w m) (sym is) eats),
-)
+pub copies_kept : (a m z : SpanState) (P Q T : List ℕ) (held some more : Option (List ℕ)) → Copies false a P held m Q some
+    → z ≡ m → T ≡ Q → Keeps some more → Copies false a P held z T more
+copies_kept a m z P Q T held some more f state unread kept =
+    subst (λ (s : SpanState). Copies false a P held s T more) (sym state)
+    (subst (λ (w : List ℕ). Copies false a P held m w more) (sym unread) (f.0, f.1, Appends-kept held some more f.0 f.2 kept))
 
 -- behind a call another one may be made
 pub can_after : (copied : Option SpanDecoder) (lost : Bool) (codec : PacketCodec) (unread held : List ℕ) (lent : Option (List ℕ)) (decoder : SpanDecoder)

@@ -21,8 +21,14 @@ use Rattle.wire_packet_io.specs.Lent.{packet_of, unread_behind}
 use Rattle.wire_packet_io.specs.declared.input.Found.{Found}
 use Rattle.wire_packet_io.specs.declared.input.Found.TheVariants.{InFront, Apart}
 use Rattle.wire_packet_io.specs.PacketIo.{Answer, FitsAt, NextPacket, ReadFails, most_reads}
-use Rattle.wire_packet_io.specs.Skips.{LeavesNext, SkipsNext, skipped_or, IsRefusal}
+use Rattle.wire_packet_io.specs.Skips.{LeavesNext, SkipsFor, skipped_or, IsRefusal}
 use Rattle.wire_packet_io.proofs.PacketIoLemmas.{length-zero, is_standing, SoFar, Waited, ends_by, failed_ends, waited, ended_at, failed_at, to_go}
+
+-- a packet is skipped, by what is left below and how many reads were made
+abbrev pub Skips : CodecState → Option (List ℕ) → Option (List ℕ) → ℕ → ℕ → Result Bool PacketIoError → Skipped → PacketCodec → List ℕ → Type 0
+Skips full unread left old_reads new_reads result skipped codec src =
+    (answer : Answer) × (after : CodecState) × SkipsFor result answer
+    × NextPacket full unread left old_reads new_reads answer after × LeavesNext result skipped codec src after
 
 -- how many bytes of the open chunk were dropped
 abbrev pub gone_len : Option OpenChunk → ℕ
@@ -79,7 +85,7 @@ would_stand_more skipped codec src more all after w is = record {
 -- the packet ended
 pub skip_found : (full mid : CodecState) (unread left : Option (List ℕ)) (old_reads new_reads : ℕ) (skipped : Skipped) (codec : PacketCodec) (src : List ℕ)
     → SoFar full mid unread left old_reads new_reads → SkipsPacket mid (Ok true) skipped codec src
-    → SkipsNext full unread left old_reads new_reads (Ok true) skipped codec src
+    → Skips full unread left old_reads new_reads (Ok true) skipped codec src
 skip_found full mid unread left old_reads new_reads skipped codec src s k =
     let packet : List ℕ = k.0.held in (
       Ok (Some packet),
@@ -93,9 +99,9 @@ skip_found full mid unread left old_reads new_reads skipped codec src s k =
 pub skip_refused : (error : PacketCodecError) (named : PacketIoError) (full mid : CodecState) (unread left : Option (List ℕ)) (old_reads new_reads : ℕ)
     (skipped : Skipped) (codec : PacketCodec) (src : List ℕ)
     → SoFar full mid unread left old_reads new_reads → SkipsPacket mid (Err error) skipped codec src → IsRefusal error named
-    → SkipsNext full unread left old_reads new_reads (Err named) skipped codec src
+    → Skips full unread left old_reads new_reads (Err named) skipped codec src
 skip_refused codec.PacketTooLarge named full mid unread left old_reads new_reads skipped codec src s k is =
-    subst (λ (e : PacketIoError). SkipsNext full unread left old_reads new_reads (Err e) skipped codec src) (sym is) (
+    subst (λ (e : PacketIoError). Skips full unread left old_reads new_reads (Err e) skipped codec src) (sym is) (
       Err PacketTooLarge,
       k.0,
       refl,
@@ -103,7 +109,7 @@ skip_refused codec.PacketTooLarge named full mid unread left old_reads new_reads
       k.2,
     )
 skip_refused codec.PacketsOutOfSync named full mid unread left old_reads new_reads skipped codec src s k is =
-    subst (λ (e : PacketIoError). SkipsNext full unread left old_reads new_reads (Err e) skipped codec src) (sym is) (
+    subst (λ (e : PacketIoError). Skips full unread left old_reads new_reads (Err e) skipped codec src) (sym is) (
       Err PacketsOutOfSync,
       k.0,
       refl,
@@ -133,9 +139,9 @@ leaves_failed WriteZero old_reads new_reads skipped codec src after failed v = a
 pub skip_failed : (error : PacketIoError) (full after : CodecState) (unread left last : Option (List ℕ)) (old_reads new_reads all : ℕ)
     (skipped : Skipped) (codec : PacketCodec) (src now : List ℕ)
     → Waited full after unread left old_reads new_reads → WouldStand skipped codec src after → now ≡ src → Keeps left last → ReadFails error new_reads all
-    → SkipsNext full unread last old_reads all (Err error) skipped codec now
+    → Skips full unread last old_reads all (Err error) skipped codec now
 skip_failed error full after unread left last old_reads new_reads all skipped codec src now w v is kept failed =
-    subst (λ (z : List ℕ). SkipsNext full unread last old_reads all (Err error) skipped codec z) (sym is) (
+    subst (λ (z : List ℕ). Skips full unread last old_reads all (Err error) skipped codec z) (sym is) (
       Err error,
       after,
       refl,
@@ -154,14 +160,14 @@ pub skip_ended : (result : Result Bool PacketIoError) (full after : CodecState) 
     → Consumes left last piece → IsAtEnd last → all ≡ min (new_reads + 1) (2 ^ 64 - 1)
     → IfOk result (λ more. (more ≡ false) × (length now ≡ 0) × (skipped.held ≡ 0) × (skipped.begun ≡ None))
     → IfErr result (λ error. (error ≡ UnexpectedEnd) × ((0 < length now) ⊎ ((0 < skipped.held) ⊎ IsSome skipped.begun)))
-    → SkipsNext full unread last old_reads all result skipped codec now
+    → Skips full unread last old_reads all result skipped codec now
 skip_ended (Ok more) full after unread left last old_reads new_reads all skipped codec src now piece w v is none took at_end count clean inside =
     let stands = would_stand_more skipped codec src piece now after v is in
     let gone = gone_is skipped.begun v.gone after.unread v.gone_is ∙ ap (λ (b : Option OpenChunk). gone_len b) clean.3 in
     let size = ap (λ (z : List ℕ). length z) v.unread_is ∙ length-append v.gone src in
     let whole = ap (λ (z : List ℕ). length z) is ∙ length-append src piece in
     let more_size = length-append after.unread piece in
-    subst (λ (b : Bool). SkipsNext full unread last old_reads all (Ok b) skipped codec now) (sym clean.0) (
+    subst (λ (b : Bool). Skips full unread last old_reads all (Ok b) skipped codec now) (sym clean.0) (
       Ok None,
       record after { unread = after.unread ++ piece },
       refl,
@@ -182,7 +188,7 @@ skip_ended (Err error) full after unread left last old_reads new_reads all skipp
         | inr begun ↦ (let long = begun_long skipped.begun v.gone after.unread begun v.gone_is in omega (arith, long, more_size, size))
       ]
     ] in
-    subst (λ (e : PacketIoError). SkipsNext full unread last old_reads all (Err e) skipped codec now) (sym inside.0) (
+    subst (λ (e : PacketIoError). Skips full unread last old_reads all (Err e) skipped codec now) (sym inside.0) (
       Err UnexpectedEnd,
       record after { unread = after.unread ++ piece },
       refl,
@@ -243,7 +249,7 @@ whole_stands skipped codec src after w held none =
 
 pub left_whole : (result : Result Bool PacketIoError) (lost : Bool) (full : CodecState) (unread left : Option (List ℕ)) (old_reads new_reads : ℕ)
     (skipped : Skipped) (codec : PacketCodec) (src : List ℕ)
-    → SkipsNext full unread left old_reads new_reads result skipped codec src → skipped.held ≡ 0 → skipped.begun ≡ None
+    → Skips full unread left old_reads new_reads result skipped codec src → skipped.held ≡ 0 → skipped.begun ≡ None
     → (result ≡ Err PacketsOutOfSync → IsTrue lost) → FitsAt lost (codec_state codec src [])
 left_whole (Ok true) lost full unread left old_reads new_reads skipped codec src k held none lose =
     let next = subst (λ (a : Answer). NextPacket full unread left old_reads new_reads a k.1) k.2.1 k.3 in

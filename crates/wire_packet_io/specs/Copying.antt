@@ -1,5 +1,5 @@
 -- A packet whose bytes are written as they come.
-use Rattle.std.specs.Prelude.{◌≡◌, ℕ, ◌+◌, ◌<◌, ◌≤◌, ◌⊎◌, List, [], ◌∷◌, ◌++◌, length, take, All, Option, Some, None, MatchOption, IsNone, Result, Ok, Err, Bool, true, false, IsTrue, IsFalse, ⊤}
+use Rattle.std.specs.Prelude.{◌≡◌, ℕ, ◌+◌, ◌<◌, ◌≤◌, ◌⊎◌, List, [], ◌∷◌, ◌++◌, length, take, All, Option, Some, None, MatchOption, IsNone, IsSome, Result, Ok, Err, Bool, true, false, IsTrue, IsFalse, ⊤}
 use Rattle.std.specs.Io.KnownBytes.{Consumes, Appends, Keeps, IsAtEnd}
 use Rattle.wire_codec.specs.declared.codec.packet.PacketCodec.{PacketCodec}
 use Rattle.wire_codec.specs.Codec.{expected_id, Stands}
@@ -29,6 +29,10 @@ abbrev pub copied_to : Option SpanDecoder → PacketCodec → SpanState
 copied_to None codec = in_front codec
 copied_to (Some decoder) codec =
     record (span_state decoder) { limit = codec.max_allowed_packet }
+
+-- a call can go on: the reader isn't lost, but for a packet that is being copied
+abbrev pub HasPlace : {R : Type 0} → Reading R → Type 0
+HasPlace reading = IsSome reading.copied ⊎ IsFalse reading.is_lost
 
 -- nothing of this can go before more has come: it is a part of a header, or nothing
 abbrev pub WaitsHere : SpanState → List ℕ → Type 0
@@ -86,12 +90,26 @@ pub record CopiesNext (before : SpanState) (old : List ℕ) (unread left : Optio
   pub counted : CountsUp old_reads new_reads (length reads)
   pub small : All (λ read. length read ≤ read_size) reads
 
+-- a call of `copy_packet`: what it reads is a packet's bytes, and a writer gets them
+abbrev pub CopiesTo : {R W : Type 0} → (R → Option (List ℕ)) → (W → Option (List ℕ)) → SpanState
+    → Reading R → W → Result Bool PacketIoError → SpanState → Reading R → W → Type 0
+CopiesTo remaining contents before old held result after new more =
+    (written : List ℕ) × Appends (contents held) (contents more) written
+    × CopiesNext before old.unread (remaining old.reader) (remaining new.reader) old.reads new.reads
+    result written after new.unread
+
+-- the front of what was unread is written, in one span
+abbrev pub Copies : Bool → SpanState → List ℕ → Option (List ℕ) → SpanState → List ℕ
+    → Option (List ℕ) → Type 0
+Copies ended before old held after new more =
+    (bytes : List ℕ) × EatsSpans before old ((bytes, ended) ∷ []) new after
+    × Appends held more bytes
+
 -- one step of it, by what is unread
 abbrev pub StepsCopy : Result (Option Bool) PacketIoError → SpanState → List ℕ → Option (List ℕ)
     → SpanState → List ℕ → Option (List ℕ) → Type 0
 StepsCopy (Ok (Some ended)) before old held after new more =
-    (bytes : List ℕ) × EatsSpans before old ((bytes, ended) ∷ []) new after
-    × Appends held more bytes × (IsTrue ended → IsBetween after)
+    Copies ended before old held after new more × (IsTrue ended → IsBetween after)
     × (IsFalse ended → (most_bytes after + length old ≤ most_bytes before + length new)
     × (length new < length old))
 StepsCopy (Ok None) before old held after new more =

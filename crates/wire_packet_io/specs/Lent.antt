@@ -3,6 +3,7 @@ use Rattle.std.specs.Prelude.{◌≡◌, ℕ, ◌+◌, ◌≤◌, List, length, 
 use Rattle.wire_packet_io.specs.declared.error.PacketIoError.{PacketIoError}
 use Rattle.wire_packet_io.specs.declared.error.PacketIoError.TheVariants.{OutOfMemory}
 use Rattle.wire_packet_io.specs.declared.input.Found.{Found}
+use Rattle.wire_packet_io.specs.declared.input.Input.{Input}
 use Rattle.wire_packet_io.specs.declared.input.Found.TheVariants.{InFront, Apart}
 use Rattle.wire_codec.specs.Delivery.{chunk_len}
 use Rattle.wire_codec.specs.Codec.{CodecState, codec_state}
@@ -10,7 +11,7 @@ use Rattle.wire_codec.specs.InPlace.{front_payload}
 use Rattle.wire_codec.specs.declared.codec.packet.PacketCodec.{PacketCodec}
 use Rattle.wire_codec.specs.declared.codec.packet.skip.Skipped.{Skipped}
 use Rattle.wire_span.specs.declared.span.SpanDecoder.{SpanDecoder}
-use Rattle.wire_packet_io.specs.PacketIo.{Answer}
+use Rattle.wire_packet_io.specs.PacketIo.{Answer, NextPacket}
 
 -- a reader of packets, as contracts see it
 pub record Reading (R : Type 0) : Type 0 where
@@ -35,6 +36,13 @@ pub record Reading (R : Type 0) : Type 0 where
 abbrev pub reading_state : {R : Type 0} → PacketCodec → Reading R → CodecState
 reading_state codec reading = codec_state codec reading.unread reading.held
 
+-- a call of `next_packet`: the reader with its codec, the answer, and both behind it
+abbrev pub ReadsPacket : {R : Type 0} → (R → Option (List ℕ)) → PacketCodec → Reading R → Answer
+    → PacketCodec → Reading R → Type 0
+ReadsPacket remaining codec old answer behind new =
+    NextPacket (reading_state codec old) (remaining old.reader) (remaining new.reader)
+    old.reads new.reads answer (reading_state behind new)
+
 -- what was found, if the answer has something
 abbrev pub found_in : {A : Type 0} → Result (Option (Found A)) PacketIoError → Option (Found A)
 found_in (Ok found) = found
@@ -51,6 +59,24 @@ abbrev pub unread_behind : {A : Type 0} → Option (Found A) → List ℕ → Li
 unread_behind (Some InFront) src = drop (4 + chunk_len src) src
 unread_behind (Some (Apart packet)) src = src
 unread_behind None src = src
+
+-- a reader of packets that lends what was found in what it read
+abbrev pub lender : {R A : Type 0} → Option (Found A) → Input R A → Reading R
+lender found input =
+    record {
+      reader = input.reader;
+      unread = unread_behind found input.src.items;
+      held = input.dst.items;
+      lent = packet_of found input.src.items;
+      is_lost = input.lost;
+      skipped = None;
+      copied = None;
+      reads = input.reads;
+    }
+
+-- a codec at it
+abbrev pub input_state : {R A : Type 0} → PacketCodec → Option (Found A) → Input R A → CodecState
+input_state codec found input = reading_state codec (lender found input)
 
 -- where it lies in front, it has come whole
 abbrev pub IsThere : {A : Type 0} → Option (Found A) → List ℕ → Type 0

@@ -1,6 +1,8 @@
 -- A packet that is passed on to a writer of packets, with other sequence ids.
 use Rattle.std.specs.Prelude.{◌≡◌, ℕ, ◌+◌, ◌<◌, ◌≤◌, ◌⊎◌, List, [], ◌∷◌, ◌++◌, length, Option, Some, None, Result, Ok, Err, Bool, true, false, IsTrue, IsFalse, ⊤}
 use Rattle.std.specs.Io.KnownBytes.{Appends, IsAtEnd}
+use Rattle.wire_codec.specs.declared.codec.packet.PacketCodec.{PacketCodec}
+use Rattle.wire_codec.specs.Codec.{expected_id}
 use Rattle.wire_codec.specs.Framing.{framing, next_id}
 use Rattle.wire_span.specs.declared.span.SpanError.TheVariants as span
 use Rattle.wire_span.specs.Spans.{SpanState, CameTo, EatsSpans, IsBetween, SpansOn, StopsBefore}
@@ -8,8 +10,9 @@ use Rattle.wire_span.specs.Passing.{most_bytes}
 use Rattle.wire_span.specs.Renumbering.{sent}
 use Rattle.wire_packet_io.specs.declared.error.PacketIoError.{PacketIoError}
 use Rattle.wire_packet_io.specs.declared.error.PacketIoError.TheVariants.{Io, UnexpectedEnd, WriteZero, PacketTooLarge, PacketsOutOfSync, OutOfMemory}
-use Rattle.wire_packet_io.specs.PacketIo.{joined_reads}
-use Rattle.wire_packet_io.specs.Copying.{CopiesNext, WaitsHere, has_ended}
+use Rattle.wire_packet_io.specs.PacketIo.{joined_reads, Writing}
+use Rattle.wire_packet_io.specs.Lent.{Reading}
+use Rattle.wire_packet_io.specs.Copying.{CopiesNext, WaitsHere, copied_to, has_ended}
 
 -- bytes of a packet go out with their headers, which bear ids from this one on, behind what was
 -- pending: a front of both is written, and the rest is pending
@@ -20,6 +23,25 @@ pub record PassesOn (before : SpanState) (id : ℕ) (bytes : List ℕ) (ended : 
   pub spans : SpansOn (sent before id) out ((bytes, ended) ∷ []) (sent after next)
   pub all : old ++ out ≡ written ++ new
   pub appended : Appends held more written
+
+-- a call of `relay_packet`: what it reads is a packet's bytes, and a writer of packets gets them with
+-- their headers
+abbrev pub RelaysTo : {R W : Type 0} → (R → Option (List ℕ)) → (W → Option (List ℕ)) → SpanState
+    → Reading R → ℕ → Writing W → Result Bool PacketIoError → SpanState → Reading R → ℕ → Writing W
+    → Type 0
+RelaysTo remaining contents before old id held result after new next more =
+    (bytes : List ℕ) × CopiesNext before old.unread (remaining old.reader) (remaining new.reader)
+    old.reads new.reads result bytes after new.unread
+    × PassesOn before id bytes (has_ended result) after next held.pending more.pending
+    (contents held.writer) (contents more.writer)
+
+-- the same between two readers and writers of packets, each with its codec
+abbrev pub RelaysPacket : {R W : Type 0} → (R → Option (List ℕ)) → (W → Option (List ℕ))
+    → PacketCodec → Reading R → PacketCodec → Writing W → Result Bool PacketIoError
+    → PacketCodec → Reading R → PacketCodec → Writing W → Type 0
+RelaysPacket remaining contents codec old other held result behind new next more =
+    RelaysTo remaining contents (copied_to old.copied codec) old (expected_id other) held result
+    (copied_to new.copied behind) new (expected_id next) more
 
 -- the front of what was unread is moved behind what was pending, in one span on both sides
 abbrev pub Relays : Bool → SpanState → ℕ → List ℕ → List ℕ → SpanState → ℕ → List ℕ → List ℕ → Type 0

@@ -23,14 +23,6 @@ LeavesNext (Ok true) skipped codec unread after = IsBehind skipped codec unread 
 LeavesNext (Err PacketsOutOfSync) skipped codec unread after = IsBehind skipped codec unread after
 LeavesNext other skipped codec unread after = WouldStand skipped codec unread after
 
--- a packet is skipped: what `next_packet` would do, had the bytes that were dropped been kept
-abbrev pub SkipsNext : CodecState → Option (List ℕ) → Option (List ℕ) → ℕ → ℕ
-    → Result Bool PacketIoError → Skipped → PacketCodec → List ℕ → Type 0
-SkipsNext full unread left old_reads new_reads result skipped codec src =
-    (answer : Answer) × (after : CodecState) × SkipsFor result answer
-    × NextPacket full unread left old_reads new_reads answer after
-    × LeavesNext result skipped codec src after
-
 -- how much of the packet was dropped that is being skipped: what is held is dropped at the start
 abbrev pub skipped_or : Option Skipped → ℕ → Skipped
 skipped_or None held = record { held = held; begun = None }
@@ -38,6 +30,25 @@ skipped_or (Some skipped) held = skipped
 
 abbrev pub skipped_at : {R : Type 0} → Reading R → Skipped
 skipped_at reading = skipped_or reading.skipped (length reading.held)
+
+-- a reader that dropped so much of a packet
+abbrev pub skipping : {R : Type 0} → Skipped → Reading R → Reading R
+skipping skipped reading = record reading { skipped = Some skipped }
+
+-- a packet is skipped: what `next_packet` would do, had the bytes that were dropped been kept
+abbrev pub SkipsNext : {R : Type 0} → (R → Option (List ℕ)) → CodecState → Reading R
+    → Result Bool PacketIoError → PacketCodec → Reading R → Type 0
+SkipsNext remaining full old result behind new =
+    (answer : Answer) × (after : CodecState) × SkipsFor result answer
+    × NextPacket full (remaining old.reader) (remaining new.reader) old.reads new.reads answer after
+    × LeavesNext result (skipped_at new) behind new.unread after
+
+-- the same in the midst of a packet, wherever the codec would stand
+abbrev pub SkipsOn : {R : Type 0} → (R → Option (List ℕ)) → PacketCodec → Reading R
+    → Result Bool PacketIoError → PacketCodec → Reading R → Type 0
+SkipsOn remaining codec old result behind new =
+    (full : CodecState) → WouldStand (skipped_at old) codec old.unread full
+    → SkipsNext remaining full old result behind new
 
 -- a packet may be skipped with this codec
 abbrev pub CanSkip : {R : Type 0} → PacketCodec → Reading R → Type 0

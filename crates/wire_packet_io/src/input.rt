@@ -2,13 +2,13 @@
 
 ghost use Rattle.std.specs.Prelude.{Some, None, IsSome, false, ◌≡◌, ◌⊎◌, ℕ, ◌+◌, ◌-◌, ◌^◌, ◌<◌, ◌≤◌, ◌↔◌, List, [], ◌++◌, length, min, drop, Ok, Err, IfOk, OnErr, OnOk, IfErr, IsTrue, IsFalse};
 ghost use Rattle.std.specs.Io.KnownBytes.{Consumes, IsAtEnd, Keeps};
-ghost use Rattle.wire_codec.specs.Codec.{CodecState, codec_state, Stands};
+ghost use Rattle.wire_codec.specs.Codec.{codec_state, Stands};
 ghost use Rattle.wire_codec.specs.Delivery.{chunk_len};
 ghost use Rattle.wire_codec.specs.InPlace.{front_payload as payload_in_front};
-ghost use Rattle.wire_packet_io.specs.PacketIo.{NextPacket, ReadFails, TakesPacket, EndsAt, FitsAt, read_size};
-ghost use Rattle.wire_codec.specs.Skipping.{MaySkip, WouldStand};
-ghost use Rattle.wire_packet_io.specs.Skips.{IsRefusal, SkipsNext};
-ghost use Rattle.wire_packet_io.specs.Lent.{IsThere, IsApart, found_in, answer_over, unread_behind};
+ghost use Rattle.wire_packet_io.specs.PacketIo.{ReadFails, TakesPacket, EndsAt, FitsAt, read_size};
+ghost use Rattle.wire_codec.specs.Skipping.{MaySkip};
+ghost use Rattle.wire_packet_io.specs.Skips.{IsRefusal, SkipsOn, skipping};
+ghost use Rattle.wire_packet_io.specs.Lent.{IsThere, IsApart, ReadsPacket, found_in, answer_over, input_state, lender};
 
 mod copy;
 mod relay;
@@ -48,9 +48,9 @@ pub struct Input<R: Read, A: Allocator + Copy> {
 impl<R: Read, A: Allocator + Copy> Input<R, A> {
     // One read of at most 8192 bytes. The answer is how many came.
     fn read_more(&mut self) -> Result<usize, PacketIoError>
-        ensures ok { IfOk result (λ n. (piece : List ℕ) × (length piece ≡ n)
-            × (self.new.src.items ≡ self.old.src.items ++ piece)
-            × Consumes (R.remaining self.old.reader) (R.remaining self.new.reader) piece) }
+        ensures ok { IfOk result (λ n. (came : List ℕ) × (length came ≡ n)
+            × (self.new.src.items ≡ self.old.src.items ++ came)
+            × Consumes (R.remaining self.old.reader) (R.remaining self.new.reader) came) }
         ensures small { IfOk result (λ n. n ≤ read_size) }
         ensures end { IfOk result (λ n. n ≡ 0 → IsAtEnd (R.remaining self.new.reader)) }
         ensures err { OnErr result (self.new.src.items ≡ self.old.src.items) }
@@ -99,11 +99,11 @@ impl<R: Read, A: Allocator + Copy> Input<R, A> {
     // Decodes what was read.
     #[inline(always)]
     fn decode(&mut self, codec: &mut PacketCodec) -> Result<Option<Found<A>>, PacketIoError>
-        requires stands { Stands (codec_state codec.old self.old.src.items self.old.dst.items) }
+        requires stands { Stands (input_state codec.old None self.old) }
         requires found { IsFalse self.old.lost }
-        ensures takes { let state = codec_state codec.new self.new.src.items self.new.dst.items in
-            TakesPacket (codec_state codec.old self.old.src.items self.old.dst.items)
-            (answer_over result self.new.src.items) self.new.lost state }
+        ensures takes { TakesPacket (input_state codec.old None self.old)
+            (answer_over result self.new.src.items) self.new.lost
+            (input_state codec.new None self.new) }
         ensures apart { IsApart (found_in result) }
         ensures reader { self.new.reader ≡ self.old.reader }
         ensures reads { self.new.reads ≡ self.old.reads }
@@ -135,12 +135,11 @@ impl<R: Read, A: Allocator + Copy> Input<R, A> {
         codec: &mut PacketCodec,
         lends: bool,
     ) -> Result<Option<Found<A>>, PacketIoError>
-        requires stands { Stands (codec_state codec.old self.old.src.items self.old.dst.items) }
+        requires stands { Stands (input_state codec.old None self.old) }
         requires found { IsFalse self.old.lost }
-        ensures takes { let unread = unread_behind (found_in result) self.new.src.items in
-            TakesPacket (codec_state codec.old self.old.src.items self.old.dst.items)
+        ensures takes { TakesPacket (input_state codec.old None self.old)
             (answer_over result self.new.src.items) self.new.lost
-            (codec_state codec.new unread self.new.dst.items) }
+            (input_state codec.new (found_in result) self.new) }
         ensures there { IsThere (found_in result) self.new.src.items }
         ensures apart { IsFalse lends → IsApart (found_in result) }
         ensures reader { self.new.reader ≡ self.old.reader }
@@ -176,17 +175,14 @@ impl<R: Read, A: Allocator + Copy> Input<R, A> {
         codec: &mut PacketCodec,
         lends: bool,
     ) -> Result<Option<Found<A>>, PacketIoError>
-        requires stands { Stands (codec_state codec.old self.old.src.items self.old.dst.items) }
+        requires stands { Stands (input_state codec.old None self.old) }
         requires found { IsFalse self.old.lost }
-        ensures next { let unread = unread_behind (found_in result) self.new.src.items in
-            NextPacket (codec_state codec.old self.old.src.items self.old.dst.items)
-            (R.remaining self.old.reader) (R.remaining self.new.reader)
-            self.old.reads self.new.reads (answer_over result self.new.src.items)
-            (codec_state codec.new unread self.new.dst.items) }
+        ensures next { ReadsPacket R.remaining codec.old (lender None self.old)
+            (answer_over result self.new.src.items) codec.new
+            (lender (found_in result) self.new) }
         ensures there { IsThere (found_in result) self.new.src.items }
         ensures apart { IsFalse lends → IsApart (found_in result) }
-        ensures fits { let unread = unread_behind (found_in result) self.new.src.items in
-            FitsAt self.new.lost (codec_state codec.new unread self.new.dst.items) }
+        ensures fits { FitsAt self.new.lost (input_state codec.new (found_in result) self.new) }
         ensures loses { IsTrue self.new.lost ↔ (result ≡ Err PacketIoError.PacketsOutOfSync) }
         ensures limit { codec.new.max_allowed_packet ≡ codec.old.max_allowed_packet }
     {
@@ -280,10 +276,9 @@ impl<R: Read, A: Allocator + Copy> Input<R, A> {
     ) -> Result<bool, PacketIoError>
         requires may { MaySkip skipped.old codec.old self.old.src.items }
         requires found { IsFalse self.old.lost }
-        ensures skips { (full : CodecState)
-            → WouldStand skipped.old codec.old self.old.src.items full
-            → SkipsNext full (R.remaining self.old.reader) (R.remaining self.new.reader)
-            self.old.reads self.new.reads result skipped.new codec.new self.new.src.items }
+        ensures skips { SkipsOn R.remaining codec.old
+            (skipping skipped.old (lender None self.old)) result codec.new
+            (skipping skipped.new (lender None self.new)) }
         ensures loses { IsTrue self.new.lost ↔ (result ≡ Err PacketIoError.PacketsOutOfSync) }
         ensures ended { IfOk result (λ _. (skipped.new.held ≡ 0) × (skipped.new.begun ≡ None)) }
         ensures held { self.new.dst ≡ self.old.dst }

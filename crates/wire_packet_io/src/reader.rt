@@ -1,13 +1,13 @@
 //! Packets from a reader.
 
 ghost use Rattle.std.specs.Prelude.{ℕ, List, IsOk, IsNone, IsSome, IfSome, Some, None, MatchOption, ◌≡◌, ◌<◌, ◌↔◌, ◌⊎◌, [], Err, IfOk, OnErr, OnOk, IfErr, Ok, true, false, IsTrue, IsFalse};
-ghost use Rattle.wire_codec.specs.Codec.{CodecState, Stands, DecodesPacket};
-ghost use Rattle.wire_codec.specs.Skipping.{MaySkip, WouldStand};
+ghost use Rattle.wire_codec.specs.Codec.{Stands, DecodesPacket};
+ghost use Rattle.wire_codec.specs.Skipping.{MaySkip};
 ghost use Rattle.wire_codec.specs.InPlace.{HasFront, behind_front as behind};
-ghost use Rattle.wire_packet_io.specs.PacketIo.{FitsAt, NextPacket};
+ghost use Rattle.wire_packet_io.specs.PacketIo.{FitsAt};
 ghost use Rattle.wire_packet_io.specs.declared.error.PacketIoError.{PacketIoError};
-ghost use Rattle.wire_packet_io.specs.Lent.{HandsOutLent, IsApart, reading_state, found_in, answer_of, answer_over, answer_lent};
-ghost use Rattle.wire_packet_io.specs.Skips.{CanSkip, SkipsNext, skipped_at};
+ghost use Rattle.wire_packet_io.specs.Lent.{HandsOutLent, IsApart, ReadsPacket, reading_state, found_in, answer_of, answer_over, answer_lent};
+ghost use Rattle.wire_packet_io.specs.Skips.{CanSkip, SkipsNext, SkipsOn, skipped_at, skipping};
 
 mod copy;
 mod relay;
@@ -44,20 +44,11 @@ pub struct PacketReader<R: Read, A: Allocator + Copy = Global> {
 }
 
 impl<R: Read, A: Allocator + Copy> Model for PacketReader<R, A> {
-    ghost use Rattle.wire_packet_io.specs.Lent.{Reading, IsThere, packet_of, unread_behind};
+    ghost use Rattle.wire_packet_io.specs.Lent.{Reading, IsThere, lender};
 
     ghost Value = { Reading R };
 
-    ghost view = { λ p. record {
-      reader = p.input.reader;
-      unread = unread_behind p.lent p.input.src.items;
-      held = p.input.dst.items;
-      lent = packet_of p.lent p.input.src.items;
-      is_lost = p.input.lost;
-      skipped = p.skipped;
-      copied = p.copied;
-      reads = p.input.reads;
-    } };
+    ghost view = { λ p. record (lender p.lent p.input) { skipped = p.skipped; copied = p.copied } };
 
     ghost invariant = { λ p. IsThere p.lent p.input.src.items };
 }
@@ -152,10 +143,8 @@ impl<R: Read, A: Allocator + Copy> PacketReader<R, A> {
         codec: &mut PacketCodec,
     ) -> Result<Option<Vec<u8, A>>, PacketIoError>
         requires { FitsAt self.old.is_lost (reading_state codec.old self.old) }
-        ensures next { IsFalse self.old.is_lost → IsNone self.old.lent → NextPacket
-            (reading_state codec.old self.old)
-            (R.remaining self.old.reader) (R.remaining self.new.reader)
-            self.old.reads self.new.reads (answer_of result) (reading_state codec.new self.new) }
+        ensures next { IsFalse self.old.is_lost → IsNone self.old.lent
+            → ReadsPacket R.remaining codec.old self.old (answer_of result) codec.new self.new }
         ensures lent { IsFalse self.old.is_lost → IsSome self.old.lent
             → HandsOutLent (answer_of result) self.old self.new × (codec.new ≡ codec.old) }
         ensures taken { IsNone self.old.lent → IsNone self.new.lent }
@@ -250,13 +239,10 @@ impl<R: Read, A: Allocator + Copy> PacketReader<R, A> {
             → (result ≡ Err PacketIoError.PacketsOutOfSync) × (self.new ≡ self.old)
             × (codec.new ≡ codec.old) }
         ensures skips { IsNone self.old.lent → IsNone self.old.skipped → IsFalse self.old.is_lost
-            → SkipsNext (reading_state codec.old self.old)
-            (R.remaining self.old.reader) (R.remaining self.new.reader)
-            self.old.reads self.new.reads result (skipped_at self.new) codec.new self.new.unread }
-        ensures goes_on { IsNone self.old.lent → IsSome self.old.skipped → (full : CodecState)
-            → WouldStand (skipped_at self.old) codec.old self.old.unread full
-            → SkipsNext full (R.remaining self.old.reader) (R.remaining self.new.reader)
-            self.old.reads self.new.reads result (skipped_at self.new) codec.new self.new.unread }
+            → SkipsNext R.remaining (reading_state codec.old self.old) self.old
+            result codec.new self.new }
+        ensures goes_on { IsNone self.old.lent → IsSome self.old.skipped
+            → SkipsOn R.remaining codec.old self.old result codec.new self.new }
         ensures under_way { IsNone self.old.lent → IfSome self.new.skipped (λ skipped.
             ((0 < skipped.held) ⊎ IsSome skipped.begun) × IsTrue self.new.is_lost) }
         ensures ended { IfOk result (λ _. IsNone self.old.lent → IsNone self.new.skipped
@@ -309,10 +295,8 @@ impl<R: Read, A: Allocator + Copy> PacketReader<R, A> {
     ) -> Result<bool, PacketIoError>
         requires none { IsNone self.old.lent }
         requires may { MaySkip skipped.old codec.old self.old.unread }
-        ensures skips { (full : CodecState)
-            → WouldStand skipped.old codec.old self.old.unread full
-            → SkipsNext full (R.remaining self.old.reader) (R.remaining self.new.reader)
-            self.old.reads self.new.reads result skipped.new codec.new self.new.unread }
+        ensures skips { SkipsOn R.remaining codec.old (skipping skipped.old self.old)
+            result codec.new (skipping skipped.new self.new) }
         ensures loses { IsTrue self.new.is_lost ↔ (result ≡ Err PacketIoError.PacketsOutOfSync) }
         ensures ended { IfOk result (λ _. (skipped.new.held ≡ 0) × (skipped.new.begun ≡ None)) }
         ensures held { self.new.held ≡ [] }
@@ -359,11 +343,9 @@ impl<R: Read, A: Allocator + Copy> PacketReader<R, A> {
     /// true, and nothing is read.
     pub fn fill_packet(&mut self, codec: &mut PacketCodec) -> Result<bool, PacketIoError>
         requires { FitsAt self.old.is_lost (reading_state codec.old self.old) }
-        ensures fills { IsFalse self.old.is_lost → IsNone self.old.lent → NextPacket
-            (reading_state codec.old self.old)
-            (R.remaining self.old.reader) (R.remaining self.new.reader)
-            self.old.reads self.new.reads (answer_lent result self.new.lent)
-            (reading_state codec.new self.new) }
+        ensures fills { IsFalse self.old.is_lost → IsNone self.old.lent
+            → ReadsPacket R.remaining codec.old self.old
+            (answer_lent result self.new.lent) codec.new self.new }
         ensures again { IsFalse self.old.is_lost → IsSome self.old.lent
             → (result ≡ Ok true) × (self.new ≡ self.old) × (codec.new ≡ codec.old) }
         ensures lends { IfOk result (λ ready. (IsTrue ready ↔ IsSome self.new.lent)

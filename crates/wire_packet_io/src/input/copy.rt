@@ -1,10 +1,10 @@
 //! The loop that writes a packet's bytes as they come.
 
-ghost use Rattle.std.specs.Prelude.{◌≡◌, ℕ, ◌+◌, ◌<◌, ◌≤◌, List, [], ◌∷◌, length, None, true, false, Ok, IfOk, OnErr, IfErr, IsFalse, Bool};
-ghost use Rattle.std.specs.Io.KnownBytes.{Appends, IsAtEnd};
-ghost use Rattle.wire_span.specs.Spans.{header_came, span_state, EatsSpans, IsBetween};
+ghost use Rattle.std.specs.Prelude.{◌≡◌, ◌+◌, ◌<◌, ◌≤◌, [], length, None, true, false, Ok, IfOk, OnErr, IfErr, IsFalse, Bool};
+ghost use Rattle.wire_span.specs.Spans.{header_came, span_state};
 ghost use Rattle.wire_span.specs.Passing.{left_in, most_bytes};
-ghost use Rattle.wire_packet_io.specs.Copying.{has_ended, CopiesNext, CopyStops, EndsCopy, IsSpanRefusal, StepsCopy, WaitsHere};
+ghost use Rattle.wire_packet_io.specs.Copying.{has_ended, Copies, CopiesTo, CopyStops, EndsCopy, IsSpanRefusal, StepsCopy, WaitsHere};
+ghost use Rattle.wire_packet_io.specs.Lent.{lender};
 
 use super::Input;
 use crate::error::PacketIoError;
@@ -91,10 +91,9 @@ impl<R: Read, A: Allocator + Copy> Input<R, A> {
         writer: &mut W,
     ) -> Result<bool, PacketIoError>
         requires uncut { header_came (span_state decoder.old).place ≡ [] }
-        ensures goes { (bytes : List ℕ)
-            × Appends (W.contents writer.old) (W.contents writer.new) bytes
-            × EatsSpans (span_state decoder.old) self.old.src.items
-            ((bytes, has_ended result) ∷ []) self.new.src.items (span_state decoder.new) }
+        ensures goes { Copies (has_ended result) (span_state decoder.old) self.old.src.items
+            (W.contents writer.old) (span_state decoder.new) self.new.src.items
+            (W.contents writer.new) }
         ensures ends { EndsCopy result (span_state decoder.new) self.new.src.items }
         ensures fewer { IsFalse (has_ended result)
             → most_bytes (span_state decoder.new) + length self.old.src.items
@@ -135,12 +134,9 @@ impl<R: Read, A: Allocator + Copy> Input<R, A> {
         writer: &mut W,
     ) -> Result<bool, PacketIoError>
         requires uncut { header_came (span_state decoder.old).place ≡ [] }
-        ensures copies { (written : List ℕ)
-            × Appends (W.contents writer.old) (W.contents writer.new) written
-            × CopiesNext (span_state decoder.old) self.old.src.items
-            (R.remaining self.old.reader) (R.remaining self.new.reader)
-            self.old.reads self.new.reads result written
-            (span_state decoder.new) self.new.src.items }
+        ensures copies { CopiesTo R.remaining W.contents
+            (span_state decoder.old) (lender None self.old) writer.old result
+            (span_state decoder.new) (lender None self.new) writer.new }
         ensures stops { CopyStops result (span_state decoder.new) self.new.src.items
             (R.remaining self.new.reader) }
         ensures uncut { header_came (span_state decoder.new).place ≡ [] }

@@ -1,10 +1,11 @@
 //! The loop that passes a packet on to a writer of packets, with other sequence ids.
 
-ghost use Rattle.std.specs.Prelude.{◌≡◌, ℕ, ◌+◌, ◌<◌, ◌≤◌, List, [], length, false, IsFalse};
+ghost use Rattle.std.specs.Prelude.{◌≡◌, ℕ, ◌+◌, ◌<◌, ◌≤◌, [], length, IsFalse};
 ghost use Rattle.wire_span.specs.Spans.{header_came, span_state};
 ghost use Rattle.wire_span.specs.Passing.{left_in, most_bytes};
-ghost use Rattle.wire_packet_io.specs.Copying.{has_ended, CopiesNext};
-ghost use Rattle.wire_packet_io.specs.Relaying.{EndsRelay, PassesOn, RelayStops, Relays, StepsRelay};
+ghost use Rattle.wire_packet_io.specs.Copying.{has_ended};
+ghost use Rattle.wire_packet_io.specs.Lent.{lender};
+ghost use Rattle.wire_packet_io.specs.Relaying.{EndsRelay, RelayStops, Relays, RelaysTo, StepsRelay};
 
 use super::Input;
 use super::copy::refusal;
@@ -129,14 +130,9 @@ impl<R: Read, A: Allocator + Copy> Input<R, A> {
         next_id: &mut u8,
     ) -> Result<bool, PacketIoError>
         requires uncut { header_came (span_state decoder.old).place ≡ [] }
-        ensures relays { (bytes : List ℕ)
-            × CopiesNext (span_state decoder.old) self.old.src.items
-            (R.remaining self.old.reader) (R.remaining self.new.reader)
-            self.old.reads self.new.reads result bytes
-            (span_state decoder.new) self.new.src.items
-            × PassesOn (span_state decoder.old) next_id.old bytes (has_ended result)
-            (span_state decoder.new) next_id.new writer.old.pending writer.new.pending
-            (W.contents writer.old.writer) (W.contents writer.new.writer) }
+        ensures relays { RelaysTo R.remaining W.contents
+            (span_state decoder.old) (lender None self.old) next_id.old writer.old result
+            (span_state decoder.new) (lender None self.new) next_id.new writer.new }
         ensures stops { RelayStops result (span_state decoder.new) self.new.src.items
             (R.remaining self.new.reader) writer.new.pending }
         ensures uncut { header_came (span_state decoder.new).place ≡ [] }

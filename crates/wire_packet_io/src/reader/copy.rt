@@ -1,10 +1,9 @@
 //! A packet that is copied.
 
-ghost use Rattle.std.specs.Prelude.{◌≡◌, ◌↔◌, ◌⊎◌, ℕ, List, [], None, Some, Err, IfOk, IfSome, IsNone, IsSome, IsTrue, IsFalse};
-ghost use Rattle.std.specs.Io.KnownBytes.{Appends};
+ghost use Rattle.std.specs.Prelude.{◌≡◌, ◌↔◌, ◌⊎◌, [], None, Some, Err, IfOk, IfSome, IsNone, IsSome, IsTrue, IsFalse};
 ghost use Rattle.wire_codec.specs.Codec.{header_of};
 ghost use Rattle.wire_span.specs.Spans.{header_came, span_state, IsBetween};
-ghost use Rattle.wire_packet_io.specs.Copying.{copied_to, CanCopy, CopiesNext, CopyStops};
+ghost use Rattle.wire_packet_io.specs.Copying.{copied_to, CanCopy, CopiesTo, CopyStops, HasPlace};
 
 use super::PacketReader;
 use crate::error::PacketIoError;
@@ -54,18 +53,14 @@ impl<R: Read, A: Allocator + Copy> PacketReader<R, A> {
         ensures lost { IsNone self.old.copied → IsTrue self.old.is_lost
             → (result ≡ Err PacketIoError.PacketsOutOfSync) × (self.new ≡ self.old)
             × (codec.new ≡ codec.old) × (writer.new ≡ writer.old) }
-        ensures copies { (IsSome self.old.copied ⊎ IsFalse self.old.is_lost) → (written : List ℕ)
-            × Appends (W.contents writer.old) (W.contents writer.new) written
-            × CopiesNext (copied_to self.old.copied codec.old) self.old.unread
-            (R.remaining self.old.reader) (R.remaining self.new.reader)
-            self.old.reads self.new.reads result written
-            (copied_to self.new.copied codec.new) self.new.unread }
-        ensures stops { (IsSome self.old.copied ⊎ IsFalse self.old.is_lost)
+        ensures copies { HasPlace self.old → CopiesTo R.remaining W.contents
+            (copied_to self.old.copied codec.old) self.old writer.old result
+            (copied_to self.new.copied codec.new) self.new writer.new }
+        ensures stops { HasPlace self.old
             → CopyStops result (copied_to self.new.copied codec.new) self.new.unread
             (R.remaining self.new.reader) }
         ensures ended { IfOk result (λ _. IsNone self.new.copied × IsFalse self.new.is_lost) }
-        ensures header { (IsSome self.old.copied ⊎ IsFalse self.old.is_lost)
-            → IsNone self.new.copied → header_of codec.new ≡ None }
+        ensures header { HasPlace self.old → IsNone self.new.copied → header_of codec.new ≡ None }
         ensures under_way { IsSome self.new.copied → codec.new ≡ codec.old }
         ensures loses { IsTrue self.new.is_lost
             ↔ (IsSome self.new.copied ⊎ (result ≡ Err PacketIoError.PacketsOutOfSync)) }
@@ -106,12 +101,9 @@ impl<R: Read, A: Allocator + Copy> PacketReader<R, A> {
         requires none { IsNone self.old.lent }
         requires held { self.old.held ≡ [] }
         requires uncut { header_came (span_state decoder.old).place ≡ [] }
-        ensures copies { (written : List ℕ)
-            × Appends (W.contents writer.old) (W.contents writer.new) written
-            × CopiesNext (span_state decoder.old) self.old.unread
-            (R.remaining self.old.reader) (R.remaining self.new.reader)
-            self.old.reads self.new.reads result written
-            (span_state decoder.new) self.new.unread }
+        ensures copies { CopiesTo R.remaining W.contents
+            (span_state decoder.old) self.old writer.old result
+            (span_state decoder.new) self.new writer.new }
         ensures stops { CopyStops result (span_state decoder.new) self.new.unread
             (R.remaining self.new.reader) }
         ensures uncut { header_came (span_state decoder.new).place ≡ [] }

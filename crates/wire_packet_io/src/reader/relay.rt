@@ -1,10 +1,10 @@
 //! A packet that is passed on.
 
-ghost use Rattle.std.specs.Prelude.{◌≡◌, ◌↔◌, ◌⊎◌, ℕ, List, [], None, Err, IfOk, IsNone, IsSome, IsTrue, IsFalse};
-ghost use Rattle.wire_codec.specs.Codec.{expected_id, header_of};
+ghost use Rattle.std.specs.Prelude.{◌≡◌, ◌↔◌, ◌⊎◌, [], None, Err, IfOk, IsNone, IsSome, IsTrue, IsFalse};
+ghost use Rattle.wire_codec.specs.Codec.{header_of};
 ghost use Rattle.wire_span.specs.Spans.{header_came, span_state};
-ghost use Rattle.wire_packet_io.specs.Copying.{copied_to, has_ended, CanCopy, CopiesNext};
-ghost use Rattle.wire_packet_io.specs.Relaying.{PassesOn, RelayStops};
+ghost use Rattle.wire_packet_io.specs.Copying.{copied_to, CanCopy, HasPlace};
+ghost use Rattle.wire_packet_io.specs.Relaying.{RelayStops, RelaysPacket, RelaysTo};
 
 use super::PacketReader;
 use crate::error::PacketIoError;
@@ -40,23 +40,17 @@ impl<R: Read, A: Allocator + Copy> PacketReader<R, A> {
         requires { CanCopy codec.old self.old }
         ensures lost { IsNone self.old.copied → IsTrue self.old.is_lost
             → (result ≡ Err PacketIoError.PacketsOutOfSync) × (self.new ≡ self.old)
-            × (codec.new ≡ codec.old) × (writer.new ≡ writer.old)
-            × (writer_codec.new ≡ writer_codec.old) }
-        ensures relays { (IsSome self.old.copied ⊎ IsFalse self.old.is_lost) → (bytes : List ℕ)
-            × CopiesNext (copied_to self.old.copied codec.old) self.old.unread
-            (R.remaining self.old.reader) (R.remaining self.new.reader)
-            self.old.reads self.new.reads result bytes
-            (copied_to self.new.copied codec.new) self.new.unread
-            × PassesOn (copied_to self.old.copied codec.old) (expected_id writer_codec.old) bytes
-            (has_ended result) (copied_to self.new.copied codec.new) (expected_id writer_codec.new)
-            writer.old.pending writer.new.pending
-            (W.contents writer.old.writer) (W.contents writer.new.writer) }
-        ensures stops { (IsSome self.old.copied ⊎ IsFalse self.old.is_lost)
+            × (codec.new ≡ codec.old) × (writer.new ≡ writer.old) }
+        ensures lost_other { IsNone self.old.copied → IsTrue self.old.is_lost
+            → writer_codec.new ≡ writer_codec.old }
+        ensures relays { HasPlace self.old → RelaysPacket R.remaining W.contents
+            codec.old self.old writer_codec.old writer.old result
+            codec.new self.new writer_codec.new writer.new }
+        ensures stops { HasPlace self.old
             → RelayStops result (copied_to self.new.copied codec.new) self.new.unread
             (R.remaining self.new.reader) writer.new.pending }
         ensures ended { IfOk result (λ _. IsNone self.new.copied × IsFalse self.new.is_lost) }
-        ensures header { (IsSome self.old.copied ⊎ IsFalse self.old.is_lost)
-            → IsNone self.new.copied → header_of codec.new ≡ None }
+        ensures header { HasPlace self.old → IsNone self.new.copied → header_of codec.new ≡ None }
         ensures under_way { IsSome self.new.copied → codec.new ≡ codec.old }
         ensures loses { IsTrue self.new.is_lost
             ↔ (IsSome self.new.copied ⊎ (result ≡ Err PacketIoError.PacketsOutOfSync)) }
@@ -89,14 +83,9 @@ impl<R: Read, A: Allocator + Copy> PacketReader<R, A> {
         requires none { IsNone self.old.lent }
         requires held { self.old.held ≡ [] }
         requires uncut { header_came (span_state decoder.old).place ≡ [] }
-        ensures relays { (bytes : List ℕ)
-            × CopiesNext (span_state decoder.old) self.old.unread
-            (R.remaining self.old.reader) (R.remaining self.new.reader)
-            self.old.reads self.new.reads result bytes
-            (span_state decoder.new) self.new.unread
-            × PassesOn (span_state decoder.old) next_id.old bytes (has_ended result)
-            (span_state decoder.new) next_id.new writer.old.pending writer.new.pending
-            (W.contents writer.old.writer) (W.contents writer.new.writer) }
+        ensures relays { RelaysTo R.remaining W.contents
+            (span_state decoder.old) self.old next_id.old writer.old result
+            (span_state decoder.new) self.new next_id.new writer.new }
         ensures stops { RelayStops result (span_state decoder.new) self.new.unread
             (R.remaining self.new.reader) writer.new.pending }
         ensures uncut { header_came (span_state decoder.new).place ≡ [] }

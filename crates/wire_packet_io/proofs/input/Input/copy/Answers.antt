@@ -17,14 +17,14 @@ returns-in-Ok-true-clause-copies g c =
     let goes = rw c.in-Ok-true.field-0-test at c.in-Ok-true.ensures.goes in
     copy_ends (Ok true) (span_state c.args.decoder.now) (span_state c.reads.decoder) (span_state c.copy_unread.new.decoder) c.args.self.now.src.items c.reads.self.src.items
     c.copy_unread.new.self.src.items _ _ _ _ _ _ _ _ _ goes.0 c.reads.invariant.so_far
-    (ap (λ z. g.R.Read.remaining z.reader) c.copy_unread.ensures.rest) (ap (λ z. z.reads) c.copy_unread.ensures.rest) goes.1 goes.2
+    (ap (λ z. g.R.Read.remaining z.reader) c.copy_unread.ensures.rest) (ap (λ z. z.reads) c.copy_unread.ensures.rest) goes.2 goes.1
 
 pub returns-in-Err-clause-copies : goal.returns-in-Err-clause-copies
 returns-in-Err-clause-copies g c =
     let goes = c.in-Err.ensures.goes in
     copy_ends (Err c.in-Err.error) (span_state c.args.decoder.now) (span_state c.reads.decoder) (span_state c.copy_unread.new.decoder) c.args.self.now.src.items c.reads.self.src.items
     c.copy_unread.new.self.src.items _ _ _ _ _ _ _ _ _ goes.0 c.reads.invariant.so_far
-    (ap (λ z. g.R.Read.remaining z.reader) c.copy_unread.ensures.rest) (ap (λ z. z.reads) c.copy_unread.ensures.rest) goes.1 goes.2
+    (ap (λ z. g.R.Read.remaining z.reader) c.copy_unread.ensures.rest) (ap (λ z. z.reads) c.copy_unread.ensures.rest) goes.2 goes.1
 
 pub returns-in-Ok-eq0-clause-copies : goal.returns-in-Ok-eq0-clause-copies
 returns-in-Ok-eq0-clause-copies g c =
@@ -32,7 +32,7 @@ returns-in-Ok-eq0-clause-copies g c =
     let waits = rw c.in-Ok-false.field-0-test at c.in-Ok-false.ensures.ends in
     let so_far = copy_goes (span_state c.args.decoder.now) (span_state c.reads.decoder) (span_state c.copy_unread.new.decoder) c.args.self.now.src.items c.reads.self.src.items
     c.copy_unread.new.self.src.items _ _ _ _ _ _ _ _ _ goes.0 c.reads.invariant.so_far
-    (ap (λ z. g.R.Read.remaining z.reader) c.copy_unread.ensures.rest) (ap (λ z. z.reads) c.copy_unread.ensures.rest) c.copy_unread.ensures.limit goes.1 goes.2 in
+    (ap (λ z. g.R.Read.remaining z.reader) c.copy_unread.ensures.rest) (ap (λ z. z.reads) c.copy_unread.ensures.rest) c.copy_unread.ensures.limit goes.2 goes.1 in
     let piece = c.in-Ok-eq0.ensures.ok in
     let read = copy_reads (span_state c.args.decoder.now) (span_state c.copy_unread.new.decoder) c.args.self.now.src.items c.copy_unread.new.self.src.items c.read_more.new.self.src.items piece.0
     _ _ _ _ _ _ _ _ so_far waits piece.2 piece.3 c.in-Ok-eq0.ensures.read (let n = c.in-Ok-eq0.ensures.small in let e = piece.1 in omega arith) in
@@ -46,7 +46,7 @@ reads-preserved g c =
     let waits = rw c.in-Ok-false.field-0-test at c.in-Ok-false.ensures.ends in
     let so_far = copy_goes (span_state c.args.decoder.now) (span_state c.reads.decoder) (span_state c.copy_unread.new.decoder) c.args.self.now.src.items c.reads.self.src.items
     c.copy_unread.new.self.src.items _ _ _ _ _ _ _ _ _ goes.0 inv.so_far
-    (ap (λ z. g.R.Read.remaining z.reader) c.copy_unread.ensures.rest) (ap (λ z. z.reads) c.copy_unread.ensures.rest) c.copy_unread.ensures.limit goes.1 goes.2 in
+    (ap (λ z. g.R.Read.remaining z.reader) c.copy_unread.ensures.rest) (ap (λ z. z.reads) c.copy_unread.ensures.rest) c.copy_unread.ensures.limit goes.2 goes.1 in
     let piece = c.in-Ok.ensures.ok in
     record {
       uncut = c.copy_unread.ensures.uncut;
@@ -63,7 +63,7 @@ returns-in-Err-read_more-clause-copies g c =
     let waits = rw c.in-Ok-false.field-0-test at c.in-Ok-false.ensures.ends in
     let so_far = copy_goes (span_state c.args.decoder.now) (span_state c.reads.decoder) (span_state c.copy_unread.new.decoder) c.args.self.now.src.items c.reads.self.src.items
     c.copy_unread.new.self.src.items _ _ _ _ _ _ _ _ _ goes.0 c.reads.invariant.so_far
-    (ap (λ z. g.R.Read.remaining z.reader) c.copy_unread.ensures.rest) (ap (λ z. z.reads) c.copy_unread.ensures.rest) c.copy_unread.ensures.limit goes.1 goes.2 in
+    (ap (λ z. g.R.Read.remaining z.reader) c.copy_unread.ensures.rest) (ap (λ z. z.reads) c.copy_unread.ensures.rest) c.copy_unread.ensures.limit goes.2 goes.1 in
     copy_failed c.in-Err-read_more.error (span_state c.args.decoder.now) (span_state c.copy_unread.new.decoder) c.args.self.now.src.items c.copy_unread.new.self.src.items c.read_more.new.self.src.items
     _ _ _ _ _ _ _ _ so_far waits c.in-Err-read_more.ensures.err c.in-Err-read_more.ensures.kept c.in-Err-read_more.ensures.failed
 

@@ -1,7 +1,7 @@
-use Rattle.std.proofs.Common.{◌++◌, ◌∙◌, [], arith, refl, true, false}
-use Rattle.std.proofs.KnownBytes.{Appends-nil, Appends-trans}
+use Rattle.std.proofs.Common.{◌∙◌, [], arith, refl, true, false}
+use Rattle.std.proofs.KnownBytes.{Appends-nil}
 use Rattle.wire_span.specs.Spans.{span_state}
-use Rattle.wire_packet_io.proofs.CopyLemmas.{copied_none, copied_more, copy_stays}
+use Rattle.wire_packet_io.proofs.CopyLemmas.{copied_none, copies_more, copies_kept}
 use Rattle.wire_packet_io.proofs.input.Input.copy_unread.Goals as goal
 
 pub steps-init : goal.steps-init
@@ -10,18 +10,13 @@ steps-init g c = record {
   limit = refl;
   rest = refl;
   fewer = omega arith;
-  goes = ([], Appends-nil _, copied_none _ _);
+  goes = ([], copied_none _ _, Appends-nil _);
 }
 
 pub returns-in-Ok-Some-true-clause-goes : goal.returns-in-Ok-Some-true-clause-goes
 returns-in-Ok-Some-true-clause-goes g c =
-    let inv = c.steps.invariant in
-    let step = rw (c.in-Ok-Some-true.field-0-is, c.in-Ok-Some-true.field-0-0-test) at c.in-Ok-Some-true.ensures.steps in (
-      inv.goes.0 ++ step.0,
-      Appends-trans _ _ _ inv.goes.0 step.0 inv.goes.1 step.2,
-      copied_more (span_state c.args.decoder.now) (span_state c.steps.decoder) (span_state c.copy_front.new.decoder) c.args.self.now.src.items c.steps.self.src.items
-          c.copy_front.new.self.src.items inv.goes.0 step.0 true inv.limit inv.goes.2 step.1,
-    )
+    let step = rw (c.in-Ok-Some-true.field-0-is, c.in-Ok-Some-true.field-0-0-test) at c.in-Ok-Some-true.ensures.steps in
+    copies_more true (span_state c.args.decoder.now) (span_state c.steps.decoder) (span_state c.copy_front.new.decoder) _ _ _ _ _ _ c.steps.invariant.limit c.steps.invariant.goes step.0
 
 pub steps-preserved : goal.steps-preserved
 steps-preserved g c =
@@ -31,25 +26,16 @@ steps-preserved g c =
       uncut = c.copy_front.ensures.uncut;
       limit = c.copy_front.ensures.limit ∙ inv.limit;
       rest = rw inv.rest at c.copy_front.ensures.rest;
-      fewer = let less = (step.4 refl).0 in omega (arith, inv.fewer, less);
-      goes = (
-        inv.goes.0 ++ step.0,
-        Appends-trans _ _ _ inv.goes.0 step.0 inv.goes.1 step.2,
-        copied_more (span_state c.args.decoder.now) (span_state c.steps.decoder) (span_state c.copy_front.new.decoder) c.args.self.now.src.items c.steps.self.src.items
-            c.copy_front.new.self.src.items inv.goes.0 step.0 false inv.limit inv.goes.2 step.1,
-      );
+      fewer = let less = (step.2 refl).0 in omega (arith, inv.fewer, less);
+      goes = copies_more false (span_state c.args.decoder.now) (span_state c.steps.decoder) (span_state c.copy_front.new.decoder) _ _ _ _ _ _ inv.limit inv.goes step.0;
     }
 
 pub returns-in-Ok-None-clause-goes : goal.returns-in-Ok-None-clause-goes
 returns-in-Ok-None-clause-goes g c =
-    let inv = c.steps.invariant in
     let step = rw c.in-Ok-None.field-0-is at c.in-Ok-None.ensures.steps in
-    copy_stays (span_state c.args.decoder.now) (span_state c.steps.decoder) (span_state c.copy_front.new.decoder) c.args.self.now.src.items c.steps.self.src.items
-    c.copy_front.new.self.src.items inv.goes.0 _ _ _ inv.goes.1 inv.goes.2 step.0 step.1 step.2
+    copies_kept _ _ _ _ _ _ _ _ _ c.steps.invariant.goes step.0 step.1 step.2
 
 pub returns-in-Err-clause-goes : goal.returns-in-Err-clause-goes
 returns-in-Err-clause-goes g c =
-    let inv = c.steps.invariant in
     let step = c.in-Err.ensures.steps in
-    copy_stays (span_state c.args.decoder.now) (span_state c.steps.decoder) (span_state c.copy_front.new.decoder) c.args.self.now.src.items c.steps.self.src.items
-    c.copy_front.new.self.src.items inv.goes.0 _ _ _ inv.goes.1 inv.goes.2 step.0 step.1 step.2
+    copies_kept _ _ _ _ _ _ _ _ _ c.steps.invariant.goes step.0 step.1 step.2

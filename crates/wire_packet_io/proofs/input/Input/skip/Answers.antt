@@ -1,8 +1,7 @@
 use Rattle.std.proofs.Common.{◌<◌, ◌∙◌, ℕ, length, sym, ap, refl, false, Err, subst, arith, ◌++◌}
 use Rattle.wire_codec.specs.declared.codec.packet.skip.Skipped.{Skipped}
-use Rattle.wire_packet_io.specs.Skips.{SkipsNext}
 use Rattle.wire_packet_io.proofs.PacketIoLemmas.{starts, to_go, goes_on_at, smaller_at}
-use Rattle.wire_packet_io.proofs.SkipLemmas.{skip_to_go, skip_to_go_is, would_stand_more, skip_found, skip_refused, skip_waited, skip_failed, skip_ended}
+use Rattle.wire_packet_io.proofs.SkipLemmas.{Skips, skip_to_go, skip_to_go_is, would_stand_more, skip_found, skip_refused, skip_waited, skip_failed, skip_ended}
 use Rattle.wire_packet_io.proofs.input.Input.skip.Goals as goal
 
 pub skips-init : goal.skips-init
@@ -24,7 +23,7 @@ pub returns-in-Err-clause-skips : goal.returns-in-Err-clause-skips
 returns-in-Err-clause-skips g c full w =
     let inv = c.skips.invariant.so_far full w in
     let k = c.in-Err.ensures.skips inv.0 inv.1 in
-    subst (λ z. SkipsNext full (g.R.Read.remaining c.args.self.now.reader) (g.R.Read.remaining z.reader) c.args.self.now.reads z.reads (Err c.refuse.result) c.skip.new.skipped c.skip.new.self z.src.items)
+    subst (λ z. Skips full (g.R.Read.remaining c.args.self.now.reader) (g.R.Read.remaining z.reader) c.args.self.now.reads z.reads (Err c.refuse.result) c.skip.new.skipped c.skip.new.self z.src.items)
     (sym c.refuse.ensures.rest)
     (skip_refused c.in-Err.error c.refuse.result full inv.0 (g.R.Read.remaining c.args.self.now.reader) (g.R.Read.remaining c.skips.self.reader) c.args.self.now.reads c.skips.self.reads
     c.skip.new.skipped c.skip.new.self c.skip.new.src.items inv.2 k c.refuse.ensures.name)

@@ -2,8 +2,7 @@ use Rattle.std.proofs.Common.{sym, subst, refl, IsNone}
 use Rattle.wire_codec.specs.declared.codec.packet.skip.Skipped.{Skipped}
 use Rattle.wire_codec.specs.Skipping.{WouldStand}
 use Rattle.wire_packet_io.specs.Lent.{reading_state}
-use Rattle.wire_packet_io.specs.Skips.{SkipsNext}
-use Rattle.wire_packet_io.proofs.SkipLemmas.{lent_none, may_skip, fresh_would, left_under_way, left_whole, not_under_way, nothing_is, can_fit}
+use Rattle.wire_packet_io.proofs.SkipLemmas.{Skips, lent_none, may_skip, fresh_would, left_under_way, left_whole, not_under_way, nothing_is, can_fit}
 use Rattle.wire_packet_io.proofs.reader.PacketReader.skip_packet.Goals as goal
 
 pub go_on_skipping-result-requires-clause-may : goal.go_on_skipping-result-requires-clause-may
@@ -21,7 +20,7 @@ returns-then-is_under_way-clause-skips g c none closed found =
     let codec = c.args.codec.now in
     let out = c.go_on_skipping-result in
     let would = fresh_would now.skipped now.is_lost codec now.unread now.held c.skipped_so_far-skipped.result c.skipped_so_far-skipped.ensures (c.requires none) closed found in
-    subst (λ z. SkipsNext (reading_state codec now) (g.R.Read.remaining now.reader) (g.R.Read.remaining z.reader) now.reads z.reads out.result out.new.skipped out.new.codec z.unread)
+    subst (λ z. Skips (reading_state codec now) (g.R.Read.remaining now.reader) (g.R.Read.remaining z.reader) now.reads z.reads out.result out.new.skipped out.new.codec z.unread)
     (sym c.self-2.view_is) (out.ensures.skips (reading_state codec now) would)
 
 pub returns-then-is_under_way-clause-goes_on : goal.returns-then-is_under_way-clause-goes_on
@@ -30,7 +29,7 @@ returns-then-is_under_way-clause-goes_on g c none some full w =
     let codec = c.args.codec.now in
     let out = c.go_on_skipping-result in
     let would = subst (λ (z : Skipped). WouldStand z codec now.unread full) (sym c.skipped_so_far-skipped.ensures) w in
-    subst (λ z. SkipsNext full (g.R.Read.remaining now.reader) (g.R.Read.remaining z.reader) now.reads z.reads out.result out.new.skipped out.new.codec z.unread)
+    subst (λ z. Skips full (g.R.Read.remaining now.reader) (g.R.Read.remaining z.reader) now.reads z.reads out.result out.new.skipped out.new.codec z.unread)
     (sym c.self-2.view_is) (out.ensures.skips full would)
 
 pub returns-then-is_under_way-clause-can : goal.returns-then-is_under_way-clause-can
@@ -50,7 +49,7 @@ returns-else-is_under_way-clause-skips g c none closed found =
     let out = c.go_on_skipping-result in
     let would = fresh_would now.skipped now.is_lost codec now.unread now.held c.skipped_so_far-skipped.result c.skipped_so_far-skipped.ensures (c.requires none) closed found in
     let clean = not_under_way out.new.skipped c.is_under_way.result c.is_under_way.ensures.1 c.if-is_under_way.false in
-    subst (λ (z : Skipped). SkipsNext (reading_state codec now) (g.R.Read.remaining now.reader) (g.R.Read.remaining out.new.self.reader) now.reads out.new.self.reads out.result z out.new.codec out.new.self.unread)
+    subst (λ (z : Skipped). Skips (reading_state codec now) (g.R.Read.remaining now.reader) (g.R.Read.remaining out.new.self.reader) now.reads out.new.self.reads out.result z out.new.codec out.new.self.unread)
     (nothing_is out.new.skipped out.new.self.skipped out.new.self.held out.ensures.whole out.ensures.held clean.0 clean.1) (out.ensures.skips (reading_state codec now) would)
 
 pub returns-else-is_under_way-clause-goes_on : goal.returns-else-is_under_way-clause-goes_on
@@ -60,7 +59,7 @@ returns-else-is_under_way-clause-goes_on g c none some full w =
     let out = c.go_on_skipping-result in
     let would = subst (λ (z : Skipped). WouldStand z codec now.unread full) (sym c.skipped_so_far-skipped.ensures) w in
     let clean = not_under_way out.new.skipped c.is_under_way.result c.is_under_way.ensures.1 c.if-is_under_way.false in
-    subst (λ (z : Skipped). SkipsNext full (g.R.Read.remaining now.reader) (g.R.Read.remaining out.new.self.reader) now.reads out.new.self.reads out.result z out.new.codec out.new.self.unread)
+    subst (λ (z : Skipped). Skips full (g.R.Read.remaining now.reader) (g.R.Read.remaining out.new.self.reader) now.reads out.new.self.reads out.result z out.new.codec out.new.self.unread)
     (nothing_is out.new.skipped out.new.self.skipped out.new.self.held out.ensures.whole out.ensures.held clean.0 clean.1) (out.ensures.skips full would)
 
 pub returns-else-is_under_way-clause-can : goal.returns-else-is_under_way-clause-can
