@@ -49,14 +49,14 @@ came_len before (read ∷ reads) waits small =
     omega arith
 
 -- what is held and unread, with the headers of what is held
-split_len : (first : ℕ) (S held : List ℕ) (limit id : ℕ) (q W : List ℕ) → Splits held S first limit [] q W
-    → (length q + length W ≤ length S) × (length (front id q ++ W) ≤ length S)
-split_len first S held limit id q W s =
+split_len : (answer : Answer) (first : ℕ) (S held : List ℕ) (limit id : ℕ) (q W : List ℕ) → Splits held S first limit [] q W
+    → (length q + length W ≤ length S) × (answer ≢ Err PacketsOutOfSync → length (front id q ++ W) ≤ length S)
+split_len answer first S held limit id q W s =
     let size = length-split held S first limit q W s in
     let f = length-append (front id q) W in
     let g = length-front_under id q in
     let h = blocks_whole (length q) s.unfinished_whole in
-    (omega arith, omega arith)
+    (omega arith, λ _. omega arith)
 
 -- what stands behind a call
 left_len : (answer : Answer) (before after : CodecState) (more : List ℕ) → ReadsTo before more answer after
@@ -69,21 +69,16 @@ left_len (Ok (Some packet)) before after more t =
     let all' = ap (λ (z : List ℕ). front (first_id after) z ++ after.unread) t.1 ∙ ap (λ (z : List ℕ). z ++ after.unread) (front-nil (first_id after)) in
     let len = ap (λ (z : List ℕ). length z) all' in
     (omega arith, λ _. omega arith)
-left_len (Ok None) before after more t =
-    let s = split_len (first_id before) (input_of before ++ more) before.held before.limit (first_id after) after.held after.unread t.0.0.splits in (s.0, λ _. s.1)
-left_len (Err UnexpectedEnd) before after more t =
-    let s = split_len (first_id before) (input_of before ++ more) before.held before.limit (first_id after) after.held after.unread t.0.0.splits in (s.0, λ _. s.1)
-left_len (Err (Io error)) before after more t =
-    let s = split_len (first_id before) (input_of before ++ more) before.held before.limit (first_id after) after.held after.unread t.0.splits in (s.0, λ _. s.1)
-left_len (Err PacketTooLarge) before after more t =
-    let s = split_len (first_id before) (input_of before ++ more) before.held before.limit (first_id after) after.held after.unread t.0.splits in (s.0, λ _. s.1)
-left_len (Err OutOfMemory) before after more t =
-    let s = split_len (first_id before) (input_of before ++ more) before.held before.limit (first_id after) after.held after.unread t.0 in (s.0, λ _. s.1)
+left_len (Ok None) before after more t = split_len (Ok None) (first_id before) (input_of before ++ more) before.held before.limit (first_id after) after.held after.unread t.0.0.splits
+left_len (Err UnexpectedEnd) before after more t = split_len (Err UnexpectedEnd) (first_id before) (input_of before ++ more) before.held before.limit (first_id after) after.held after.unread t.0.0.splits
+left_len (Err (Io error)) before after more t = split_len (Err (Io error)) (first_id before) (input_of before ++ more) before.held before.limit (first_id after) after.held after.unread t.0.splits
+left_len (Err PacketTooLarge) before after more t = split_len (Err PacketTooLarge) (first_id before) (input_of before ++ more) before.held before.limit (first_id after) after.held after.unread t.0.splits
+left_len (Err OutOfMemory) before after more t = split_len (Err OutOfMemory) (first_id before) (input_of before ++ more) before.held before.limit (first_id after) after.held after.unread t.0
 left_len (Err PacketsOutOfSync) before after more t =
     let unfinished : List ℕ = t.0 in
     let rest : List ℕ = t.1 in
     let n = chunk_len rest in
-    let s = split_len (first_id before) (input_of before ++ more) before.held before.limit 0 unfinished rest t.2.splits in
+    let s = split_len (Ok None) (first_id before) (input_of before ++ more) before.held before.limit 0 unfinished rest t.2.splits in
     let few = s.0 in
     let dst = ap (λ (z : List ℕ). length z) t.3 ∙ length-append unfinished (take n (drop 4 rest)) in
     let some = length-take n (drop 4 rest) in

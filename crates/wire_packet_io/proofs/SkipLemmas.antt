@@ -16,13 +16,13 @@ use Rattle.wire_codec.specs.declared.codec.error.PacketCodecError.TheVariants as
 use Rattle.wire_codec.proofs.RunLemmas.{nothing_whole, stands_append}
 use Rattle.wire_codec.proofs.CodecLemmas.{stands_without}
 use Rattle.wire_packet_io.specs.declared.error.PacketIoError.{PacketIoError}
-use Rattle.wire_packet_io.specs.declared.error.PacketIoError.TheVariants.{Io, UnexpectedEnd, WriteZero, PacketTooLarge, PacketsOutOfSync, OutOfMemory}
+use Rattle.wire_packet_io.specs.declared.error.PacketIoError.TheVariants.{Io, UnexpectedEnd, PacketTooLarge, PacketsOutOfSync, OutOfMemory}
 use Rattle.wire_packet_io.specs.Lent.{packet_of, unread_behind}
 use Rattle.wire_packet_io.specs.declared.input.Found.{Found}
 use Rattle.wire_packet_io.specs.declared.input.Found.TheVariants.{InFront, Apart}
 use Rattle.wire_packet_io.specs.PacketIo.{Answer, FitsAt, NextPacket, ReadFails, most_reads}
 use Rattle.wire_packet_io.specs.Skips.{LeavesNext, SkipsFor, skipped_or, IsRefusal}
-use Rattle.wire_packet_io.proofs.PacketIoLemmas.{length-zero, is_standing, SoFar, Waited, ends_by, failed_ends, waited, ended_at, failed_at, to_go}
+use Rattle.wire_packet_io.proofs.PacketIoLemmas.{length-zero, is_standing, SoFar, Waited, ends_by, ended, failed, to_go}
 
 -- a packet is skipped, by what is left below and how many reads were made
 abbrev pub Skips : CodecState → Option (List ℕ) → Option (List ℕ) → ℕ → ℕ → Result Bool PacketIoError → Skipped → PacketCodec → List ℕ → Type 0
@@ -57,11 +57,8 @@ skip_to_go_is full mid first skipped start codec old src w v =
 
 -- more bytes behind what is to be read
 spelled_more : (bytes more : List ℕ) → 4 ≤ length bytes → IsSpelled bytes → IsSpelled (bytes ++ more)
-spelled_more [] more long s = absurd (omega arith)
-spelled_more (a ∷ []) more long s = absurd (omega arith)
-spelled_more (a ∷ b ∷ []) more long s = absurd (omega arith)
-spelled_more (a ∷ b ∷ c ∷ []) more long s = absurd (omega arith)
 spelled_more (a ∷ b ∷ c ∷ d ∷ bytes) more long s = λ h. s long
+spelled_more bytes more long s = absurd (omega arith)
 
 gone_more : (begun : Option OpenChunk) (gone unread src more : List ℕ) → unread ≡ gone ++ src → IsGone begun gone unread → IsGone begun gone (unread ++ more)
 gone_more None gone unread src more is g = g
@@ -101,52 +98,29 @@ pub skip_refused : (error : PacketCodecError) (named : PacketIoError) (full mid 
     → SoFar full mid unread left old_reads new_reads → SkipsPacket mid (Err error) skipped codec src → IsRefusal error named
     → Skips full unread left old_reads new_reads (Err named) skipped codec src
 skip_refused codec.PacketTooLarge named full mid unread left old_reads new_reads skipped codec src s k is =
-    subst (λ (e : PacketIoError). Skips full unread left old_reads new_reads (Err e) skipped codec src) (sym is) (
-      Err PacketTooLarge,
-      k.0,
-      refl,
-      ends_by (Err PacketTooLarge) false full mid k.0 unread left left old_reads new_reads new_reads s refl refl (failed_ends PacketTooLarge) (k.1, refl),
-      k.2,
-    )
+    rw is (Err PacketTooLarge, k.0, refl, ends_by (Err PacketTooLarge) false full mid k.0 unread left left old_reads new_reads new_reads s refl refl (λ e. absurd cc) (k.1, refl), k.2)
 skip_refused codec.PacketsOutOfSync named full mid unread left old_reads new_reads skipped codec src s k is =
-    subst (λ (e : PacketIoError). Skips full unread left old_reads new_reads (Err e) skipped codec src) (sym is) (
-      Err PacketsOutOfSync,
-      k.0,
-      refl,
-      ends_by (Err PacketsOutOfSync) true full mid k.0 unread left left old_reads new_reads new_reads s refl refl (failed_ends PacketsOutOfSync) (k.1, refl),
-      k.2,
-    )
-skip_refused codec.OutOfMemory named full mid unread left old_reads new_reads skipped codec src s k is = absurd k.2
-skip_refused (codec.Io cause) named full mid unread left old_reads new_reads skipped codec src s k is = absurd k.2
-
--- more bytes are needed
-pub skip_waited : (full mid : CodecState) (unread left : Option (List ℕ)) (old_reads new_reads : ℕ) (skipped : Skipped) (now codec : PacketCodec) (src old : List ℕ) (before : Skipped)
-    → SoFar full mid unread left old_reads new_reads → WouldStand before now old mid → codec.max_allowed_packet ≡ now.max_allowed_packet
-    → (k : SkipsPacket mid (Ok false) skipped codec src) → Waited full k.0 unread left old_reads new_reads
-skip_waited full mid unread left old_reads new_reads skipped now codec src old before s w limit k =
-    waited false full mid k.0 unread left left old_reads new_reads new_reads s refl refl (k.2.limit ∙ limit ∙ sym w.limit) (k.1, refl)
+    rw is (Err PacketsOutOfSync, k.0, refl, ends_by (Err PacketsOutOfSync) true full mid k.0 unread left left old_reads new_reads new_reads s refl refl (λ e. absurd cc) (k.1, refl), k.2)
+skip_refused other named full mid unread left old_reads new_reads skipped codec src s k is = absurd k.2
 
 leaves_failed : (error : PacketIoError) (old_reads new_reads : ℕ) (skipped : Skipped) (codec : PacketCodec) (src : List ℕ) (after : CodecState)
     → ReadFails error old_reads new_reads → WouldStand skipped codec src after → LeavesNext (Err error) skipped codec src after
 leaves_failed (Io error) old_reads new_reads skipped codec src after failed v = v
 leaves_failed OutOfMemory old_reads new_reads skipped codec src after failed v = v
-leaves_failed PacketTooLarge old_reads new_reads skipped codec src after failed v = absurd failed
-leaves_failed PacketsOutOfSync old_reads new_reads skipped codec src after failed v = absurd failed
-leaves_failed UnexpectedEnd old_reads new_reads skipped codec src after failed v = absurd failed
-leaves_failed WriteZero old_reads new_reads skipped codec src after failed v = absurd failed
+leaves_failed other old_reads new_reads skipped codec src after failed v = absurd failed
 
 -- a read failed
 pub skip_failed : (error : PacketIoError) (full after : CodecState) (unread left last : Option (List ℕ)) (old_reads new_reads all : ℕ)
     (skipped : Skipped) (codec : PacketCodec) (src now : List ℕ)
     → Waited full after unread left old_reads new_reads → WouldStand skipped codec src after → now ≡ src → Keeps left last → ReadFails error new_reads all
     → Skips full unread last old_reads all (Err error) skipped codec now
-skip_failed error full after unread left last old_reads new_reads all skipped codec src now w v is kept failed =
+skip_failed error full after unread left last old_reads new_reads all skipped codec src now w v is kept fails =
     subst (λ (z : List ℕ). Skips full unread last old_reads all (Err error) skipped codec z) (sym is) (
       Err error,
       after,
       refl,
-      failed_at error full after unread left last old_reads new_reads all after.unread after.held w refl refl kept failed,
-      leaves_failed error new_reads all skipped codec src after failed v,
+      failed error full after unread left last old_reads new_reads all after.unread after.held w refl refl kept fails,
+      leaves_failed error new_reads all skipped codec src after fails v,
     )
 
 begun_long : (begun : Option OpenChunk) (gone unread : List ℕ) → IsSome begun → IsGone begun gone unread → 4 ≤ length gone
@@ -155,13 +129,13 @@ begun_long (Some begun) gone unread some g = g.0
 
 -- the input ended
 pub skip_ended : (result : Result Bool PacketIoError) (full after : CodecState) (unread left last : Option (List ℕ)) (old_reads new_reads all : ℕ)
-    (skipped : Skipped) (codec : PacketCodec) (src now piece : List ℕ)
-    → Waited full after unread left old_reads new_reads → WouldStand skipped codec src after → now ≡ src ++ piece → length piece ≡ 0
-    → Consumes left last piece → IsAtEnd last → all ≡ min (new_reads + 1) (2 ^ 64 - 1)
+    (skipped : Skipped) (codec : PacketCodec) (src now : List ℕ) (n : ℕ)
+    → Waited full after unread left old_reads new_reads → WouldStand skipped codec src after
+    → (came : List ℕ) × (length came ≡ n) × (now ≡ src ++ came) × Consumes left last came → n ≡ 0 → IsAtEnd last → all ≡ min (new_reads + 1) (2 ^ 64 - 1)
     → IfOk result (λ more. (more ≡ false) × (length now ≡ 0) × (skipped.held ≡ 0) × (skipped.begun ≡ None))
     → IfErr result (λ error. (error ≡ UnexpectedEnd) × ((0 < length now) ⊎ ((0 < skipped.held) ⊎ IsSome skipped.begun)))
     → Skips full unread last old_reads all result skipped codec now
-skip_ended (Ok more) full after unread left last old_reads new_reads all skipped codec src now piece w v is none took at_end count clean inside =
+skip_ended (Ok more) full after unread left last old_reads new_reads all skipped codec src now n w v (piece, long, is, took) none at_end count clean inside =
     let stands = would_stand_more skipped codec src piece now after v is in
     let gone = gone_is skipped.begun v.gone after.unread v.gone_is ∙ ap (λ (b : Option OpenChunk). gone_len b) clean.3 in
     let size = ap (λ (z : List ℕ). length z) v.unread_is ∙ length-append v.gone src in
@@ -171,11 +145,11 @@ skip_ended (Ok more) full after unread left last old_reads new_reads all skipped
       Ok None,
       record after { unread = after.unread ++ piece },
       refl,
-      ended_at (Ok None) full after unread left last old_reads new_reads all (after.unread ++ piece) after.held piece w refl none refl took at_end count
-          (omega (arith, more_size, size, gone, whole, none, clean.1), v.held_is ∙ clean.2),
+      ended (Ok None) full after unread left last old_reads new_reads all (after.unread ++ piece) after.held n w refl (piece, long, refl, took) none at_end count
+          (omega (arith, more_size, size, gone, whole, long, none, clean.1), v.held_is ∙ clean.2),
       stands,
     )
-skip_ended (Err error) full after unread left last old_reads new_reads all skipped codec src now piece w v is none took at_end count clean inside =
+skip_ended (Err error) full after unread left last old_reads new_reads all skipped codec src now n w v (piece, long, is, took) none at_end count clean inside =
     let stands = would_stand_more skipped codec src piece now after v is in
     let gone = gone_is skipped.begun v.gone after.unread v.gone_is in
     let size = ap (λ (z : List ℕ). length z) v.unread_is ∙ length-append v.gone src in
@@ -192,23 +166,15 @@ skip_ended (Err error) full after unread left last old_reads new_reads all skipp
       Err UnexpectedEnd,
       record after { unread = after.unread ++ piece },
       refl,
-      ended_at (Err UnexpectedEnd) full after unread left last old_reads new_reads all (after.unread ++ piece) after.held piece w refl none refl took at_end count some,
+      ended (Err UnexpectedEnd) full after unread left last old_reads new_reads all (after.unread ++ piece) after.held n w refl (piece, long, refl, took) none at_end count some,
       stands,
     )
 
 -- a packet of which nothing was dropped, or full chunks that were held
 pub would_begin : (codec : PacketCodec) (src held : List ℕ) → Stands (codec_state codec src held)
     → WouldStand (record { held = length held; begun = None }) codec src (codec_state codec src held)
-would_begin codec src held stands = record {
-  limit = refl;
-  id = refl;
-  header = refl;
-  gone = [];
-  gone_is = refl;
-  unread_is = refl;
-  held_is = refl;
-  stands = stands;
-}
+would_begin codec src held stands =
+    record { limit = refl; id = refl; header = refl; gone = []; gone_is = refl; unread_is = refl; held_is = refl; stands = stands }
 
 pub may_skip : (skipped : Option Skipped) (lost : Bool) (codec : PacketCodec) (src held : List ℕ)
     → MatchOption skipped (FitsAt lost (codec_state codec src held)) (λ k. MaySkip k codec src)
@@ -226,13 +192,8 @@ not_behind skipped is more =
 pub left_under_way : (result : Result Bool PacketIoError) (skipped : Skipped) (codec : PacketCodec) (src : List ℕ) (after : CodecState)
     → LeavesNext result skipped codec src after → (0 < skipped.held) ⊎ IsSome skipped.begun → WouldStand skipped codec src after
 left_under_way (Ok true) skipped codec src after left more = absurd (not_behind skipped left.0 more)
-left_under_way (Ok false) skipped codec src after left more = left
 left_under_way (Err PacketsOutOfSync) skipped codec src after left more = absurd (not_behind skipped left.0 more)
-left_under_way (Err PacketTooLarge) skipped codec src after left more = left
-left_under_way (Err OutOfMemory) skipped codec src after left more = left
-left_under_way (Err UnexpectedEnd) skipped codec src after left more = left
-left_under_way (Err WriteZero) skipped codec src after left more = left
-left_under_way (Err (Io error)) skipped codec src after left more = left
+left_under_way other skipped codec src after left more = left
 
 -- or none, and the codec stands there
 whole_stands : (skipped : Skipped) (codec : PacketCodec) (src : List ℕ) (after : CodecState)
@@ -255,13 +216,8 @@ left_whole (Ok true) lost full unread left old_reads new_reads skipped codec src
     let next = subst (λ (a : Answer). NextPacket full unread left old_reads new_reads a k.1) k.2.1 k.3 in
     let header : header_of codec ≡ None = sym (ap (λ (z : CodecState). z.header) k.4.1) ∙ next.answers.0.3 in
     inr (stands_without codec.max_allowed_packet src [] (header_of codec) nothing_whole header)
-left_whole (Ok false) lost full unread left old_reads new_reads skipped codec src k held none lose = inr (whole_stands skipped codec src k.1 k.4 held none)
 left_whole (Err PacketsOutOfSync) lost full unread left old_reads new_reads skipped codec src k held none lose = inl (lose refl)
-left_whole (Err PacketTooLarge) lost full unread left old_reads new_reads skipped codec src k held none lose = inr (whole_stands skipped codec src k.1 k.4 held none)
-left_whole (Err OutOfMemory) lost full unread left old_reads new_reads skipped codec src k held none lose = inr (whole_stands skipped codec src k.1 k.4 held none)
-left_whole (Err UnexpectedEnd) lost full unread left old_reads new_reads skipped codec src k held none lose = inr (whole_stands skipped codec src k.1 k.4 held none)
-left_whole (Err WriteZero) lost full unread left old_reads new_reads skipped codec src k held none lose = inr (whole_stands skipped codec src k.1 k.4 held none)
-left_whole (Err (Io error)) lost full unread left old_reads new_reads skipped codec src k held none lose = inr (whole_stands skipped codec src k.1 k.4 held none)
+left_whole other lost full unread left old_reads new_reads skipped codec src k held none lose = inr (whole_stands skipped codec src k.1 k.4 held none)
 
 -- no packet is lent
 pub unlent : {A : Type 0} (found : Option (Found A)) (src : List ℕ) → IsNone (packet_of found src) → unread_behind found src ≡ src
@@ -270,19 +226,15 @@ unlent (Some (Apart packet)) src h = absurd cc
 unlent None src h = refl
 
 pub lent_none : {A : Type 0} (found : Option (Found A)) (src : List ℕ) (lent : Bool) → lent ≡ is_some found → lent ≡ false → IsNone (packet_of found src)
-lent_none (Some InFront) src lent e f = absurd cc
-lent_none (Some (Apart packet)) src lent e f = absurd cc
 lent_none None src lent e f = refl
+lent_none found src lent e f = absurd cc
 
 -- at the start of a packet
-pub fresh_would : (skipped : Option Skipped) (lost : Bool) (codec : PacketCodec) (src held : List ℕ) (now : Skipped) → now ≡ skipped_or skipped (length held)
+pub fresh_would : (skipped : Option Skipped) (lost : Bool) (codec : PacketCodec) (src held : List ℕ)
     → MatchOption skipped (FitsAt lost (codec_state codec src held)) (λ k. MaySkip k codec src) → IsNone skipped → IsFalse lost
-    → WouldStand now codec src (codec_state codec src held)
-fresh_would None false codec src held now is can none found =
-    subst (λ (z : Skipped). WouldStand z codec src (codec_state codec src held)) (sym is)
-    (would_begin codec src held (is_standing false (codec_state codec src held) refl can))
-fresh_would None true codec src held now is can none found = absurd cc
-fresh_would (Some k) lost codec src held now is can none found = absurd cc
+    → WouldStand (skipped_or skipped (length held)) codec src (codec_state codec src held)
+fresh_would None false codec src held can none found = would_begin codec src held (is_standing false (codec_state codec src held) refl can)
+fresh_would skipped lost codec src held can none found = absurd cc
 
 -- nothing was dropped
 begun_none : (begun : Option OpenChunk) → (IsSome begun → ⊥) → begun ≡ None

@@ -1,7 +1,8 @@
-use Rattle.std.proofs.Common.{◌≡◌, ◌-◌, [], length}
+use Rattle.std.proofs.Common.{◌≡◌, ◌-◌, [], length, None, Ok, false}
 use Rattle.wire_span.specs.Spans.{header_came, span_state}
 use Rattle.wire_span.specs.Passing.{most_bytes}
-use Rattle.wire_packet_io.proofs.CopyLemmas.{CopiedSoFar}
+use Rattle.wire_packet_io.specs.Lent.{lender}
+use Rattle.wire_packet_io.specs.Copying.{CopiesTo}
 use Rattle.wire_packet_io.proofs.input.Input.copy.Given as goal
 
 abbrev pub invariant-reads : goal.invariant-reads
@@ -10,8 +11,8 @@ invariant-reads g l = record {
   limit : l.decoder.max_allowed_packet ≡ l.fn.decoder.max_allowed_packet;
   held : l.self.dst ≡ l.fn.self.dst;
   lost : l.self.lost ≡ l.fn.self.lost;
-  so_far : CopiedSoFar (span_state l.fn.decoder) l.fn.self.src.items (g.R.Read.remaining l.fn.self.reader) (g.R.Read.remaining l.self.reader)
-      l.fn.self.reads l.self.reads (g.W.Write.contents l.fn.writer) (g.W.Write.contents l.writer) (span_state l.decoder) l.self.src.items;
+  so_far : CopiesTo g.R.Read.remaining g.W.Write.contents (span_state l.fn.decoder) (lender None l.fn.self) l.fn.writer (Ok false)
+      (span_state l.decoder) (lender None l.self) l.writer;
 }
 
 abbrev pub decreases-reads : goal.decreases-reads

@@ -2,7 +2,7 @@ use Rattle.std.proofs.Common.{ap, arith, sym, subst, refl}
 use Rattle.std.proofs.KnownBytes.{Keeps-refl}
 use Rattle.wire_span.specs.Spans.{SpanState, span_state}
 use Rattle.wire_packet_io.specs.Copying.{StopsHere}
-use Rattle.wire_packet_io.proofs.CopyLemmas.{header_step, header_stop}
+use Rattle.wire_packet_io.proofs.CopyLemmas.{header_step, header_stop, stops_named}
 use Rattle.wire_packet_io.proofs.input.Input.copy_front.Goals as goal
 
 pub returns-in-Ok-clause-steps : goal.returns-in-Ok-clause-steps
@@ -18,11 +18,6 @@ pub returns-in-Err-clause-steps : goal.returns-in-Err-clause-steps
 returns-in-Err-clause-steps g c =
     let read = c.in-Some.header in
     let said = rw c.as_slice.ensures at c.in-Some.ensures in
-    let same = ap (λ z. span_state z) c.in-Err.ensures.err in (
-      same,
-      refl,
-      Keeps-refl _,
-      subst (λ (s : SpanState). StopsHere c.refusal.result s c.args.self.now.src.items) (sym same)
-          (header_stop c.in-Err.error c.refusal.result (span_state c.args.decoder.now) c.args.self.now.src.items read.len read.seq_id
-          (said.there.0 refl) said.len said.id said.spelled c.refusal.ensures c.in-Err.ensures.refused),
-    )
+    let same = ap (λ z. span_state z) c.in-Err.ensures.err in
+    let stops = header_stop c.in-Err.error (span_state c.args.decoder.now) c.args.self.now.src.items read.len read.seq_id (said.there.0 refl) said.len said.id said.spelled c.in-Err.ensures.refused in
+    (same, refl, Keeps-refl _, subst (λ (s : SpanState). StopsHere c.refusal.result s c.args.self.now.src.items) (sym same) (stops_named c.in-Err.error c.refusal.result _ _ c.refusal.ensures stops))

@@ -1,7 +1,12 @@
-use Rattle.std.proofs.Common.{◌++◌, ◌∙◌, [], ap, arith, refl, Ok, Err, true, false}
+use Rattle.std.proofs.Common.{◌∙◌, [], ap, refl, None, Ok, Err, true, false}
 use Rattle.wire_span.specs.Spans.{span_state}
-use Rattle.wire_packet_io.proofs.RelayLemmas.{reads_start, reads_go, reads_read, reads_end, reads_fail, gone_none, gone_more, gone_out, gone_so, relay_stops_by, relay_write_stops, relay_read_stops, relay_at_end}
+use Rattle.wire_packet_io.specs.Lent.{lender}
+use Rattle.wire_packet_io.specs.Relaying.{RelaysTo}
+use Rattle.wire_packet_io.proofs.CopyLemmas.{reads_start, reads_read, reads_end, reads_fail}
+use Rattle.wire_packet_io.proofs.RelayLemmas.{relays_go, gone_none, gone_out, relay_stops_by, relay_write_stops, relay_read_stops, relay_at_end}
+use Rattle.wire_packet_io.proofs.input.Input.relay.Given as given
 use Rattle.wire_packet_io.proofs.input.Input.relay.Goals as goal
+use Rattle.wire_packet_io.proofs.input.Input.relay.Goals.{After-write_pending}
 
 pub reads-init : goal.reads-init
 reads-init g c = record {
@@ -18,120 +23,61 @@ reads-init g c = record {
 
 pub returns-in-Ok-true-clause-relays : goal.returns-in-Ok-true-clause-relays
 returns-in-Ok-true-clause-relays g c =
-    let goes = rw c.in-Ok-true.field-0-test at c.in-Ok-true.ensures.goes in
-    let inv = c.reads.invariant in
-    let before = span_state c.args.decoder.now in
-    let mid = span_state c.reads.decoder in
-    let after = span_state c.relay_unread.new.decoder in (
-      inv.so_far.0 ++ goes.0,
-      reads_go (Ok true) before mid after c.args.self.now.src.items c.reads.self.src.items c.relay_unread.new.self.src.items _ _ _ _ _ _ inv.so_far.0 goes.0 inv.so_far.1 inv.limit
-          (ap (λ z. g.R.Read.remaining z.reader) c.relay_unread.ensures.rest) (ap (λ z. z.reads) c.relay_unread.ensures.rest) goes.2,
-      gone_more true before mid after c.args.next_id.now c.reads.next_id c.relay_unread.new.next_id inv.so_far.0 goes.0 goes.1 c.args.writer.now.pending c.reads.writer.pending c.relay_unread.new.writer.pending
-          _ _ _ inv.so_far.2 inv.limit goes.3 goes.4 (ap (λ z. g.W.Write.contents z) c.relay_unread.ensures.writer),
-    )
+    relays_go (Ok true) (span_state c.args.decoder.now) (span_state c.reads.decoder) (span_state c.relay_unread.new.decoder) _ _ _ c.args.self.now.src.items _ _ _ _ _ _ _ _ _ _ _ _ _ _
+    c.reads.invariant.limit (ap (λ z. g.R.Read.remaining z.reader) c.relay_unread.ensures.rest) (ap (λ z. z.reads) c.relay_unread.ensures.rest)
+    (ap (λ z. g.W.Write.contents z) c.relay_unread.ensures.writer) c.reads.invariant.so_far (rw c.in-Ok-true.field-0-test at c.in-Ok-true.ensures.goes)
 
 pub returns-in-Err-clause-relays : goal.returns-in-Err-clause-relays
 returns-in-Err-clause-relays g c =
-    let goes = c.in-Err.ensures.goes in
-    let inv = c.reads.invariant in
-    let before = span_state c.args.decoder.now in
-    let mid = span_state c.reads.decoder in
-    let after = span_state c.relay_unread.new.decoder in (
-      inv.so_far.0 ++ goes.0,
-      reads_go (Err c.in-Err.error) before mid after c.args.self.now.src.items c.reads.self.src.items c.relay_unread.new.self.src.items _ _ _ _ _ _ inv.so_far.0 goes.0 inv.so_far.1 inv.limit
-          (ap (λ z. g.R.Read.remaining z.reader) c.relay_unread.ensures.rest) (ap (λ z. z.reads) c.relay_unread.ensures.rest) goes.2,
-      gone_more false before mid after c.args.next_id.now c.reads.next_id c.relay_unread.new.next_id inv.so_far.0 goes.0 goes.1 c.args.writer.now.pending c.reads.writer.pending c.relay_unread.new.writer.pending
-          _ _ _ inv.so_far.2 inv.limit goes.3 goes.4 (ap (λ z. g.W.Write.contents z) c.relay_unread.ensures.writer),
-    )
+    relays_go (Err c.in-Err.error) (span_state c.args.decoder.now) (span_state c.reads.decoder) (span_state c.relay_unread.new.decoder) _ _ _ c.args.self.now.src.items _ _ _ _ _ _ _ _ _ _ _ _ _ _
+    c.reads.invariant.limit (ap (λ z. g.R.Read.remaining z.reader) c.relay_unread.ensures.rest) (ap (λ z. z.reads) c.relay_unread.ensures.rest)
+    (ap (λ z. g.W.Write.contents z) c.relay_unread.ensures.writer) c.reads.invariant.so_far c.in-Err.ensures.goes
+
+-- what was there went behind what is pending, a front of that was written, and the packet goes on
+went : (g : given.Over) (c : After-write_pending g)
+    → RelaysTo g.R.Read.remaining g.W.Write.contents (span_state c.args.decoder.now) (lender None c.args.self.now) c.args.next_id.now c.args.writer.now (Ok false)
+    (span_state c.relay_unread.new.decoder) (lender None c.relay_unread.new.self) c.relay_unread.new.next_id c.write_pending.new.self
+went g c =
+    let wrote = c.write_pending.ensures.sent in
+    let s = relays_go (Ok false) (span_state c.args.decoder.now) (span_state c.reads.decoder) (span_state c.relay_unread.new.decoder) _ _ _ c.args.self.now.src.items _ _ _ _ _ _ _ _ _ _ _ _ _ _
+    c.reads.invariant.limit (ap (λ z. g.R.Read.remaining z.reader) c.relay_unread.ensures.rest) (ap (λ z. z.reads) c.relay_unread.ensures.rest)
+    (ap (λ z. g.W.Write.contents z) c.relay_unread.ensures.writer) c.reads.invariant.so_far (rw c.in-Ok-false.field-0-test at c.in-Ok-false.ensures.goes) in
+    (s.0, s.1, gone_out _ _ _ _ s.0 wrote.0 _ _ _ _ _ _ s.2 wrote.1 wrote.2)
 
 pub returns-in-Err-write_pending-clause-relays : goal.returns-in-Err-write_pending-clause-relays
 returns-in-Err-write_pending-clause-relays g c =
-    let goes = rw c.in-Ok-false.field-0-test at c.in-Ok-false.ensures.goes in
-    let waits = rw c.in-Ok-false.field-0-test at c.in-Ok-false.ensures.ends in
-    let inv = c.reads.invariant in
-    let before = span_state c.args.decoder.now in
-    let mid = span_state c.reads.decoder in
-    let after = span_state c.relay_unread.new.decoder in
-    let came = reads_go (Ok false) before mid after c.args.self.now.src.items c.reads.self.src.items c.relay_unread.new.self.src.items _ _ _ _ _ _ inv.so_far.0 goes.0 inv.so_far.1 inv.limit
-    (ap (λ z. g.R.Read.remaining z.reader) c.relay_unread.ensures.rest) (ap (λ z. z.reads) c.relay_unread.ensures.rest) goes.2 in
-    let moved = gone_more false before mid after c.args.next_id.now c.reads.next_id c.relay_unread.new.next_id inv.so_far.0 goes.0 goes.1 c.args.writer.now.pending c.reads.writer.pending c.relay_unread.new.writer.pending
-    _ _ _ inv.so_far.2 inv.limit goes.3 goes.4 (ap (λ z. g.W.Write.contents z) c.relay_unread.ensures.writer) in
-    let wrote = c.write_pending.ensures.sent in
-    let gone = gone_out before after c.args.next_id.now c.relay_unread.new.next_id (inv.so_far.0 ++ goes.0) wrote.0 c.args.writer.now.pending c.relay_unread.new.writer.pending c.write_pending.new.self.pending
-    _ _ _ moved wrote.1 wrote.2 in
-    (inv.so_far.0 ++ goes.0, reads_end (Err c.in-Err-write_pending.error) before after _ _ _ _ _ _ _ came refl, gone)
+    let s = went g (goal.at.returns-in-Err-write_pending-clause-relays g c).After-write_pending in
+    (s.0, reads_end (Err c.in-Err-write_pending.error) _ _ _ _ _ _ _ _ s.0 s.1 refl, s.2)
 
 pub returns-in-Ok-eq0-clause-relays : goal.returns-in-Ok-eq0-clause-relays
 returns-in-Ok-eq0-clause-relays g c =
-    let goes = rw c.in-Ok-false.field-0-test at c.in-Ok-false.ensures.goes in
-    let waits = rw c.in-Ok-false.field-0-test at c.in-Ok-false.ensures.ends in
-    let inv = c.reads.invariant in
-    let before = span_state c.args.decoder.now in
-    let mid = span_state c.reads.decoder in
-    let after = span_state c.relay_unread.new.decoder in
-    let came = reads_go (Ok false) before mid after c.args.self.now.src.items c.reads.self.src.items c.relay_unread.new.self.src.items _ _ _ _ _ _ inv.so_far.0 goes.0 inv.so_far.1 inv.limit
-    (ap (λ z. g.R.Read.remaining z.reader) c.relay_unread.ensures.rest) (ap (λ z. z.reads) c.relay_unread.ensures.rest) goes.2 in
-    let moved = gone_more false before mid after c.args.next_id.now c.reads.next_id c.relay_unread.new.next_id inv.so_far.0 goes.0 goes.1 c.args.writer.now.pending c.reads.writer.pending c.relay_unread.new.writer.pending
-    _ _ _ inv.so_far.2 inv.limit goes.3 goes.4 (ap (λ z. g.W.Write.contents z) c.relay_unread.ensures.writer) in
-    let wrote = c.write_pending.ensures.sent in
-    let gone = gone_out before after c.args.next_id.now c.relay_unread.new.next_id (inv.so_far.0 ++ goes.0) wrote.0 c.args.writer.now.pending c.relay_unread.new.writer.pending c.write_pending.new.self.pending
-    _ _ _ moved wrote.1 wrote.2 in
-    let piece = c.in-Ok-eq0.ensures.ok in
-    let read = reads_read before after c.args.self.now.src.items c.relay_unread.new.self.src.items c.read_more.new.self.src.items piece.0 _ _ _ _ _ _ _ came waits piece.2 piece.3 c.in-Ok-eq0.ensures.read
-    (let n = c.in-Ok-eq0.ensures.small in let e = piece.1 in omega arith) in (
-      inv.so_far.0 ++ goes.0,
-      reads_end c.at_copys_end.result before after _ _ _ _ _ _ _ read c.at_copys_end.ensures.going,
-      gone_so _ before after _ _ _ _ _ _ _ gone c.at_copys_end.ensures.going,
+    let s = went g (goal.at.returns-in-Ok-eq0-clause-relays g c).After-write_pending in
+    let waits = rw c.in-Ok-false.field-0-test at c.in-Ok-false.ensures.ends in (
+      s.0,
+      reads_end c.at_copys_end.result _ _ _ _ _ _ _ _ s.0
+          (reads_read _ _ _ _ _ _ _ _ _ _ _ s.0 _ s.1 waits c.in-Ok-eq0.ensures.ok c.in-Ok-eq0.ensures.small c.in-Ok-eq0.ensures.read) c.at_copys_end.ensures.going,
+      rw c.at_copys_end.ensures.going s.2,
     )
 
 pub returns-in-Err-read_more-clause-relays : goal.returns-in-Err-read_more-clause-relays
 returns-in-Err-read_more-clause-relays g c =
-    let goes = rw c.in-Ok-false.field-0-test at c.in-Ok-false.ensures.goes in
+    let s = went g (goal.at.returns-in-Err-read_more-clause-relays g c).After-write_pending in
     let waits = rw c.in-Ok-false.field-0-test at c.in-Ok-false.ensures.ends in
-    let inv = c.reads.invariant in
-    let before = span_state c.args.decoder.now in
-    let mid = span_state c.reads.decoder in
-    let after = span_state c.relay_unread.new.decoder in
-    let came = reads_go (Ok false) before mid after c.args.self.now.src.items c.reads.self.src.items c.relay_unread.new.self.src.items _ _ _ _ _ _ inv.so_far.0 goes.0 inv.so_far.1 inv.limit
-    (ap (λ z. g.R.Read.remaining z.reader) c.relay_unread.ensures.rest) (ap (λ z. z.reads) c.relay_unread.ensures.rest) goes.2 in
-    let moved = gone_more false before mid after c.args.next_id.now c.reads.next_id c.relay_unread.new.next_id inv.so_far.0 goes.0 goes.1 c.args.writer.now.pending c.reads.writer.pending c.relay_unread.new.writer.pending
-    _ _ _ inv.so_far.2 inv.limit goes.3 goes.4 (ap (λ z. g.W.Write.contents z) c.relay_unread.ensures.writer) in
-    let wrote = c.write_pending.ensures.sent in
-    let gone = gone_out before after c.args.next_id.now c.relay_unread.new.next_id (inv.so_far.0 ++ goes.0) wrote.0 c.args.writer.now.pending c.relay_unread.new.writer.pending c.write_pending.new.self.pending
-    _ _ _ moved wrote.1 wrote.2 in (
-      inv.so_far.0 ++ goes.0,
-      reads_fail c.in-Err-read_more.error before after c.args.self.now.src.items c.relay_unread.new.self.src.items c.read_more.new.self.src.items _ _ _ _ _ _ _ came waits
-          c.in-Err-read_more.ensures.err c.in-Err-read_more.ensures.kept c.in-Err-read_more.ensures.failed,
-      gone,
-    )
+    let read = c.in-Err-read_more.ensures in
+    (s.0, reads_fail c.in-Err-read_more.error _ _ _ _ _ _ _ _ _ _ _ s.0 s.1 waits read.err read.kept read.failed, s.2)
 
 pub reads-preserved : goal.reads-preserved
 reads-preserved g c =
-    let goes = rw c.in-Ok-false.field-0-test at c.in-Ok-false.ensures.goes in
-    let waits = rw c.in-Ok-false.field-0-test at c.in-Ok-false.ensures.ends in
     let inv = c.reads.invariant in
-    let before = span_state c.args.decoder.now in
-    let mid = span_state c.reads.decoder in
-    let after = span_state c.relay_unread.new.decoder in
-    let came = reads_go (Ok false) before mid after c.args.self.now.src.items c.reads.self.src.items c.relay_unread.new.self.src.items _ _ _ _ _ _ inv.so_far.0 goes.0 inv.so_far.1 inv.limit
-    (ap (λ z. g.R.Read.remaining z.reader) c.relay_unread.ensures.rest) (ap (λ z. z.reads) c.relay_unread.ensures.rest) goes.2 in
-    let moved = gone_more false before mid after c.args.next_id.now c.reads.next_id c.relay_unread.new.next_id inv.so_far.0 goes.0 goes.1 c.args.writer.now.pending c.reads.writer.pending c.relay_unread.new.writer.pending
-    _ _ _ inv.so_far.2 inv.limit goes.3 goes.4 (ap (λ z. g.W.Write.contents z) c.relay_unread.ensures.writer) in
-    let wrote = c.write_pending.ensures.sent in
-    let gone = gone_out before after c.args.next_id.now c.relay_unread.new.next_id (inv.so_far.0 ++ goes.0) wrote.0 c.args.writer.now.pending c.relay_unread.new.writer.pending c.write_pending.new.self.pending
-    _ _ _ moved wrote.1 wrote.2 in
-    let piece = c.in-Ok-read_more.ensures.ok in
+    let s = went g (goal.at.reads-preserved g c).After-write_pending in
+    let waits = rw c.in-Ok-false.field-0-test at c.in-Ok-false.ensures.ends in
+    let read = c.in-Ok-read_more.ensures in
     record {
       uncut = c.relay_unread.ensures.uncut;
       limit = c.relay_unread.ensures.limit ∙ inv.limit;
       held = c.read_more.ensures.dst ∙ ap (λ z. z.dst) c.relay_unread.ensures.rest ∙ inv.held;
       lost = c.read_more.ensures.lost ∙ ap (λ z. z.lost) c.relay_unread.ensures.rest ∙ inv.lost;
-      so_far = (
-        inv.so_far.0 ++ goes.0,
-        reads_read before after c.args.self.now.src.items c.relay_unread.new.self.src.items c.read_more.new.self.src.items piece.0 _ _ _ _ _ _ _ came waits piece.2 piece.3 c.in-Ok-read_more.ensures.read
-            (let n = c.in-Ok-read_more.ensures.small in let e = piece.1 in omega arith),
-        gone,
-      );
+      so_far = (s.0, reads_read _ _ _ _ _ _ _ _ _ _ _ s.0 _ s.1 waits read.ok read.small read.read, s.2);
     }
 
 pub returns-in-Err-clause-stops : goal.returns-in-Err-clause-stops

@@ -1,5 +1,6 @@
 use Rattle.std.proofs.Common.{◌+◌, ◌%◌, arith, refl}
 use Rattle.wire_span.specs.Spans.{span_state}
+use Rattle.wire_packet_io.proofs.CopyLemmas.{header_stop}
 use Rattle.wire_packet_io.proofs.RelayLemmas.{relay_header_step, relay_stop}
 use Rattle.wire_packet_io.proofs.input.Input.relay_front.Goals as goal
 
@@ -16,11 +17,6 @@ returns-in-Ok-put-clause-steps g c =
 pub returns-in-Err-clause-steps : goal.returns-in-Err-clause-steps
 returns-in-Err-clause-steps g c =
     let read = c.in-Some.header in
-    let said = rw c.as_slice.ensures at c.in-Some.ensures in (
-      refl,
-      refl,
-      refl,
-      refl,
-      relay_stop c.in-Err.error c.refusal.result (span_state c.args.decoder.now) c.args.self.now.src.items read.len read.seq_id
-          (said.there.0 refl) said.len said.id said.spelled c.refusal.ensures c.in-Err.ensures.refused,
-    )
+    let said = rw c.as_slice.ensures at c.in-Some.ensures in
+    let stops = header_stop c.in-Err.error (span_state c.args.decoder.now) c.args.self.now.src.items read.len read.seq_id (said.there.0 refl) said.len said.id said.spelled c.in-Err.ensures.refused in
+    (refl, refl, refl, refl, relay_stop c.in-Err.error c.refusal.result _ _ c.refusal.ensures stops)

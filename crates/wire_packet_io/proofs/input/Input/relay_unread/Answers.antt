@@ -17,8 +17,7 @@ pub returns-in-Ok-Some-true-clause-goes : goal.returns-in-Ok-Some-true-clause-go
 returns-in-Ok-Some-true-clause-goes g c =
     let inv = c.steps.invariant in
     let step = rw (c.in-Ok-Some-true.field-0-is, c.in-Ok-Some-true.field-0-0-test) at c.in-Ok-Some-true.ensures.steps in
-    relays_more true (span_state c.args.decoder.now) (span_state c.steps.decoder) (span_state c.relay_front.new.decoder) c.args.next_id.now c.steps.next_id c.relay_front.new.next_id
-    c.args.self.now.src.items c.steps.self.src.items c.relay_front.new.self.src.items c.args.writer.now.pending c.steps.writer.pending c.relay_front.new.writer.pending
+    relays_more true (span_state c.args.decoder.now) (span_state c.steps.decoder) (span_state c.relay_front.new.decoder) c.args.next_id.now c.steps.next_id c.relay_front.new.next_id _ _ _ _ _ _
     inv.limit inv.goes step.0
 
 pub steps-preserved : goal.steps-preserved
@@ -31,8 +30,7 @@ steps-preserved g c =
       rest = rw inv.rest at c.relay_front.ensures.rest;
       writer = c.relay_front.ensures.writer ∙ inv.writer;
       fewer = let less = (step.2 refl).0 in omega (arith, inv.fewer, less);
-      goes = relays_more false (span_state c.args.decoder.now) (span_state c.steps.decoder) (span_state c.relay_front.new.decoder) c.args.next_id.now c.steps.next_id c.relay_front.new.next_id
-          c.args.self.now.src.items c.steps.self.src.items c.relay_front.new.self.src.items c.args.writer.now.pending c.steps.writer.pending c.relay_front.new.writer.pending
+      goes = relays_more false (span_state c.args.decoder.now) (span_state c.steps.decoder) (span_state c.relay_front.new.decoder) c.args.next_id.now c.steps.next_id c.relay_front.new.next_id _ _ _ _ _ _
           inv.limit inv.goes step.0;
     }
 
@@ -40,14 +38,12 @@ pub returns-in-Ok-None-clause-goes : goal.returns-in-Ok-None-clause-goes
 returns-in-Ok-None-clause-goes g c =
     let inv = c.steps.invariant in
     let step = rw c.in-Ok-None.field-0-is at c.in-Ok-None.ensures.steps in
-    relays_kept (span_state c.args.decoder.now) (span_state c.steps.decoder) (span_state c.relay_front.new.decoder) c.args.next_id.now c.steps.next_id c.relay_front.new.next_id
-    c.args.self.now.src.items c.steps.self.src.items c.relay_front.new.self.src.items c.args.writer.now.pending c.steps.writer.pending c.relay_front.new.writer.pending
+    relays_kept (span_state c.args.decoder.now) (span_state c.steps.decoder) (span_state c.relay_front.new.decoder) c.args.next_id.now c.steps.next_id c.relay_front.new.next_id _ _ _ _ _ _
     inv.goes step.0 step.1 step.2 step.3
 
 pub returns-in-Err-clause-goes : goal.returns-in-Err-clause-goes
 returns-in-Err-clause-goes g c =
     let inv = c.steps.invariant in
     let step = c.in-Err.ensures.steps in
-    relays_kept (span_state c.args.decoder.now) (span_state c.steps.decoder) (span_state c.relay_front.new.decoder) c.args.next_id.now c.steps.next_id c.relay_front.new.next_id
-    c.args.self.now.src.items c.steps.self.src.items c.relay_front.new.self.src.items c.args.writer.now.pending c.steps.writer.pending c.relay_front.new.writer.pending
+    relays_kept (span_state c.args.decoder.now) (span_state c.steps.decoder) (span_state c.relay_front.new.decoder) c.args.next_id.now c.steps.next_id c.relay_front.new.next_id _ _ _ _ _ _
     inv.goes step.0 step.1 step.2 step.3

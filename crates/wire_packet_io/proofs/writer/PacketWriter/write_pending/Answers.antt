@@ -1,4 +1,4 @@
-use Rattle.std.proofs.Common.{◌≡◌, ℕ, List, [], ◌++◌, take, drop, sym, ap, subst, ◌∙◌, append_assoc, take-append-drop, rules}
+use Rattle.std.proofs.Common.{◌≡◌, ℕ, List, [], ◌++◌, take, drop, sym, ap, subst, ◌∙◌, append_assoc, take-append-drop}
 use Rattle.std.specs.Io.KnownBytes.{Appends}
 use Rattle.std.proofs.KnownBytes.{Appends-nil, Appends-trans}
 use Rattle.wire_packet_io.proofs.writer.PacketWriter.write_pending.Goals as goal
@@ -19,10 +19,5 @@ writes-init g c = (
 pub writes-preserved : goal.writes-preserved
 writes-preserved g c =
     let inv = c.writes.invariant in
-    let pending = c.writes.self-inside.pending.items in
-    let count = c.in-Ok.count in
-    let took = rw c.as_slice.ensures at c.in-Ok.ensures.bytes in
-    (inv.0 ++ take count pending, taken_more _ inv.0 pending _ count inv.1 c.advance.ensures.items, Appends-trans _ _ _ inv.0 (take count pending) inv.2 took)
-
-pub returns-in-Err-clause-sent : goal.returns-in-Err-clause-sent
-returns-in-Err-clause-sent g c = search rules
+    let took : List ℕ = take c.in-Ok.count c.writes.self-inside.pending.items in
+    (inv.0 ++ took, taken_more _ inv.0 _ _ c.in-Ok.count inv.1 c.advance.ensures.items, Appends-trans _ _ _ inv.0 took inv.2 (rw c.as_slice.ensures at c.in-Ok.ensures.bytes))
