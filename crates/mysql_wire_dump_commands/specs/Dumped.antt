@@ -136,6 +136,14 @@ pub record Dumps (options : Options) (sides : Sides)
   pub client_whole : ReadWhole client_end client_left
   pub server_whole : ReadWhole server_end server_left
 
+-- the same over two readers and a writer
+abbrev pub DumpsOver : {R S W : Type 0} → Options → Sides → (R → Option (List ℕ))
+    → (S → Option (List ℕ)) → (W → Option (List ℕ)) → R → S → W → R → S → W → ℕ → Type 0
+DumpsOver options sides remaining others contents client server output client_left server_left now
+    status =
+    Dumps options sides (remaining client) (remaining client_left) (others server)
+    (others server_left) (contents output) (contents now) status
+
 -- the dump gave up, or ended with this status
 abbrev pub DumpEnds : Options → Sides
     → (client client_left server server_left written now : Option (List ℕ)) → ℕ → Type 0

@@ -113,3 +113,17 @@ Goes old new client client_left server server_left written now more =
     (all_client all_server before : Option (List ℕ))
     → SoFar old all_client client all_server server before written
     → GoesTo more new all_client client_left all_server server_left before now
+
+-- the same over two readers and a writer
+abbrev pub GoesOver : {A R S W : Type 0} → (R → Option (List ℕ)) → (S → Option (List ℕ))
+    → (W → Option (List ℕ)) → Dump A → R → S → W → Dump A → R → S → W → Bool → Type 0
+GoesOver remaining others contents old client server output new client_left server_left now more =
+    Goes old new (remaining client) (remaining client_left) (others server) (others server_left)
+    (contents output) (contents now) more
+
+-- text was written, where there was much of it
+abbrev pub WritesMuch : {A W : Type 0} → (W → Option (List ℕ)) → Dump A → W → Dump A → W → Type 0
+WritesMuch contents old output new now =
+    (written : List ℕ) × Appends (contents output) (contents now) written
+    × (string_bytes old.text ≡ written ++ string_bytes new.text)
+    × (new ≡ record old { text = new.text })

@@ -2,8 +2,8 @@
 
 ghost use Rattle.std.specs.Prelude.{◌≡◌, ◌≢◌, ◌<◌, ◌≤◌, ◌⊎◌, ◌++◌, ◌∷◌, ℕ, List, [], length, IfOk, IfSome, OnOk, string_bytes, false};
 ghost use Rattle.std.specs.Io.KnownBytes.{Appends};
-ghost use Rattle.mysql_wire_dump_commands.specs.Dumped.{DumpEnds, Dumps, ending_lines, field_form, status_of};
-ghost use Rattle.mysql_wire_dump_commands.specs.Dumping.{Goes, StartsDump};
+ghost use Rattle.mysql_wire_dump_commands.specs.Dumped.{DumpEnds, Dumps, DumpsOver, ending_lines, field_form, status_of};
+ghost use Rattle.mysql_wire_dump_commands.specs.Dumping.{GoesOver, StartsDump};
 ghost use Rattle.mysql_wire_dump_commands.specs.Moments.{moment_of};
 ghost use Rattle.mysql_wire_dump_commands.specs.Readings.{AreFields};
 ghost use Rattle.mysql_wire_dump_lines.specs.Naming.{IsOrBytes, kind_at};
@@ -108,7 +108,7 @@ fn shown_payload<A: Allocator + Copy>(source: &Source<A>) -> &[u8]
 }
 
 impl<A: Allocator + Copy> Dump<A> {
-    ghost use Rattle.mysql_wire_dump_commands.specs.Dumping.{Shows};
+    ghost use Rattle.mysql_wire_dump_commands.specs.Dumping.{Shows, WritesMuch};
     ghost use Rattle.mysql_wire_dump_lines.specs.Turns.{turn};
     ghost use Rattle.mysql_wire_dump_lines.specs.declared.side.Side.TheVariants.{Client, Server};
     ghost use Rattle.mysql_wire_dump_lines.specs.Sources.{id_of};
@@ -218,10 +218,7 @@ impl<A: Allocator + Copy> Dump<A> {
 
     // Writes the text, where there is much of it.
     fn write_much<W: Write>(&mut self, output: &mut W) -> Result<(), Stop>
-        ensures { OnOk result ((written : List ℕ)
-            × Appends (W.contents output.old) (W.contents output.new) written
-            × (string_bytes self.old.text ≡ written ++ string_bytes self.new.text)
-            × (self.new ≡ record self.old { text = self.new.text })) }
+        ensures { OnOk result (WritesMuch W.contents self.old output.old self.new output.new) }
     {
         if self.text.len() >= WRITE_SIZE {
             output.write_all(self.text.as_bytes())?;
@@ -249,9 +246,8 @@ fn show_next<A: Allocator + Copy, R: Read, S: Read, W: Write>(
     server: &mut S,
     output: &mut W,
 ) -> Result<bool, Stop>
-    ensures goes { IfOk result (Goes dump.old dump.new (R.remaining client.old)
-        (R.remaining client.new) (S.remaining server.old) (S.remaining server.new)
-        (W.contents output.old) (W.contents output.new)) }
+    ensures goes { IfOk result (GoesOver R.remaining S.remaining W.contents
+        dump.old client.old server.old output.old dump.new client.new server.new output.new) }
     ensures options { OnOk result (dump.new.options ≡ dump.old.options) }
 {
     dump.client.look(client)?;
@@ -276,9 +272,9 @@ fn show_all<A: Allocator + Copy, R: Read, S: Read, W: Write>(
     server: &mut S,
     output: &mut W,
 ) -> Result<(), Stop>
-    ensures goes { OnOk result (Goes dump.old dump.new (R.remaining client.old)
-        (R.remaining client.new) (S.remaining server.old) (S.remaining server.new)
-        (W.contents output.old) (W.contents output.new) false) }
+    ensures goes { OnOk result (GoesOver R.remaining S.remaining W.contents
+        dump.old client.old server.old output.old dump.new client.new server.new output.new
+        false) }
     ensures options { OnOk result (dump.new.options ≡ dump.old.options) }
 {
     'packets: for _ in 0..u64::MAX {
@@ -342,10 +338,9 @@ fn show_whole<A: Allocator + Copy, R: Read, S: Read, W: Write>(
     server: &mut S,
     output: &mut W,
 ) -> Result<u8, Stop>
-    ensures { IfOk result (λ status. StartsDump options dump.old
-        → Dumps options sides (R.remaining client.old) (R.remaining client.new)
-        (S.remaining server.old) (S.remaining server.new) (W.contents output.old)
-        (W.contents output.new) status) }
+    ensures { IfOk result (λ status. StartsDump options dump.old → DumpsOver options sides
+        R.remaining S.remaining W.contents client.old server.old output.old
+        client.new server.new output.new status) }
 {
     show_all(dump, client, server, output)?;
     let Some((client_end, server_end)) = dump.ends() else {
