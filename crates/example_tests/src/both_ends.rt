@@ -7,9 +7,9 @@ use mysql_wire_examples::both_ends::{End, Exchange, Heard, Sent, converse};
 use mysql_wire_examples::inbox::{Inbox, first_packet};
 use std::alloc::Global;
 use std::test::Fail;
+use test_support::answers::Answer;
 use test_support::facts::{no_row, same, wrong_row};
 use test_support::receiver::are_packets;
-use test_support::told::Told;
 
 // A command whose bytes come one by one, then in one piece, and an answer of two packets.
 const TALK: &[Exchange<'static>] = &[
@@ -42,25 +42,25 @@ const TALK: &[Exchange<'static>] = &[
 ];
 
 // The limit of both ends, what the last said, and the answers and ids that were heard.
-type Row = (usize, Told, &'static [&'static [u8]], &'static [(u8, u8)]);
+type Row = (usize, Answer, &'static [&'static [u8]], &'static [(u8, u8)]);
 
 const ROWS: &[Row] = &[
     (
         3,
-        Told::Waits,
+        Answer::Waits,
         &[b"ab", b"", b"cde"],
         &[(1, 1), (2, 2), (3, 3), (1, 1), (2, 2)],
     ),
     (
         2,
-        Told::TooLarge,
+        Answer::TooLarge,
         &[b"ab", b""],
         &[(1, 1), (2, 2), (3, 3), (1, 1)],
     ),
 ];
 
 fn is_heard(alloc: Global, row: Row) -> bool {
-    let (limit, told, answers, ids) = row;
+    let (limit, last, answers, ids) = row;
     let mut client = End::new(alloc, limit);
     let mut server = End::new(alloc, limit);
     let mut heard = Heard {
@@ -69,7 +69,7 @@ fn is_heard(alloc: Global, row: Row) -> bool {
         ids: Vec::new(alloc),
     };
     let answer = converse(alloc, &mut client, &mut server, TALK, &mut heard);
-    (Told::of_deliver(answer) == told)
+    (Answer::of_deliver(answer) == last)
         & are_packets(heard.commands.as_slice(), &[b"\x03S", b"\x0e"])
         & are_packets(heard.answers.as_slice(), answers)
         & (heard.ids.as_slice() == ids)
@@ -81,16 +81,21 @@ fn both_ends_hear_each_other(rt: HostRuntime) -> Result<(), Fail> {
 }
 
 // Two reads under a limit of 2, what is said of them, and the packets.
-type Reads = (&'static [u8], &'static [u8], Told, &'static [&'static [u8]]);
+type Reads = (
+    &'static [u8],
+    &'static [u8],
+    Answer,
+    &'static [&'static [u8]],
+);
 
 const READS: &[Reads] = &[
     (
         b"\x02\0\0",
         b"\0ab\0\0\0\x01\x01",
-        Told::Waits,
+        Answer::Waits,
         &[b"ab", b""],
     ),
-    (b"\x01\0\0\0a", b"\x03\0\0\x01", Told::TooLarge, &[b"a"]),
+    (b"\x01\0\0\0a", b"\x03\0\0\x01", Answer::TooLarge, &[b"a"]),
 ];
 
 fn take_both(
@@ -106,12 +111,12 @@ fn take_both(
 }
 
 fn is_taken(alloc: Global, row: Reads) -> bool {
-    let (first, second, told, wanted) = row;
+    let (first, second, last, wanted) = row;
     let mut inbox = Inbox::new(alloc, 2);
     let most = inbox.most_held();
     let mut packets = Vec::new(alloc);
     let answer = take_both(&mut inbox, first, second, &mut packets);
-    (Told::of_deliver(answer) == told) & are_packets(packets.as_slice(), wanted) & (most == 5)
+    (Answer::of_deliver(answer) == last) & are_packets(packets.as_slice(), wanted) & (most == 5)
 }
 
 #[test]

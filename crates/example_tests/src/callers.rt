@@ -10,34 +10,23 @@ use refusing_allocator::{NEVER, Refusing};
 use std::alloc::{Allocator, Global};
 use std::io::ErrorKind;
 use std::test::Fail;
+use test_support::answers::Answer;
 use test_support::facts::{all_hold, no_row, same, wrong_row};
 use test_support::fixture::Heap;
 use test_support::readers::OneByOne;
 use test_support::receiver::{Receiver, Run, are_packets};
-use test_support::told::Told;
 
 // What a caller handed out, or why it stopped.
-type Answer = Result<Vec<Vec<u8>>, PacketCodecError>;
+type Handed = Result<Vec<Vec<u8>>, PacketCodecError>;
 
 // What is wanted of it.
-#[derive(Clone, Copy)]
-enum Wanted {
-    Packets(&'static [&'static [u8]]),
-    TooLarge,
-    OutOfSync,
-    Io,
-}
+type Wanted = Result<&'static [&'static [u8]], Answer>;
 
-fn is_wanted(answer: &Answer, wanted: Wanted) -> bool {
-    match answer {
-        Ok(packets) => match wanted {
-            Wanted::Packets(wanted) => are_packets(packets.as_slice(), wanted),
-            _ => false,
-        },
-        Err(PacketCodecError::PacketTooLarge) => matches!(wanted, Wanted::TooLarge),
-        Err(PacketCodecError::PacketsOutOfSync) => matches!(wanted, Wanted::OutOfSync),
-        Err(PacketCodecError::Io(_)) => matches!(wanted, Wanted::Io),
-        Err(PacketCodecError::OutOfMemory) => false,
+fn is_wanted(handed: &Handed, wanted: Wanted) -> bool {
+    match (handed, wanted) {
+        (Ok(packets), Ok(wanted)) => are_packets(packets.as_slice(), wanted),
+        (Err(error), Err(wanted)) => Answer::of_error(error) == wanted,
+        _ => false,
     }
 }
 
@@ -47,19 +36,19 @@ type Exchange = (&'static [&'static [u8]], Wanted);
 const EXCHANGES: &[Exchange] = &[
     (
         &[b"\x01\0\0", b"\x01\x61\x01\0\0\x02\x62\0"],
-        Wanted::Packets(&[b"a", b"b"]),
+        Ok(&[b"a", b"b"]),
     ),
-    (&[], Wanted::Packets(&[])),
-    (&[b"\0\0\0\x01"], Wanted::Packets(&[b""])),
-    (&[b"\x01\0\x40\x01"], Wanted::TooLarge),
-    (&[b"\x01\0\0\0\x61"], Wanted::OutOfSync),
+    (&[], Ok(&[])),
+    (&[b"\0\0\0\x01"], Ok(&[b""])),
+    (&[b"\x01\0\x40\x01"], Err(Answer::TooLarge)),
+    (&[b"\x01\0\0\0\x61"], Err(Answer::OutOfSync)),
 ];
 
 fn is_exchanged(alloc: Global, row: Exchange) -> bool {
     let (answer, wanted) = row;
     let mut output = BytesMut::new(alloc);
-    let answer = exchange(alloc, b"\x0e", &mut output, answer);
-    is_wanted(&answer, wanted) & same(output.as_slice(), b"\x01\0\0\0\x0e")
+    let handed = exchange(alloc, b"\x0e", &mut output, answer);
+    is_wanted(&handed, wanted) & same(output.as_slice(), b"\x01\0\0\0\x0e")
 }
 
 #[test]
@@ -68,7 +57,7 @@ fn a_command_is_answered(rt: HostRuntime) -> Result<(), Fail> {
 }
 
 // What a server answers to these bytes under a limit of 9, and what it says then.
-type Row = (&'static [u8], &'static [u8], Told);
+type Row = (&'static [u8], &'static [u8], Answer);
 
 const QUERY_DONE: &[u8] = b"\x07\0\0\x01\0\0\0\x02\0\0\0";
 
@@ -77,18 +66,18 @@ const UNKNOWN: &[u8] = b"\x09\0\0\x01\xff\x17\x04#08S01";
 const BOTH: &[u8] = b"\x07\0\0\x01\0\0\0\x02\0\0\0\x09\0\0\x01\xff\x17\x04#08S01";
 
 const COMMANDS: &[Row] = &[
-    (b"", b"", Told::Waits),
-    (b"\x02\0\0\0\x03S", QUERY_DONE, Told::Waits),
-    (b"\0\0\0\0", UNKNOWN, Told::Waits),
-    (b"\x01\0\0\0\x0e\x02\0\0\0\x03", UNKNOWN, Told::Waits),
-    (b"\x01\0\0\0\x03\x04\0\0\0\x0e123", BOTH, Told::Waits),
-    (b"\x01\0\0\0\x03\x01\0\0\0\x0e\x01\0", BOTH, Told::Waits),
-    (b"\x01\0\0\0\x03\x0a\0\0\0", QUERY_DONE, Told::TooLarge),
-    (b"\x0a\0\0\x01", b"", Told::TooLarge),
+    (b"", b"", Answer::Waits),
+    (b"\x02\0\0\0\x03S", QUERY_DONE, Answer::Waits),
+    (b"\0\0\0\0", UNKNOWN, Answer::Waits),
+    (b"\x01\0\0\0\x0e\x02\0\0\0\x03", UNKNOWN, Answer::Waits),
+    (b"\x01\0\0\0\x03\x04\0\0\0\x0e123", BOTH, Answer::Waits),
+    (b"\x01\0\0\0\x03\x01\0\0\0\x0e\x01\0", BOTH, Answer::Waits),
+    (b"\x01\0\0\0\x03\x0a\0\0\0", QUERY_DONE, Answer::TooLarge),
+    (b"\x0a\0\0\x01", b"", Answer::TooLarge),
     (
         b"\x01\0\0\0\x03\x01\0\0\x01\x0e",
         QUERY_DONE,
-        Told::OutOfSync,
+        Answer::OutOfSync,
     ),
 ];
 
@@ -104,13 +93,13 @@ fn serve_both(
 }
 
 fn is_served_however_it_is_cut(alloc: Global, row: Row) -> bool {
-    let (bytes, wanted, told) = row;
+    let (bytes, wanted, last) = row;
     let mut all = true;
     for cut in 0..bytes.len() + 1 {
         let (front, rest) = bytes.split_at(cut.min(bytes.len()));
         let mut output = BytesMut::new(alloc);
         let answer = serve_both(alloc, front, rest, &mut output);
-        all &= (Told::of_deliver(answer) == told) & same(output.as_slice(), wanted);
+        all &= (Answer::of_deliver(answer) == last) & same(output.as_slice(), wanted);
     }
     all
 }
@@ -124,20 +113,16 @@ fn commands_are_served_however_they_are_cut(rt: HostRuntime) -> Result<(), Fail>
 type Stream = (&'static [u8], bool, Wanted);
 
 const STREAMS: &[Stream] = &[
-    (b"", false, Wanted::Packets(&[])),
+    (b"", false, Ok(&[])),
     (
         b"\x02\0\0\0ab\0\0\0\x01\x01\0\0\x02c",
         false,
-        Wanted::Packets(&[b"ab", b"", b"c"]),
+        Ok(&[b"ab", b"", b"c"]),
     ),
-    (
-        b"\x02\0\0\0ab\x02\0\0\x01c",
-        false,
-        Wanted::Packets(&[b"ab"]),
-    ),
-    (b"\x03\0\0\0", false, Wanted::TooLarge),
-    (b"\x01\0\0\x01a", false, Wanted::OutOfSync),
-    (b"\x02\0\0\0ab", true, Wanted::Io),
+    (b"\x02\0\0\0ab\x02\0\0\x01c", false, Ok(&[b"ab"])),
+    (b"\x03\0\0\0", false, Err(Answer::TooLarge)),
+    (b"\x01\0\0\x01a", false, Err(Answer::OutOfSync)),
+    (b"\x02\0\0\0ab", true, Err(Answer::Io)),
 ];
 
 fn is_read(alloc: Global, row: Stream) -> bool {
@@ -148,8 +133,8 @@ fn is_read(alloc: Global, row: Stream) -> bool {
         until_fault,
         kind: ErrorKind::Other,
     };
-    let answer = read_packets(alloc, 2, &mut reader);
-    is_wanted(&answer, wanted)
+    let handed = read_packets(alloc, 2, &mut reader);
+    is_wanted(&handed, wanted)
 }
 
 #[test]
@@ -163,11 +148,11 @@ const TWO: &[&[u8]] = &[b"\x03", b"\0\0\x001", b"23\x01\0\0\x01\xff\0"];
 // One run over them. Where the codec doesn't stand, nothing is called.
 fn deliver_two<A: Allocator + Copy>(to: &mut Receiver<A>, again: usize) -> Run {
     if !to.codec.stands_at(&to.src, to.dst.as_slice()) {
-        return (0, Told::Fallen);
+        return (0, Answer::Fallen);
     }
     let (codec, src) = (&mut to.codec, &mut to.src);
     let (count, answer) = deliver_again(codec, src, &mut to.dst, TWO, &mut to.out, again);
-    (count, Told::of_deliver(answer))
+    (count, Answer::of_deliver(answer))
 }
 
 // Whether all is delivered where this request for memory is refused, and may be again; and whether
@@ -180,9 +165,11 @@ fn is_delivered<A: Allocator + Copy>(
 ) -> Option<bool> {
     heap.refuse(nth);
     let mut to = Receiver::new(alloc, 9);
-    let (count, told) = deliver_two(&mut to, again);
-    let is_whole = (count == 3) & (told == Told::Waits) & to.shows(&[b"123", b"\xff"], b"\0", b"");
-    let is_stopped = (again == 0) & (told == Told::OutOfMemory) & to.stands();
+    let (count, answer) = deliver_two(&mut to, again);
+    let is_whole = (count == 3)
+        & (answer == Answer::Waits)
+        & to.shows(&[b"123", b"\xff"], b"\0", b"");
+    let is_stopped = (again == 0) & (answer == Answer::OutOfMemory) & to.stands();
     (is_whole | (is_stopped & heap.has_refused())).then_some(heap.has_refused())
 }
 

@@ -11,25 +11,25 @@ use refusing_allocator::NEVER;
 use std::alloc::{Allocator, Global};
 use std::borrow::CowSlice;
 use std::test::Fail;
+use test_support::answers::Answer;
 use test_support::facts::{all_hold, same};
 use test_support::fixture::Heap;
 use test_support::receiver::Receiver;
-use test_support::told::Told;
 
 // A number, a text behind its length, and a text that takes the rest.
 type Row<'a> = Both<RawInt<LeU16>, Both<RawBytes<'a, LenEnc>, RawBytes<'a, EofBytes>>>;
 
 // What is answered where a value is put behind the packets in `src`.
-fn encode<T: MySerialize, A: Allocator + Copy>(to: &mut Receiver<A>, value: &T) -> Told {
-    Told::of_encode(encode_value(&mut to.codec, value, &mut to.src))
+fn encode<T: MySerialize, A: Allocator + Copy>(to: &mut Receiver<A>, value: &T) -> Answer {
+    Answer::of_encode(encode_value(&mut to.codec, value, &mut to.src))
 }
 
-fn encode_byte<A: Allocator + Copy>(to: &mut Receiver<A>, number: u8) -> Told {
+fn encode_byte<A: Allocator + Copy>(to: &mut Receiver<A>, number: u8) -> Answer {
     encode(to, &RawInt::<u8>::new(number))
 }
 
 // A number of the bytes 2 and 3.
-fn encode_two<A: Allocator + Copy>(to: &mut Receiver<A>) -> Told {
+fn encode_two<A: Allocator + Copy>(to: &mut Receiver<A>) -> Answer {
     encode(to, &RawInt::<LeU16>::new(0x0302))
 }
 
@@ -46,7 +46,7 @@ fn are_numbered(alloc: Global) -> bool {
     let mut to = Receiver::new(alloc, 4194304);
     let mut all = true;
     for number in 1..4u8 {
-        all &= encode_byte(&mut to, number) == Told::Done;
+        all &= encode_byte(&mut to, number) == Answer::Done;
     }
     let wire = b"\x01\0\0\0\x01\x01\0\0\x01\x02\x01\0\0\x02\x03";
     all & same(to.src.as_slice(), wire)
@@ -91,18 +91,18 @@ fn is_row_put(alloc: Global) -> bool {
 fn is_unchanged<A: Allocator + Copy>(heap: &Heap, alloc: A, limit: usize, nth: u64) -> bool {
     heap.refuse(NEVER);
     let mut to = Receiver::new(alloc, 4194304);
-    let mut all = encode_byte(&mut to, 1) == Told::Done;
+    let mut all = encode_byte(&mut to, 1) == Answer::Done;
     to.codec.max_allowed_packet = limit;
     heap.refuse(nth);
     all &= match encode_two(&mut to) {
-        Told::TooLarge => limit == 1,
-        Told::OutOfMemory => heap.has_refused(),
+        Answer::TooLarge => limit == 1,
+        Answer::OutOfMemory => heap.has_refused(),
         _ => false,
     };
     all &= same(to.src.as_slice(), b"\x01\0\0\0\x01");
     heap.refuse(NEVER);
     to.codec.max_allowed_packet = 2;
-    all &= encode_two(&mut to) == Told::Done;
+    all &= encode_two(&mut to) == Answer::Done;
     all & same(to.src.as_slice(), b"\x01\0\0\0\x01\x02\0\0\x01\x02\x03")
 }
 

@@ -3,7 +3,7 @@
 
 use mysql_wire::proto::{MyDeserialize, MySerialize};
 use std::alloc::Allocator;
-use test_support::answers::Fault;
+use test_support::answers::Answer;
 use test_support::fields::{Eaten, Short, gives, is_read, is_written, stops};
 use test_support::fixture::Heap;
 use test_support::reference::between;
@@ -15,7 +15,7 @@ pub type Value<'a, 'de, T, C> = (&'a T, C, u64, &'de [u8], usize, usize);
 
 /// A context, the request for memory that is refused, an input that begins with no value, why it
 /// doesn't, and how many bytes are left.
-pub type Refused<'de, C> = (C, u64, &'de [u8], Fault, usize);
+pub type Refused<'de, C> = (C, u64, &'de [u8], Answer, usize);
 
 /// Of a type of which no front is eaten by itself.
 pub const WHOLE: usize = usize::MAX;
@@ -34,7 +34,7 @@ where
     let (value, ctx, nth, input, len, front) = *row;
     let is_put = is_written(heap, value, between(input, 0, len));
     let short = Short {
-        fault: Fault::UnexpectedEof,
+        fault: Answer::UnexpectedEof,
         eaten: Eaten::Nothing,
         front,
     };
@@ -66,7 +66,7 @@ where
         let (ctx, nth, input, fault, left) = *row;
         heap.refuse(nth);
         all &= stops::<T, C, A>(alloc, ctx, input, fault, left);
-        all &= heap.has_refused() == (fault == Fault::OutOfMemory);
+        all &= heap.has_refused() == (fault == Answer::OutOfMemory);
     }
     all
 }

@@ -9,7 +9,7 @@ use mysql_wire::misc::raw::Skip;
 use mysql_wire::misc::raw::bytes::{ConstBytes, ConstBytesValue};
 use mysql_wire::misc::raw::int::{ConstU8, ConstU32};
 use std::alloc::Allocator;
-use test_support::answers::Fault;
+use test_support::answers::Answer;
 use test_support::fields::{gives, has_size};
 use test_support::fixture::Heap;
 
@@ -83,7 +83,7 @@ where
 }
 
 // Each of these differs from the constant. Its bytes are eaten.
-const OTHER: Fault = Fault::Invalid(InvalidReason::ConstMismatch);
+const OTHER: Answer = Answer::Invalid(InvalidReason::ConstMismatch);
 
 const NO_BYTE: &[Refused<()>] = &[
     ((), 0, b"\x08\x01", OTHER, 1),

@@ -12,14 +12,14 @@ use mysql_wire::proto::{MyDeserialize, MySerialize};
 use refusing_allocator::NEVER;
 use std::alloc::Allocator;
 use std::borrow::CowSlice;
-use test_support::answers::Fault;
+use test_support::answers::Answer;
 use test_support::fixture::Heap;
 
-const EOF: Fault = Fault::UnexpectedEof;
+const EOF: Answer = Answer::UnexpectedEof;
 
-const UNKNOWN: Fault = Fault::Invalid(InvalidReason::UnknownValue);
+const UNKNOWN: Answer = Answer::Invalid(InvalidReason::UnknownValue);
 
-const OUT_OF_MEMORY: Fault = Fault::OutOfMemory;
+const OUT_OF_MEMORY: Answer = Answer::OutOfMemory;
 
 // Values, an input that begins with them as a list, how many bytes it has there, and how many bytes
 // of them its count has.

@@ -8,11 +8,11 @@ use mysql_wire::io::InvalidReason;
 use mysql_wire::misc::raw::int::{IntRepr, LeU16, LeU24, LeU32LowerHalf};
 use mysql_wire::misc::raw::{Const, RawConst, RawFlags};
 use std::alloc::Allocator;
-use test_support::answers::Fault;
+use test_support::answers::Answer;
 use test_support::fields::{gives, is_written};
 use test_support::fixture::Heap;
 
-const UNKNOWN: Fault = Fault::Invalid(InvalidReason::UnknownValue);
+const UNKNOWN: Answer = Answer::Invalid(InvalidReason::UnknownValue);
 
 // Whether a number that isn't looked at is written and read as the first bytes of its input, so
 // many, which takes no memory.

@@ -6,7 +6,7 @@ use mysql_wire::misc::raw::RawBytes;
 use mysql_wire::misc::raw::bytes::NullBytes;
 use mysql_wire::proto::MySerialize;
 use std::alloc::Global;
-use test_support::answers::Fault;
+use test_support::answers::Answer;
 use test_support::facts::same;
 use test_support::fields::{gives, stops};
 use test_support::reference::{between, first_zero};
@@ -24,7 +24,7 @@ fn is_written(buf: &mut Vec<u8>, text: &[u8], zero: usize) -> bool {
 // zero, whether that is said and nothing is eaten.
 fn is_read(alloc: Global, input: &[u8], text: &[u8], left: &[u8]) -> bool {
     if text.len() == input.len() {
-        let no_zero = Fault::Invalid(InvalidReason::NoNullTerminator);
+        let no_zero = Answer::Invalid(InvalidReason::NoNullTerminator);
         stops::<RawBytes<'_, NullBytes>, (), Global>(alloc, (), input, no_zero, input.len())
     } else {
         gives(

@@ -7,7 +7,7 @@ use mysql_wire::misc::raw::int::{
     LeU56, LeU64, LenEnc, VarLen,
 };
 use std::alloc::Allocator;
-use test_support::answers::Fault;
+use test_support::answers::Answer;
 use test_support::fields::Eaten;
 use test_support::fixture::Heap;
 use test_support::numbers::{Row, Spelled, are_numbers, are_spelled};
@@ -247,11 +247,11 @@ const LONGER_LENENC: &[Spelled<LenEnc>] = &[
     (b"\xff\xff\xff", Ok(0), 1),
 ];
 
-const LARGE: Fault = Fault::Invalid(InvalidReason::VarLenTooLarge);
+const LARGE: Answer = Answer::Invalid(InvalidReason::VarLenTooLarge);
 
-const LONG: Fault = Fault::Invalid(InvalidReason::VarLenTooLong);
+const LONG: Answer = Answer::Invalid(InvalidReason::VarLenTooLong);
 
-const EOF: Fault = Fault::UnexpectedEof;
+const EOF: Answer = Answer::UnexpectedEof;
 
 const LONGER_VARLEN: &[Spelled<VarLen>] = &[
     (b"\x80\0", Ok(0), 2),

@@ -6,7 +6,7 @@ use crate::kind::Kind;
 use mysql_wire::io::InvalidReason;
 use mysql_wire::misc::raw::Const;
 use std::alloc::Allocator;
-use test_support::answers::Fault;
+use test_support::answers::Answer;
 use test_support::fields::gives;
 use test_support::fixture::Heap;
 
@@ -26,11 +26,11 @@ impl TryFrom<u8> for Once {
     }
 }
 
-const UNKNOWN: Fault = Fault::Invalid(InvalidReason::UnknownValue);
+const UNKNOWN: Answer = Answer::Invalid(InvalidReason::UnknownValue);
 
 const NO_KIND: &[Refused<()>] = &[
     ((), 0, b"\0\x01", UNKNOWN, 1),
-    ((), 0, b"", Fault::UnexpectedEof, 0),
+    ((), 0, b"", Answer::UnexpectedEof, 0),
 ];
 
 const NO_ONCE: &[Refused<()>] = &[((), 0, b"\x02\x01", UNKNOWN, 1)];

@@ -8,11 +8,11 @@ use mysql_wire::misc::raw::{Both, Either, RawInt, RawSeq, Slice};
 use refusing_allocator::NEVER;
 use std::alloc::Allocator;
 use std::borrow::CowSlice;
-use test_support::answers::Fault;
+use test_support::answers::Answer;
 use test_support::fixture::Heap;
 use test_support::reference::between;
 
-const NO_BYTES: &[Refused<usize>] = &[(usize::MAX, 0, b"ab", Fault::UnexpectedEof, 2)];
+const NO_BYTES: &[Refused<usize>] = &[(usize::MAX, 0, b"ab", Answer::UnexpectedEof, 2)];
 
 // Bytes whose number the context says.
 fn are_bytes<A: Allocator + Copy>(heap: &Heap, alloc: A) -> bool {
@@ -60,10 +60,10 @@ const NO_NUMBER: &[Refused<Either<(), ()>>] = &[
         Either::Left(()),
         NEVER,
         b"\x01\x02",
-        Fault::UnexpectedEof,
+        Answer::UnexpectedEof,
         2,
     ),
-    (Either::Right(()), NEVER, b"", Fault::UnexpectedEof, 0),
+    (Either::Right(()), NEVER, b"", Answer::UnexpectedEof, 0),
 ];
 
 fn is_either<A: Allocator + Copy>(heap: &Heap, alloc: A) -> bool {

@@ -9,7 +9,7 @@ use mysql_wire::misc::raw::bytes::{
 };
 use mysql_wire::misc::raw::int::VarLen;
 use std::alloc::Allocator;
-use test_support::answers::Fault;
+use test_support::answers::Answer;
 use test_support::fields::{Eaten, Short, gives, is_written, last, stops};
 use test_support::fixture::Heap;
 use test_support::reference::between;
@@ -54,7 +54,7 @@ const VARLEN: &[Row] = &[
 ];
 
 // A context, an input, the text that is read from it or why none is, and how many bytes are left.
-type Read<'a, C> = (C, &'a [u8], Result<&'a [u8], Fault>, usize);
+type Read<'a, C> = (C, &'a [u8], Result<&'a [u8], Answer>, usize);
 
 // Whether the row is read so.
 fn is_read<T: BytesRepr<Ctx = C>, C: Copy, A: Allocator + Copy>(
@@ -82,11 +82,11 @@ fn are_read<T: BytesRepr<Ctx = C>, C: Copy, A: Allocator + Copy>(
     all & (heap.left() == 0)
 }
 
-const LARGE: Fault = Fault::Invalid(InvalidReason::VarLenTooLarge);
+const LARGE: Answer = Answer::Invalid(InvalidReason::VarLenTooLarge);
 
-const LONG: Fault = Fault::Invalid(InvalidReason::VarLenTooLong);
+const LONG: Answer = Answer::Invalid(InvalidReason::VarLenTooLong);
 
-const EOF: Fault = Fault::UnexpectedEof;
+const EOF: Answer = Answer::UnexpectedEof;
 
 // A length is read in each of its spellings. A text that isn't there ends early.
 const LENENC_READ: &[Read<()>] = &[
@@ -137,7 +137,7 @@ const NULL: &[(&[u8], &[u8])] = &[
 // Without the zero none are.
 fn is_null<A: Allocator + Copy>(heap: &Heap, alloc: A, text: &[u8], cut: &[u8]) -> bool {
     let short = Short {
-        fault: Fault::Invalid(InvalidReason::NoNullTerminator),
+        fault: Answer::Invalid(InvalidReason::NoNullTerminator),
         eaten: Eaten::Nothing,
         front: usize::MAX,
     };

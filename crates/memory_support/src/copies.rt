@@ -10,7 +10,7 @@ use mysql_wire::misc::raw::{Both, Const, Either, RawBytes, RawInt};
 use refusing_allocator::NEVER;
 use std::alloc::Allocator;
 use std::borrow::CowSlice;
-use test_support::answers::Fault;
+use test_support::answers::Answer;
 use test_support::facts::same;
 use test_support::fields::is_written;
 use test_support::fixture::Heap;
@@ -63,7 +63,7 @@ pub type Texts<'a, A> = Seq<'a, Text<'a, A>, LeU32, A>;
 const LIST: &[u8] = b"\x02\0\0\0\x01\0\x02\0\x02";
 
 fn is_refused(error: &WireError) -> bool {
-    Fault::of(error) == Fault::OutOfMemory
+    Answer::of_wire(error) == Answer::OutOfMemory
 }
 
 // ---- what is copied
@@ -234,7 +234,7 @@ where
     let (list, there) = read::<List<'_, A>, A>(alloc, reading, LIST);
     match list {
         Ok(list) => (is_list(&list) & (there == left)).then_some(false),
-        Err(fault) => ((fault == Fault::OutOfMemory) & (there == if_refused)).then_some(true),
+        Err(fault) => ((fault == Answer::OutOfMemory) & (there == if_refused)).then_some(true),
     }
 }
 

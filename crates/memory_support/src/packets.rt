@@ -5,30 +5,32 @@ use mysql_wire::proto::packet_io::{PacketIoError, PacketReader, PacketWriter};
 use std::alloc::Allocator;
 use std::fmt::{self, Debug, Write};
 use std::io::{self, Sink};
+use test_support::answers::Answer;
 use test_support::facts::same;
-use test_support::told::Told;
 
-fn told(error: &PacketIoError) -> Told {
+fn answer_of(error: &PacketIoError) -> Answer {
     match error {
-        PacketIoError::PacketTooLarge => Told::TooLarge,
-        PacketIoError::PacketsOutOfSync => Told::OutOfSync,
-        PacketIoError::OutOfMemory => Told::OutOfMemory,
-        _ => Told::Io,
+        PacketIoError::Io(_) => Answer::Io,
+        PacketIoError::UnexpectedEnd => Answer::UnexpectedEof,
+        PacketIoError::WriteZero => Answer::WriteZero,
+        PacketIoError::PacketTooLarge => Answer::TooLarge,
+        PacketIoError::PacketsOutOfSync => Answer::OutOfSync,
+        PacketIoError::OutOfMemory => Answer::OutOfMemory,
     }
 }
 
-fn told_if(answer: Result<bool, PacketIoError>) -> Result<bool, Told> {
+fn answer_if(answer: Result<bool, PacketIoError>) -> Result<bool, Answer> {
     match answer {
         Ok(is_there) => Ok(is_there),
-        Err(error) => Err(told(&error)),
+        Err(error) => Err(answer_of(&error)),
     }
 }
 
 /// What a writer answered.
-pub fn told_of(answer: Result<(), PacketIoError>) -> Told {
+pub fn answer_by(answer: Result<(), PacketIoError>) -> Answer {
     match answer {
-        Ok(()) => Told::Done,
-        Err(error) => told(&error),
+        Ok(()) => Answer::Done,
+        Err(error) => answer_of(&error),
     }
 }
 
@@ -66,47 +68,47 @@ impl<'a, A: Allocator + Copy> Source<'a, A> {
     }
 
     /// Whether the next packet is this one.
-    pub fn next_is(&mut self, packet: &[u8]) -> Result<bool, Told> {
+    pub fn next_is(&mut self, packet: &[u8]) -> Result<bool, Answer> {
         if !self.reader.fits(&self.codec) {
-            return Err(Told::Fallen);
+            return Err(Answer::Fallen);
         }
         match self.reader.next_packet(&mut self.codec) {
             Ok(Some(next)) => Ok(same(next.as_slice(), packet)),
             Ok(None) => Ok(false),
-            Err(error) => Err(told(&error)),
+            Err(error) => Err(answer_of(&error)),
         }
     }
 
     /// Whether a packet stands ready now, or there is none.
-    pub fn fill(&mut self) -> Result<bool, Told> {
+    pub fn fill(&mut self) -> Result<bool, Answer> {
         if !self.reader.fits(&self.codec) {
-            return Err(Told::Fallen);
+            return Err(Answer::Fallen);
         }
-        told_if(self.reader.fill_packet(&mut self.codec))
+        answer_if(self.reader.fill_packet(&mut self.codec))
     }
 
     /// Whether a packet was skipped, or there is none.
-    pub fn skip(&mut self) -> Result<bool, Told> {
+    pub fn skip(&mut self) -> Result<bool, Answer> {
         if !self.reader.can_skip(&self.codec) {
-            return Err(Told::Fallen);
+            return Err(Answer::Fallen);
         }
-        told_if(self.reader.skip_packet(&mut self.codec))
+        answer_if(self.reader.skip_packet(&mut self.codec))
     }
 
     /// Whether a packet was copied to nowhere, or there is none.
-    pub fn copy(&mut self) -> Result<bool, Told> {
+    pub fn copy(&mut self) -> Result<bool, Answer> {
         if !self.reader.can_copy(&self.codec) {
-            return Err(Told::Fallen);
+            return Err(Answer::Fallen);
         }
-        told_if(self.reader.copy_packet(&mut self.codec, &mut io::sink()))
+        answer_if(self.reader.copy_packet(&mut self.codec, &mut io::sink()))
     }
 
     /// Whether a packet was passed on, or there is none.
-    pub fn relay(&mut self, to: &mut Outlet<A>) -> Result<bool, Told> {
+    pub fn relay(&mut self, to: &mut Outlet<A>) -> Result<bool, Answer> {
         if !self.reader.can_copy(&self.codec) {
-            return Err(Told::Fallen);
+            return Err(Answer::Fallen);
         }
-        told_if(
+        answer_if(
             self.reader
                 .relay_packet(&mut self.codec, &mut to.writer, &mut to.codec),
         )
@@ -140,7 +142,7 @@ impl<A: Allocator + Copy> Outlet<A> {
         })
     }
 
-    pub fn queue(&mut self, packet: &mut &[u8]) -> Told {
-        told_of(self.writer.queue(&mut self.codec, packet))
+    pub fn queue(&mut self, packet: &mut &[u8]) -> Answer {
+        answer_by(self.writer.queue(&mut self.codec, packet))
     }
 }

@@ -9,7 +9,7 @@ use mysql_wire::misc::raw::{Both, Either, RawInt};
 use mysql_wire::proto::Wire;
 use mysql_wire::proto::codec::parse_packet_in;
 use std::alloc::Allocator;
-use test_support::answers::{Fault, told};
+use test_support::answers::{Answer, answered};
 
 /// What reads it.
 #[derive(Clone, Copy)]
@@ -69,20 +69,20 @@ where
     }
 }
 
-fn read_buf<'de, T, A>(alloc: A, reading: Reading, input: &'de [u8]) -> (Result<T, Fault>, usize)
+fn read_buf<'de, T, A>(alloc: A, reading: Reading, input: &'de [u8]) -> (Result<T, Answer>, usize)
 where
     A: Allocator + Copy,
     T: Wire<'de, A, Ctx = ()>,
     requires { HasBytes T.Size.SIZE input.now }
 {
     let mut buf = ParseBuf(input);
-    let answer = told(read_front(alloc, reading, &mut buf));
+    let answer = answered(read_front(alloc, reading, &mut buf));
     (answer, buf.len())
 }
 
 /// Reads a value from the front of the input. The answer has it, or what was missing, and how many
 /// bytes are left; where nothing is handed back, all of them.
-pub fn read<'de, T, A>(alloc: A, reading: Reading, input: &'de [u8]) -> (Result<T, Fault>, usize)
+pub fn read<'de, T, A>(alloc: A, reading: Reading, input: &'de [u8]) -> (Result<T, Answer>, usize)
 where
     A: Allocator + Copy,
     T: Wire<'de, A, Ctx = ()>,
@@ -95,7 +95,7 @@ where
     };
     match packet {
         Ok((value, rest)) => (Ok(value), rest.len()),
-        Err(error) => (Err(Fault::of(&error)), input.len()),
+        Err(error) => (Err(Answer::of_wire(&error)), input.len()),
     }
 }
 

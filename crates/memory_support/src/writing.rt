@@ -8,7 +8,7 @@ use mysql_wire::misc::raw::{RawBytes, RawInt};
 use mysql_wire::misc::write_varlen_uint;
 use mysql_wire::proto::MySerialize;
 use std::alloc::Allocator;
-use test_support::answers::{Fault, told};
+use test_support::answers::{Answer, answered};
 
 /// What is written.
 #[derive(Clone, Copy)]
@@ -62,7 +62,7 @@ fn serialize<A: Allocator>(writing: Writing, buf: &mut Vec<u8, A>) -> Result<(),
 }
 
 /// Writes it behind what the vector holds; where that fails, why.
-pub fn write<A: Allocator>(writing: Writing, buf: &mut Vec<u8, A>) -> Option<Fault> {
+pub fn write<A: Allocator>(writing: Writing, buf: &mut Vec<u8, A>) -> Option<Answer> {
     let written = match writing {
         Writing::Value | Writing::Number | Writing::Text | Writing::List | Writing::EmptyText =>
             serialize(writing, buf),
@@ -72,5 +72,5 @@ pub fn write<A: Allocator>(writing: Writing, buf: &mut Vec<u8, A>) -> Option<Fau
         Writing::VarlenUint(number) => write_varlen_uint(buf, number),
         _ => put_number(writing, buf),
     };
-    told(written).err()
+    answered(written).err()
 }

@@ -11,9 +11,9 @@ use mysql_wire::proto::codec::PacketCodec;
 use refusing_allocator::{NEVER, Refusing};
 use std::alloc::Allocator;
 use std::test::Fail;
+use test_support::answers::Answer;
 use test_support::facts::all_hold;
 use test_support::fixture::Heap;
-use test_support::told::Told;
 
 // Whether a list ends before the values that its count promises.
 fn ends_early<'de, T, C, A>(alloc: A, ctx: C, input: &'de [u8]) -> bool
@@ -60,9 +60,9 @@ fn full_chunk_is_decoded(heap: &Heap) -> bool {
     codec.max_allowed_packet = 1 << 30;
     let filled = fill(&mut src);
     heap.refuse(NEVER);
-    let told = Told::of_decode(codec.decode(&mut src, &mut dst));
+    let answer = Answer::of_decode(codec.decode(&mut src, &mut dst));
     let room = heap.largest() == MAX_PAYLOAD_LEN;
-    filled & room & (told == Told::Waits) & (dst.len() == MAX_PAYLOAD_LEN)
+    filled & room & (answer == Answer::Waits) & (dst.len() == MAX_PAYLOAD_LEN)
 }
 
 // Whether a packet of 1 MiB is encoded, and room is taken for its framing alone.
@@ -71,9 +71,9 @@ fn packet_is_encoded(heap: &Heap, payload: &[u8]) -> bool {
     let mut codec = PacketCodec::default();
     let mut packet = payload;
     heap.refuse(NEVER);
-    let told = Told::of_encode(codec.encode(&mut packet, &mut dst));
+    let answer = Answer::of_encode(codec.encode(&mut packet, &mut dst));
     let room = heap.largest() == 4 + 1048576;
-    room & (told == Told::Done) & (dst.len() == 4 + 1048576)
+    room & (answer == Answer::Done) & (dst.len() == 4 + 1048576)
 }
 
 #[test]

@@ -9,13 +9,13 @@ use mysql_wire::proto::codec::{PacketCodec, PacketDst, packet_to_chunks};
 use refusing_allocator::{NEVER, Refusing};
 use std::alloc::{Allocator, Global};
 use std::test::Fail;
+use test_support::answers::Answer;
 use test_support::case::{Case, Wanted};
 use test_support::facts::{ensure, no_row, same, wrong_row};
 use test_support::fixture::{Fixture, Heap};
 use test_support::refused::deliver_refused;
 use test_support::script::{Script, Step};
 use test_support::targets::Zeros;
-use test_support::told::Told;
 
 // No run that a test makes asks so often.
 const MOST: u64 = 100;
@@ -94,10 +94,10 @@ fn huge_refused(alloc: Global, len: usize) -> bool {
     let mut codec = PacketCodec::default();
     codec.max_allowed_packet = usize::MAX;
     let framed = packet_to_chunks(0, &mut packet, &mut dst);
-    let encoded = Told::of_encode(codec.encode(&mut packet, &mut dst));
+    let encoded = Answer::of_encode(codec.encode(&mut packet, &mut dst));
     let unchanged = (packet.left == len) & same(dst.as_slice(), b"ab");
     let is_framed = matches!(framed, Err(WireError::OutOfMemory));
-    begins & is_framed & (encoded == Told::OutOfMemory) & unchanged
+    begins & is_framed & (encoded == Answer::OutOfMemory) & unchanged
 }
 
 // So many bytes and their headers are just as many as a machine counts.
@@ -121,22 +121,22 @@ const REFUSED: &[Script] = &[
     Script {
         name: "the one request of encode is refused",
         steps: &[
-            Step::Encode(b"a", Told::Done),
+            Step::Encode(b"a", Answer::Done),
             Step::Refuse(0),
-            Step::Encode(b"0123456789", Told::OutOfMemory),
+            Step::Encode(b"0123456789", Answer::OutOfMemory),
             Step::Refused(true),
             Step::Left(b"\x01\0\0\0\x61"),
             // The id is that of the one packet before.
-            Step::Encode(b"0123456789", Told::Done),
+            Step::Encode(b"0123456789", Answer::Done),
             Step::Left(b"\x01\0\0\0\x61\x0a\0\0\x010123456789"),
         ],
     },
     Script {
         name: "encode asks once",
         steps: &[
-            Step::Encode(b"a", Told::Done),
+            Step::Encode(b"a", Answer::Done),
             Step::Refuse(1),
-            Step::Encode(b"0123456789", Told::Done),
+            Step::Encode(b"0123456789", Answer::Done),
             Step::Refused(false),
             Step::Unasked(0),
             Step::Left(b"\x01\0\0\0\x61\x0a\0\0\x010123456789"),
@@ -147,14 +147,14 @@ const REFUSED: &[Script] = &[
         steps: &[
             Step::Src(PACKET),
             Step::Refuse(0),
-            Step::Decode(Told::OutOfMemory),
+            Step::Decode(Answer::OutOfMemory),
             Step::Refused(true),
             Step::Left(PACKET),
             Step::Held(b""),
             // The header is remembered: the codec stands at no other one.
             Step::Stands(true),
             Step::StandsAt(b"\x0a\0\0\x01", b"", false),
-            Step::Decode(Told::Whole),
+            Step::Decode(Answer::Packet),
             Step::Held(b"0123456789"),
             Step::Left(b"\xff"),
         ],
@@ -164,7 +164,7 @@ const REFUSED: &[Script] = &[
         steps: &[
             Step::Src(PACKET),
             Step::Refuse(1),
-            Step::Decode(Told::Whole),
+            Step::Decode(Answer::Packet),
             Step::Refused(false),
             Step::Unasked(0),
             Step::Held(b"0123456789"),
@@ -177,16 +177,16 @@ const REFUSED: &[Script] = &[
             Step::Limit(2 * MAX_PAYLOAD_LEN),
             Step::Src(b"\xff\xff\xff\0"),
             Step::ComesMany(MAX_PAYLOAD_LEN),
-            Step::Decode(Told::Waits),
+            Step::Decode(Answer::Waits),
             Step::Comes(b"\xff\xff\xff\x01"),
             Step::ComesMany(MAX_PAYLOAD_LEN),
             Step::Refuse(0),
-            Step::Decode(Told::OutOfMemory),
+            Step::Decode(Answer::OutOfMemory),
             Step::Refused(true),
             Step::HeldMany(MAX_PAYLOAD_LEN),
             Step::LeftMany(MAX_PAYLOAD_LEN + 4),
             Step::Stands(true),
-            Step::Decode(Told::Waits),
+            Step::Decode(Answer::Waits),
             Step::HeldMany(2 * MAX_PAYLOAD_LEN),
         ],
     },
@@ -220,7 +220,7 @@ const TWO_PIECES: &[&[u8]] = &[b"\x03", b"\0\0", b"\x001", b"", b"23\x01\0\0\x01
 
 const TWO_READ: Wanted<'static> = Wanted {
     packets: &[b"123", b"\xff"],
-    told: Told::Waits,
+    answer: Answer::Waits,
     held: b"",
     left: 12,
 };

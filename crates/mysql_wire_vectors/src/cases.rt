@@ -3,10 +3,10 @@
 use mysql_wire::constants::MAX_PAYLOAD_LEN;
 use std::alloc::Global;
 use std::test::Fail;
+use test_support::answers::Answer;
 use test_support::facts::{ensure, same};
 use test_support::fixture::Fixture;
 use test_support::script::{Script, Step, play};
-use test_support::told::Told;
 
 const ZEROS: [u8; 1024] = [0; 1024];
 
@@ -14,24 +14,24 @@ const CASES: &[Script] = &[
     Script {
         name: "zero_len_packet",
         steps: &[
-            Step::Encode(b"", Told::Done),
+            Step::Encode(b"", Answer::Done),
             Step::Left(b"\0\0\0\0"),
             Step::Fresh,
-            Step::Decode(Told::Whole),
+            Step::Decode(Answer::Packet),
             Step::Held(b""),
             Step::Left(b""),
             // The id was raised.
-            Step::Encode(b"", Told::Done),
+            Step::Encode(b"", Answer::Done),
             Step::Left(b"\0\0\0\x01"),
         ],
     },
     Script {
         name: "regular_packet",
         steps: &[
-            Step::Encode(b"123", Told::Done),
+            Step::Encode(b"123", Answer::Done),
             Step::Left(b"\x03\0\0\x00123"),
             Step::Fresh,
-            Step::Decode(Told::Whole),
+            Step::Decode(Answer::Packet),
             Step::Held(b"123"),
             Step::Left(b""),
         ],
@@ -40,11 +40,11 @@ const CASES: &[Script] = &[
         name: "out_of_sync",
         steps: &[
             Step::Src(b"\0\0\0\x01"),
-            Step::Decode(Told::OutOfSync),
+            Step::Decode(Answer::OutOfSync),
             Step::Held(b""),
             Step::Left(b""),
             // The id was not raised.
-            Step::Encode(b"", Told::Done),
+            Step::Encode(b"", Answer::Done),
             Step::Left(b"\0\0\0\0"),
         ],
     },
@@ -52,13 +52,13 @@ const CASES: &[Script] = &[
         name: "packet_too_large",
         steps: &[
             Step::Comes(b"ab"),
-            Step::EncodeMany(4194305, Told::TooLarge),
+            Step::EncodeMany(4194305, Answer::TooLarge),
             Step::Left(b"ab"),
             Step::Src(b""),
-            Step::EncodeMany(4194304, Told::Done),
+            Step::EncodeMany(4194304, Answer::Done),
             Step::LeftMany(4194308),
             Step::Reset,
-            Step::Decode(Told::Whole),
+            Step::Decode(Answer::Packet),
             Step::HeldMany(4194304),
         ],
     },
@@ -66,21 +66,21 @@ const CASES: &[Script] = &[
         name: "large_packets",
         steps: &[
             Step::Limit(2 * MAX_PAYLOAD_LEN),
-            Step::EncodeMany(MAX_PAYLOAD_LEN, Told::Done),
-            Step::EncodeMany(MAX_PAYLOAD_LEN + 1, Told::Done),
-            Step::EncodeMany(2 * MAX_PAYLOAD_LEN, Told::Done),
+            Step::EncodeMany(MAX_PAYLOAD_LEN, Answer::Done),
+            Step::EncodeMany(MAX_PAYLOAD_LEN + 1, Answer::Done),
+            Step::EncodeMany(2 * MAX_PAYLOAD_LEN, Answer::Done),
             Step::LeftMany(4 * MAX_PAYLOAD_LEN + 29),
             Step::Reset,
-            Step::Decode(Told::Whole),
+            Step::Decode(Answer::Packet),
             Step::HeldMany(MAX_PAYLOAD_LEN),
             Step::Dst(b""),
-            Step::Decode(Told::Whole),
+            Step::Decode(Answer::Packet),
             Step::HeldMany(MAX_PAYLOAD_LEN + 1),
             Step::Dst(b""),
-            Step::Decode(Told::Whole),
+            Step::Decode(Answer::Packet),
             Step::HeldMany(2 * MAX_PAYLOAD_LEN),
             Step::Left(b""),
-            Step::Encode(b"", Told::Done),
+            Step::Encode(b"", Answer::Done),
             Step::Left(b"\0\0\0\x07"),
         ],
     },
@@ -94,9 +94,9 @@ fn each_case_goes_as_it_says(rt: HostRuntime) -> Result<(), Fail> {
 // Whether a packet through one buffer, from one codec to another, comes out as it went in.
 fn passes(sender: &mut Ends, receiver: &mut Ends, packet: &[u8]) -> bool {
     receiver.dst.clear();
-    let sent = sender.encode(packet) == Told::Done;
+    let sent = sender.encode(packet) == Answer::Done;
     std::mem::swap(&mut sender.src, &mut receiver.src);
-    let whole = receiver.decode() == Told::Whole;
+    let whole = receiver.decode() == Answer::Packet;
     sent & whole & same(receiver.dst.as_slice(), packet) & receiver.src.is_empty()
 }
 

@@ -5,13 +5,12 @@ use mysql_wire::constants::MAX_PAYLOAD_LEN;
 use mysql_wire::proto::codec::packet_to_chunks;
 use std::alloc::Global;
 use std::test::Fail;
-use test_support::answers::told;
+use test_support::answers::{Answer, answered};
 use test_support::facts::{all_hold, are_parts};
 use test_support::fixture::FILL;
 use test_support::receiver::Receiver;
 use test_support::reference::low_byte;
 use test_support::script::{Script, Step, play};
-use test_support::told::Told;
 
 // One codec or decoder, from its first state on.
 const EXAMPLES: &[Script] = &[
@@ -19,11 +18,11 @@ const EXAMPLES: &[Script] = &[
         name: "a header, and then both its bytes at once",
         steps: &[
             Step::Src(b"\x02\0\0\0"),
-            Step::Decode(Told::Waits),
+            Step::Decode(Answer::Waits),
             Step::Held(b""),
             Step::Left(b"\x02\0\0\0"),
             Step::Comes(b"\xaa\xbb"),
-            Step::Decode(Told::Whole),
+            Step::Decode(Answer::Packet),
             Step::Held(b"\xaa\xbb"),
             Step::Left(b""),
         ],
@@ -33,22 +32,22 @@ const EXAMPLES: &[Script] = &[
         steps: &[
             Step::Limit(4),
             Step::Src(b"\x02\0\0\x07\xaa"),
-            Step::Decode(Told::Waits),
+            Step::Decode(Answer::Waits),
             Step::Left(b"\x02\0\0\x07\xaa"),
             Step::Comes(b"\xbb"),
-            Step::Decode(Told::OutOfSync),
+            Step::Decode(Answer::OutOfSync),
             Step::Held(b"\xaa\xbb"),
             Step::Left(b""),
             // The id was not raised.
-            Step::Encode(b"", Told::Done),
+            Step::Encode(b"", Answer::Done),
             Step::Left(b"\0\0\0\0"),
         ],
     },
     Script {
         name: "one codec decodes what it encoded",
         steps: &[
-            Step::Encode(b"\x01", Told::Done),
-            Step::Decode(Told::OutOfSync),
+            Step::Encode(b"\x01", Answer::Done),
+            Step::Decode(Answer::OutOfSync),
         ],
     },
     Script {
@@ -56,7 +55,7 @@ const EXAMPLES: &[Script] = &[
         steps: &[
             Step::Remember(Some((9, usize::MAX))),
             Step::Src(b"\0\0\0\0\x61"),
-            Step::Chunk(usize::MAX, Told::Waits),
+            Step::Chunk(usize::MAX, Answer::Waits),
             Step::Remembers(Some((9, usize::MAX))),
             Step::Left(b"\0\0\0\0\x61"),
             Step::Held(b""),
@@ -67,7 +66,7 @@ const EXAMPLES: &[Script] = &[
         steps: &[
             Step::Remember(Some((9, 1))),
             Step::Src(b"\xff\xff\xff\xff\x61"),
-            Step::Chunk(0, Told::Last(9)),
+            Step::Chunk(0, Answer::Last(9)),
             Step::Remembers(None),
             Step::Left(b""),
             Step::Held(b"a"),
@@ -82,7 +81,7 @@ const LIMITS: &[Script] = &[
         steps: &[
             Step::Limit(4),
             Step::Src(b"\x05\0\0\x07"),
-            Step::Decode(Told::TooLarge),
+            Step::Decode(Answer::TooLarge),
             Step::Left(b"\x05\0\0\x07"),
             Step::Held(b""),
         ],
@@ -94,7 +93,7 @@ const LIMITS: &[Script] = &[
             Step::Src(b"\xff\xff\xff\0"),
             Step::ComesMany(MAX_PAYLOAD_LEN),
             Step::Comes(b"\x01\0\0\x01"),
-            Step::Decode(Told::TooLarge),
+            Step::Decode(Answer::TooLarge),
             Step::HeldMany(MAX_PAYLOAD_LEN),
             Step::Left(b"\x01\0\0\x01"),
             Step::Stands(true),
@@ -107,17 +106,17 @@ const LIMITS: &[Script] = &[
         steps: &[
             Step::Limit(0),
             Step::Src(b"\0\0\0\0\x01\0\0\x01"),
-            Step::Decode(Told::Whole),
+            Step::Decode(Answer::Packet),
             Step::Held(b""),
-            Step::Decode(Told::TooLarge),
+            Step::Decode(Answer::TooLarge),
         ],
     },
     Script {
         name: "a byte more than the limit of a new codec",
         steps: &[
-            Step::EncodeMany(4194305, Told::TooLarge),
+            Step::EncodeMany(4194305, Answer::TooLarge),
             Step::Left(b""),
-            Step::Encode(b"", Told::Done),
+            Step::Encode(b"", Answer::Done),
             Step::Left(b"\0\0\0\0"),
         ],
     },
@@ -135,7 +134,7 @@ fn is_full_chunk_framed(alloc: Global) -> bool {
     let _ = payload.resize(16777215, FILL);
     let mut packet = payload.as_slice();
     let mut dst = BytesMut::new(alloc);
-    let answer = told(packet_to_chunks(255, &mut packet, &mut dst));
+    let answer = answered(packet_to_chunks(255, &mut packet, &mut dst));
     let framed = [
         b"\xff\xff\xff\xff".as_slice(),
         payload.as_slice(),
@@ -147,7 +146,7 @@ fn is_full_chunk_framed(alloc: Global) -> bool {
 fn are_two_packets_and_a_byte(alloc: Global) -> bool {
     let mut receiver = Receiver::new(alloc, 4194304);
     let run = receiver.deliver(&[b"\x03", b"\0\0", b"\x001", b"", b"23\x01\0\0\x01\xff\0"]);
-    (run == (5, Told::Waits)) & receiver.shows(&[b"123", b"\xff"], b"\0", b"")
+    (run == (5, Answer::Waits)) & receiver.shows(&[b"123", b"\xff"], b"\0", b"")
 }
 
 // 257 empty packets; one that finds no memory is missing.
@@ -163,7 +162,7 @@ fn empty_packets(alloc: Global) -> Vec<u8> {
 fn ids_go_on_with_0_after_255(alloc: Global) -> bool {
     let stream = empty_packets(alloc);
     let mut receiver = Receiver::new(alloc, 0);
-    let waits = receiver.deliver(&[stream.as_slice()]) == (1, Told::Waits);
+    let waits = receiver.deliver(&[stream.as_slice()]) == (1, Answer::Waits);
     waits & (receiver.out.len() == 257) & (receiver.codec.sequence_id() == 1)
 }
 

@@ -3,10 +3,10 @@
 use mysql_wire::constants::MAX_PAYLOAD_LEN;
 use std::alloc::Global;
 use std::test::Fail;
+use test_support::answers::Answer;
 use test_support::facts::{no_row, wrong_row};
 use test_support::fixture::Remembered;
 use test_support::script::{Step, first_fault};
-use test_support::told::Told;
 
 // A state, what is to be read, what is held and a limit; and the same after the call, with its
 // answer.
@@ -16,7 +16,7 @@ struct Row {
     src: &'static [u8],
     held: &'static [u8],
     limit: usize,
-    told: Told,
+    answer: Answer,
     new_state: Remembered,
     left: &'static [u8],
     new_held: &'static [u8],
@@ -24,13 +24,13 @@ struct Row {
 
 // A row that changes nothing.
 macro_rules! unchanged {
-    ($state:expr, $src:literal, $held:literal, $limit:expr, $told:expr $(,)?) => {
+    ($state:expr, $src:literal, $held:literal, $limit:expr, $answer:expr $(,)?) => {
         Row {
             state: $state,
             src: $src,
             held: $held,
             limit: $limit,
-            told: $told,
+            answer: $answer,
             new_state: $state,
             left: $src,
             new_held: $held,
@@ -41,14 +41,14 @@ macro_rules! unchanged {
 // From `Idle`, with everything taken.
 macro_rules! taken {
     (
-        $src:literal, $held:literal, $limit:expr, $told:expr, $left:literal, $new_held:literal $(,)?
+        $src:literal, $held:literal, $limit:expr, $answer:expr, $left:literal, $new_held:literal $(,)?
     ) => {
         Row {
             state: None,
             src: $src,
             held: $held,
             limit: $limit,
-            told: $told,
+            answer: $answer,
             new_state: None,
             left: $left,
             new_held: $new_held,
@@ -64,7 +64,7 @@ macro_rules! begun {
             src: $src,
             held: $held,
             limit: $limit,
-            told: Told::Waits,
+            answer: Answer::Waits,
             new_state: Some(($id, $needed)),
             left: $src,
             new_held: $held,
@@ -75,7 +75,7 @@ macro_rules! begun {
 // Whose header is remembered, with everything taken.
 macro_rules! finished {
     (
-        $id:literal, $needed:literal, $src:literal, $limit:expr, $told:expr, $left:literal,
+        $id:literal, $needed:literal, $src:literal, $limit:expr, $answer:expr, $left:literal,
         $held:literal $(,)?
     ) => {
         Row {
@@ -83,7 +83,7 @@ macro_rules! finished {
             src: $src,
             held: b"",
             limit: $limit,
-            told: $told,
+            answer: $answer,
             new_state: None,
             left: $left,
             new_held: $held,
@@ -93,24 +93,24 @@ macro_rules! finished {
 
 // Without a whole header nothing happens.
 const WITHOUT_A_HEADER: &[Row] = &[
-    unchanged!(None, b"", b"", 9, Told::Waits),
-    unchanged!(None, b"\x01", b"", 9, Told::Waits),
-    unchanged!(None, b"\0\0", b"x", 0, Told::Waits),
-    unchanged!(None, b"\xff\xff\xff", b"", 0, Told::Waits),
+    unchanged!(None, b"", b"", 9, Answer::Waits),
+    unchanged!(None, b"\x01", b"", 9, Answer::Waits),
+    unchanged!(None, b"\0\0", b"x", 0, Answer::Waits),
+    unchanged!(None, b"\xff\xff\xff", b"", 0, Answer::Waits),
     // Also where a header is remembered, and where fewer bytes than it has stand in front.
-    unchanged!(Some((9, 1)), b"", b"", 9, Told::Waits),
-    unchanged!(Some((9, 1)), b"\x01\0\0", b"xy", 0, Told::Waits),
+    unchanged!(Some((9, 1)), b"", b"", 9, Answer::Waits),
+    unchanged!(Some((9, 1)), b"\x01\0\0", b"xy", 0, Answer::Waits),
 ];
 
 // An empty chunk is a packet's last at any limit.
 const EMPTY: &[Row] = &[
-    taken!(b"\0\0\0\0", b"", 0, Told::Last(0), b"", b""),
-    taken!(b"\0\0\0\xff", b"", 0, Told::Last(255), b"", b""),
+    taken!(b"\0\0\0\0", b"", 0, Answer::Last(0), b"", b""),
+    taken!(b"\0\0\0\xff", b"", 0, Answer::Last(255), b"", b""),
     taken!(
         b"\0\0\0\x05\x01\0",
         b"xyz",
         0,
-        Told::Last(5),
+        Answer::Last(5),
         b"\x01\0",
         b"xyz",
     ),
@@ -118,7 +118,7 @@ const EMPTY: &[Row] = &[
         b"\0\0\0\x01\0\0\0\x02",
         b"xyz",
         2,
-        Told::Last(1),
+        Answer::Last(1),
         b"\0\0\0\x02",
         b"xyz",
     ),
@@ -126,15 +126,15 @@ const EMPTY: &[Row] = &[
 
 // A chunk past the limit is refused by its header.
 const TOO_LARGE: &[Row] = &[
-    unchanged!(None, b"\x01\0\0\0", b"", 0, Told::TooLarge),
-    unchanged!(None, b"\x01\0\0\0\x61", b"", 0, Told::TooLarge),
-    unchanged!(None, b"\x05\0\0\x07\x61", b"", 4, Told::TooLarge),
-    unchanged!(None, b"\x02\0\0\x07\xaa\xbb", b"xyz", 4, Told::TooLarge),
-    unchanged!(None, b"\xff\xff\xff\xff", b"", 16777214, Told::TooLarge),
-    unchanged!(None, b"\0\0\x01\0", b"", 65535, Told::TooLarge),
-    unchanged!(None, b"\0\x01\0\0", b"", 255, Told::TooLarge),
+    unchanged!(None, b"\x01\0\0\0", b"", 0, Answer::TooLarge),
+    unchanged!(None, b"\x01\0\0\0\x61", b"", 0, Answer::TooLarge),
+    unchanged!(None, b"\x05\0\0\x07\x61", b"", 4, Answer::TooLarge),
+    unchanged!(None, b"\x02\0\0\x07\xaa\xbb", b"xyz", 4, Answer::TooLarge),
+    unchanged!(None, b"\xff\xff\xff\xff", b"", 16777214, Answer::TooLarge),
+    unchanged!(None, b"\0\0\x01\0", b"", 65535, Answer::TooLarge),
+    unchanged!(None, b"\0\x01\0\0", b"", 255, Answer::TooLarge),
     // More is held than the limit allows.
-    unchanged!(None, b"\x01\0\0\0\x61", b"xyz", 2, Told::TooLarge),
+    unchanged!(None, b"\x01\0\0\0\x61", b"xyz", 2, Answer::TooLarge),
 ];
 
 // A chunk within the limit is remembered.
@@ -148,13 +148,20 @@ const REMEMBERED: &[Row] = &[
 
 // A whole chunk is moved.
 const WHOLE: &[Row] = &[
-    taken!(b"\x01\0\0\0\x61", b"", 1, Told::Last(0), b"", b"a"),
-    taken!(b"\x02\0\0\x07ab\x03", b"", 2, Told::Last(7), b"\x03", b"ab"),
+    taken!(b"\x01\0\0\0\x61", b"", 1, Answer::Last(0), b"", b"a"),
+    taken!(
+        b"\x02\0\0\x07ab\x03",
+        b"",
+        2,
+        Answer::Last(7),
+        b"\x03",
+        b"ab"
+    ),
     taken!(
         b"\x02\0\0\x07\xaa\xbb",
         b"xyz",
         5,
-        Told::Last(7),
+        Answer::Last(7),
         b"",
         b"xyz\xaa\xbb",
     ),
@@ -162,7 +169,7 @@ const WHOLE: &[Row] = &[
         b"\x01\0\0\xff\0\0",
         b"",
         usize::MAX,
-        Told::Last(255),
+        Answer::Last(255),
         b"\0",
         b"\0",
     ),
@@ -171,28 +178,40 @@ const WHOLE: &[Row] = &[
 // A remembered header is what counts.
 const COUNTS: &[Row] = &[
     // Its four bytes are skipped unread, and the limit is not looked at.
-    finished!(9, 1, b"\xff\xff\xff\xff\x61", 0, Told::Last(9), b"", b"a"),
-    finished!(0, 2, b"\0\0\0\0abc", 0, Told::Last(0), b"c", b"ab"),
+    finished!(9, 1, b"\xff\xff\xff\xff\x61", 0, Answer::Last(9), b"", b"a"),
+    finished!(0, 2, b"\0\0\0\0abc", 0, Answer::Last(0), b"c", b"ab"),
     finished!(
         255,
         4,
         b"\x01\0\0\0abcde",
         1,
-        Told::Last(255),
+        Answer::Last(255),
         b"e",
         b"abcd",
     ),
     // Bytes are missing, up to all that a machine can count.
-    unchanged!(Some((9, 2)), b"\x01\0\0\0\x61", b"", 0, Told::Waits),
-    unchanged!(Some((9, usize::MAX)), b"\0\0\0\0\x61", b"", 9, Told::Waits),
+    unchanged!(Some((9, 2)), b"\x01\0\0\0\x61", b"", 0, Answer::Waits),
+    unchanged!(
+        Some((9, usize::MAX)),
+        b"\0\0\0\0\x61",
+        b"",
+        9,
+        Answer::Waits
+    ),
     unchanged!(
         Some((9, usize::MAX - 3)),
         b"\0\0\0\0\x61",
         b"x",
         0,
-        Told::Waits,
+        Answer::Waits,
     ),
-    unchanged!(Some((9, usize::MAX - 4)), b"\0\0\0\0", b"", 0, Told::Waits),
+    unchanged!(
+        Some((9, usize::MAX - 4)),
+        b"\0\0\0\0",
+        b"",
+        0,
+        Answer::Waits
+    ),
 ];
 
 fn goes(alloc: Global, row: Row) -> bool {
@@ -200,7 +219,7 @@ fn goes(alloc: Global, row: Row) -> bool {
         Step::Remember(row.state),
         Step::Src(row.src),
         Step::Dst(row.held),
-        Step::Chunk(row.limit, row.told),
+        Step::Chunk(row.limit, row.answer),
         Step::Remembers(row.new_state),
         Step::Left(row.left),
         Step::Held(row.new_held),
@@ -228,18 +247,18 @@ fn a_chunk_goes_by_the_state_of_its_decoder(rt: HostRuntime) -> Result<(), Fail>
 
 // A decoder that needs so many bytes, where so many are there and so many held; its answer, and how
 // many bytes are left and held then.
-type Long = (usize, usize, usize, Told, usize, usize);
+type Long = (usize, usize, usize, Answer, usize, usize);
 
 fn goes_on(alloc: Global, row: Long) -> bool {
-    let (needed, there, held, told, left, new_held) = row;
+    let (needed, there, held, answer, left, new_held) = row;
     let needs = Some((9, needed));
-    let remembers = if told == Told::Waits { needs } else { None };
+    let remembers = if answer == Answer::Waits { needs } else { None };
     let steps = [
         Step::Remember(needs),
         Step::Src(b"\x01\x02\x03\x04"),
         Step::ComesMany(there),
         Step::DstMany(held),
-        Step::Chunk(0, told),
+        Step::Chunk(0, answer),
         Step::Remembers(remembers),
         Step::LeftMany(left),
         Step::HeldMany(new_held),
@@ -249,9 +268,9 @@ fn goes_on(alloc: Global, row: Long) -> bool {
 
 const MAX: usize = MAX_PAYLOAD_LEN;
 
-const MIDDLE: Told = Told::Middle(9);
+const MIDDLE: Answer = Answer::Middle(9);
 
-const LAST: Told = Told::Last(9);
+const LAST: Answer = Answer::Last(9);
 
 const LONG: &[Long] = &[
     (MAX, MAX, 0, MIDDLE, 0, MAX),
@@ -267,8 +286,8 @@ const LONG: &[Long] = &[
     (1, 1, MAX, LAST, 0, MAX + 1),
     (1, 1, MAX - 1, MIDDLE, 0, MAX),
     // One byte is missing.
-    (MAX, MAX - 1, 0, Told::Waits, MAX + 3, 0),
-    (MAX + 1, MAX, MAX - 1, Told::Waits, MAX + 4, MAX - 1),
+    (MAX, MAX - 1, 0, Answer::Waits, MAX + 3, 0),
+    (MAX + 1, MAX, MAX - 1, Answer::Waits, MAX + 4, MAX - 1),
 ];
 
 #[test]

@@ -1,16 +1,16 @@
 //! Packets from readers that are copied to a writer: whole, cut, ended, failing, refused. And long
 //! ones that are copied or passed on.
 
-use crate::said::Said;
 use crate::taken::{self, Row, Way, goes, wrong_row};
 use std::alloc::Global;
 use std::test::Fail;
+use test_support::answers::Answer;
 use test_support::facts::no_row;
 
 // A packet, and the end.
 const ROW: Row = Row {
     parts: &[(b"\x03\0\0\0abc", 0)],
-    said: &[Said::Packet, Said::End],
+    answers: &[Answer::Packet, Answer::End],
     out: b"abc",
     ..taken::ROW
 };
@@ -26,7 +26,7 @@ const ROWS: &[Row] = &[
     // Nothing.
     Row {
         parts: &[(b"", 0)],
-        said: &[Said::End],
+        answers: &[Answer::End],
         out: b"",
         ids_after: (0, 7),
         ..ROW
@@ -37,14 +37,14 @@ const ROWS: &[Row] = &[
         limit: 0,
         later_limit: 0,
         ids: (255, 7),
-        said: &[Said::Packet, Said::Packet, Said::End],
+        answers: &[Answer::Packet, Answer::Packet, Answer::End],
         out: b"",
         ..ROW
     },
     // Two packets in one read, and the front of one more.
     Row {
         parts: &[(b"\x01\0\0\0a\x02\0\0\x01bc\x01\0", 0)],
-        said: &[Said::Packet, Said::Packet, Said::UnexpectedEnd],
+        answers: &[Answer::Packet, Answer::Packet, Answer::UnexpectedEof],
         unread: Some(b"\x01\0"),
         ids_after: (2, 7),
         ..ROW
@@ -52,7 +52,7 @@ const ROWS: &[Row] = &[
     // The end inside a packet.
     Row {
         parts: &[(b"\x03\0\0\0ab", 0)],
-        said: &[Said::UnexpectedEnd, Said::UnexpectedEnd],
+        answers: &[Answer::UnexpectedEof, Answer::UnexpectedEof],
         out: b"ab",
         ids_after: (0, 7),
         ..ROW
@@ -61,20 +61,20 @@ const ROWS: &[Row] = &[
     Row {
         at_once: 1,
         until_fault: 5,
-        said: &[Said::Io, Said::Packet, Said::End],
+        answers: &[Answer::Io, Answer::Packet, Answer::End],
         ..ROW
     },
     // The second write fails, and the copy goes on at the byte that was not taken.
     Row {
         room: 1,
         until_refusal: 1,
-        said: &[Said::Io, Said::Packet, Said::End],
+        answers: &[Answer::Io, Answer::Packet, Answer::End],
         ..ROW
     },
     // A writer that takes nothing.
     Row {
         room: 0,
-        said: &[Said::WriteZero, Said::WriteZero],
+        answers: &[Answer::WriteZero, Answer::WriteZero],
         out: b"",
         unread: Some(b"abc"),
         ids_after: (0, 7),
@@ -83,7 +83,7 @@ const ROWS: &[Row] = &[
     // Another id, and past the limit: nothing of the chunk is written, and its header stays.
     Row {
         parts: &[(b"\x01\0\0\x05a", 0)],
-        said: &[Said::OutOfSync, Said::OutOfSync],
+        answers: &[Answer::OutOfSync, Answer::OutOfSync],
         out: b"",
         unread: Some(b"\x01\0\0\x05a"),
         ids_after: (0, 7),
@@ -91,7 +91,7 @@ const ROWS: &[Row] = &[
     },
     Row {
         parts: &[(b"\x04\0\0\0abcd", 0)],
-        said: &[Said::TooLarge, Said::TooLarge],
+        answers: &[Answer::TooLarge, Answer::TooLarge],
         out: b"",
         unread: Some(b"\x04\0\0\0abcd"),
         ids_after: (0, 7),
@@ -133,7 +133,7 @@ fn goes_long(alloc: Global, (parts, zeros, id): (&[(&[u8], usize)], usize, u8)) 
         limit: 16777216,
         later_limit: 16777216,
         ids_after: (id, 7),
-        said: &[Said::Packet, Said::End],
+        answers: &[Answer::Packet, Answer::End],
         zeros,
         ..taken::ROW
     };

@@ -4,9 +4,9 @@
 use mysql_wire::proto::codec::Visit;
 use std::alloc::Global;
 use std::test::Fail;
+use test_support::answers::Answer;
 use test_support::facts::{no_row, same, wrong_row};
 use test_support::receiver::Receiver;
-use test_support::told::Told;
 
 // Pieces, the first of them in a run of their own, and what came of them. A row begins with these
 // bytes in `src`, nothing held, and id 0.
@@ -17,7 +17,7 @@ struct Row<'a> {
     pieces: &'a [&'a [u8]],
     first: usize,
     count: usize,
-    told: Told,
+    answer: Answer,
     packets: &'a [&'a [u8]],
     left: &'a [u8],
     held: &'a [u8],
@@ -62,36 +62,36 @@ fn is_visited(alloc: Global, row: &Row) -> bool {
     let mut to = Receiver::holding(alloc, row.limit, row.src);
     let mut seen = Compared::new(row.packets);
     let run = to.visit(row.pieces, &mut seen);
-    (run == (row.count, row.told)) & seen.is_done() & to.shows(&[], row.left, row.held)
+    (run == (row.count, row.answer)) & seen.is_done() & to.shows(&[], row.left, row.held)
 }
 
 // Takes the packets that came, each where it lies if it can be lent, and tells why there is none.
-fn take_all(to: &mut Receiver<Global>) -> Told {
+fn take_all(to: &mut Receiver<Global>) -> Answer {
     for _ in 0..1000 {
-        let told = to.take_next();
-        if told != Told::Whole {
-            return told;
+        let answer = to.take_next();
+        if answer != Answer::Packet {
+            return answer;
         }
     }
-    Told::Whole
+    Answer::Packet
 }
 
 fn is_taken(alloc: Global, row: &Row) -> bool {
     let mut to = Receiver::holding(alloc, row.limit, row.src);
-    let mut told = take_all(&mut to);
+    let mut answer = take_all(&mut to);
     for piece in row.pieces {
-        if told == Told::Waits {
+        if answer == Answer::Waits {
             let _ = to.src.extend_from_slice(*piece);
-            told = take_all(&mut to);
+            answer = take_all(&mut to);
         }
     }
-    (told == row.told) & to.shows(row.packets, row.left, row.held)
+    (answer == row.answer) & to.shows(row.packets, row.left, row.held)
 }
 
 fn goes(alloc: Global, row: Row<'_>) -> bool {
     let mut to = Receiver::holding(alloc, row.limit, row.src);
     let run = to.deliver_in_two(row.pieces, row.first);
-    let mut all = (run == (row.count, row.told)) & to.shows(row.packets, row.left, row.held);
+    let mut all = (run == (row.count, row.answer)) & to.shows(row.packets, row.left, row.held);
     all &= to.codec.max_allowed_packet == row.limit;
     all & is_visited(alloc, &row) & is_taken(alloc, &row)
 }
@@ -105,7 +105,7 @@ const ROWS: &[Row] = &[
         pieces: &[b"\x03", b"\0\0", b"\x001", b"", b"23\x01\0\0\x01\xff\0"],
         first: 0,
         count: 5,
-        told: Told::Waits,
+        answer: Answer::Waits,
         packets: &[b"123", b"\xff"],
         left: b"\0",
         held: b"",
@@ -116,7 +116,7 @@ const ROWS: &[Row] = &[
         pieces: &[],
         first: 0,
         count: 0,
-        told: Told::Waits,
+        answer: Answer::Waits,
         packets: &[],
         left: b"",
         held: b"",
@@ -127,7 +127,7 @@ const ROWS: &[Row] = &[
         pieces: &[b"\x01\0\0\0\x61\x03\0\0", b"\x09", b"\x62"],
         first: 0,
         count: 3,
-        told: Told::Waits,
+        answer: Answer::Waits,
         packets: &[b"a"],
         left: b"\x03\0\0\x09\x62",
         held: b"",
@@ -139,7 +139,7 @@ const ROWS: &[Row] = &[
         pieces: &[b"\x01\0\0\0\x61\x03\0\0", b"\x09", b"\x62"],
         first: 0,
         count: 2,
-        told: Told::TooLarge,
+        answer: Answer::TooLarge,
         packets: &[b"a"],
         left: b"\x03\0\0\x09",
         held: b"",
@@ -156,7 +156,7 @@ const ROWS: &[Row] = &[
         ],
         first: 0,
         count: 3,
-        told: Told::OutOfSync,
+        answer: Answer::OutOfSync,
         packets: &[b"a"],
         left: b"\x05",
         held: b"bcd",
@@ -167,7 +167,7 @@ const ROWS: &[Row] = &[
         pieces: &[b"\0\0\0", b"\x01\x02", b"\x03"],
         first: 0,
         count: 2,
-        told: Told::OutOfSync,
+        answer: Answer::OutOfSync,
         packets: &[],
         left: b"\x02",
         held: b"",
@@ -179,7 +179,7 @@ const ROWS: &[Row] = &[
         pieces: &[b"\x03\0", b"\0\x00123"],
         first: 1,
         count: 2,
-        told: Told::Waits,
+        answer: Answer::Waits,
         packets: &[b"123"],
         left: b"",
         held: b"",
@@ -190,7 +190,7 @@ const ROWS: &[Row] = &[
         pieces: &[b"\0\0\0\0\x05"],
         first: 1,
         count: 1,
-        told: Told::Waits,
+        answer: Answer::Waits,
         packets: &[b""],
         left: b"\x05",
         held: b"",
@@ -202,7 +202,7 @@ const ROWS: &[Row] = &[
         pieces: &[],
         first: 0,
         count: 0,
-        told: Told::Waits,
+        answer: Answer::Waits,
         packets: &[b""],
         left: b"\x05",
         held: b"",

@@ -4,11 +4,11 @@
 use mysql_wire::constants::MAX_PAYLOAD_LEN;
 use std::alloc::Global;
 use std::test::Fail;
+use test_support::answers::Answer;
 use test_support::case::{Case, Wanted};
 use test_support::facts::{no_row, wrong_row};
 use test_support::fixture::FILL;
 use test_support::reference::{between, low_byte};
-use test_support::told::Told;
 
 // The stream, cut behind its byte number i + 1 where bit i of the number is set, and an empty piece
 // behind each piece where they are spaced. A piece that no memory is left for is missing, which no
@@ -76,7 +76,7 @@ const SHORT: &[u8] = b"\x01\0\0\0\x61\x03\0\0\x09\x62";
 
 const TOO_LARGE: Wanted<'static> = Wanted {
     packets: &[b"a"],
-    told: Told::TooLarge,
+    answer: Answer::TooLarge,
     held: b"",
     left: 5,
 };
@@ -88,7 +88,7 @@ const ROWS: &[Row] = &[
         limit: 1,
         wanted: Wanted {
             packets: &[b"a", b"b", b""],
-            told: Told::Waits,
+            answer: Answer::Waits,
             held: b"",
             left: 14,
         },
@@ -107,7 +107,7 @@ const ROWS: &[Row] = &[
         limit: 3,
         wanted: Wanted {
             packets: &[b"a"],
-            told: Told::OutOfSync,
+            answer: Answer::OutOfSync,
             held: b"bcd",
             left: 12,
         },
@@ -119,7 +119,7 @@ const ROWS: &[Row] = &[
         limit: 3,
         wanted: Wanted {
             packets: &[b"a"],
-            told: Told::Waits,
+            answer: Answer::Waits,
             held: b"",
             left: 5,
         },
@@ -245,7 +245,7 @@ struct Long<'a> {
     first_id: u8,
     parts: &'a [(&'a [u8], usize)],
     limit: usize,
-    told: Told,
+    answer: Answer,
     packets: usize,
     held: usize,
 }
@@ -262,9 +262,9 @@ impl Long<'_> {
     }
 
     fn is_read(&self, case: &Case) -> bool {
-        let is_told = case.reading.told == self.told;
+        let is_answer = case.reading.answer == self.answer;
         let is_held = case.reading.held.len() == self.held;
-        is_told & is_held & (case.reading.packets.len() == self.packets)
+        is_answer & is_held & (case.reading.packets.len() == self.packets)
     }
 }
 
@@ -319,7 +319,7 @@ const ROW: Long = Long {
     first_id: 0,
     parts: &[FULL, (b"\0\0\0\x01", 0)],
     limit: MAX_PAYLOAD_LEN,
-    told: Told::Waits,
+    answer: Answer::Waits,
     packets: 1,
     held: 0,
 };
@@ -335,13 +335,13 @@ const LONG: &[Long] = &[
     ROW,
     Long {
         limit: MAX_PAYLOAD_LEN - 1,
-        told: Told::TooLarge,
+        answer: Answer::TooLarge,
         packets: 0,
         ..ROW
     },
     Long {
         parts: &[FULL, (b"\x01\0\0\x01", 1)],
-        told: Told::TooLarge,
+        answer: Answer::TooLarge,
         ..HELD
     },
     // Two full chunks, and another packet.
@@ -369,18 +369,18 @@ const LONG: &[Long] = &[
     // The first chunk's id is another one, and the second one's.
     Long {
         parts: &[(b"\xff\xff\xff\x01", MAX_PAYLOAD_LEN), (b"\0\0\0\x01", 0)],
-        told: Told::OutOfSync,
+        answer: Answer::OutOfSync,
         ..HELD
     },
     Long {
         parts: &[FULL, (b"\0\0\0\0", 0)],
-        told: Told::OutOfSync,
+        answer: Answer::OutOfSync,
         ..HELD
     },
     Long {
         parts: &[FULL, (b"\x02\0\0\x02", 2)],
         limit: usize::MAX,
-        told: Told::OutOfSync,
+        answer: Answer::OutOfSync,
         held: MAX_PAYLOAD_LEN + 2,
         ..HELD
     },
@@ -393,7 +393,7 @@ const LONG: &[Long] = &[
     Long {
         parts: &[FULL, (b"\x03\0\0\x01", 2)],
         limit: MAX_PAYLOAD_LEN + 2,
-        told: Told::TooLarge,
+        answer: Answer::TooLarge,
         ..HELD
     },
 ];

@@ -9,10 +9,10 @@ use mysql_wire::proto::codec::{PacketCodec, encode_value, packet_to_chunks};
 use std::alloc::Global;
 use std::num::NonZeroUsize;
 use std::test::Fail;
+use test_support::answers::Answer;
 use test_support::facts::{no_row, same, same_if_any, wrong_row};
 use test_support::reference::{between, chunk_count, low_byte, put_framing};
 use test_support::targets::Trickle;
-use test_support::told::Told;
 
 // What a payload must become, from its first id on, and the id behind it.
 #[derive(Clone, Copy)]
@@ -55,13 +55,13 @@ impl Framed<'_> {
         codec.max_allowed_packet = limit;
         codec.set_sequence_id(self.first_id);
         let mut wire = BytesMut::new(alloc);
-        let told = Told::of_encode(encode_value(&mut codec, &value, &mut wire));
+        let answer = Answer::of_encode(encode_value(&mut codec, &value, &mut wire));
         if limit < payload.len() {
             let is_unchanged = wire.is_empty() & (codec.sequence_id() == self.first_id);
-            return is_unchanged & (told == Told::TooLarge);
+            return is_unchanged & (answer == Answer::TooLarge);
         }
         let is_next = codec.sequence_id() == self.next_id;
-        is_next & (told == Told::Done) & same(wire.as_slice(), self.bytes)
+        is_next & (answer == Answer::Done) & same(wire.as_slice(), self.bytes)
     }
 }
 

@@ -3,6 +3,8 @@
 #![tactic(auto)]
 
 #[cfg(test)]
+mod answers;
+#[cfg(test)]
 mod chunks;
 #[cfg(test)]
 mod codec;
@@ -24,8 +26,6 @@ mod limits;
 mod reader;
 #[cfg(test)]
 mod relays;
-#[cfg(test)]
-mod said;
 #[cfg(test)]
 mod skips;
 #[cfg(test)]

@@ -4,9 +4,9 @@ use crate::delivery::Compared;
 use refusing_allocator::Refusing;
 use std::alloc::{Allocator, Global};
 use std::test::Fail;
+use test_support::answers::Answer;
 use test_support::facts::{ensure, no_row};
 use test_support::receiver::{Receiver, Run};
-use test_support::told::Told;
 
 type Piece<'a> = (usize, &'a [u8]);
 
@@ -24,7 +24,7 @@ const ROWS: &[Row] = &[
     // The piece of the fourth byte has the limit.
     Row {
         pieces: &[(2, b"\x03\0\0"), (3, b"\0abc")],
-        run: (2, Told::Waits),
+        run: (2, Answer::Waits),
         packets: &[b"abc"],
         left: b"",
         limit: 3,
@@ -32,7 +32,7 @@ const ROWS: &[Row] = &[
     // A header that is remembered isn't judged again.
     Row {
         pieces: &[(3, b"\x03\0\0\0"), (0, b"abc")],
-        run: (2, Told::Waits),
+        run: (2, Answer::Waits),
         packets: &[b"abc"],
         left: b"",
         limit: 0,
@@ -40,7 +40,7 @@ const ROWS: &[Row] = &[
     // A packet past its limit stays.
     Row {
         pieces: &[(1, b"\x02\0\0\0ab"), (9, b"c")],
-        run: (1, Told::TooLarge),
+        run: (1, Answer::TooLarge),
         packets: &[],
         left: b"\x02\0\0\0ab",
         limit: 1,
@@ -48,7 +48,7 @@ const ROWS: &[Row] = &[
     // Empty pieces set the limit too.
     Row {
         pieces: &[(9, b""), (1, b""), (2, b"\x02\0\0\0ab")],
-        run: (3, Told::Waits),
+        run: (3, Answer::Waits),
         packets: &[b"ab"],
         left: b"",
         limit: 2,
@@ -64,13 +64,13 @@ fn pieces_from<'a, 'b>(pieces: &'a [Piece<'b>], count: usize) -> &'a [Piece<'b>]
 // append.
 fn goes<A: Allocator + Copy>(alloc: A, row: &Row) -> bool {
     let mut to = Receiver::new(alloc, 0);
-    let (mut count, mut told) = to.deliver_limited(row.pieces);
-    if told == Told::OutOfMemory {
+    let (mut count, mut answer) = to.deliver_limited(row.pieces);
+    if answer == Answer::OutOfMemory {
         let (more, again) = to.deliver_limited(pieces_from(row.pieces, count));
         count = count.wrapping_add(more);
-        told = again;
+        answer = again;
     }
-    let all = (count, told) == row.run;
+    let all = (count, answer) == row.run;
     all & to.shows(row.packets, row.left, b"") & (to.codec.max_allowed_packet == row.limit)
 }
 
@@ -86,12 +86,12 @@ fn is_visited(alloc: Global, row: &Row) -> bool {
 fn goes_on(alloc: Global) -> bool {
     // A larger limit goes on at the same header.
     let mut to = Receiver::new(alloc, 0);
-    let mut all = to.deliver_limited(&[(1, b"\x02\0\0\0ab")]) == (1, Told::TooLarge);
+    let mut all = to.deliver_limited(&[(1, b"\x02\0\0\0ab")]) == (1, Answer::TooLarge);
     to.codec.max_allowed_packet = 2;
-    all &= to.deliver_limited(&[]) == (0, Told::Waits);
+    all &= to.deliver_limited(&[]) == (0, Answer::Waits);
     all &= to.shows(&[b"ab"], b"", b"");
     // A codec past its limit is aligned and doesn't stand.
-    all &= to.deliver_limited(&[(3, b"\x03\0\0\x01")]) == (1, Told::Waits);
+    all &= to.deliver_limited(&[(3, b"\x03\0\0\x01")]) == (1, Answer::Waits);
     to.codec.max_allowed_packet = 0;
     all & to.codec.aligned_at(&to.src, to.dst.as_slice()) & !to.stands()
 }

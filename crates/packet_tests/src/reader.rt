@@ -1,15 +1,15 @@
 //! Packets from readers: whole, cut, ended, failing.
 
-use crate::said::Said;
 use crate::taken::{self, Row, Way, goes, wrong_row};
 use std::alloc::Global;
 use std::test::Fail;
+use test_support::answers::Answer;
 use test_support::facts::no_row;
 
 // A packet, and the end.
 const ROW: Row = Row {
     parts: &[(b"\x01\0\0\0a", 0)],
-    said: &[Said::Packet, Said::End, Said::End],
+    answers: &[Answer::Packet, Answer::End, Answer::End],
     out: b"a",
     reads: Some(3),
     ..taken::ROW
@@ -27,10 +27,10 @@ const TWO: Row = Row {
 
 // What is said of these where one of the three reads of the first packet fails, of the second, and
 // where the read behind them does.
-const FAILING: &[&[Said]; 3] = &[
-    &[Said::Io, Said::Packet, Said::Packet, Said::End],
-    &[Said::Packet, Said::Io, Said::Packet, Said::End],
-    &[Said::Packet, Said::Packet, Said::Io, Said::End],
+const FAILING: &[&[Answer]; 3] = &[
+    &[Answer::Io, Answer::Packet, Answer::Packet, Answer::End],
+    &[Answer::Packet, Answer::Io, Answer::Packet, Answer::End],
+    &[Answer::Packet, Answer::Packet, Answer::Io, Answer::End],
 ];
 
 const COUNT: usize = 10;
@@ -40,7 +40,7 @@ const ROWS: &[Row; COUNT] = &[
     // Nothing.
     Row {
         parts: &[(b"", 0)],
-        said: &[Said::End],
+        answers: &[Answer::End],
         out: b"",
         reads: Some(1),
         ids_after: (0, 7),
@@ -49,7 +49,7 @@ const ROWS: &[Row; COUNT] = &[
     // An end inside a packet.
     Row {
         parts: &[(b"\x01\0\0\0", 0)],
-        said: &[Said::UnexpectedEnd, Said::UnexpectedEnd],
+        answers: &[Answer::UnexpectedEof, Answer::UnexpectedEof],
         out: b"",
         unread: Some(b"\x01\0\0\0"),
         reads: Some(3),
@@ -60,7 +60,7 @@ const ROWS: &[Row; COUNT] = &[
     Row {
         parts: &[(b"\x03\0\0\0123", 0)],
         at_once: 1,
-        said: &[Said::Packet],
+        answers: &[Answer::Packet],
         out: b"123",
         reads: Some(7),
         ..ROW
@@ -70,7 +70,7 @@ const ROWS: &[Row; COUNT] = &[
         parts: &[(b"\x03\0\0\0123", 0)],
         at_once: 1,
         until_fault: 2,
-        said: &[Said::Io, Said::Packet],
+        answers: &[Answer::Io, Answer::Packet],
         out: b"123",
         reads: Some(8),
         ..ROW
@@ -78,7 +78,7 @@ const ROWS: &[Row; COUNT] = &[
     // Another id.
     Row {
         parts: &[(b"\0\0\0\x05\0", 0)],
-        said: &[Said::OutOfSync, Said::OutOfSync],
+        answers: &[Answer::OutOfSync, Answer::OutOfSync],
         out: b"",
         unread: Some(b"\0"),
         reads: Some(1),
@@ -88,7 +88,7 @@ const ROWS: &[Row; COUNT] = &[
     // Past the limit.
     Row {
         parts: &[(b"\x04\0\0\x001234", 0)],
-        said: &[Said::TooLarge, Said::TooLarge],
+        answers: &[Answer::TooLarge, Answer::TooLarge],
         out: b"",
         unread: Some(b"\x04\0\0\x001234"),
         reads: Some(1),
@@ -98,7 +98,7 @@ const ROWS: &[Row; COUNT] = &[
     // Two packets in one read.
     Row {
         parts: &[(b"\x01\0\0\0a\x02\0\0\x01bc", 0)],
-        said: &[Said::Packet, Said::Packet],
+        answers: &[Answer::Packet, Answer::Packet],
         out: b"abc",
         reads: Some(1),
         ids_after: (2, 7),
@@ -107,7 +107,7 @@ const ROWS: &[Row; COUNT] = &[
     // The part of a packet behind another.
     Row {
         parts: &[(b"\x01\0\0\0a\x02\0\0\x01b", 0)],
-        said: &[Said::Packet, Said::UnexpectedEnd],
+        answers: &[Answer::Packet, Answer::UnexpectedEof],
         out: b"a",
         unread: Some(b"\x02\0\0\x01b"),
         reads: Some(2),
@@ -118,7 +118,7 @@ const ROWS: &[Row; COUNT] = &[
         parts: &[(b"\0\0\0\0", 0)],
         limit: 0,
         later_limit: 0,
-        said: &[Said::Packet, Said::End],
+        answers: &[Answer::Packet, Answer::End],
         out: b"",
         reads: Some(2),
         ..ROW
@@ -147,7 +147,7 @@ fn goes_by_all(alloc: Global, row: &Row) -> bool {
 fn failing(until_fault: usize) -> Row<'static> {
     Row {
         until_fault,
-        said: FAILING[until_fault.min(6) / 3],
+        answers: FAILING[until_fault.min(6) / 3],
         ..TWO
     }
 }
@@ -174,7 +174,7 @@ const LONG_ROW: Row = Row {
     parts: &[(b"\xff\xff\xff\0", 16777215), (b"\0\0\0\x01", 0)],
     limit: 16777220,
     later_limit: 16777220,
-    said: &[Said::Packet, Said::End],
+    answers: &[Answer::Packet, Answer::End],
     zeros: 16777215,
     ids_after: (2, 7),
     ..taken::ROW

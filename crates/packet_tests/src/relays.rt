@@ -1,15 +1,15 @@
 //! Packets that are passed on from a reader to a writer: whole, cut, ended, failing, refused.
 
-use crate::said::Said;
 use crate::taken::{self, Row, Way, wrong_row};
 use std::test::Fail;
+use test_support::answers::Answer;
 use test_support::facts::no_row;
 
 // A packet, and the end.
 const ROW: Row = Row {
     parts: &[(b"\x03\0\0\0abc", 0)],
     ids_after: (1, 8),
-    said: &[Said::Packet, Said::End],
+    answers: &[Answer::Packet, Answer::End],
     out: b"\x03\0\0\x07abc",
     ..taken::ROW
 };
@@ -18,7 +18,7 @@ const ROWS: &[Row] = &[
     ROW,
     // The end of a packet is pending till the next read.
     Row {
-        said: &[Said::Packet],
+        answers: &[Answer::Packet],
         out: b"",
         pending: b"\x03\0\0\x07abc",
         ..ROW
@@ -32,7 +32,7 @@ const ROWS: &[Row] = &[
     // Nothing.
     Row {
         parts: &[(b"", 0)],
-        said: &[Said::End],
+        answers: &[Answer::End],
         out: b"",
         ids_after: (0, 7),
         ..ROW
@@ -44,14 +44,14 @@ const ROWS: &[Row] = &[
         later_limit: 0,
         ids: (255, 255),
         ids_after: (1, 1),
-        said: &[Said::Packet, Said::Packet, Said::End],
+        answers: &[Answer::Packet, Answer::Packet, Answer::End],
         out: b"\0\0\0\xff\0\0\0\0",
         ..ROW
     },
     // Two packets in one read, and the front of one more.
     Row {
         parts: &[(b"\x01\0\0\0a\x02\0\0\x01bc\x01\0", 0)],
-        said: &[Said::Packet, Said::Packet, Said::UnexpectedEnd],
+        answers: &[Answer::Packet, Answer::Packet, Answer::UnexpectedEof],
         out: b"\x01\0\0\x07a\x02\0\0\x08bc",
         unread: Some(b"\x01\0"),
         ids_after: (2, 9),
@@ -60,7 +60,7 @@ const ROWS: &[Row] = &[
     // The end inside a packet: what came of it went.
     Row {
         parts: &[(b"\x03\0\0\0ab", 0)],
-        said: &[Said::UnexpectedEnd, Said::UnexpectedEnd],
+        answers: &[Answer::UnexpectedEof, Answer::UnexpectedEof],
         out: b"\x03\0\0\x07ab",
         ids_after: (0, 8),
         ..ROW
@@ -69,14 +69,14 @@ const ROWS: &[Row] = &[
     Row {
         at_once: 1,
         until_fault: 5,
-        said: &[Said::Io, Said::Packet, Said::End],
+        answers: &[Answer::Io, Answer::Packet, Answer::End],
         ..ROW
     },
     // A writer that takes nothing.
     Row {
         at_once: 5,
         room: 0,
-        said: &[Said::WriteZero, Said::WriteZero],
+        answers: &[Answer::WriteZero, Answer::WriteZero],
         out: b"",
         pending: b"\x03\0\0\x07a",
         ids_after: (0, 8),
@@ -85,7 +85,7 @@ const ROWS: &[Row] = &[
     // Another id, and past the limit: nothing of the chunk goes, and its header stays.
     Row {
         parts: &[(b"\x01\0\0\x05a", 0)],
-        said: &[Said::OutOfSync, Said::OutOfSync],
+        answers: &[Answer::OutOfSync, Answer::OutOfSync],
         out: b"",
         unread: Some(b"\x01\0\0\x05a"),
         ids_after: (0, 7),
@@ -93,7 +93,7 @@ const ROWS: &[Row] = &[
     },
     Row {
         parts: &[(b"\x04\0\0\0abcd", 0)],
-        said: &[Said::TooLarge, Said::TooLarge],
+        answers: &[Answer::TooLarge, Answer::TooLarge],
         out: b"",
         unread: Some(b"\x04\0\0\0abcd"),
         ids_after: (0, 7),
@@ -105,12 +105,12 @@ const FAILING: &[Row] = &[
     Row {
         at_once: 5,
         until_refusal: 1,
-        said: &[Said::Io, Said::Packet, Said::End],
+        answers: &[Answer::Io, Answer::Packet, Answer::End],
         ..ROW
     },
     Row {
         until_refusal: 1,
-        said: &[Said::Packet, Said::Io, Said::End],
+        answers: &[Answer::Packet, Answer::Io, Answer::End],
         ..ROW
     },
 ];

@@ -1,14 +1,14 @@
 //! Packets from readers that are skipped: whole, cut, ended, failing, and of several chunks.
 
-use crate::said::Said;
 use crate::taken::{self, Row, Step, Steps, Way, plays, wrong_row};
 use std::test::Fail;
+use test_support::answers::Answer;
 use test_support::facts::{self, no_row};
 
 // A packet, and the end.
 const ROW: Row = Row {
     parts: &[(b"\x01\0\0\0a", 0)],
-    said: &[Said::Packet, Said::End, Said::End],
+    answers: &[Answer::Packet, Answer::End, Answer::End],
     reads: Some(3),
     ..taken::ROW
 };
@@ -18,7 +18,7 @@ const ROWS: &[Row] = &[
     // Nothing.
     Row {
         parts: &[(b"", 0)],
-        said: &[Said::End],
+        answers: &[Answer::End],
         reads: Some(1),
         ids_after: (0, 7),
         ..ROW
@@ -26,7 +26,7 @@ const ROWS: &[Row] = &[
     // An end inside a header.
     Row {
         parts: &[(b"\x01\0\0", 0)],
-        said: &[Said::UnexpectedEnd, Said::UnexpectedEnd],
+        answers: &[Answer::UnexpectedEof, Answer::UnexpectedEof],
         unread: Some(b"\x01\0\0"),
         ids_after: (0, 7),
         ..ROW
@@ -34,7 +34,7 @@ const ROWS: &[Row] = &[
     // An end behind a header, which is gone.
     Row {
         parts: &[(b"\x01\0\0\0", 0)],
-        said: &[Said::UnexpectedEnd, Said::UnexpectedEnd],
+        answers: &[Answer::UnexpectedEof, Answer::UnexpectedEof],
         ids_after: (0, 7),
         ..ROW
     },
@@ -42,7 +42,7 @@ const ROWS: &[Row] = &[
     Row {
         parts: &[(b"\x03\0\0\0123", 0)],
         at_once: 1,
-        said: &[Said::Packet],
+        answers: &[Answer::Packet],
         reads: Some(7),
         ..ROW
     },
@@ -51,7 +51,7 @@ const ROWS: &[Row] = &[
         parts: &[(b"\x03\0\0\0123", 0)],
         at_once: 1,
         until_fault: 2,
-        said: &[Said::Io, Said::Packet, Said::End],
+        answers: &[Answer::Io, Answer::Packet, Answer::End],
         reads: Some(9),
         ..ROW
     },
@@ -60,14 +60,14 @@ const ROWS: &[Row] = &[
         parts: &[(b"\x03\0\0\0123", 0)],
         at_once: 1,
         until_fault: 5,
-        said: &[Said::Io, Said::Packet, Said::End],
+        answers: &[Answer::Io, Answer::Packet, Answer::End],
         reads: Some(9),
         ..ROW
     },
     // Another id, of a chunk that has come whole.
     Row {
         parts: &[(b"\x01\0\0\x05a\0", 0)],
-        said: &[Said::OutOfSync, Said::OutOfSync],
+        answers: &[Answer::OutOfSync, Answer::OutOfSync],
         unread: Some(b"\0"),
         reads: Some(1),
         ids_after: (0, 7),
@@ -76,7 +76,7 @@ const ROWS: &[Row] = &[
     // Past the limit.
     Row {
         parts: &[(b"\x04\0\0\x001234", 0)],
-        said: &[Said::TooLarge, Said::TooLarge],
+        answers: &[Answer::TooLarge, Answer::TooLarge],
         unread: Some(b"\x04\0\0\x001234"),
         reads: Some(1),
         ids_after: (0, 7),
@@ -85,7 +85,7 @@ const ROWS: &[Row] = &[
     // Two packets in one read, and the front of one more.
     Row {
         parts: &[(b"\x01\0\0\0a\x02\0\0\x01bc\x01\0", 0)],
-        said: &[Said::Packet, Said::Packet],
+        answers: &[Answer::Packet, Answer::Packet],
         unread: Some(b"\x01\0"),
         reads: Some(1),
         ids_after: (2, 7),
@@ -96,7 +96,7 @@ const ROWS: &[Row] = &[
         parts: &[(b"\0\0\0\0\0\0\0\x01", 0)],
         limit: 0,
         later_limit: 0,
-        said: &[Said::Packet, Said::Packet, Said::End],
+        answers: &[Answer::Packet, Answer::Packet, Answer::End],
         reads: Some(2),
         ids_after: (2, 7),
         ..ROW
@@ -109,7 +109,7 @@ const LONG_ROW: Row = Row {
     parts: &[(b"\xff\xff\xff\0", 16777215), (b"\x01\0\0\x01", 1)],
     limit: 16777216,
     later_limit: 16777216,
-    said: &[Said::Packet, Said::End],
+    answers: &[Answer::Packet, Answer::End],
     reads: Some(2052),
     ids_after: (2, 7),
     ..taken::ROW
@@ -133,32 +133,32 @@ const LONG_ROWS: &[Row] = &[
     // A read fails inside the first chunk, behind it, and behind the second header.
     Row {
         until_fault: 1024,
-        said: &[Said::Io, Said::Packet, Said::End],
+        answers: &[Answer::Io, Answer::Packet, Answer::End],
         reads: Some(2053),
         ..LONG_ROW
     },
     Row {
         until_fault: 2049,
-        said: &[Said::Io, Said::Packet, Said::End],
+        answers: &[Answer::Io, Answer::Packet, Answer::End],
         reads: Some(2053),
         ..LONG_ROW
     },
     Row {
         until_fault: 2050,
-        said: &[Said::Io, Said::Packet, Said::End],
+        answers: &[Answer::Io, Answer::Packet, Answer::End],
         reads: Some(2053),
         ..LONG_ROW
     },
     // The second chunk is past the limit, which is then raised.
     Row {
         limit: 16777215,
-        said: &[Said::TooLarge, Said::Packet, Said::End],
+        answers: &[Answer::TooLarge, Answer::Packet, Answer::End],
         ..LONG_ROW
     },
     // The input ends behind the first chunk, and inside the second.
     Row {
         parts: &[(b"\xff\xff\xff\0", 16777215)],
-        said: &[Said::UnexpectedEnd, Said::UnexpectedEnd],
+        answers: &[Answer::UnexpectedEof, Answer::UnexpectedEof],
         reads: Some(2051),
         ids_after: (1, 7),
         ..LONG_ROW
@@ -167,7 +167,7 @@ const LONG_ROWS: &[Row] = &[
         parts: &[(b"\xff\xff\xff\0", 16777215), (b"\x02\0\0\x01", 1)],
         limit: 16777217,
         later_limit: 16777217,
-        said: &[Said::UnexpectedEnd],
+        answers: &[Answer::UnexpectedEof],
         ids_after: (1, 7),
         ..LONG_ROW
     },
@@ -197,10 +197,10 @@ const HELD: Row = Row {
 
 // It is skipped, and the one behind it handed out.
 const HELD_STEPS: &[Step] = &[
-    Step::Says(Way::HandedOut, Said::Io),
+    Step::Says(Way::HandedOut, Answer::Io),
     Step::Id(1),
-    Step::Says(Way::Skipped, Said::Packet),
-    Step::Says(Way::HandedOut, Said::Packet),
+    Step::Says(Way::Skipped, Answer::Packet),
+    Step::Says(Way::HandedOut, Answer::Packet),
     Step::Id(3),
 ];
 
@@ -233,13 +233,13 @@ const ON: &[Steps] = &[
     (
         SHORT,
         &[
-            Step::Says(Way::Skipped, Said::Io),
-            Step::Says(Way::HandedOut, Said::OutOfSync),
+            Step::Says(Way::Skipped, Answer::Io),
+            Step::Says(Way::HandedOut, Answer::OutOfSync),
             Step::Reads(2),
             Step::Limit(2),
             Step::Fits(true, false),
             Step::Limit(3),
-            Step::Says(Way::Skipped, Said::Packet),
+            Step::Says(Way::Skipped, Answer::Packet),
             Step::Id(1),
         ],
         0,
@@ -248,12 +248,12 @@ const ON: &[Steps] = &[
     (
         SHORT,
         &[
-            Step::Says(Way::HandedOut, Said::Io),
+            Step::Says(Way::HandedOut, Answer::Io),
             Step::Fits(true, true),
             Step::Limit(2),
             Step::Fits(false, false),
             Step::Limit(3),
-            Step::Says(Way::Skipped, Said::Packet),
+            Step::Says(Way::Skipped, Answer::Packet),
         ],
         0,
     ),

@@ -7,10 +7,10 @@ use mysql_wire::constants::MAX_PAYLOAD_LEN;
 use mysql_wire::proto::codec::{Renumber, SpanDecoder, SpanError, SpanParts};
 use std::alloc::Global;
 use std::test::Fail;
+use test_support::answers::Answer;
 use test_support::facts::{all_hold, same};
 use test_support::receiver::{Receiver, are_packets};
 use test_support::reference::{between, low_byte};
-use test_support::told::Told;
 
 // What comes to a decoder, and what comes of it in spans and with other ids.
 #[derive(Clone, Copy)]
@@ -312,7 +312,7 @@ const BEHIND: &[u8] = b"\0\0\0\xff\x01\0\0\0z\x02\0\0\x01";
 fn spans_go_on(alloc: Global) -> bool {
     let mut receiver = Receiver::new(alloc, 9);
     receiver.codec.set_sequence_id(254);
-    let mut all = receiver.deliver(&[FRONT]) == (1, Told::Waits);
+    let mut all = receiver.deliver(&[FRONT]) == (1, Answer::Waits);
     let mut spanned = Spanned::new(alloc, decoder_of(receiver.codec.sequence_id(), 9));
     spanned.feed(alloc, BEHIND);
     all &= are_packets(spanned.packets.as_slice(), &[b"", b"z"]);
@@ -329,7 +329,7 @@ fn a_codec_goes_on(alloc: Global) -> bool {
         .set_sequence_id(spanned.decoder.sequence_id());
     let run = receiver.deliver(&[BEHIND]);
     let is_between = spanned.decoder.is_between_packets();
-    is_between & (run == (1, Told::Waits)) & receiver.shows(&[b"", b"z"], b"\x02\0\0\x01", b"")
+    is_between & (run == (1, Answer::Waits)) & receiver.shows(&[b"", b"z"], b"\x02\0\0\x01", b"")
 }
 
 // Whether 600 small packets, or 257 empty ones, pass the id 255.

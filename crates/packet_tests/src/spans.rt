@@ -6,12 +6,12 @@ use crate::spanned::{Renumbered, Spanned, decoder_of};
 use mysql_wire::proto::codec::{Renumber, SpanError};
 use std::alloc::Global;
 use std::test::Fail;
+use test_support::answers::Answer;
 use test_support::case::{Case, are_same};
 use test_support::facts::{all_hold, no_row, same};
 use test_support::generated::{Draws, Stream, pieces_of};
 use test_support::receiver::Receiver;
 use test_support::reference::{between, header_at, low_byte};
-use test_support::told::Told;
 
 // ---- what a decoder of spans must do with a stream of small packets
 
@@ -28,8 +28,8 @@ struct Place {
 // The reading of a chunk of another id is behind it.
 fn chunk_at(case: &Case) -> usize {
     let reading = &case.reading;
-    match reading.told {
-        Told::OutOfSync => reading
+    match reading.answer {
+        Answer::OutOfSync => reading
             .left
             .saturating_sub(reading.held.len())
             .saturating_sub(4),
@@ -45,8 +45,8 @@ fn place_of(case: &Case) -> Place {
         Some((_, id)) => id == case.reading.next_id,
         None => true,
     };
-    let stop = match case.reading.told {
-        Told::TooLarge => Some(SpanError::PacketTooLarge),
+    let stop = match case.reading.answer {
+        Answer::TooLarge => Some(SpanError::PacketTooLarge),
         _ if is_next => None,
         _ => Some(SpanError::PacketsOutOfSync),
     };

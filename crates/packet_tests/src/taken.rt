@@ -1,11 +1,12 @@
 //! How packets are taken from a reader and put into a writer: each call, and what it says.
 
-use crate::said::{Said, said_by, said_of};
+use crate::answers::{answer_by, answer_of};
 use mysql_wire::proto::codec::PacketCodec;
 use mysql_wire::proto::packet_io::{PacketIoError, PacketReader, PacketWriter};
 use refusing_allocator::{NEVER, Refusing};
 use std::alloc::Global;
 use std::io::ErrorKind;
+use test_support::answers::Answer;
 use test_support::facts::same;
 use test_support::fixture::Heap;
 use test_support::readers::{Narrow, Parts};
@@ -43,7 +44,7 @@ pub struct Row<'a> {
     /// The ids that come next on both sides, before and after.
     pub ids: (u8, u8),
     pub ids_after: (u8, u8),
-    pub said: &'a [Said],
+    pub answers: &'a [Answer],
     /// What is handed out or written, and how many bytes behind it.
     pub out: &'a [u8],
     pub zeros: usize,
@@ -53,7 +54,7 @@ pub struct Row<'a> {
     pub reads: Option<u64>,
 }
 
-/// Nothing is said.
+/// Nothing is answered.
 pub const ROW: Row = Row {
     parts: &[],
     at_once: usize::MAX,
@@ -64,7 +65,7 @@ pub const ROW: Row = Row {
     later_limit: 3,
     ids: (0, 7),
     ids_after: (1, 7),
-    said: &[],
+    answers: &[],
     out: b"",
     zeros: 0,
     pending: b"",
@@ -79,12 +80,12 @@ pub enum Step {
     Limit(usize),
     /// The request for memory of this number, counted from 0 at this step, is refused.
     Refuse(u64),
-    /// A packet is taken, and this is said.
-    Says(Way, Said),
+    /// A packet is taken, and this is answered.
+    Says(Way, Answer),
     /// A packet is put into the writer, under the id that the reader's codec has.
-    Queues(&'static [u8], Said),
+    Queues(&'static [u8], Answer),
     /// What is pending is written.
-    Writes(Said),
+    Writes(Answer),
     /// These bytes were handed out.
     Has(&'static [u8]),
     /// These bytes are pending.
@@ -99,11 +100,11 @@ pub enum Step {
     Fits(bool, bool),
 }
 
-fn said_if(answer: Result<bool, PacketIoError>) -> Said {
+fn answer_if(answer: Result<bool, PacketIoError>) -> Answer {
     match answer {
-        Ok(true) => Said::Packet,
-        Ok(false) => Said::End,
-        Err(error) => said_of(&error),
+        Ok(true) => Answer::Packet,
+        Ok(false) => Answer::End,
+        Err(error) => answer_of(&error),
     }
 }
 
@@ -148,76 +149,80 @@ impl<'a> Taker<'a> {
     }
 
     // Takes a packet by `next_packet`, behind the others.
-    fn hands_out(&mut self) -> Said {
+    fn hands_out(&mut self) -> Answer {
         if !self.reader.fits(&self.codec) {
-            return Said::Wrong;
+            return Answer::Fallen;
         }
         match self.reader.next_packet(&mut self.codec) {
             Ok(Some(packet)) => {
                 let _ = self.out.taken.extend_from_slice(packet.as_slice());
-                Said::Packet
+                Answer::Packet
             }
-            Ok(None) => Said::End,
-            Err(error) => said_of(&error),
+            Ok(None) => Answer::End,
+            Err(error) => answer_of(&error),
         }
     }
 
     // Has a packet ready by `fill_packet`.
-    fn fills(&mut self) -> Said {
+    fn fills(&mut self) -> Answer {
         if !self.reader.fits(&self.codec) {
-            return Said::Wrong;
+            return Answer::Fallen;
         }
-        said_if(self.reader.fill_packet(&mut self.codec))
+        answer_if(self.reader.fill_packet(&mut self.codec))
     }
 
     // Has a packet ready, and takes it behind the others.
-    fn lends(&mut self) -> Said {
-        let said = self.fills();
-        if said == Said::Packet {
+    fn lends(&mut self) -> Answer {
+        let answer = self.fills();
+        if answer == Answer::Packet {
             let _ = self.out.taken.extend_from_slice(self.reader.packet());
             self.reader.take_packet();
         }
-        said
+        answer
     }
 
-    fn skips(&mut self) -> Said {
+    fn skips(&mut self) -> Answer {
         if !self.reader.can_skip(&self.codec) {
-            return Said::Wrong;
+            return Answer::Fallen;
         }
-        said_if(self.reader.skip_packet(&mut self.codec))
+        answer_if(self.reader.skip_packet(&mut self.codec))
     }
 
-    fn copies(&mut self) -> Said {
+    fn copies(&mut self) -> Answer {
         if !self.reader.can_copy(&self.codec) {
-            return Said::Wrong;
+            return Answer::Fallen;
         }
-        said_if(self.reader.copy_packet(&mut self.codec, &mut self.out))
+        answer_if(self.reader.copy_packet(&mut self.codec, &mut self.out))
     }
 
-    fn passes_on(&mut self) -> Said {
+    fn passes_on(&mut self) -> Answer {
         if !self.reader.can_copy(&self.codec) {
-            return Said::Wrong;
+            return Answer::Fallen;
         }
-        said_if(
+        answer_if(
             self.reader
                 .relay_packet(&mut self.codec, &mut self.writer, &mut self.writer_codec),
         )
     }
 
     // Puts a packet into the writer. One that is refused stays as it is.
-    fn queues(&mut self, bytes: &[u8]) -> Said {
+    fn queues(&mut self, bytes: &[u8]) -> Answer {
         let mut packet = bytes;
-        let said = said_by(self.writer.queue(&mut self.codec, &mut packet));
-        let left = if said == Said::Done { 0 } else { bytes.len() };
-        if packet.len() == left {
-            said
+        let answer = answer_by(self.writer.queue(&mut self.codec, &mut packet));
+        let left = if answer == Answer::Done {
+            0
         } else {
-            Said::Wrong
+            bytes.len()
+        };
+        if packet.len() == left {
+            answer
+        } else {
+            Answer::Wrong
         }
     }
 
     // One call.
-    fn says(&mut self, way: Way) -> Said {
+    fn says(&mut self, way: Way) -> Answer {
         match way {
             Way::HandedOut => self.hands_out(),
             Way::Lent => self.lends(),
@@ -231,12 +236,12 @@ impl<'a> Taker<'a> {
     // Whether the calls say this, where each is made once more after a refusal of memory.
     fn says_all(&mut self, way: Way, row: &Row) -> bool {
         let mut all = true;
-        for wanted in row.said {
-            let mut said = self.says(way);
-            if said == Said::OutOfMemory {
-                said = self.says(way);
+        for wanted in row.answers {
+            let mut answer = self.says(way);
+            if answer == Answer::OutOfMemory {
+                answer = self.says(way);
             }
-            all &= said == *wanted;
+            all &= answer == *wanted;
             self.codec.max_allowed_packet = row.later_limit;
         }
         all
@@ -260,16 +265,16 @@ impl<'a> Taker<'a> {
 
     // Whether the step goes as it says.
     fn goes(&mut self, step: Step) -> bool {
-        let (said, wanted) = match step {
+        let (answer, wanted) = match step {
             Step::Says(way, wanted) => (self.says(way), wanted),
             Step::Queues(packet, wanted) => (self.queues(packet), wanted),
-            Step::Writes(wanted) => (said_by(self.writer.write_pending()), wanted),
+            Step::Writes(wanted) => (answer_by(self.writer.write_pending()), wanted),
             _ => {
                 self.changes(step);
                 return self.shows(step);
             }
         };
-        said == wanted
+        answer == wanted
     }
 
     fn changes(&mut self, step: Step) {

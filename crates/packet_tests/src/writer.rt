@@ -1,14 +1,14 @@
 //! Packets to writers: in parts, to one that fails, to one that takes nothing; refused; and as
 //! answers to what a reader hands out or lends.
 
-use crate::said::Said;
 use crate::taken::{self, Row, Step, Steps, Way, plays};
 use std::test::Fail;
+use test_support::answers::Answer;
 use test_support::facts::{no_row, wrong_row};
 
 const FRAMED: &[u8] = b"\x03\0\0\0123";
 
-const QUEUED: Step = Step::Queues(b"123", Said::Done);
+const QUEUED: Step = Step::Queues(b"123", Answer::Done);
 
 // A writer that takes three bytes a write: the third takes the last one, and the fourth call is the
 // flush.
@@ -48,9 +48,9 @@ const ROWS: &[Steps] = &[
         &[
             QUEUED,
             Step::Pending(FRAMED),
-            Step::Writes(Said::Io),
+            Step::Writes(Answer::Io),
             Step::Pending(FRAMED),
-            Step::Writes(Said::Done),
+            Step::Writes(Answer::Done),
         ],
         1,
     ),
@@ -61,9 +61,9 @@ const ROWS: &[Steps] = &[
         },
         &[
             QUEUED,
-            Step::Writes(Said::Io),
+            Step::Writes(Answer::Io),
             Step::Pending(b"\x00123"),
-            Step::Writes(Said::Done),
+            Step::Writes(Answer::Done),
         ],
         1,
     ),
@@ -74,9 +74,9 @@ const ROWS: &[Steps] = &[
         },
         &[
             QUEUED,
-            Step::Writes(Said::Io),
+            Step::Writes(Answer::Io),
             Step::Pending(b"3"),
-            Step::Writes(Said::Done),
+            Step::Writes(Answer::Done),
         ],
         1,
     ),
@@ -87,9 +87,9 @@ const ROWS: &[Steps] = &[
         },
         &[
             QUEUED,
-            Step::Writes(Said::Io),
+            Step::Writes(Answer::Io),
             Step::Pending(b""),
-            Step::Writes(Said::Done),
+            Step::Writes(Answer::Done),
         ],
         1,
     ),
@@ -97,9 +97,9 @@ const ROWS: &[Steps] = &[
         THREE,
         &[
             QUEUED,
-            Step::Writes(Said::Done),
+            Step::Writes(Answer::Done),
             Step::Pending(b""),
-            Step::Writes(Said::Done),
+            Step::Writes(Answer::Done),
         ],
         2,
     ),
@@ -107,8 +107,8 @@ const ROWS: &[Steps] = &[
         NONE,
         &[
             QUEUED,
-            Step::Writes(Said::WriteZero),
-            Step::Writes(Said::WriteZero),
+            Step::Writes(Answer::WriteZero),
+            Step::Writes(Answer::WriteZero),
             Step::Pending(FRAMED),
         ],
         0,
@@ -119,11 +119,11 @@ const ROWS: &[Steps] = &[
         &[
             QUEUED,
             Step::Limit(2),
-            Step::Queues(LONG, Said::TooLarge),
+            Step::Queues(LONG, Answer::TooLarge),
             Step::Pending(FRAMED),
             Step::Limit(200),
             Step::Refuse(0),
-            Step::Queues(LONG, Said::OutOfMemory),
+            Step::Queues(LONG, Answer::OutOfMemory),
             Step::Pending(FRAMED),
             Step::Id(1),
         ],
@@ -133,8 +133,8 @@ const ROWS: &[Steps] = &[
     (
         ANSWER,
         &[
-            Step::Queues(b"\x01", Said::Done),
-            Step::Says(Way::HandedOut, Said::Packet),
+            Step::Queues(b"\x01", Answer::Done),
+            Step::Says(Way::HandedOut, Answer::Packet),
             Step::Has(b"\x02"),
         ],
         0,
@@ -144,16 +144,16 @@ const ROWS: &[Steps] = &[
     (
         ASKED,
         &[
-            Step::Says(Way::Filled, Said::Packet),
-            Step::Queues(b"ok", Said::Done),
+            Step::Says(Way::Filled, Answer::Packet),
+            Step::Queues(b"ok", Answer::Done),
             Step::Pending(b"\x02\0\0\x01ok"),
             Step::Lends(b"a"),
-            Step::Says(Way::Filled, Said::Packet),
+            Step::Says(Way::Filled, Answer::Packet),
             Step::Reads(1),
-            Step::Says(Way::Lent, Said::Packet),
-            Step::Says(Way::Filled, Said::Packet),
+            Step::Says(Way::Lent, Answer::Packet),
+            Step::Says(Way::Filled, Answer::Packet),
             Step::Lends(b"b"),
-            Step::Says(Way::HandedOut, Said::Packet),
+            Step::Says(Way::HandedOut, Answer::Packet),
         ],
         0,
     ),

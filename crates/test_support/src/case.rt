@@ -1,9 +1,9 @@
 //! A stream beside its reference reading, and whether a run ends as the reading says.
 
+use crate::answers::Answer;
 use crate::facts::same;
 use crate::receiver::{Receiver, Run, are_packets, pieces_from};
 use crate::reference::{Reading, between, reading_of};
-use crate::told::Told;
 use std::alloc::{AllocError, Allocator, Global};
 
 /// A stream, and the reading of all of it.
@@ -84,15 +84,15 @@ impl<'a> Case<'a> {
     fn ends<A: Allocator + Copy>(
         &self,
         receiver: &Receiver<A>,
-        told: Told,
+        answer: Answer,
         left: &[&[u8]],
     ) -> bool {
         let mut all = are_same(receiver.out.as_slice(), self.reading.packets.as_slice());
         all &= same(receiver.dst.as_slice(), self.reading.held.as_slice());
         all &= self.is_left(receiver.src.as_slice(), left);
         all &= receiver.codec.max_allowed_packet == self.limit;
-        all &= (told == Told::OutOfSync) | receiver.stands();
-        all & (told == self.reading.told)
+        all &= (answer == Answer::OutOfSync) | receiver.stands();
+        all & (answer == self.reading.answer)
     }
 
     /// Whether a receiver that had so many bytes in `src`, and then took pieces, ended as the
@@ -104,8 +104,8 @@ impl<'a> Case<'a> {
         pieces: &[&[u8]],
         run: Run,
     ) -> bool {
-        let (count, told) = run;
-        let mut all = self.ends(receiver, told, pieces_from(pieces, count));
+        let (count, answer) = run;
+        let mut all = self.ends(receiver, answer, pieces_from(pieces, count));
         all &= count == least_count(self.reading.shown_at, there, pieces);
         all & (receiver.codec.sequence_id() == self.reading.next_id)
     }
@@ -124,8 +124,8 @@ impl<'a> Case<'a> {
     pub fn agrees_raised(&self, alloc: Global, limit: usize, pieces: &[&[u8]]) -> bool {
         let mut receiver = self.receiver(alloc);
         receiver.codec.max_allowed_packet = limit;
-        let (count, told) = receiver.deliver_raised(pieces, self.limit);
-        self.ends(&receiver, told, pieces_from(pieces, count))
+        let (count, answer) = receiver.deliver_raised(pieces, self.limit);
+        self.ends(&receiver, answer, pieces_from(pieces, count))
     }
 }
 
@@ -133,7 +133,7 @@ impl<'a> Case<'a> {
 #[derive(Clone, Copy)]
 pub struct Wanted<'a> {
     pub packets: &'a [&'a [u8]],
-    pub told: Told,
+    pub answer: Answer,
     pub held: &'a [u8],
     pub left: usize,
 }
@@ -143,6 +143,6 @@ impl Wanted<'_> {
     pub fn is_read(&self, reading: &Reading) -> bool {
         let mut all = are_packets(reading.packets.as_slice(), self.packets);
         all &= same(reading.held.as_slice(), self.held);
-        all & (reading.told == self.told) & (reading.left == self.left)
+        all & (reading.answer == self.answer) & (reading.left == self.left)
     }
 }

@@ -1,7 +1,7 @@
 //! A value of any type that is a field of packets: how it is written and read back, and what is
 //! left where its end is missing or memory is refused.
 
-use crate::answers::{Fault, fault_of};
+use crate::answers::{Answer, error_of};
 use crate::facts::same;
 use crate::fixture::Heap;
 use crate::reference::between;
@@ -67,11 +67,11 @@ fn is_refused<T: MySerialize, A: Allocator>(
 ) -> Option<bool> {
     let mut buf = full(heap, alloc);
     heap.refuse(nth);
-    let fault = fault_of(value.serialize(&mut buf));
+    let fault = error_of(value.serialize(&mut buf));
     let refused = heap.has_refused();
     let mut all = fault.is_some() == refused;
     if refused {
-        all &= (fault == Some(Fault::OutOfMemory)) & is_behind(buf.as_slice(), b"");
+        all &= (fault == Some(Answer::OutOfMemory)) & is_behind(buf.as_slice(), b"");
         all &= value.serialize(&mut buf).is_ok();
     }
     (all & is_behind(buf.as_slice(), bytes)).then_some(refused)
@@ -132,7 +132,7 @@ impl Eaten {
 /// What is answered where the end of a value is missing, and what is eaten.
 #[derive(Clone, Copy)]
 pub struct Short {
-    pub fault: Fault,
+    pub fault: Answer,
     /// What is eaten of a front that isn't there whole.
     pub eaten: Eaten,
     /// How many bytes the front has, which is eaten where it is there.
@@ -143,7 +143,7 @@ impl Short {
     /// The input ends early, and this is eaten.
     pub fn eats(eaten: Eaten) -> Short {
         Short {
-            fault: Fault::UnexpectedEof,
+            fault: Answer::UnexpectedEof,
             eaten,
             front: usize::MAX,
         }
@@ -172,13 +172,13 @@ where
 }
 
 /// Whether no value is read for this reason, and so many bytes are left.
-pub fn stops<'de, T, C, A>(alloc: A, ctx: C, input: &'de [u8], fault: Fault, left: usize) -> bool
+pub fn stops<'de, T, C, A>(alloc: A, ctx: C, input: &'de [u8], fault: Answer, left: usize) -> bool
 where
     A: Allocator + Copy,
     T: MyDeserialize<'de, A, Ctx = C>,
 {
     let mut buf = ParseBuf(input);
-    let answer = fault_of(buf.parse_in::<T, A>(alloc, ctx));
+    let answer = error_of(buf.parse_in::<T, A>(alloc, ctx));
     (answer == Some(fault)) & same(buf.0, last(input, left))
 }
 

@@ -1,7 +1,7 @@
 //! A codec with its two buffers, over an allocator that may refuse what it is told to.
 
+use crate::answers::Answer;
 use crate::targets::Target;
-use crate::told::Told;
 use bytes::BytesMut;
 use refusing_allocator::{NEVER, Refusing};
 use std::alloc::{Allocator, Global};
@@ -77,24 +77,24 @@ impl<'h, A: Allocator + Copy, T: Target> Fixture<'h, A, T> {
         }
     }
 
-    pub fn decode(&mut self) -> Told {
-        Told::of_decode(self.codec.decode(&mut self.src, &mut self.dst))
+    pub fn decode(&mut self) -> Answer {
+        Answer::of_decode(self.codec.decode(&mut self.src, &mut self.dst))
     }
 
-    pub fn decode_chunk(&mut self, limit: usize) -> Told {
-        Told::of_chunk(self.decoder.decode(&mut self.src, &mut self.dst, limit))
+    pub fn decode_chunk(&mut self, limit: usize) -> Answer {
+        Answer::of_chunk(self.decoder.decode(&mut self.src, &mut self.dst, limit))
     }
 
-    pub fn encode(&mut self, payload: &[u8]) -> Told {
+    pub fn encode(&mut self, payload: &[u8]) -> Answer {
         let mut packet = payload;
-        Told::of_encode(self.codec.encode(&mut packet, &mut self.src))
+        Answer::of_encode(self.codec.encode(&mut packet, &mut self.src))
     }
 
     /// Encodes so many bytes `42`.
-    pub fn encode_many(&mut self, len: usize) -> Told {
+    pub fn encode_many(&mut self, len: usize) -> Answer {
         match Vec::from_elem(self.alloc, FILL, len) {
             Ok(payload) => self.encode(payload.as_slice()),
-            Err(_) => Told::OutOfMemory,
+            Err(_) => Answer::OutOfMemory,
         }
     }
 

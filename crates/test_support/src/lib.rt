@@ -16,4 +16,3 @@ pub mod refused;
 pub mod script;
 pub mod targets;
 pub mod texts;
-pub mod told;

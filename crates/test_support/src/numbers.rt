@@ -1,6 +1,6 @@
 //! How rows of a number are looked at: written, read back, and refused where it is cut short.
 
-use crate::answers::Fault;
+use crate::answers::Answer;
 use crate::fields::{Eaten, MORE, Short, has_size, is_read, is_written, joined, stops};
 use crate::fixture::Heap;
 use std::alloc::Allocator;
@@ -15,7 +15,7 @@ pub type Row<'a, T> = (
 
 /// An input, the number that it begins with or why it begins with none, and how many bytes the
 /// number has, or are left.
-pub type Spelled<'a, T> = (&'a [u8], Result<<T as IntRepr>::Primitive, Fault>, usize);
+pub type Spelled<'a, T> = (&'a [u8], Result<<T as IntRepr>::Primitive, Answer>, usize);
 
 // Whether the number is written and read back as the row says, which takes no memory.
 fn is_number<T: IntRepr, A: Allocator + Copy>(

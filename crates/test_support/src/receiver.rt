@@ -1,8 +1,7 @@
 //! A codec to which a stream is given in pieces.
 
-use crate::answers::{Fault, told};
+use crate::answers::{Answer, answered};
 use crate::facts::same;
-use crate::told::Told;
 use bytes::{Buf, BytesMut};
 use std::alloc::Allocator;
 use wire_codec::codec::{
@@ -37,7 +36,7 @@ pub struct Receiver<A: Allocator> {
 }
 
 /// How many pieces were appended, and what was answered.
-pub type Run = (usize, Told);
+pub type Run = (usize, Answer);
 
 // Puts a copy of a packet behind the others, if there is memory.
 fn put_copy<A: Allocator + Copy>(alloc: A, out: &mut Vec<Vec<u8, A>, A>, packet: &[u8]) -> bool {
@@ -68,18 +67,18 @@ impl<A: Allocator + Copy> Receiver<A> {
     }
 
     /// Puts a packet behind `src` as chunks from this id, and tells the next.
-    pub fn frame<T: Buf>(&mut self, id: u8, packet: &mut T) -> Result<u8, Fault> {
-        told(packet_to_chunks(id, packet, &mut self.src))
+    pub fn frame<T: Buf>(&mut self, id: u8, packet: &mut T) -> Result<u8, Answer> {
+        answered(packet_to_chunks(id, packet, &mut self.src))
     }
 
-    pub fn encode(&mut self, packet: &mut &[u8]) -> Told {
-        Told::of_encode(self.codec.encode(packet, &mut self.src))
+    pub fn encode(&mut self, packet: &mut &[u8]) -> Answer {
+        Answer::of_encode(self.codec.encode(packet, &mut self.src))
     }
 
     /// Encodes a text as a value.
-    pub fn encode_text(&mut self, text: &[u8]) -> Told {
+    pub fn encode_text(&mut self, text: &[u8]) -> Answer {
         let value = RawBytes::<EofBytes>::from(text);
-        Told::of_encode(encode_value(&mut self.codec, &value, &mut self.src))
+        Answer::of_encode(encode_value(&mut self.codec, &value, &mut self.src))
     }
 
     pub fn stands(&self) -> bool {
@@ -103,7 +102,7 @@ impl<A: Allocator + Copy> Receiver<A> {
     /// One run over these pieces. Where the codec doesn't stand, nothing is called.
     pub fn deliver(&mut self, pieces: &[&[u8]]) -> Run {
         if !self.codec.stands_at(&self.src, self.dst.as_slice()) {
-            return (0, Told::Fallen);
+            return (0, Answer::Fallen);
         }
         let (count, answer) = deliver(
             &mut self.codec,
@@ -112,13 +111,13 @@ impl<A: Allocator + Copy> Receiver<A> {
             pieces,
             &mut self.out,
         );
-        (count, Told::of_deliver(answer))
+        (count, Answer::of_deliver(answer))
     }
 
     /// As `deliver`, over pieces with their limits.
     pub fn deliver_limited(&mut self, pieces: &[(usize, &[u8])]) -> Run {
         if !self.codec.aligned_at(&self.src, self.dst.as_slice()) {
-            return (0, Told::Fallen);
+            return (0, Answer::Fallen);
         }
         let (count, answer) = deliver_limited(
             &mut self.codec,
@@ -127,13 +126,13 @@ impl<A: Allocator + Copy> Receiver<A> {
             pieces,
             &mut self.out,
         );
-        (count, Told::of_deliver(answer))
+        (count, Answer::of_deliver(answer))
     }
 
     /// As `deliver`, where a visitor sees the packets.
     pub fn visit<V: Visit>(&mut self, pieces: &[&[u8]], visitor: &mut V) -> Run {
         if !self.codec.stands_at(&self.src, self.dst.as_slice()) {
-            return (0, Told::Fallen);
+            return (0, Answer::Fallen);
         }
         let (count, answer) = deliver_each(
             &mut self.codec,
@@ -142,13 +141,13 @@ impl<A: Allocator + Copy> Receiver<A> {
             pieces,
             visitor,
         );
-        (count, Told::of_deliver(answer))
+        (count, Answer::of_deliver(answer))
     }
 
     /// As `deliver_limited`, where a visitor sees the packets.
     pub fn visit_limited<V: Visit>(&mut self, pieces: &[(usize, &[u8])], visitor: &mut V) -> Run {
         if !self.codec.aligned_at(&self.src, self.dst.as_slice()) {
-            return (0, Told::Fallen);
+            return (0, Answer::Fallen);
         }
         let (count, answer) = deliver_each_limited(
             &mut self.codec,
@@ -157,12 +156,12 @@ impl<A: Allocator + Copy> Receiver<A> {
             pieces,
             visitor,
         );
-        (count, Told::of_deliver(answer))
+        (count, Answer::of_deliver(answer))
     }
 
     /// Hands out the next packet, where it lies if it can be lent, and else by `decode`. One that
     /// finds no memory is missing in the end.
-    pub fn take_next(&mut self) -> Told {
+    pub fn take_next(&mut self) -> Answer {
         let dst = self.dst.as_slice();
         let is_lent = match self.codec.front_packet(&self.src, dst) {
             Some(packet) => put_copy(self.alloc, &mut self.out, packet),
@@ -170,36 +169,42 @@ impl<A: Allocator + Copy> Receiver<A> {
         };
         if is_lent {
             self.take_front();
-            return Told::Whole;
+            return Answer::Packet;
         }
-        let told = Told::of_decode(self.codec.decode(&mut self.src, &mut self.dst));
-        if told == Told::Whole {
+        let answer = Answer::of_decode(self.codec.decode(&mut self.src, &mut self.dst));
+        if answer == Answer::Packet {
             put_copy(self.alloc, &mut self.out, self.dst.as_slice());
             self.dst.clear();
         }
-        told
+        answer
     }
 
     // A run, and where it is answered so, one more over what is left of these pieces.
-    fn deliver_again(&mut self, until: usize, pieces: &[&[u8]], after: Told, limit: usize) -> Run {
-        let (count, told) = self.deliver(&pieces[..until.min(pieces.len())]);
+    fn deliver_again(
+        &mut self,
+        until: usize,
+        pieces: &[&[u8]],
+        after: Answer,
+        limit: usize,
+    ) -> Run {
+        let (count, answer) = self.deliver(&pieces[..until.min(pieces.len())]);
         self.codec.max_allowed_packet = limit;
-        if told != after {
-            return (count, told);
+        if answer != after {
+            return (count, answer);
         }
-        let (more, told) = self.deliver(pieces_from(pieces, count));
-        (count.wrapping_add(more), told)
+        let (more, answer) = self.deliver(pieces_from(pieces, count));
+        (count.wrapping_add(more), answer)
     }
 
     /// As `deliver`, in two runs, the first over so many pieces.
     pub fn deliver_in_two(&mut self, pieces: &[&[u8]], first: usize) -> Run {
         let limit = self.codec.max_allowed_packet;
-        self.deliver_again(first, pieces, Told::Waits, limit)
+        self.deliver_again(first, pieces, Answer::Waits, limit)
     }
 
     /// As `deliver`; where it stops at the limit, it goes on under another one.
     pub fn deliver_raised(&mut self, pieces: &[&[u8]], limit: usize) -> Run {
-        self.deliver_again(pieces.len(), pieces, Told::TooLarge, limit)
+        self.deliver_again(pieces.len(), pieces, Answer::TooLarge, limit)
     }
 
     /// Whether these packets came out, and these bytes stand in `src` and in `dst`.

@@ -4,7 +4,7 @@
 //! A reading is given the whole stream at once. It knows of no pieces and of no call that goes on
 //! where another one stopped.
 
-use crate::told::Told;
+use crate::answers::Answer;
 use std::alloc::{AllocError, Global};
 use std::mem;
 use wire_const::MAX_PAYLOAD_LEN;
@@ -164,7 +164,7 @@ pub struct Reading {
     /// The payloads whose framings follow each other at the front.
     pub packets: Vec<Vec<u8>>,
     /// Why it stops.
-    pub told: Told,
+    pub answer: Answer,
     /// The full chunks of an unfinished payload, and the bytes of a chunk out of sync behind them.
     pub held: Vec<u8>,
     /// What is left of the stream begins here.
@@ -177,18 +177,18 @@ pub struct Reading {
 
 // What stops a stream, where it goes on with `rest` and so many bytes of a packet are held; and how
 // many bytes of `rest` show it.
-fn stop(rest: &[u8], held: usize, limit: usize) -> (Told, usize) {
+fn stop(rest: &[u8], held: usize, limit: usize) -> (Answer, usize) {
     let Some((len, _)) = header_at(rest, 0) else {
-        return (Told::Waits, usize::MAX);
+        return (Answer::Waits, usize::MAX);
     };
     let chunk_len = len.saturating_add(4);
     if len > 0 && held.saturating_add(len) > limit {
-        (Told::TooLarge, 4)
+        (Answer::TooLarge, 4)
     } else if rest.len() >= chunk_len {
         // A whole chunk, and yet no good one.
-        (Told::OutOfSync, chunk_len)
+        (Answer::OutOfSync, chunk_len)
     } else {
-        (Told::Waits, usize::MAX)
+        (Answer::Waits, usize::MAX)
     }
 }
 
@@ -197,7 +197,7 @@ impl Reading {
     fn new(alloc: Global, next_id: u8) -> Reading {
         Reading {
             packets: Vec::new(alloc),
-            told: Told::Waits,
+            answer: Answer::Waits,
             held: Vec::new(alloc),
             left: 0,
             shown_at: usize::MAX,
@@ -234,10 +234,10 @@ impl Reading {
     // Stops where no good chunk is left.
     fn stop(&mut self, stream: &[u8], limit: usize) -> Result<(), AllocError> {
         let rest = between(stream, self.left, stream.len());
-        let (told, shown_by) = stop(rest, self.held.len(), limit);
-        self.told = told;
+        let (answer, shown_by) = stop(rest, self.held.len(), limit);
+        self.answer = answer;
         self.shown_at = self.left.saturating_add(shown_by);
-        if told == Told::OutOfSync {
+        if answer == Answer::OutOfSync {
             self.left = self.shown_at;
             self.held.extend_from_slice(between(rest, 4, shown_by))?;
         }

@@ -1,9 +1,9 @@
 //! Deliveries of which requests for memory are refused, and that go on.
 
+use crate::answers::Answer;
 use crate::case::Case;
 use crate::fixture::Heap;
 use crate::receiver::{Receiver, pieces_from};
-use crate::told::Told;
 use refusing_allocator::{NEVER, Refusing};
 use std::alloc::{Allocator, Global};
 
@@ -22,14 +22,14 @@ fn deliver_on<A: Allocator + Copy>(
 ) -> Option<u64> {
     let mut count = 0usize;
     for refused in 0..MOST {
-        let (more, told) = receiver.deliver(pieces_from(pieces, count));
+        let (more, answer) = receiver.deliver(pieces_from(pieces, count));
         count = count.wrapping_add(more);
-        let again = told == Told::OutOfMemory;
+        let again = answer == Answer::OutOfMemory;
         if heap.has_refused() != again {
             return None;
         }
         if !again {
-            let is_ended = case.is_ended(receiver, 0, pieces, (count, told));
+            let is_ended = case.is_ended(receiver, 0, pieces, (count, answer));
             return is_ended.then_some(refused);
         }
         heap.refuse(if many { refused + 1 } else { NEVER });

@@ -1,9 +1,9 @@
 //! The steps of a test as a table.
 
+use crate::answers::Answer;
 use crate::facts::same;
 use crate::fixture::{Fixture, Remembered, decoder_of, is_filled};
 use crate::targets::{Counting, Target};
-use crate::told::Told;
 use bytes::BytesMut;
 use std::alloc::{Allocator, Global};
 use std::test::Fail;
@@ -42,13 +42,13 @@ pub enum Step {
     /// The put of this number into `dst`, counted from 0 at this step, is refused.
     RefusePut(u64),
     /// A packet is encoded behind `src`.
-    Encode(&'static [u8], Told),
+    Encode(&'static [u8], Answer),
     /// A packet of so many bytes `42` is encoded behind `src`.
-    EncodeMany(usize, Told),
+    EncodeMany(usize, Answer),
     /// `decode` is called, and answers this.
-    Decode(Told),
+    Decode(Answer),
     /// A single chunk is decoded under this limit, and the answer is this.
-    Chunk(usize, Told),
+    Chunk(usize, Answer),
     /// `src` is these bytes.
     Left(&'static [u8]),
     /// `src` is so many bytes.
@@ -132,14 +132,14 @@ impl<A: Allocator + Copy, T: Target> Fixture<'_, A, T> {
 
     /// Whether this step goes as it says.
     pub fn goes(&mut self, step: Step) -> bool {
-        let (answer, told) = match step {
-            Step::Encode(payload, told) => (self.encode(payload), told),
-            Step::EncodeMany(len, told) => (self.encode_many(len), told),
-            Step::Decode(told) => (self.decode(), told),
-            Step::Chunk(limit, told) => (self.decode_chunk(limit), told),
+        let (answer, wanted) = match step {
+            Step::Encode(payload, wanted) => (self.encode(payload), wanted),
+            Step::EncodeMany(len, wanted) => (self.encode_many(len), wanted),
+            Step::Decode(wanted) => (self.decode(), wanted),
+            Step::Chunk(limit, wanted) => (self.decode_chunk(limit), wanted),
             _ => return self.shows(step),
         };
-        answer == told
+        answer == wanted
     }
 
     /// Goes through these steps, and gives the number of the first that goes otherwise.

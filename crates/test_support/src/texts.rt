@@ -1,7 +1,7 @@
 //! How a text is looked at: written at each of its puts, read back, borrowed, and refused where it
 //! is cut short.
 
-use crate::answers::Fault;
+use crate::answers::Answer;
 use crate::fields::{Eaten, MORE, Short, has_size, is_read, is_refused_at_least, joined};
 use crate::fixture::Heap;
 use crate::reference::between;
@@ -88,7 +88,7 @@ pub fn are_texts<T: BytesRepr<Ctx = ()>, A: Allocator + Copy>(
         let text = between(letters, 0, *len);
         let cut = between(text, 0, most);
         let short = Short {
-            fault: Fault::UnexpectedEof,
+            fault: Answer::UnexpectedEof,
             eaten,
             front: front.len(),
         };

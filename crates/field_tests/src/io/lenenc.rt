@@ -7,7 +7,7 @@ use mysql_wire::io::{BufMutExt, ParseBuf, WireError, WriteMysqlExt};
 use mysql_wire::misc::{lenenc_int_len, lenenc_str_len};
 use std::alloc::Global;
 use std::convert::AsSlice;
-use test_support::answers::{Fault, told};
+use test_support::answers::{Answer, answered};
 use test_support::facts::{are_parts, same, same_if_any};
 use test_support::reference::between;
 
@@ -63,7 +63,7 @@ fn is_put<B: BufMutExt + AsSlice<u8> + Drop>(mut buf: B, bytes: &[u8], number: u
 // Whether the number is written as these bytes, whose count is told.
 fn is_written(alloc: Global, bytes: &[u8], number: u64) -> bool {
     let mut out = Vec::new(alloc);
-    let written = told(out.write_lenenc_int(number));
+    let written = answered(out.write_lenenc_int(number));
     (written == Ok(bytes.len() as u64)) & same(out.as_slice(), bytes)
 }
 
@@ -178,8 +178,8 @@ fn is_eaten(row: &Eaten) -> bool {
 // ---- bounded buffers
 
 // What a put of a text, or else of a number, answers.
-fn answer<B: BufMutExt>(buf: &mut B, text: Option<&[u8]>, number: u64) -> Result<(), Fault> {
-    told(match text {
+fn answer<B: BufMutExt>(buf: &mut B, text: Option<&[u8]>, number: u64) -> Result<(), Answer> {
+    answered(match text {
         Some(text) => buf.put_lenenc_str(text),
         None => buf.put_lenenc_int(number),
     })
@@ -212,7 +212,7 @@ fn leaves(
     let wanted = if len == whole.len() {
         Ok(())
     } else {
-        Err(Fault::OutOfMemory)
+        Err(Answer::OutOfMemory)
     };
     let mut buf = Vec::new(alloc).limit(room);
     let is_answered = answer(&mut buf, text, number) == wanted;

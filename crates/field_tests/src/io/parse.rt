@@ -10,7 +10,7 @@ use std::fmt::Debug;
 use std::hash::Hash;
 use std::io::Read;
 use std::test::Fail;
-use test_support::answers::{Fault, told};
+use test_support::answers::{Answer, answered};
 use test_support::facts::{all_hold, same, same_if_any};
 
 fn checked_slices_are_the_eaten_part() -> bool {
@@ -118,11 +118,11 @@ fn parses<'de, T: PartialEq + MyDeserialize<'de, Global>>(
     alloc: Global,
     ctx: T::Ctx,
     input: &'de [u8],
-    wanted: Result<T, Fault>,
+    wanted: Result<T, Answer>,
     left: &[u8],
 ) -> bool {
     let mut buf = ParseBuf(input);
-    (told(buf.parse::<T>(alloc, ctx)) == wanted) & same(buf.0, left)
+    (answered(buf.parse::<T>(alloc, ctx)) == wanted) & same(buf.0, left)
 }
 
 // Whether a value is read with this memory.
@@ -150,12 +150,12 @@ fn is_value<T: Copy + Eq + Hash + Debug>(marker: T) -> bool {
 #[test]
 fn parse_eats_the_size(rt: HostRuntime) -> Result<(), Fail> {
     let alloc = rt.alloc();
-    let refused = Fault::Invalid(InvalidReason::UnknownValue);
-    let eof = Fault::UnexpectedEof;
+    let refused = Answer::Invalid(InvalidReason::UnknownValue);
+    let eof = Answer::UnexpectedEof;
     let bytes = b"\x01\x02\x03\x04\x05".as_slice();
     let heap = Refusing::new(alloc, 0);
     let mut buf = ParseBuf(bytes);
-    let unchecked = told(buf.parse_unchecked::<Hasty>(alloc, ()));
+    let unchecked = answered(buf.parse_unchecked::<Hasty>(alloc, ()));
     all_hold(&[
         parses::<Hasty>(alloc, (), bytes, Ok(Hasty(0x0201)), b"\x05"),
         parses::<Hasty>(alloc, (), b"abc", Err(eof), b"abc"),

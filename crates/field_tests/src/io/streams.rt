@@ -8,7 +8,7 @@ use refusing_allocator::{NEVER, Refusing};
 use std::alloc::{Allocator, Global};
 use std::io::{ErrorKind, Read};
 use std::test::Fail;
-use test_support::answers::{Fault, told};
+use test_support::answers::{Answer, answered};
 use test_support::facts::{all_hold, same};
 use test_support::fields::{MORE, last};
 use test_support::fixture::Heap;
@@ -18,9 +18,9 @@ use test_support::reference::between;
 // ---- numbers
 
 // Whether a stream that begins so gives this number, and its last bytes are left, so many.
-fn gives(bytes: &[u8], wanted: Result<u64, Fault>, left: usize) -> bool {
+fn gives(bytes: &[u8], wanted: Result<u64, Answer>, left: usize) -> bool {
     let mut reader = bytes;
-    let read = told(reader.read_lenenc_int());
+    let read = answered(reader.read_lenenc_int());
     (read == wanted) & same(reader, last(bytes, left))
 }
 
@@ -31,7 +31,7 @@ fn is_read(row: &Row<'_, u64>) -> bool {
     all &= gives(between(bytes, 0, width), Ok(number), 0);
     for len in 0..width {
         let mut reader = between(bytes, 0, len);
-        all &= told(reader.read_lenenc_int()) == Err(Fault::Io);
+        all &= answered(reader.read_lenenc_int()) == Err(Answer::Io);
     }
     all
 }
@@ -62,10 +62,10 @@ fn lenenc_ints_are_read() -> bool {
 // ---- texts
 
 // Whether a stream gives this text, or why it gives none.
-fn reads<R: Read, A: Allocator>(alloc: A, reader: &mut R, text: &[u8]) -> Result<bool, Fault> {
+fn reads<R: Read, A: Allocator>(alloc: A, reader: &mut R, text: &[u8]) -> Result<bool, Answer> {
     match reader.read_lenenc_str(alloc) {
         Ok(read) => Ok(same(read.as_slice(), text)),
-        Err(error) => Err(Fault::of(&error)),
+        Err(error) => Err(Answer::of_wire(&error)),
     }
 }
 
@@ -74,7 +74,7 @@ fn answers(
     alloc: Global,
     bytes: &[u8],
     text: &[u8],
-    wanted: Result<bool, Fault>,
+    wanted: Result<bool, Answer>,
     left: &[u8],
 ) -> bool {
     let mut reader = bytes;
@@ -86,7 +86,7 @@ const MARKS: &[&[u8]] = &[b"\xfb\x01", b"\xff\x01", b"\xfb\x01\x02\x03", b"\xff\
 // Whether this begins no number and no text, and its first byte is eaten.
 fn is_mark(alloc: Global, bytes: &[u8]) -> bool {
     let behind = bytes.len().saturating_sub(1);
-    let none = Fault::NoInteger;
+    let none = Answer::NoInteger;
     gives(bytes, Err(none), behind) & answers(alloc, bytes, b"", Err(none), last(bytes, behind))
 }
 
@@ -96,7 +96,7 @@ fn comes_back(alloc: Global, text: &[u8]) -> bool {
     let mut put = Vec::new(alloc);
     let mut all = put.put_lenenc_str(text).is_ok();
     let mut out = Vec::new(alloc);
-    all &= told(out.write_lenenc_str(text)) == Ok(len);
+    all &= answered(out.write_lenenc_str(text)) == Ok(len);
     all &= (out.len() as u64 == len) & same(out.as_slice(), put.as_slice());
     all &= answers(alloc, out.as_slice(), text, Ok(true), b"");
     all &= out.extend_from_slice(MORE).is_ok();
@@ -104,9 +104,9 @@ fn comes_back(alloc: Global, text: &[u8]) -> bool {
 }
 
 // How a fault of this kind ends: an interrupted call is made again.
-fn ends(is_met: bool, kind: ErrorKind) -> Result<u64, Fault> {
+fn ends(is_met: bool, kind: ErrorKind) -> Result<u64, Answer> {
     if is_met & (kind != ErrorKind::Interrupted) {
-        Err(Fault::Io)
+        Err(Answer::Io)
     } else {
         Ok(303)
     }
@@ -115,7 +115,7 @@ fn ends(is_met: bool, kind: ErrorKind) -> Result<u64, Fault> {
 // Whether 300 bytes are written so where the write of this number fails, or none takes a byte.
 fn is_text_written(alloc: Global, at_once: usize, until_fault: usize, kind: ErrorKind) -> bool {
     let mut writer = Narrow::new(alloc, at_once, until_fault, kind);
-    let written = told(writer.write_lenenc_str(&[b'a'; 300]));
+    let written = answered(writer.write_lenenc_str(&[b'a'; 300]));
     let is_met = (writer.until_fault > until_fault) | (at_once == 0);
     (written == ends(is_met, kind)) & ((writer.taken.len() == 303) | written.is_err())
 }
@@ -138,7 +138,7 @@ fn is_text_read(
     if ends(is_met, kind).is_ok() {
         read == Ok(true)
     } else {
-        read == Err(Fault::Io)
+        read == Err(Answer::Io)
     }
 }
 
@@ -178,7 +178,7 @@ fn a_bad_stream_is_refused(rt: HostRuntime) {
     all &= each_call_fails(alloc, &bytes, ErrorKind::Interrupted);
     for len in 0..303usize {
         let mut reader = between(&bytes, 0, len);
-        all &= reads(alloc, &mut reader, b"") == Err(Fault::Io);
+        all &= reads(alloc, &mut reader, b"") == Err(Answer::Io);
     }
     assert!(rt; all);
 }
@@ -187,7 +187,7 @@ fn a_bad_stream_is_refused(rt: HostRuntime) {
 
 // What bytes answer where this text is wanted and this request for memory is refused, and whether
 // one was.
-fn refused(heap: &Heap, nth: u64, bytes: &[u8], text: &[u8]) -> (Result<bool, Fault>, bool) {
+fn refused(heap: &Heap, nth: u64, bytes: &[u8], text: &[u8]) -> (Result<bool, Answer>, bool) {
     heap.refuse(nth);
     let mut reader = bytes;
     (reads(heap, &mut reader, text), heap.has_refused())
@@ -200,7 +200,7 @@ fn refusals(heap: &Heap, bytes: &[u8], text: &[u8]) -> Option<u64> {
         if (answer == Ok(true)) & !is_refused {
             return Some(nth);
         }
-        if (answer != Err(Fault::OutOfMemory)) | !is_refused {
+        if (answer != Err(Answer::OutOfMemory)) | !is_refused {
             return None;
         }
     }
@@ -219,7 +219,7 @@ fn long_text_is_read(heap: &Heap) -> bool {
 // Whether it is found that the input ends, with no request above 64 KiB.
 fn finds_the_end(heap: &Heap, input: &mut &[u8]) -> bool {
     heap.refuse(NEVER);
-    (reads(heap, input, b"") == Err(Fault::Io)) & (heap.largest() <= 65536)
+    (reads(heap, input, b"") == Err(Answer::Io)) & (heap.largest() <= 65536)
 }
 
 // Whatever length is declared, little memory is asked for before the input ends.
@@ -230,7 +230,7 @@ fn a_hostile_length_takes_little_memory(rt: HostRuntime) -> Result<(), Fail> {
     let mut four_gib = b"\xfe\0\0\0\0\x01\0\0\0abc".as_slice();
     let (unread, is_refused) = refused(&heap, 0, most, b"");
     all_hold(&[
-        (unread == Err(Fault::OutOfMemory)) & is_refused,
+        (unread == Err(Answer::OutOfMemory)) & is_refused,
         finds_the_end(&heap, &mut four_gib),
         finds_the_end(&heap, &mut most),
         long_text_is_read(&heap),

@@ -4,7 +4,7 @@ use crate::io::numbers::Row;
 use mysql_wire::io::ParseBuf;
 use mysql_wire::misc::{read_varlen_uint, varlen_uint_size, write_varlen_uint};
 use std::alloc::Global;
-use test_support::answers::{Fault, told};
+use test_support::answers::{Answer, answered};
 use test_support::facts::same;
 use test_support::reference::between;
 
@@ -15,9 +15,9 @@ fn is_read(row: &Row<'_, u64>) -> bool {
     let mut all = width <= bytes.len();
     for len in 0..bytes.len() + 1 {
         let mut buf = ParseBuf(between(bytes, 0, len));
-        let read = told(read_varlen_uint(&mut buf));
+        let read = answered(read_varlen_uint(&mut buf));
         let wanted = if len < width {
-            (Err(Fault::UnexpectedEof), len)
+            (Err(Answer::UnexpectedEof), len)
         } else {
             (Ok(number), len - width)
         };

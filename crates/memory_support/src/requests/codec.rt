@@ -7,11 +7,10 @@ use bytes::{Buf, BytesMut};
 use mysql_wire::proto::codec::PacketDst;
 use refusing_allocator::NEVER;
 use std::alloc::Allocator;
-use test_support::answers::Fault;
+use test_support::answers::Answer;
 use test_support::facts::{are_parts, same};
 use test_support::fixture::{Fixture, Heap};
 use test_support::receiver::{Receiver, Run, Tally, pieces_from};
-use test_support::told::Told;
 
 /// What runs over pieces.
 #[derive(Clone, Copy)]
@@ -75,18 +74,18 @@ enum Framing {
     Value,
 }
 
-fn frame_once<A, T>(to: &mut Receiver<A>, packet: &mut T, framing: Framing) -> Told
+fn frame_once<A, T>(to: &mut Receiver<A>, packet: &mut T, framing: Framing) -> Answer
 where
     A: Allocator + Copy,
     T: Buf,
 {
     match framing {
         Framing::Chunks(id) => match to.frame(id, packet) {
-            Ok(next) if next == id.wrapping_add(1) => Told::Done,
-            Err(Fault::OutOfMemory) => Told::OutOfMemory,
-            _ => Told::Fallen,
+            Ok(next) if next == id.wrapping_add(1) => Answer::Done,
+            Err(Answer::OutOfMemory) => Answer::OutOfMemory,
+            _ => Answer::Wrong,
         },
-        Framing::Packet => Told::of_encode(to.codec.encode(packet, &mut to.src)),
+        Framing::Packet => Answer::of_encode(to.codec.encode(packet, &mut to.src)),
         Framing::Value => to.encode_text(TEXT),
     }
 }
@@ -107,16 +106,16 @@ where
 {
     let len = packet.remaining();
     heap.refuse(nth);
-    let mut told = frame_once(to, packet, framing);
-    let refused = told == Told::OutOfMemory;
+    let mut answer = frame_once(to, packet, framing);
+    let refused = answer == Answer::OutOfMemory;
     let mut all = true;
     if refused {
         all &= same(to.src.as_slice(), b"ab");
         all &= same(packet.chunk(), parts[1]) & (packet.remaining() == len);
-        told = frame_once(to, packet, framing);
+        answer = frame_once(to, packet, framing);
     }
     let is_value = matches!(framing, Framing::Value);
-    all &= (told == Told::Done) & ((packet.remaining() == 0) != is_value);
+    all &= (answer == Answer::Done) & ((packet.remaining() == 0) != is_value);
     (all & are_parts(to.src.as_slice(), parts)).then_some(refused)
 }
 
@@ -143,21 +142,21 @@ fn queues<A: Allocator + Copy>(heap: &Heap, alloc: A, nth: u64) -> Option<bool> 
     let mut to = Outlet::new(alloc)?;
     let mut packet = TEXT;
     heap.refuse(nth);
-    let mut told = to.queue(&mut packet);
-    let refused = told == Told::OutOfMemory;
+    let mut answer = to.queue(&mut packet);
+    let refused = answer == Answer::OutOfMemory;
     let mut all = true;
     if refused {
         all &= to.writer.pending().is_empty() & (packet.len() == LEN);
-        told = to.queue(&mut packet);
+        answer = to.queue(&mut packet);
     }
-    all &= (told == Told::Done) & packet.is_empty();
+    all &= (answer == Answer::Done) & packet.is_empty();
     all &= are_parts(to.writer.pending(), [HEADER, TEXT, b""]);
     all.then_some(refused)
 }
 
 // ---- decoding
 
-fn decode_once<A: Allocator + Copy>(to: &mut Fixture<'_, A, Vec<u8, A>>, one: bool) -> Told {
+fn decode_once<A: Allocator + Copy>(to: &mut Fixture<'_, A, Vec<u8, A>>, one: bool) -> Answer {
     if one {
         to.decode_chunk(LEN)
     } else {
@@ -169,17 +168,17 @@ fn decode_once<A: Allocator + Copy>(to: &mut Fixture<'_, A, Vec<u8, A>>, one: bo
 fn decodes<A: Allocator + Copy>(heap: &Heap, alloc: A, one: bool, nth: u64) -> Option<bool> {
     heap.refuse(NEVER);
     let mut to = Fixture::new(alloc, None, Vec::new(alloc));
-    let mut all = to.encode(TEXT) == Told::Done;
+    let mut all = to.encode(TEXT) == Answer::Done;
     to.codec.reset_seq_id();
     heap.refuse(nth);
-    let mut told = decode_once(&mut to, one);
-    let refused = told == Told::OutOfMemory;
+    let mut answer = decode_once(&mut to, one);
+    let refused = answer == Answer::OutOfMemory;
     if refused {
         all &= (to.src.len() == LEN + 4) & to.dst.is_empty();
-        told = decode_once(&mut to, one);
+        answer = decode_once(&mut to, one);
     }
-    let done = if one { Told::Last(0) } else { Told::Whole };
-    all &= (told == done) & to.src.is_empty() & same(to.dst.as_slice(), TEXT);
+    let done = if one { Answer::Last(0) } else { Answer::Packet };
+    all &= (answer == done) & to.src.is_empty() & same(to.dst.as_slice(), TEXT);
     all.then_some(refused)
 }
 
@@ -252,14 +251,14 @@ where
     let mut to = Receiver::new(alloc, LEN);
     let mut tally = Tally { bytes: 0 };
     heap.refuse(nth);
-    let (mut count, mut told) = run_once(&mut to, runner, 0, &mut tally);
-    let refused = told == Told::OutOfMemory;
+    let (mut count, mut answer) = run_once(&mut to, runner, 0, &mut tally);
+    let refused = answer == Answer::OutOfMemory;
     if refused {
         let (more, again) = run_once(&mut to, runner, count, &mut tally);
         count = count.wrapping_add(more);
-        told = again;
+        answer = again;
     }
-    let all = (count == 3) & (told == Told::Waits) & is_run(&to, runner, &tally);
+    let all = (count == 3) & (answer == Answer::Waits) & is_run(&to, runner, &tally);
     all.then_some(refused)
 }
 
@@ -278,7 +277,7 @@ pub enum Way {
 }
 
 // Hands the packet out, lends it, skips it, copies it, or passes it on.
-fn read_once<A>(from: &mut Source<'_, A>, to: &mut Outlet<A>, way: Way) -> Result<bool, Told>
+fn read_once<A>(from: &mut Source<'_, A>, to: &mut Outlet<A>, way: Way) -> Result<bool, Answer>
 where
     A: Allocator + Copy,
 {
@@ -312,7 +311,7 @@ where
 {
     heap.refuse(nth);
     let mut answer = read_once(from, to, way);
-    let refused = answer == Err(Told::OutOfMemory);
+    let refused = answer == Err(Answer::OutOfMemory);
     if refused {
         answer = read_once(from, to, way);
     }

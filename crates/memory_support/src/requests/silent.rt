@@ -4,17 +4,17 @@
 use crate::copies::{
     know_text, lists_work, numbers_work, reads_by_representation, reads_text, texts_work,
 };
-use crate::packets::{Outlet, Source, shown_len, told_of};
+use crate::packets::{Outlet, Source, answer_by, shown_len};
 use crate::reading::Reading;
 use bytes::BytesMut;
 use mysql_wire::proto::codec::Skipped;
 use refusing_allocator::NEVER;
 use std::alloc::Allocator;
+use test_support::answers::Answer;
 use test_support::facts::same;
 use test_support::fixture::{Fixture, Heap};
 use test_support::receiver::Receiver;
 use test_support::targets::Target;
-use test_support::told::Told;
 
 // What is called, by the names that it covers.
 #[derive(Clone, Copy)]
@@ -157,18 +157,18 @@ fn readings_work<A: Allocator + Copy>(alloc: A) -> bool {
 // ---- the codec
 
 // What is to be read, a limit, and what `decode` answers where it takes no payload byte.
-type Row<'a> = (&'a [u8], usize, Told);
+type Row<'a> = (&'a [u8], usize, Answer);
 
 const TAKING_NOTHING: &[Row] = &[
-    (b"", 9, Told::Waits),
-    (b"\x01\0\0", 9, Told::Waits),
-    (b"\x02\0\0\0\x61", 9, Told::Waits),
-    (b"\xff\xff\xff\x07\x61", usize::MAX, Told::Waits),
-    (b"\0\0\0\0\x61", 0, Told::Whole),
-    (b"\0\0\0\x05", 0, Told::OutOfSync),
-    (b"\x09\0\0\0", 8, Told::TooLarge),
-    (b"\x01\0\0\x05\x61", 0, Told::TooLarge),
-    (b"\xff\xff\xff\0abc", 16777214, Told::TooLarge),
+    (b"", 9, Answer::Waits),
+    (b"\x01\0\0", 9, Answer::Waits),
+    (b"\x02\0\0\0\x61", 9, Answer::Waits),
+    (b"\xff\xff\xff\x07\x61", usize::MAX, Answer::Waits),
+    (b"\0\0\0\0\x61", 0, Answer::Packet),
+    (b"\0\0\0\x05", 0, Answer::OutOfSync),
+    (b"\x09\0\0\0", 8, Answer::TooLarge),
+    (b"\x01\0\0\x05\x61", 0, Answer::TooLarge),
+    (b"\xff\xff\xff\0abc", 16777214, Answer::TooLarge),
 ];
 
 // With a row's bytes to be read, into this target, under its limit. The next request is refused.
@@ -193,11 +193,11 @@ where
     A: Allocator + Copy,
     T: Target,
 {
-    let told = row.2;
+    let answer = row.2;
     let mut to = fixture(heap, alloc, target, row);
-    let mut all = to.stands() & to.is_aligned() & (to.decode() == told);
-    if told == Told::Waits {
-        all &= to.decode() == told;
+    let mut all = to.stands() & to.is_aligned() & (to.decode() == answer);
+    if answer == Answer::Waits {
+        all &= to.decode() == answer;
     } else {
         to.codec.sync_seq_id();
     }
@@ -215,7 +215,7 @@ where
 {
     let mut to = fixture(heap, alloc, target, row);
     let chunk = to.decode_chunk(row.1);
-    let all = ((chunk == row.2) | matches!(chunk, Told::Last(_))) & to.dst.as_ref().is_empty();
+    let all = ((chunk == row.2) | matches!(chunk, Answer::Last(_))) & to.dst.as_ref().is_empty();
     all & (to.requests() == (0, false))
 }
 
@@ -276,10 +276,10 @@ fn writer_works<A: Allocator + Copy>(heap: &Heap, alloc: A) -> bool {
     };
     let mut packet = b"ab".as_slice();
     heap.refuse(NEVER);
-    let mut all = to.queue(&mut packet) == Told::Done;
+    let mut all = to.queue(&mut packet) == Answer::Done;
     heap.refuse(0);
     all &= to.writer.pending().len() == 6;
-    all &= told_of(to.writer.write_pending()) == Told::Done;
+    all &= answer_by(to.writer.write_pending()) == Answer::Done;
     all &= to.writer.pending().is_empty() & (shown_len(&to.writer) > 0);
     let _ = to.writer.into_inner();
     all

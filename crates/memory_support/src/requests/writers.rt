@@ -2,7 +2,7 @@
 
 use crate::writing::{Writing, write};
 use std::alloc::Allocator;
-use test_support::answers::Fault;
+use test_support::answers::Answer;
 use test_support::facts::are_parts;
 use test_support::fields::full;
 use test_support::fixture::Heap;
@@ -111,7 +111,7 @@ fn leaves<A: Allocator>(
     let refused = heap.has_refused();
     let mut all = are_parts(buf.as_slice(), [b"\xaa", left, b""]);
     if refused {
-        all &= fault == Some(Fault::OutOfMemory);
+        all &= fault == Some(Answer::OutOfMemory);
         fault = write(writing, &mut buf);
         all &= are_parts(buf.as_slice(), [b"\xaa", left, whole]);
     }

@@ -6,13 +6,13 @@ use mysql_wire::misc::raw::RawBytes;
 use mysql_wire::misc::raw::bytes::BytesRepr;
 use mysql_wire::proto::{MyDeserialize, MySerialize};
 use std::alloc::Global;
-use test_support::answers::{Fault, told};
+use test_support::answers::{Answer, answered};
 use test_support::fields::{gives, is_written, stops};
 use test_support::fixture::Heap;
 use test_support::reference::between;
 
 /// Why another header is refused.
-pub const OTHER: Fault = Fault::Invalid(InvalidReason::ConstMismatch);
+pub const OTHER: Answer = Answer::Invalid(InvalidReason::ConstMismatch);
 
 /// A text that may be missing, as a field.
 pub fn text_if<'a, T: BytesRepr>(text: Option<&'a [u8]>) -> Option<RawBytes<'a, T>> {
@@ -23,7 +23,7 @@ pub fn text_if<'a, T: BytesRepr>(text: Option<&'a [u8]>) -> Option<RawBytes<'a, 
 }
 
 /// A context, an input that begins with no packet, why it doesn't, and how many bytes are left.
-pub type Refused<'de, C> = (C, &'de [u8], Fault, usize);
+pub type Refused<'de, C> = (C, &'de [u8], Answer, usize);
 
 // Whether the payload cut short at any length is refused; of a packet whose last field takes all
 // the rest, only where fewer than `least` bytes are left, and else what is read is written as just
@@ -42,7 +42,7 @@ where
     for len in 0..payload.len() {
         let cut = between(payload, 0, len);
         let mut buf = ParseBuf(cut);
-        all &= match told(buf.parse_in::<T, Global>(alloc, ctx)) {
+        all &= match answered(buf.parse_in::<T, Global>(alloc, ctx)) {
             Ok(shorter) => (len >= least) & is_written(heap, &shorter, cut),
             Err(_) => len < least,
         };

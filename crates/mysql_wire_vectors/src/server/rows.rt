@@ -6,7 +6,7 @@ use mysql_wire::misc::raw::seq::Seq;
 use mysql_wire_queries::text_row::{TextRow, TextValue};
 use std::alloc::Global;
 use std::borrow::CowSlice;
-use test_support::answers::Fault;
+use test_support::answers::Answer;
 use test_support::fixture::Heap;
 
 // https://dev.mysql.com/doc/dev/mysql-server/latest/page_protocol_com_query_response_text_resultset.html:
@@ -22,13 +22,13 @@ const ROWS: &[(&[u8], &[TextValue<'static>])] = &[
     (b"", &[]),
 ];
 
-const NO_VALUE: Fault = Fault::NoInteger;
+const NO_VALUE: Answer = Answer::NoInteger;
 
 // The byte `ff` begins no value. An error that comes in place of a row is told by it.
 const NO_ROWS: &[Refused<usize>] = &[
     (1, b"\xff\x10\x04", NO_VALUE, 3),
     (2, b"\xfb\xff", NO_VALUE, 1),
-    (2, b"\xfb\x02a", Fault::UnexpectedEof, 1),
+    (2, b"\xfb\x02a", Answer::UnexpectedEof, 1),
 ];
 
 fn is_row<'a>(heap: &Heap, alloc: Global, payload: &'a [u8], values: &'a [TextValue<'a>]) -> bool {

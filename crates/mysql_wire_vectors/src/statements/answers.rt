@@ -8,7 +8,7 @@ use mysql_wire_packets::err_packet::ErrPacket;
 use mysql_wire_statements::com_stmt_prepare_ok::ComStmtPrepareOk;
 use mysql_wire_statements::prepare_answer::PrepareAnswer;
 use std::alloc::Global;
-use test_support::answers::Fault;
+use test_support::answers::Answer;
 use test_support::fixture::Heap;
 
 const FOUR_ONE: CapabilityFlags = CapabilityFlags::CLIENT_PROTOCOL_41;
@@ -17,7 +17,7 @@ const FOUR_ONE: CapabilityFlags = CapabilityFlags::CLIENT_PROTOCOL_41;
 const OTHER: &[Refused<'static, CapabilityFlags>] = &[(
     FOUR_ONE,
     b"\xfe\0\0\x02\0",
-    Fault::Invalid(InvalidReason::UnknownValue),
+    Answer::Invalid(InvalidReason::UnknownValue),
     5,
 )];
 

@@ -7,7 +7,7 @@ use mysql_wire_statements::com_stmt_execute::ComStmtExecute;
 use mysql_wire_statements::null_bitmap::NullBitmap;
 use mysql_wire_statements::params::{ParamTypes, StmtParams};
 use std::alloc::Global;
-use test_support::answers::Fault;
+use test_support::answers::Answer;
 use test_support::fixture::Heap;
 
 // The statement, its flags, the count of its parameters, their bitmap, types and values, and the
@@ -107,13 +107,13 @@ const REFUSED: &[Refused<'static, u16>] = &[
     (
         1,
         b"\x17\x01\0\0\0\0\x01\0\0\0\0\x02\x0f\0",
-        Fault::Invalid(InvalidReason::UnknownValue),
+        Answer::Invalid(InvalidReason::UnknownValue),
         3,
     ),
     (
         2,
         b"\x17\x01\0\0\0\0\x01\0\0\0\0\x01\x0f\0\x0f",
-        Fault::UnexpectedEof,
+        Answer::UnexpectedEof,
         4,
     ),
 ];

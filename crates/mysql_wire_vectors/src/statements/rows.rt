@@ -8,7 +8,7 @@ use mysql_wire_statements::binary_value::BinaryValue;
 use mysql_wire_statements::moments::{BinaryDate, Clock, Day};
 use mysql_wire_statements::null_bitmap::{NullBitmap, ParamNulls, RowNulls};
 use std::alloc::Global;
-use test_support::answers::Fault;
+use test_support::answers::Answer;
 use test_support::fixture::Heap;
 
 // Of parameters the bits count from the first, of columns from the third; past a bitmap none is
@@ -85,7 +85,7 @@ const ROWS: &[(&[u8], usize, &[u8], &[u8])] = &[
 // An end of rows in the place of a row is told by its header, and a bitmap that is cut short.
 const NO_ROWS: &[Refused<'static, usize>] = &[
     (1, b"\xfe\0\0\x02\0", OTHER, 4),
-    (9, b"\0\xf8", Fault::UnexpectedEof, 1),
+    (9, b"\0\xf8", Answer::UnexpectedEof, 1),
 ];
 
 pub fn are_rows(heap: &Heap, alloc: Global) -> bool {

@@ -13,7 +13,7 @@ use mysql_wire::io::InvalidReason;
 use mysql_wire_statements::binary_value::BinaryValue;
 use mysql_wire_statements::moments::{BinaryDate, BinaryTime, Clock, Day, Span};
 use std::alloc::Global;
-use test_support::answers::Fault;
+use test_support::answers::Answer;
 use test_support::fields::stops;
 use test_support::fixture::Heap;
 
@@ -123,18 +123,18 @@ pub fn are_values(heap: &Heap, alloc: Global) -> bool {
     are_of(heap, alloc, VALUES) & are_of(heap, alloc, DATES) & are_of(heap, alloc, TIMES)
 }
 
-const UNKNOWN: Fault = Fault::Invalid(InvalidReason::UnknownValue);
+const UNKNOWN: Answer = Answer::Invalid(InvalidReason::UnknownValue);
 
 // Dates and times of other lengths, texts whose length is none or that are cut short, and types
 // that are never sent: why each is refused, and how many bytes are left.
-const REFUSED: &[(ColumnType, &[u8], Fault, usize)] = &[
+const REFUSED: &[(ColumnType, &[u8], Answer, usize)] = &[
     (MYSQL_TYPE_DATE, b"\x05\xda\x07\x0a\x11\0", UNKNOWN, 6),
     (MYSQL_TYPE_DATE, b"\x0c", UNKNOWN, 1),
     (MYSQL_TYPE_TIME, b"\x07\x01\x78\0\0\0\x13\x1b", UNKNOWN, 8),
     (MYSQL_TYPE_TIME, b"\x04\x01", UNKNOWN, 2),
-    (MYSQL_TYPE_STRING, b"\xfb", Fault::NoInteger, 1),
-    (MYSQL_TYPE_STRING, b"\xff\0", Fault::NoInteger, 2),
-    (MYSQL_TYPE_STRING, b"\x03fo", Fault::UnexpectedEof, 2),
+    (MYSQL_TYPE_STRING, b"\xfb", Answer::NoInteger, 1),
+    (MYSQL_TYPE_STRING, b"\xff\0", Answer::NoInteger, 2),
+    (MYSQL_TYPE_STRING, b"\x03fo", Answer::UnexpectedEof, 2),
     (MYSQL_TYPE_UNKNOWN, b"\x01a", UNKNOWN, 2),
     (MYSQL_TYPE_NEWDATE, b"\x01a", UNKNOWN, 2),
     (MYSQL_TYPE_DATETIME2, b"\0", UNKNOWN, 1),
