@@ -87,23 +87,21 @@ fn decode_row(rows: &mut Vec<Row>, size: usize, piece: usize) {
     let count = count_for(size);
     let (stream, want) = stream_of(size as u64 * 37 + piece as u64, size);
     let (beside, plain) = (stream.clone(), stream.clone());
-    let by = if piece == 0 { String::new() } else { format!(" by {}", size_name(piece)) };
-    let step = if piece == 0 { stream.len() } else { piece };
     rows.push(Row {
-        name: format!("cargo: decode {}{by}, of decode", size_name(size)),
+        name: format!("cargo: decode {} by {}, of decode", size_name(size), size_name(piece)),
         items: count as u64,
         bytes: (size * count) as u64,
-        call: Box::new(move |reps| decode(&stream, step, size, reps)),
+        call: Box::new(move |reps| decode(&stream, piece, size, reps)),
         want,
         copy: Box::new(move |reps| library::decode(&beside, piece as u64, size as u64, false, reps)),
-        rust: in_rust!(move |reps| in_rust::decode(&plain, step, size, false, reps)),
+        rust: in_rust!(move |reps| in_rust::decode(&plain, piece, size, false, reps)),
     });
 }
 
 pub fn rows(rows: &mut Vec<Row>) {
     for size in SIZES {
         encode_row(rows, size);
-        decode_row(rows, size, 0);
         decode_row(rows, size, 8 << 10);
+        decode_row(rows, size, 64 << 10);
     }
 }

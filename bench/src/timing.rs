@@ -87,12 +87,19 @@ impl Rounds {
     }
 }
 
+/// Memory that is held for a round, so that its buffers lie elsewhere than those of the round before:
+/// the time of a copy changes with where both sides lie.
+fn shift(round: usize) -> Vec<u8> {
+    black_box(vec![1; 1 + round * 1040])
+}
+
 /// The time of one repetition of each call, all in turns.
 pub fn best_of(calls: &mut [Box<dyn FnMut(u64) -> u64>]) -> Vec<f64> {
     let mut rounds: Vec<Rounds> = calls.iter_mut().map(|call| Rounds::new(call)).collect();
-    for _ in 0..ROUNDS {
-        for (round, call) in rounds.iter_mut().zip(calls.iter_mut()) {
-            round.run(call);
+    for round in 0..ROUNDS {
+        let _held = shift(round);
+        for (rounds, call) in rounds.iter_mut().zip(calls.iter_mut()) {
+            rounds.run(call);
         }
     }
     rounds.iter().map(Rounds::best).collect()
@@ -113,7 +120,8 @@ pub fn measure(row: &mut Row) -> Result<Measured, String> {
         check(call, row.want).map_err(|why| format!("in Rust: {why}"))?;
         rust = Some((Rounds::new(call), call));
     }
-    for _ in 0..ROUNDS {
+    for round in 0..ROUNDS {
+        let _held = shift(round);
         works.run(&mut row.call);
         copies.run(&mut row.copy);
         if let Some((rounds, call)) = &mut rust {

@@ -1,4 +1,5 @@
--- What a payload of each kind is read as, and the fields that are shown of it.
+-- What a payload of each kind is read as, and the fields that are shown of it. `ghosts.is_payload`
+-- of a type is what its `impl Payload` says in `mysql_wire_dump_fields`.
 use Rattle.std.specs.Prelude.{◌≡◌, ◌⊎◌, ℕ, List, take, drop, Option, Some, None}
 use denote.Param.{number}
 use Rattle.wire_buf.specs.Numbers.{le_number}

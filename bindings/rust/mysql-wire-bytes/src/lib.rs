@@ -17,7 +17,9 @@
 //! ```
 //!
 //! It differs from `mysql_common` in what a caller sees of a packet that isn't whole. One of less than
-//! 16777215 bytes stays in `src`, with its header; of a longer one the codec takes what has come.
+//! 16777215 bytes stays in `src`, with its header, and `src` has room for more of it: 32 KiB at least,
+//! for a packet that is longer up to eight times what has come. Of one of 16777215 bytes and above the
+//! codec takes what has come.
 
 use bytes::{Buf, BufMut, BytesMut};
 use mysql_wire::{Connection, Place};
@@ -32,6 +34,9 @@ const HEADER_LEN: usize = 4;
 
 // How many packets are judged by one call of the library.
 const MOST_JUDGED: usize = 64;
+
+// The least room that `src` has for more where a chunk in it is cut short.
+const LEAST_ROOM: usize = 32 << 10;
 
 /// Makes packets of bytes, and bytes of packets, of one connection in both directions.
 #[derive(Debug)]
@@ -119,15 +124,16 @@ impl PacketCodec {
         Ok(())
     }
 
-    // Whether the front of `src` is left there until more has come: a chunk that is cut short, of
-    // less than 16777215 bytes, and within the limit.
+    // How many bytes are to come, where the front of `src` is left there until more has come: a
+    // chunk that is cut short, of less than 16777215 bytes, and within the limit.
     #[inline]
-    fn waits(&self, src: &[u8]) -> bool {
+    fn missing(&self, src: &[u8]) -> Option<usize> {
         let &[a, b, c, _, ref bytes @ ..] = src else {
-            return true;
+            return Some(0);
         };
         let len = u32::from_le_bytes([a, b, c, 0]) as usize;
-        bytes.len() < len && len < MAX_PAYLOAD_LEN && len <= self.max_allowed_packet
+        let is_cut = bytes.len() < len && len < MAX_PAYLOAD_LEN && len <= self.max_allowed_packet;
+        is_cut.then(|| len - bytes.len())
     }
 
     // The length of the packet in front, where the connection has accepted it: its header is the next
@@ -201,7 +207,8 @@ impl PacketCodec {
     fn decode_next(&mut self, src: &mut BytesMut, dst: &mut impl BufMut) -> Result<bool, Error> {
         self.forget_judged();
         if !self.is_begun {
-            if self.waits(src) {
+            if let Some(missing) = self.missing(src) {
+                make_room(missing, src);
                 return Ok(false);
             }
             if let Some(len) = self.judge(src)? {
@@ -292,6 +299,15 @@ impl PacketCodec {
 
     /// Changes nothing: it is there for the compressed protocol, which isn't.
     pub fn sync_seq_id(&mut self) {}
+}
+
+/// Takes room for so many bytes that are to come. Where room is short `BytesMut` moves what it holds,
+/// which is the least now.
+fn make_room(missing: usize, src: &mut BytesMut) {
+    if missing > 0 {
+        let most = src.len().saturating_mul(8).max(LEAST_ROOM);
+        src.reserve(missing.clamp(LEAST_ROOM, most));
+    }
 }
 
 /// Puts a header and a payload behind what is there, into room that was reserved.

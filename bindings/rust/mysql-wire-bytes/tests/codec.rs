@@ -56,6 +56,24 @@ fn regular_packet() {
 }
 
 #[test]
+fn room_for_what_is_missing() {
+    let mut codec = PacketCodec::default();
+    // (a header alone, of 3 MiB)
+    let mut src = BytesMut::from(b"\0\0\x30\0".as_slice());
+    assert_eq!(drained(&mut codec, &mut src), (vec![], Ok(())));
+    assert!((32 << 10..128 << 10).contains(&(src.capacity() - src.len())));
+    src.resize(16 << 10, 0);
+    assert_eq!(drained(&mut codec, &mut src), (vec![], Ok(())));
+    assert!((128 << 10..1 << 20).contains(&(src.capacity() - src.len())));
+    src.resize(4 + (3 << 20), 0);
+    assert_eq!(drained(&mut codec, &mut src), (vec![vec![0; 3 << 20]], Ok(())));
+    // (an empty `src` takes none)
+    let mut src = BytesMut::new();
+    assert_eq!(drained(&mut codec, &mut src), (vec![], Ok(())));
+    assert_eq!(src.capacity(), 0);
+}
+
+#[test]
 fn out_of_sync() {
     let mut codec = PacketCodec::default();
     let answer = decoded(&mut codec, b"\x01\0\0\0a\x01\0\0\x02b");
