@@ -17,9 +17,8 @@
 //! ```
 //!
 //! It differs from `mysql_common` in what a caller sees of a packet that isn't whole. One of less than
-//! 16777215 bytes stays in `src`, with its header, and `src` has room for more of it: 32 KiB at least,
-//! for a packet that is longer up to eight times what has come. Of one of 16777215 bytes and above the
-//! codec takes what has come.
+//! 16777215 bytes stays in `src`, with its header, and `src` gets room for the rest: 32 KiB of it, or
+//! up to eight times what has come. Of one of 16777215 bytes and above the codec takes what has come.
 
 use bytes::{Buf, BufMut, BytesMut};
 use mysql_wire::{Connection, Place};
@@ -35,8 +34,8 @@ const HEADER_LEN: usize = 4;
 // How many packets are judged by one call of the library.
 const MOST_JUDGED: usize = 64;
 
-// The least room that `src` has for more where a chunk in it is cut short.
-const LEAST_ROOM: usize = 32 << 10;
+// The most room that a header alone takes for its chunk.
+const MOST_PROMISED: usize = 32 << 10;
 
 /// Makes packets of bytes, and bytes of packets, of one connection in both directions.
 #[derive(Debug)]
@@ -301,12 +300,12 @@ impl PacketCodec {
     pub fn sync_seq_id(&mut self) {}
 }
 
-/// Takes room for so many bytes that are to come. Where room is short `BytesMut` moves what it holds,
-/// which is the least now.
+/// Takes room for so many bytes that are to come, or for eight times what has come. `BytesMut` moves
+/// what it holds where room is short: now that is the least of the packet.
 fn make_room(missing: usize, src: &mut BytesMut) {
-    if missing > 0 {
-        let most = src.len().saturating_mul(8).max(LEAST_ROOM);
-        src.reserve(missing.clamp(LEAST_ROOM, most));
+    if src.capacity() - src.len() < missing {
+        let most = src.len().saturating_mul(8).max(MOST_PROMISED);
+        src.reserve(missing.min(most));
     }
 }
 
