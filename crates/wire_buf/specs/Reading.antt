@@ -1,5 +1,5 @@
 -- What is read from the front of a buffer.
-use Rattle.std.specs.Prelude.{ℕ, ◌≡◌, ◌≤◌, ◌<◌, List, length, take, drop, Option, Some, None, Result, Ok, Err, ◌⊎◌, nat_lt, if◌then◌else◌}
+use Rattle.std.specs.Prelude.{ℕ, ◌≡◌, ◌≤◌, ◌<◌, List, length, take, drop, Option, Some, None, MatchOption, Result, Ok, Err, ◌⊎◌, nat_lt, if◌then◌else◌}
 use Rattle.wire_buf.specs.declared.error.WireError.{WireError}
 use Rattle.wire_buf.specs.declared.error.WireError.TheVariants.{UnexpectedEof}
 
@@ -12,6 +12,11 @@ abbrev pub EatsIfThere : {X : Type 0} → ℕ → (List ℕ → X) → List ℕ 
 EatsIfThere count value old None new = (length old < count) × (new ≡ old)
 EatsIfThere count value old (Some answer) new = (count ≤ length old)
     × (answer ≡ value (take count old)) × (new ≡ drop count old)
+
+-- the same where the bytes themselves are handed out, as the text of the answer
+abbrev pub HandsOut : {X : Type 0} → (X → List ℕ) → ℕ → List ℕ → Option X → List ℕ → Type 0
+HandsOut text count old answer new = MatchOption answer ((length old < count) × (new ≡ old))
+    (λ front. (count ≤ length old) × (text front ≡ take count old) × (new ≡ drop count old))
 
 -- there are as many bytes as the size says, where it says a number
 abbrev pub HasBytes : Option ℕ → List ℕ → Type 0

@@ -1,6 +1,7 @@
 //! A buffer that is read from its front.
 
-ghost use Rattle.std.specs.Prelude.{◌≡◌, ◌<◌, ◌≤◌, ◌↔◌, [], length, take, drop, IsTrue, MatchOption};
+ghost use Rattle.std.specs.Prelude.{◌≡◌, ◌<◌, ◌≤◌, ◌↔◌, [], length, take, drop, IsTrue};
+ghost use Rattle.wire_buf.specs.Reading.{HandsOut};
 
 mod big_endian;
 mod lenenc;
@@ -69,11 +70,7 @@ impl<'a> ParseBuf<'a> {
 
     /// As `eat`, where the bytes are there.
     pub fn checked_eat(&mut self, count: usize) -> Option<&'a [u8]>
-        ensures { MatchOption result
-            ((length self.old.0.now < count) × (self.new.0.now ≡ self.old.0.now))
-            (λ front. (count ≤ length self.old.0.now)
-            × (front.now ≡ take count self.old.0.now)
-            × (self.new.0.now ≡ drop count self.old.0.now)) }
+        ensures { HandsOut (λ front. front.now) count self.old.0.now result self.new.0.now }
     {
         if self.len() >= count {
             Some(self.eat(count))
@@ -93,11 +90,7 @@ impl<'a> ParseBuf<'a> {
 
     /// As `eat_buf`, where the bytes are there.
     pub fn checked_eat_buf(&mut self, count: usize) -> Option<Self>
-        ensures { MatchOption result
-            ((length self.old.0.now < count) × (self.new.0.now ≡ self.old.0.now))
-            (λ front. (count ≤ length self.old.0.now)
-            × (front.0.now ≡ take count self.old.0.now)
-            × (self.new.0.now ≡ drop count self.old.0.now)) }
+        ensures { HandsOut (λ front. front.0.now) count self.old.0.now result self.new.0.now }
     {
         Some(Self(self.checked_eat(count)?))
     }
