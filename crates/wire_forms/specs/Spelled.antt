@@ -31,6 +31,10 @@ TextBehind tells old (Err error) new =
     tells old (Err error) new
     ⊎ ((len : ℕ) × tells old (Ok len) new × (length new < len) × (error ≡ UnexpectedEof))
 
+-- what is written of such a text, where the length is spelled like this
+abbrev pub text_behind : (ℕ → List ℕ) → List ℕ → List ℕ
+text_behind spell text = spell (length text) ++ text
+
 -- ---- lemmas
 
 -- what is left are the last of the bytes

@@ -18,11 +18,28 @@ abbrev pub LeavesRest : {X : Type 0} → (X → Type 0) → Type 0 → List ℕ 
 LeavesRest kept takes_memory rest (Ok value) new = kept value × (new ≡ rest)
 LeavesRest kept takes_memory rest (Err error) new = (error ≡ OutOfMemory) × takes_memory
 
+-- The same of each buffer that begins with the written bytes, whatever stands behind them.
+abbrev pub ComesBackFrom : {X : Type 0} → List ℕ → (X → Type 0) → Type 0 → List ℕ
+    → Result X WireError → List ℕ → Type 0
+ComesBackFrom bytes kept takes_memory old answer new =
+    (rest : List ℕ) → old ≡ bytes ++ rest → LeavesRest kept takes_memory rest answer new
+
+-- And of one that holds nothing else, where reading takes no memory.
+abbrev pub ComesBackAlone : {X : Type 0} → List ℕ → (X → Type 0) → List ℕ → Result X WireError
+    → List ℕ → Type 0
+ComesBackAlone bytes kept old answer new =
+    old ≡ bytes ++ [] → LeavesRest kept ⊥ [] answer new
+
 -- What a reader sees of the bytes behind a value, where `parse` calls it: nothing, if its type has
 -- a size.
 abbrev pub seen : Option ℕ → List ℕ → List ℕ
 seen None rest = rest
 seen (Some size) rest = []
+
+-- a value is good under the context before the rest, of which a reader sees so much
+abbrev pub GoodBefore : {C X : Type 0} → Option ℕ → (C → X → List ℕ → Type 0) → List ℕ → C → X
+    → Type 0
+GoodBefore size good rest ctx value = good ctx value (seen size rest)
 
 -- the first count bytes are eaten, and the answer is their value
 abbrev pub ReadsFixed : {X : Type 0} → ℕ → (List ℕ → X) → List ℕ → Result X WireError → ℕ → Type 0

@@ -1,10 +1,16 @@
 -- Signed numbers that fit their bytes are read back.
-use Rattle.std.proofs.Common.{ℕ, suc, ◌≡◌, ◌≤◌, ◌<◌, ◌+◌, ◌-◌, ◌*◌, ◌^◌, refl, arith, ℤ, pos, negsuc, ◌-ℤ◌}
-use Rattle.std.specs.Int.{w8, w16, w32, w64, cast_unsigned}
+use Rattle.std.proofs.Common.{ℕ, List, suc, ◌≡◌, ◌≤◌, ◌<◌, ◌+◌, ◌-◌, ◌*◌, ◌^◌, refl, arith, ℤ, pos, negsuc, ◌-ℤ◌}
+use Rattle.std.specs.Int.{Width, w8, w16, w32, w64, cast_unsigned}
 use Rattle.std.specs.Int.RustNames.{FitsSigned}
 use Rattle.std.proofs.lemmas.Bool.{lt-ltb, le-ltb}
 use Rattle.std.proofs.lemmas.Int.{ints}
-use Rattle.wire_buf.specs.Numbers.{signed_number}
+use Rattle.wire_buf.specs.Numbers.{le_bytes, signed_number}
+
+-- the low bytes of a number in two's complement
+abbrev pub signed_bytes : ℕ → Width → ℤ → List ℕ
+signed_bytes count width z = le_bytes count (cast_unsigned width z)
+
+-- ---- lemmas
 
 less : (a b n : ℕ) → a + suc n ≡ b → pos a -ℤ pos b ≡ negsuc n
 less a b n e = omega (arith, ints)

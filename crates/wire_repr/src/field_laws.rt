@@ -7,7 +7,7 @@
 ghost use Rattle.std.specs.Prelude.{◌≡◌, List, ℕ, ◌++◌};
 ghost use Rattle.std.specs.Cow.{cow_slice_items};
 ghost use Rattle.wire_buf.specs.Reading.{Reads, Parses, Through};
-ghost use Rattle.wire_repr.specs.Law.{LeavesRest, seen};
+ghost use Rattle.wire_repr.specs.Law.{ComesBackFrom, LeavesRest, seen};
 ghost use Rattle.wire_repr.specs.Texts.{IsBorrowedText};
 
 use crate::int::{IntRepr, RawInt};
@@ -40,9 +40,9 @@ pub fn number_back<T: IntRepr>(
 ) -> Result<RawInt<T>, WireError>
     ensures reads { Reads (Parses T.Size.SIZE (λ input. Through (λ int. int.0) (T.reads input)))
         buf.old.0.now result buf.new.0.now }
-    ensures back { (val : T.Primitive) (rest : List ℕ) → T.is_value val
-        → buf.old.0.now ≡ T.bytes val ++ rest
-        → LeavesRest (λ back. back.0 ≡ T.kept val) ⊥ rest result buf.new.0.now }
+    ensures back { (val : T.Primitive) → T.is_value val
+        → ComesBackFrom (T.bytes val) (λ back. back.0 ≡ T.kept val) ⊥ buf.old.0.now result
+        buf.new.0.now }
 {
     parse_back(alloc, (), buf)
 }

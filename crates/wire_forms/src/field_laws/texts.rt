@@ -11,9 +11,9 @@ ghost use Rattle.wire_buf.specs.Spelling.{IsFixed};
 ghost use Rattle.wire_ext.specs.Texts.{u8_max, u32_max};
 ghost use Rattle.wire_forms.specs.BareTexts.{padded};
 ghost use Rattle.wire_forms.specs.Groups.{ReadsGroups, groups_bytes};
-ghost use Rattle.wire_repr.specs.Law.{LeavesRest, ReadsFixed};
+ghost use Rattle.wire_repr.specs.Law.{ComesBackAlone, ComesBackFrom, ReadsFixed};
 ghost use Rattle.wire_forms.specs.NullTexts.{ReadsNull};
-ghost use Rattle.wire_forms.specs.Spelled.{Leaves, NumberOrEof, TextBehind};
+ghost use Rattle.wire_forms.specs.Spelled.{Leaves, NumberOrEof, TextBehind, text_behind};
 ghost use Rattle.wire_repr.specs.Texts.{IsText, IsBorrowedText, Borrows};
 
 use crate::lenenc::LenEnc;
@@ -36,9 +36,9 @@ pub fn lenenc_text<'a>(
     ensures reads { Reads (λ input.
         Borrows (λ text. text.0) (Leaves (TextBehind (NumberOrEof IsLenencOrMark 1)) input))
         buf.old.0.now result buf.new.0.now }
-    ensures back { (text rest : List ℕ) → IsText text
-        → buf.old.0.now ≡ (lenenc_bytes (length text) ++ text) ++ rest
-        → LeavesRest (λ back. IsBorrowedText back.0 text) ⊥ rest result buf.new.0.now }
+    ensures back { (text : List ℕ) → IsText text
+        → ComesBackFrom (text_behind lenenc_bytes text) (λ back. IsBorrowedText back.0 text) ⊥
+        buf.old.0.now result buf.new.0.now }
 {
     parse_back::<'a, RawBytes<'a, LenEnc>, Global>(alloc, (), buf)
 }
@@ -59,10 +59,9 @@ pub fn u8_text<'a>(
     ensures reads { Reads (λ input.
         Borrows (λ text. text.0) (Leaves (TextBehind (NumberOrEof (IsFixed 1) 0)) input))
         buf.old.0.now result buf.new.0.now }
-    ensures back { (text rest : List ℕ) → IsText text
-        → buf.old.0.now ≡ (le_bytes 1 (length (take u8_max text)) ++ take u8_max text) ++ rest
-        → LeavesRest (λ back. IsBorrowedText back.0 (take u8_max text)) ⊥ rest result
-        buf.new.0.now }
+    ensures back { (text : List ℕ) → IsText text
+        → ComesBackFrom (text_behind (le_bytes 1) (take u8_max text))
+        (λ back. IsBorrowedText back.0 (take u8_max text)) ⊥ buf.old.0.now result buf.new.0.now }
 {
     parse_back::<'a, RawBytes<'a, U8Bytes>, Global>(alloc, (), buf)
 }
@@ -83,10 +82,9 @@ pub fn u32_text<'a>(
     ensures reads { Reads (λ input.
         Borrows (λ text. text.0) (Leaves (TextBehind (NumberOrEof (IsFixed 4) 0)) input))
         buf.old.0.now result buf.new.0.now }
-    ensures back { (text rest : List ℕ) → IsText text
-        → buf.old.0.now ≡ (le_bytes 4 (length (take u32_max text)) ++ take u32_max text) ++ rest
-        → LeavesRest (λ back. IsBorrowedText back.0 (take u32_max text)) ⊥ rest result
-        buf.new.0.now }
+    ensures back { (text : List ℕ) → IsText text
+        → ComesBackFrom (text_behind (le_bytes 4) (take u32_max text))
+        (λ back. IsBorrowedText back.0 (take u32_max text)) ⊥ buf.old.0.now result buf.new.0.now }
 {
     parse_back::<'a, RawBytes<'a, U32Bytes>, Global>(alloc, (), buf)
 }
@@ -107,10 +105,9 @@ pub fn var_len_text<'a>(
     ensures reads { Reads (λ input.
         Borrows (λ text. text.0) (Leaves (TextBehind ReadsGroups) input)) buf.old.0.now result
         buf.new.0.now }
-    ensures back { (text rest : List ℕ) → IsText text
-        → buf.old.0.now ≡ (groups_bytes (length (take u32_max text)) ++ take u32_max text) ++ rest
-        → LeavesRest (λ back. IsBorrowedText back.0 (take u32_max text)) ⊥ rest result
-        buf.new.0.now }
+    ensures back { (text : List ℕ) → IsText text
+        → ComesBackFrom (text_behind groups_bytes (take u32_max text))
+        (λ back. IsBorrowedText back.0 (take u32_max text)) ⊥ buf.old.0.now result buf.new.0.now }
 {
     parse_back::<'a, RawBytes<'a, VarLen>, Global>(alloc, (), buf)
 }
@@ -130,9 +127,9 @@ pub fn null_text<'a>(
 ) -> Result<RawBytes<'a, NullBytes>, WireError>
     ensures reads { Reads (λ input. Borrows (λ text. text.0) (Leaves ReadsNull input)) buf.old.0.now
         result buf.new.0.now }
-    ensures back { (text rest : List ℕ) → IsText text
-        → buf.old.0.now ≡ (before_first is_zero text ++ 0 ∷ []) ++ rest
-        → LeavesRest (λ back. IsBorrowedText back.0 (before_first is_zero text)) ⊥ rest result
+    ensures back { (text : List ℕ) → IsText text
+        → ComesBackFrom (before_first is_zero text ++ 0 ∷ [])
+        (λ back. IsBorrowedText back.0 (before_first is_zero text)) ⊥ buf.old.0.now result
         buf.new.0.now }
 {
     parse_back::<'a, RawBytes<'a, NullBytes>, Global>(alloc, (), buf)
@@ -158,8 +155,9 @@ pub fn eof_text<'a>(
 ) -> Result<RawBytes<'a, EofBytes>, WireError>
     ensures reads { Reads (λ input. Borrows (λ text. text.0) (Answers (Ok input, length input)))
         buf.old.0.now result buf.new.0.now }
-    ensures back { (text rest : List ℕ) → IsText text → rest ≡ [] → buf.old.0.now ≡ text ++ rest
-        → LeavesRest (λ back. IsBorrowedText back.0 text) ⊥ rest result buf.new.0.now }
+    ensures back { (text : List ℕ) → IsText text
+        → ComesBackAlone text (λ back. IsBorrowedText back.0 text) buf.old.0.now result
+        buf.new.0.now }
 {
     parse_back::<'a, RawBytes<'a, EofBytes>, Global>(alloc, (), buf)
 }
@@ -179,9 +177,9 @@ pub fn bare_text<'a, const N: usize>(
 ) -> Result<RawBytes<'a, BareBytes<N>>, WireError>
     ensures reads { Reads (λ input. Borrows (λ text. text.0) (Answers (front_at count input)))
         buf.old.0.now result buf.new.0.now }
-    ensures back { (text rest : List ℕ) → IsText text → count ≡ min (length text) N
-        → buf.old.0.now ≡ take N text ++ rest
-        → LeavesRest (λ back. IsBorrowedText back.0 (take N text)) ⊥ rest result buf.new.0.now }
+    ensures back { (text : List ℕ) → IsText text → count ≡ min (length text) N
+        → ComesBackFrom (take N text) (λ back. IsBorrowedText back.0 (take N text)) ⊥ buf.old.0.now
+        result buf.new.0.now }
 {
     parse_back::<'a, RawBytes<'a, BareBytes<N>>, Global>(alloc, count, buf)
 }
@@ -207,8 +205,9 @@ pub fn fixed_length_text<'a, const N: usize>(
     ensures reads { Reads
         (Parses (Some N) (λ input. Borrows (λ text. text.0) (ReadsFixed N (λ bytes. bytes) input)))
         buf.old.0.now result buf.new.0.now }
-    ensures back { (text rest : List ℕ) → IsText text → buf.old.0.now ≡ padded N text ++ rest
-        → LeavesRest (λ back. IsBorrowedText back.0 (padded N text)) ⊥ rest result buf.new.0.now }
+    ensures back { (text : List ℕ) → IsText text
+        → ComesBackFrom (padded N text) (λ back. IsBorrowedText back.0 (padded N text)) ⊥
+        buf.old.0.now result buf.new.0.now }
 {
     parse_back::<'a, RawBytes<'a, FixedLengthText<N>>, Global>(alloc, (), buf)
 }

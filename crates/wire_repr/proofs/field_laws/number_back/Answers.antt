@@ -1,5 +1,5 @@
 use Rattle.wire_repr.proofs.field_laws.number_back.Goals as goal
 
 pub returns-clause-back : goal.returns-clause-back
-returns-clause-back g c = λ val rest is at.
+returns-clause-back g c = λ val is rest at.
     c.parse_back.ensures.back (record { 0 = val; 1 = record {} }) rest is tt at
