@@ -1,9 +1,11 @@
 -- Values that are read one after another.
 use Rattle.std.proofs.Common.{◌≡◌, ◌≤◌, ◌<◌, ℕ, zero, suc, ◌+◌, ◌-◌, ◌*◌, List, [], ◌∷◌, ◌++◌, length, take, drop, refl, sym, ap, ◌∙◌, arith, Result, Option, Some, None, Ok, Err, inl, inr, ◌⊎◌, subst}
 use Rattle.std.proofs.lemmas.List.{drop_at, drop-drop, length-drop, length-append, append-nil, append_assoc}
-use Rattle.std.specs.List.{flat_map}
+use Rattle.std.specs.Cow.{cow_slice_items}
+use Rattle.std.specs.declared.borrow.CowSlice.{CowSlice}
+use Rattle.std.specs.List.{flat_map, All}
 use Rattle.wire_buf.specs.Reading.{Reads}
-use Rattle.wire_repr.specs.Law.{ComesBack}
+use Rattle.wire_repr.specs.Law.{ComesBack, seen}
 use Rattle.wire_buf.specs.declared.error.WireError.{WireError}
 use Rattle.wire_buf.specs.declared.error.WireError.TheVariants.{UnexpectedEof, OutOfMemory}
 
@@ -161,6 +163,11 @@ abbrev pub AllKept : {X : Type 0} → (X → X → Type 0) → List X → List X
 AllKept kept [] [] = Unit {0}
 AllKept kept (value ∷ others) (back ∷ backs) = kept value back × AllKept kept others backs
 AllKept kept others backs = ⊥
+
+-- each value is good whatever stands behind it
+abbrev pub AllGood : {X Z : Type 0} → Option ℕ → (X → List ℕ → Type 0) → CowSlice X Z → Type 0
+AllGood size good list =
+    All (λ value. (rest : List ℕ) → good value (seen size rest)) (cow_slice_items list)
 
 -- an answer with a value in front of it
 in_front : {X : Type 0} (kept : X → X → Type 0) (value back : X) (others : List X)

@@ -1,3 +1,4 @@
 pub mod Copies
 pub mod Elements
+pub mod Numbers
 pub mod Counted

@@ -1,15 +1,13 @@
 //! Lists come back, where each value does.
 
-ghost use Rattle.std.specs.Prelude.{◌≡◌, ◌<◌, ◌≤◌, ◌^◌, ℕ, List, ◌++◌, length, Ok};
+ghost use Rattle.std.specs.Prelude.{◌≡◌, ◌<◌, ◌≤◌, ◌^◌, ℕ, List, length, Ok};
 ghost use Rattle.std.specs.Cow.{cow_slice_items};
-ghost use Rattle.std.specs.List.{flat_map, All};
-ghost use Rattle.wire_buf.specs.Numbers.{le_bytes};
-ghost use Rattle.wire_buf.specs.Reading.{Reads, Parses, Answers, Through, front_at};
+ghost use Rattle.wire_buf.specs.Reading.{Reads, Answers, front_at};
 ghost use Rattle.wire_list.specs.Counted.{ReadsCounted, count_at};
-ghost use Rattle.wire_list.specs.Elements.{AllKept, ReadsAll};
-ghost use Rattle.wire_repr.specs.Law.{LeavesRest, seen};
+ghost use Rattle.wire_list.specs.Elements.{AllGood, AllKept};
+ghost use Rattle.wire_list.specs.Numbers.{AreNumbers, NumbersFrom, ReadsNumbers, counted_bytes, numbers_bytes};
+ghost use Rattle.wire_repr.specs.Law.{ComesBackFrom};
 ghost use Rattle.wire_repr.specs.Texts.{IsBorrowedText, Borrows};
-ghost use Rattle.wire_repr.specs.declared.int.RawInt.{RawInt};
 
 use crate::raw_seq::RawSeq;
 use crate::seq::{Seq, Unknown};
@@ -25,17 +23,12 @@ pub fn seq_u32<'de, T: IntRepr>(
     alloc: Global,
     buf: &mut ParseBuf<'de>,
 ) -> Result<Seq<'de, RawInt<T>, LeU32>, WireError>
-    ensures reads { Reads (λ input. ReadsCounted (λ seq. seq.0) (count_at 4 input)
-        (ReadsAll T.Size.SIZE
-        (Parses T.Size.SIZE (λ input. Through (λ int. int.0) (T.reads input)))) input)
+    ensures reads { Reads
+        (λ input. ReadsCounted (λ seq. seq.0) (count_at 4 input) (ReadsNumbers T.Size.SIZE T.reads) input)
         buf.old.0.now result buf.new.0.now }
-    ensures back { (values : List (RawInt T T.Primitive T.Size)) (rest : List ℕ)
-        → length values ≤ 4294967295
-        → All (λ int. T.is_value int.0) values
-        → buf.old.0.now
-        ≡ (le_bytes 4 (length values) ++ flat_map (λ int. T.bytes int.0) values) ++ rest
-        → LeavesRest (λ back. AllKept (λ int back. back.0 ≡ T.kept int.0) values
-        (cow_slice_items back.0)) (Unit {0}) rest result buf.new.0.now }
+    ensures back { (ints : List _) → length ints ≤ 4294967295 → AreNumbers T.is_value ints
+        → NumbersFrom (counted_bytes 4 T.bytes ints) T.kept ints buf.old.0.now result
+        buf.new.0.now }
 {
     parse_back::<'de, Seq<'de, RawInt<T>, LeU32>, Global>(alloc, (), buf)
 }
@@ -48,8 +41,7 @@ pub fn seq_u32_comes_back<'de, T: Clone + Wire<'de, A, Ctx = ()>, A: Allocator +
     _back: &Seq<'de, T, LeU32, A>,
 )
     ensures good { (rest : List ℕ) → length (cow_slice_items _seq.now.0) ≤ 4294967295
-        → All (λ value. (rest : List ℕ) → T.good tt value (seen T.Size.SIZE rest))
-        (cow_slice_items _seq.now.0)
+        → AllGood T.Size.SIZE (T.good tt) _seq.now.0
         → ⟦<Seq<'de, T, LeU32, A> as Wire<'de, A>>⟧.good _ctx _seq.now rest }
     ensures kept { ⟦<Seq<'de, T, LeU32, A> as Wire<'de, A>>⟧.kept _seq.now _back.now
         → AllKept T.kept (cow_slice_items _seq.now.0) (cow_slice_items _back.now.0) }
@@ -60,17 +52,12 @@ pub fn seq_u64<'de, T: IntRepr>(
     alloc: Global,
     buf: &mut ParseBuf<'de>,
 ) -> Result<Seq<'de, RawInt<T>, LeU64>, WireError>
-    ensures reads { Reads (λ input. ReadsCounted (λ seq. seq.0) (count_at 8 input)
-        (ReadsAll T.Size.SIZE
-        (Parses T.Size.SIZE (λ input. Through (λ int. int.0) (T.reads input)))) input)
+    ensures reads { Reads
+        (λ input. ReadsCounted (λ seq. seq.0) (count_at 8 input) (ReadsNumbers T.Size.SIZE T.reads) input)
         buf.old.0.now result buf.new.0.now }
-    ensures back { (values : List (RawInt T T.Primitive T.Size)) (rest : List ℕ)
-        → length values < 2 ^ 64
-        → All (λ int. T.is_value int.0) values
-        → buf.old.0.now
-        ≡ (le_bytes 8 (length values) ++ flat_map (λ int. T.bytes int.0) values) ++ rest
-        → LeavesRest (λ back. AllKept (λ int back. back.0 ≡ T.kept int.0) values
-        (cow_slice_items back.0)) (Unit {0}) rest result buf.new.0.now }
+    ensures back { (ints : List _) → length ints < 2 ^ 64 → AreNumbers T.is_value ints
+        → NumbersFrom (counted_bytes 8 T.bytes ints) T.kept ints buf.old.0.now result
+        buf.new.0.now }
 {
     parse_back::<'de, Seq<'de, RawInt<T>, LeU64>, Global>(alloc, (), buf)
 }
@@ -82,8 +69,7 @@ pub fn seq_u64_comes_back<'de, T: Clone + Wire<'de, A, Ctx = ()>, A: Allocator +
     _seq: &Seq<'de, T, LeU64, A>,
     _back: &Seq<'de, T, LeU64, A>,
 )
-    ensures good { (rest : List ℕ) → All (λ value. (rest : List ℕ) → T.good tt value (seen T.Size.SIZE rest))
-        (cow_slice_items _seq.now.0)
+    ensures good { (rest : List ℕ) → AllGood T.Size.SIZE (T.good tt) _seq.now.0
         → ⟦<Seq<'de, T, LeU64, A> as Wire<'de, A>>⟧.good _ctx _seq.now rest }
     ensures kept { ⟦<Seq<'de, T, LeU64, A> as Wire<'de, A>>⟧.kept _seq.now _back.now
         → AllKept T.kept (cow_slice_items _seq.now.0) (cow_slice_items _back.now.0) }
@@ -95,17 +81,12 @@ pub fn seq_unknown<'de, T: IntRepr>(
     count: usize,
     buf: &mut ParseBuf<'de>,
 ) -> Result<Seq<'de, RawInt<T>, Unknown>, WireError>
-    ensures reads { Reads (λ input. ReadsCounted (λ seq. seq.0) (Ok count, 0)
-        (ReadsAll T.Size.SIZE
-        (Parses T.Size.SIZE (λ input. Through (λ int. int.0) (T.reads input)))) input)
+    ensures reads { Reads
+        (λ input. ReadsCounted (λ seq. seq.0) (Ok count, 0) (ReadsNumbers T.Size.SIZE T.reads) input)
         buf.old.0.now result buf.new.0.now }
-    ensures back { (values : List (RawInt T T.Primitive T.Size)) (rest : List ℕ)
-        → count ≡ length values
-        → length values < 2 ^ 64
-        → All (λ int. T.is_value int.0) values
-        → buf.old.0.now ≡ flat_map (λ int. T.bytes int.0) values ++ rest
-        → LeavesRest (λ back. AllKept (λ int back. back.0 ≡ T.kept int.0) values
-        (cow_slice_items back.0)) (Unit {0}) rest result buf.new.0.now }
+    ensures back { (ints : List _) → count ≡ length ints → length ints < 2 ^ 64
+        → AreNumbers T.is_value ints
+        → NumbersFrom (numbers_bytes T.bytes ints) T.kept ints buf.old.0.now result buf.new.0.now }
 {
     parse_back::<'de, Seq<'de, RawInt<T>, Unknown>, Global>(alloc, count, buf)
 }
@@ -118,8 +99,7 @@ pub fn seq_unknown_comes_back<'de, T: Clone + Wire<'de, A, Ctx = ()>, A: Allocat
     _back: &Seq<'de, T, Unknown, A>,
 )
     ensures good { (rest : List ℕ) → _ctx ≡ length (cow_slice_items _seq.now.0)
-        → All (λ value. (rest : List ℕ) → T.good tt value (seen T.Size.SIZE rest))
-        (cow_slice_items _seq.now.0)
+        → AllGood T.Size.SIZE (T.good tt) _seq.now.0
         → ⟦<Seq<'de, T, Unknown, A> as Wire<'de, A>>⟧.good _ctx _seq.now rest }
     ensures kept { ⟦<Seq<'de, T, Unknown, A> as Wire<'de, A>>⟧.kept _seq.now _back.now
         → AllKept T.kept (cow_slice_items _seq.now.0) (cow_slice_items _back.now.0) }
@@ -133,9 +113,9 @@ pub fn raw_seq<'a>(
 ) -> Result<RawSeq<'a, u8, ()>, WireError>
     ensures reads { Reads (λ input. Borrows (λ seq. seq.0) (Answers (front_at count input)))
         buf.old.0.now result buf.new.0.now }
-    ensures back { (numbers rest : List ℕ) → count ≡ length numbers
-        → buf.old.0.now ≡ numbers ++ rest
-        → LeavesRest (λ back. IsBorrowedText back.0 numbers) ⊥ rest result buf.new.0.now }
+    ensures back { (numbers : List ℕ) → count ≡ length numbers
+        → ComesBackFrom numbers (λ back. IsBorrowedText back.0 numbers) ⊥ buf.old.0.now result
+        buf.new.0.now }
 {
     parse_back::<'a, RawSeq<'a, u8, ()>, Global>(alloc, count, buf)
 }

@@ -6,7 +6,7 @@ use Rattle.wire_list.proofs.field_laws.lists.seq_u32.Goals as goal
 
 pub returns-clause-back : goal.returns-clause-back
 returns-clause-back g c =
-    λ values rest is_few is at. (
+    λ values is_few is rest at. (
     let fits : length values < 2 ^ 64 = omega arith in
     let few : length values ≤ 4294967295 = is_few in
     let whole = whole-list 4294967295 (le_bytes 4) (λ int. g.T.IntRepr.bytes int.0) values few in

@@ -6,7 +6,7 @@ use Rattle.wire_list.proofs.field_laws.lists.seq_u64.Goals as goal
 
 pub returns-clause-back : goal.returns-clause-back
 returns-clause-back g c =
-    λ values rest fits is at. (
+    λ values fits is rest at. (
     let few : length values ≤ 0xffff_ffff_ffff_ffff = omega arith in
     let whole = whole-list 0xffff_ffff_ffff_ffff (le_bytes 8)
     (λ int. g.T.IntRepr.bytes int.0) values few in
