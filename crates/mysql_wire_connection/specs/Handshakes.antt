@@ -3,14 +3,28 @@ use Rattle.std.specs.Prelude.{ℕ, ◌≡◌, ◌<◌, ◌^◌, ◌-◌, ◌*◌
 use Rattle.std.proofs.Common.{arith}
 use Rattle.std.specs.Cow.{cow_slice_items}
 use Rattle.std.specs.List.{before_first}
+use Rattle.wire_const.specs.declared.flag_sets.capability.CapabilityFlags.{CapabilityFlags}
+use Rattle.wire_field.specs.declared.converted.RawFlags.{RawFlags}
+use Rattle.wire_field.specs.declared.row.Both.{Both}
 use Rattle.wire_field.specs.declared.row.Either.{Either}
+use Rattle.wire_forms.specs.declared.halves.LeU32LowerHalf.{LeU32LowerHalf}
+use Rattle.wire_forms.specs.declared.halves.LeU32UpperHalf.{LeU32UpperHalf}
+use Rattle.wire_forms.specs.declared.null.NullBytes.{NullBytes}
 use Rattle.wire_buf.specs.NullText.{is_zero}
 use Rattle.wire_field.specs.Rows.{by_side}
 use Rattle.wire_buf.specs.Numbers.{le_number, le_bytes}
 use Rattle.wire_buf.specs.NumberLemmas.{le_number-le_bytes_fits}
+use Rattle.mysql_wire_packets.specs.Fields.{Constant, Text}
 use Rattle.mysql_wire_packets.specs.NullTexts.{clean}
 use Rattle.mysql_wire_packets.specs.Optional.{bytes_if, has, side}
 use Rattle.mysql_wire_connection.specs.declared.handshake.HandshakeV10.{HandshakeV10}
+
+-- the halves of the capabilities
+abbrev pub Lower : Type 0
+Lower = RawFlags CapabilityFlags LeU32LowerHalf ℕ
+
+abbrev pub Upper : Type 0
+Upper = RawFlags CapabilityFlags LeU32UpperHalf ℕ
 
 -- how many bytes the second part of the authentication data has, where both have so many
 abbrev pub part_2_length : ℕ → ℕ
@@ -23,6 +37,39 @@ head_bytes h = 0x0a ∷ ((clean h.server_version.0 ++ 0 ∷ []) ++ (le_bytes 4 h
     ++ h.character_set ∷ (le_bytes 2 h.status_flags.0
     ++ (le_bytes 2 (h.capability_flags_2.0 / 65536)
     ++ h.auth_plugin_data_len ∷ (h.reserved ++ le_bytes 4 h.mariadb_capabilities.0)))))))
+
+-- its fields up to there, in order
+abbrev pub head_fields : HandshakeV10
+    → Both (Constant 0x0a) (Both (Text NullBytes) (Both ℕ (Both (List ℕ) (Both ℕ (Both Lower (Both ℕ (Both ℕ
+    (Both Upper (Both ℕ (Both (List ℕ) ℕ))))))))))
+head_fields h = (
+  _,
+  (
+    h.server_version,
+    (
+      h.thread_id,
+      (
+        h.auth_plugin_data_part_1,
+        (
+          h.filler,
+          (
+            h.capability_flags_1,
+            (
+              h.character_set,
+              (
+                h.status_flags.0,
+                (
+                  h.capability_flags_2,
+                  (h.auth_plugin_data_len, (h.reserved, h.mariadb_capabilities.0)),
+                ),
+              ),
+            ),
+          ),
+        ),
+      ),
+    ),
+  ),
+)
 
 -- and behind it: the second part, and the plugin's name
 abbrev pub tail_bytes : HandshakeV10 → List ℕ

@@ -1,10 +1,8 @@
 //! What a server may send while a client authenticates itself.
 
-ghost use Rattle.std.specs.Prelude.{◌≡◌, ◌≢◌, ◌∷◌, [], take, Err};
-ghost use Rattle.wire_const.specs.FlagSets.{capability_flags_bits};
-ghost use Rattle.wire_buf.specs.declared.error.WireError.TheVariants.{UnexpectedEof};
-ghost use Rattle.mysql_wire_packets.specs.Oks.{form_of};
-ghost use Rattle.mysql_wire_packets.specs.Places.{IsOther, ReadsWhole, Wraps};
+ghost use Rattle.std.specs.Prelude.{◌∷◌, []};
+ghost use Rattle.mysql_wire_packets.specs.Oks.{ok_form};
+ghost use Rattle.mysql_wire_packets.specs.Places.{BeginsWith, IsOther, ReadsAs};
 ghost use Rattle.mysql_wire_connection.specs.declared.auth_answer.AuthAnswer.TheVariants.{Done, Failed, Switch, MoreData};
 
 use crate::auth_more_data::AuthMoreData;
@@ -39,18 +37,17 @@ impl<'a> AuthAnswer<'a> {
         capabilities: CapabilityFlags,
         payload: &'a [u8],
     ) -> Result<AuthAnswer<'a>, PayloadError>
-        ensures done { take 1 payload.entry.now ≡ 0x00 ∷ [] → Wraps Done
-            (ReadsWhole (⟦<OkPacket<'a> as MyDeserialize<'a, Global>>⟧.reads (form_of (capability_flags_bits capabilities)))
-            payload.entry.now) result }
-        ensures failed { take 1 payload.entry.now ≡ 0xff ∷ [] → Wraps Failed
-            (ReadsWhole (⟦<ErrPacket<'a> as MyDeserialize<'a, Global>>⟧.reads capabilities)
-            payload.entry.now) result }
-        ensures switch { take 1 payload.entry.now ≡ 0xfe ∷ [] → Wraps Switch
-            (ReadsWhole (⟦<AuthSwitchRequest<'a> as MyDeserialize<'a, Global>>⟧.reads tt)
-            payload.entry.now) result }
-        ensures more { take 1 payload.entry.now ≡ 0x01 ∷ [] → Wraps MoreData
-            (ReadsWhole (⟦<AuthMoreData<'a> as MyDeserialize<'a, Global>>⟧.reads tt)
-            payload.entry.now) result }
+        ensures done { BeginsWith 0x00 payload.entry.now → ReadsAs Done
+            (⟦<OkPacket<'a> as MyDeserialize<'a, Global>>⟧.reads (ok_form capabilities))
+            payload.entry.now result }
+        ensures failed { BeginsWith 0xff payload.entry.now → ReadsAs Failed
+            (⟦<ErrPacket<'a> as MyDeserialize<'a, Global>>⟧.reads capabilities)
+            payload.entry.now result }
+        ensures switch { BeginsWith 0xfe payload.entry.now → ReadsAs Switch
+            (⟦<AuthSwitchRequest<'a> as MyDeserialize<'a, Global>>⟧.reads tt)
+            payload.entry.now result }
+        ensures more { BeginsWith 0x01 payload.entry.now → ReadsAs MoreData
+            (⟦<AuthMoreData<'a> as MyDeserialize<'a, Global>>⟧.reads tt) payload.entry.now result }
         ensures other { IsOther (0x00 ∷ 0xff ∷ 0xfe ∷ 0x01 ∷ []) payload.entry.now result }
     {
         match payload.first() {

@@ -1,8 +1,7 @@
 //! What may begin a connection.
 
-ghost use Rattle.std.specs.Prelude.{◌≡◌, ◌≢◌, ◌∷◌, [], take, length};
-ghost use Rattle.wire_const.specs.FlagSets.{capability_flags_bits};
-ghost use Rattle.mysql_wire_packets.specs.Places.{IsOther, ReadsWhole, Wraps};
+ghost use Rattle.std.specs.Prelude.{◌≡◌, ◌≢◌, ◌∷◌, [], length};
+ghost use Rattle.mysql_wire_packets.specs.Places.{BeginsWith, IsOther, ReadsAs, ReadsUnderNone};
 ghost use Rattle.mysql_wire_connection.specs.declared.first_packet.ServerFirst.TheVariants.{Greeting, Failed};
 ghost use Rattle.mysql_wire_connection.specs.declared.first_packet.ClientFirst.TheVariants.{Tls, Login};
 
@@ -29,13 +28,10 @@ pub enum ServerFirst<'a> {
 impl<'a> ServerFirst<'a> {
     /// Reads the first payload of a server: `0a` begins a greeting, `ff` an error.
     pub fn read(alloc: Global, payload: &'a [u8]) -> Result<ServerFirst<'a>, PayloadError>
-        ensures greeting { take 1 payload.entry.now ≡ 0x0a ∷ [] → Wraps Greeting
-            (ReadsWhole (⟦<HandshakeV10<'a> as MyDeserialize<'a, Global>>⟧.reads tt)
-            payload.entry.now) result }
-        ensures failed { take 1 payload.entry.now ≡ 0xff ∷ [] → (none : CapabilityFlags)
-            × (capability_flags_bits none ≡ 0) × Wraps Failed
-            (ReadsWhole (⟦<ErrPacket<'a> as MyDeserialize<'a, Global>>⟧.reads none)
-            payload.entry.now) result }
+        ensures greeting { BeginsWith 0x0a payload.entry.now → ReadsAs Greeting
+            (⟦<HandshakeV10<'a> as MyDeserialize<'a, Global>>⟧.reads tt) payload.entry.now result }
+        ensures failed { BeginsWith 0xff payload.entry.now → ReadsUnderNone Failed
+            ⟦<ErrPacket<'a> as MyDeserialize<'a, Global>>⟧.reads payload.entry.now result }
         ensures other { IsOther (0x0a ∷ 0xff ∷ []) payload.entry.now result }
     {
         match payload.first() {
@@ -62,12 +58,11 @@ pub enum ClientFirst<'a> {
 impl<'a> ClientFirst<'a> {
     /// Reads the first payload of a client: of 32 bytes it asks for TLS, and any other is a login.
     pub fn read(alloc: Global, payload: &'a [u8]) -> Result<ClientFirst<'a>, PayloadError>
-        ensures tls { length payload.entry.now ≡ 32 → Wraps Tls
-            (ReadsWhole (⟦<SslRequest as MyDeserialize<'a, Global>>⟧.reads tt)
-            payload.entry.now) result }
-        ensures login { length payload.entry.now ≢ 32 → Wraps Login
-            (ReadsWhole (⟦<HandshakeResponse41<'a> as MyDeserialize<'a, Global>>⟧.reads tt)
-            payload.entry.now) result }
+        ensures tls { length payload.entry.now ≡ 32 → ReadsAs Tls
+            (⟦<SslRequest as MyDeserialize<'a, Global>>⟧.reads tt) payload.entry.now result }
+        ensures login { length payload.entry.now ≢ 32 → ReadsAs Login
+            (⟦<HandshakeResponse41<'a> as MyDeserialize<'a, Global>>⟧.reads tt)
+            payload.entry.now result }
     {
         if payload.len() == 32 {
             match read_whole::<SslRequest>(alloc, (), payload) {

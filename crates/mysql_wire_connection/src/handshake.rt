@@ -11,7 +11,7 @@ ghost use Rattle.mysql_wire_packets.specs.InOrder.{both, const_u8, byte, number,
 ghost use Rattle.mysql_wire_packets.specs.NullTexts.{clean, null_text};
 ghost use Rattle.mysql_wire_packets.specs.Optional.{BothIf, IsSide, IsThere, OnIf, field, has, KeptField, kept_field, one_of, optional, side};
 ghost use Rattle.mysql_wire_packets.specs.Then.{ReadsThen, then_back};
-ghost use Rattle.mysql_wire_connection.specs.Handshakes.{has_zero, is_closed, part_2_length, head_bytes, tail_at, tail_bytes, upper_half, upper_half-back};
+ghost use Rattle.mysql_wire_connection.specs.Handshakes.{has_zero, is_closed, part_2_length, head_bytes, head_fields, tail_at, tail_bytes, upper_half, upper_half-back};
 ghost use Rattle.mysql_wire_packets.specs.Oks.{at_input};
 ghost use Rattle.wire_field.specs.Rows.{OnSide, SameSide, by_side};
 ghost use Rattle.std.proofs.Common.{subst};
@@ -96,37 +96,7 @@ impl HandshakeV10<'_> {
 
 // A handshake of its fields.
 fn of_fields<'a>(head: Head<'a>, tail: Tail<'a>) -> HandshakeV10<'a>
-    ensures head { (
-      _,
-      (
-        result.server_version,
-        (
-          result.thread_id,
-          (
-            result.auth_plugin_data_part_1,
-            (
-              result.filler,
-              (
-                result.capability_flags_1,
-                (
-                  result.character_set,
-                  (
-                    result.status_flags.0,
-                    (
-                      result.capability_flags_2,
-                      (
-                        result.auth_plugin_data_len,
-                        (result.reserved, result.mariadb_capabilities.0),
-                      ),
-                    ),
-                  ),
-                ),
-              ),
-            ),
-          ),
-        ),
-      ),
-    ) ≡ head.entry }
+    ensures head { head_fields result ≡ head.entry }
     ensures tail { (result.auth_plugin_data_part_2, field (λ name. name) _ result.auth_plugin_name)
         ≡ tail.entry }
 {
@@ -212,37 +182,7 @@ impl<'de> MyDeserialize<'de, Global> for HandshakeV10<'de> {
     type Ctx = ();
 
     ghost reads = { λ _. ReadsThen
-        (λ h. (
-          _,
-          (
-            h.server_version,
-            (
-              h.thread_id,
-              (
-                h.auth_plugin_data_part_1,
-                (
-                  h.filler,
-                  (
-                    h.capability_flags_1,
-                    (
-                      h.character_set,
-                      (
-                        h.status_flags.0,
-                        (
-                          h.capability_flags_2,
-                          (
-                            h.auth_plugin_data_len,
-                            (h.reserved, h.mariadb_capabilities.0),
-                          ),
-                        ),
-                      ),
-                    ),
-                  ),
-                ),
-              ),
-            ),
-          ),
-        ))
+        head_fields
         (λ h. (h.auth_plugin_data_part_2, field (λ name. name) _ h.auth_plugin_name))
         (⟦<Head<'de> as MyDeserialize<'de, Global>>⟧.reads
         (tt, (tt, (tt, (tt, (tt, (tt, (tt, (tt, (tt, (tt, (tt, tt))))))))))))

@@ -5,11 +5,11 @@ ghost use Rattle.std.proofs.Common.{subst};
 ghost use Rattle.std.specs.Cow.{cow_slice_items};
 ghost use Rattle.wire_buf.specs.Reading.{Parses};
 ghost use Rattle.wire_repr.specs.Texts.{IsText, IsBorrowedText};
-ghost use Rattle.wire_field.specs.Rows.{OnSide, SameSide, by_side};
+ghost use Rattle.wire_field.specs.Rows.{OnSide, SameSide};
 ghost use Rattle.mysql_wire_packets.specs.InOrder.{both, array, byte, number, lenenc_text, u8_text, text_bytes, u8_text_bytes, u8_cut};
 ghost use Rattle.mysql_wire_packets.specs.NullTexts.{clean, null_text};
-ghost use Rattle.mysql_wire_packets.specs.Optional.{BothIf, bytes_if, IsSide, IsThere, OnIf, field, has, KeptField, kept_field, one_of, optional, side};
-ghost use Rattle.mysql_wire_connection.specs.Responses.{answer_bytes, client_bytes};
+ghost use Rattle.mysql_wire_packets.specs.Optional.{BothIf, IsSide, IsThere, OnIf, has, KeptField, kept_field, one_of, optional, side};
+ghost use Rattle.mysql_wire_connection.specs.Responses.{answer_bytes, answer_fields, client_bytes, client_fields};
 ghost use Rattle.mysql_wire_packets.specs.Then.{ReadsThen, then_back};
 
 use mysql_wire_packets::lent::{Lent, LentIf};
@@ -79,29 +79,8 @@ pub struct HandshakeResponse41<'a> {
 
 // An answer of its fields.
 fn of_fields<'a>(client: Client<'a>, answer: Answer<'a>) -> HandshakeResponse41<'a>
-    ensures client { (
-      result.client_flag.0,
-      (
-        result.max_packet_size,
-        (
-          result.character_set,
-          ((result.filler, result.mariadb_capabilities.0), result.username),
-        ),
-      ),
-    ) ≡ client.entry }
-    ensures answer { (
-      result.auth_response,
-      (
-        field (λ name. name) _ result.database,
-        (
-          field (λ name. name) _ result.client_plugin_name,
-          (
-            field (λ attrs. attrs) _ result.connect_attrs,
-            field (λ level. level) _ result.zstd_compression_level,
-          ),
-        ),
-      ),
-    ) ≡ answer.entry }
+    ensures client { client_fields result ≡ client.entry }
+    ensures answer { answer_fields result ≡ answer.entry }
 {
     let Both(client_flag, Both(max_packet_size, Both(character_set, user))) = client;
     let Both(reserved, username) = user;
@@ -151,26 +130,7 @@ impl<'de> MyDeserialize<'de, Global> for HandshakeResponse41<'de> {
     type Ctx = ();
 
     ghost reads = { λ _. ReadsThen
-        (λ h. (
-          h.client_flag.0,
-          (
-            h.max_packet_size,
-            (h.character_set, ((h.filler, h.mariadb_capabilities.0), h.username)),
-          ),
-        ))
-        (λ h. (
-          h.auth_response,
-          (
-            field (λ name. name) _ h.database,
-            (
-              field (λ name. name) _ h.client_plugin_name,
-              (
-                field (λ attrs. attrs) _ h.connect_attrs,
-                field (λ level. level) _ h.zstd_compression_level,
-              ),
-            ),
-          ),
-        ))
+        client_fields answer_fields
         (⟦<Client<'de> as MyDeserialize<'de, Global>>⟧.reads (tt, (tt, (tt, ((tt, tt), tt)))))
         (λ client. ⟦<Answer<'de> as MyDeserialize<'de, Global>>⟧.reads (
           side tt (has client.0 0x200000),

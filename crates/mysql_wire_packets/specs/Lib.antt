@@ -1,4 +1,5 @@
 pub mod Again
+pub mod Fields
 pub mod InOrder
 pub mod More
 pub mod NullTexts

@@ -1,5 +1,7 @@
 -- What stands behind the warnings of an OK packet.
 use Rattle.std.specs.Prelude.{ℕ, ◌≡◌, Bool, true, false, List, [], ◌∷◌, ◌++◌, if◌then◌else◌, Option, None, Result}
+use Rattle.wire_const.specs.FlagSets.{capability_flags_bits}
+use Rattle.wire_const.specs.declared.flag_sets.capability.CapabilityFlags.{CapabilityFlags}
 use Rattle.wire_buf.specs.Lenenc.{lenenc_bytes}
 use Rattle.wire_buf.specs.Numbers.{le_bytes}
 use Rattle.wire_field.specs.declared.row.Either.{Either}
@@ -21,6 +23,9 @@ is_more (byte ∷ bytes) = true
 -- the form that servers use under the capabilities
 abbrev pub form_of : ℕ → InfoForm
 form_of capabilities = if has capabilities 0x800000 then SessionTrack else LengthEncoded
+
+abbrev pub ok_form : CapabilityFlags → InfoForm
+ok_form capabilities = form_of (capability_flags_bits capabilities)
 
 -- the info stands behind its length
 abbrev pub is_lenenc : InfoForm → Bool

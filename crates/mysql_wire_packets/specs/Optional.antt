@@ -1,6 +1,8 @@
 -- Fields that capabilities decide on.
 use Rattle.std.specs.Prelude.{ℕ, ◌≡◌, ◌==◌, Bool, true, false, bit_and, List, [], ◌++◌, length, Option, Some, None, Result, Ok, Err}
 use Rattle.std.proofs.Common.{refl}
+use Rattle.wire_const.specs.FlagSets.{capability_flags_bits}
+use Rattle.wire_const.specs.declared.flag_sets.capability.CapabilityFlags.{CapabilityFlags}
 use Rattle.wire_buf.specs.declared.error.WireError.{WireError}
 use Rattle.wire_repr.specs.Law.{ComesBack}
 use Rattle.wire_buf.specs.Reading.{Parses}
@@ -13,6 +15,14 @@ use Rattle.mysql_wire_packets.specs.InOrder.{Back, skip}
 -- the flag is among the flags
 abbrev pub has : ℕ → ℕ → Bool
 has flags flag = bit_and flags flag == flag
+
+-- queries have attributes
+abbrev pub has_query_attributes : CapabilityFlags → Bool
+has_query_attributes capabilities = has (capability_flags_bits capabilities) 0x8000000
+
+-- an OK stands in the place of an EOF
+abbrev pub deprecates_eof : CapabilityFlags → Bool
+deprecates_eof capabilities = has (capability_flags_bits capabilities) 0x1000000
 
 -- the context of a field that is there, and of one that isn't
 abbrev pub side : {C : Type 0} → C → Bool → Either C (Unit {0})

@@ -1,5 +1,7 @@
 -- A payload at a place of a connection.
-use Rattle.std.specs.Prelude.{ℕ, ◌≡◌, ◌<◌, ◌≤◌, ◌-◌, Bool, true, false, if◌then◌else◌, nat_lt, nat_eq, List, [], ◌∷◌, length, Result, Ok, Err}
+use Rattle.std.specs.Prelude.{ℕ, ◌≡◌, ◌<◌, ◌≤◌, ◌-◌, Bool, true, false, if◌then◌else◌, nat_lt, nat_eq, List, [], ◌∷◌, length, take, Result, Ok, Err}
+use Rattle.wire_const.specs.FlagSets.{capability_flags_bits}
+use Rattle.wire_const.specs.declared.flag_sets.capability.CapabilityFlags.{CapabilityFlags}
 use Rattle.wire_buf.specs.declared.error.WireError.{WireError}
 use Rattle.wire_buf.specs.declared.error.WireError.TheVariants.{UnexpectedEof}
 use Rattle.mysql_wire_packets.specs.declared.places.PayloadError.{PayloadError}
@@ -28,6 +30,27 @@ abbrev pub Wraps : {X Y : Type 0} → (X → Y) → (Result X PayloadError → T
 Wraps {X = X} variant says (Ok answer) = (packet : X) × (answer ≡ variant packet)
     × says (Ok packet)
 Wraps variant says (Err error) = says (Err error)
+
+-- the payload is one such packet, which is answered as this variant
+abbrev pub ReadsAs : {X Y : Type 0} → (X → Y) → (List ℕ → Result X WireError → ℕ → Type 0) → List ℕ
+    → Result Y PayloadError → Type 0
+ReadsAs variant reads payload = Wraps variant (ReadsWhole reads payload)
+
+-- the same where no capabilities are in force
+abbrev pub ReadsUnderNone : {X Y : Type 0} → (X → Y)
+    → (CapabilityFlags → List ℕ → Result X WireError → ℕ → Type 0) → List ℕ
+    → Result Y PayloadError → Type 0
+ReadsUnderNone variant reads payload result = (none : CapabilityFlags)
+    × (capability_flags_bits none ≡ 0) × ReadsAs variant (reads none) payload result
+
+-- the payload's first byte is this one
+abbrev pub BeginsWith : ℕ → List ℕ → Type 0
+BeginsWith byte payload = take 1 payload ≡ byte ∷ []
+
+-- or none of these
+abbrev pub BeginsWithNone : List ℕ → List ℕ → Type 0
+BeginsWithNone [] payload = Unit {0}
+BeginsWithNone (byte ∷ bytes) payload = (¬ BeginsWith byte payload) × BeginsWithNone bytes payload
 
 -- a payload that begins with fe is too short for a row
 abbrev pub is_short : Bool → ℕ → Bool

@@ -1,9 +1,18 @@
 -- What is written of a command to change the user.
 use Rattle.std.specs.Prelude.{ℕ, List, [], ◌∷◌, ◌++◌}
+use Rattle.wire_buf.specs.declared.proto.Fixed.{Fixed}
 use Rattle.wire_buf.specs.Numbers.{le_bytes}
+use Rattle.wire_field.specs.declared.row.Both.{Both}
+use Rattle.wire_forms.specs.declared.lenenc.LenEnc.{LenEnc}
+use Rattle.wire_forms.specs.declared.null.NullBytes.{NullBytes}
+use Rattle.wire_forms.specs.declared.prefixed.U8Bytes.{U8Bytes}
+use Rattle.wire_repr.specs.declared.int.RawInt.{RawInt}
+use Rattle.wire_repr.specs.declared.int.LeU16.{LeU16}
+use Rattle.mysql_wire_packets.specs.Fields.{Constant, Text}
 use Rattle.mysql_wire_packets.specs.InOrder.{text_bytes, u8_text_bytes}
 use Rattle.mysql_wire_packets.specs.NullTexts.{clean}
-use Rattle.mysql_wire_packets.specs.Optional.{bytes_if}
+use Rattle.mysql_wire_packets.specs.Optional.{bytes_if, field}
+use Rattle.mysql_wire_packets.specs.declared.optional.IfMore.{IfMore}
 use Rattle.mysql_wire_queries.specs.declared.com_change_user.ComChangeUser.{ComChangeUser}
 
 -- up to the name of the database
@@ -20,3 +29,18 @@ name_bytes command = bytes_if (λ name. clean name.0 ++ 0 ∷ []) command.auth_p
 
 abbrev pub attrs_bytes : ComChangeUser → List ℕ
 attrs_bytes command = bytes_if (λ attrs. text_bytes attrs.0) command.connect_attrs
+
+-- its fields, in order
+abbrev pub change_fields : ComChangeUser
+    → Both (Both (Constant 0x11) (Both (Text NullBytes) (Both (Text U8Bytes) (Text NullBytes))))
+    (Both (IfMore (RawInt LeU16 ℕ (Fixed 2))) (Both (IfMore (Text NullBytes)) (IfMore (Text LenEnc))))
+change_fields command = (
+  (_, (command.user, (command.auth_plugin_data, command.database))),
+  (
+    (field (λ set. set) _ command.character_set, _),
+    (
+      (field (λ name. name) _ command.auth_plugin_name, _),
+      (field (λ attrs. attrs) _ command.connect_attrs, _),
+    ),
+  ),
+)

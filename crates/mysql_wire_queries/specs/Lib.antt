@@ -1,3 +1,5 @@
 pub mod Changes
+pub mod Columns
+pub mod Payloads
 pub mod ShortestRows
 pub mod TextValues

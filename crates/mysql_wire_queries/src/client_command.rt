@@ -1,9 +1,9 @@
 //! What may stand where a server waits for a command.
 
-ghost use Rattle.std.specs.Prelude.{◌≡◌, ◌∷◌, [], take, true, false};
-ghost use Rattle.wire_const.specs.FlagSets.{capability_flags_bits};
-ghost use Rattle.mysql_wire_packets.specs.Optional.{has};
-ghost use Rattle.mysql_wire_packets.specs.Places.{IsOther, ReadsWhole, Wraps};
+ghost use Rattle.std.specs.Prelude.{◌≡◌, ◌∷◌, [], true, false};
+ghost use Rattle.mysql_wire_packets.specs.Optional.{has_query_attributes};
+ghost use Rattle.mysql_wire_packets.specs.Places.{BeginsWith, IsOther, ReadsAs};
+ghost use Rattle.mysql_wire_queries.specs.Payloads.{IsAttributedQuery, IsPlainQuery};
 ghost use Rattle.mysql_wire_queries.specs.declared.client_command.ClientCommand.TheVariants.{Quit, InitDb, Query, AttributedQuery, Ping, ChangeUser};
 
 use crate::com_change_user::ComChangeUser;
@@ -39,13 +39,12 @@ fn read_query<'a>(
     capabilities: CapabilityFlags,
     payload: &'a [u8],
 ) -> Result<ClientCommand<'a>, PayloadError>
-    ensures plain { has (capability_flags_bits capabilities) 0x8000000 ≡ false → Wraps Query
-        (ReadsWhole (⟦<ComQuery<'a> as MyDeserialize<'a, Global>>⟧.reads tt) payload.entry.now)
-        result }
-    ensures attributed { has (capability_flags_bits capabilities) 0x8000000 ≡ true
-        → Wraps AttributedQuery
-        (ReadsWhole (⟦<ComQueryWithAttributes<'a> as MyDeserialize<'a, Global>>⟧.reads tt)
-        payload.entry.now) result }
+    ensures plain { has_query_attributes capabilities ≡ false → ReadsAs Query
+        (⟦<ComQuery<'a> as MyDeserialize<'a, Global>>⟧.reads tt) payload.entry.now result }
+    ensures attributed { has_query_attributes capabilities ≡ true
+        → ReadsAs AttributedQuery
+        (⟦<ComQueryWithAttributes<'a> as MyDeserialize<'a, Global>>⟧.reads tt)
+        payload.entry.now result }
 {
     if capabilities.contains(CapabilityFlags::CLIENT_QUERY_ATTRIBUTES) {
         read_as(alloc, (), payload, ClientCommand::AttributedQuery)
@@ -63,26 +62,21 @@ impl<'a> ClientCommand<'a> {
         capabilities: CapabilityFlags,
         payload: &'a [u8],
     ) -> Result<ClientCommand<'a>, PayloadError>
-        ensures quit { take 1 payload.entry.now ≡ 0x01 ∷ [] → Wraps Quit
-            (ReadsWhole (⟦<ComQuit as MyDeserialize<'a, Global>>⟧.reads tt)
-            payload.entry.now) result }
-        ensures init_db { take 1 payload.entry.now ≡ 0x02 ∷ [] → Wraps InitDb
-            (ReadsWhole (⟦<ComInitDb<'a> as MyDeserialize<'a, Global>>⟧.reads tt)
-            payload.entry.now) result }
-        ensures query { take 1 payload.entry.now ≡ 0x03 ∷ []
-            → has (capability_flags_bits capabilities) 0x8000000 ≡ false → Wraps Query
-            (ReadsWhole (⟦<ComQuery<'a> as MyDeserialize<'a, Global>>⟧.reads tt)
-            payload.entry.now) result }
-        ensures attributed { take 1 payload.entry.now ≡ 0x03 ∷ []
-            → has (capability_flags_bits capabilities) 0x8000000 ≡ true → Wraps AttributedQuery
-            (ReadsWhole (⟦<ComQueryWithAttributes<'a> as MyDeserialize<'a, Global>>⟧.reads tt)
-            payload.entry.now) result }
-        ensures ping { take 1 payload.entry.now ≡ 0x0e ∷ [] → Wraps Ping
-            (ReadsWhole (⟦<ComPing as MyDeserialize<'a, Global>>⟧.reads tt)
-            payload.entry.now) result }
-        ensures change_user { take 1 payload.entry.now ≡ 0x11 ∷ [] → Wraps ChangeUser
-            (ReadsWhole (⟦<ComChangeUser<'a> as MyDeserialize<'a, Global>>⟧.reads capabilities)
-            payload.entry.now) result }
+        ensures quit { BeginsWith 0x01 payload.entry.now → ReadsAs Quit
+            (⟦<ComQuit as MyDeserialize<'a, Global>>⟧.reads tt) payload.entry.now result }
+        ensures init_db { BeginsWith 0x02 payload.entry.now → ReadsAs InitDb
+            (⟦<ComInitDb<'a> as MyDeserialize<'a, Global>>⟧.reads tt) payload.entry.now result }
+        ensures query { IsPlainQuery capabilities payload.entry.now → ReadsAs Query
+            (⟦<ComQuery<'a> as MyDeserialize<'a, Global>>⟧.reads tt) payload.entry.now result }
+        ensures attributed { IsAttributedQuery capabilities payload.entry.now
+            → ReadsAs AttributedQuery
+            (⟦<ComQueryWithAttributes<'a> as MyDeserialize<'a, Global>>⟧.reads tt)
+            payload.entry.now result }
+        ensures ping { BeginsWith 0x0e payload.entry.now → ReadsAs Ping
+            (⟦<ComPing as MyDeserialize<'a, Global>>⟧.reads tt) payload.entry.now result }
+        ensures change_user { BeginsWith 0x11 payload.entry.now → ReadsAs ChangeUser
+            (⟦<ComChangeUser<'a> as MyDeserialize<'a, Global>>⟧.reads capabilities)
+            payload.entry.now result }
         ensures other { IsOther (0x01 ∷ 0x02 ∷ 0x03 ∷ 0x0e ∷ 0x11 ∷ []) payload.entry.now result }
     {
         match payload.first() {

@@ -6,8 +6,9 @@ ghost use Rattle.wire_buf.specs.Numbers.{le_bytes};
 ghost use Rattle.wire_repr.specs.Texts.{IsText, IsBorrowedText};
 ghost use Rattle.wire_buf.specs.Reading.{Through};
 ghost use Rattle.mysql_wire_packets.specs.InOrder.{packet, both, array, const_u8, byte, number, lenenc_text, text_bytes};
-ghost use Rattle.mysql_wire_packets.specs.Optional.{BothIf, IsThere, OnIf, bytes_if, field, has, kept_field, optional, side};
+ghost use Rattle.mysql_wire_packets.specs.Optional.{BothIf, IsThere, OnIf, bytes_if, has, kept_field, optional, side};
 ghost use Rattle.wire_const.specs.FlagSets.{mariadb_capabilities_bits};
+ghost use Rattle.mysql_wire_queries.specs.Columns.{column_fields};
 ghost use Rattle.std.proofs.Common.{subst};
 
 use mysql_wire_packets::lent::{Lent, LentIf};
@@ -72,20 +73,7 @@ pub struct ColumnDefinition41<'a> {
 
 // A definition of its fields.
 fn of_fields<'a>(fields: Fields<'a>) -> ColumnDefinition41<'a>
-    ensures { (
-      (
-        (result.catalog, result.schema),
-        ((result.table, result.org_table), (result.name, result.org_name)),
-      ),
-      (
-        field (λ text. text) _ result.extended_metadata,
-        (
-          (_, (result.character_set, result.column_length)),
-          ((result.column_type.0, result.flags.0), (result.decimals, result.reserved)),
-        ),
-      ),
-    )
-        ≡ fields.entry }
+    ensures { column_fields result ≡ fields.entry }
 {
     let Both(Both(schemas, Both(tables, names)), Both(metadata, Both(sizes, kind))) = fields;
     let Both(catalog, schema) = schemas;
@@ -156,19 +144,7 @@ impl<'de> MyDeserialize<'de, Global> for ColumnDefinition41<'de> {
     type Ctx = MariadbCapabilities;
 
     ghost reads = { λ ctx input. Through
-        (λ column. (
-          (
-            (column.catalog, column.schema),
-            ((column.table, column.org_table), (column.name, column.org_name)),
-          ),
-          (
-            field (λ text. text) _ column.extended_metadata,
-            (
-              (_, (column.character_set, column.column_length)),
-              ((column.column_type.0, column.flags.0), (column.decimals, column.reserved)),
-            ),
-          ),
-        ))
+        column_fields
         (⟦<Fields<'de> as MyDeserialize<'de, Global>>⟧.reads (
           ((tt, tt), ((tt, tt), (tt, tt))),
           (

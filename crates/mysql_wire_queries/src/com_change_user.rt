@@ -7,11 +7,11 @@ ghost use Rattle.wire_const.specs.FlagSets.{capability_flags_bits};
 ghost use Rattle.wire_buf.specs.Numbers.{le_bytes};
 ghost use Rattle.wire_repr.specs.Texts.{IsText, IsBorrowedText};
 ghost use Rattle.wire_buf.specs.Reading.{Parses, Through};
-ghost use Rattle.mysql_wire_queries.specs.Changes.{attrs_bytes, name_bytes, set_bytes, user_bytes};
+ghost use Rattle.mysql_wire_queries.specs.Changes.{attrs_bytes, change_fields, name_bytes, set_bytes, user_bytes};
 ghost use Rattle.mysql_wire_packets.specs.InOrder.{packet, both, const_u8, lenenc_text, number, text_bytes, u8_cut, u8_text};
 ghost use Rattle.mysql_wire_packets.specs.More.{more, there_if};
 ghost use Rattle.mysql_wire_packets.specs.NullTexts.{clean, null_text};
-ghost use Rattle.mysql_wire_packets.specs.Optional.{BothIf, IsThere, OnIf, bytes_if, field, has, kept_field, side};
+ghost use Rattle.mysql_wire_packets.specs.Optional.{BothIf, IsThere, OnIf, has, kept_field, side};
 
 use mysql_wire_packets::lent::{Lent, LentIf};
 use mysql_wire_packets::optional::{IfMore, known_text, under, value_of};
@@ -62,16 +62,7 @@ pub struct ComChangeUser<'a> {
 
 // A command of its fields.
 fn of_fields<'a>(fields: Fields<'a>) -> ComChangeUser<'a>
-    ensures { (
-      (_, (result.user, (result.auth_plugin_data, result.database))),
-      (
-        (field (λ set. set) _ result.character_set, _),
-        (
-          (field (λ name. name) _ result.auth_plugin_name, _),
-          (field (λ attrs. attrs) _ result.connect_attrs, _),
-        ),
-      ),
-    ) ≡ fields.entry }
+    ensures { change_fields result ≡ fields.entry }
 {
     let Both(Both(_, Both(user, Both(auth_plugin_data, database))), more) = fields;
     let Both(IfMore(set, _), Both(IfMore(name, _), IfMore(attrs, _))) = more;
@@ -116,16 +107,7 @@ impl<'de> MyDeserialize<'de, Global> for ComChangeUser<'de> {
     type Ctx = CapabilityFlags;
 
     ghost reads = { λ ctx input. Through
-        (λ command. (
-          (_, (command.user, (command.auth_plugin_data, command.database))),
-          (
-            (field (λ set. set) _ command.character_set, _),
-            (
-              (field (λ name. name) _ command.auth_plugin_name, _),
-              (field (λ attrs. attrs) _ command.connect_attrs, _),
-            ),
-          ),
-        ))
+        change_fields
         (⟦<Fields<'de> as MyDeserialize<'de, Global>>⟧.reads (
           (tt, (tt, (tt, tt))),
           (

@@ -54,8 +54,8 @@ pub fn com_quit_is_written_back()
 
 /// Of `ColumnCount`.
 pub fn column_count_is_written_back()
-    ensures { (capabilities : CapabilityFlags) (mariadb : MariadbCapabilities) → WritesBack
-        (⟦<ColumnCount as MyDeserialize<'static, Global>>⟧.reads (capabilities, mariadb))
+    ensures { (ctx : CapabilityFlags × MariadbCapabilities) → WritesBack
+        (⟦<ColumnCount as MyDeserialize<'static, Global>>⟧.reads ctx)
         ⟦<ColumnCount as MySerialize>⟧.bytes }
 {}
 

@@ -1,9 +1,8 @@
 //! What may answer a command.
 
-ghost use Rattle.std.specs.Prelude.{◌≡◌, ◌≢◌, ◌∷◌, [], take};
-ghost use Rattle.wire_const.specs.FlagSets.{capability_flags_bits};
-ghost use Rattle.mysql_wire_packets.specs.Oks.{form_of};
-ghost use Rattle.mysql_wire_packets.specs.Places.{ReadsWhole, Wraps};
+ghost use Rattle.std.specs.Prelude.{◌∷◌, []};
+ghost use Rattle.mysql_wire_packets.specs.Oks.{ok_form};
+ghost use Rattle.mysql_wire_packets.specs.Places.{BeginsWith, BeginsWithNone, ReadsAs};
 ghost use Rattle.mysql_wire_queries.specs.declared.query_answer.QueryAnswer.TheVariants.{Done, Failed, File, Columns};
 
 use crate::column_count::ColumnCount;
@@ -38,20 +37,19 @@ impl<'a> QueryAnswer<'a> {
         mariadb: MariadbCapabilities,
         payload: &'a [u8],
     ) -> Result<QueryAnswer<'a>, PayloadError>
-        ensures done { take 1 payload.entry.now ≡ 0x00 ∷ [] → Wraps Done
-            (ReadsWhole (⟦<OkPacket<'a> as MyDeserialize<'a, Global>>⟧.reads
-            (form_of (capability_flags_bits capabilities))) payload.entry.now) result }
-        ensures failed { take 1 payload.entry.now ≡ 0xff ∷ [] → Wraps Failed
-            (ReadsWhole (⟦<ErrPacket<'a> as MyDeserialize<'a, Global>>⟧.reads capabilities)
-            payload.entry.now) result }
-        ensures file { take 1 payload.entry.now ≡ 0xfb ∷ [] → Wraps File
-            (ReadsWhole (⟦<LocalInfileRequest<'a> as MyDeserialize<'a, Global>>⟧.reads tt)
-            payload.entry.now) result }
-        ensures columns { take 1 payload.entry.now ≢ 0x00 ∷ []
-            → take 1 payload.entry.now ≢ 0xff ∷ [] → take 1 payload.entry.now ≢ 0xfb ∷ []
-            → Wraps Columns (ReadsWhole
+        ensures done { BeginsWith 0x00 payload.entry.now → ReadsAs Done
+            (⟦<OkPacket<'a> as MyDeserialize<'a, Global>>⟧.reads (ok_form capabilities))
+            payload.entry.now result }
+        ensures failed { BeginsWith 0xff payload.entry.now → ReadsAs Failed
+            (⟦<ErrPacket<'a> as MyDeserialize<'a, Global>>⟧.reads capabilities)
+            payload.entry.now result }
+        ensures file { BeginsWith 0xfb payload.entry.now → ReadsAs File
+            (⟦<LocalInfileRequest<'a> as MyDeserialize<'a, Global>>⟧.reads tt)
+            payload.entry.now result }
+        ensures columns { BeginsWithNone (0x00 ∷ 0xff ∷ 0xfb ∷ []) payload.entry.now
+            → ReadsAs Columns
             (⟦<ColumnCount as MyDeserialize<'a, Global>>⟧.reads (capabilities, mariadb))
-            payload.entry.now) result }
+            payload.entry.now result }
     {
         match payload.first() {
             Some(0x00) => {

@@ -1,10 +1,10 @@
 //! What may stand where a row is waited for.
 
-ghost use Rattle.std.specs.Prelude.{◌≡◌, ◌≢◌, ◌∷◌, [], take, true, false, length};
-ghost use Rattle.wire_const.specs.FlagSets.{capability_flags_bits};
-ghost use Rattle.mysql_wire_packets.specs.Oks.{form_of};
-ghost use Rattle.mysql_wire_packets.specs.Optional.{has};
-ghost use Rattle.mysql_wire_packets.specs.Places.{ReadsWhole, Wraps, is_short};
+ghost use Rattle.std.specs.Prelude.{◌≡◌, true, false};
+ghost use Rattle.mysql_wire_packets.specs.Oks.{ok_form};
+ghost use Rattle.mysql_wire_packets.specs.Optional.{deprecates_eof};
+ghost use Rattle.mysql_wire_packets.specs.Places.{BeginsWith, ReadsAs, is_short};
+ghost use Rattle.mysql_wire_queries.specs.Payloads.{EndsRows, IsRow};
 ghost use Rattle.mysql_wire_queries.specs.declared.row_answer.RowAnswer.TheVariants.{Row, Eof, End, Failed};
 
 use crate::text_row::TextRow;
@@ -51,25 +51,19 @@ impl<'a> RowAnswer<'a> {
         column_count: usize,
         payload: &'a [u8],
     ) -> Result<RowAnswer<'a>, PayloadError>
-        ensures failed { take 1 payload.entry.now ≡ 0xff ∷ [] → Wraps Failed
-            (ReadsWhole (⟦<ErrPacket<'a> as MyDeserialize<'a, Global>>⟧.reads capabilities)
-            payload.entry.now) result }
-        ensures eof { take 1 payload.entry.now ≡ 0xfe ∷ []
-            → has (capability_flags_bits capabilities) 0x1000000 ≡ false
-            → is_short false (length payload.entry.now) ≡ true → Wraps Eof
-            (ReadsWhole (⟦<EofPacket as MyDeserialize<'a, Global>>⟧.reads tt)
-            payload.entry.now) result }
-        ensures end { take 1 payload.entry.now ≡ 0xfe ∷ []
-            → has (capability_flags_bits capabilities) 0x1000000 ≡ true
-            → is_short true (length payload.entry.now) ≡ true → Wraps End
-            (ReadsWhole (⟦<RowsEnd<'a> as MyDeserialize<'a, Global>>⟧.reads (form_of (capability_flags_bits capabilities)))
-            payload.entry.now) result }
-        ensures row { take 1 payload.entry.now ≢ 0xff ∷ []
-            → (take 1 payload.entry.now ≡ 0xfe ∷ []
-            → is_short (has (capability_flags_bits capabilities) 0x1000000)
-            (length payload.entry.now) ≡ false) → Wraps Row
-            (ReadsWhole (⟦<TextRow<'a> as MyDeserialize<'a, Global>>⟧.reads column_count)
-            payload.entry.now) result }
+        ensures failed { BeginsWith 0xff payload.entry.now → ReadsAs Failed
+            (⟦<ErrPacket<'a> as MyDeserialize<'a, Global>>⟧.reads capabilities)
+            payload.entry.now result }
+        ensures eof { EndsRows false payload.entry.now
+            → deprecates_eof capabilities ≡ false → ReadsAs Eof
+            (⟦<EofPacket as MyDeserialize<'a, Global>>⟧.reads tt) payload.entry.now result }
+        ensures end { EndsRows true payload.entry.now
+            → deprecates_eof capabilities ≡ true → ReadsAs End
+            (⟦<RowsEnd<'a> as MyDeserialize<'a, Global>>⟧.reads (ok_form capabilities))
+            payload.entry.now result }
+        ensures row { IsRow (deprecates_eof capabilities) payload.entry.now → ReadsAs Row
+            (⟦<TextRow<'a> as MyDeserialize<'a, Global>>⟧.reads column_count)
+            payload.entry.now result }
     {
         let is_deprecated = capabilities.contains(CapabilityFlags::CLIENT_DEPRECATE_EOF);
         match payload.first() {

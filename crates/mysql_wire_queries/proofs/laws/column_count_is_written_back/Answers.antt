@@ -5,7 +5,7 @@ use Rattle.mysql_wire_packets.specs.Shortest.{written_back, both_of, exact, int_
 use Rattle.mysql_wire_queries.proofs.laws.column_count_is_written_back.Goals as goal
 
 pub returns : goal.returns
-returns c = λ capabilities mariadb input packet eaten is read.
+returns c = λ (capabilities, mariadb) input packet eaten is read.
     written_back _ _ ((both_of
     (optional_of (λ count. count.metadata_follows) (λ follows. follows) _
     (λ ctx. exact (byte_again (λ n. n)))
