@@ -1,5 +1,7 @@
 pub mod Again
+pub mod BinaryRows
 pub mod Bitmaps
+pub mod Commands
 pub mod Executed
 pub mod InOrder
 pub mod Moments

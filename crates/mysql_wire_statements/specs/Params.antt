@@ -1,10 +1,11 @@
 -- The types of a statement's parameters.
-use Rattle.std.specs.Prelude.{ℕ, ◌≡◌, ◌≢◌, ◌*◌, ◌⊎◌, List, [], ◌∷◌, length, take, drop, Option, Some, None, Result, Ok, Err, nat_lt, if◌then◌else◌}
+use Rattle.std.specs.Prelude.{ℕ, ◌≡◌, ◌≢◌, ◌<◌, ◌≤◌, ◌+◌, ◌*◌, ◌⊎◌, MatchOption, slice_index, List, [], ◌∷◌, length, take, drop, Option, Some, None, Result, Ok, Err, nat_lt, if◌then◌else◌}
 use Rattle.std.proofs.Common.{suc}
 use Rattle.wire_buf.specs.declared.error.WireError.{WireError}
 use Rattle.wire_buf.specs.declared.error.WireError.TheVariants.{UnexpectedEof, InvalidData}
 use Rattle.wire_buf.specs.declared.error.InvalidReason.TheVariants.{UnknownValue}
 use Rattle.wire_buf.specs.Reading.{Answers}
+use Rattle.mysql_wire_statements.specs.declared.params.ParamType.{ParamType}
 use Rattle.mysql_wire_statements.specs.declared.params.ParamTypes.{ParamTypes}
 
 -- the types, if there are any
@@ -21,6 +22,13 @@ types_bytes (Some types) = 1 ∷ types
 abbrev pub HaveTypes : ℕ → Option (List ℕ) → Type 0
 HaveTypes count None = Unit {0}
 HaveTypes count (Some types) = length types ≡ 2 * count
+
+-- two bytes stand at the place, the type and its flags, or the places are at their end before it
+abbrev pub HasType : ℕ → List ℕ → Option ParamType → Type 0
+HasType place types answer = MatchOption answer (length types < 2 * place + 2)
+    (λ param. (2 * place + 2 ≤ length types)
+    × (param.column_type.0 ≡ slice_index types (2 * place))
+    × (param.flags.0 ≡ slice_index types (2 * place + 1)))
 
 -- so many bytes of types behind one byte
 abbrev pub types_behind : ℕ → List ℕ → Result (Option (List ℕ)) WireError × ℕ

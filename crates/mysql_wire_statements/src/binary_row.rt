@@ -1,9 +1,10 @@
 //! A row of a binary resultset.
 
-ghost use Rattle.std.specs.Prelude.{◌≡◌, ◌+◌, [], ◌∷◌, ◌++◌, length, Ok};
+ghost use Rattle.std.specs.Prelude.{◌≡◌, ◌+◌, [], length, Ok};
 ghost use Rattle.wire_buf.specs.Reading.{Reads, Through};
 ghost use Rattle.mysql_wire_packets.specs.InOrder.{packet, both, const_u8};
 ghost use Rattle.mysql_wire_statements.specs.Again.{packet_again, both_again, const_again, rest_again, slice_again};
+ghost use Rattle.mysql_wire_statements.specs.BinaryRows.{row_bytes, IsRow};
 ghost use Rattle.mysql_wire_statements.specs.Bitmaps.{bitmap_len, IsSet};
 ghost use Rattle.mysql_wire_statements.specs.InOrder.{rest_of, slice_of};
 ghost use Rattle.mysql_wire_statements.specs.Values.{form_of, ReadsForm};
@@ -62,7 +63,7 @@ impl<'a> BinaryRow<'a> {
 }
 
 impl MySerialize for BinaryRow<'_> {
-    ghost bytes = { λ row. 0x00 ∷ (row.nulls.0.now ++ row.values.now) };
+    ghost bytes = { λ row. row_bytes row.nulls.0.now row.values.now };
 
     fn serialize<A: Allocator>(&self, buf: &mut Vec<u8, A>) -> Result<(), WireError> {
         let values = Both(self.nulls, Rest(self.values));
@@ -99,8 +100,7 @@ impl<'de, A: Allocator + Copy> Wire<'de, A> for BinaryRow<'de> {
     ghost good = { λ columns row rest. (bitmap_len 2 columns ≡ length row.nulls.0.now)
         × (rest ≡ []) };
 
-    ghost kept = { λ row back. (back.nulls.0.now ≡ row.nulls.0.now)
-        × (back.values.now ≡ row.values.now) };
+    ghost kept = { λ row. IsRow row.nulls.0.now row.values.now };
 
     ghost takes_memory = { ⊥ };
 

@@ -1,13 +1,13 @@
 //! `COM_STMT_EXECUTE`.
 
-ghost use Rattle.std.specs.Prelude.{◌≡◌, ◌<◌, ◌^◌, [], ◌∷◌, ◌++◌, nat_lt};
+ghost use Rattle.std.specs.Prelude.{◌≡◌, [], ◌∷◌, ◌++◌, nat_lt};
 ghost use Rattle.std.proofs.Common.{ap, subst, sym, ◌∙◌};
 ghost use Rattle.wire_buf.specs.Numbers.{le_bytes};
 ghost use Rattle.wire_buf.specs.Reading.{Through};
 ghost use Rattle.mysql_wire_packets.specs.InOrder.{packet, both, byte, const_u8, number};
-ghost use Rattle.mysql_wire_packets.specs.Optional.{BothIf, IsThere, OnIf, bytes_if, field, kept_field, optional, side};
+ghost use Rattle.mysql_wire_packets.specs.Optional.{IsThere, OnIf, field, kept_field, optional, side};
 ghost use Rattle.mysql_wire_statements.specs.Again.{packet_again, both_again, byte_again, const_again, number_again, optional_again, rest_again, slice_again, by_field};
-ghost use Rattle.mysql_wire_statements.specs.Executed.{params_bytes, AreParams, SameParams};
+ghost use Rattle.mysql_wire_statements.specs.Executed.{execute_bytes, params_bytes, AreParams, HasNumbers, SameExecution, SameParams};
 ghost use Rattle.mysql_wire_statements.specs.Bitmaps.{bitmap_len};
 ghost use Rattle.mysql_wire_statements.specs.InOrder.{rest_of, slice_of};
 ghost use Rattle.mysql_wire_statements.specs.TypesBack.{types_again, types_field};
@@ -81,9 +81,7 @@ fn params_of<'a>(part: Params<'a>) -> Option<StmtParams<'a>>
 }
 
 impl MySerialize for ComStmtExecute<'_> {
-    ghost bytes = { λ command. 0x17 ∷ (le_bytes 4 command.statement_id
-        ++ (command.flags.0 ∷ (le_bytes 4 command.iteration_count
-        ++ bytes_if params_bytes command.params))) };
+    ghost bytes = { execute_bytes };
 
     fn serialize<A: Allocator>(&self, buf: &mut Vec<u8, A>) -> Result<(), WireError> {
         let cursor = Both(
@@ -136,17 +134,13 @@ impl<'de, A: Allocator + Copy> MyDeserialize<'de, A> for ComStmtExecute<'de> {
 
 // The parameters' values take all the rest, so they come back where nothing stands behind them.
 impl<'de, A: Allocator + Copy> Wire<'de, A> for ComStmtExecute<'de> {
-    ghost is_value = { λ command. (command.statement_id < 2 ^ 32) × (command.flags.0 < 2 ^ 8)
-        × (command.iteration_count < 2 ^ 32) };
+    ghost is_value = { HasNumbers };
 
     ghost good = { λ num_params command rest.
         IsThere (nat_lt 0 num_params) command.params
         × OnIf (λ params. AreParams num_params params × (rest ≡ [])) command.params };
 
-    ghost kept = { λ command back. (back.statement_id ≡ command.statement_id)
-        × (back.flags.0 ≡ command.flags.0)
-        × (back.iteration_count ≡ command.iteration_count)
-        × BothIf SameParams command.params back.params };
+    ghost kept = { SameExecution };
 
     ghost takes_memory = { ⊥ };
 

@@ -1,9 +1,9 @@
 //! `COM_STMT_FETCH`.
 
-ghost use Rattle.std.specs.Prelude.{◌≡◌, ◌<◌, ◌^◌, ◌∷◌, ◌++◌};
-ghost use Rattle.wire_buf.specs.Numbers.{le_bytes};
+ghost use Rattle.std.specs.Prelude.{◌<◌, ◌^◌};
 ghost use Rattle.wire_buf.specs.Reading.{Through};
 ghost use Rattle.mysql_wire_packets.specs.InOrder.{packet, both, const_u8, number};
+ghost use Rattle.mysql_wire_statements.specs.Commands.{fetch_bytes, IsFetch};
 ghost use Rattle.mysql_wire_statements.specs.Again.{packet_again, both_again, const_again, number_again};
 
 use crate::written_back::WrittenBack;
@@ -30,8 +30,7 @@ pub struct ComStmtFetch {
 }
 
 impl MySerialize for ComStmtFetch {
-    ghost bytes = { λ command. 0x1c ∷ (le_bytes 4 command.statement_id
-        ++ le_bytes 4 command.num_rows) };
+    ghost bytes = { λ command. fetch_bytes command.statement_id command.num_rows };
 
     fn serialize<A: Allocator>(&self, buf: &mut Vec<u8, A>) -> Result<(), WireError> {
         Both(
@@ -70,8 +69,7 @@ impl<'de, A: Allocator + Copy> Wire<'de, A> for ComStmtFetch {
 
     ghost good = { λ _ _ _. Unit {0} };
 
-    ghost kept = { λ command back. (back.statement_id ≡ command.statement_id)
-        × (back.num_rows ≡ command.num_rows) };
+    ghost kept = { λ command. IsFetch command.statement_id command.num_rows };
 
     ghost takes_memory = { ⊥ };
 

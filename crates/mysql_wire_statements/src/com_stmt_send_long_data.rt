@@ -1,9 +1,9 @@
 //! `COM_STMT_SEND_LONG_DATA`.
 
-ghost use Rattle.std.specs.Prelude.{◌≡◌, ◌<◌, ◌^◌, [], ◌∷◌, ◌++◌};
-ghost use Rattle.wire_buf.specs.Numbers.{le_bytes};
+ghost use Rattle.std.specs.Prelude.{◌≡◌, ◌<◌, ◌^◌, []};
 ghost use Rattle.wire_buf.specs.Reading.{Through};
 ghost use Rattle.mysql_wire_packets.specs.InOrder.{packet, both, const_u8, number};
+ghost use Rattle.mysql_wire_statements.specs.Commands.{long_data_bytes, IsLongData};
 ghost use Rattle.mysql_wire_statements.specs.InOrder.{rest_of};
 ghost use Rattle.mysql_wire_statements.specs.Again.{packet_again, both_again, const_again, number_again, rest_again};
 
@@ -34,8 +34,8 @@ pub struct ComStmtSendLongData<'a> {
 }
 
 impl MySerialize for ComStmtSendLongData<'_> {
-    ghost bytes = { λ command. 0x18 ∷ (le_bytes 4 command.statement_id
-        ++ (le_bytes 2 command.param_id ++ command.data.now)) };
+    ghost bytes = { λ command. long_data_bytes command.statement_id command.param_id
+        command.data.now };
 
     fn serialize<A: Allocator>(&self, buf: &mut Vec<u8, A>) -> Result<(), WireError> {
         let place = Both(self.statement_id, Both(self.param_id, Rest(self.data)));
@@ -76,8 +76,7 @@ impl<'de, A: Allocator + Copy> Wire<'de, A> for ComStmtSendLongData<'de> {
 
     ghost good = { λ _ _ rest. rest ≡ [] };
 
-    ghost kept = { λ command back. (back.statement_id ≡ command.statement_id)
-        × (back.param_id ≡ command.param_id) × (back.data.now ≡ command.data.now) };
+    ghost kept = { λ command. IsLongData command.statement_id command.param_id command.data.now };
 
     ghost takes_memory = { ⊥ };
 

@@ -1,12 +1,13 @@
 //! What was written of each packet comes back, and what was read of it is written as it stood. Each
 //! function reads as `parse` does.
 
-ghost use Rattle.std.specs.Prelude.{◌≡◌, ◌<◌, ◌^◌, ℕ, List, [], ◌∷◌, ◌++◌, nat_lt, length, IfOk};
-ghost use Rattle.wire_repr.specs.Law.{LeavesRest};
+ghost use Rattle.std.specs.Prelude.{◌≡◌, ◌<◌, ◌^◌, ℕ, List, ◌∷◌, ◌++◌, length, IfOk};
+ghost use Rattle.wire_repr.specs.Law.{ComesBackAlone, ComesBackFrom};
 ghost use Rattle.wire_buf.specs.Numbers.{le_bytes};
-ghost use Rattle.mysql_wire_packets.specs.Optional.{BothIf, IsThere, OnIf, bytes_if};
+ghost use Rattle.mysql_wire_statements.specs.BinaryRows.{row_bytes, IsRow};
 ghost use Rattle.mysql_wire_statements.specs.Bitmaps.{bitmap_len};
-ghost use Rattle.mysql_wire_statements.specs.Executed.{params_bytes, AreParams, SameParams};
+ghost use Rattle.mysql_wire_statements.specs.Commands.{fetch_bytes, long_data_bytes, IsFetch, IsLongData};
+ghost use Rattle.mysql_wire_statements.specs.Executed.{execute_bytes, IsExecution, SameExecution};
 ghost use Rattle.mysql_wire_statements.specs.Values.{form_of, value_bytes, written_form, IsShortest, IsValue, SameValue};
 ghost use Rattle.mysql_wire_statements.specs.declared.com_stmt_execute.ComStmtExecute.{ComStmtExecute};
 ghost use Rattle.mysql_wire_statements.specs.declared.binary_value.BinaryValue.{BinaryValue};
@@ -32,8 +33,8 @@ pub fn prepare_comes_back<'a>(
     buf: &mut ParseBuf<'a>,
 ) -> Result<ComStmtPrepare<'a>, WireError>
     ensures { (query : List ℕ)
-        → buf.old.0.now ≡ (0x16 ∷ query) ++ []
-        → LeavesRest (λ back. back.query.now ≡ query) ⊥ [] result buf.new.0.now }
+        → ComesBackAlone (0x16 ∷ query) (λ back. back.query.now ≡ query) buf.old.0.now result
+        buf.new.0.now }
 {
     parse_back(alloc, (), buf)
 }
@@ -54,11 +55,9 @@ pub fn send_long_data_comes_back<'a>(
     alloc: Global,
     buf: &mut ParseBuf<'a>,
 ) -> Result<ComStmtSendLongData<'a>, WireError>
-    ensures { (id param : ℕ) (part : List ℕ)
-        → id < 2 ^ 32
-        → param < 2 ^ 16
-        → buf.old.0.now ≡ (0x18 ∷ (le_bytes 4 id ++ (le_bytes 2 param ++ part))) ++ []
-        → LeavesRest (λ back. (back.statement_id ≡ id) × (back.param_id ≡ param) × (back.data.now ≡ part)) ⊥ [] result buf.new.0.now }
+    ensures { (id param : ℕ) (part : List ℕ) → id < 2 ^ 32 → param < 2 ^ 16
+        → ComesBackAlone (long_data_bytes id param part) (IsLongData id param part) buf.old.0.now
+        result buf.new.0.now }
 {
     parse_back(alloc, (), buf)
 }
@@ -68,19 +67,17 @@ pub fn send_long_data_is_written_back<'a>(
     alloc: Global,
     buf: &mut ParseBuf<'a>,
 ) -> Result<ComStmtSendLongData<'a>, WireError>
-    ensures { IfOk result (λ command. (0x18 ∷ (le_bytes 4 command.statement_id ++ (le_bytes 2 command.param_id ++ command.data.now)))
-        ++ buf.new.0.now ≡ buf.old.0.now) }
+    ensures { IfOk result (λ command. long_data_bytes command.statement_id command.param_id
+        command.data.now ++ buf.new.0.now ≡ buf.old.0.now) }
 {
     is_written_back(alloc, (), buf)
 }
 
 /// A `ComStmtFetch` comes back, whatever stands behind it.
 pub fn fetch_comes_back(alloc: Global, buf: &mut ParseBuf<'_>) -> Result<ComStmtFetch, WireError>
-    ensures { (id rows : ℕ) (rest : List ℕ)
-        → id < 2 ^ 32
-        → rows < 2 ^ 32
-        → buf.old.0.now ≡ (0x1c ∷ (le_bytes 4 id ++ le_bytes 4 rows)) ++ rest
-        → LeavesRest (λ back. (back.statement_id ≡ id) × (back.num_rows ≡ rows)) ⊥ rest result buf.new.0.now }
+    ensures { (id rows : ℕ) → id < 2 ^ 32 → rows < 2 ^ 32
+        → ComesBackFrom (fetch_bytes id rows) (IsFetch id rows) ⊥ buf.old.0.now result
+        buf.new.0.now }
 {
     parse_back(alloc, (), buf)
 }
@@ -90,7 +87,7 @@ pub fn fetch_is_written_back(
     alloc: Global,
     buf: &mut ParseBuf<'_>,
 ) -> Result<ComStmtFetch, WireError>
-    ensures { IfOk result (λ command. (0x1c ∷ (le_bytes 4 command.statement_id ++ le_bytes 4 command.num_rows))
+    ensures { IfOk result (λ command. fetch_bytes command.statement_id command.num_rows
         ++ buf.new.0.now ≡ buf.old.0.now) }
 {
     is_written_back(alloc, (), buf)
@@ -98,10 +95,9 @@ pub fn fetch_is_written_back(
 
 /// A `ComStmtReset` comes back, whatever stands behind it.
 pub fn reset_comes_back(alloc: Global, buf: &mut ParseBuf<'_>) -> Result<ComStmtReset, WireError>
-    ensures { (id : ℕ) (rest : List ℕ)
-        → id < 2 ^ 32
-        → buf.old.0.now ≡ (0x1a ∷ le_bytes 4 id) ++ rest
-        → LeavesRest (λ back. back.statement_id ≡ id) ⊥ rest result buf.new.0.now }
+    ensures { (id : ℕ) → id < 2 ^ 32
+        → ComesBackFrom (0x1a ∷ le_bytes 4 id) (λ back. back.statement_id ≡ id) ⊥ buf.old.0.now
+        result buf.new.0.now }
 {
     parse_back(alloc, (), buf)
 }
@@ -119,10 +115,9 @@ pub fn reset_is_written_back(
 
 /// A `ComStmtClose` comes back, whatever stands behind it.
 pub fn close_comes_back(alloc: Global, buf: &mut ParseBuf<'_>) -> Result<ComStmtClose, WireError>
-    ensures { (id : ℕ) (rest : List ℕ)
-        → id < 2 ^ 32
-        → buf.old.0.now ≡ (0x19 ∷ le_bytes 4 id) ++ rest
-        → LeavesRest (λ back. back.statement_id ≡ id) ⊥ rest result buf.new.0.now }
+    ensures { (id : ℕ) → id < 2 ^ 32
+        → ComesBackFrom (0x19 ∷ le_bytes 4 id) (λ back. back.statement_id ≡ id) ⊥ buf.old.0.now
+        result buf.new.0.now }
 {
     parse_back(alloc, (), buf)
 }
@@ -145,17 +140,9 @@ pub fn execute_comes_back<'a>(
     num_params: u16,
     buf: &mut ParseBuf<'a>,
 ) -> Result<ComStmtExecute<'a>, WireError>
-    ensures { (command : ComStmtExecute) → command.statement_id < 2 ^ 32
-        → command.flags.0 < 2 ^ 8 → command.iteration_count < 2 ^ 32
-        → IsThere (nat_lt 0 num_params) command.params
-        → OnIf (AreParams num_params) command.params
-        → buf.old.0.now ≡ (0x17 ∷ (le_bytes 4 command.statement_id
-        ++ (command.flags.0 ∷ (le_bytes 4 command.iteration_count
-        ++ bytes_if params_bytes command.params)))) ++ []
-        → LeavesRest (λ back. (back.statement_id ≡ command.statement_id)
-        × (back.flags.0 ≡ command.flags.0)
-        × (back.iteration_count ≡ command.iteration_count)
-        × BothIf SameParams command.params back.params) ⊥ [] result buf.new.0.now }
+    ensures { (command : ComStmtExecute) → IsExecution num_params command
+        → ComesBackAlone (execute_bytes command) (SameExecution command) buf.old.0.now result
+        buf.new.0.now }
 {
     parse_back(alloc, num_params, buf)
 }
@@ -166,9 +153,7 @@ pub fn execute_is_written_back<'a>(
     num_params: u16,
     buf: &mut ParseBuf<'a>,
 ) -> Result<ComStmtExecute<'a>, WireError>
-    ensures { IfOk result (λ command. (0x17 ∷ (le_bytes 4 command.statement_id
-        ++ (command.flags.0 ∷ (le_bytes 4 command.iteration_count
-        ++ bytes_if params_bytes command.params)))) ++ buf.new.0.now ≡ buf.old.0.now) }
+    ensures { IfOk result (λ command. execute_bytes command ++ buf.new.0.now ≡ buf.old.0.now) }
 {
     is_written_back(alloc, num_params, buf)
 }
@@ -181,8 +166,7 @@ pub fn row_comes_back<'a>(
     buf: &mut ParseBuf<'a>,
 ) -> Result<BinaryRow<'a>, WireError>
     ensures { (nulls values : List ℕ) → bitmap_len 2 columns ≡ length nulls
-        → buf.old.0.now ≡ (0x00 ∷ (nulls ++ values)) ++ []
-        → LeavesRest (λ back. (back.nulls.0.now ≡ nulls) × (back.values.now ≡ values)) ⊥ [] result
+        → ComesBackAlone (row_bytes nulls values) (IsRow nulls values) buf.old.0.now result
         buf.new.0.now }
 {
     parse_back(alloc, columns, buf)
@@ -194,7 +178,7 @@ pub fn row_is_written_back<'a>(
     columns: usize,
     buf: &mut ParseBuf<'a>,
 ) -> Result<BinaryRow<'a>, WireError>
-    ensures { IfOk result (λ row. (0x00 ∷ (row.nulls.0.now ++ row.values.now)) ++ buf.new.0.now
+    ensures { IfOk result (λ row. row_bytes row.nulls.0.now row.values.now ++ buf.new.0.now
         ≡ buf.old.0.now) }
 {
     is_written_back(alloc, columns, buf)
@@ -206,9 +190,8 @@ pub fn value_comes_back<'a>(
     column_type: ColumnType,
     buf: &mut ParseBuf<'a>,
 ) -> Result<BinaryValue<'a>, WireError>
-    ensures { (value : BinaryValue) (rest : List ℕ) → IsValue value
-        → form_of column_type ≡ written_form value → buf.old.0.now ≡ value_bytes value ++ rest
-        → LeavesRest (SameValue value) ⊥ rest result buf.new.0.now }
+    ensures { (value : BinaryValue) → IsValue value → form_of column_type ≡ written_form value
+        → ComesBackFrom (value_bytes value) (SameValue value) ⊥ buf.old.0.now result buf.new.0.now }
 {
     parse_back(alloc, column_type, buf)
 }

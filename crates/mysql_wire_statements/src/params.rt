@@ -1,11 +1,11 @@
 //! The parameters of a statement that is executed.
 
-ghost use Rattle.std.specs.Prelude.{◌≡◌, ◌<◌, ◌≤◌, ◌+◌, ◌*◌, [], ◌++◌, length, slice_index, MatchOption};
+ghost use Rattle.std.specs.Prelude.{◌≡◌, []};
 ghost use Rattle.wire_buf.specs.Reading.{Through};
 ghost use Rattle.mysql_wire_packets.specs.InOrder.{packet, both};
 ghost use Rattle.mysql_wire_statements.specs.Again.{packet_again, both_again, rest_again, slice_again};
 ghost use Rattle.mysql_wire_statements.specs.Executed.{params_bytes, AreParams, SameParams};
-ghost use Rattle.mysql_wire_statements.specs.Params.{types_of, types_bytes, ReadsTypes};
+ghost use Rattle.mysql_wire_statements.specs.Params.{types_of, types_bytes, HasType, ReadsTypes};
 ghost use Rattle.mysql_wire_statements.specs.Bitmaps.{bitmap_len};
 ghost use Rattle.mysql_wire_statements.specs.InOrder.{rest_of, slice_of};
 ghost use Rattle.mysql_wire_statements.specs.TypesBack.{types_again, types_field};
@@ -42,10 +42,7 @@ pub struct ParamTypes<'a>(pub &'a [u8]);
 impl ParamTypes<'_> {
     /// The type of the parameter at this place, from 0 on; none past the last.
     pub fn get(&self, place: usize) -> Option<ParamType>
-        ensures { MatchOption result (length self.now.0.now < 2 * place + 2)
-            (λ param. (2 * place + 2 ≤ length self.now.0.now)
-            × (param.column_type.0 ≡ slice_index self.now.0.now (2 * place))
-            × (param.flags.0 ≡ slice_index self.now.0.now (2 * place + 1))) }
+        ensures { HasType place self.now.0.now result }
     {
         if place >= self.0.len() / 2 {
             return None;

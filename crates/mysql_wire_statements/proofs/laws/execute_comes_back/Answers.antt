@@ -3,5 +3,5 @@ use Rattle.mysql_wire_statements.specs.Executed.{params_good}
 use Rattle.mysql_wire_statements.proofs.laws.execute_comes_back.Goals as goal
 
 pub returns : goal.returns
-returns c = λ command is_id is_flags is_count there are at. c.parse_back.ensures.back command []
-    (is_id, is_flags, is_count) (there, params_good c.args.num_params command.params are) at
+returns c = λ command (are_numbers, there, are) at. c.parse_back.ensures.back command []
+    are_numbers (there, params_good c.args.num_params command.params are) at
