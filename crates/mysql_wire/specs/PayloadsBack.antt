@@ -6,6 +6,8 @@ use Rattle.wire_buf.specs.declared.error.WireError.TheVariants.{OutOfMemory}
 use Rattle.wire_buf.specs.declared.io.ParseBuf.{ParseBuf}
 use Rattle.wire_buf.specs.Payloads.{ReadsPayload}
 use Rattle.wire_buf.specs.Reading.{Parses}
+use Rattle.wire_codec.specs.Delivery.{Ending, Delivers}
+use Rattle.wire_codec.specs.Framing.{id_after, stream}
 use Rattle.wire_repr.specs.Law.{ComesBack, LeavesRest, seen, Parses-back, parse-back}
 
 -- The value is one that is kept, and the rest is left. Where reading takes memory, the answer may
@@ -15,6 +17,28 @@ abbrev pub LeavesAfter : {X : Type 0} → (X → Type 0) → Type 0 → List ℕ
 LeavesAfter kept takes_memory rest (Ok taken) =
     LeavesRest kept takes_memory rest (Ok taken.0) taken.1.0.now
 LeavesAfter kept takes_memory rest (Err error) = (error ≡ OutOfMemory) × takes_memory
+
+-- the same where the payload is these bytes and the rest
+abbrev pub LeavesBehind : {X : Type 0} → List ℕ → List ℕ → (X → Type 0) → Type 0 → List ℕ
+    → Result (X × ParseBuf) WireError → Type 0
+LeavesBehind bytes rest kept takes_memory payload result =
+    payload ≡ bytes ++ rest → LeavesAfter kept takes_memory rest result
+
+-- whatever the answer to these bytes is, a value that is kept comes back of them, and all are eaten
+abbrev pub ReadsBack : {X : Type 0} → (List ℕ → Result X WireError → ℕ → Type 0) → List ℕ
+    → (X → Type 0) → Type 0 → Type 0
+ReadsBack {X = X} reads bytes kept takes_memory =
+    (answer : Result X WireError) (eaten : ℕ) → reads bytes answer eaten
+    → ComesBack kept takes_memory (length bytes) answer eaten
+
+-- of the stream of these payloads, with more behind it, they are delivered first, and then what is
+-- delivered of the more
+abbrev pub DeliversFirst : ℕ → ℕ → List (List ℕ) → Type 0
+DeliversFirst first_id limit payloads =
+    (more : List ℕ) (delivered : List (List ℕ)) (ending : Ending) (unfinished rest : List ℕ)
+    → Delivers [] (stream first_id payloads ++ more) first_id limit delivered ending unfinished rest
+    → (others : List (List ℕ)) × (delivered ≡ payloads ++ others)
+    × Delivers [] more (id_after first_id payloads) limit others ending unfinished rest
 
 -- ---- lemmas
 

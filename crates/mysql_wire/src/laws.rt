@@ -1,14 +1,11 @@
 //! Laws over the definitions that the contracts cite. Each function but `packet_back` takes and
 //! answers nothing: its contract is the law, and a caller has it by calling.
 
-ghost use Rattle.std.specs.Prelude.{◌≡◌, ◌≤◌, ℕ, List, [], ◌++◌, length, map, All, Result};
+ghost use Rattle.std.specs.Prelude.{◌≤◌, ℕ, List, [], length, map, All};
 ghost use Rattle.wire_buf.specs.Payloads.{ReadsPayload};
 ghost use Rattle.wire_buf.specs.Reading.{Parses};
-ghost use Rattle.wire_buf.specs.declared.error.WireError.{WireError};
-ghost use Rattle.wire_codec.specs.Delivery.{Ending, Delivers};
-ghost use Rattle.wire_codec.specs.Framing.{id_after, stream};
-ghost use Rattle.wire_repr.specs.Law.{ComesBack, seen};
-ghost use Rattle.mysql_wire.specs.PayloadsBack.{LeavesAfter};
+ghost use Rattle.wire_repr.specs.Law.{seen};
+ghost use Rattle.mysql_wire.specs.PayloadsBack.{DeliversFirst, LeavesBehind, ReadsBack};
 
 use std::alloc::Allocator;
 use wire_buf::error::WireError;
@@ -37,8 +34,8 @@ pub fn packet_back<'de, T: Wire<'de, A>, A: Allocator + Copy>(
 ) -> Result<(T, ParseBuf<'de>), WireError>
     ensures reads { ReadsPayload (Parses T.Size.SIZE (T.reads ctx)) payload.entry.now result }
     ensures back { (value : T) (rest : List ℕ) → T.is_value value
-        → T.good ctx value (seen T.Size.SIZE rest) → payload.entry.now ≡ T.bytes value ++ rest
-        → LeavesAfter (T.kept value) T.takes_memory rest result }
+        → T.good ctx value (seen T.Size.SIZE rest)
+        → LeavesBehind (T.bytes value) rest (T.kept value) T.takes_memory payload.entry.now result }
 {
     parse_packet_in(alloc, ctx, payload)
 }
@@ -47,18 +44,12 @@ pub fn packet_back<'de, T: Wire<'de, A>, A: Allocator + Copy>(
 /// anything behind it, delivery hands out these packets first; and each of them, read as its type
 /// is read, gives back its value, and nothing is left.
 pub fn values_come_back<'de, T: Wire<'de, A>, A: Allocator + Copy>()
-    ensures delivered { (first_id limit : ℕ) (values : List T) (more : List ℕ)
-        (delivered : List (List ℕ)) (ending : Ending) (unfinished rest : List ℕ)
+    ensures delivered { (first_id limit : ℕ) (values : List T)
         → All (λ value. length (T.bytes value) ≤ limit) values
-        → Delivers [] (stream first_id (map T.bytes values) ++ more) first_id limit delivered
-        ending unfinished rest
-        → (others : List (List ℕ)) × (delivered ≡ map T.bytes values ++ others)
-        × Delivers [] more (id_after first_id (map T.bytes values)) limit others ending unfinished
-        rest }
-    ensures back { (ctx : T.Ctx) (value : T) (answer : Result T WireError) (eaten : ℕ)
-        → T.is_value value → T.good ctx value []
-        → Parses T.Size.SIZE (T.reads ctx) (T.bytes value) answer eaten
-        → ComesBack (T.kept value) T.takes_memory (length (T.bytes value)) answer eaten }
+        → DeliversFirst first_id limit (map T.bytes values) }
+    ensures back { (ctx : T.Ctx) (value : T) → T.is_value value → T.good ctx value []
+        → ReadsBack (Parses T.Size.SIZE (T.reads ctx)) (T.bytes value) (T.kept value)
+        T.takes_memory }
 {
     encoded_first();
 }

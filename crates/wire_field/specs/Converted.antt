@@ -20,6 +20,12 @@ abbrev pub ConvertsBack : {P T E : Type 0} → (P → Result T E → Type 0) →
 ConvertsBack {T = T} {E = E} converts number value =
     (answer : Result T E) → converts number answer → answer ≡ Ok value
 
+-- so does what is kept of a number that is one of its type
+abbrev pub KeepsValue : {P T E : Type 0} → (P → Type 0) → (P → P) → (P → Result T E → Type 0) → P
+    → T → Type 0
+KeepsValue is_value kept converts number value =
+    is_value number × ConvertsBack converts (kept number) value
+
 -- ---- lemmas
 
 pub ReadsConverted-back : {P T E Y : Type 0} (part : Y → T) (converts : P → Result T E → Type 0)

@@ -1,10 +1,10 @@
 //! Constants, bytes that say nothing, and arrays come back whatever follows.
 
-ghost use Rattle.std.specs.Prelude.{◌≡◌, List, ℕ, [], ◌∷◌, ◌++◌, length, take, replicate, Some, Ok};
+ghost use Rattle.std.specs.Prelude.{◌≡◌, List, ℕ, [], ◌∷◌, length, take, replicate, Some, Ok};
 ghost use Rattle.wire_buf.specs.Numbers.{le_bytes};
 ghost use Rattle.wire_buf.specs.Reading.{Reads, Parses, Answers};
 ghost use Rattle.wire_forms.specs.Constants.{ReadsAny, ReadsConst};
-ghost use Rattle.wire_repr.specs.Law.{LeavesRest};
+ghost use Rattle.wire_repr.specs.Law.{ComesBackFrom};
 
 use std::alloc::Global;
 use wire_buf::error::WireError;
@@ -20,8 +20,7 @@ pub fn const_u8<T, const N: u8>(
 ) -> Result<ConstU8<T, N>, WireError>
     ensures reads { Reads (Parses (Some 1) (ReadsConst 1 (N ∷ []))) buf.old.0.now result
         buf.new.0.now }
-    ensures back { (rest : List ℕ) → buf.old.0.now ≡ N ∷ rest
-        → LeavesRest (λ _. Unit {0}) ⊥ rest result buf.new.0.now }
+    ensures back { ComesBackFrom (N ∷ []) (λ _. Unit {0}) ⊥ buf.old.0.now result buf.new.0.now }
 {
     parse_back(alloc, (), buf)
 }
@@ -41,8 +40,8 @@ pub fn const_u32<T, const N: u32>(
 ) -> Result<ConstU32<T, N>, WireError>
     ensures reads { Reads (Parses (Some 4) (ReadsConst 4 (le_bytes 4 N))) buf.old.0.now result
         buf.new.0.now }
-    ensures back { (rest : List ℕ) → buf.old.0.now ≡ le_bytes 4 N ++ rest
-        → LeavesRest (λ _. Unit {0}) ⊥ rest result buf.new.0.now }
+    ensures back { ComesBackFrom (le_bytes 4 N) (λ _. Unit {0}) ⊥ buf.old.0.now result
+        buf.new.0.now }
 {
     parse_back(alloc, (), buf)
 }
@@ -66,8 +65,7 @@ pub fn const_bytes<T: ConstBytesValue<LEN>, const LEN: usize>(
 ) -> Result<ConstBytes<T, LEN>, WireError>
     ensures reads { Reads (Parses (Some LEN) (ReadsConst LEN T.VALUE)) buf.old.0.now result
         buf.new.0.now }
-    ensures back { (rest : List ℕ) → buf.old.0.now ≡ T.VALUE ++ rest
-        → LeavesRest (λ _. Unit {0}) ⊥ rest result buf.new.0.now }
+    ensures back { ComesBackFrom T.VALUE (λ _. Unit {0}) ⊥ buf.old.0.now result buf.new.0.now }
 {
     parse_back(alloc, (), buf)
 }
@@ -90,8 +88,8 @@ pub fn skipped<const LEN: usize>(
     buf: &mut ParseBuf<'_>,
 ) -> Result<Skip<LEN>, WireError>
     ensures reads { Reads (Parses (Some LEN) (ReadsAny LEN)) buf.old.0.now result buf.new.0.now }
-    ensures back { (rest : List ℕ) → buf.old.0.now ≡ replicate LEN 0 ++ rest
-        → LeavesRest (λ _. Unit {0}) ⊥ rest result buf.new.0.now }
+    ensures back { ComesBackFrom (replicate LEN 0) (λ _. Unit {0}) ⊥ buf.old.0.now result
+        buf.new.0.now }
 {
     parse_back(alloc, (), buf)
 }
@@ -111,8 +109,8 @@ pub fn array<const LEN: usize>(
 ) -> Result<[u8; LEN], WireError>
     ensures reads { Reads (Parses (Some LEN) (λ input. Answers (Ok (take LEN input), LEN)))
         buf.old.0.now result buf.new.0.now }
-    ensures back { (bytes rest : List ℕ) → length bytes ≡ LEN → buf.old.0.now ≡ bytes ++ rest
-        → LeavesRest (λ back. back ≡ bytes) ⊥ rest result buf.new.0.now }
+    ensures back { (bytes : List ℕ) → length bytes ≡ LEN
+        → ComesBackFrom bytes (λ back. back ≡ bytes) ⊥ buf.old.0.now result buf.new.0.now }
 {
     parse_back(alloc, (), buf)
 }

@@ -1,9 +1,9 @@
 //! Constants and sets of flags come back whatever follows.
 
-ghost use Rattle.std.specs.Prelude.{◌≡◌, ℕ, List, ◌++◌, Ok, Err, OnOk, IfOk, IfErr};
+ghost use Rattle.std.specs.Prelude.{◌≡◌, ℕ, List, Ok, Err, OnOk, IfOk, IfErr};
 ghost use Rattle.wire_buf.specs.Reading.{Reads, Parses, Through};
-ghost use Rattle.wire_field.specs.Converted.{ConvertsBack, ReadsConverted};
-ghost use Rattle.wire_repr.specs.Law.{LeavesRest};
+ghost use Rattle.wire_field.specs.Converted.{ConvertsBack, KeepsValue, ReadsConverted};
+ghost use Rattle.wire_repr.specs.Law.{ComesBackFrom};
 
 use bitflags::Flags;
 use std::alloc::Global;
@@ -21,9 +21,9 @@ pub fn raw_const<T: IntRepr, U>(
 ) -> Result<RawConst<T, U>, WireError>
     ensures reads { Reads (Parses T.Size.SIZE (λ input. Through (λ raw. raw.0) (T.reads input)))
         buf.old.0.now result buf.new.0.now }
-    ensures back { (val : T.Primitive) (rest : List ℕ) → T.is_value val
-        → buf.old.0.now ≡ T.bytes val ++ rest
-        → LeavesRest (λ back. back.0 ≡ T.kept val) ⊥ rest result buf.new.0.now }
+    ensures back { (val : T.Primitive) → T.is_value val
+        → ComesBackFrom (T.bytes val) (λ back. back.0 ≡ T.kept val) ⊥ buf.old.0.now result
+        buf.new.0.now }
 {
     parse_back(alloc, (), buf)
 }
@@ -67,10 +67,9 @@ where
     ensures reads { Reads (Parses U.Size.SIZE (λ input.
         ReadsConverted (λ constant. constant.0) T.try_from_gives (U.reads input)))
         buf.old.0.now result buf.new.0.now }
-    ensures back { (value : T) (rest : List ℕ) → U.is_value (T.number value)
-        → ConvertsBack T.try_from_gives (U.kept (T.number value)) value
-        → buf.old.0.now ≡ U.bytes (T.number value) ++ rest
-        → LeavesRest (λ back. back.0 ≡ value) ⊥ rest result buf.new.0.now }
+    ensures back { (val : T) → KeepsValue U.is_value U.kept T.try_from_gives (T.number val) val
+        → ComesBackFrom (U.bytes (T.number val)) (λ back. back.0 ≡ val) ⊥ buf.old.0.now result
+        buf.new.0.now }
 {
     parse_back(alloc, (), buf)
 }
@@ -97,9 +96,9 @@ pub fn raw_flags<T: Flags, U: IntRepr<Primitive = T::Bits>>(
 ) -> Result<RawFlags<T, U>, WireError>
     ensures reads { Reads (Parses U.Size.SIZE (λ input. Through (λ flags. flags.0) (U.reads input)))
         buf.old.0.now result buf.new.0.now }
-    ensures back { (bits : T.Bits) (rest : List ℕ) → U.is_value bits
-        → buf.old.0.now ≡ U.bytes bits ++ rest
-        → LeavesRest (λ back. back.0 ≡ U.kept bits) ⊥ rest result buf.new.0.now }
+    ensures back { (bits : T.Bits) → U.is_value bits
+        → ComesBackFrom (U.bytes bits) (λ back. back.0 ≡ U.kept bits) ⊥ buf.old.0.now result
+        buf.new.0.now }
 {
     parse_back(alloc, (), buf)
 }

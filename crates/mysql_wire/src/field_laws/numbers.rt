@@ -1,6 +1,6 @@
 //! What comes back of a number, by its representation.
 
-ghost use Rattle.std.specs.Prelude.{◌≡◌, List, ℕ, ℤ, [], ◌∷◌, ◌++◌, ◌<◌, ◌^◌, ◌%◌, ◌/◌, ◌*◌, ◌-◌};
+ghost use Rattle.std.specs.Prelude.{◌≡◌, ℕ, ℤ, [], ◌∷◌, ◌<◌, ◌^◌, ◌%◌, ◌/◌, ◌*◌, ◌-◌};
 ghost use Rattle.std.specs.Int.{cast_unsigned, w8, w16, w32, w64};
 ghost use Rattle.std.specs.Int.RustNames.{FitsSigned};
 ghost use Rattle.wire_buf.specs.Lenenc.{IsLenencOrMark, lenenc_bytes};
@@ -8,8 +8,9 @@ ghost use Rattle.wire_buf.specs.Numbers.{le_bytes, le_number, signed_number, sig
 ghost use Rattle.wire_buf.specs.Reading.{Reads, Through};
 ghost use Rattle.wire_buf.specs.Spelling.{IsShortest};
 ghost use Rattle.wire_forms.specs.Groups.{IsGroups, ReadsGroups, groups_bytes};
-ghost use Rattle.wire_repr.specs.Law.{LeavesRest, ParsesFixed};
+ghost use Rattle.wire_repr.specs.Law.{ComesBackFrom, ParsesFixed};
 ghost use Rattle.wire_forms.specs.Spelled.{Leaves, NumberOrEof};
+ghost use Rattle.wire_repr.specs.SignedNumbers.{signed_bytes};
 
 use std::alloc::Global;
 use wire_buf::error::WireError;
@@ -25,8 +26,8 @@ use wire_repr::int::{IntRepr, LeI16, LeI32, LeI64, LeU16, LeU32, LeU64, RawInt};
 /// Any number.
 pub fn u8_number(alloc: Global, buf: &mut ParseBuf<'_>) -> Result<RawInt<u8>, WireError>
     ensures reads { ParsesFixed (λ int. int.0) 1 le_number buf.old.0.now result buf.new.0.now }
-    ensures back { (val : ℕ) (rest : List ℕ) → val < 2 ^ 8 → buf.old.0.now ≡ val ∷ [] ++ rest
-        → LeavesRest (λ back. back.0 ≡ val) ⊥ rest result buf.new.0.now }
+    ensures back { (val : ℕ) → val < 2 ^ 8
+        → ComesBackFrom (val ∷ []) (λ back. back.0 ≡ val) ⊥ buf.old.0.now result buf.new.0.now }
 {
     number_back(alloc, buf)
 }
@@ -34,8 +35,9 @@ pub fn u8_number(alloc: Global, buf: &mut ParseBuf<'_>) -> Result<RawInt<u8>, Wi
 /// Any number.
 pub fn le_u16_number(alloc: Global, buf: &mut ParseBuf<'_>) -> Result<RawInt<LeU16>, WireError>
     ensures reads { ParsesFixed (λ int. int.0) 2 le_number buf.old.0.now result buf.new.0.now }
-    ensures back { (val : ℕ) (rest : List ℕ) → val < 2 ^ 16 → buf.old.0.now ≡ le_bytes 2 val ++ rest
-        → LeavesRest (λ back. back.0 ≡ val) ⊥ rest result buf.new.0.now }
+    ensures back { (val : ℕ) → val < 2 ^ 16
+        → ComesBackFrom (le_bytes 2 val) (λ back. back.0 ≡ val) ⊥ buf.old.0.now result
+        buf.new.0.now }
 {
     number_back(alloc, buf)
 }
@@ -43,8 +45,9 @@ pub fn le_u16_number(alloc: Global, buf: &mut ParseBuf<'_>) -> Result<RawInt<LeU
 /// Any number, modulo 2^24.
 pub fn le_u24_number(alloc: Global, buf: &mut ParseBuf<'_>) -> Result<RawInt<LeU24>, WireError>
     ensures reads { ParsesFixed (λ int. int.0) 3 le_number buf.old.0.now result buf.new.0.now }
-    ensures back { (val : ℕ) (rest : List ℕ) → val < 2 ^ 32 → buf.old.0.now ≡ le_bytes 3 val ++ rest
-        → LeavesRest (λ back. back.0 ≡ val % 2 ^ 24) ⊥ rest result buf.new.0.now }
+    ensures back { (val : ℕ) → val < 2 ^ 32
+        → ComesBackFrom (le_bytes 3 val) (λ back. back.0 ≡ val % 2 ^ 24) ⊥ buf.old.0.now result
+        buf.new.0.now }
 {
     number_back(alloc, buf)
 }
@@ -52,8 +55,9 @@ pub fn le_u24_number(alloc: Global, buf: &mut ParseBuf<'_>) -> Result<RawInt<LeU
 /// Any number.
 pub fn le_u32_number(alloc: Global, buf: &mut ParseBuf<'_>) -> Result<RawInt<LeU32>, WireError>
     ensures reads { ParsesFixed (λ int. int.0) 4 le_number buf.old.0.now result buf.new.0.now }
-    ensures back { (val : ℕ) (rest : List ℕ) → val < 2 ^ 32 → buf.old.0.now ≡ le_bytes 4 val ++ rest
-        → LeavesRest (λ back. back.0 ≡ val) ⊥ rest result buf.new.0.now }
+    ensures back { (val : ℕ) → val < 2 ^ 32
+        → ComesBackFrom (le_bytes 4 val) (λ back. back.0 ≡ val) ⊥ buf.old.0.now result
+        buf.new.0.now }
 {
     number_back(alloc, buf)
 }
@@ -61,8 +65,9 @@ pub fn le_u32_number(alloc: Global, buf: &mut ParseBuf<'_>) -> Result<RawInt<LeU
 /// Any number, modulo 2^48.
 pub fn le_u48_number(alloc: Global, buf: &mut ParseBuf<'_>) -> Result<RawInt<LeU48>, WireError>
     ensures reads { ParsesFixed (λ int. int.0) 6 le_number buf.old.0.now result buf.new.0.now }
-    ensures back { (val : ℕ) (rest : List ℕ) → val < 2 ^ 64 → buf.old.0.now ≡ le_bytes 6 val ++ rest
-        → LeavesRest (λ back. back.0 ≡ val % 2 ^ 48) ⊥ rest result buf.new.0.now }
+    ensures back { (val : ℕ) → val < 2 ^ 64
+        → ComesBackFrom (le_bytes 6 val) (λ back. back.0 ≡ val % 2 ^ 48) ⊥ buf.old.0.now result
+        buf.new.0.now }
 {
     number_back(alloc, buf)
 }
@@ -70,8 +75,9 @@ pub fn le_u48_number(alloc: Global, buf: &mut ParseBuf<'_>) -> Result<RawInt<LeU
 /// Any number, modulo 2^56.
 pub fn le_u56_number(alloc: Global, buf: &mut ParseBuf<'_>) -> Result<RawInt<LeU56>, WireError>
     ensures reads { ParsesFixed (λ int. int.0) 7 le_number buf.old.0.now result buf.new.0.now }
-    ensures back { (val : ℕ) (rest : List ℕ) → val < 2 ^ 64 → buf.old.0.now ≡ le_bytes 7 val ++ rest
-        → LeavesRest (λ back. back.0 ≡ val % 2 ^ 56) ⊥ rest result buf.new.0.now }
+    ensures back { (val : ℕ) → val < 2 ^ 64
+        → ComesBackFrom (le_bytes 7 val) (λ back. back.0 ≡ val % 2 ^ 56) ⊥ buf.old.0.now result
+        buf.new.0.now }
 {
     number_back(alloc, buf)
 }
@@ -79,8 +85,9 @@ pub fn le_u56_number(alloc: Global, buf: &mut ParseBuf<'_>) -> Result<RawInt<LeU
 /// Any number.
 pub fn le_u64_number(alloc: Global, buf: &mut ParseBuf<'_>) -> Result<RawInt<LeU64>, WireError>
     ensures reads { ParsesFixed (λ int. int.0) 8 le_number buf.old.0.now result buf.new.0.now }
-    ensures back { (val : ℕ) (rest : List ℕ) → val < 2 ^ 64 → buf.old.0.now ≡ le_bytes 8 val ++ rest
-        → LeavesRest (λ back. back.0 ≡ val) ⊥ rest result buf.new.0.now }
+    ensures back { (val : ℕ) → val < 2 ^ 64
+        → ComesBackFrom (le_bytes 8 val) (λ back. back.0 ≡ val) ⊥ buf.old.0.now result
+        buf.new.0.now }
 {
     number_back(alloc, buf)
 }
@@ -89,9 +96,9 @@ pub fn le_u64_number(alloc: Global, buf: &mut ParseBuf<'_>) -> Result<RawInt<LeU
 pub fn i8_number(alloc: Global, buf: &mut ParseBuf<'_>) -> Result<RawInt<i8>, WireError>
     ensures reads { ParsesFixed (λ int. int.0) 1 (signed_le_number 1) buf.old.0.now result
         buf.new.0.now }
-    ensures back { (val : ℤ) (rest : List ℕ) → FitsSigned w8 val
-        → buf.old.0.now ≡ le_bytes 1 (cast_unsigned w8 val) ++ rest
-        → LeavesRest (λ back. back.0 ≡ val) ⊥ rest result buf.new.0.now }
+    ensures back { (val : ℤ) → FitsSigned w8 val
+        → ComesBackFrom (signed_bytes 1 w8 val) (λ back. back.0 ≡ val) ⊥ buf.old.0.now result
+        buf.new.0.now }
 {
     number_back(alloc, buf)
 }
@@ -100,9 +107,9 @@ pub fn i8_number(alloc: Global, buf: &mut ParseBuf<'_>) -> Result<RawInt<i8>, Wi
 pub fn le_i16_number(alloc: Global, buf: &mut ParseBuf<'_>) -> Result<RawInt<LeI16>, WireError>
     ensures reads { ParsesFixed (λ int. int.0) 2 (signed_le_number 2) buf.old.0.now result
         buf.new.0.now }
-    ensures back { (val : ℤ) (rest : List ℕ) → FitsSigned w16 val
-        → buf.old.0.now ≡ le_bytes 2 (cast_unsigned w16 val) ++ rest
-        → LeavesRest (λ back. back.0 ≡ val) ⊥ rest result buf.new.0.now }
+    ensures back { (val : ℤ) → FitsSigned w16 val
+        → ComesBackFrom (signed_bytes 2 w16 val) (λ back. back.0 ≡ val) ⊥ buf.old.0.now result
+        buf.new.0.now }
 {
     number_back(alloc, buf)
 }
@@ -111,10 +118,10 @@ pub fn le_i16_number(alloc: Global, buf: &mut ParseBuf<'_>) -> Result<RawInt<LeI
 pub fn le_i24_number(alloc: Global, buf: &mut ParseBuf<'_>) -> Result<RawInt<LeI24>, WireError>
     ensures reads { ParsesFixed (λ int. int.0) 3 (signed_le_number 3) buf.old.0.now result
         buf.new.0.now }
-    ensures back { (val : ℤ) (rest : List ℕ) → FitsSigned w32 val
-        → buf.old.0.now ≡ le_bytes 3 (cast_unsigned w32 val) ++ rest
-        → LeavesRest (λ back. back.0 ≡ signed_number 3 (cast_unsigned w32 val % 2 ^ 24)) ⊥ rest
-        result buf.new.0.now }
+    ensures back { (val : ℤ) → FitsSigned w32 val
+        → ComesBackFrom (signed_bytes 3 w32 val)
+        (λ back. back.0 ≡ signed_number 3 (cast_unsigned w32 val % 2 ^ 24)) ⊥ buf.old.0.now result
+        buf.new.0.now }
 {
     number_back(alloc, buf)
 }
@@ -123,9 +130,9 @@ pub fn le_i24_number(alloc: Global, buf: &mut ParseBuf<'_>) -> Result<RawInt<LeI
 pub fn le_i32_number(alloc: Global, buf: &mut ParseBuf<'_>) -> Result<RawInt<LeI32>, WireError>
     ensures reads { ParsesFixed (λ int. int.0) 4 (signed_le_number 4) buf.old.0.now result
         buf.new.0.now }
-    ensures back { (val : ℤ) (rest : List ℕ) → FitsSigned w32 val
-        → buf.old.0.now ≡ le_bytes 4 (cast_unsigned w32 val) ++ rest
-        → LeavesRest (λ back. back.0 ≡ val) ⊥ rest result buf.new.0.now }
+    ensures back { (val : ℤ) → FitsSigned w32 val
+        → ComesBackFrom (signed_bytes 4 w32 val) (λ back. back.0 ≡ val) ⊥ buf.old.0.now result
+        buf.new.0.now }
 {
     number_back(alloc, buf)
 }
@@ -134,10 +141,10 @@ pub fn le_i32_number(alloc: Global, buf: &mut ParseBuf<'_>) -> Result<RawInt<LeI
 pub fn le_i56_number(alloc: Global, buf: &mut ParseBuf<'_>) -> Result<RawInt<LeI56>, WireError>
     ensures reads { ParsesFixed (λ int. int.0) 7 (signed_le_number 7) buf.old.0.now result
         buf.new.0.now }
-    ensures back { (val : ℤ) (rest : List ℕ) → FitsSigned w64 val
-        → buf.old.0.now ≡ le_bytes 7 (cast_unsigned w64 val) ++ rest
-        → LeavesRest (λ back. back.0 ≡ signed_number 7 (cast_unsigned w64 val % 2 ^ 56)) ⊥ rest
-        result buf.new.0.now }
+    ensures back { (val : ℤ) → FitsSigned w64 val
+        → ComesBackFrom (signed_bytes 7 w64 val)
+        (λ back. back.0 ≡ signed_number 7 (cast_unsigned w64 val % 2 ^ 56)) ⊥ buf.old.0.now result
+        buf.new.0.now }
 {
     number_back(alloc, buf)
 }
@@ -146,9 +153,9 @@ pub fn le_i56_number(alloc: Global, buf: &mut ParseBuf<'_>) -> Result<RawInt<LeI
 pub fn le_i64_number(alloc: Global, buf: &mut ParseBuf<'_>) -> Result<RawInt<LeI64>, WireError>
     ensures reads { ParsesFixed (λ int. int.0) 8 (signed_le_number 8) buf.old.0.now result
         buf.new.0.now }
-    ensures back { (val : ℤ) (rest : List ℕ) → FitsSigned w64 val
-        → buf.old.0.now ≡ le_bytes 8 (cast_unsigned w64 val) ++ rest
-        → LeavesRest (λ back. back.0 ≡ val) ⊥ rest result buf.new.0.now }
+    ensures back { (val : ℤ) → FitsSigned w64 val
+        → ComesBackFrom (signed_bytes 8 w64 val) (λ back. back.0 ≡ val) ⊥ buf.old.0.now result
+        buf.new.0.now }
 {
     number_back(alloc, buf)
 }
@@ -159,8 +166,9 @@ pub fn lower_half(
     buf: &mut ParseBuf<'_>,
 ) -> Result<RawInt<LeU32LowerHalf>, WireError>
     ensures reads { ParsesFixed (λ int. int.0) 2 le_number buf.old.0.now result buf.new.0.now }
-    ensures back { (val : ℕ) (rest : List ℕ) → val < 2 ^ 32 → buf.old.0.now ≡ le_bytes 2 val ++ rest
-        → LeavesRest (λ back. back.0 ≡ val % 65536) ⊥ rest result buf.new.0.now }
+    ensures back { (val : ℕ) → val < 2 ^ 32
+        → ComesBackFrom (le_bytes 2 val) (λ back. back.0 ≡ val % 65536) ⊥ buf.old.0.now result
+        buf.new.0.now }
 {
     number_back(alloc, buf)
 }
@@ -172,9 +180,9 @@ pub fn upper_half(
 ) -> Result<RawInt<LeU32UpperHalf>, WireError>
     ensures reads { ParsesFixed (λ int. int.0) 2 (λ bytes. 65536 * le_number bytes) buf.old.0.now
         result buf.new.0.now }
-    ensures back { (val : ℕ) (rest : List ℕ) → val < 2 ^ 32
-        → buf.old.0.now ≡ le_bytes 2 (val / 65536) ++ rest
-        → LeavesRest (λ back. back.0 ≡ val - val % 65536) ⊥ rest result buf.new.0.now }
+    ensures back { (val : ℕ) → val < 2 ^ 32
+        → ComesBackFrom (le_bytes 2 (val / 65536)) (λ back. back.0 ≡ val - val % 65536) ⊥
+        buf.old.0.now result buf.new.0.now }
 {
     number_back(alloc, buf)
 }
@@ -184,9 +192,9 @@ pub fn lenenc_number(alloc: Global, buf: &mut ParseBuf<'_>) -> Result<RawInt<Len
     ensures reads { Reads (λ input.
         Through (λ int. int.0) (Leaves (NumberOrEof IsLenencOrMark 1) input)) buf.old.0.now result
         buf.new.0.now }
-    ensures back { (val : ℕ) (rest : List ℕ) → val < 2 ^ 64
-        → buf.old.0.now ≡ lenenc_bytes val ++ rest
-        → LeavesRest (λ back. back.0 ≡ val) ⊥ rest result buf.new.0.now }
+    ensures back { (val : ℕ) → val < 2 ^ 64
+        → ComesBackFrom (lenenc_bytes val) (λ back. back.0 ≡ val) ⊥ buf.old.0.now result
+        buf.new.0.now }
 {
     number_back(alloc, buf)
 }
@@ -195,9 +203,9 @@ pub fn lenenc_number(alloc: Global, buf: &mut ParseBuf<'_>) -> Result<RawInt<Len
 pub fn var_len_number(alloc: Global, buf: &mut ParseBuf<'_>) -> Result<RawInt<VarLen>, WireError>
     ensures reads { Reads (λ input. Through (λ int. int.0) (Leaves ReadsGroups input)) buf.old.0.now
         result buf.new.0.now }
-    ensures back { (val : ℕ) (rest : List ℕ) → val < 2 ^ 32
-        → buf.old.0.now ≡ groups_bytes val ++ rest
-        → LeavesRest (λ back. back.0 ≡ val) ⊥ rest result buf.new.0.now }
+    ensures back { (val : ℕ) → val < 2 ^ 32
+        → ComesBackFrom (groups_bytes val) (λ back. back.0 ≡ val) ⊥ buf.old.0.now result
+        buf.new.0.now }
 {
     number_back(alloc, buf)
 }

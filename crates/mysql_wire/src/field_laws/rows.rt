@@ -4,7 +4,7 @@ ghost use Rattle.std.specs.Prelude.{◌≡◌, ℕ, List, ◌++◌, length, ◌�
 ghost use Rattle.wire_buf.specs.Reading.{Reads, Parses, Answers, Through, front_at};
 ghost use Rattle.wire_field.specs.Rows.{ReadsBoth, ReadsEither, OnSide, SameSide, by_side};
 ghost use Rattle.wire_field.specs.declared.row.Either.{Either};
-ghost use Rattle.wire_repr.specs.Law.{LeavesRest, seen};
+ghost use Rattle.wire_repr.specs.Law.{ComesBackFrom, GoodBefore, LeavesRest, seen};
 
 use std::alloc::{Allocator, Global};
 use wire_buf::error::WireError;
@@ -21,8 +21,8 @@ pub fn slice<'a>(
 ) -> Result<Slice<'a>, WireError>
     ensures reads { Reads (λ input. Through (λ slice. slice.0.now)
         (Answers (front_at count input))) buf.old.0.now result buf.new.0.now }
-    ensures back { (bytes rest : List ℕ) → count ≡ length bytes → buf.old.0.now ≡ bytes ++ rest
-        → LeavesRest (λ back. back.0.now ≡ bytes) ⊥ rest result buf.new.0.now }
+    ensures back { (bytes : List ℕ) → count ≡ length bytes
+        → ComesBackFrom bytes (λ back. back.0.now ≡ bytes) ⊥ buf.old.0.now result buf.new.0.now }
 {
     parse_back::<'a, Slice<'a>, Global>(alloc, count, buf)
 }
@@ -59,9 +59,9 @@ pub fn either_comes_back<'de, T: Wire<'de, A>, U: Wire<'de, A>, A: Allocator + C
     _either: &Either<T, U>,
     _back: &Either<T, U>,
 )
-    ensures good { (rest : List ℕ) → SameSide (λ ctx left. T.good ctx left (seen T.Size.SIZE rest))
-        (λ ctx right. U.good ctx right (seen U.Size.SIZE rest)) _ctx _either.now
-        → ⟦<Either<T, U> as Wire<'de, A>>⟧.good _ctx _either.now rest }
+    ensures good { (rest : List ℕ)
+        → SameSide (GoodBefore T.Size.SIZE T.good rest) (GoodBefore U.Size.SIZE U.good rest) _ctx
+        _either.now → ⟦<Either<T, U> as Wire<'de, A>>⟧.good _ctx _either.now rest }
     ensures kept { ⟦<Either<T, U> as Wire<'de, A>>⟧.kept _either.now _back.now
         → SameSide T.kept U.kept _either.now _back.now }
 {}

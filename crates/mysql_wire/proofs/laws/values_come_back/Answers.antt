@@ -4,7 +4,7 @@ use Rattle.mysql_wire.specs.PayloadsBack.{alone-back}
 use Rattle.mysql_wire.proofs.laws.values_come_back.Goals as goal
 
 pub returns-clause-delivered : goal.returns-clause-delivered
-returns-clause-delivered g c = λ first_id limit values more delivered ending unfinished rest fit whole.
+returns-clause-delivered g c = λ first_id limit values fit more delivered ending unfinished rest whole.
     c.encoded_first.ensures first_id limit (map g.T.MySerialize.bytes values) delivered more ending
     unfinished rest
     (All-map (λ payload. length payload ≤ limit) g.T.MySerialize.bytes values fit) whole
@@ -13,7 +13,7 @@ pub returns-clause-back : goal.returns-clause-back
 returns-clause-back g c =
     let claim : g.claim c.lifetimes = assumption tt in
     let met = g.met.T.Wire c.lifetimes claim in
-    λ ctx value answer eaten is good read. alone-back g.T.Size.ReadSize.SIZE
+    λ ctx value is good answer eaten read. alone-back g.T.Size.ReadSize.SIZE
     (g.T.MyDeserialize.reads ctx) (g.T.Wire.kept value) g.T.Wire.takes_memory
     (g.T.MySerialize.bytes value)
     (λ size stated. met.of_size value size is stated)
