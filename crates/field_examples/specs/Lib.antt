@@ -1,4 +1,5 @@
 pub mod Commands
 pub mod OwnFields
 pub mod Parameters
+pub mod TextLists
 pub mod Keyed

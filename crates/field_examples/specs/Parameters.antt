@@ -1,6 +1,9 @@
 -- What stands on the wire for a parameter of a query, and that it is read back.
 use Rattle.std.specs.Prelude.{ℕ, ◌<◌, ◌^◌, ◌≡◌, List, [], ◌++◌, length, Some, Result, ◌⊎◌}
 use Rattle.std.specs.Cow.{cow_slice_items}
+use Rattle.std.specs.List.{All}
+use Rattle.std.specs.declared.borrow.CowSlice.{CowSlice}
+use Rattle.mysql_wire.specs.Elements.{AllKept}
 use Rattle.mysql_wire.specs.WireError.{WireError}
 use Rattle.mysql_wire.specs.Law.{ComesBack, ReadsFixed, Parses-back, Through-back, size-is}
 use Rattle.mysql_wire.specs.Lenenc.{IsLenencOrMark, lenenc_bytes}
@@ -32,6 +35,15 @@ abbrev pub SameParameter : Parameter → Parameter → Type 0
 SameParameter parameter back =
     (back.type_and_flags.0 ≡ parameter.type_and_flags.0)
     × IsBorrowedText back.name.0 (cow_slice_items parameter.name.0)
+
+-- a list of so many parameters
+abbrev pub AreParameters : ℕ → List Parameter → Type 0
+AreParameters count parameters = All IsParameter parameters × (count ≡ length parameters)
+    × (length parameters < 2 ^ 64)
+
+-- the same parameters, in a list that is read
+abbrev pub SameParameters : {Z : Type 0} → List Parameter → CowSlice Parameter Z → Type 0
+SameParameters parameters back = AllKept SameParameter parameters (cow_slice_items back)
 
 -- two bytes are read, and then a text behind its length
 abbrev pub ReadsParameter : List ℕ → Result Parameter WireError → ℕ → Type 0

@@ -6,7 +6,7 @@ ghost use Rattle.std.specs.Cow.{cow_slice_items};
 ghost use Rattle.std.specs.HashMap as hash;
 ghost use Rattle.std.specs.Option.{option_copied};
 ghost use Rattle.mysql_wire.specs.WireError.TheVariants.{OutOfMemory};
-ghost use Rattle.field_examples.specs.Keyed.{at_number, at_text};
+ghost use Rattle.field_examples.specs.Keyed.{at_bytes, at_int};
 
 use mysql_wire::io::WireError;
 use mysql_wire::misc::raw::bytes::{EofBytes, RawBytes};
@@ -25,10 +25,9 @@ pub fn note_statement(
     id: RawInt<LeU32>,
     parameters: u16,
 ) -> Result<(), WireError>
-    ensures noted { OnOk result (at_number (λ key. key.0) statements.new id.0 ≡ Some parameters) }
+    ensures noted { OnOk result (at_int statements.new id.0 ≡ Some parameters) }
     ensures others { OnOk result ((other : ℕ) → other ≢ id.0
-        → at_number (λ key. key.0) statements.new other
-        ≡ at_number (λ key. key.0) statements.old other) }
+        → at_int statements.new other ≡ at_int statements.old other) }
     ensures err { IfErr result (λ error. (error ≡ OutOfMemory)
         × hash.IsUnchanged statements.old statements.new) }
 {
@@ -40,7 +39,7 @@ pub fn note_statement(
 
 /// How many parameters the statement has, if there is one.
 pub fn parameters_of(statements: &Statements, id: RawInt<LeU32>) -> Option<u16>
-    ensures { result ≡ at_number (λ key. key.0) statements.now id.0 }
+    ensures { result ≡ at_int statements.now id.0 }
 {
     statements.get(&id).copied()
 }
@@ -52,11 +51,9 @@ pub fn note_schema<'a>(
     times: u64,
 ) -> Result<(), WireError>
     ensures noted { OnOk result
-        (at_text (λ key. cow_slice_items key.0) schemas.new (cow_slice_items name.entry.0)
-        ≡ Some times) }
+        (at_bytes schemas.new (cow_slice_items name.entry.0) ≡ Some times) }
     ensures others { OnOk result ((other : List ℕ) → other ≢ cow_slice_items name.entry.0
-        → at_text (λ key. cow_slice_items key.0) schemas.new other
-        ≡ at_text (λ key. cow_slice_items key.0) schemas.old other) }
+        → at_bytes schemas.new other ≡ at_bytes schemas.old other) }
     ensures err { IfErr result (λ error. (error ≡ OutOfMemory)
         × tree.IsUnchanged schemas.old schemas.new) }
 {
@@ -68,8 +65,7 @@ pub fn note_schema<'a>(
 
 /// How often the schema was chosen, if it ever was. It may be lent or owned here, and there.
 pub fn times_of<'a>(schemas: &Schemas<'a>, name: &RawBytes<'a, EofBytes>) -> Option<u64>
-    ensures { result
-        ≡ at_text (λ key. cow_slice_items key.0) schemas.now (cow_slice_items name.now.0) }
+    ensures { result ≡ at_bytes schemas.now (cow_slice_items name.now.0) }
 {
     schemas.get(name).copied()
 }

@@ -1,8 +1,8 @@
 //! Representations of one's own: a number and a text that the crate lacks, each with the law that
 //! what is written is read back. `RawInt` and `RawBytes` make fields of them.
 
-ghost use Rattle.std.specs.Prelude.{◌≡◌, ◌≤◌, ◌<◌, ◌^◌, ℕ, List, ◌++◌, length, take, Some, None};
-ghost use Rattle.mysql_wire.specs.Law.{ReadsFixed, ParsesFixed, LeavesRest, size-is};
+ghost use Rattle.std.specs.Prelude.{◌≡◌, ◌≤◌, ◌<◌, ◌^◌, ℕ, List, length, take, Some, None};
+ghost use Rattle.mysql_wire.specs.Law.{ReadsFixed, ParsesFixed, ComesBackFrom, size-is};
 ghost use Rattle.mysql_wire.specs.Numbers.{be_number};
 ghost use Rattle.mysql_wire.specs.RawTexts.{IsText, IsBorrowedText, Borrows};
 ghost use Rattle.mysql_wire.specs.Reading.{Reads, Answers};
@@ -113,9 +113,9 @@ impl BytesRepr for U16Bytes {
 /// Reads a port. Whatever stands behind what was written of one, it comes back.
 pub fn read_port(alloc: Global, buf: &mut ParseBuf<'_>) -> Result<RawInt<BeU16>, WireError>
     ensures reads { ParsesFixed (λ int. int.0) 2 be_number buf.old.0.now result buf.new.0.now }
-    ensures back { (port : ℕ) (rest : List ℕ) → port < 2 ^ 16
-        → buf.old.0.now ≡ be_u16_bytes port ++ rest
-        → LeavesRest (λ back. back.0 ≡ port) ⊥ rest result buf.new.0.now }
+    ensures back { (port : ℕ) → port < 2 ^ 16
+        → ComesBackFrom (be_u16_bytes port) (λ back. back.0 ≡ port) ⊥ buf.old.0.now result
+        buf.new.0.now }
 {
     number_back(alloc, buf)
 }
@@ -128,10 +128,9 @@ pub fn read_name<'a>(
 ) -> Result<RawBytes<'a, U16Bytes>, WireError>
     ensures reads { Reads (λ input. Borrows (λ text. text.0) (Answers (u16_text_at input)))
         buf.old.0.now result buf.new.0.now }
-    ensures back { (name rest : List ℕ) → IsText name
-        → buf.old.0.now ≡ u16_text_bytes name ++ rest
-        → LeavesRest (λ back. IsBorrowedText back.0 (take 65535 name)) ⊥ rest
-        result buf.new.0.now }
+    ensures back { (name : List ℕ) → IsText name
+        → ComesBackFrom (u16_text_bytes name) (λ back. IsBorrowedText back.0 (take 65535 name)) ⊥
+        buf.old.0.now result buf.new.0.now }
 {
     parse_back::<'a, RawBytes<'a, U16Bytes>, Global>(alloc, (), buf)
 }

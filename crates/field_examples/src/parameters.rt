@@ -1,13 +1,12 @@
 //! A record of one's own, and lists of it: the types and names of a query's parameters.
 
-ghost use Rattle.std.specs.Prelude.{◌≡◌, ℕ, ◌<◌, ◌^◌, List, ◌++◌, length, None, Ok, OnOk, ◌⊎◌};
-ghost use Rattle.std.specs.Cow.{cow_slice_items};
-ghost use Rattle.std.specs.List.{flat_map, All};
+ghost use Rattle.std.specs.Prelude.{◌≡◌, List, ◌++◌, None, Ok, OnOk, ◌⊎◌};
+ghost use Rattle.std.specs.List.{flat_map};
 ghost use Rattle.mysql_wire.specs.CountedLists.{ReadsCounted};
-ghost use Rattle.mysql_wire.specs.Elements.{AllKept, ReadsAll};
-ghost use Rattle.mysql_wire.specs.Law.{LeavesRest};
+ghost use Rattle.mysql_wire.specs.Elements.{ReadsAll};
+ghost use Rattle.mysql_wire.specs.Law.{ComesBackFrom};
 ghost use Rattle.mysql_wire.specs.Reading.{Reads};
-ghost use Rattle.field_examples.specs.Parameters.{parameter_bytes, IsParameter, SameParameter, ReadsParameter, parameter-back};
+ghost use Rattle.field_examples.specs.Parameters.{parameter_bytes, AreParameters, IsParameter, SameParameter, SameParameters, ReadsParameter, parameter-back};
 ghost use Rattle.field_examples.specs.declared.parameters.Parameter.{Parameter};
 
 use mysql_wire::io::{ParseBuf, WireError};
@@ -101,11 +100,9 @@ pub fn read_parameters<'a>(
 ) -> Result<Seq<'a, Parameter<'a>, Unknown>, WireError>
     ensures reads { Reads (λ input. ReadsCounted (λ list. list.0) (Ok count, 0)
         (ReadsAll None ReadsParameter) input) buf.old.0.now result buf.new.0.now }
-    ensures back { (parameters : List Parameter) (rest : List ℕ) → All IsParameter parameters
-        → count ≡ length parameters → length parameters < 2 ^ 64
-        → buf.old.0.now ≡ flat_map parameter_bytes parameters ++ rest
-        → LeavesRest (λ list. AllKept SameParameter parameters (cow_slice_items list.0)) (Unit {0})
-        rest result buf.new.0.now }
+    ensures back { (list : List Parameter) → AreParameters count list
+        → ComesBackFrom (flat_map parameter_bytes list) (λ back. SameParameters list back.0)
+        (Unit {0}) buf.old.0.now result buf.new.0.now }
 {
     parse_back::<'a, Seq<'a, Parameter<'a>, Unknown>, Global>(alloc, count, buf)
 }

@@ -1,9 +1,10 @@
 //! Lists of texts, lent or read: one text more, a copy, and a list that owns its texts' list.
 
-ghost use Rattle.std.specs.Prelude.{◌≡◌, [], ◌∷◌, ◌++◌, Ok, OnOk, IfOk, IfErr, map};
+ghost use Rattle.std.specs.Prelude.{◌≡◌, Ok, OnOk, IfOk, IfErr};
 ghost use Rattle.std.specs.Cow.{cow_slice_items};
 ghost use Rattle.mysql_wire.specs.RawTexts.{IsOwned, IsNotOwned};
 ghost use Rattle.mysql_wire.specs.Reading.{Reads};
+ghost use Rattle.field_examples.specs.TextLists.{GainsText, texts_of};
 ghost use Rattle.mysql_wire.specs.WireError.TheVariants.{OutOfMemory};
 
 use mysql_wire::io::{ParseBuf, WireError};
@@ -18,8 +19,7 @@ pub type Texts<'a> = Seq<'a, RawBytes<'a, LenEnc>, LeU32>;
 
 /// Puts a text behind the others.
 pub fn push_text<'a>(alloc: Global, list: &mut Texts<'a>, text: &'a [u8]) -> Result<(), WireError>
-    ensures ok { OnOk result (map (λ text. cow_slice_items text.0) (cow_slice_items list.new.0)
-        ≡ map (λ text. cow_slice_items text.0) (cow_slice_items list.old.0) ++ text.now ∷ []) }
+    ensures ok { OnOk result (GainsText list.old.0 text.now list.new.0) }
     ensures err { IfErr result (λ error. (error ≡ OutOfMemory)
         × (cow_slice_items list.new.0 ≡ cow_slice_items list.old.0)) }
 {
@@ -34,8 +34,7 @@ pub fn read_and_push<'a>(
 ) -> Result<Texts<'a>, WireError>
     ensures { IfOk result (λ list. (read : _)
         × Reads (⟦<Texts<'static> as MyDeserialize<'static, Global>>⟧.reads tt) buf.old.0.now (Ok read)
-        buf.new.0.now × (map (λ text. cow_slice_items text.0) (cow_slice_items list.0)
-        ≡ map (λ text. cow_slice_items text.0) (cow_slice_items read.0) ++ text.now ∷ [])) }
+        buf.new.0.now × GainsText read.0 text.now list.0) }
 {
     let mut list: Texts<'a> = buf.parse(alloc, ())?;
     push_text(alloc, &mut list, text)?;
@@ -44,8 +43,7 @@ pub fn read_and_push<'a>(
 
 /// The same texts, in a list of its own where the first has one.
 pub fn copy_texts<'a>(alloc: Global, list: &Texts<'a>) -> Result<Texts<'a>, WireError>
-    ensures ok { IfOk result (λ copy. map (λ text. cow_slice_items text.0) (cow_slice_items copy.0)
-        ≡ map (λ text. cow_slice_items text.0) (cow_slice_items list.now.0)) }
+    ensures ok { IfOk result (λ copy. texts_of copy.0 ≡ texts_of list.now.0) }
     ensures err { IfErr result (λ error. (error ≡ OutOfMemory) × IsOwned list.now.0) }
 {
     list.clone(alloc)
@@ -54,8 +52,7 @@ pub fn copy_texts<'a>(alloc: Global, list: &Texts<'a>) -> Result<Texts<'a>, Wire
 /// The same texts, in a list that is owned.
 pub fn own_texts<'a>(alloc: Global, list: Texts<'a>) -> Result<Texts<'a>, WireError>
     ensures ok { IfOk result (λ owned. IsOwned owned.0
-        × (map (λ text. cow_slice_items text.0) (cow_slice_items owned.0)
-        ≡ map (λ text. cow_slice_items text.0) (cow_slice_items list.entry.0))) }
+        × (texts_of owned.0 ≡ texts_of list.entry.0)) }
     ensures err { IfErr result (λ error. (error ≡ OutOfMemory) × IsNotOwned list.entry.0) }
 {
     list.into_owned(alloc)

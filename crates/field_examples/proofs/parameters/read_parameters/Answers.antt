@@ -6,7 +6,7 @@ use Rattle.field_examples.proofs.parameters.read_parameters.Goals as goal
 
 pub returns-clause-back : goal.returns-clause-back
 returns-clause-back c =
-    λ parameters rest are count fits at. (
+    λ parameters (are, count, fits) rest at. (
     let few : length parameters ≤ 0xffff_ffff_ffff_ffff = omega arith in
     let whole = whole-list 0xffff_ffff_ffff_ffff (λ _. []) parameter_bytes parameters few in
     c.parse_back.ensures.back
