@@ -4,6 +4,7 @@ use Rattle.std.specs.Prelude.{◌≡◌, ℕ, ◌+◌, ◌<◌, ◌≤◌, ◌�
 use Rattle.wire_codec.specs.Framing.{framing, next_id}
 use Rattle.wire_codec.specs.Delivery.{Delivers, Splits, Waiting}
 use Rattle.wire_span.specs.Spans.{SpanState, CameTo, IsBetween, IsOfAnotherId, span_state}
+use Rattle.wire_span.specs.declared.span.SpanDecoder.{SpanDecoder}
 use Rattle.mysql_wire_dump_lines.specs.declared.source.End.{End}
 use Rattle.mysql_wire_dump_lines.specs.declared.source.End.TheVariants.{Between, Unfinished, OutOfSync, Encrypted}
 use Rattle.mysql_wire_dump_lines.specs.declared.source.Next.{Next}
@@ -46,15 +47,13 @@ pub record Collected : Type 0 where
   pub held : List ℕ
   pub unread : List ℕ
 
+abbrev pub collects : SpanDecoder → ℕ → ℕ → List ℕ → List ℕ → Collected
+collects decoder len limit held unread =
+    record { state = span_state decoder; len = len; limit = limit; held = held; unread = unread }
+
 abbrev pub collected : {A : Type 0} → Source A → Collected
 collected source =
-    record {
-      state = span_state source.decoder;
-      len = source.len;
-      limit = source.limit;
-      held = source.held.items;
-      unread = source.src.items;
-    }
+    collects source.decoder source.len source.limit source.held.items source.src.items
 
 -- a packet of this id comes: `begun` of its framing, and `opened` of its payload
 pub record Collects (id : ℕ) (begun opened : List ℕ) (has : Collected) : Type 0 where
@@ -94,6 +93,20 @@ pub record Stands {A : Type 0} (packets : List (ℕ × List ℕ)) (input : List 
   pub taken : source.taken ≡ length begun
   pub most_is : source.decoder.max_allowed_packet ≡ most
   pub next : StandsNext source.next begun (collected source)
+
+-- more of the input is read, and the packets before the next stay the same
+abbrev pub LooksOn : {A : Type 0} → Option (List ℕ) → Option (List ℕ) → Source A → Source A
+    → Type 0
+LooksOn unread left old new = (packets : List (ℕ × List ℕ)) (came : List ℕ)
+    → Stands packets came old → (more : List ℕ) × Consumes unread left more
+    × Stands packets (came ++ more) new
+
+-- the next is a packet, and is now one of those before the next
+abbrev pub PassesPacket : {A : Type 0} → Source A → Source A → Type 0
+PassesPacket old new = (packets : List (ℕ × List ℕ)) (came : List ℕ) (id : ℕ)
+    → old.next ≡ Packet id → (stands : Stands packets came old)
+    → (payload : List ℕ) × HasPacket id payload stands.begun (collected old)
+    × Stands (packets ++ (id, payload) ∷ []) came new
 
 -- where a side's packets end with its bytes, all of them were read
 abbrev pub ReadWhole : End → Option (List ℕ) → Type 0

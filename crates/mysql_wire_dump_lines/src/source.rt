@@ -1,11 +1,11 @@
 //! The packets of one direction.
 
-ghost use Rattle.std.specs.Prelude.{◌≡◌, ◌≢◌, ◌+◌, ◌<◌, ◌≤◌, ℕ, List, [], ◌∷◌, ◌++◌, length, Option, Some, None, IfOk, IfSome, OnOk, MatchOption};
+ghost use Rattle.std.specs.Prelude.{◌≡◌, ◌≢◌, ◌+◌, ◌<◌, ◌≤◌, ℕ, List, [], ◌++◌, length, Option, Some, None, IfOk, IfSome, OnOk, MatchOption};
 ghost use Rattle.std.specs.Io.KnownBytes.{Consumes, IsAtEnd};
 ghost use Rattle.wire_span.specs.Spans.{span_state};
 ghost use Rattle.mysql_wire_dump_lines.specs.declared.source.Next.TheVariants.{Unread, Packet, Ended};
 ghost use Rattle.mysql_wire_dump_lines.specs.declared.source.End.TheVariants.{Encrypted};
-ghost use Rattle.mysql_wire_dump_lines.specs.Sources.{AtEnd, Found, HasPacket, IsIdle, IsReady, Stands, Stepped, Steps, Took, collected, id_of};
+ghost use Rattle.mysql_wire_dump_lines.specs.Sources.{AtEnd, Found, IsIdle, IsReady, LooksOn, PassesPacket, Stands, Stepped, Steps, Took, collects, id_of};
 
 use crate::status::Stop;
 use bytes::BytesMut;
@@ -132,20 +132,8 @@ fn take_span<A: Allocator + Copy>(
     limit: usize,
 ) -> Result<Step, Stop>
     ensures steps { IfOk result (λ step. Steps step
-        (record {
-          state = span_state decoder.old;
-          len = len.old;
-          limit = limit;
-          held = held.old.items;
-          unread = piece.old.now;
-        })
-        (record {
-          state = span_state decoder.new;
-          len = len.new;
-          limit = limit;
-          held = held.new.items;
-          unread = piece.new.now;
-        })) }
+        (collects decoder.old len.old limit held.old.items piece.old.now)
+        (collects decoder.new len.new limit held.new.items piece.new.now)) }
     ensures most { decoder.new.max_allowed_packet ≡ decoder.old.max_allowed_packet }
     ensures shorter { IfOk result (λ _. length piece.new.now ≤ length piece.old.now) }
 {
@@ -323,10 +311,8 @@ impl<A: Allocator + Copy> Source<A> {
 
     /// Looks for the next packet, where it has not been looked for.
     pub fn look<R: Read>(&mut self, input: &mut R) -> Result<(), Stop>
-        ensures looks { OnOk result ((packets : List (ℕ × List ℕ)) (came : List ℕ)
-            → Stands packets came self.old → (more : List ℕ)
-            × Consumes (R.remaining input.old) (R.remaining input.new) more
-            × Stands packets (came ++ more) self.new) }
+        ensures looks { OnOk result
+            (LooksOn (R.remaining input.old) (R.remaining input.new) self.old self.new) }
         ensures next { OnOk result (self.new.next ≢ Unread) }
         ensures kept { OnOk result (self.old.next ≢ Unread → self.new.next ≡ self.old.next) }
         ensures end { OnOk result (AtEnd self.old.next (R.remaining input.old)
@@ -341,10 +327,7 @@ impl<A: Allocator + Copy> Source<A> {
 
     /// Goes on behind the next packet.
     pub fn pass(&mut self) -> Result<(), Stop>
-        ensures passes { OnOk result ((packets : List (ℕ × List ℕ)) (came : List ℕ) (id : ℕ)
-            → self.old.next ≡ Packet id → (old : Stands packets came self.old)
-            → (payload : List ℕ) × HasPacket id payload old.begun (collected self.old)
-            × Stands (packets ++ (id, payload) ∷ []) came self.new) }
+        ensures passes { OnOk result (PassesPacket self.old self.new) }
         ensures next { OnOk result (self.new.next ≡ Unread) }
         ensures limit { OnOk result (self.new.limit ≡ self.old.limit) }
     {
