@@ -159,6 +159,19 @@ bytes_left state =
 abbrev pub next_limit : {A : Type 0} → Run A → ℕ
 next_limit run = if nat_lt 0 run.ahead then run.limit else run.later
 
+-- a run takes one piece, and the lines of what it makes of it are written
+abbrev pub WritesPiece : {A : Type 0} → Run A → Run A → List ℕ → Verdict → Option (List ℕ)
+    → Option (List ℕ) → Type 0
+WritesPiece old new piece verdict written now = (gained : List (List ℕ))
+    × TakesPiece (run_state old) (next_limit old) piece verdict gained (run_state new)
+    × Appends written now (packet_lines gained ++ verdict_line verdict)
+
+-- `unframe` ended so from where this run starts
+abbrev pub RunEnds : {A : Type 0} → Run A → ℕ → Option (List ℕ) → Option (List ℕ)
+    → Option (List ℕ) → Option (List ℕ) → Type 0
+RunEnds run status unread left written now =
+    UnframeEndsOver run.limit run.later run.ahead status unread left written now
+
 -- a run at the start of a stream
 pub record StartsRun (limit later at : ℕ) {A : Type 0} (run : Run A) : Type 0 where
   pub id : expected_id run.codec ≡ 0

@@ -1,6 +1,6 @@
 //! `unframe STEP LIMIT [LATER AT]`: the packets of the input, as they come.
 
-ghost use Rattle.std.specs.Prelude.{◌≡◌, ◌<◌, ◌≤◌, ◌⊎◌, ◌-◌, ◌++◌, ℕ, List, [], length, OnOk, IfOk, string_bytes, vec_len};
+ghost use Rattle.std.specs.Prelude.{◌≡◌, ◌<◌, ◌≤◌, ◌⊎◌, ◌-◌, [], length, OnOk, IfOk, string_bytes, vec_len};
 ghost use Rattle.mysql_wire_commands.specs.declared.unframe.Verdict.TheVariants.{Waits};
 ghost use Rattle.wire_codec.specs.Runs.{payloads};
 
@@ -131,7 +131,7 @@ impl<A: Allocator + Copy> Run<A> {
     }
 }
 
-ghost use Rattle.mysql_wire_commands.specs.Unframe.{packet_lines, verdict_line};
+ghost use Rattle.mysql_wire_commands.specs.Unframe.{verdict_line};
 
 // The line that says why packets stop, where they do.
 fn verdict_text(verdict: Verdict) -> &'static str
@@ -144,7 +144,7 @@ fn verdict_text(verdict: Verdict) -> &'static str
     }
 }
 
-ghost use Rattle.mysql_wire_commands.specs.Unframe.{StartsRun, StopsOver, TakesPiece, UnframeEnds, UnframeEndsOver, UnframeLimitedEnds, bytes_left, ending_line, ending_status, next_limit, place_limits, run_state};
+ghost use Rattle.mysql_wire_commands.specs.Unframe.{RunEnds, StartsRun, StopsOver, UnframeEnds, UnframeEndsOver, UnframeLimitedEnds, WritesPiece, bytes_left, ending_line, ending_status, next_limit, place_limits, run_state};
 ghost use Rattle.mysql_wire_commands.specs.Reads.{AsksStep, AsksUpTo, ReadsWhile};
 ghost use Rattle.std.specs.Io.KnownBytes.{Appends};
 ghost use Rattle.wire_codec.specs.Delivery.{Waiting};
@@ -158,11 +158,8 @@ fn take_piece<A: Allocator + Copy, W: Write>(
     output: &mut W,
 ) -> Result<Verdict, Stop>
     requires { Aligned (run_state run.old) }
-    ensures takes { IfOk result (λ verdict. (gained : List (List ℕ))
-        × TakesPiece (run_state run.old) (next_limit run.old) piece.now verdict gained
-        (run_state run.new)
-        × Appends (W.contents output.old) (W.contents output.new)
-        (packet_lines gained ++ verdict_line verdict)) }
+    ensures takes { IfOk result (λ verdict. WritesPiece run.old run.new piece.now verdict
+        (W.contents output.old) (W.contents output.new)) }
     ensures aligned { IfOk result (λ verdict. verdict ≡ Waits → Aligned (run_state run.new)) }
     ensures passed { run.new.ahead ≡ run.old.ahead - length piece.now }
     ensures limit { run.new.limit ≡ run.old.limit }
@@ -255,8 +252,7 @@ fn take_pieces<A: Allocator + Copy, R: NotedRead, W: Write>(
     requires room { vec_len piece.old ≡ step }
     requires starts { StartsRun run.old.limit run.old.later run.old.ahead run.old }
     ensures ended { IfOk result
-        (λ status. UnframeEndsOver run.old.limit run.old.later run.old.ahead status
-        (R.remaining input.old) (R.remaining input.new)
+        (λ status. RunEnds run.old status (R.remaining input.old) (R.remaining input.new)
         (W.contents output.old) (W.contents output.new)) }
     ensures asked { AsksUpTo step run.old.ahead (R.reads input.old) (R.reads input.new) }
     ensures stops { StopsOver run.old.limit run.old.later run.old.ahead
