@@ -6,9 +6,8 @@ use Rattle.mysql_wire.specs.CapabilityFlags.{CapabilityFlags}
 use Rattle.mysql_wire.specs.FlagSets.{capability_flags_bits}
 use Rattle.mysql_wire.specs.Rows.{by_side}
 use Rattle.mysql_wire.specs.WireError.{WireError}
-use Rattle.mysql_wire_packets.specs.Oks.{form_of}
 use Rattle.mysql_wire_packets.specs.Optional.{bytes_if}
-use Rattle.mysql_wire_packets.specs.Places.{ReadsWhole, Wraps}
+use Rattle.mysql_wire_packets.specs.Places.{ReadsAs, ReadsUnderNone}
 use Rattle.mysql_wire_connection.specs.declared.auth_answer.AuthAnswer.{AuthAnswer}
 use Rattle.mysql_wire_connection.specs.declared.auth_answer.AuthAnswer.TheVariants as answer
 use Rattle.mysql_wire_connection.specs.declared.first_packet.ServerFirst.{ServerFirst}
@@ -17,7 +16,6 @@ use Rattle.mysql_wire_connection.specs.declared.auth_more_data.AuthMoreData.{Aut
 use Rattle.mysql_wire_connection.specs.declared.auth_switch.AuthSwitchRequest.{AuthSwitchRequest}
 use Rattle.mysql_wire_packets.specs.declared.err_packet.ErrPacket.{ErrPacket}
 use Rattle.mysql_wire_connection.specs.declared.handshake.HandshakeV10.{HandshakeV10}
-use Rattle.mysql_wire_packets.specs.declared.ok_packet.InfoForm.{InfoForm}
 use Rattle.mysql_wire_packets.specs.declared.ok_packet.OkForm.{OkForm}
 use Rattle.mysql_wire_packets.specs.declared.places.PayloadError.{PayloadError}
 use Rattle.connection_examples.specs.declared.client.Greeting.{Greeting}
@@ -50,13 +48,12 @@ first_of (Err error) = Err error
 -- the payload is a greeting, or it is refused
 abbrev pub IsGreeted : (List ℕ → Result HandshakeV10 WireError → ℕ → Type 0) → List ℕ
     → Result Greeting PayloadError → Type 0
-IsGreeted reads payload result = Wraps first.Greeting (ReadsWhole reads payload) (first_of result)
+IsGreeted reads payload result = ReadsAs first.Greeting reads payload (first_of result)
 
 -- or an error, as it is read where no capabilities are in force
 abbrev pub IsRefused : (CapabilityFlags → List ℕ → Result ErrPacket WireError → ℕ → Type 0)
     → List ℕ → Result Greeting PayloadError → Type 0
-IsRefused reads payload result = (none : CapabilityFlags) × (capability_flags_bits none ≡ 0)
-    × Wraps first.Failed (ReadsWhole (reads none) payload) (first_of result)
+IsRefused reads payload result = ReadsUnderNone first.Failed reads payload (first_of result)
 
 -- the answer to a greeting bears this id
 abbrev pub AnswersGreeting : ℕ → Result Greeting PayloadError → Type 0
@@ -72,30 +69,25 @@ answer_of (Ok (Switch next request)) = Ok (answer.Switch request)
 answer_of (Ok (MoreData next more)) = Ok (answer.MoreData more)
 answer_of (Err error) = Err error
 
--- the form of an OK under these capabilities
-abbrev pub ok_form : CapabilityFlags → InfoForm
-ok_form capabilities = form_of (capability_flags_bits capabilities)
-
 -- the payload is an OK, or it is refused
 abbrev pub IsDone : (List ℕ → Result (OkForm 0) WireError → ℕ → Type 0) → List ℕ
     → Result Outcome PayloadError → Type 0
-IsDone reads payload result = Wraps answer.Done (ReadsWhole reads payload) (answer_of result)
+IsDone reads payload result = ReadsAs answer.Done reads payload (answer_of result)
 
 -- or an error
 abbrev pub IsFailed : (List ℕ → Result ErrPacket WireError → ℕ → Type 0) → List ℕ
     → Result Outcome PayloadError → Type 0
-IsFailed reads payload result = Wraps answer.Failed (ReadsWhole reads payload) (answer_of result)
+IsFailed reads payload result = ReadsAs answer.Failed reads payload (answer_of result)
 
 -- or asks for another plugin
 abbrev pub IsSwitch : (List ℕ → Result AuthSwitchRequest WireError → ℕ → Type 0) → List ℕ
     → Result Outcome PayloadError → Type 0
-IsSwitch reads payload result = Wraps answer.Switch (ReadsWhole reads payload) (answer_of result)
+IsSwitch reads payload result = ReadsAs answer.Switch reads payload (answer_of result)
 
 -- or is more of a plugin's data
 abbrev pub IsMoreData : (List ℕ → Result AuthMoreData WireError → ℕ → Type 0) → List ℕ
     → Result Outcome PayloadError → Type 0
-IsMoreData reads payload result =
-    Wraps answer.MoreData (ReadsWhole reads payload) (answer_of result)
+IsMoreData reads payload result = ReadsAs answer.MoreData reads payload (answer_of result)
 
 -- a plugin's answer bears this id, and behind an OK a command begins; these capabilities stay
 abbrev pub GoesOn : ℕ → ℕ → Result Outcome PayloadError → Type 0

@@ -3,7 +3,7 @@ use Rattle.std.specs.Prelude.{ℕ, ◌≡◌, List, bit_and, Result, Ok, Err}
 use Rattle.mysql_wire.specs.Codec.{expected_id}
 use Rattle.mysql_wire.specs.FlagSets.{capability_flags_bits}
 use Rattle.mysql_wire.specs.WireError.{WireError}
-use Rattle.mysql_wire_packets.specs.Places.{ReadsWhole, Wraps}
+use Rattle.mysql_wire_packets.specs.Places.{ReadsAs, ReadsWhole}
 use Rattle.mysql_wire_connection.specs.declared.first_packet.ClientFirst.{ClientFirst}
 use Rattle.mysql_wire_connection.specs.declared.first_packet.ClientFirst.TheVariants as first
 use Rattle.mysql_wire_connection.specs.declared.auth_switch_response.AuthSwitchResponse.{AuthSwitchResponse}
@@ -23,12 +23,12 @@ first_of (Err error) = Err error
 -- the payload asks for TLS, or it is refused
 abbrev pub IsTls : (List ℕ → Result SslRequest WireError → ℕ → Type 0) → List ℕ
     → Result First PayloadError → Type 0
-IsTls reads payload result = Wraps first.Tls (ReadsWhole reads payload) (first_of result)
+IsTls reads payload result = ReadsAs first.Tls reads payload (first_of result)
 
 -- or is a login
 abbrev pub IsLogin : (List ℕ → Result HandshakeResponse41 WireError → ℕ → Type 0) → List ℕ
     → Result First PayloadError → Type 0
-IsLogin reads payload result = Wraps first.Login (ReadsWhole reads payload) (first_of result)
+IsLogin reads payload result = ReadsAs first.Login reads payload (first_of result)
 
 -- the next packet bears this id; of these capabilities those stay that the client has too
 abbrev pub GoesOn : ℕ → ℕ → Result First PayloadError → Type 0

@@ -5,7 +5,8 @@ ghost use Rattle.mysql_wire.specs.Codec.{codec_state, expected_id};
 ghost use Rattle.mysql_wire.specs.FlagSets.{capability_flags_bits};
 ghost use Rattle.mysql_wire.specs.Framing.{framing, next_id};
 ghost use Rattle.mysql_wire.specs.InPlace.{HasFront, front_payload};
-ghost use Rattle.connection_examples.specs.ClientSteps.{ok_form, plugin_data_of, plugin_name_of, server_bits, AnswersGreeting, GoesOn, IsDone, IsFailed, IsGreeted, IsMoreData, IsRefused, IsSwitch};
+ghost use Rattle.mysql_wire_packets.specs.Oks.{ok_form};
+ghost use Rattle.connection_examples.specs.ClientSteps.{plugin_data_of, plugin_name_of, server_bits, AnswersGreeting, GoesOn, IsDone, IsFailed, IsGreeted, IsMoreData, IsRefused, IsSwitch};
 
 use crate::line::Line;
 use crate::secret::Secret;
