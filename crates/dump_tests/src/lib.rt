@@ -9,5 +9,3 @@ mod memory;
 mod rows;
 #[cfg(test)]
 mod run;
-#[cfg(test)]
-mod words;

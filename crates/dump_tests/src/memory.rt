@@ -2,7 +2,7 @@
 
 use crate::rows::WITH_FIELDS;
 use crate::run::{Fault, PLAIN, Row, dump};
-use mysql_wire_dump_commands::dump::Sides;
+use mysql_wire_dump_lines::options::Sides;
 use std::alloc::{AllocError, Global};
 use std::test::Fail;
 use test_support::facts::ensure;

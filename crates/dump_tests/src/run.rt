@@ -1,7 +1,8 @@
 // A dump of bytes in hand.
 
-use mysql_wire_dump_commands::dump::{Options, Sides, run_dump};
+use mysql_wire_dump_commands::dump::run_dump;
 use mysql_wire_dump_lines::lines::LineForm;
+use mysql_wire_dump_lines::options::{Options, Sides};
 use refusing_allocator::Refusing;
 use std::alloc::Global;
 use std::io;
@@ -16,12 +17,6 @@ pub const PLAIN: Options = Options {
 pub const FIELDS: Options = Options {
     form: LineForm::Text,
     has_fields: true,
-    limit: 1000,
-};
-
-pub const JSON: Options = Options {
-    form: LineForm::Json,
-    has_fields: false,
     limit: 1000,
 };
 
@@ -121,8 +116,8 @@ pub fn dump(alloc: Global, row: &Row<'_>, nth: u64, fault: Fault) -> Ended {
     }
 }
 
-/// Whether the dump ends so.
-pub fn goes(alloc: Global, row: &Row<'_>) -> bool {
+// Whether the dump ends so.
+fn goes(alloc: Global, row: &Row<'_>) -> bool {
     let ended = dump(alloc, row, u64::MAX, Fault::Nowhere);
     (ended.status == row.status) & (ended.text.as_slice() == row.text)
 }

@@ -1,7 +1,9 @@
 //! Shows a captured session of MySQL's protocol, packet by packet.
 #![tactic(auto)]
 
-use mysql_wire_dump_commands::arguments::run_words;
+mod files;
+
+use files::run_words;
 use mysql_wire_dump_lines::status::fault_text;
 use std::io::ErrorKind;
 use std::process::ExitCode;

@@ -8,8 +8,8 @@ use Rattle.std.proofs.lemmas.List.Elements.{All-append}
 use Rattle.wire_codec.specs.Framing.{next_id}
 use Rattle.wire_span.specs.Spans.{span_state}
 use Rattle.mysql_wire_dump_commands.specs.declared.dump.Dump.{Dump}
-use Rattle.mysql_wire_dump_commands.specs.declared.dump.Options.{Options}
-use Rattle.mysql_wire_dump_commands.specs.declared.dump.Sides.{Sides}
+use Rattle.mysql_wire_dump_lines.specs.declared.options.Options.{Options}
+use Rattle.mysql_wire_dump_lines.specs.declared.options.Sides.{Sides}
 use Rattle.mysql_wire_dump_lines.specs.declared.kind.Kind.{Kind}
 use Rattle.mysql_wire_dump_lines.specs.declared.kind.Kind.TheVariants.{TooLarge}
 use Rattle.mysql_wire_dump_lines.specs.declared.lines.LineForm.{LineForm}

@@ -3,9 +3,9 @@ use Rattle.std.specs.Io.KnownBytes.{Appends, Consumes}
 use Rattle.std.specs.List.{flat_map}
 use Rattle.std.specs.Prelude.{◌≡◌, ℕ, ◌<◌, ◌≤◌, ◌⊎◌, List, [], ◌∷◌, ◌++◌, length, ⊤, All, Bool, true, false, if◌then◌else◌, max, Option, Some, None}
 use Rattle.wire_codec.specs.Framing.{next_id}
-use Rattle.mysql_wire_dump_commands.specs.declared.dump.Options.{Options}
-use Rattle.mysql_wire_dump_commands.specs.declared.dump.Sides.{Sides}
-use Rattle.mysql_wire_dump_commands.specs.declared.dump.Sides.TheVariants as sides
+use Rattle.mysql_wire_dump_lines.specs.declared.options.Options.{Options}
+use Rattle.mysql_wire_dump_lines.specs.declared.options.Sides.{Sides}
+use Rattle.mysql_wire_dump_lines.specs.declared.options.Sides.TheVariants as sides
 use Rattle.mysql_wire_dump_lines.specs.declared.kind.Kind.TheVariants.{TooLarge}
 use Rattle.mysql_wire_dump_fields.specs.declared.fields.FieldForm.{FieldForm}
 use Rattle.mysql_wire_dump_fields.specs.declared.fields.FieldForm.TheVariants.{Hidden, Text, Json}

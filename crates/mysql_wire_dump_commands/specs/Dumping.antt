@@ -3,7 +3,7 @@ use Rattle.std.specs.Prelude.{◌≡◌, ◌≢◌, ◌⊎◌, ℕ, List, [], �
 use Rattle.std.specs.Io.KnownBytes.{Appends, Consumes}
 use Rattle.wire_codec.specs.Framing.{next_id}
 use Rattle.mysql_wire_dump_commands.specs.declared.dump.Dump.{Dump}
-use Rattle.mysql_wire_dump_commands.specs.declared.dump.Options.{Options}
+use Rattle.mysql_wire_dump_lines.specs.declared.options.Options.{Options}
 use Rattle.mysql_wire_dump_lines.specs.declared.side.Side.{Side}
 use Rattle.mysql_wire_dump_lines.specs.declared.side.Side.TheVariants.{Client, Server}
 use Rattle.mysql_wire_dump_lines.specs.declared.source.End.TheVariants.{Encrypted}

@@ -14,6 +14,7 @@ use crate::session::Session;
 use mysql_wire_dump_fields::fields::{FieldForm, Fields};
 use mysql_wire_dump_lines::kind::Kind;
 use mysql_wire_dump_lines::lines::{LineForm, Seen, push_ending, push_packet};
+use mysql_wire_dump_lines::options::{Options, Sides};
 use mysql_wire_dump_lines::place::Place;
 use mysql_wire_dump_lines::side::Side;
 use mysql_wire_dump_lines::source::{End, Next, Source};
@@ -21,24 +22,6 @@ use mysql_wire_dump_lines::status::{Stop, exit_status};
 use mysql_wire_dump_lines::turn::turn;
 use std::alloc::{AllocError, Allocator, Global};
 use std::io::{Read, Write};
-
-/// How a session is shown.
-#[derive(Clone, Copy, PartialEq, Eq)]
-pub struct Options {
-    pub form: LineForm,
-    /// Whether packets are shown with their fields.
-    pub has_fields: bool,
-    /// The most payload bytes of a packet that is not passed over.
-    pub limit: usize,
-}
-
-/// Which directions are shown.
-#[derive(Clone, Copy, PartialEq, Eq)]
-pub enum Sides {
-    Client,
-    Server,
-    Both,
-}
 
 // How many bytes of text are written at a time.
 const WRITE_SIZE: usize = 65536;

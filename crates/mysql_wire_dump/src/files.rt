@@ -1,0 +1,76 @@
+//! The files that the words name, dumped.
+
+use mysql_wire_dump_commands::dump::run_dump;
+use mysql_wire_dump_lines::arguments::{Asked, Request, what_is_asked};
+use mysql_wire_dump_lines::status::{Stop, USAGE, exit_status};
+use std::alloc::{Allocator, Global};
+use std::fs::File;
+use std::io;
+use std::io::{Read, Write};
+use std::rt::Files;
+
+// A file that was opened, or no bytes.
+#[derive(Drop)]
+struct Input<T: Drop>(Option<T>);
+
+// The file of this name, where there is one.
+fn open<F: Files>(files: &F, name: Option<&str>) -> Result<Input<F::File>, Stop> {
+    match name {
+        Some(name) => Ok(Input(Some(File::open(files, name)?))),
+        None => Ok(Input(None)),
+    }
+}
+
+impl<T: Read + Drop> Read for Input<T> {
+    fn read(&mut self, buf: &mut [u8]) -> io::Result<usize> {
+        match &mut self.0 {
+            Some(file) => file.read(buf),
+            None => Ok(0),
+        }
+    }
+}
+
+// Shows the sessions of files.
+fn dump_files<F: Files, W: Write>(
+    files: &F,
+    alloc: Global,
+    request: Request<'_>,
+    output: &mut W,
+) -> Result<u8, Stop> {
+    let Some(sides) = request.sides() else {
+        return Ok(1);
+    };
+    let mut client = open(files, request.client)?;
+    let mut server = open(files, request.server)?;
+    Ok(run_dump(
+        alloc,
+        alloc,
+        request.options,
+        sides,
+        &mut client,
+        &mut server,
+        output,
+    ))
+}
+
+// Writes the usage line.
+fn help<W: Write>(output: &mut W) -> Result<u8, Stop> {
+    writeln!(output, "{USAGE}")?;
+    output.flush()?;
+    Ok(0)
+}
+
+/// Runs what the words after the program's name ask for. The answer is the exit status: that of
+/// the dump, or 1 where the words ask for none, and then nothing was read or written.
+pub fn run_words<A: Allocator, F: Files, W: Write>(
+    files: &F,
+    alloc: Global,
+    words: &[String<A>],
+    output: &mut W,
+) -> u8 {
+    match what_is_asked(words) {
+        None => 1,
+        Some(Asked::Help) => exit_status(help(output)),
+        Some(Asked::Dump(request)) => exit_status(dump_files(files, alloc, request, output)),
+    }
+}

@@ -1,0 +1,136 @@
+#!/usr/bin/env python3
+"""Runs the built dump on small sessions and on other command lines, and compares its status and what
+it writes.
+
+    scripts/dump_lines.py
+
+The last line is 'N passed, M failed'.
+"""
+
+import pathlib
+import subprocess
+import sys
+import tempfile
+
+TOP = pathlib.Path(__file__).resolve().parent.parent
+PROGRAM = TOP / "crates/mysql_wire_dump/out/mysql_wire_dump"
+PING = b"\1\0\0\0\x0e"
+DONE = b"\7\0\0\1\0\0\0\2\0\0\0"
+SELECT = b"\x09\0\0\0\3SELECT 1"
+ROWS = (
+    b"\1\0\0\1\1"
+    b"\x17\0\0\2\3def\0\0\0\0011\0\x0c\x3f\0\1\0\0\0\x08\x81\0\0\0\0"
+    b"\5\0\0\3\xfe\0\0\2\0"
+    b"\2\0\0\4\0011"
+    b"\1\0\0\5\xfb"
+    b"\5\0\0\6\xfe\0\0\2\0"
+)
+FULL = 0xFFFFFF
+
+# A session, the words before its files, what both sides sent (None where a side has no file), the
+# status, and the lines.
+SESSIONS = [
+    ("an error begins", "", b"", b"\x0b\0\0\0\xff\x10\4Too many", 0,
+     ["server 0 11 error", "client end at 0", "server end at 15"]),
+    ("a command and its answer", "", PING, DONE, 0,
+     ["client 0 1 ping", "server 1 7 ok", "client end at 5", "server end at 11"]),
+    ("a query and its rows", "", SELECT, ROWS, 0,
+     ["client 0 9 query", "server 1 1 column count", "server 2 23 column", "server 3 5 eof",
+      "server 4 2 row", "server 5 1 row", "server 6 5 eof", "client end at 13",
+      "server end at 61"]),
+    # the second command's answer begins with the id that would follow the first
+    ("a command without an answer", "", b"\5\0\0\0\x19\1\0\0\0" + PING, DONE, 0,
+     ["client 0 5 close statement", "client 0 1 ping", "server 1 7 ok", "client end at 14",
+      "server end at 11"]),
+    ("a command that is cut short", "", b"\7\0\0\0\x16SELECT\5\0\0\0\x1c\1\0\0\0",
+     b"\x0c\0\0\1\0\1\0\0\0\0\0\0\0\0\0\0\2\0\0\1\0\1", 0,
+     ["client 0 7 prepare", "server 1 12 prepared",
+      "client 0 5 bytes 1c01000000 unexpected end", "server 1 2 row", "client end at 20",
+      "server end at 22"]),
+    ("TLS", "", b"\x20\0\0\1\0\x08\0\0\0\0\0\1\x2d0000000000000000000\0\0\0\0\x16\3\1", None, 0,
+     ["client 1 32 ssl request", "client encrypted at 36"]),
+    ("an answer that is cut short", "", None, b"\2\0\0\1\0\1\1\0", 3,
+     ["server 1 2 bytes 0001 unexpected end", "server unfinished at 6"]),
+    ("a file that ends inside a packet", "",
+     b"\x22\0\0\0\x020123456789012345678901234567890\0\0\5\0\0\0\3ab", None, 3,
+     ["client 0 34 init db", "client unfinished at 38"]),
+    ("a packet past the limit", "--limit 4 --fields", b"\5\0\0\0\3abcd" + PING, None, 0,
+     ["client 0 5 too large", "client 0 1 ping", "client end at 14"]),
+    ("bytes behind a packet", "--json", None, b"\x22\0\0\1\0\1\1" + bytes(31), 0,
+     ['{"from":"server","id":1,"length":34,"packet":"bytes","bytes":'
+      '"0001010000000000000000000000000000000000000000000000000000000000..",'
+      '"refusal":"trailing bytes"}',
+      '{"from":"server","end":"end","at":38}']),
+    ("a packet of two chunks", "", b"\xff\xff\xff\0\3" + b" " * (FULL - 1) + b"\1\0\0\1x", None, 0,
+     ["client 0 16777216 too large", "client end at 16777224"]),
+    ("a chunk of another id", "", b"\xff\xff\xff\0\3" + b" " * (FULL - 1) + b"\1\0\0\2x", None, 5,
+     ["client out of sync at 0"]),
+]
+
+# Words that ask for the file `client` with the byte `0e` and an empty file `server`, and the first
+# line.
+WORDS = [
+    ("client client", "client 0 1 ping"),
+    ("server server client client", "client 0 1 ping"),
+    ("server server --limit 1 client client --json",
+     '{"from":"client","id":0,"length":1,"packet":"ping"}'),
+    ("--limit 0 client client", "client 0 1 too large"),
+    ("--limit 9999999999 client client", "client 0 1 ping"),
+    ("client client server server --fields", "client 0 1 ping"),
+]
+REFUSED = [
+    "", "client", "--fields --json", "--help client client", "client client client server",
+    "server server server server", "--limit 12345678901 client client", "--limit +1 client client",
+    "--limit x client client", "--limit client client", "other client", "--other client client",
+]
+USAGE = "mysql_wire_dump [--fields] [--json] [--limit BYTES] [client FILE] [server FILE]"
+
+
+def run(words, folder):
+    ran = subprocess.run([PROGRAM, *words], cwd=folder, capture_output=True)
+    return ran.returncode, ran.stdout.decode("utf-8", "replace").splitlines(), ran.stderr.decode()
+
+
+def of_sessions(folder):
+    """The name of each session that goes otherwise, or None where it goes as it must."""
+    for name, options, client, server, status, lines in SESSIONS:
+        words = options.split()
+        for side, data in (("client", client), ("server", server)):
+            if data is not None:
+                (folder / side).write_bytes(data)
+                words += [side, side]
+        found = run(words, folder)
+        yield None if found[:2] == (status, lines) else "%s: %s" % (name, found)
+
+
+def of_words(folder):
+    """The same of command lines."""
+    (folder / "client").write_bytes(PING)
+    (folder / "server").write_bytes(b"")
+    for words, line in WORDS:
+        found = run(words.split(), folder)
+        yield None if (found[0], found[1][:1]) == (0, [line]) else "%s: %s" % (words, found)
+    for words in REFUSED:
+        found = run(words.split(), folder)
+        yield None if found[:2] == (1, []) and USAGE in found[2] else "%s: %s" % (words, found)
+    found = run(["--help"], folder)
+    yield None if found[0] == 0 and USAGE in found[1][0] else "--help: %s" % (found,)
+    found = run(["client", "missing"], folder)
+    yield None if found[:2] == (2, []) else "client missing: %s" % (found,)
+
+
+def main():
+    if "--help" in sys.argv:
+        print(__doc__.strip())
+        return
+    with tempfile.TemporaryDirectory() as folder:
+        found = [*of_sessions(pathlib.Path(folder)), *of_words(pathlib.Path(folder))]
+    wrong = [fault for fault in found if fault]
+    for fault in wrong:
+        print("FAILED", fault)
+    print("%d passed, %d failed" % (len(found) - len(wrong), len(wrong)))
+    sys.exit(bool(wrong))
+
+
+if __name__ == "__main__":
+    main()
