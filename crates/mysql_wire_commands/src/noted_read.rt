@@ -11,7 +11,7 @@ use std::io;
 use std::io::Read;
 
 /// One read: how many bytes it was asked for, and how many came, 0 where it failed.
-#[derive(Debug, Clone, Copy, PartialEq, Eq)]
+#[derive(Clone, Copy, PartialEq, Eq)]
 pub struct OneRead {
     pub asked: usize,
     pub came: usize,

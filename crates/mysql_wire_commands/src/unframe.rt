@@ -19,7 +19,7 @@ use wire_codec::laws;
 use wire_const::MAX_PAYLOAD_LEN;
 
 /// Why no more packets come from the bytes read so far.
-#[derive(Debug, Clone, Copy, PartialEq, Eq)]
+#[derive(Clone, Copy, PartialEq, Eq)]
 pub enum Verdict {
     /// More bytes are needed.
     Waits,

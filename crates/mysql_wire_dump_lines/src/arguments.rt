@@ -45,27 +45,41 @@ impl<'a> Request<'a> {
         }
     }
 
+    fn with_options(self, options: Options) -> Request<'a> {
+        Request { options, ..self }
+    }
+
     // With one option more.
     fn with_option(self, word: &str) -> Option<Request<'a>> {
-        let mut with = self;
+        let mut options = self.options;
         match word {
-            "--fields" => with.options.has_fields = true,
-            "--json" => with.options.form = LineForm::Json,
+            "--fields" => options.has_fields = true,
+            "--json" => options.form = LineForm::Json,
             _ => return None,
         }
-        Some(with)
+        Some(self.with_options(options))
     }
 
     // With one word more, and the word behind it.
     fn with_pair(self, word: &str, value: &'a str) -> Option<Request<'a>> {
-        let mut with = self;
         match (word, self.client, self.server) {
-            ("--limit", _, _) => with.options.limit = number(value)?,
-            ("client", None, _) => with.client = Some(value),
-            ("server", _, None) => with.server = Some(value),
-            _ => return None,
+            ("--limit", _, _) => {
+                let limit = number(value)?;
+                Some(self.with_options(Options {
+                    limit,
+                    ..self.options
+                }))
+            }
+            ("client", None, _) => Some(Request {
+                client: Some(value),
+                ..self
+            }),
+            ("server", _, None) => Some(Request {
+                server: Some(value),
+                ..self
+            }),
+            _ => None,
         }
-        Some(with)
     }
 
     // With a word more, behind one that may wait for its value; and the word that waits then.

@@ -6,7 +6,7 @@ ghost use Rattle.mysql_wire_dump_lines.specs.Names.{kind_name};
 use crate::refusal::Refusal;
 
 /// What a packet is, at its place.
-#[derive(Debug, Clone, Copy, PartialEq, Eq)]
+#[derive(Clone, Copy)]
 pub enum Kind {
     Greeting,
     TlsRequest,

@@ -11,14 +11,14 @@ use crate::source::End;
 use std::alloc::{AllocError, Allocator};
 
 /// How packets are shown.
-#[derive(Debug, Clone, Copy, PartialEq, Eq)]
+#[derive(Clone, Copy)]
 pub enum LineForm {
     Text,
     Json,
 }
 
 /// A packet, as its line says it.
-#[derive(Debug, Clone, Copy, PartialEq, Eq)]
+#[derive(Clone, Copy)]
 pub struct Seen {
     pub side: Side,
     /// The id of its first chunk.

@@ -10,7 +10,7 @@ use crate::side::Side;
 
 /// What a session knows of the next packet: its place, whether rows end without an EOF behind the
 /// definitions of columns, and how their values are written.
-#[derive(Debug, Clone, Copy, PartialEq, Eq)]
+#[derive(Clone, Copy)]
 pub struct Moment {
     pub place: Place,
     pub is_eof_deprecated: bool,

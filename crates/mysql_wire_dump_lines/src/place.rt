@@ -1,7 +1,7 @@
 //! Where a packet stands in its session.
 
 /// How the values of rows are written.
-#[derive(Debug, Clone, Copy, PartialEq, Eq)]
+#[derive(Clone, Copy, PartialEq, Eq)]
 pub enum RowForm {
     Text,
     Binary,
@@ -10,7 +10,7 @@ pub enum RowForm {
 }
 
 /// What stands behind definitions of columns.
-#[derive(Debug, Clone, Copy, PartialEq, Eq)]
+#[derive(Clone, Copy, PartialEq, Eq)]
 pub enum Behind {
     /// The rows.
     Rows,
@@ -21,7 +21,7 @@ pub enum Behind {
 }
 
 /// What is waited for.
-#[derive(Debug, Clone, Copy, PartialEq, Eq)]
+#[derive(Clone, Copy, PartialEq, Eq)]
 pub enum Place {
     /// The server's first packet.
     Greeting,

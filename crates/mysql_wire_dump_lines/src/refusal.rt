@@ -8,7 +8,7 @@ use mysql_wire_packets::places::PayloadError;
 use wire_buf::error::{InvalidReason, WireError};
 
 /// Why a payload is no packet of its place.
-#[derive(Debug, Clone, Copy, PartialEq, Eq)]
+#[derive(Clone, Copy)]
 pub enum Refusal {
     UnexpectedEnd,
     UnknownValue,

@@ -4,7 +4,7 @@ ghost use Rattle.std.specs.Prelude.{◌≡◌};
 ghost use Rattle.mysql_wire_dump_lines.specs.Names.{side_name};
 
 /// One of the two that a connection joins.
-#[derive(Debug, Clone, Copy, PartialEq, Eq)]
+#[derive(Clone, Copy)]
 pub enum Side {
     Client,
     Server,

@@ -17,7 +17,7 @@ use wire_span::{SpanDecoder, SpanError, laws};
 const READ_SIZE: usize = 16384;
 
 /// Why a direction has no more packets.
-#[derive(Debug, Clone, Copy, PartialEq, Eq)]
+#[derive(Clone, Copy, PartialEq, Eq)]
 pub enum End {
     /// It ended between two packets.
     Between,
@@ -30,7 +30,7 @@ pub enum End {
 }
 
 /// What stands next in a direction.
-#[derive(Debug, Clone, Copy, PartialEq, Eq)]
+#[derive(Clone, Copy, PartialEq, Eq)]
 pub enum Next {
     /// It has not been looked for.
     Unread,
@@ -41,7 +41,7 @@ pub enum Next {
 }
 
 // How a packet goes on.
-#[derive(Debug, Clone, Copy, PartialEq, Eq)]
+#[derive(Clone, Copy, PartialEq, Eq)]
 enum Step {
     // More bytes are needed.
     Waits,

@@ -7,7 +7,7 @@ use std::alloc::{AllocError, AllocFailed};
 use std::io;
 
 /// Why the dump gives up.
-#[derive(Debug, Clone, Copy, PartialEq, Eq)]
+#[derive(Clone, Copy)]
 pub enum Stop {
     /// A read or a write failed, a file was not opened, or there were 2^64 - 1 reads.
     Io,
