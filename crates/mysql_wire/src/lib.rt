@@ -78,7 +78,19 @@ pub mod misc {
 }
 
 /// The numbers that packets are written in.
-pub use wire_const as constants;
+pub mod constants {
+    pub use wire_const::{
+        CapabilityFlags, ColumnFlags, ColumnType, Command, CursorType, DEFAULT_MAX_ALLOWED_PACKET,
+        Flags, Flags2, GeometryType, ItemResult, MAX_PAYLOAD_LEN, MIN_COMPRESS_LENGTH,
+        MariadbBulkIndicator, MariadbCapabilities, SessionStateType, SqlMode, StatusFlags,
+        StmtBulkExecuteFlags, StmtExecuteParamFlags, StmtExecuteParamsFlags, UTF8_GENERAL_CI,
+        UTF8MB4_GENERAL_CI, UnknownCapabilityFlags, UnknownColumnFlags, UnknownColumnType,
+        UnknownCursorType, UnknownFlags2, UnknownGeometryType, UnknownItemResultType,
+        UnknownMariadbBulkIndicator, UnknownMariadbCapabilityFlags, UnknownSessionStateType,
+        UnknownSqlMode, UnknownStatusFlags, UnknownStmtBulkExecuteParamsFlags,
+        UnknownStmtExecuteParamFlags, UnknownStmtExecuteParamsFlags,
+    };
+}
 
 pub mod proto {
     pub use wire_buf::proto::{
