@@ -3,7 +3,7 @@
 crates=$top/crates
 folder=$crates/mysql_wire_c
 archive=$folder/out/libmysql_wire_c.a
-layers=(wire_const wire_buf wire_codec wire_span)
+layers=(wire_const wire_buf wire_codec wire_span mysql_wire_side)
 kit=$(dirname "$(rt doc)")
 
 # Whether the layers stand as `rt ci` leaves them, which has just proved them. `rt lib` would build

@@ -5,11 +5,11 @@ use Rattle.wire_codec.specs.Delivery.{chunk_len}
 use Rattle.wire_codec.specs.InPlace.{HasFront, front_payload}
 use Rattle.wire_codec.specs.Laws.{appended}
 use Rattle.wire_codec.specs.LimitedRuns.{DecodesAligned}
-use Rattle.mysql_wire_c.specs.declared.codes.TheConstants.{WAITS, PACKET, NO_MEMORY}
+use Rattle.mysql_wire_side.specs.declared.codes.TheConstants.{WAITS, PACKET, NO_MEMORY}
 use Rattle.mysql_wire_c.specs.declared.fields.Span.{Span}
-use Rattle.mysql_wire_c.specs.Side.{Side}
-use Rattle.mysql_wire_c.specs.Answers.{Waits, holding}
-use Rattle.mysql_wire_c.specs.Calls.{Peeks}
+use Rattle.mysql_wire_side.specs.Side.{Side}
+use Rattle.mysql_wire_side.specs.Answers.{Waits, holding}
+use Rattle.mysql_wire_side.specs.Calls.{Peeks}
 
 -- a side without the packet that is lent
 abbrev pub unlent : Side → Side

@@ -1,6 +1,3 @@
-pub mod Side
-pub mod Answers
-pub mod Finding
 pub mod Calls
 pub mod Fields
 pub mod Spans

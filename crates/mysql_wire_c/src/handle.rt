@@ -3,12 +3,12 @@
 ghost use Rattle.std.specs.Prelude.{◌≡◌, IsSome, Some, None, is_none};
 ghost use Rattle.std.specs.declared.option.Option.{Option};
 ghost use types.Logic.{sem};
-ghost use Rattle.mysql_wire_c.specs.declared.connection.Connection.{Connection};
+ghost use Rattle.mysql_wire_side.specs.declared.connection.Connection.{Connection};
 ghost use Rattle.mysql_wire_c.specs.Owned.{connection_coded, handle_owns};
 
 mod parts;
 
-use crate::connection::Connection;
+use mysql_wire_side::connection::Connection;
 use parts::Parts;
 use std::alloc::Global;
 use std::marker::Model;

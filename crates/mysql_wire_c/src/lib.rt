@@ -9,9 +9,10 @@ ghost use Rattle.wire_buf.specs.Numbers.{le_bytes, le_number};
 ghost use Rattle.wire_buf.specs.NullText.{is_zero};
 ghost use Rattle.wire_buf.specs.Spelling.{SpellsNothing};
 ghost use Rattle.wire_buf.specs.Lenenc.{IsLenenc, IsLenencOrMark, lenenc_bytes};
-ghost use Rattle.mysql_wire_c.specs.declared.codes.TheConstants.{MISSING_BYTES, NOT_A_NUMBER, NULL, ROOM_TOO_SMALL};
-ghost use Rattle.mysql_wire_c.specs.Answers.{new_connection};
-ghost use Rattle.mysql_wire_c.specs.Calls.{Both, BothStates, Feeds, Peeks, LendsInPlace, Takes, CopiesNext, SetsLimit, unread_count, Encodes, EncodesTo, EncodesHeader, Sends, Resets, SetsId, Numbers};
+ghost use Rattle.mysql_wire_side.specs.declared.codes.TheConstants.{MISSING_BYTES, NOT_A_NUMBER, NULL, ROOM_TOO_SMALL};
+ghost use Rattle.mysql_wire_side.specs.Answers.{new_connection};
+ghost use Rattle.mysql_wire_side.specs.Calls.{Feeds, Peeks, LendsInPlace, Takes, CopiesNext};
+ghost use Rattle.mysql_wire_c.specs.Calls.{Both, BothStates, SetsLimit, unread_count, Encodes, EncodesTo, EncodesHeader, Sends, Resets, SetsId, Numbers};
 ghost use Rattle.mysql_wire_c.specs.Decoding.{Decodes, DecodesMany};
 ghost use Rattle.wire_codec.specs.Framing.{framing};
 ghost use Rattle.mysql_wire_c.specs.Messages.{message};
@@ -19,19 +20,19 @@ ghost use Rattle.wire_span.specs.Spans.{IsBetween};
 ghost use Rattle.mysql_wire_c.specs.Spans.{state_of, IsValid, NextSpan, Renumbers};
 ghost use Rattle.mysql_wire_c.specs.Fields.{IsCutShort, IsMark, ReadsAt, WritesAt, text_at};
 
-pub mod codes;
 pub mod connection;
 pub mod fields;
 pub mod handle;
 pub mod spans;
+pub mod texts;
 pub mod view;
 
-use crate::codes::{CLOSED, IS_OPEN, NO_MEMORY, OK, PACKET, TOO_LARGE};
 use crate::connection::boxed;
 use crate::fields::Span;
 use crate::handle::Handle;
 use crate::spans::Spans;
 use crate::view::View;
+use mysql_wire_side::codes::{CLOSED, IS_OPEN, NO_MEMORY, OK, PACKET, TOO_LARGE};
 use std::alloc::Global;
 use std::mem;
 use wire_codec::codec::framed_len;
@@ -170,7 +171,7 @@ pub extern "C" fn mysql_wire_decode(
     if handle.is_closed() {
         return CLOSED;
     }
-    handle.connection().decode(bytes, used, packet)
+    connection::decode(handle.connection(), bytes, used, packet)
 }
 
 /// Takes the packet that is lent, and lends as many as lie whole in `bytes`, one behind the other,
@@ -194,7 +195,7 @@ pub extern "C" fn mysql_wire_decode_many(
         *used = 0;
         return CLOSED;
     }
-    handle.connection().decode_many(bytes, spans, count, used)
+    connection::decode_many(handle.connection(), bytes, spans, count, used)
 }
 
 /// Sets the most bytes of a packet.
@@ -208,7 +209,7 @@ pub extern "C" fn mysql_wire_set_limit(handle: &mut Handle, limit: usize) -> i32
     if handle.is_closed() {
         return CLOSED;
     }
-    handle.connection().set_limit(limit)
+    connection::set_limit(handle.connection(), limit)
 }
 
 /// How many bytes came of which no packet was made.
@@ -221,7 +222,7 @@ pub extern "C" fn mysql_wire_unread(handle: &mut Handle) -> usize
     if handle.is_closed() {
         return 0;
     }
-    handle.connection().unread()
+    connection::unread(handle.connection())
 }
 
 /// Frames a payload behind the bytes that wait to be sent.
@@ -235,7 +236,7 @@ pub extern "C" fn mysql_wire_encode(handle: &mut Handle, payload: &[u8]) -> i32
     if handle.is_closed() {
         return CLOSED;
     }
-    handle.connection().encode(payload)
+    connection::encode(handle.connection(), payload)
 }
 
 /// How many bytes a payload takes with the headers of its chunks. `TOO_LARGE`: more than can be
@@ -282,7 +283,7 @@ pub extern "C" fn mysql_wire_encode_to(
     if handle.is_closed() {
         return CLOSED;
     }
-    handle.connection().encode_to(payload, room, written)
+    connection::encode_to(handle.connection(), payload, room, written)
 }
 
 /// The header of a packet of so many bytes, which go behind it.
@@ -301,7 +302,7 @@ pub extern "C" fn mysql_wire_encode_header(
     if handle.is_closed() {
         return CLOSED;
     }
-    handle.connection().encode_header(len, header)
+    connection::encode_header(handle.connection(), len, header)
 }
 
 /// Moves bytes that wait to be sent to `room`.
@@ -317,7 +318,7 @@ pub extern "C" fn mysql_wire_output(handle: &mut Handle, room: &mut [u8]) -> usi
     if handle.is_closed() {
         return 0;
     }
-    handle.connection().output(room)
+    connection::output(handle.connection(), room)
 }
 
 /// Lends the bytes that wait to be sent.
@@ -332,7 +333,7 @@ pub extern "C" fn mysql_wire_pending(handle: &mut Handle, bytes: &mut View)
         return;
     }
     let connection = handle.connection();
-    bytes.show(connection.pending());
+    bytes.show(connection::pending(connection));
 }
 
 /// Drops bytes that were sent.
@@ -346,7 +347,7 @@ pub extern "C" fn mysql_wire_sent(handle: &mut Handle, count: usize) -> usize
     if handle.is_closed() {
         return 0;
     }
-    handle.connection().sent(count)
+    connection::sent(handle.connection(), count)
 }
 
 /// Numbers the next packet 0.
@@ -360,7 +361,7 @@ pub extern "C" fn mysql_wire_reset(handle: &mut Handle) -> i32
     if handle.is_closed() {
         return CLOSED;
     }
-    handle.connection().reset()
+    connection::reset(handle.connection())
 }
 
 /// Numbers the next packet with this number.
@@ -374,7 +375,7 @@ pub extern "C" fn mysql_wire_set_sequence_id(handle: &mut Handle, id: u8) -> i32
     if handle.is_closed() {
         return CLOSED;
     }
-    handle.connection().set_sequence_id(id)
+    connection::set_sequence_id(handle.connection(), id)
 }
 
 /// The number of the next packet.
@@ -387,7 +388,7 @@ pub extern "C" fn mysql_wire_sequence_id(handle: &mut Handle) -> i32
     if handle.is_closed() {
         return CLOSED;
     }
-    handle.connection().sequence_id()
+    connection::sequence_id(handle.connection())
 }
 
 /// Begins a stream of packets, between two of them.
@@ -432,7 +433,7 @@ pub extern "C" fn mysql_wire_spans_renumber(
 pub extern "C" fn mysql_wire_message(code: i32, text: &mut View)
     ensures { text.new.len ≡ length (message code) }
 {
-    text.show(codes::text(code));
+    text.show(texts::text(code));
     text.len = text.len.saturating_sub(1);
 }
 

@@ -6,7 +6,7 @@ use Rattle.wire_codec.specs.Codec.{CodecState, Stands}
 use Rattle.wire_codec.specs.InPlace.{HasFront}
 use Rattle.wire_codec.specs.LimitedRuns.{DecodesAligned}
 use Rattle.wire_codec.specs.Laws.{empty_state}
-use Rattle.mysql_wire_c.specs.Side.{Side, ConnectionState}
+use Rattle.mysql_wire_side.specs.Side.{Side, ConnectionState}
 
 -- a connection to which nothing has come, with this limit
 abbrev pub new_side : ℕ → Side

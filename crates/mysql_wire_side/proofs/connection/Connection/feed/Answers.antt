@@ -1,9 +1,9 @@
 use Rattle.std.proofs.Common.{rules, ◌∙◌, ap, inl, List, ℕ}
 use Rattle.wire_codec.specs.Codec.{codec_state}
-use Rattle.mysql_wire_c.specs.Side.{Side, ConnectionState, side_of}
-use Rattle.mysql_wire_c.proofs.SideLemmas.{side_of-appended, found, fed}
-use Rattle.mysql_wire_c.proofs.connection.Connection.feed.Goals as goal
-use Rattle.mysql_wire_c.proofs.connection.Connection.feed.Goals.{in-Ok, in-Err}
+use Rattle.mysql_wire_side.specs.Side.{Side, ConnectionState, side_of}
+use Rattle.mysql_wire_side.proofs.SideLemmas.{side_of-appended, found, fed}
+use Rattle.mysql_wire_side.proofs.connection.Connection.feed.Goals as goal
+use Rattle.mysql_wire_side.proofs.connection.Connection.feed.Goals.{in-Ok, in-Err}
 
 pub returns : goal.returns
 returns c = elim c.match-extend_from_slice.branch [

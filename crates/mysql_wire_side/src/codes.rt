@@ -1,8 +1,5 @@
 //! What the calls answer.
 
-ghost use Rattle.std.specs.Prelude.{◌≡◌, [], ◌∷◌, ◌++◌};
-ghost use Rattle.mysql_wire_c.specs.Messages.{message};
-
 /// Done.
 pub const OK: i32 = 0;
 
@@ -50,27 +47,3 @@ pub const NOT_A_NUMBER: i32 = -10;
 
 /// The record is of no stream, wherever it stood.
 pub const INVALID_STATE: i32 = -11;
-
-/// The text for a code, and a zero.
-pub fn text(code: i32) -> &'static [u8]
-    ensures { result.now ≡ message code ++ 0 ∷ [] }
-{
-    match code {
-        OK => b"done, or more bytes are needed\0",
-        PACKET => b"a packet stands whole\0",
-        SPAN => b"bytes of a packet\0",
-        NULL => b"the text is NULL\0",
-        TOO_LARGE => b"the packet is above the limit\0",
-        OUT_OF_SYNC => b"a packet bears another number than the expected one\0",
-        NO_MEMORY => b"out of memory\0",
-        ROOM_TOO_SMALL => b"the room is too small\0",
-        CLOSED => b"the connection is closed\0",
-        IS_OPEN => b"the connection is open already\0",
-        PACKET_WAITS => b"a packet is to be taken first\0",
-        NO_PACKET => b"there is no packet to take\0",
-        MISSING_BYTES => b"the bytes end inside a field\0",
-        NOT_A_NUMBER => b"no number begins here, or no number has this width\0",
-        INVALID_STATE => b"the record is of no stream\0",
-        _ => b"unknown code\0",
-    }
-}

@@ -3,11 +3,11 @@ use Rattle.std.specs.Prelude.{◌≡◌, ℤ, ◌⊎◌, Ok, Err, IsSome, IfSome
 use Rattle.wire_codec.specs.declared.codec.error.PacketCodecError.TheVariants.{OutOfMemory, PacketTooLarge, PacketsOutOfSync}
 use Rattle.wire_codec.specs.Codec.{CodecState}
 use Rattle.wire_codec.specs.LimitedRuns.{DecodesAligned}
-use Rattle.mysql_wire_c.specs.declared.codes.TheConstants.{WAITS, PACKET, TOO_LARGE, OUT_OF_SYNC, NO_MEMORY}
-use Rattle.mysql_wire_c.specs.declared.connection.Front.{Front}
-use Rattle.mysql_wire_c.specs.declared.connection.Front.TheVariants.{Unfinished, Lost}
-use Rattle.mysql_wire_c.specs.Side.{lent_at, behind_lent}
-use Rattle.mysql_wire_c.specs.Answers.{holding}
+use Rattle.mysql_wire_side.specs.declared.codes.TheConstants.{WAITS, PACKET, TOO_LARGE, OUT_OF_SYNC, NO_MEMORY}
+use Rattle.mysql_wire_side.specs.declared.connection.Front.{Front}
+use Rattle.mysql_wire_side.specs.declared.connection.Front.TheVariants.{Unfinished, Lost}
+use Rattle.mysql_wire_side.specs.Side.{lent_at, behind_lent}
+use Rattle.mysql_wire_side.specs.Answers.{holding}
 
 -- the packet that is lent, and what stands behind it, are those of one call of `decode`; or that call
 -- says why there is none

@@ -4,8 +4,8 @@ use Rattle.wire_codec.specs.declared.codec.packet.PacketCodec.{PacketCodec}
 use Rattle.wire_codec.specs.Codec.{CodecState, expected_id}
 use Rattle.wire_codec.specs.LimitedRuns.{Aligned}
 use Rattle.wire_codec.specs.InPlace.{HasFront, front_payload, behind_front}
-use Rattle.mysql_wire_c.specs.declared.connection.Front.{Front}
-use Rattle.mysql_wire_c.specs.declared.connection.Front.TheVariants.{Unfinished, InPlace, Copied, Lost}
+use Rattle.mysql_wire_side.specs.declared.connection.Front.{Front}
+use Rattle.mysql_wire_side.specs.declared.connection.Front.TheVariants.{Unfinished, InPlace, Copied, Lost}
 
 pub record Side : Type 0 where
   -- a packet came with another number than the expected one, and the stream is lost

@@ -1,0 +1,4 @@
+pub mod Side
+pub mod Answers
+pub mod Finding
+pub mod Calls
