@@ -1,1 +1,3 @@
 pub mod SideLemmas
+pub mod FindLemmas
+pub mod NextLemmas
