@@ -1,4 +1,5 @@
 mod MarkLemmas
 mod StreamLemmas
+mod TextLemmas
 mod VarlenLemmas
 mod VersionLemmas
