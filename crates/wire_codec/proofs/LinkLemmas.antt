@@ -13,6 +13,7 @@ use Rattle.wire_codec.specs.Chain.{id_of, StopsBy, EndsBy, AcceptsChunk, Refuses
 use Rattle.wire_codec.specs.Codec.{StandsAt, open_id, DecodesFrom, TakesChunk, LinksChain}
 use Rattle.wire_codec.specs.Limited.{Limits, rest_limit}
 use Rattle.wire_codec.specs.GoingOn.{GoesOnAt, DecodesOn, TakesOn}
+use Rattle.wire_codec.proofs.ChainLemmas.{taken_shorter}
 use Rattle.wire_codec.proofs.CodecLemmas.{id_at_open, outcome_of, chunk_taken, taken_last, taken_middle, taken_other, chunk_awaited, chunk_failed, taken_middle_alone}
 use Rattle.wire_codec.proofs.GoingOnLemmas.{outcome_under, other_under, failed_under, awaited_under, last_under, middle_under, alone_under}
 
@@ -110,3 +111,16 @@ link_on (Ok Whole) limits mark place limit id h src held new header rest dst byt
 link_on (Ok Starved) limits mark place limit id h src held new header rest dst byte b on (inl l) = accepts _ limit id h src held header rest dst (Ok false) new (says_under limits mark place limit id h src held header rest dst byte b on) l
 link_on (Ok Starved) limits mark place limit id h src held new header rest dst byte b on (inr l) = refuses _ limit id h src held header rest dst (Ok false) new (says_under limits mark place limit id h src held header rest dst byte b on) l
 link_on (Err error) limits mark place limit id h src held new header rest dst byte b on l = refuses _ limit id h src held header rest dst (Err error) new (says_under limits mark place limit id h src held header rest dst byte b on) l
+
+-- what is unread is shorter where a chunk was taken
+pub more_shorter : (answer : Result Progress PacketCodecError) (limit id : ℕ) (h : Option (ℕ × ℕ)) (src held : List ℕ) (new : ℕ) (header : Option (ℕ × ℕ)) (rest dst : List ℕ)
+    → answer ≡ Ok More → LinksChain limit id h src held answer new header rest dst → length rest < length src
+more_shorter answer limit id h src held new header rest dst said l =
+    let taken : LinksChain limit id h src held (Ok More) new header rest dst = subst (λ (a : Result Progress PacketCodecError). LinksChain limit id h src held a new header rest dst) said l in
+    taken_shorter h limit src held (Middle id) header rest dst taken.0
+
+pub whole_shorter : (answer : Result Progress PacketCodecError) (limit id : ℕ) (h : Option (ℕ × ℕ)) (src held : List ℕ) (new : ℕ) (header : Option (ℕ × ℕ)) (rest dst : List ℕ)
+    → answer ≡ Ok Whole → LinksChain limit id h src held answer new header rest dst → length rest < length src
+whole_shorter answer limit id h src held new header rest dst said l =
+    let taken : AcceptsChunk limit id h src held (Ok true) new header rest dst = subst (λ (a : Result Progress PacketCodecError). LinksChain limit id h src held a new header rest dst) said l in
+    taken_shorter h limit src held taken.info header rest dst taken.chunk

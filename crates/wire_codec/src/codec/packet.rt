@@ -1,7 +1,7 @@
 //! Whole packets.
 
 ghost use Rattle.std.specs.Prelude.{◌≡◌, ◌≢◌, ℕ, ◌+◌, ◌%◌, ◌<◌, ◌≤◌, ◌↔◌, ◌⊎◌, OnOk, OnErr, IfErr, Err, List, [], length, None, true, false, IsTrue, slice_index, ◌++◌};
-ghost use Rattle.wire_codec.specs.Delivery.{chunk_len, IsBounded};
+ghost use Rattle.wire_codec.specs.Delivery.{chunk_len, IsBounded, IsSpelled};
 
 mod front;
 mod skip;
@@ -262,25 +262,18 @@ impl PacketCodec {
     ghost use Rattle.wire_codec.specs.GoingOn.{Takes, Decodes};
     ghost use Rattle.wire_codec.specs.OneChunk.{DecodesChunk};
 
-    // Takes one chunk.
+    // Takes one chunk, the next link of a chain.
     #[inline(always)]
-    fn take_chunk<T: PacketDst>(
+    fn link_chunk<T: PacketDst>(
         &mut self,
         src: &mut BytesMut<impl Allocator + Copy>,
         dst: &mut T,
     ) -> Result<Progress, PacketCodecError>
-        ensures takes { let before = codec_state self.old src.old.items (T.held dst.old) in
-            Stands before → TakesChunk (first_id before) (input_of before)
-            (T.held dst.old) self.old.max_allowed_packet result
-            (expected_id self.new) (header_of self.new) src.new.items (T.held dst.new) }
         ensures links { LinksChain self.old.max_allowed_packet
             (expected_id self.old) (header_of self.old) src.old.items (T.held dst.old) result
             (expected_id self.new) (header_of self.new) src.new.items (T.held dst.new) }
-        ensures on { let before = codec_state self.old src.old.items (T.held dst.old) in
-            let after = codec_state self.new src.new.items (T.held dst.new) in
-            Takes before result after }
-        ensures more { result ≡ Ok Progress.More → length src.new.items < length src.old.items }
-        ensures whole { result ≡ Ok Progress.Whole → length src.new.items < length src.old.items }
+        ensures spelled { IsSpelled src.old.items }
+        ensures small { expected_id self.old < 256 }
         ensures limit { self.new.max_allowed_packet ≡ self.old.max_allowed_packet }
     {
         let expected = self.seq_id;
@@ -306,6 +299,30 @@ impl PacketCodec {
                 }
             }
         }
+    }
+
+    // Takes one chunk: what it is to the packet.
+    #[inline(always)]
+    fn take_chunk<T: PacketDst>(
+        &mut self,
+        src: &mut BytesMut<impl Allocator + Copy>,
+        dst: &mut T,
+    ) -> Result<Progress, PacketCodecError>
+        ensures takes { let before = codec_state self.old src.old.items (T.held dst.old) in
+            Stands before → TakesChunk (first_id before) (input_of before)
+            (T.held dst.old) self.old.max_allowed_packet result
+            (expected_id self.new) (header_of self.new) src.new.items (T.held dst.new) }
+        ensures links { LinksChain self.old.max_allowed_packet
+            (expected_id self.old) (header_of self.old) src.old.items (T.held dst.old) result
+            (expected_id self.new) (header_of self.new) src.new.items (T.held dst.new) }
+        ensures on { let before = codec_state self.old src.old.items (T.held dst.old) in
+            let after = codec_state self.new src.new.items (T.held dst.new) in
+            Takes before result after }
+        ensures more { result ≡ Ok Progress.More → length src.new.items < length src.old.items }
+        ensures whole { result ≡ Ok Progress.Whole → length src.new.items < length src.old.items }
+        ensures limit { self.new.max_allowed_packet ≡ self.old.max_allowed_packet }
+    {
+        self.link_chunk(src, dst)
     }
 
     // Takes room in `dst` for all bytes that one call takes. Where there is none, the chunk in
