@@ -98,3 +98,13 @@ RunsOn limits place before pieces count answer gained after =
     answer gained after.unread (limited_bytes (drop count pieces)) after.held
     × ((answer ≡ Ok tt) ⊎ (answer ≡ Err OutOfMemory)
     → (mark : ℕ) × GoesOn limits mark (place_after place gained) after)
+
+-- the same of every place that the bytes to be read and these pieces may have, and what was made of
+-- the payloads
+abbrev pub TakesGoingOn : CodecState → List (ℕ × Bor (List ℕ)) → ℕ
+    → Result (Unit {0}) PacketCodecError → CodecState → (List (List ℕ) → Type 0) → Type 0
+TakesGoingOn before pieces count answer after makes =
+    (limits : Limits) (mark place : ℕ) → GoesOn limits mark place before
+    → HavePieceLimits limits (place + length (input_of before)) pieces
+    → (gained : List (List ℕ)) × makes gained
+    × RunsOn limits place before pieces count answer gained after

@@ -114,6 +114,9 @@ DecodesAligned before answer after =
     DecodesUnder (run_limits before []) 0 (first_id before) (input_of before) before.held answer
     after.id after.header after.unread after.held
 
+abbrev pub DecodesWhereAligned : CodecState → Result Bool PacketCodecError → CodecState → Type 0
+DecodesWhereAligned before answer after = Aligned before → DecodesAligned before answer after
+
 -- the same run over a longer input, of which these bytes are left behind what `src` holds
 abbrev pub LeavesUnder : Limits → ℕ → ℕ → List ℕ → List ℕ → Result (Unit {0}) PacketCodecError
     → List (List ℕ) → List ℕ → List ℕ → List ℕ → Type 0
@@ -165,3 +168,9 @@ RunsLimited before pieces count answer gained after =
     answer gained after.unread (limited_bytes (drop count pieces)) after.held
     × (answer ≡ Err OutOfMemory → RemembersLimited before pieces count gained after.header
     after.unread after.held)
+
+-- the same run, and what was made of the payloads
+abbrev pub TakesLimited : CodecState → List (ℕ × Bor (List ℕ)) → ℕ
+    → Result (Unit {0}) PacketCodecError → CodecState → (List (List ℕ) → Type 0) → Type 0
+TakesLimited before pieces count answer after makes =
+    (gained : List (List ℕ)) × makes gained × RunsLimited before pieces count answer gained after

@@ -16,6 +16,11 @@ use Rattle.wire_codec.specs.Codec.{CodecState, codec_state, expected_id, header_
 abbrev pub nothing_skipped : Skipped
 nothing_skipped = record { held = 0; begun = None }
 
+-- the chunk in front would take a packet, of which so much is held, past the limit
+abbrev pub IsPast : ℕ → ℕ → List ℕ → Type 0
+IsPast limit held front =
+    (4 ≤ length front) × (0 < chunk_len front) × (limit < held + chunk_len front)
+
 -- the header that a codec would remember: that of the open chunk, or its own
 abbrev pub header_at : Option OpenChunk → Option (ℕ × ℕ) → Option (ℕ × ℕ)
 header_at None remembered = remembered

@@ -5,6 +5,7 @@ use Rattle.std.specs.List.{FoldsTo}
 use Rattle.std.proofs.Common.{subst, sym}
 use Rattle.wire_codec.specs.declared.codec.error.PacketCodecError.{PacketCodecError}
 use Rattle.wire_codec.specs.declared.codec.error.PacketCodecError.TheVariants.{OutOfMemory, PacketsOutOfSync}
+use Rattle.wire_codec.specs.declared.codec.packet.PacketCodec.{PacketCodec}
 use Rattle.wire_codec.specs.Codec.{CodecState, first_id, input_of}
 use Rattle.wire_codec.specs.Limited.{Limits, place_after}
 use Rattle.wire_codec.specs.LimitedRuns.{Aligned, RunsUnder, RunsLimited, WaitsLimited, last_limit}
@@ -28,6 +29,12 @@ TakesNext took limits mark place before (Err error) old new after =
     after.id after.header after.unread after.held
     × (error ≡ OutOfMemory → GoesOn limits mark place after)
 
+abbrev pub TakesOne : {O : Type 0} → (O → List (List ℕ) → O → Type 0) → CodecState
+    → Result Bool PacketCodecError → O → O → CodecState → Type 0
+TakesOne took before answer old new after =
+    (limits : Limits) (mark place : ℕ) → GoesOn limits mark place before
+    → TakesNext took limits mark place before answer old new after
+
 -- packets are taken until more bytes are needed, or a fault: what it makes of the codec in any place
 -- of a stream
 abbrev pub Drains : {O : Type 0} → (O → List (List ℕ) → O → Type 0) → CodecState
@@ -43,6 +50,11 @@ Drains took before answer old new after =
 abbrev pub pieces_under : {P : Type 0} → (ℕ → P → ℕ × Bor (List ℕ)) → ℕ → List P
     → List (ℕ × Bor (List ℕ))
 pieces_under limited own pieces = map (λ piece. limited own piece) pieces
+
+-- or else with this codec's
+abbrev pub pieces_for : {P : Type 0} → (ℕ → P → ℕ × Bor (List ℕ)) → PacketCodec → List P
+    → List (ℕ × Bor (List ℕ))
+pieces_for limited codec pieces = pieces_under limited codec.max_allowed_packet pieces
 
 -- a run over pieces, of which so many were appended: what it hands out and leaves, in a stream of
 -- its own and in the middle of any; how many pieces it took, and where the codec stands

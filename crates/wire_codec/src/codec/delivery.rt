@@ -1,9 +1,9 @@
 //! Packets from a stream that comes in pieces.
 
 ghost use Rattle.std.specs.Prelude.{◌≡◌, ◌≢◌, ℕ, ◌<◌, ◌≤◌, List, [], ◌∷◌, ◌++◌, length, take, drop, Err, OnOk, vec_len, vec_capacity};
-ghost use Rattle.wire_codec.specs.Codec.{codec_state, Stands};
+ghost use Rattle.wire_codec.specs.Codec.{state_at, Stands};
 ghost use Rattle.wire_codec.specs.Delivery.{IsBounded};
-ghost use Rattle.wire_codec.specs.Runs.{payloads, joined, RunsTo, RunsOver, Waits};
+ghost use Rattle.wire_codec.specs.Runs.{HandsOut, TakesPieces, Waits, joined, payloads};
 
 use crate::codec::error::PacketCodecError;
 use crate::codec::packet::PacketCodec;
@@ -72,25 +72,21 @@ pub fn deliver<A: Allocator + Copy>(
     pieces: &[&[u8]],
     out: &mut Vec<Vec<u8, A>, A>,
 ) -> (usize, Result<(), PacketCodecError>)
-    requires { Stands (codec_state codec.old src.old.items dst.old.items) }
-    ensures runs { let before = codec_state codec.old src.old.items dst.old.items in
-        let after = codec_state codec.new src.new.items dst.new.items in
-        (gained : List (List ℕ)) × (payloads out.new.items ≡ payloads out.old.items ++ gained)
-        × RunsTo before (joined (take result.0 pieces.now)) result.1 gained after
-        × RunsOver before (joined pieces.now) result.1 gained after
-        (joined (drop result.0 pieces.now)) }
+    requires { Stands (state_at codec.old src.old dst.old) }
+    ensures runs { TakesPieces (state_at codec.old src.old dst.old) pieces.now result.0 result.1
+        (state_at codec.new src.new dst.new) (HandsOut out.old.items out.new.items) }
 
     // So many pieces were appended, and with fewer of them the run only waits.
     ensures count { result.0 ≤ length pieces.now }
-    ensures least { let before = codec_state codec.old src.old.items dst.old.items in
-        (j : ℕ) → j < result.0 → Waits before (joined (take j pieces.now)) }
+    ensures least { (j : ℕ) → j < result.0
+        → Waits (state_at codec.old src.old dst.old) (joined (take j pieces.now)) }
     ensures all { OnOk result.1 (result.0 ≡ length pieces.now) }
 
     // Where it waits, both buffers together hold few bytes.
     ensures bounded { OnOk result.1 (IsBounded codec.old.max_allowed_packet dst.old.items
         dst.new.items src.new.items) }
     ensures stands { result.1 ≢ Err PacketCodecError.PacketsOutOfSync
-        → Stands (codec_state codec.new src.new.items dst.new.items) }
+        → Stands (state_at codec.new src.new dst.new) }
     ensures limit { codec.new.max_allowed_packet ≡ codec.old.max_allowed_packet }
 {
     take_pieces::<A, Vec<Vec<u8, A>, A>, Collects, &[u8]>(codec, src, dst, pieces, out)

@@ -2,9 +2,9 @@
 
 ghost use Rattle.std.specs.Prelude.{◌≡◌, ◌≢◌, ℕ, ◌<◌, ◌≤◌, List, length, take, drop, Err, OnOk};
 ghost use Rattle.std.specs.List.{FoldsTo};
-ghost use Rattle.wire_codec.specs.Codec.{codec_state, Stands};
+ghost use Rattle.wire_codec.specs.Codec.{state_at, Stands};
 ghost use Rattle.wire_codec.specs.Delivery.{IsBounded};
-ghost use Rattle.wire_codec.specs.Runs.{joined, RunsTo, RunsOver, Waits};
+ghost use Rattle.wire_codec.specs.Runs.{TakesPieces, Visited, Waits, joined};
 ghost use Rattle.wire_codec.specs.Taking.{FoldsTo-append};
 
 use crate::codec::error::PacketCodecError;
@@ -73,26 +73,22 @@ pub fn deliver_each<A: Allocator + Copy, V: Visit>(
     pieces: &[&[u8]],
     visitor: &mut V,
 ) -> (usize, Result<(), PacketCodecError>)
-    requires { Stands (codec_state codec.old src.old.items dst.old.items) }
+    requires { Stands (state_at codec.old src.old dst.old) }
     // One visit after another, of the packets of the delivery.
-    ensures runs { let before = codec_state codec.old src.old.items dst.old.items in
-        let after = codec_state codec.new src.new.items dst.new.items in
-        (gained : List (List ℕ)) × FoldsTo V.sees visitor.old gained visitor.new
-        × RunsTo before (joined (take result.0 pieces.now)) result.1 gained after
-        × RunsOver before (joined pieces.now) result.1 gained after
-        (joined (drop result.0 pieces.now)) }
+    ensures runs { TakesPieces (state_at codec.old src.old dst.old) pieces.now result.0 result.1
+        (state_at codec.new src.new dst.new) (Visited V.sees visitor.old visitor.new) }
 
     // So many pieces were appended, and with fewer of them the run only waits.
     ensures count { result.0 ≤ length pieces.now }
-    ensures least { let before = codec_state codec.old src.old.items dst.old.items in
-        (j : ℕ) → j < result.0 → Waits before (joined (take j pieces.now)) }
+    ensures least { (j : ℕ) → j < result.0
+        → Waits (state_at codec.old src.old dst.old) (joined (take j pieces.now)) }
     ensures all { OnOk result.1 (result.0 ≡ length pieces.now) }
 
     // Where it waits, both buffers together hold few bytes.
     ensures bounded { OnOk result.1 (IsBounded codec.old.max_allowed_packet dst.old.items
         dst.new.items src.new.items) }
     ensures stands { result.1 ≢ Err PacketCodecError.PacketsOutOfSync
-        → Stands (codec_state codec.new src.new.items dst.new.items) }
+        → Stands (state_at codec.new src.new dst.new) }
     ensures limit { codec.new.max_allowed_packet ≡ codec.old.max_allowed_packet }
 {
     take_pieces::<A, V, Visits, &[u8]>(codec, src, dst, pieces, visitor)

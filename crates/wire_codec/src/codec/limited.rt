@@ -2,11 +2,10 @@
 
 ghost use Rattle.std.specs.Prelude.{◌≡◌, ◌≢◌, ℕ, ◌+◌, ◌<◌, ◌≤◌, List, ◌++◌, length, take, Err, OnOk};
 ghost use Rattle.std.specs.List.{FoldsTo};
-ghost use Rattle.wire_codec.specs.Limited.{Limits};
-ghost use Rattle.wire_codec.specs.LimitedRuns.{Aligned, RunsLimited, WaitsLimited, last_limit};
-ghost use Rattle.wire_codec.specs.GoingOn.{GoesOn, HavePieceLimits, RunsOn};
-ghost use Rattle.wire_codec.specs.Codec.{codec_state, input_of};
-ghost use Rattle.wire_codec.specs.Runs.{payloads};
+ghost use Rattle.wire_codec.specs.LimitedRuns.{Aligned, TakesLimited, WaitsLimited, last_limit};
+ghost use Rattle.wire_codec.specs.GoingOn.{TakesGoingOn};
+ghost use Rattle.wire_codec.specs.Codec.{state_at};
+ghost use Rattle.wire_codec.specs.Runs.{HandsOut, Visited};
 
 use crate::codec::delivery::Collects;
 use crate::codec::each::{Visit, Visits};
@@ -33,28 +32,22 @@ pub fn deliver_limited<A: Allocator + Copy>(
     pieces: &[(usize, &[u8])],
     out: &mut Vec<Vec<u8, A>, A>,
 ) -> (usize, Result<(), PacketCodecError>)
-    requires { Aligned (codec_state codec.old src.old.items dst.old.items) }
-    ensures runs { let before = codec_state codec.old src.old.items dst.old.items in
-        let after = codec_state codec.new src.new.items dst.new.items in
-        (gained : List (List ℕ)) × (payloads out.new.items ≡ payloads out.old.items ++ gained)
-        × RunsLimited before pieces.now result.0 result.1 gained after }
+    requires { Aligned (state_at codec.old src.old dst.old) }
+    ensures runs { TakesLimited (state_at codec.old src.old dst.old) pieces.now result.0 result.1
+        (state_at codec.new src.new dst.new) (HandsOut out.old.items out.new.items) }
 
     // The same in the middle of a stream, of which each byte has its limit.
-    ensures on { let before = codec_state codec.old src.old.items dst.old.items in
-        let after = codec_state codec.new src.new.items dst.new.items in
-        (limits : Limits) (mark place : ℕ) → GoesOn limits mark place before
-        → HavePieceLimits limits (place + length (input_of before)) pieces.now
-        → (gained : List (List ℕ)) × (payloads out.new.items ≡ payloads out.old.items ++ gained)
-        × RunsOn limits place before pieces.now result.0 result.1 gained after }
+    ensures on { TakesGoingOn (state_at codec.old src.old dst.old) pieces.now result.0 result.1
+        (state_at codec.new src.new dst.new) (HandsOut out.old.items out.new.items) }
 
     // So many pieces were appended, and with fewer of them the run only waits.
     ensures count { result.0 ≤ length pieces.now }
-    ensures least { let before = codec_state codec.old src.old.items dst.old.items in
-        (j : ℕ) → j < result.0 → WaitsLimited before pieces.now j }
+    ensures least { (j : ℕ) → j < result.0
+        → WaitsLimited (state_at codec.old src.old dst.old) pieces.now j }
     ensures all { OnOk result.1 (result.0 ≡ length pieces.now) }
 
     ensures aligned { result.1 ≢ Err PacketCodecError.PacketsOutOfSync
-        → Aligned (codec_state codec.new src.new.items dst.new.items) }
+        → Aligned (state_at codec.new src.new dst.new) }
     ensures limit { codec.new.max_allowed_packet
         ≡ last_limit codec.old.max_allowed_packet (take result.0 pieces.now) }
 {
@@ -74,29 +67,23 @@ pub fn deliver_each_limited<A: Allocator + Copy, V: Visit>(
     pieces: &[(usize, &[u8])],
     visitor: &mut V,
 ) -> (usize, Result<(), PacketCodecError>)
-    requires { Aligned (codec_state codec.old src.old.items dst.old.items) }
+    requires { Aligned (state_at codec.old src.old dst.old) }
     // One visit after another, of the packets of the delivery.
-    ensures runs { let before = codec_state codec.old src.old.items dst.old.items in
-        let after = codec_state codec.new src.new.items dst.new.items in
-        (gained : List (List ℕ)) × FoldsTo V.sees visitor.old gained visitor.new
-        × RunsLimited before pieces.now result.0 result.1 gained after }
+    ensures runs { TakesLimited (state_at codec.old src.old dst.old) pieces.now result.0 result.1
+        (state_at codec.new src.new dst.new) (Visited V.sees visitor.old visitor.new) }
 
     // The same in the middle of a stream, of which each byte has its limit.
-    ensures on { let before = codec_state codec.old src.old.items dst.old.items in
-        let after = codec_state codec.new src.new.items dst.new.items in
-        (limits : Limits) (mark place : ℕ) → GoesOn limits mark place before
-        → HavePieceLimits limits (place + length (input_of before)) pieces.now
-        → (gained : List (List ℕ)) × FoldsTo V.sees visitor.old gained visitor.new
-        × RunsOn limits place before pieces.now result.0 result.1 gained after }
+    ensures on { TakesGoingOn (state_at codec.old src.old dst.old) pieces.now result.0 result.1
+        (state_at codec.new src.new dst.new) (Visited V.sees visitor.old visitor.new) }
 
     // So many pieces were appended, and with fewer of them the run only waits.
     ensures count { result.0 ≤ length pieces.now }
-    ensures least { let before = codec_state codec.old src.old.items dst.old.items in
-        (j : ℕ) → j < result.0 → WaitsLimited before pieces.now j }
+    ensures least { (j : ℕ) → j < result.0
+        → WaitsLimited (state_at codec.old src.old dst.old) pieces.now j }
     ensures all { OnOk result.1 (result.0 ≡ length pieces.now) }
 
     ensures aligned { result.1 ≢ Err PacketCodecError.PacketsOutOfSync
-        → Aligned (codec_state codec.new src.new.items dst.new.items) }
+        → Aligned (state_at codec.new src.new dst.new) }
     ensures limit { codec.new.max_allowed_packet
         ≡ last_limit codec.old.max_allowed_packet (take result.0 pieces.now) }
 {

@@ -49,8 +49,8 @@ impl Default for PacketCodec {
 }
 
 impl PacketCodec {
-    ghost use Rattle.wire_codec.specs.Codec.{expected_id, header_of, codec_state, first_id, Stands, DecodesPacket, ChunkChain, HasChunk};
-    ghost use Rattle.wire_codec.specs.LimitedRuns.{Aligned, DecodesAligned};
+    ghost use Rattle.wire_codec.specs.Codec.{expected_id, header_of, codec_state, first_id, Stands, StandsAgain, DecodesStanding, IsChain, HasChunk, WaitsBounded};
+    ghost use Rattle.wire_codec.specs.LimitedRuns.{Aligned, DecodesWhereAligned};
     ghost use Rattle.wire_codec.specs.Framing.{framing, next_id};
 
     /// Whether `decode` goes on here with the packet that it was at: `dst` holds full chunks alone,
@@ -122,27 +122,21 @@ impl PacketCodec {
         src: &mut BytesMut<impl Allocator + Copy>,
         dst: &mut T,
     ) -> Result<bool, PacketCodecError>
-        ensures decodes { let before = codec_state self.old src.old.items (T.held dst.old) in
-            let after = codec_state self.new src.new.items (T.held dst.new) in
-            Stands before → DecodesPacket before result after }
+        ensures decodes { DecodesStanding (codec_state self.old src.old.items (T.held dst.old))
+            result (codec_state self.new src.new.items (T.held dst.new)) }
         // The same at any limit that was set since: a remembered header isn't judged again.
-        ensures aligned { let before = codec_state self.old src.old.items (T.held dst.old) in
-            let after = codec_state self.new src.new.items (T.held dst.new) in
-            Aligned before → DecodesAligned before result after }
+        ensures aligned { DecodesWhereAligned
+            (codec_state self.old src.old.items (T.held dst.old)) result
+            (codec_state self.new src.new.items (T.held dst.new)) }
         // In every state it is a chain of single chunks.
-        ensures chain { let before = codec_state self.old src.old.items (T.held dst.old) in
-            let after = codec_state self.new src.new.items (T.held dst.new) in
-            (accepted : ℕ) × ChunkChain accepted before result after }
+        ensures chain { IsChain (codec_state self.old src.old.items (T.held dst.old)) result
+            (codec_state self.new src.new.items (T.held dst.new)) }
         // After everything but a whole packet and a lost sync the codec stands again.
-        ensures stands { let before = codec_state self.old src.old.items (T.held dst.old) in
-            let after = codec_state self.new src.new.items (T.held dst.new) in
-            Stands before → (result ≢ Ok true)
-            → (result ≢ Err PacketCodecError.PacketsOutOfSync) → Stands after }
+        ensures stands { StandsAgain (codec_state self.old src.old.items (T.held dst.old)) result
+            (codec_state self.new src.new.items (T.held dst.new)) }
         // Where it waits, both buffers together hold few bytes.
-        ensures bounded { let before = codec_state self.old src.old.items (T.held dst.old) in
-            Stands before → result ≡ Ok false
-            → IsBounded self.old.max_allowed_packet (T.held dst.old)
-            (T.held dst.new) src.new.items }
+        ensures bounded { WaitsBounded (codec_state self.old src.old.items (T.held dst.old)) result
+            (codec_state self.new src.new.items (T.held dst.new)) }
         // Want of memory is answered only where a chunk is there to be taken.
         ensures memory { let before = codec_state self.old src.old.items (T.held dst.old) in
             result ≡ Err PacketCodecError.OutOfMemory → HasChunk before }
@@ -258,9 +252,8 @@ enum Progress {
 }
 
 impl PacketCodec {
-    ghost use Rattle.wire_codec.specs.Codec.{expected_id, header_of, codec_state, first_id, input_of, Stands, DecodesPacket, ChunkChain, HasChunk, TakesChunk, LinksChain};
+    ghost use Rattle.wire_codec.specs.Codec.{expected_id, header_of, codec_state, DecodesStanding, HasChunk, IsChain, IsLink, LacksMemory, TakesStanding};
     ghost use Rattle.wire_codec.specs.GoingOn.{Takes, Decodes};
-    ghost use Rattle.wire_codec.specs.OneChunk.{DecodesChunk};
 
     // Takes one chunk, the next link of a chain.
     #[inline(always)]
@@ -269,9 +262,8 @@ impl PacketCodec {
         src: &mut BytesMut<impl Allocator + Copy>,
         dst: &mut T,
     ) -> Result<Progress, PacketCodecError>
-        ensures links { LinksChain self.old.max_allowed_packet
-            (expected_id self.old) (header_of self.old) src.old.items (T.held dst.old) result
-            (expected_id self.new) (header_of self.new) src.new.items (T.held dst.new) }
+        ensures links { IsLink (codec_state self.old src.old.items (T.held dst.old)) result
+            (codec_state self.new src.new.items (T.held dst.new)) }
         ensures spelled { IsSpelled src.old.items }
         ensures small { expected_id self.old < 256 }
         ensures limit { self.new.max_allowed_packet ≡ self.old.max_allowed_packet }
@@ -308,16 +300,12 @@ impl PacketCodec {
         src: &mut BytesMut<impl Allocator + Copy>,
         dst: &mut T,
     ) -> Result<Progress, PacketCodecError>
-        ensures takes { let before = codec_state self.old src.old.items (T.held dst.old) in
-            Stands before → TakesChunk (first_id before) (input_of before)
-            (T.held dst.old) self.old.max_allowed_packet result
-            (expected_id self.new) (header_of self.new) src.new.items (T.held dst.new) }
-        ensures links { LinksChain self.old.max_allowed_packet
-            (expected_id self.old) (header_of self.old) src.old.items (T.held dst.old) result
-            (expected_id self.new) (header_of self.new) src.new.items (T.held dst.new) }
-        ensures on { let before = codec_state self.old src.old.items (T.held dst.old) in
-            let after = codec_state self.new src.new.items (T.held dst.new) in
-            Takes before result after }
+        ensures takes { TakesStanding (codec_state self.old src.old.items (T.held dst.old)) result
+            (codec_state self.new src.new.items (T.held dst.new)) }
+        ensures links { IsLink (codec_state self.old src.old.items (T.held dst.old)) result
+            (codec_state self.new src.new.items (T.held dst.new)) }
+        ensures on { Takes (codec_state self.old src.old.items (T.held dst.old)) result
+            (codec_state self.new src.new.items (T.held dst.new)) }
         ensures more { result ≡ Ok Progress.More → length src.new.items < length src.old.items }
         ensures whole { result ≡ Ok Progress.Whole → length src.new.items < length src.old.items }
         ensures limit { self.new.max_allowed_packet ≡ self.old.max_allowed_packet }
@@ -335,14 +323,12 @@ impl PacketCodec {
     ) -> Result<(), PacketCodecError>
         ensures ok { OnOk result (self.new ≡ self.old) }
         ensures memory { IfErr result (λ error. error ≡ PacketCodecError.OutOfMemory) }
-        ensures refused { OnErr result (DecodesChunk
-            (header_of self.old) src.now.items (T.held dst.old) self.old.max_allowed_packet
-            (Err PacketCodecError.OutOfMemory)
-            (header_of self.new) src.now.items (T.held dst.new)) }
-        ensures decodes { let before = codec_state self.old src.now.items (T.held dst.old) in
-            let after = codec_state self.new src.now.items (T.held dst.new) in
-            OnErr result (Stands before
-            → DecodesPacket before (Err PacketCodecError.OutOfMemory) after) }
+        ensures refused { OnErr result (LacksMemory
+            (codec_state self.old src.now.items (T.held dst.old))
+            (codec_state self.new src.now.items (T.held dst.new))) }
+        ensures decodes { OnErr result (DecodesStanding
+            (codec_state self.old src.now.items (T.held dst.old)) (Err PacketCodecError.OutOfMemory)
+            (codec_state self.new src.now.items (T.held dst.new))) }
         ensures there { OnErr result
             (HasChunk (codec_state self.old src.now.items (T.held dst.old))) }
         ensures id { expected_id self.new ≡ expected_id self.old }
@@ -375,15 +361,12 @@ impl PacketCodec {
         src: &mut BytesMut<impl Allocator + Copy>,
         dst: &mut T,
     ) -> Result<bool, PacketCodecError>
-        ensures decodes { let before = codec_state self.old src.old.items (T.held dst.old) in
-            let after = codec_state self.new src.new.items (T.held dst.new) in
-            Stands before → DecodesPacket before result after }
-        ensures on { let before = codec_state self.old src.old.items (T.held dst.old) in
-            let after = codec_state self.new src.new.items (T.held dst.new) in
-            Decodes before result after }
-        ensures chain { let before = codec_state self.old src.old.items (T.held dst.old) in
-            let after = codec_state self.new src.new.items (T.held dst.new) in
-            (accepted : ℕ) × ChunkChain accepted before result after }
+        ensures decodes { DecodesStanding (codec_state self.old src.old.items (T.held dst.old))
+            result (codec_state self.new src.new.items (T.held dst.new)) }
+        ensures on { Decodes (codec_state self.old src.old.items (T.held dst.old)) result
+            (codec_state self.new src.new.items (T.held dst.new)) }
+        ensures chain { IsChain (codec_state self.old src.old.items (T.held dst.old)) result
+            (codec_state self.new src.new.items (T.held dst.new)) }
         ensures memory { let before = codec_state self.old src.old.items (T.held dst.old) in
             result ≡ Err PacketCodecError.OutOfMemory → HasChunk before }
         ensures shorter { result ≡ Ok true → length src.new.items < length src.old.items }
@@ -400,17 +383,14 @@ impl PacketCodec {
         src: &mut BytesMut<impl Allocator + Copy>,
         dst: &mut T,
     ) -> Result<bool, PacketCodecError>
-        ensures decodes { let before = codec_state self.old src.old.items (T.held dst.old) in
-            let after = codec_state self.new src.new.items (T.held dst.new) in
-            Stands before → DecodesPacket before result after }
-        ensures chain { let before = codec_state self.old src.old.items (T.held dst.old) in
-            let after = codec_state self.new src.new.items (T.held dst.new) in
-            (accepted : ℕ) × ChunkChain accepted before result after }
+        ensures decodes { DecodesStanding (codec_state self.old src.old.items (T.held dst.old))
+            result (codec_state self.new src.new.items (T.held dst.new)) }
+        ensures chain { IsChain (codec_state self.old src.old.items (T.held dst.old)) result
+            (codec_state self.new src.new.items (T.held dst.new)) }
         ensures memory { let before = codec_state self.old src.old.items (T.held dst.old) in
             result ≡ Err PacketCodecError.OutOfMemory → HasChunk before }
-        ensures on { let before = codec_state self.old src.old.items (T.held dst.old) in
-            let after = codec_state self.new src.new.items (T.held dst.new) in
-            Decodes before result after }
+        ensures on { Decodes (codec_state self.old src.old.items (T.held dst.old)) result
+            (codec_state self.new src.new.items (T.held dst.new)) }
         ensures shorter { result ≡ Ok true → length src.new.items < length src.old.items }
         ensures limit { self.new.max_allowed_packet ≡ self.old.max_allowed_packet }
     {

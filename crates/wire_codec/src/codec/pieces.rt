@@ -2,9 +2,9 @@
 
 ghost use Rattle.std.specs.Prelude.{◌≡◌, ℕ, ◌++◌, List, OnOk, OnErr, IfErr};
 ghost use Rattle.std.specs.Borrow.{Bor};
-ghost use Rattle.wire_codec.specs.Codec.{codec_state};
+ghost use Rattle.wire_codec.specs.Codec.{state_at};
 ghost use Rattle.wire_codec.specs.LimitedRuns.{Aligned};
-ghost use Rattle.wire_codec.specs.Taking.{pieces_under, RunsPieces};
+ghost use Rattle.wire_codec.specs.Taking.{pieces_for, RunsPieces};
 
 use crate::codec::error::PacketCodecError;
 use crate::codec::packet::PacketCodec;
@@ -73,10 +73,10 @@ pub(crate) fn take_pieces<A: Allocator + Copy, O, K: Takes<A, O>, P: Piece>(
     pieces: &[P],
     out: &mut O,
 ) -> (usize, Result<(), PacketCodecError>)
-    requires { Aligned (codec_state codec.old src.old.items dst.old.items) }
-    ensures { RunsPieces K.took (codec_state codec.old src.old.items dst.old.items)
-        (pieces_under P.limited codec.old.max_allowed_packet pieces.now) result.0 result.1
-        out.old out.new (codec_state codec.new src.new.items dst.new.items) }
+    requires { Aligned (state_at codec.old src.old dst.old) }
+    ensures { RunsPieces K.took (state_at codec.old src.old dst.old)
+        (pieces_for P.limited codec.old pieces.now) result.0 result.1 out.old out.new
+        (state_at codec.new src.new dst.new) }
 {
     let own = codec.max_allowed_packet;
     match drain::<A, O, K>(codec, src, dst, own, out) {

@@ -1,10 +1,8 @@
 //! What becomes of the packets of a run, and the loop that takes them.
 
 ghost use Rattle.std.specs.Prelude.{◌≡◌, ℕ, ◌<◌, ◌++◌, List, [], length, Ok, true};
-ghost use Rattle.wire_codec.specs.Codec.{codec_state};
-ghost use Rattle.wire_codec.specs.GoingOn.{GoesOn};
-ghost use Rattle.wire_codec.specs.Limited.{Limits};
-ghost use Rattle.wire_codec.specs.Taking.{TakesNext, Drains};
+ghost use Rattle.wire_codec.specs.Codec.{state_at};
+ghost use Rattle.wire_codec.specs.Taking.{Drains, TakesOne};
 
 use crate::codec::error::PacketCodecError;
 use crate::codec::packet::PacketCodec;
@@ -23,10 +21,8 @@ pub(crate) trait Takes<A: Allocator + Copy, O> {
         dst: &mut Vec<u8, A>,
         out: &mut O,
     ) -> Result<bool, PacketCodecError>
-        ensures takes { let before = codec_state codec.old src.old.items dst.old.items in
-            let after = codec_state codec.new src.new.items dst.new.items in
-            (limits : Limits) (mark place : ℕ) → GoesOn limits mark place before
-            → TakesNext took limits mark place before result out.old out.new after }
+        ensures takes { TakesOne took (state_at codec.old src.old dst.old) result out.old out.new
+            (state_at codec.new src.new dst.new) }
         ensures shorter { result ≡ Ok true → length src.new.items < length src.old.items }
         ensures limit { codec.new.max_allowed_packet ≡ codec.old.max_allowed_packet };
 
@@ -46,9 +42,8 @@ pub(crate) fn drain<A: Allocator + Copy, O, K: Takes<A, O>>(
     limit: usize,
     out: &mut O,
 ) -> Result<(), PacketCodecError>
-    ensures on { Drains K.took (record (codec_state codec.old src.old.items dst.old.items)
-        { limit = limit })
-        result out.old out.new (codec_state codec.new src.new.items dst.new.items) }
+    ensures on { Drains K.took (record (state_at codec.old src.old dst.old) { limit = limit })
+        result out.old out.new (state_at codec.new src.new dst.new) }
     ensures limit { codec.new.max_allowed_packet ≡ limit }
 {
     codec.max_allowed_packet = limit;

@@ -1,7 +1,7 @@
 //! A packet where it lies.
 
 ghost use Rattle.std.specs.Prelude.{◌≡◌, ◌↔◌, ◌+◌, ◌<◌, ◌≤◌, [], length, drop, Ok, true, IsTrue, IsSome, IfSome, MatchOption};
-ghost use Rattle.wire_codec.specs.Codec.{codec_state, header_of, Stands, DecodesPacket, ChunkChain};
+ghost use Rattle.wire_codec.specs.Codec.{codec_state, header_of, ChunkChain, DecodesPacket, DecodesStanding, Stands};
 ghost use Rattle.wire_codec.specs.Delivery.{chunk_len};
 ghost use Rattle.wire_codec.specs.GoingOn.{Decodes};
 ghost use Rattle.wire_codec.specs.InPlace.{HasFront, front_payload, behind_front};
@@ -96,24 +96,16 @@ impl PacketCodec {
         requires { HasFront (codec_state self.old src.now.items []) }
         ensures chunk { result ≡ 4 + chunk_len src.now.items }
         ensures whole { result ≤ length src.now.items }
-        ensures decodes { let before = codec_state self.old src.now.items [] in
-            let after = codec_state self.new (drop result src.now.items)
-            (front_payload src.now.items) in
-            Stands before → DecodesPacket before (Ok true) after }
-        ensures aligned { let before = codec_state self.old src.now.items [] in
-            let after = codec_state self.new (drop result src.now.items)
-            (front_payload src.now.items) in
-            DecodesAligned before (Ok true) after }
+        ensures decodes { DecodesStanding (codec_state self.old src.now.items []) (Ok true)
+            (codec_state self.new (drop result src.now.items) (front_payload src.now.items)) }
+        ensures aligned { DecodesAligned (codec_state self.old src.now.items []) (Ok true)
+            (codec_state self.new (drop result src.now.items) (front_payload src.now.items)) }
         // The same in the middle of a stream, of which each byte has its limit.
-        ensures on { let before = codec_state self.old src.now.items [] in
-            let after = codec_state self.new (drop result src.now.items)
-            (front_payload src.now.items) in
-            Decodes before (Ok true) after }
+        ensures on { Decodes (codec_state self.old src.now.items []) (Ok true)
+            (codec_state self.new (drop result src.now.items) (front_payload src.now.items)) }
         // One chunk is accepted.
-        ensures chain { let before = codec_state self.old src.now.items [] in
-            let after = codec_state self.new (drop result src.now.items)
-            (front_payload src.now.items) in
-            ChunkChain 1 before (Ok true) after }
+        ensures chain { ChunkChain 1 (codec_state self.old src.now.items []) (Ok true)
+            (codec_state self.new (drop result src.now.items) (front_payload src.now.items)) }
         ensures rest { codec_state self.new (drop result src.now.items)
             (front_payload src.now.items)
             ≡ behind_front (codec_state self.old src.now.items []) }
@@ -131,24 +123,16 @@ impl PacketCodec {
         requires { HasFront (codec_state self.old front.now []) }
         ensures chunk { result ≡ 4 + chunk_len front.now }
         ensures whole { result ≤ length front.now }
-        ensures decodes { let before = codec_state self.old front.now [] in
-            let after = codec_state self.new (drop result front.now)
-            (front_payload front.now) in
-            Stands before → DecodesPacket before (Ok true) after }
-        ensures aligned { let before = codec_state self.old front.now [] in
-            let after = codec_state self.new (drop result front.now)
-            (front_payload front.now) in
-            DecodesAligned before (Ok true) after }
+        ensures decodes { DecodesStanding (codec_state self.old front.now []) (Ok true)
+            (codec_state self.new (drop result front.now) (front_payload front.now)) }
+        ensures aligned { DecodesAligned (codec_state self.old front.now []) (Ok true)
+            (codec_state self.new (drop result front.now) (front_payload front.now)) }
         // The same in the middle of a stream, of which each byte has its limit.
-        ensures on { let before = codec_state self.old front.now [] in
-            let after = codec_state self.new (drop result front.now)
-            (front_payload front.now) in
-            Decodes before (Ok true) after }
+        ensures on { Decodes (codec_state self.old front.now []) (Ok true)
+            (codec_state self.new (drop result front.now) (front_payload front.now)) }
         // One chunk is accepted.
-        ensures chain { let before = codec_state self.old front.now [] in
-            let after = codec_state self.new (drop result front.now)
-            (front_payload front.now) in
-            ChunkChain 1 before (Ok true) after }
+        ensures chain { ChunkChain 1 (codec_state self.old front.now []) (Ok true)
+            (codec_state self.new (drop result front.now) (front_payload front.now)) }
         ensures rest { codec_state self.new (drop result front.now)
             (front_payload front.now)
             ≡ behind_front (codec_state self.old front.now []) }
@@ -171,20 +155,16 @@ impl PacketCodec {
     /// hold.
     pub fn take_front(&mut self, src: &mut BytesMut<impl Allocator + Copy>)
         requires { HasFront (codec_state self.old src.old.items []) }
-        ensures decodes { let before = codec_state self.old src.old.items [] in
-            let after = codec_state self.new src.new.items (front_payload src.old.items) in
-            Stands before → DecodesPacket before (Ok true) after }
-        ensures aligned { let before = codec_state self.old src.old.items [] in
-            let after = codec_state self.new src.new.items (front_payload src.old.items) in
-            DecodesAligned before (Ok true) after }
+        ensures decodes { DecodesStanding (codec_state self.old src.old.items []) (Ok true)
+            (codec_state self.new src.new.items (front_payload src.old.items)) }
+        ensures aligned { DecodesAligned (codec_state self.old src.old.items []) (Ok true)
+            (codec_state self.new src.new.items (front_payload src.old.items)) }
         // The same in the middle of a stream, of which each byte has its limit.
-        ensures on { let before = codec_state self.old src.old.items [] in
-            let after = codec_state self.new src.new.items (front_payload src.old.items) in
-            Decodes before (Ok true) after }
+        ensures on { Decodes (codec_state self.old src.old.items []) (Ok true)
+            (codec_state self.new src.new.items (front_payload src.old.items)) }
         // One chunk is accepted.
-        ensures chain { let before = codec_state self.old src.old.items [] in
-            let after = codec_state self.new src.new.items (front_payload src.old.items) in
-            ChunkChain 1 before (Ok true) after }
+        ensures chain { ChunkChain 1 (codec_state self.old src.old.items []) (Ok true)
+            (codec_state self.new src.new.items (front_payload src.old.items)) }
         ensures rest { codec_state self.new src.new.items (front_payload src.old.items)
             ≡ behind_front (codec_state self.old src.old.items []) }
         // The codec stands at what is left, and an empty `dst`.

@@ -3,7 +3,7 @@
 ghost use Rattle.std.specs.Prelude.{◌≡◌, ◌+◌, ◌%◌, ◌<◌, ◌≤◌, ◌⊎◌, ◌↔◌, length, slice_index, None, Ok, Err, IfOk, IfErr, IfSome, IsSome, IsTrue, OnOk, OnErr};
 ghost use Rattle.wire_codec.specs.Codec.{CodecState, expected_id, header_of};
 ghost use Rattle.wire_codec.specs.Delivery.{chunk_len, IsSpelled};
-ghost use Rattle.wire_codec.specs.Skipping.{AtChunk, DropsChunk, MaySkip, SkipsPacket, WouldStand};
+ghost use Rattle.wire_codec.specs.Skipping.{AtChunk, DropsChunk, IsPast, MaySkip, SkipsPacket, WouldStand};
 ghost use Rattle.wire_codec.specs.Framing.{max_payload};
 ghost use Rattle.std.specs.Int.NonZero.{non_zero_usize_get};
 
@@ -62,8 +62,8 @@ impl PacketCodec {
             ⊎ ((read.len ≡ 0) ⊎ (held + read.len ≤ self.now.max_allowed_packet)))) }
         ensures spelled { IsSpelled front.now }
         ensures err { IfErr result (λ error. (error ≡ PacketCodecError.PacketTooLarge)
-            × (header_of self.now ≡ None) × (4 ≤ length front.now) × (0 < chunk_len front.now)
-            × (self.now.max_allowed_packet < held + chunk_len front.now)) }
+            × (header_of self.now ≡ None)
+            × IsPast self.now.max_allowed_packet held front.now) }
     {
         let Some(header) = Header::read(front) else {
             return Ok(None);

@@ -5,4 +5,4 @@ use Rattle.wire_codec.proofs.codec.packet.PacketCodec.skip_chunk.Goals as goal
 pub returns-in-Err-clause-drops : goal.returns-in-Err-clause-drops
 returns-in-Err-clause-drops g c full w =
     let err = rw c.as_slice.ensures at c.in-Err.ensures.err in
-    refused_header c.args.skipped.now c.args.self.now c.args.src.now.items full c.in-Err.error (omega arith) c.in_default.is w err.0 err.1 err.2 err.3 err.4
+    refused_header c.args.skipped.now c.args.self.now c.args.src.now.items full c.in-Err.error (omega arith) c.in_default.is w err.0 err.1 err.2.0 err.2.1 err.2.2
