@@ -16,7 +16,7 @@ returns g c = λ good.
     ∙ sym (append-nil (stream 0 sent)) in
     let came = c.in_ok-packets.ensures in
     let packets : List (List ℕ) = payloads c.in_ok-packets.field-0.items in
-    let split = c.values_come_back.ensures.delivered 0 c.args.limit values [] packets Waiting came.0 came.1 put.fit
+    let split = c.values_come_back.ensures.delivered 0 c.args.limit values put.fit [] packets Waiting came.0 came.1
     (subst (λ input. Delivers [] input 0 c.args.limit packets Waiting came.0 came.1) bytes came.2) in
     let none = delivers_nothing (id_after 0 sent) c.args.limit split.0 Waiting came.0 came.1 c.framed_length.ensures split.2 in
     let all : packets ≡ sent = split.1 ∙ ap (λ others. sent ++ others) none ∙ append-nil sent in
