@@ -1,5 +1,6 @@
 #!/usr/bin/env python3
-"""Dumps the recorded sessions of crates/recording_tests, or those of another file of this form.
+"""Dumps the recorded sessions of crates/recording_tests, or those of another file of this form. The
+rows behind them are left out.
 
     scripts/dump_recordings.py [RECORDINGS]
 
@@ -14,9 +15,10 @@ import subprocess
 import sys
 import tempfile
 
+from recordings import CLIENT, LISTED, RESET, SERVER, SESSION, records, split
+
 TOP = pathlib.Path(__file__).resolve().parent.parent
 PROGRAM = TOP / "crates/mysql_wire_dump/out/mysql_wire_dump"
-SESSION, CLIENT, SERVER, RESET, FIELDS = range(5)
 SIDES = {CLIENT: "client", SERVER: "server"}
 # the values of one of a session's binary rows, by their places
 VALUES = {
@@ -32,25 +34,17 @@ VALUES = {
 }
 
 
-def records(data):
-    at = 0
-    while at < len(data):
-        length, kind = int.from_bytes(data[at : at + 3], "little"), data[at + 3]
-        yield kind, data[at + 4 : at + 4 + length]
-        at += 4 + length
-
-
 def sessions(data):
     """The name of each session, and its packets: who, id, payload."""
     name, packets, number = None, [], 0
-    for kind, payload in records(data):
+    for _, kind, payload in records(data):
         if kind == SESSION:
             if name:
                 yield name, packets
             name, packets, number = payload.decode(), [], 0
         elif kind == RESET:
             number = 0
-        elif kind != FIELDS:
+        elif kind != LISTED:
             packets.append((SIDES[kind], number % 256, payload))
             number += len(payload) // 0xFFFFFF + 1
     yield name, packets
@@ -109,7 +103,7 @@ def main():
         return
     given = sys.argv[1] if len(sys.argv) > 1 else TOP / "crates/recording_tests/stdin"
     passed = failed = 0
-    for name, packets in sessions(pathlib.Path(given).read_bytes()):
+    for name, packets in sessions(split(pathlib.Path(given).read_bytes())[0]):
         with tempfile.TemporaryDirectory() as folder:
             found = list(faults(name, packets, pathlib.Path(folder)))
         print(name, len(packets), "packets", *found[:5], sep="; " if found else " ")

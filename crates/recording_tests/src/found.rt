@@ -3,10 +3,12 @@
 use crate::place::Kind;
 use crate::shown::{Fields, Shown};
 use mysql_wire_packets::places::read_exact;
+use refusing_allocator::Refusing;
 use std::alloc::Global;
+use test_support::fields::is_written;
 use wire_buf::proto::{MyDeserialize, MySerialize};
 
-/// A payload, and its first fields as other programs read them, where they are listed.
+/// A payload, and its first fields, where they are listed.
 #[derive(Clone, Copy)]
 pub struct Payload<'a> {
     pub bytes: &'a [u8],
@@ -31,19 +33,6 @@ pub struct Found {
     pub is_as_listed: Option<bool>,
 }
 
-// Whether the packet is written as these bytes.
-fn is_written<T: MySerialize>(alloc: Global, packet: &T, bytes: &[u8]) -> bool {
-    let mut written = Vec::new(alloc);
-    packet.serialize(&mut written).is_ok() & (written.as_slice() == bytes)
-}
-
-// Whether the packet's first fields are these.
-fn has_fields<T: Shown>(alloc: Global, packet: &T, listed: &[u8]) -> bool {
-    let mut fields = Fields::new(alloc);
-    fields.all_of(packet);
-    fields.begin_with(listed)
-}
-
 impl Found {
     /// Of a payload that was read as this packet.
     pub fn of<T: MySerialize + Shown>(
@@ -52,13 +41,17 @@ impl Found {
         packet: &T,
         payload: Payload<'_>,
     ) -> Found {
-        let outcome = if is_written(alloc, packet, payload.bytes) {
+        let mut fields = Fields::new(alloc);
+        fields.all_of(packet);
+        // (whichever request for memory is refused)
+        let heap = Refusing::new(alloc, 0);
+        let outcome = if fields.is_whole & is_written(&heap, packet, payload.bytes) {
             Outcome::WrittenBack
         } else {
             Outcome::Refused
         };
         let is_as_listed = match payload.listed {
-            Some(listed) => Some(has_fields(alloc, packet, listed)),
+            Some(listed) => Some(fields.begin_with(listed)),
             None => None,
         };
         Found {

@@ -1,10 +1,9 @@
-//! Goes through recorded sessions: each payload is read by the type that its place calls for, and
-//! written back; its fields are compared with those that other programs read.
+//! Goes through sessions: each payload is read by the type that its place calls for, and written
+//! back; its fields are compared with those that are listed.
 #![tactic(auto)]
 
 mod commands_shown;
 mod found;
-mod parts;
 mod place;
 mod record;
 mod session;

@@ -70,12 +70,14 @@ pub enum Kind {
     Fetch = 26,
     /// A report on a command that is not done yet.
     Progress = 27,
+    TlsRequest = 28,
+    MoreData = 29,
     /// What its place does not allow.
-    Unexpected = 28,
+    Unexpected = 30,
 }
 
 /// How many kinds there are.
-pub const KINDS: usize = 29;
+pub const KINDS: usize = 31;
 
 /// The names of the kinds, in order.
 pub const NAMES: [&str; KINDS] = [
@@ -107,5 +109,7 @@ pub const NAMES: [&str; KINDS] = [
     "statistics",
     "fetch",
     "progress",
+    "ssl request",
+    "auth more data",
     "unexpected",
 ];

@@ -12,7 +12,7 @@ pub enum Record<'a> {
     Server(&'a [u8]),
     /// The client begins a new command.
     Reset,
-    /// The fields of the payload that comes next, as other programs read it.
+    /// The fields that the payload which comes next must have.
     Listed(&'a [u8]),
 }
 

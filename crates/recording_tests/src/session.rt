@@ -1,7 +1,6 @@
 //! A session, payload by payload.
 
 use crate::found::{Found, Payload};
-use crate::parts::{has_changes, has_details};
 use crate::place::{Defined, Kind, Place};
 use crate::statement::has_columns;
 use crate::statements::Statements;
@@ -9,7 +8,6 @@ use mysql_wire_connection::auth_answer::AuthAnswer;
 use mysql_wire_connection::auth_switch_response::AuthSwitchResponse;
 use mysql_wire_connection::first_packet::{ClientFirst, ServerFirst};
 use mysql_wire_packets::eof_packet::EofPacket;
-use mysql_wire_packets::ok_packet::OkForm;
 use mysql_wire_packets::places::{PayloadError, read_whole};
 use mysql_wire_packets::progress_report::ProgressReport;
 use mysql_wire_queries::client_command::ClientCommand;
@@ -38,16 +36,6 @@ pub struct Session {
     // Whether the rows are in the binary form.
     is_binary: bool,
     place: Place,
-}
-
-// Of a payload that was read as an OK.
-fn of_ok<const HEADER: u8>(alloc: Global, ok: OkForm<'_, HEADER>, payload: Payload<'_>) -> Found {
-    Found::of(alloc, Kind::Ok, &ok, payload).and(has_changes(alloc, &ok))
-}
-
-// Of a payload that was read as a column.
-fn of_column(alloc: Global, column: ColumnDefinition41<'_>, payload: Payload<'_>) -> Found {
-    Found::of(alloc, Kind::Column, &column, payload).and(has_details(alloc, &column))
 }
 
 impl Session {
@@ -137,7 +125,12 @@ impl Session {
                 }
                 Found::taken(alloc, Kind::Login, login, payload)
             }
-            Ok(ClientFirst::Tls(_)) | Err(_) => Found::refused(Kind::Login, payload),
+            Ok(ClientFirst::Tls(request)) => {
+                // (the login follows)
+                self.place = Place::Login;
+                Found::of(alloc, Kind::TlsRequest, &request, payload)
+            }
+            Err(_) => Found::refused(Kind::Login, payload),
         }
     }
 
@@ -145,13 +138,14 @@ impl Session {
         match AuthAnswer::read(alloc, self.capabilities, payload.bytes) {
             Ok(AuthAnswer::Done(ok)) => {
                 self.end(ok.status_flags);
-                of_ok(alloc, ok, payload)
+                Found::taken(alloc, Kind::Ok, ok, payload)
             }
             Ok(AuthAnswer::Failed(error)) => Found::taken(alloc, Kind::Error, error, payload),
             Ok(AuthAnswer::Switch(request)) => {
                 Found::taken(alloc, Kind::AuthSwitch, request, payload)
             }
-            Ok(AuthAnswer::MoreData(_)) | Err(_) => Found::refused(Kind::AuthSwitch, payload),
+            Ok(AuthAnswer::MoreData(more)) => Found::taken(alloc, Kind::MoreData, more, payload),
+            Err(_) => Found::refused(Kind::AuthSwitch, payload),
         }
     }
 
@@ -225,7 +219,7 @@ impl Session {
         match QueryAnswer::read(alloc, self.capabilities, self.mariadb, payload.bytes) {
             Ok(QueryAnswer::Done(ok)) => {
                 self.end(ok.status_flags);
-                of_ok(alloc, ok, payload)
+                Found::taken(alloc, Kind::Ok, ok, payload)
             }
             Ok(QueryAnswer::Failed(error)) => Found::taken(alloc, Kind::Error, error, payload),
             Ok(QueryAnswer::File(request)) => {
@@ -292,7 +286,7 @@ impl Session {
         match read_whole::<ColumnDefinition41<'_>>(alloc, self.mariadb, payload.bytes) {
             Ok(column) => {
                 let is_known = self.knows(of, column.column_type);
-                of_column(alloc, column, payload).and(is_known)
+                Found::taken(alloc, Kind::Column, column, payload).and(is_known)
             }
             Err(_) => Found::refused(Kind::Column, payload),
         }

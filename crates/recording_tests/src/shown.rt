@@ -1,22 +1,30 @@
 //! The fields of packets in a plain form, each a word with a space behind it: a number in decimal,
 //! and a text as `x` and its bytes in hex. The word `end` stands behind the last.
 
+use mysql_wire_connection::auth_more_data::AuthMoreData;
 use mysql_wire_connection::auth_switch::AuthSwitchRequest;
 use mysql_wire_connection::auth_switch_response::AuthSwitchResponse;
 use mysql_wire_connection::handshake::HandshakeV10;
 use mysql_wire_connection::handshake_response::HandshakeResponse41;
+use mysql_wire_connection::ssl_request::SslRequest;
 use mysql_wire_packets::eof_packet::EofPacket;
 use mysql_wire_packets::err_packet::ErrPacket;
 use mysql_wire_packets::ok_packet::OkForm;
 use mysql_wire_packets::progress_report::ProgressReport;
+use mysql_wire_packets::session_change::SessionChange;
 use mysql_wire_queries::column_count::ColumnCount;
 use mysql_wire_queries::column_definition::ColumnDefinition41;
 use mysql_wire_queries::local_infile::LocalInfileRequest;
 use mysql_wire_queries::text_row::{TextRow, TextValue};
+use mysql_wire_queries::type_detail::TypeDetail;
 use std::alloc::Global;
 use wire_buf::io::ParseBuf;
+use wire_buf::proto::{MyDeserialize, MySerialize};
+use wire_const::{CapabilityFlags, Flags, MariadbCapabilities};
+use wire_field::converted::RawFlags;
 use wire_field::row::Either;
 use wire_forms::lenenc::LenEnc;
+use wire_repr::int::LeU32;
 use wire_repr::text::{BytesRepr, RawBytes};
 
 /// A field.
@@ -53,6 +61,21 @@ fn number_if<'a>(number: Option<u8>) -> Field<'a> {
     }
 }
 
+// What a client can do of MariaDB. Of one of MySQL these bytes are reserved.
+fn mariadb_if<'a>(
+    capabilities: RawFlags<CapabilityFlags, LeU32>,
+    mariadb: RawFlags<MariadbCapabilities, LeU32>,
+) -> Field<'a> {
+    if capabilities
+        .get()
+        .contains(CapabilityFlags::CLIENT_LONG_PASSWORD)
+    {
+        Field::Missing
+    } else {
+        Field::Number(mariadb.0 as u64)
+    }
+}
+
 // A text in one of two forms.
 fn of_side<'a, T: BytesRepr, U: BytesRepr>(
     text: &'a Either<RawBytes<'_, T>, RawBytes<'_, U>>,
@@ -78,8 +101,8 @@ fn side_if<'a, T: BytesRepr, U: BytesRepr>(
 pub struct Fields {
     alloc: Global,
     words: String,
-    // Whether memory was found for all of them.
-    is_whole: bool,
+    /// Whether all of them are there: memory was found, and no list has a byte that is of no part.
+    pub is_whole: bool,
 }
 
 impl Fields {
@@ -113,6 +136,32 @@ impl Fields {
             }
         }
         self.is_whole &= rest.is_empty();
+    }
+
+    /// Parts that a packet lists one after another, if it has them: how many bytes they have, and
+    /// the fields of each. They are whole where they are written back.
+    pub fn put_parts<'a, T>(&mut self, list: &'a Option<RawBytes<'a, LenEnc>>)
+    where
+        T: Drop + Shown + MySerialize + MyDeserialize<'a, Global, Ctx = ()>,
+    {
+        let Some(list) = list else {
+            return;
+        };
+        self.number(list.len() as u64);
+        let mut rest = ParseBuf(list.as_bytes());
+        let mut written = Vec::new(self.alloc);
+        for _ in 0..list.len() {
+            match rest.parse::<T>(self.alloc, ()) {
+                Ok(part) => self.put_part(&part, &mut written),
+                Err(_) => break,
+            }
+        }
+        self.is_whole &= written.as_slice() == list.as_bytes();
+    }
+
+    fn put_part<T: Shown + MySerialize>(&mut self, part: &T, written: &mut Vec<u8>) {
+        part.show(self);
+        self.is_whole &= part.serialize(written).is_ok();
     }
 
     pub fn put(&mut self, field: Field<'_>) {
@@ -175,12 +224,24 @@ impl Shown for HandshakeResponse41<'_> {
             Field::Number(self.client_flag.0 as u64),
             Field::Number(self.max_packet_size as u64),
             Field::Number(self.character_set as u64),
+            mariadb_if(self.client_flag, self.mariadb_capabilities),
             Field::Text(self.username.as_bytes()),
             Field::Text(of_side(&self.auth_response)),
             text_if(&self.database),
             text_if(&self.client_plugin_name),
             texts_if(&self.connect_attrs),
             number_if(self.zstd_compression_level),
+        ]);
+    }
+}
+
+impl Shown for SslRequest {
+    fn show(&self, fields: &mut Fields) {
+        fields.put_all(&[
+            Field::Number(self.client_flag.0 as u64),
+            Field::Number(self.max_packet_size as u64),
+            Field::Number(self.character_set as u64),
+            mariadb_if(self.client_flag, self.mariadb_capabilities),
         ]);
     }
 }
@@ -194,7 +255,16 @@ impl<const HEADER: u8> Shown for OkForm<'_, HEADER> {
             Field::Number(self.status_flags.0 as u64),
             Field::Number(self.warnings as u64),
             side_if(&self.info),
-            text_if(&self.session_state),
+        ]);
+        fields.put_parts::<SessionChange<'_>>(&self.session_state);
+    }
+}
+
+impl Shown for SessionChange<'_> {
+    fn show(&self, fields: &mut Fields) {
+        fields.put_all(&[
+            Field::Number(self.kind.0 as u64),
+            Field::Text(self.data.as_bytes()),
         ]);
     }
 }
@@ -245,6 +315,18 @@ impl Shown for ColumnCount {
     }
 }
 
+// The fields of a column behind what MariaDB says more of its type.
+fn put_form(column: &ColumnDefinition41<'_>, fields: &mut Fields) {
+    fields.put_all(&[
+        Field::Number(0x0c),
+        Field::Number(column.character_set as u64),
+        Field::Number(column.column_length as u64),
+        Field::Number(column.column_type.0 as u64),
+        Field::Number(column.flags.0 as u64),
+        Field::Number(column.decimals as u64),
+    ]);
+}
+
 impl Shown for ColumnDefinition41<'_> {
     fn show(&self, fields: &mut Fields) {
         fields.put_all(&[
@@ -254,13 +336,17 @@ impl Shown for ColumnDefinition41<'_> {
             Field::Text(self.org_table.as_bytes()),
             Field::Text(self.name.as_bytes()),
             Field::Text(self.org_name.as_bytes()),
-            text_if(&self.extended_metadata),
-            Field::Number(0x0c),
-            Field::Number(self.character_set as u64),
-            Field::Number(self.column_length as u64),
-            Field::Number(self.column_type.0 as u64),
-            Field::Number(self.flags.0 as u64),
-            Field::Number(self.decimals as u64),
+        ]);
+        fields.put_parts::<TypeDetail<'_>>(&self.extended_metadata);
+        put_form(self, fields);
+    }
+}
+
+impl Shown for TypeDetail<'_> {
+    fn show(&self, fields: &mut Fields) {
+        fields.put_all(&[
+            Field::Number(self.kind as u64),
+            Field::Text(self.value.as_bytes()),
         ]);
     }
 }
@@ -295,5 +381,11 @@ impl Shown for AuthSwitchRequest<'_> {
 impl Shown for AuthSwitchResponse<'_> {
     fn show(&self, fields: &mut Fields) {
         fields.put(Field::Text(self.data.as_bytes()));
+    }
+}
+
+impl Shown for AuthMoreData<'_> {
+    fn show(&self, fields: &mut Fields) {
+        fields.put_all(&[Field::Number(0x01), Field::Text(self.data.as_bytes())]);
     }
 }
