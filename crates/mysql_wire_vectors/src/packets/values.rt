@@ -1,6 +1,6 @@
 // Values in their binary form.
 
-use crate::server::payload::is_payload;
+use crate::packets::comes_back;
 use ColumnType::{
     MYSQL_TYPE_BIT, MYSQL_TYPE_DATE, MYSQL_TYPE_DATETIME, MYSQL_TYPE_DATETIME2, MYSQL_TYPE_DOUBLE,
     MYSQL_TYPE_FLOAT, MYSQL_TYPE_INT24, MYSQL_TYPE_JSON, MYSQL_TYPE_LONG, MYSQL_TYPE_LONGLONG,
@@ -9,13 +9,14 @@ use ColumnType::{
     MYSQL_TYPE_YEAR,
 };
 use mysql_wire::constants::ColumnType;
-use mysql_wire::io::InvalidReason;
+use mysql_wire::io::{InvalidReason, ParseBuf};
 use mysql_wire_statements::binary_value::BinaryValue;
 use mysql_wire_statements::moments::{BinaryDate, BinaryTime, Clock, Day, Span};
 use std::alloc::Global;
-use test_support::answers::Answer;
+use test_support::answers::{Answer, error_of};
 use test_support::fields::stops;
 use test_support::fixture::Heap;
+use test_support::reference::between;
 
 type Row = (ColumnType, &'static [u8], BinaryValue<'static>);
 
@@ -57,12 +58,22 @@ const VALUES: &[Row] = &[
     (MYSQL_TYPE_NULL, b"", BinaryValue::Null),
 ];
 
-// Cut short, each is refused.
+// Whether it is refused where it is cut short, at any length.
+fn is_refused_short(alloc: Global, column_type: ColumnType, bytes: &[u8]) -> bool {
+    let mut all = true;
+    for len in 0..bytes.len() {
+        let mut cut = ParseBuf(between(bytes, 0, len));
+        all &= error_of(cut.parse_in::<BinaryValue<'_>, Global>(alloc, column_type)).is_some();
+    }
+    all
+}
+
 fn are_of(heap: &Heap, alloc: Global, rows: &[Row]) -> bool {
     let mut all = true;
     for row in rows {
         let (column_type, bytes, value) = *row;
-        all &= is_payload(heap, alloc, column_type, value, (bytes, bytes.len()), &[]);
+        all &= comes_back(heap, alloc, column_type, value, bytes);
+        all &= is_refused_short(alloc, column_type, bytes);
     }
     all
 }

@@ -1,15 +1,13 @@
-// Rows of a binary resultset.
+// The parts of executions and of rows in the binary form.
 
-use crate::server::payload::{OTHER, Refused, is_payload};
 use mysql_wire::constants::ColumnType;
 use mysql_wire::io::ParseBuf;
 use mysql_wire_statements::binary_row::BinaryRow;
 use mysql_wire_statements::binary_value::BinaryValue;
 use mysql_wire_statements::moments::{BinaryDate, Clock, Day};
 use mysql_wire_statements::null_bitmap::{NullBitmap, ParamNulls, RowNulls};
+use mysql_wire_statements::params::ParamTypes;
 use std::alloc::Global;
-use test_support::answers::Answer;
-use test_support::fixture::Heap;
 
 // Of parameters the bits count from the first, of columns from the third; past a bitmap none is
 // NULL.
@@ -55,54 +53,23 @@ pub fn are_nulls() -> bool {
     all
 }
 
-// https://dev.mysql.com/doc/dev/mysql-server/latest/page_protocol_binary_resultset.html: the row of
-// the page's example. What a server sent to clients in Go and PHP: a number, a text and NULL; a
-// number, NULL and a moment; rows of five columns; and one of nine columns, all but the first NULL.
-const ROWS: &[(&[u8], usize, &[u8], &[u8])] = &[
-    (b"\0\0\x06foobar", 1, b"\0", b"\x06foobar"),
-    (b"\0\x10\x01\0\0\0\x02go", 3, b"\x10", b"\x01\0\0\0\x02go"),
-    (
-        b"\0\x08\x02\0\0\0\x07\xea\x07\x0b\x16\x06\x34\x03",
-        3,
-        b"\x08",
-        b"\x02\0\0\0\x07\xea\x07\x0b\x16\x06\x34\x03",
-    ),
-    (
-        b"\0\0\x01\0\0\0\x08php text\x09long data\x041.25\x01\0\0\0",
-        5,
-        b"\0",
-        b"\x01\0\0\0\x08php text\x09long data\x041.25\x01\0\0\0",
-    ),
-    (
-        b"\0\x18\x02\0\0\0\x041.25\x01\0\0\0",
-        5,
-        b"\x18",
-        b"\x02\0\0\0\x041.25\x01\0\0\0",
-    ),
-    (b"\0\xf8\x07\x2a", 9, b"\xf8\x07", b"\x2a"),
-];
-
-// An end of rows in the place of a row is told by its header, and a bitmap that is cut short.
-const NO_ROWS: &[Refused<'static, usize>] = &[
-    (1, b"\xfe\0\0\x02\0", OTHER, 4),
-    (9, b"\0\xf8", Answer::UnexpectedEof, 1),
-];
-
-pub fn are_rows(heap: &Heap, alloc: Global) -> bool {
-    let mut all = true;
-    for row in ROWS {
-        let (payload, columns, nulls, values) = *row;
-        let least = 1 + nulls.len();
-        let row = BinaryRow {
-            nulls: NullBitmap(nulls),
-            values,
-        };
-        all &= is_payload(heap, alloc, columns, row, (payload, least), NO_ROWS);
+// Whether the type at this place is this one, with or without a sign.
+fn is_type(types: &[u8], place: usize, wanted: Option<(u8, u8)>) -> bool {
+    match ParamTypes(types).get(place) {
+        Some(param) => wanted == Some((param.column_type.0, param.flags.0)),
+        None => wanted.is_none(),
     }
-    all
 }
 
-// The columns of the third row.
+pub fn are_types() -> bool {
+    let types: &[u8] = b"\x08\x80\xfe\0\x03";
+    is_type(types, 0, Some((8, 0x80)))
+        & is_type(types, 1, Some((0xfe, 0)))
+        & is_type(types, 2, None)
+        & is_type(types, usize::MAX, None)
+}
+
+// The columns of a row, a number, NULL and a moment.
 const COLUMNS: [ColumnType; 3] = [
     ColumnType::MYSQL_TYPE_LONG,
     ColumnType::MYSQL_TYPE_VAR_STRING,
