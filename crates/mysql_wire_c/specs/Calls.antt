@@ -1,6 +1,6 @@
 -- What each other call of a connection does, by its answer. Each answer but these is none that it
 -- gives.
-use Rattle.std.specs.Prelude.{◌≡◌, ℕ, ℤ, pos, ◌+◌, ◌%◌, ◌^◌, ◌-◌, ◌<◌, ◌≤◌, ◌⊎◌, List, ◌++◌, length, drop, min, Option, IsSome, IfSome, true, false}
+use Rattle.std.specs.Prelude.{◌≡◌, ℕ, ℤ, pos, ◌+◌, ◌%◌, ◌^◌, ◌-◌, ◌<◌, ◌≤◌, ◌⊎◌, List, ◌++◌, length, take, drop, min, Option, IsSome, IfSome, true, false}
 use Rattle.wire_codec.specs.declared.codec.error.PacketCodecError.TheVariants.{OutOfMemory, PacketTooLarge}
 use Rattle.wire_codec.specs.Framing.{max_payload, framing, next_id}
 use Rattle.mysql_wire_side.specs.declared.codes.TheConstants.{OK, TOO_LARGE, OUT_OF_SYNC, NO_MEMORY, ROOM_TOO_SMALL, PACKET_WAITS}
@@ -86,6 +86,12 @@ pub record EncodesHeader (len : ℕ) (old_header header : List ℕ) (answer : �
 pub record Sends (count : ℕ) (before after : Side) : Type 0 where
   pub bound : count ≤ length before.pending
   pub rest : after ≡ record before { pending = drop count before.pending }
+
+-- they are put at the front of the room: as many as it has place for
+abbrev pub MovesPending : ℕ → List ℕ → List ℕ → Side → Side → Type 0
+MovesPending count old new before after =
+    (count ≡ min (length before.pending) (length old))
+    × (new ≡ take count before.pending ++ drop count old) × Sends count before after
 
 -- the next packet gets this number
 pub record SetsId (id : ℕ) (answer : ℤ) (before after : Side) : Type 0 where

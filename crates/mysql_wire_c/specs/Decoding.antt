@@ -3,11 +3,12 @@ use Rattle.std.specs.Prelude.{◌≡◌, ◌↔◌, ℕ, ℤ, ◌+◌, ◌%◌, 
 use Rattle.std.specs.List.{flat_map}
 use Rattle.wire_codec.specs.Delivery.{chunk_len}
 use Rattle.wire_codec.specs.InPlace.{HasFront, front_payload}
-use Rattle.wire_codec.specs.Laws.{appended}
+use Rattle.wire_codec.specs.Laws.{appended, empty_state}
 use Rattle.wire_codec.specs.LimitedRuns.{DecodesAligned}
 use Rattle.mysql_wire_side.specs.declared.codes.TheConstants.{WAITS, PACKET, NO_MEMORY}
 use Rattle.mysql_wire_c.specs.declared.fields.Span.{Span}
-use Rattle.mysql_wire_side.specs.Side.{Side}
+use Rattle.mysql_wire_side.specs.declared.connection.Front.TheVariants.{Unfinished}
+use Rattle.mysql_wire_side.specs.Side.{Side, side_of}
 use Rattle.mysql_wire_side.specs.Answers.{Waits, holding}
 use Rattle.mysql_wire_side.specs.Calls.{Peeks}
 
@@ -64,6 +65,10 @@ pub record Decodes (bytes : List ℕ) (used len : ℕ) (answer : ℤ) (before af
       → FeedsFront bytes used answer (unlent before) after
       × (answer ≡ PACKET → IfSome after.lent (λ packet. len ≡ length packet))
   pub empty : (answer ≡ PACKET) ⊎ (len ≡ 0)
+
+-- a codec of this limit between two packets, which expects this number
+abbrev pub codec_at : ℕ → ℕ → List ℕ → Side
+codec_at id limit pending = side_of Unfinished (empty_state id limit) pending
 
 -- these packets are lent one after another, as by calls of `decode` over what is left of the bytes:
 -- the first stands at this place, the last ends at the other

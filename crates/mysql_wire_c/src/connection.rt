@@ -5,10 +5,9 @@ ghost use Rattle.wire_codec.specs.Codec.{codec_state};
 ghost use Rattle.wire_codec.specs.Framing.{max_payload, framing};
 ghost use Rattle.wire_codec.specs.Laws.{appended, empty_state};
 ghost use Rattle.wire_codec.specs.InPlace.{HasFront, behind_front};
-ghost use Rattle.mysql_wire_side.specs.declared.connection.Front.{Front};
-ghost use Rattle.mysql_wire_side.specs.Side.{IsReady, IsNumbered, is_lost_at, lent_at, behind_lent, side_of};
+ghost use Rattle.mysql_wire_side.specs.Side.{IsReady, IsNumbered, is_lost_at, lent_at, behind_lent};
 ghost use Rattle.mysql_wire_side.specs.Answers.{new_connection};
-ghost use Rattle.mysql_wire_c.specs.Decoding.{Decodes, DecodesMany, FeedsFront, HasPacketIn, LendsFrom, LendsInTurn};
+ghost use Rattle.mysql_wire_c.specs.Decoding.{Decodes, DecodesMany, FeedsFront, HasPacketIn, LendsFrom, LendsInTurn, codec_at};
 ghost use Rattle.mysql_wire_c.specs.Calls.{SetsLimit, unread_count, Encodes, EncodesTo, EncodesHeader, Sends, Resets, SetsId, Numbers};
 
 use crate::fields::Span;
@@ -392,9 +391,8 @@ fn fill(connection: &mut Connection, bytes: &[u8], used: &mut usize) -> i32
 #[inline(always)]
 fn lend_all(limit: usize, id: u8, bytes: &[u8], spans: &mut [Span]) -> (usize, usize, u8)
     ensures lends { (pending : List ℕ)
-        → LendsInTurn bytes.now 0 (take result.0 spans.new) result.1
-        (side_of Front.Unfinished (empty_state id limit) pending)
-        (side_of Front.Unfinished (empty_state result.2 limit) pending) }
+        → LendsInTurn bytes.now 0 (take result.0 spans.new) result.1 (codec_at id limit pending)
+        (codec_at result.2 limit pending) }
     ensures room { result.0 ≤ length spans.new }
     ensures bound { result.1 ≤ length bytes.now }
     ensures all { (result.0 ≡ length spans.new)

@@ -12,7 +12,7 @@ ghost use Rattle.wire_buf.specs.Lenenc.{IsLenenc, IsLenencOrMark, lenenc_bytes};
 ghost use Rattle.mysql_wire_side.specs.declared.codes.TheConstants.{MISSING_BYTES, NOT_A_NUMBER, NULL, ROOM_TOO_SMALL};
 ghost use Rattle.mysql_wire_side.specs.Answers.{new_connection};
 ghost use Rattle.mysql_wire_side.specs.Calls.{Feeds, Peeks, LendsInPlace, Takes, CopiesNext};
-ghost use Rattle.mysql_wire_c.specs.Calls.{Both, BothStates, SetsLimit, unread_count, Encodes, EncodesTo, EncodesHeader, Sends, Resets, SetsId, Numbers};
+ghost use Rattle.mysql_wire_c.specs.Calls.{Both, BothStates, SetsLimit, unread_count, Encodes, EncodesTo, EncodesHeader, MovesPending, Sends, Resets, SetsId, Numbers};
 ghost use Rattle.mysql_wire_c.specs.Decoding.{Decodes, DecodesMany};
 ghost use Rattle.wire_codec.specs.Framing.{framing};
 ghost use Rattle.mysql_wire_c.specs.Messages.{message};
@@ -310,10 +310,8 @@ pub extern "C" fn mysql_wire_encode_header(
 pub extern "C" fn mysql_wire_output(handle: &mut Handle, room: &mut [u8]) -> usize
     ensures open { is_some handle.new.connection ≡ is_some handle.old.connection }
     ensures closed { handle.old.connection ≡ None → (result ≡ 0) × (room.new ≡ room.old) }
-    ensures moves { Both handle.old.connection handle.new.connection (λ before after.
-        (result ≡ min (length before.pending) (length room.old))
-        × (room.new ≡ take result before.pending ++ drop result room.old)
-        × Sends result before after) }
+    ensures moves { Both handle.old.connection handle.new.connection
+        (MovesPending result room.old room.new) }
 {
     if handle.is_closed() {
         return 0;

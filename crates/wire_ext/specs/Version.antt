@@ -1,6 +1,6 @@
 -- The three numbers of a server's version.
-use Rattle.std.specs.Prelude.{ℕ, ◌≡◌, ◌≤◌, Bool, not, ◌==◌, List, ◌∷◌, ◌⊎◌}
-use Rattle.std.specs.List.{slice_split, before_first}
+use Rattle.std.specs.Prelude.{ℕ, ◌≡◌, ◌<◌, ◌≤◌, Bool, not, ◌==◌, List, ◌∷◌, ◌⊎◌, length}
+use Rattle.std.specs.List.{slice_split, position_or_len, before_first, after_first}
 use Rattle.std.specs.Char.{is_ascii_digit}
 use Rattle.std.specs.Str.Parse.{IsNumeral, digits_value}
 
@@ -9,6 +9,12 @@ is_dot byte = byte == 46
 
 abbrev pub is_no_digit : ℕ → Bool
 is_no_digit byte = not (is_ascii_digit byte)
+
+-- the text has a dot, and these parts stand before and behind the first
+abbrev pub IsCut : List ℕ → List ℕ → List ℕ → Type 0
+IsCut text first second =
+    (position_or_len is_dot text < length text) × (first ≡ before_first is_dot text)
+    × (second ≡ after_first is_dot text)
 
 -- one decimal digit or more, and nothing else, that make at most 255
 abbrev pub IsPart : List ℕ → ℕ → Type 0

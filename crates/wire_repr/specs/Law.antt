@@ -4,6 +4,7 @@ use Rattle.std.proofs.Common.{inl, inr, refl, sym, ap, subst, ◌∙◌, arith}
 use Rattle.std.proofs.lemmas.List.{take_at, drop_at, append-nil, length-append}
 use Rattle.wire_buf.specs.declared.error.WireError.{WireError}
 use Rattle.wire_buf.specs.declared.error.WireError.TheVariants.{OutOfMemory}
+use Rattle.wire_buf.specs.declared.io.ParseBuf.{ParseBuf}
 use Rattle.wire_buf.specs.Reading.{Reads, Parses, Answers, Through}
 
 -- The answer is a value that is kept, and all bytes of the written one are eaten. Where reading
@@ -17,6 +18,12 @@ abbrev pub LeavesRest : {X : Type 0} → (X → Type 0) → Type 0 → List ℕ 
     → Type 0
 LeavesRest kept takes_memory rest (Ok value) new = kept value × (new ≡ rest)
 LeavesRest kept takes_memory rest (Err error) new = (error ≡ OutOfMemory) × takes_memory
+
+-- The same of the buffer before and after: it held these bytes and the rest.
+abbrev pub LeavesRestOf : {X : Type 0} → List ℕ → List ℕ → (X → Type 0) → Type 0
+    → Result X WireError → ParseBuf → ParseBuf → Type 0
+LeavesRestOf bytes rest kept takes_memory answer old new =
+    old.0.now ≡ bytes ++ rest → LeavesRest kept takes_memory rest answer new.0.now
 
 -- The same of each buffer that begins with the written bytes, whatever stands behind them.
 abbrev pub ComesBackFrom : {X : Type 0} → List ℕ → (X → Type 0) → Type 0 → List ℕ

@@ -4,10 +4,10 @@
 //! A function named `.._comes_back` says when a value is good, and which may come back of it: what
 //! the members `good` and `kept` of its law are. It does nothing.
 
-ghost use Rattle.std.specs.Prelude.{◌≡◌, List, ℕ, ◌++◌};
+ghost use Rattle.std.specs.Prelude.{◌≡◌, List, ℕ};
 ghost use Rattle.std.specs.Cow.{cow_slice_items};
 ghost use Rattle.wire_buf.specs.Reading.{Reads, Parses, Through};
-ghost use Rattle.wire_repr.specs.Law.{ComesBackFrom, LeavesRest, seen};
+ghost use Rattle.wire_repr.specs.Law.{ComesBackFrom, LeavesRestOf, seen};
 ghost use Rattle.wire_repr.specs.Texts.{IsBorrowedText};
 
 use crate::int::{IntRepr, RawInt};
@@ -27,8 +27,8 @@ pub fn parse_back<'de, T: Wire<'de, A>, A: Allocator + Copy>(
 ) -> Result<T, WireError>
     ensures reads { Reads (Parses T.Size.SIZE (T.reads ctx)) buf.old.0.now result buf.new.0.now }
     ensures back { (value : T) (rest : List ℕ) → T.is_value value
-        → T.good ctx value (seen T.Size.SIZE rest) → buf.old.0.now ≡ T.bytes value ++ rest
-        → LeavesRest (T.kept value) T.takes_memory rest result buf.new.0.now }
+        → T.good ctx value (seen T.Size.SIZE rest)
+        → LeavesRestOf (T.bytes value) rest (T.kept value) T.takes_memory result buf.old buf.new }
 {
     buf.parse_in(alloc, ctx)
 }

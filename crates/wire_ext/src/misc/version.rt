@@ -1,10 +1,10 @@
 //! The versions that servers tell.
 
-ghost use Rattle.std.specs.Prelude.{◌≡◌, ◌<◌, ◌≤◌, ℕ, length, position, MatchOption};
+ghost use Rattle.std.specs.Prelude.{◌≡◌, ◌≤◌, ℕ, length, position, MatchOption};
 ghost use Rattle.std.specs.Option.{SomeIff};
-ghost use Rattle.std.specs.List.{position_or_len, before_first, after_first};
+ghost use Rattle.std.specs.List.{position_or_len, before_first};
 ghost use Rattle.std.specs.Str.Parse.{IsNumeral, digits_value};
-ghost use Rattle.wire_ext.specs.Version.{is_dot, is_no_digit, IsPart, IsSignedPart, IsVersion, ReadsVersion};
+ghost use Rattle.wire_ext.specs.Version.{is_dot, is_no_digit, IsCut, IsPart, IsSignedPart, IsVersion, ReadsVersion};
 
 // Where the first dot is.
 fn find_dot(text: &[u8]) -> Option<usize>
@@ -15,11 +15,8 @@ fn find_dot(text: &[u8]) -> Option<usize>
 
 // The parts round the first dot.
 fn cut(text: &[u8]) -> Option<(&[u8], &[u8])>
-    ensures { MatchOption result
-        (position_or_len is_dot text.now ≡ length text.now)
-        (λ parts. (position_or_len is_dot text.now < length text.now)
-        × (parts.0.now ≡ before_first is_dot text.now)
-        × (parts.1.now ≡ after_first is_dot text.now)) }
+    ensures { MatchOption result (position_or_len is_dot text.now ≡ length text.now)
+        (λ parts. IsCut text.now parts.0.now parts.1.now) }
 {
     let dot = find_dot(text)?;
     Some((&text[..dot], &text[dot + 1..]))
