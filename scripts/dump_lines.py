@@ -32,6 +32,12 @@ FULL = 0xFFFFFF
 SESSIONS = [
     ("an error begins", "", b"", b"\x0b\0\0\0\xff\x10\4Too many", 0,
      ["server 0 11 error", "client end at 0", "server end at 15"]),
+    # where its error can't be read, a login may follow
+    ("an error that is cut short begins", "",
+     b"\x23\0\0\1\0\2\0\0\1\2\3\4\5" + bytes(23) + b"u\0\0",
+     b"\2\0\0\0\xff\x10\7\0\0\2\0\0\0\2\0\0\0", 0,
+     ["server 0 2 bytes ff10 unexpected end", "client 1 35 login", "server 2 7 ok",
+      "client end at 39", "server end at 17"]),
     ("a command and its answer", "", PING, DONE, 0,
      ["client 0 1 ping", "server 1 7 ok", "client end at 5", "server end at 11"]),
     ("a query and its rows", "", SELECT, ROWS, 0,

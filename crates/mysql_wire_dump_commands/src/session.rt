@@ -207,7 +207,7 @@ impl<A: Allocator + Copy> Session<A> {
         }
     }
 
-    // Where a server begins with an error, no capabilities are in force, and it says no more.
+    // Where a server begins with an error, no capabilities are in force.
     fn read_error(
         &mut self,
         global: Global,
@@ -221,7 +221,7 @@ impl<A: Allocator + Copy> Session<A> {
         self.place = match self.place {
             Place::Greeting => {
                 capabilities = CapabilityFlags::empty();
-                Place::Closed
+                Place::Login
             }
             _ => Place::Command,
         };

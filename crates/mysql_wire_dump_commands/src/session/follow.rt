@@ -101,7 +101,15 @@ impl Follow for EofPacket {
     }
 }
 
-impl Follow for ErrPacket<'_> {}
+impl Follow for ErrPacket<'_> {
+    // A server that begins with an error says no more.
+    fn follow<A: Allocator + Copy>(&self, session: &mut Session<A>) -> Result<(), Stop> {
+        if session.place == Place::Login {
+            session.place = Place::Closed;
+        }
+        Ok(())
+    }
+}
 
 impl Follow for ProgressReport<'_> {}
 
