@@ -1,14 +1,7 @@
 -- What a codec makes of the bytes that come.
 use Rattle.std.specs.Prelude.{◌≡◌, ℕ, List, [], ◌++◌, Vec}
-use Rattle.bytes.specs.Filled.{Filled}
-use Rattle.mysql_wire.specs.Codec.{CodecState, codec_state}
 use Rattle.mysql_wire.specs.Delivery.{Delivers, Waiting}
-use Rattle.mysql_wire.specs.PacketCodec.{PacketCodec}
 use Rattle.mysql_wire.specs.Runs.{payloads}
-
--- a codec at its two buffers
-abbrev pub state_at : {A : Type 0} → PacketCodec → Filled → Vec ℕ A → CodecState
-state_at codec src dst = codec_state codec src.items dst.items
 
 -- packets were put behind those that were there, and this holds of their payloads
 abbrev pub Gains : {A : Type 0} → List (Vec ℕ A) → List (Vec ℕ A) → (List (List ℕ) → Type 0)

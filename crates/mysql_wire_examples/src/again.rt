@@ -1,9 +1,9 @@
 //! A run that goes on where memory was refused.
 
 ghost use Rattle.std.specs.Prelude.{◌≡◌, ◌≢◌, ◌≤◌, length, take, Err, OnOk};
-ghost use Rattle.mysql_wire.specs.Codec.{Stands};
+ghost use Rattle.mysql_wire.specs.Codec.{Stands, state_at};
 ghost use Rattle.mysql_wire.specs.Runs.{joined, RunsTo};
-ghost use Rattle.mysql_wire_examples.specs.Received.{Gains, state_at};
+ghost use Rattle.mysql_wire_examples.specs.Received.{Gains};
 
 use bytes::BytesMut;
 use mysql_wire::laws;

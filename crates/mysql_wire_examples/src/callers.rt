@@ -2,11 +2,11 @@
 
 ghost use Rattle.std.specs.Prelude.{◌≡◌, ℕ, List, [], ◌++◌, OnOk, IfOk, IfSome};
 ghost use Rattle.std.specs.Io.KnownBytes.{IsAtEnd};
-ghost use Rattle.mysql_wire.specs.Codec.{Stands};
+ghost use Rattle.mysql_wire.specs.Codec.{Stands, state_at};
 ghost use Rattle.mysql_wire.specs.Delivery.{Delivers, Waiting};
 ghost use Rattle.mysql_wire.specs.Framing.{framing, next_id};
 ghost use Rattle.mysql_wire.specs.Runs.{joined, payloads, RunsTo};
-ghost use Rattle.mysql_wire_examples.specs.Received.{DeliversSoFar, Gains, state_at};
+ghost use Rattle.mysql_wire_examples.specs.Received.{DeliversSoFar, Gains};
 
 use bytes::BytesMut;
 use mysql_wire::laws;

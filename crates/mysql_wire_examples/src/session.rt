@@ -1,10 +1,10 @@
 //! A connection whose limit rises, as it goes on and as it is decoded once more.
 
 ghost use Rattle.std.specs.Prelude.{◌≡◌, max, OnOk, IfOk};
-ghost use Rattle.mysql_wire.specs.Codec.{Stands};
+ghost use Rattle.mysql_wire.specs.Codec.{Stands, state_at};
 ghost use Rattle.mysql_wire.specs.Delivery.{IsBounded};
 ghost use Rattle.mysql_wire.specs.Runs.{payloads};
-ghost use Rattle.mysql_wire_examples.specs.Received.{Gains, state_at};
+ghost use Rattle.mysql_wire_examples.specs.Received.{Gains};
 ghost use Rattle.mysql_wire_examples.specs.Session.{DeliversSession, GoesOnUnder};
 
 use bytes::BytesMut;
