@@ -8,7 +8,8 @@ pub mod laws;
 pub mod io {
     pub use wire_buf::error::{InvalidLengthEncodedInteger, InvalidReason, WireError};
     pub use wire_buf::io::ParseBuf;
-    pub use wire_ext::io::{BufMutExt, ReadMysqlExt, WriteMysqlExt};
+    pub use wire_ext::io::{ReadMysqlExt, WriteMysqlExt};
+    pub use wire_put::BufMutExt;
 }
 
 /// Lengths, integers of the serialization library, versions, and fields of packets.

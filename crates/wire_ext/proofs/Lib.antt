@@ -1,5 +1,4 @@
 mod MarkLemmas
 mod StreamLemmas
-mod TextLemmas
 mod VarlenLemmas
 mod VersionLemmas

@@ -1,10 +1,7 @@
-//! MySQL's numbers and texts over buffers, readers and writers.
+//! MySQL's numbers and texts over readers and writers.
 
-mod put;
 mod read;
-mod spelling;
 mod write;
 
-pub use put::BufMutExt;
 pub use read::ReadMysqlExt;
 pub use write::WriteMysqlExt;

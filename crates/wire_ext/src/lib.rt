@@ -1,7 +1,6 @@
-//! Numbers whose length is in their first byte, and the texts behind them: put into buffers, and
-//! over readers and writers.
+//! Numbers whose length is in their first byte, and the texts behind them, over readers and writers;
+//! lengths, integers of the serialization library, and server versions.
 #![tactic(auto)]
 
 pub mod io;
 pub mod misc;
-pub mod text;

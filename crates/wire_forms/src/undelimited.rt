@@ -15,7 +15,7 @@ use std::borrow::CowSlice;
 use wire_buf::error::WireError;
 use wire_buf::io::ParseBuf;
 use wire_buf::proto::{Fixed, Varying};
-use wire_ext::text::first_bytes;
+use wire_put::text::first_bytes;
 use wire_repr::append::{all_or_nothing, append};
 use wire_repr::text::BytesRepr;
 

@@ -11,6 +11,7 @@ use std::alloc::Allocator;
 use wire_buf::error::{InvalidReason, WireError};
 use wire_buf::io::ParseBuf;
 use wire_buf::proto::Varying;
+use wire_repr::append::{append, append_byte};
 use wire_repr::int::IntRepr;
 
 /// A number in one to five groups of seven bits (a base-128 varint), the least significant first,
@@ -67,17 +68,16 @@ pub(crate) fn put_groups<A: Allocator>(number: u32, buf: &mut Vec<u8, A>) -> Res
         group(number >> 21),
     ];
     if number < 1 << 7 {
-        buf.push(number as u8)?;
+        append_byte(number as u8, buf)
     } else if number < 1 << 14 {
-        buf.extend_from_slice(&[a, (number >> 7) as u8])?;
+        append(&[a, (number >> 7) as u8], buf)
     } else if number < 1 << 21 {
-        buf.extend_from_slice(&[a, b, (number >> 14) as u8])?;
+        append(&[a, b, (number >> 14) as u8], buf)
     } else if number < 1 << 28 {
-        buf.extend_from_slice(&[a, b, c, (number >> 21) as u8])?;
+        append(&[a, b, c, (number >> 21) as u8], buf)
     } else {
-        buf.extend_from_slice(&[a, b, c, d, (number >> 28) as u8])?;
+        append(&[a, b, c, d, (number >> 28) as u8], buf)
     }
-    Ok(())
 }
 
 impl IntRepr for VarLen {

@@ -6,9 +6,20 @@ ghost use Rattle.wire_buf.specs.Spelling.{IsShortest};
 ghost use Rattle.wire_buf.specs.Lenenc.{IsLenenc, IsLenencOrMark, lenenc_bytes};
 ghost use Rattle.wire_ext.specs.Streams.{IsIo};
 
-use super::spelling::{four_bytes, nine_bytes, three_bytes};
 use byteorder::WriteBytesExt;
 use wire_buf::error::WireError;
+use wire_put::spelling::{four_bytes, nine_bytes, three_bytes};
+
+// Writes these bytes, in one write, and counts them.
+fn write_all<W: WriteBytesExt>(writer: &mut W, bytes: &[u8]) -> Result<u64, WireError>
+    ensures written { OnOk result
+        (Appends (W.contents writer.old) (W.contents writer.new) bytes.now) }
+    ensures count { IfOk result (λ count. count ≡ length bytes.now) }
+    ensures err { IfErr result IsIo }
+{
+    writer.write_all(bytes).map_err(WireError::Io)?;
+    Ok(bytes.len() as u64)
+}
 
 // Writes the spelling of a length-encoded integer, in one write, and counts its bytes.
 fn write_spelling<W: WriteBytesExt>(writer: &mut W, n: u64) -> Result<u64, WireError>
@@ -18,17 +29,13 @@ fn write_spelling<W: WriteBytesExt>(writer: &mut W, n: u64) -> Result<u64, WireE
     ensures err { IfErr result IsIo }
 {
     if n < 251 {
-        writer.write_all(&[n as u8]).map_err(WireError::Io)?;
-        Ok(1)
+        write_all(writer, &[n as u8])
     } else if n < 65_536 {
-        writer.write_all(&three_bytes(n)).map_err(WireError::Io)?;
-        Ok(3)
+        write_all(writer, &three_bytes(n))
     } else if n < 16_777_216 {
-        writer.write_all(&four_bytes(n)).map_err(WireError::Io)?;
-        Ok(4)
+        write_all(writer, &four_bytes(n))
     } else {
-        writer.write_all(&nine_bytes(n)).map_err(WireError::Io)?;
-        Ok(9)
+        write_all(writer, &nine_bytes(n))
     }
 }
 

@@ -3,7 +3,7 @@ use Rattle.std.proofs.Common.{◌≡◌, ℕ, ◌+◌, ◌<◌, ◌≤◌, List,
 use Rattle.std.proofs.lemmas.List.{length-append}
 use Rattle.wire_buf.specs.declared.error.WireError.{WireError}
 use Rattle.wire_buf.specs.declared.error.WireError.TheVariants.{OutOfMemory}
-use Rattle.wire_ext.specs.Texts.{PutsText}
+use Rattle.wire_put.specs.Texts.{PutsText}
 
 pub length_refused : {X : Type 0} (result : Result X WireError) (old new : List ℕ) (room : ℕ) (spelling text : List ℕ)
     → result ≡ Err OutOfMemory → room < length spelling → new ≡ old → PutsText result old new room spelling text

@@ -1,8 +1,8 @@
 use Rattle.std.proofs.Common.{rules, ◌≡◌, Err, length}
 use Rattle.wire_buf.specs.declared.error.WireError.TheVariants.{OutOfMemory}
 use Rattle.wire_buf.specs.Lenenc.{lenenc_bytes}
-use Rattle.wire_ext.proofs.TextLemmas.{length_refused, text_refused, text_put}
-use Rattle.wire_ext.proofs.io.put.BufMutExt.put_lenenc_str.Goals as goal
+use Rattle.wire_put.proofs.TextLemmas.{length_refused, text_refused, text_put}
+use Rattle.wire_put.proofs.put.BufMutExt.put_lenenc_str.Goals as goal
 
 pub returns-in_err-put_lenenc_int-clause-text : goal.returns-in_err-put_lenenc_int-clause-text
 returns-in_err-put_lenenc_int-clause-text g c =

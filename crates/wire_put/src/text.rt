@@ -1,7 +1,7 @@
 //! Texts cut to what the length before them can say.
 
 ghost use Rattle.std.specs.Prelude.{◌≡◌, ◌<◌, ◌≤◌, ◌^◌, length, take};
-ghost use Rattle.wire_ext.specs.Texts.{u8_max, u32_max};
+ghost use Rattle.wire_put.specs.Texts.{u8_max, u32_max};
 
 use std::cmp::min;
 

@@ -7,12 +7,24 @@ ghost use Rattle.wire_buf.specs.declared.error.WireError.TheVariants.{OutOfMemor
 ghost use Rattle.wire_buf.specs.Numbers.{le_bytes};
 ghost use Rattle.wire_buf.specs.Spelling.{IsShortest};
 ghost use Rattle.wire_buf.specs.Lenenc.{IsLenenc, IsLenencOrMark, lenenc_bytes};
-ghost use Rattle.wire_ext.specs.Texts.{PutsText, u8_max, u32_max};
+ghost use Rattle.wire_put.specs.Texts.{PutsText, u8_max, u32_max};
 
-use super::spelling::{four_bytes, nine_bytes, three_bytes};
+use crate::spelling::{four_bytes, nine_bytes, three_bytes};
 use crate::text::{first_bytes, longest_u8_str, longest_u32_str};
 use bytes::BufMut;
 use wire_buf::error::WireError;
+
+// Puts these bytes, in one put.
+#[inline(always)]
+fn put<B: BufMut>(buf: &mut B, bytes: &[u8]) -> Result<(), WireError>
+    ensures ok { OnOk result (B.written buf.new ≡ B.written buf.old ++ bytes.now) }
+    ensures err { IfErr result (λ error. (error ≡ OutOfMemory)
+        × (B.written buf.new ≡ B.written buf.old)) }
+    ensures spare { UsesSpare result (B.spare buf.old) (B.spare buf.new) (length bytes.now) }
+{
+    buf.put_slice(bytes)?;
+    Ok(())
+}
 
 // Puts the spelling (the encoding) of a length-encoded integer, in one put. As a call it would hand
 // its `Result`, which has room for an `io::Error`, back through memory: that takes longer than the
@@ -25,15 +37,14 @@ fn put_spelling<B: BufMut>(buf: &mut B, n: u64) -> Result<(), WireError>
     ensures spare { UsesSpare result (B.spare buf.old) (B.spare buf.new) (length (lenenc_bytes n)) }
 {
     if n < 251 {
-        buf.put_u8(n as u8)?;
+        put(buf, &[n as u8])
     } else if n < 65_536 {
-        buf.put_slice(&three_bytes(n))?;
+        put(buf, &three_bytes(n))
     } else if n < 16_777_216 {
-        buf.put_slice(&four_bytes(n))?;
+        put(buf, &four_bytes(n))
     } else {
-        buf.put_slice(&nine_bytes(n))?;
+        put(buf, &nine_bytes(n))
     }
-    Ok(())
 }
 
 /// Puts MySQL's numbers and texts (byte strings) at the end of a buffer. A refusal is

@@ -1,5 +1,5 @@
 use Rattle.std.proofs.Common.{rules}
-use Rattle.wire_ext.proofs.io.put.BufMutExt.put_u24_le.Goals as goal
+use Rattle.wire_put.proofs.put.BufMutExt.put_u24_le.Goals as goal
 
 pub returns-in_err-put_uint_le-clause-spare : goal.returns-in_err-put_uint_le-clause-spare
 returns-in_err-put_uint_le-clause-spare g c = search rules

@@ -1,0 +1,8 @@
+//! Numbers whose length is in their first byte, and the texts behind them, put into buffers.
+#![tactic(auto)]
+
+mod put;
+pub mod spelling;
+pub mod text;
+
+pub use put::BufMutExt;
