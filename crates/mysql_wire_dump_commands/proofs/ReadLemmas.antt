@@ -3,11 +3,11 @@ use Rattle.std.proofs.Common.{◌≡◌, ◌∙◌, ℕ, List, [], refl, ap, sub
 use Rattle.mysql_wire_dump_lines.specs.declared.kind.Kind.{Kind}
 use Rattle.mysql_wire_dump_lines.specs.declared.kind.Kind.TheVariants.{Bytes, File, TooLarge}
 use Rattle.mysql_wire_dump_lines.specs.declared.refusal.Refusal.{Refusal}
-use Rattle.mysql_wire_dump_fields.specs.declared.fields.FieldForm.{FieldForm}
-use Rattle.mysql_wire_dump_fields.specs.declared.fields.FieldForm.TheVariants.{Hidden, Text, Json}
-use Rattle.mysql_wire_dump_fields.specs.Fields.{Written, ended, nothing, puts}
+use Rattle.mysql_wire_dump_lines.specs.declared.fields.FieldForm.{FieldForm}
+use Rattle.mysql_wire_dump_lines.specs.declared.fields.FieldForm.TheVariants.{Hidden, Text, Json}
+use Rattle.mysql_wire_dump_lines.specs.Fields.{Written, ended, nothing, puts}
 use Rattle.mysql_wire_dump_fields.specs.Packets.{Nothing}
-use Rattle.mysql_wire_dump_fields.proofs.FieldLemmas.{fields_text-is}
+use Rattle.mysql_wire_dump_lines.proofs.FieldLemmas.{fields_text-is}
 use Rattle.mysql_wire_dump_commands.specs.Readings.{AreFields, PutsRead}
 
 -- of a payload that is refused nothing is put

@@ -34,8 +34,8 @@ use Rattle.mysql_wire_dump_fields.specs.contracts.payload.LocalInfileRequestPayl
 use Rattle.mysql_wire_dump_fields.specs.contracts.payload.OkFormPayload.TheImpl as ok
 use Rattle.mysql_wire_dump_fields.specs.contracts.payload.ProgressReportPayload.TheImpl as progress
 use Rattle.mysql_wire_dump_fields.specs.contracts.payload.SslRequestPayload.TheImpl as tls_request
-use Rattle.mysql_wire_dump_fields.specs.declared.fields.FieldForm.{FieldForm}
-use Rattle.mysql_wire_dump_fields.specs.Fields.{Member, Written, fields_text}
+use Rattle.mysql_wire_dump_lines.specs.declared.fields.FieldForm.{FieldForm}
+use Rattle.mysql_wire_dump_lines.specs.Fields.{Member, Written, fields_text}
 use Rattle.mysql_wire_dump_fields.specs.Packets.{Packet, HasFields, PutsFields}
 use Rattle.mysql_wire_dump_fields.specs.Packets as packet
 

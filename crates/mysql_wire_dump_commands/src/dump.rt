@@ -11,7 +11,7 @@ ghost use Rattle.mysql_wire_dump_lines.specs.Status.{end_status};
 ghost use Rattle.mysql_wire_dump_lines.specs.declared.kind.Kind.TheVariants.{TooLarge};
 
 use crate::session::Session;
-use mysql_wire_dump_fields::fields::{FieldForm, Fields};
+use mysql_wire_dump_lines::fields::{FieldForm, Fields};
 use mysql_wire_dump_lines::kind::Kind;
 use mysql_wire_dump_lines::lines::{LineForm, Seen, push_ending, push_packet};
 use mysql_wire_dump_lines::options::{Options, Sides};

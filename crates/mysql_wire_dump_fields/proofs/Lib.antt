@@ -1,3 +1,2 @@
-pub mod FieldLemmas
 pub mod ValueLemmas
 pub mod PacketLemmas

@@ -3,7 +3,7 @@ use Rattle.std.proofs.Common.{◌≡◌, ◌++◌, ℕ, List, refl, subst, inl, 
 use Rattle.std.specs.Prelude.{OnOk}
 use Rattle.mysql_wire_dump_lines.specs.declared.refusal.Refusal.{Refusal}
 use Rattle.mysql_wire_statements.specs.declared.binary_row.BinaryRow.{BinaryRow}
-use Rattle.mysql_wire_dump_fields.specs.Fields.{Member, Puts, Written}
+use Rattle.mysql_wire_dump_lines.specs.Fields.{Member, Puts, Written}
 use Rattle.mysql_wire_dump_fields.specs.Packets.{HasFields, Packet, PutsFields, Row, RowParts, Texts}
 use Rattle.mysql_wire_dump_fields.specs.ValueFields.{PutsRow, PutsTexts, rest_if, row_bytes_fields}
 

@@ -1,13 +1,13 @@
 -- The values of rows, one more at a time.
 use Rattle.std.proofs.Common.{◌≡◌, ℕ, ◌+◌, true, false, List, [], ◌∷◌, ◌++◌, length, take, refl, sym, ap, ◌∙◌, append-nil, append_assoc, length-append, arith, Some, None}
-use Rattle.mysql_wire_dump_fields.specs.Fields.{Member, Octets, Puts, Written, put, puts}
+use Rattle.mysql_wire_dump_lines.specs.Fields.{Member, Octets, Puts, Written, put, puts}
 use Rattle.mysql_wire_dump_fields.specs.ValueFields.{AreTexts, AreValues, PutsColumn, PutsText, PutsTexts, PutsValues, rest_if}
 use Rattle.mysql_wire_dump_lines.specs.declared.refusal.Refusal.{Refusal}
 use Rattle.mysql_wire_statements.specs.declared.binary_row.BinaryRow.{BinaryRow}
 use Rattle.std.proofs.lemmas.List.{take_all}
 use Rattle.std.proofs.lemmas.Grind.{common_steps}
 use Rattle.std.specs.Prelude.{◌==◌, codes}
-use Rattle.mysql_wire_dump_fields.proofs.FieldLemmas.{puts_append}
+use Rattle.mysql_wire_dump_lines.proofs.FieldLemmas.{puts_append}
 
 -- the texts up to this place were put; with those behind them they are those of the payload
 pub record Texts (place : ℕ) (payload bytes : List ℕ) (start now : Written) : Type 0 where

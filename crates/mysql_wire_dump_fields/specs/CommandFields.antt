@@ -9,8 +9,8 @@ use Rattle.mysql_wire_statements.specs.declared.com_stmt_execute.ComStmtExecute.
 use Rattle.mysql_wire_statements.specs.declared.com_stmt_fetch.ComStmtFetch.{ComStmtFetch}
 use Rattle.mysql_wire_statements.specs.declared.com_stmt_send_long_data.ComStmtSendLongData.{ComStmtSendLongData}
 use Rattle.mysql_wire_statements.specs.declared.params.StmtParams.{StmtParams}
-use Rattle.mysql_wire_dump_fields.specs.FieldTables.{row_if}
-use Rattle.mysql_wire_dump_fields.specs.Fields.{Flags, Member, Number, Octets, Words}
+use Rattle.mysql_wire_dump_lines.specs.FieldTables.{row_if}
+use Rattle.mysql_wire_dump_lines.specs.Fields.{Flags, Member, Number, Octets, Words}
 
 -- without parameters the query stands alone
 abbrev pub attributes_and_query : ComQueryWithAttributes → Member

@@ -1,6 +1,4 @@
 pub mod MomentTexts
-pub mod Fields
-pub mod FieldTables
 pub mod ConnectionFields
 pub mod AnswerFields
 pub mod CommandFields

@@ -22,7 +22,7 @@ use Rattle.mysql_wire_statements.specs.declared.com_stmt_send_long_data.ComStmtS
 use Rattle.mysql_wire_dump_fields.specs.AnswerFields.{column_count_fields, column_fields, eof_fields, error_fields, local_infile_fields, ok_fields, prepared_fields, progress_fields}
 use Rattle.mysql_wire_dump_fields.specs.CommandFields.{execute_fields, fetch_fields, long_data_fields, number_fields, plain_fields}
 use Rattle.mysql_wire_dump_fields.specs.ConnectionFields.{auth_answer_fields, auth_more_data_fields, auth_switch_fields, greeting_fields, login_fields, tls_request_fields}
-use Rattle.mysql_wire_dump_fields.specs.Fields.{Member, Octets, Puts, Words, Written}
+use Rattle.mysql_wire_dump_lines.specs.Fields.{Member, Octets, Puts, Words, Written}
 use Rattle.mysql_wire_dump_fields.specs.ValueFields.{AreTexts, AreRowFields, EndsRow, row_bytes_fields}
 use Rattle.mysql_wire_dump_lines.specs.declared.refusal.Refusal.{Refusal}
 

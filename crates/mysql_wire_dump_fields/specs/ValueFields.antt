@@ -14,8 +14,9 @@ use Rattle.mysql_wire_statements.specs.Values.{ReadsForm, form_of}
 use Rattle.mysql_wire_statements.specs.declared.binary_row.BinaryRow.{BinaryRow}
 use Rattle.mysql_wire_statements.specs.declared.binary_value.BinaryValue.{BinaryValue}
 use Rattle.mysql_wire_statements.specs.declared.binary_value.BinaryValue.TheVariants as binary
-use Rattle.mysql_wire_dump_fields.specs.Fields.{Date, Member, Null, Number, Octets, Printed, Time, Value, Puts, Word, Words, Written}
+use Rattle.mysql_wire_dump_lines.specs.Fields.{Member, Null, Number, Octets, Printed, Value, Puts, Word, Words, Written}
 use Rattle.mysql_wire_dump_lines.specs.declared.refusal.Refusal.{Refusal}
+use Rattle.mysql_wire_dump_fields.specs.MomentTexts.{date_text, time_text}
 
 abbrev pub text_shown : Option (List ℕ) → Value
 text_shown None = Null
@@ -82,8 +83,8 @@ IsShownAs (binary.Long number) shown = shown ≡ Number number
 IsShownAs (binary.LongLong number) shown = shown ≡ Number number
 IsShownAs (binary.Float bits) shown = IsFloat binary32 bits shown
 IsShownAs (binary.Double bits) shown = IsFloat binary64 bits shown
-IsShownAs (binary.Date date) shown = shown ≡ Date date
-IsShownAs (binary.Time time) shown = shown ≡ Time time
+IsShownAs (binary.Date date) shown = shown ≡ Word (date_text date)
+IsShownAs (binary.Time time) shown = shown ≡ Word (time_text time)
 IsShownAs (binary.Text text) shown = shown ≡ Words text.now
 
 -- a value of this form was put at this place

@@ -1,7 +1,6 @@
 //! The fields of each packet, as members of a dump's text or JSON.
 #![tactic(auto)]
 
-pub mod fields;
 mod moments;
 pub mod payload;
 pub mod show;

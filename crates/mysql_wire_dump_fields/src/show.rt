@@ -3,9 +3,9 @@
 ghost use Rattle.std.specs.Cow.{cow_slice_items};
 ghost use Rattle.std.specs.Prelude.{◌≡◌, OnOk};
 ghost use Rattle.wire_field.specs.Rows.{by_side};
-ghost use Rattle.mysql_wire_dump_fields.specs.FieldTables.{members_in, row_if};
+ghost use Rattle.mysql_wire_dump_lines.specs.FieldTables.{members_in, row_if};
 ghost use Rattle.mysql_wire_dump_fields.specs.Packets.{Packet, PutsFields};
-ghost use Rattle.mysql_wire_dump_fields.specs.Fields.{Number, Octets, Words};
+ghost use Rattle.mysql_wire_dump_lines.specs.Fields.{Number, Octets, Words};
 
 mod answers;
 mod commands;
@@ -13,8 +13,8 @@ mod connection;
 mod unread;
 mod values;
 
-use crate::fields::{Field, Fields};
 pub use commands::number_of_statement;
+use mysql_wire_dump_lines::fields::{Field, Fields};
 use std::alloc::{AllocError, Allocator};
 pub use unread::{column_bytes, event, other_command, row_bytes, statistics};
 pub use values::{binary_row, text_row};

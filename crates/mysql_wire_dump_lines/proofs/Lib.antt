@@ -1,1 +1,2 @@
 pub mod SourceLemmas
+pub mod FieldLemmas

@@ -4,3 +4,5 @@ pub mod Status
 pub mod Sources
 pub mod Turns
 pub mod Lines
+pub mod Fields
+pub mod FieldTables

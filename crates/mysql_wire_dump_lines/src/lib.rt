@@ -3,6 +3,7 @@
 #![tactic(auto)]
 
 pub mod arguments;
+pub mod fields;
 pub mod kind;
 pub mod lines;
 pub mod naming;

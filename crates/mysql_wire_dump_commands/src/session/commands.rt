@@ -7,8 +7,8 @@ ghost use Rattle.mysql_wire_dump_lines.specs.declared.kind.Kind.TheVariants.{Exe
 ghost use Rattle.mysql_wire_dump_commands.specs.Readings.{PutsRead, statement_number};
 
 use super::{Session, refused};
-use mysql_wire_dump_fields::fields::Fields;
 use mysql_wire_dump_fields::show;
+use mysql_wire_dump_lines::fields::Fields;
 use mysql_wire_dump_lines::kind::Kind;
 use mysql_wire_dump_lines::place::{Place, RowForm};
 use mysql_wire_dump_lines::refusal::Refusal;

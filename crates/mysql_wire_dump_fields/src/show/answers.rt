@@ -2,13 +2,13 @@
 
 ghost use Rattle.std.specs.Prelude.{◌≡◌};
 ghost use Rattle.mysql_wire_dump_fields.specs.AnswerFields.{column_count_fields, column_fields, eof_fields, error_fields, local_infile_fields, ok_fields, prepared_fields, progress_fields};
-ghost use Rattle.mysql_wire_dump_fields.specs.FieldTables.{members_in, row_if};
-ghost use Rattle.mysql_wire_dump_fields.specs.Fields.{Words};
+ghost use Rattle.mysql_wire_dump_lines.specs.FieldTables.{members_in, row_if};
+ghost use Rattle.mysql_wire_dump_lines.specs.Fields.{Words};
 ghost use Rattle.mysql_wire_dump_fields.specs.Packets.{Column, Columns, Done, End, Failed, File, Prepared, Progress};
 
 use super::{Show, bytes_if, number_if, side_if};
-use crate::fields::Field::{Flags, Number, Text};
-use crate::fields::{Field, Fields};
+use mysql_wire_dump_lines::fields::Field::{Flags, Number, Text};
+use mysql_wire_dump_lines::fields::{Field, Fields};
 use mysql_wire_packets::eof_packet::EofPacket;
 use mysql_wire_packets::err_packet::ErrPacket;
 use mysql_wire_packets::ok_packet::OkForm;

@@ -3,13 +3,13 @@
 ghost use Rattle.std.specs.Prelude.{◌≡◌, ◌∷◌, [], OnOk};
 ghost use Rattle.mysql_wire_queries.specs.declared.client_command.ClientCommand.TheVariants.{AttributedQuery, ChangeUser, InitDb, Ping, Query, Quit};
 ghost use Rattle.mysql_wire_dump_fields.specs.CommandFields.{attributes_and_query, params_fields};
-ghost use Rattle.mysql_wire_dump_fields.specs.FieldTables.{members_in, row_if};
-ghost use Rattle.mysql_wire_dump_fields.specs.Fields.{Number, Octets, Puts};
+ghost use Rattle.mysql_wire_dump_lines.specs.FieldTables.{members_in, row_if};
+ghost use Rattle.mysql_wire_dump_lines.specs.Fields.{Number, Octets, Puts};
 ghost use Rattle.mysql_wire_dump_fields.specs.Packets.{Command, Execute, Fetch, LongData, OfStatement, Prepare, PutsFields};
 
 use super::{Show, bytes_if, words_if};
-use crate::fields::Field::{Bytes, Flags, Number, Text};
-use crate::fields::{Field, FieldValue, Fields};
+use mysql_wire_dump_lines::fields::Field::{Bytes, Flags, Number, Text};
+use mysql_wire_dump_lines::fields::{Field, FieldValue, Fields};
 use mysql_wire_queries::com_change_user::ComChangeUser;
 use mysql_wire_queries::com_init_db::ComInitDb;
 use mysql_wire_queries::com_ping::ComPing;

@@ -3,14 +3,14 @@
 ghost use Rattle.mysql_wire_dump_fields.specs.Packets.{AuthAnswer, AuthSwitch, Greeting, Login, MoreData, PutsFields, TlsRequest};
 
 use super::{Show, bytes_if, number_if, of_side, side_if, words_if};
-use crate::fields::Field::{Bytes, Flags, Number, Text};
-use crate::fields::Fields;
 use mysql_wire_connection::auth_more_data::AuthMoreData;
 use mysql_wire_connection::auth_switch::AuthSwitchRequest;
 use mysql_wire_connection::auth_switch_response::AuthSwitchResponse;
 use mysql_wire_connection::handshake::HandshakeV10;
 use mysql_wire_connection::handshake_response::HandshakeResponse41;
 use mysql_wire_connection::ssl_request::SslRequest;
+use mysql_wire_dump_lines::fields::Field::{Bytes, Flags, Number, Text};
+use mysql_wire_dump_lines::fields::Fields;
 use std::alloc::{AllocError, Allocator};
 
 impl Show for HandshakeV10<'_> {

@@ -3,7 +3,7 @@
 ghost use Rattle.std.specs.Prelude.{OnOk};
 ghost use Rattle.mysql_wire_dump_fields.specs.Packets.{ColumnBytes, Event, OtherCommand, PutsFields, RowBytes, Statistics};
 
-use crate::fields::{FieldValue, Fields};
+use mysql_wire_dump_lines::fields::{FieldValue, Fields};
 use std::alloc::{AllocError, Allocator};
 
 /// What a server says of itself.

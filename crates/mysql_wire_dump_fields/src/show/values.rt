@@ -1,18 +1,22 @@
 //! The values of rows.
 
 ghost use Rattle.std.specs.Float.{binary32, binary64};
-ghost use Rattle.std.specs.Prelude.{◌≡◌, ◌++◌, IfOk, OnOk};
-ghost use Rattle.mysql_wire_dump_fields.specs.Fields.{Written};
+ghost use Rattle.std.specs.Fmt.{decimal};
+ghost use Rattle.std.specs.Prelude.{◌≡◌, ◌∷◌, [], ◌++◌, IfOk, OnOk};
+ghost use Rattle.mysql_wire_dump_lines.specs.Fields.{Puts, Word, Written};
+ghost use Rattle.mysql_wire_dump_fields.specs.MomentTexts.{date_text, time_text};
 ghost use Rattle.mysql_wire_dump_fields.specs.Packets.{PutsFields, Row, RowParts, Texts};
 ghost use Rattle.mysql_wire_dump_fields.specs.ValueFields.{IsTypeOf, PutsColumn, PutsFloat, PutsRow, PutsShown, PutsText, PutsTexts, PutsValues};
 
 use super::Show;
-use crate::fields::{Field, FieldValue, Fields};
+use crate::moments::{push_date, push_time};
+use mysql_wire_dump_lines::fields::{Field, FieldValue, Fields};
 use mysql_wire_dump_lines::refusal::Refusal;
 use mysql_wire_dump_lines::status::Stop;
 use mysql_wire_queries::text_row::TextValue;
 use mysql_wire_statements::binary_row::BinaryRow;
 use mysql_wire_statements::binary_value::BinaryValue;
+use mysql_wire_statements::moments::{BinaryDate, BinaryTime};
 use ryu::Buffer;
 use std::alloc::{AllocError, Allocator, Global};
 use std::num::{f32_from_bits_with_nan, f64_from_bits_with_nan};
@@ -119,6 +123,34 @@ fn put_double<A: Allocator + Copy>(
     }
 }
 
+// Puts a date, in quotes.
+fn put_date<A: Allocator + Copy>(
+    fields: &mut Fields<A>,
+    place: u64,
+    date: &BinaryDate,
+) -> Result<(), AllocError>
+    ensures { OnOk result (Puts ((decimal place, Word (date_text date.now)) ∷ [])
+        fields.old fields.new) }
+{
+    let mut text = String::new(fields.alloc());
+    push_date(&mut text, date)?;
+    fields.put_at(place, FieldValue::Word(text.as_str()))
+}
+
+// Puts a span of time, in quotes.
+fn put_time<A: Allocator + Copy>(
+    fields: &mut Fields<A>,
+    place: u64,
+    time: &BinaryTime,
+) -> Result<(), AllocError>
+    ensures { OnOk result (Puts ((decimal place, Word (time_text time.now)) ∷ [])
+        fields.old fields.new) }
+{
+    let mut text = String::new(fields.alloc());
+    push_time(&mut text, time)?;
+    fields.put_at(place, FieldValue::Word(text.as_str()))
+}
+
 // Puts a value in its binary form.
 fn put_value<A: Allocator + Copy>(
     fields: &mut Fields<A>,
@@ -136,8 +168,8 @@ fn put_value<A: Allocator + Copy>(
         BinaryValue::Text(text) => fields.put_at(place, FieldValue::Text(*text)),
         BinaryValue::Float(bits) => put_float(fields, place, *bits),
         BinaryValue::Double(bits) => put_double(fields, place, *bits),
-        BinaryValue::Date(date) => fields.put_at(place, FieldValue::Date(date)),
-        BinaryValue::Time(time) => fields.put_at(place, FieldValue::Time(time)),
+        BinaryValue::Date(date) => put_date(fields, place, date),
+        BinaryValue::Time(time) => put_time(fields, place, time),
     }
 }
 

@@ -1,6 +1,6 @@
 use Rattle.std.proofs.Common.{refl}
 use Rattle.mysql_wire_dump_fields.specs.CommandFields.{execute_fields}
-use Rattle.mysql_wire_dump_fields.proofs.FieldLemmas.{puts_then}
+use Rattle.mysql_wire_dump_lines.proofs.FieldLemmas.{puts_then}
 use Rattle.mysql_wire_dump_fields.proofs.show.commands.ComStmtExecuteShow.show.Goals as goal
 
 pub returns : goal.returns

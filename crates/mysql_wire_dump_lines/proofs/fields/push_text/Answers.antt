@@ -1,6 +1,6 @@
 use Rattle.std.proofs.lemmas.Str.{is_utf8-from_IsUtf8}
-use Rattle.mysql_wire_dump_fields.proofs.FieldLemmas.{is_utf8-false}
-use Rattle.mysql_wire_dump_fields.proofs.fields.push_text.Goals as goal
+use Rattle.mysql_wire_dump_lines.proofs.FieldLemmas.{is_utf8-false}
+use Rattle.mysql_wire_dump_lines.proofs.fields.push_text.Goals as goal
 
 pub returns-in-Ok : goal.returns-in-Ok
 returns-in-Ok g c =

@@ -1,8 +1,8 @@
 -- Fields that are there, or not.
 use Rattle.std.specs.Prelude.{List, [], ◌∷◌, ◌++◌, Option, Some, None}
-use Rattle.mysql_wire_dump_fields.specs.declared.fields.Field.{Field}
-use Rattle.mysql_wire_dump_fields.specs.declared.fields.Field.TheVariants as field
-use Rattle.mysql_wire_dump_fields.specs.Fields.{Flags, Member, Number, Octets, Words}
+use Rattle.mysql_wire_dump_lines.specs.declared.fields.Field.{Field}
+use Rattle.mysql_wire_dump_lines.specs.declared.fields.Field.TheVariants as field
+use Rattle.mysql_wire_dump_lines.specs.Fields.{Flags, Member, Number, Octets, Words}
 
 -- a field, where its value is there
 abbrev pub row_if : {X : Type 0} → (X → Member) → Option X → List Member

@@ -5,23 +5,19 @@ use Rattle.std.specs.Prelude.{◌≡◌, ℕ, false, List, [], ◌∷◌, ◌++�
 use Rattle.std.specs.Str.{is_utf8}
 use Rattle.hex.specs.Hex.{encode_lower}
 use Rattle.json.specs.Print.{quoted}
-use Rattle.mysql_wire_dump_fields.specs.declared.fields.FieldForm.{FieldForm}
-use Rattle.mysql_wire_dump_fields.specs.declared.fields.FieldForm.TheVariants.{Hidden, Text, Json}
-use Rattle.mysql_wire_dump_fields.specs.declared.fields.FieldValue.{FieldValue}
-use Rattle.mysql_wire_dump_fields.specs.declared.fields.FieldValue.TheVariants as given
-use Rattle.mysql_wire_statements.specs.declared.moments.BinaryDate.{BinaryDate}
-use Rattle.mysql_wire_statements.specs.declared.moments.BinaryTime.{BinaryTime}
-use Rattle.mysql_wire_dump_fields.specs.MomentTexts.{date_text, time_text}
+use Rattle.mysql_wire_dump_lines.specs.declared.fields.FieldForm.{FieldForm}
+use Rattle.mysql_wire_dump_lines.specs.declared.fields.FieldForm.TheVariants.{Hidden, Text, Json}
+use Rattle.mysql_wire_dump_lines.specs.declared.fields.FieldValue.{FieldValue}
+use Rattle.mysql_wire_dump_lines.specs.declared.fields.FieldValue.TheVariants as given
 
--- the value of a field: `Printed` is the text of a number, `Word` the word in its place
+-- the value of a field: `Printed` is the text of a number, `Word` a word that stands in quotes as it
+-- is
 pub data Value : Type 0 where
   Null : Value
   Number : ℕ → Value
   Flags : ℕ → Value
   Words : List ℕ → Value
   Octets : List ℕ → Value
-  Date : BinaryDate → Value
-  Time : BinaryTime → Value
   Printed : List ℕ → Value
   Word : List ℕ → Value
 
@@ -57,8 +53,6 @@ value_text form (Number number) = decimal number
 value_text form (Flags bits) = flags_text form bits
 value_text form (Words octets) = words_text form octets
 value_text form (Octets octets) = octets_text form octets
-value_text form (Date date) = in_quotes (date_text date)
-value_text form (Time time) = in_quotes (time_text time)
 value_text form (Printed number) = number
 value_text form (Word word) = in_quotes word
 
@@ -122,7 +116,5 @@ value_of (given.Number number) = Number number
 value_of (given.Flags bits) = Flags bits
 value_of (given.Text octets) = Words octets.now
 value_of (given.Bytes octets) = Octets octets.now
-value_of (given.Date date) = Date date.now
-value_of (given.Time time) = Time time.now
 value_of (given.Printed number) = Printed number.now
 value_of (given.Word word) = Word word.now

@@ -6,11 +6,11 @@ use Rattle.std.proofs.lemmas.List.{append-nil, take_more}
 use Rattle.std.specs.List.{flat_map}
 use Rattle.std.specs.Str.{IsUtf8, is_utf8}
 use Rattle.std.proofs.lemmas.Str.{IsUtf8-from_is_utf8}
-use Rattle.mysql_wire_dump_fields.specs.declared.fields.FieldForm.{FieldForm}
-use Rattle.mysql_wire_dump_fields.specs.declared.fields.Field.{Field}
-use Rattle.mysql_wire_dump_fields.specs.declared.fields.FieldForm.TheVariants.{Hidden, Text, Json}
-use Rattle.mysql_wire_dump_fields.specs.Fields.{Member, Puts, Written, ended, fields_text, line, nothing, pair, put, puts}
-use Rattle.mysql_wire_dump_fields.specs.FieldTables.{members_in, members_of}
+use Rattle.mysql_wire_dump_lines.specs.declared.fields.FieldForm.{FieldForm}
+use Rattle.mysql_wire_dump_lines.specs.declared.fields.Field.{Field}
+use Rattle.mysql_wire_dump_lines.specs.declared.fields.FieldForm.TheVariants.{Hidden, Text, Json}
+use Rattle.mysql_wire_dump_lines.specs.Fields.{Member, Puts, Written, ended, fields_text, line, nothing, pair, put, puts}
+use Rattle.mysql_wire_dump_lines.specs.FieldTables.{members_in, members_of}
 
 is_false : (test : Bool) → (test ≡ true → ⊥) → test ≡ false
 is_false true never = absurd (never refl)

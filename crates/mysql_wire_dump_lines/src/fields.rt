@@ -3,12 +3,10 @@
 ghost use Rattle.std.specs.Prelude.{◌≡◌, ◌++◌, ◌∷◌, [], IfOk, OnOk, string_bytes};
 ghost use Rattle.std.specs.Fmt.{decimal};
 ghost use Rattle.json.specs.Print.{quoted};
-ghost use Rattle.mysql_wire_dump_fields.specs.FieldTables.{members_in, members_of};
-ghost use Rattle.mysql_wire_dump_fields.specs.Fields.{Puts, digits_text, ended, flags_text, nothing, octets_text, value_of, value_text, with_end, with_member, words_text};
+ghost use Rattle.mysql_wire_dump_lines.specs.FieldTables.{members_in, members_of};
+ghost use Rattle.mysql_wire_dump_lines.specs.Fields.{Puts, digits_text, ended, flags_text, nothing, octets_text, value_of, value_text, with_end, with_member, words_text};
 
-use crate::moments::{push_date, push_time};
 use json::Writer;
-use mysql_wire_statements::moments::{BinaryDate, BinaryTime};
 use std::alloc::{AllocError, Allocator, Global};
 use std::marker::Model;
 
@@ -31,11 +29,9 @@ pub enum FieldValue<'a> {
     /// A text, where the bytes are one.
     Text(&'a [u8]),
     Bytes(&'a [u8]),
-    Date(&'a BinaryDate),
-    Time(&'a BinaryTime),
     /// The text of a number.
     Printed(&'a str),
-    /// The word that stands for what is no number.
+    /// A word in quotes, which JSON need not escape: of a date, of what is no number.
     Word(&'a str),
 }
 
@@ -140,16 +136,6 @@ fn push_value<A: Allocator + Copy>(
         FieldValue::Flags(bits) => push_flags(text, form, bits),
         FieldValue::Text(bytes) => push_text(text, form, bytes),
         FieldValue::Bytes(bytes) => push_digits(text, form, bytes),
-        FieldValue::Date(date) => {
-            text.push_str("\"")?;
-            push_date(text, date)?;
-            text.push_str("\"")
-        }
-        FieldValue::Time(time) => {
-            text.push_str("\"")?;
-            push_time(text, time)?;
-            text.push_str("\"")
-        }
         FieldValue::Printed(number) => text.push_str(number),
         FieldValue::Word(word) => write!(text, "\"{word}\""),
     }
@@ -202,7 +188,7 @@ pub struct Fields<A: Allocator + Copy = Global> {
 
 impl<A: Allocator + Copy> Model for Fields<A> {
     ghost use Rattle.std.specs.Prelude.{string_bytes};
-    ghost use Rattle.mysql_wire_dump_fields.specs.Fields.{Written};
+    ghost use Rattle.mysql_wire_dump_lines.specs.Fields.{Written};
 
     ghost Value = { Written };
 
@@ -215,6 +201,11 @@ impl<A: Allocator + Copy> Fields<A> {
             form: FieldForm::Hidden,
             text: String::new(alloc),
         }
+    }
+
+    /// The allocator of the text.
+    pub fn alloc(&self) -> A {
+        *self.text.allocator()
     }
 
     /// What was put so far.

@@ -1,8 +1,8 @@
 use Rattle.std.proofs.Common.{List, subst, sym}
-use Rattle.mysql_wire_dump_fields.specs.Fields.{Member, Puts}
-use Rattle.mysql_wire_dump_fields.specs.declared.fields.Field.TheVariants.{Missing}
-use Rattle.mysql_wire_dump_fields.proofs.FieldLemmas.{members_more, puts_then}
-use Rattle.mysql_wire_dump_fields.proofs.fields.Fields.put_all.Goals as goal
+use Rattle.mysql_wire_dump_lines.specs.Fields.{Member, Puts}
+use Rattle.mysql_wire_dump_lines.specs.declared.fields.Field.TheVariants.{Missing}
+use Rattle.mysql_wire_dump_lines.proofs.FieldLemmas.{members_more, puts_then}
+use Rattle.mysql_wire_dump_lines.proofs.fields.Fields.put_all.Goals as goal
 
 pub fields-preserved : goal.fields-preserved
 fields-preserved g c =
