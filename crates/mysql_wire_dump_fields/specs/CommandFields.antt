@@ -28,7 +28,7 @@ attributed_query_fields packet =
 
 abbrev pub change_user_options : ComChangeUser → List Member
 change_user_options packet =
-    row_if (λ number. (codes "character_set", Number number.0)) packet.character_set
+    row_if (λ number. (codes "character_set", Number number)) packet.character_set
     ++ (row_if (λ text. (codes "auth_plugin_name", Words (cow_slice_items text.0)))
     packet.auth_plugin_name
     ++ row_if (λ text. (codes "connect_attrs", Octets (cow_slice_items text.0)))

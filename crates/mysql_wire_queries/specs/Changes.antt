@@ -1,13 +1,10 @@
 -- What is written of a command to change the user.
 use Rattle.std.specs.Prelude.{ℕ, List, [], ◌∷◌, ◌++◌}
-use Rattle.wire_buf.specs.declared.proto.Fixed.{Fixed}
 use Rattle.wire_buf.specs.Numbers.{le_bytes}
 use Rattle.wire_field.specs.declared.row.Both.{Both}
 use Rattle.wire_forms.specs.declared.lenenc.LenEnc.{LenEnc}
 use Rattle.wire_forms.specs.declared.null.NullBytes.{NullBytes}
 use Rattle.wire_forms.specs.declared.prefixed.U8Bytes.{U8Bytes}
-use Rattle.wire_repr.specs.declared.int.RawInt.{RawInt}
-use Rattle.wire_repr.specs.declared.int.LeU16.{LeU16}
 use Rattle.mysql_wire_packets.specs.Fields.{Constant, Text}
 use Rattle.mysql_wire_packets.specs.InOrder.{text_bytes, u8_text_bytes}
 use Rattle.mysql_wire_packets.specs.NullTexts.{clean}
@@ -22,7 +19,7 @@ user_bytes command = 0x11 ∷ ((clean command.user.0 ++ 0 ∷ [])
 
 -- and behind it, each where it is there
 abbrev pub set_bytes : ComChangeUser → List ℕ
-set_bytes command = bytes_if (λ set. le_bytes 2 set.0) command.character_set
+set_bytes command = bytes_if (le_bytes 2) command.character_set
 
 abbrev pub name_bytes : ComChangeUser → List ℕ
 name_bytes command = bytes_if (λ name. clean name.0 ++ 0 ∷ []) command.auth_plugin_name
@@ -33,7 +30,7 @@ attrs_bytes command = bytes_if (λ attrs. text_bytes attrs.0) command.connect_at
 -- its fields, in order
 abbrev pub change_fields : ComChangeUser
     → Both (Both (Constant 0x11) (Both (Text NullBytes) (Both (Text U8Bytes) (Text NullBytes))))
-    (Both (IfMore (RawInt LeU16 ℕ (Fixed 2))) (Both (IfMore (Text NullBytes)) (IfMore (Text LenEnc))))
+    (Both (IfMore ℕ) (Both (IfMore (Text NullBytes)) (IfMore (Text LenEnc))))
 change_fields command = (
   (_, (command.user, (command.auth_plugin_data, command.database))),
   (

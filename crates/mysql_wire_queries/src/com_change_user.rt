@@ -25,7 +25,6 @@ use wire_forms::constant::ConstU8;
 use wire_forms::lenenc::LenEnc;
 use wire_forms::null::NullBytes;
 use wire_forms::prefixed::U8Bytes;
-use wire_repr::int::{LeU16, RawInt};
 use wire_repr::text::RawBytes;
 use wire_repr::wire::Wire;
 
@@ -36,7 +35,7 @@ type User<'a> = Both<ConstU8<(), 0x11>, Both<RawBytes<'a, NullBytes>, Answer<'a>
 
 type Answer<'a> = Both<RawBytes<'a, U8Bytes>, RawBytes<'a, NullBytes>>;
 
-type More<'a> = Both<IfMore<RawInt<LeU16>>, Plugin<'a>>;
+type More<'a> = Both<IfMore<u16>, Plugin<'a>>;
 
 type Plugin<'a> = Both<IfMore<RawBytes<'a, NullBytes>>, IfMore<RawBytes<'a, LenEnc>>>;
 
@@ -52,7 +51,7 @@ pub struct ComChangeUser<'a> {
     pub auth_plugin_data: RawBytes<'a, U8Bytes>,
     pub database: RawBytes<'a, NullBytes>,
     /// The number of a collation.
-    pub character_set: Option<RawInt<LeU16>>,
+    pub character_set: Option<u16>,
     /// There under `CLIENT_PLUGIN_AUTH`, where the payload goes on.
     pub auth_plugin_name: Option<RawBytes<'a, NullBytes>>,
     /// Keys and values in turn, each behind its length, there under `CLIENT_CONNECT_ATTRS`, where
@@ -77,11 +76,13 @@ fn of_fields<'a>(fields: Fields<'a>) -> ComChangeUser<'a>
 }
 
 // A collation's number in hand is one.
-fn known_set(set: &Option<RawInt<LeU16>>)
-    ensures { OnIf (λ set. set.0 < 2 ^ 16) set.now }
+fn known_set(set: &Option<u16>)
+    ensures { OnIf (λ set. set < 2 ^ 16) set.now }
 {
     match set {
-        Some(set) => Wire::<'_, Global>::known(set),
+        Some(set) => {
+            let _set = *set;
+        }
         None => {}
     }
 }
@@ -138,7 +139,7 @@ impl<'de> MyDeserialize<'de, Global> for ComChangeUser<'de> {
 
 impl<'de> Wire<'de, Global> for ComChangeUser<'de> {
     ghost is_value = { λ command. record {
-      character_set : OnIf (λ set. set.0 < 2 ^ 16) command.character_set;
+      character_set : OnIf (λ set. set < 2 ^ 16) command.character_set;
       connect_attrs : OnIf (λ attrs. IsText (cow_slice_items attrs.0)) command.connect_attrs;
     } };
 
@@ -156,8 +157,7 @@ impl<'de> Wire<'de, Global> for ComChangeUser<'de> {
       user : IsBorrowedText back.user.0 (clean command.user.0);
       auth_plugin_data : IsBorrowedText back.auth_plugin_data.0 (u8_cut command.auth_plugin_data.0);
       database : IsBorrowedText back.database.0 (clean command.database.0);
-      character_set : BothIf (λ set back. back.0 ≡ set.0) command.character_set
-          back.character_set;
+      character_set : BothIf (λ set back. back ≡ set) command.character_set back.character_set;
       auth_plugin_name : BothIf (λ name back. IsBorrowedText back.0 (clean name.0))
           command.auth_plugin_name back.auth_plugin_name;
       connect_attrs : BothIf (λ attrs back. IsBorrowedText back.0 (cow_slice_items attrs.0))
@@ -186,8 +186,8 @@ impl<'de> Wire<'de, Global> for ComChangeUser<'de> {
           user = came.0.1.0;
           auth_plugin_data = came.0.1.1.0;
           database = came.0.1.1.1;
-          character_set = kept_field (λ set field. field.0 ≡ set.0) _ (λ set. set)
-              (λ set back. back.0 ≡ set.0) command.character_set back.character_set
+          character_set = kept_field (λ set field. field ≡ set) _ (λ set. set)
+              (λ set back. back ≡ set) command.character_set back.character_set
               (λ set back same. same) came.1.0;
           auth_plugin_name = kept_field (λ name field. IsBorrowedText field.0 (clean name.0)) _
               (λ name. name) (λ name back. IsBorrowedText back.0 (clean name.0))
@@ -201,10 +201,10 @@ impl<'de> Wire<'de, Global> for ComChangeUser<'de> {
         (both (u8_text (λ text. text.0) (cow_slice_items command.auth_plugin_data.0))
         (null_text (λ text. text.0) (cow_slice_items command.database.0)))))
         (both (more (λ more. more.0) (λ ctx. Parses (Some 2)
-        (⟦<RawInt<LeU16> as MyDeserialize<'de, Global>>⟧.reads ctx)) tt true
-        command.character_set (λ set field. field.0 ≡ set.0) (λ set. le_bytes 2 set.0)
-        good.character_set (λ set is. number (λ int. int.0) 2 set.0
-        (subst (OnIf (λ set. set.0 < 2 ^ 16)) is value.character_set)))
+        (⟦<u16 as MyDeserialize<'de, Global>>⟧.reads ctx)) tt true
+        command.character_set (λ set field. field ≡ set) (λ set. le_bytes 2 set)
+        good.character_set (λ set is. number (λ n. n) 2 set
+        (subst (OnIf (λ set. set < 2 ^ 16)) is value.character_set)))
         (both (more (λ more. more.0)
         (⟦<RawBytes<'de, NullBytes> as MyDeserialize<'de, Global>>⟧.reads) tt
         (has (capability_flags_bits ctx) 0x80000) command.auth_plugin_name

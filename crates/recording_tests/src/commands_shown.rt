@@ -45,8 +45,8 @@ impl Shown for ComPing {
 
 impl Shown for ComChangeUser<'_> {
     fn show(&self, fields: &mut Fields) {
-        let character_set = match &self.character_set {
-            Some(number) => Field::Number(number.0 as u64),
+        let character_set = match self.character_set {
+            Some(number) => Field::Number(number as u64),
             None => Field::Missing,
         };
         fields.put_all(&[

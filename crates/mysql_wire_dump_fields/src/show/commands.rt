@@ -24,7 +24,6 @@ use mysql_wire_statements::com_stmt_reset::ComStmtReset;
 use mysql_wire_statements::com_stmt_send_long_data::ComStmtSendLongData;
 use mysql_wire_statements::params::{ParamTypes, StmtParams};
 use std::alloc::{AllocError, Allocator};
-use wire_repr::int::{LeU16, RawInt};
 
 // Without parameters the query stands alone.
 fn attributes_and_query<'a>(packet: &'a ComQueryWithAttributes<'_>) -> Field<'a>
@@ -39,11 +38,11 @@ fn attributes_and_query<'a>(packet: &'a ComQueryWithAttributes<'_>) -> Field<'a>
 }
 
 // The number of a character set, where it is there.
-fn character_set<'a>(name: &'a str, number: &Option<RawInt<LeU16>>) -> Field<'a>
-    ensures { members_in result ≡ row_if (λ number. (name.now, Number number.0)) number.now }
+fn character_set<'a>(name: &'a str, number: Option<u16>) -> Field<'a>
+    ensures { members_in result ≡ row_if (λ number. (name.now, Number number)) number }
 {
     match number {
-        Some(number) => Number(name, number.0 as u64),
+        Some(number) => Number(name, number as u64),
         None => Field::Missing,
     }
 }
@@ -100,7 +99,7 @@ impl Show for ComChangeUser<'_> {
             Text("user", self.user.0.as_slice()),
             Bytes("auth_plugin_data", self.auth_plugin_data.0.as_slice()),
             Text("database", self.database.0.as_slice()),
-            character_set("character_set", &self.character_set),
+            character_set("character_set", self.character_set),
             words_if("auth_plugin_name", &self.auth_plugin_name),
             bytes_if("connect_attrs", &self.connect_attrs),
         ])

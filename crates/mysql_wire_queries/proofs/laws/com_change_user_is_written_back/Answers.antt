@@ -15,7 +15,7 @@ returns c = λ capabilities input packet eaten is read.
     (both_again (u8_text_again (λ text. text.0)) (null_text_again (λ text. text.0)))))))
     (both_of (at_input_of (if_more (side tt true))
     (optional_of (λ command. command.character_set) (λ set. set) _
-    (λ there. exact (number_again (λ int. int.0) 2))))
+    (λ there. exact (number_again (λ n. n) 2))))
     (both_of (at_input_of (if_more (side tt (has bits 0x80000)))
     (optional_of (λ command. command.auth_plugin_name) (λ name. name) _
     (λ there. exact (null_text_again (λ text. text.0)))))
