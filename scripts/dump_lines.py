@@ -1,13 +1,17 @@
 #!/usr/bin/env python3
-"""Runs the built dump on small sessions and on other command lines, and compares its status and what
-it writes.
+"""Runs the built dump on small sessions and on other command lines, and compares its status and
+what it writes: also where a read or a write fails, and where a request for memory is refused, each
+in turn, for which a C compiler is needed.
 
     scripts/dump_lines.py
 
 The last line is 'N passed, M failed'.
 """
 
+import itertools
+import os
 import pathlib
+import shutil
 import subprocess
 import sys
 import tempfile
@@ -71,6 +75,36 @@ SESSIONS = [
      ["client 0 16777216 too large", "client end at 16777224"]),
     ("a chunk of another id", "", b"\xff\xff\xff\0\3" + b" " * (FULL - 1) + b"\1\0\0\2x", None, 5,
      ["client out of sync at 0"]),
+    # the report stands before the answer, and the session where it did
+    ("a report before an answer", "--fields", SELECT,
+     b"\x0f\0\0\1\xff\xff\xff\1\1\2\xc4\x09\0\5index\7\0\0\2\0\0\0\2\0\0\0", 0,
+     ["client 0 9 query", '  query "SELECT 1"', "server 1 15 progress", "  strings 1", "  stage 1",
+      "  max_stage 2", "  progress 2500", '  info "index"', "server 2 7 ok", "  affected_rows 0",
+      "  last_insert_id 0", "  status_flags 0x2", "  warnings 0", "client end at 13",
+      "server end at 30"]),
+    ("the fields of an error", "--fields", SELECT,
+     b'\x16\0\0\1\xff\x28\4#42000syntax "near"', 0,
+     ["client 0 9 query", '  query "SELECT 1"', "server 1 22 error", "  error_code 1064",
+      '  sql_state "42000"', '  error_message "syntax \\"near\\""', "client end at 13",
+      "server end at 26"]),
+    ("the fields of rows", "--fields", SELECT, ROWS, 0,
+     ["client 0 9 query", '  query "SELECT 1"', "server 1 1 column count", "  column_count 1",
+      "server 2 23 column", '  catalog "def"', '  schema ""', '  table ""', '  org_table ""',
+      '  name "1"', '  org_name ""', "  character_set 63", "  column_length 1", "  type 8",
+      "  flags 0x81", "  decimals 0", "server 3 5 eof", "  warnings 0", "  status_flags 0x2",
+      "server 4 2 row", '  0 "1"', "server 5 1 row", "  0 null", "server 6 5 eof", "  warnings 0",
+      "  status_flags 0x2", "client end at 13", "server end at 61"]),
+    ("fields as JSON", "--json --fields", b'\6\0\0\0\2a"\n\xc3\xa9', DONE, 0,
+     ['{"from":"client","id":0,"length":6,"packet":"init db","fields":{"schema":"a\\"\\n\u00e9"}}',
+      '{"from":"server","id":1,"length":7,"packet":"ok","fields":'
+      '{"affected_rows":0,"last_insert_id":0,"status_flags":2,"warnings":0}}',
+      '{"from":"client","end":"end","at":10}', '{"from":"server","end":"end","at":11}']),
+    ("a text that is not UTF-8", "--json --fields", b"\3\0\0\0\2\xff\xfe", None, 0,
+     ['{"from":"client","id":0,"length":3,"packet":"init db","fields":{"schema":{"hex":"fffe"}}}',
+      '{"from":"client","end":"end","at":7}']),
+    # it is written in two parts, and the first is written where the last packet takes memory
+    ("a long text", "", PING * 5000 + b"\xe8\3\0\0\3" + b" " * 999, None, 0,
+     ["client 0 1 ping"] * 5000 + ["client 0 1000 query", "client end at 26004"]),
 ]
 
 # Words that ask for the file `client` with the byte `0e` and an empty file `server`, and the first
@@ -91,22 +125,72 @@ REFUSED = [
 ]
 USAGE = "mysql_wire_dump [--fields] [--json] [--limit BYTES] [client FILE] [server FILE]"
 
+# What refuses a request for memory, and how many of them each session makes at least.
+REFUSER = TOP / "scripts/refused.c"
+LEAST = 6
 
-def run(words, folder):
-    ran = subprocess.run([PROGRAM, *words], cwd=folder, capture_output=True)
-    return ran.returncode, ran.stdout.decode("utf-8", "replace").splitlines(), ran.stderr.decode()
+
+def run(words, folder, **how):
+    ran = subprocess.run([PROGRAM, *words], cwd=folder, stderr=subprocess.PIPE,
+                         **{"stdout": subprocess.PIPE, **how})
+    return ran.returncode, (ran.stdout or b"").decode("utf-8", "replace"), ran.stderr.decode()
+
+
+def given(session, folder):
+    """The words that show a session, whose files are written, and its whole text."""
+    _, options, client, server, _, lines = session
+    words = options.split()
+    for side, data in (("client", client), ("server", server)):
+        if data is not None:
+            (folder / side).write_bytes(data)
+            words += [side, side]
+    return words, "".join(line + "\n" for line in lines)
 
 
 def of_sessions(folder):
     """The name of each session that goes otherwise, or None where it goes as it must."""
-    for name, options, client, server, status, lines in SESSIONS:
-        words = options.split()
-        for side, data in (("client", client), ("server", server)):
-            if data is not None:
-                (folder / side).write_bytes(data)
-                words += [side, side]
+    for session in SESSIONS:
+        words, text = given(session, folder)
         found = run(words, folder)
-        yield None if found[:2] == (status, lines) else "%s: %s" % (name, found)
+        yield None if found[:2] == (session[4], text) else "%s: %s" % (session[0], found)
+
+
+def of_refusals(folder):
+    """The same with each request for memory refused in turn, where there is a C compiler."""
+    compiler = shutil.which("cc")
+    if not compiler:
+        print("no C compiler: no request for memory is refused")
+        return
+    library = folder / "refused.so"
+    subprocess.run([compiler, "-shared", "-fPIC", "-o", library, REFUSER], check=True)
+    for session in SESSIONS:
+        fault = of_requests(session, folder, {**os.environ, "LD_PRELOAD": str(library)})
+        yield "%s: %s" % (session[0], fault) if fault else None
+
+
+def of_requests(session, folder, environment):
+    """What goes otherwise where a request of a session is refused, or None. Each that is refused is
+    told by the status 6, and what was written then is a front of the text."""
+    words, text = given(session, folder)
+    for number in itertools.count():
+        found = run(words, folder, env={**environment, "REFUSED": str(number)})
+        if "refused" not in found[2]:
+            is_right = found == (session[4], text, "") and number >= LEAST
+            return None if is_right else "%d requests, and %s" % (number, found)
+        is_told = found[0] == 6 and found[2] == "refused\nout of memory\n"
+        if not is_told or not text.startswith(found[1]):
+            return "request %d: %s" % (number, found)
+
+
+def of_faults(folder):
+    """The same of reads and writes that fail."""
+    (folder / "client").write_bytes(PING)
+    for words in ("client .", "server .", "client client server .", "server server client ."):
+        found = run(words.split(), folder)
+        yield None if found[0] == 2 else "%s: %s" % (words, found)
+    with open("/dev/full", "wb") as full:
+        found = run(["client", "client"], folder, stdout=full)
+    yield None if found[0] == 2 else "client client > /dev/full: %s" % (found,)
 
 
 def of_words(folder):
@@ -115,22 +199,24 @@ def of_words(folder):
     (folder / "server").write_bytes(b"")
     for words, line in WORDS:
         found = run(words.split(), folder)
-        yield None if (found[0], found[1][:1]) == (0, [line]) else "%s: %s" % (words, found)
+        is_right = found[0] == 0 and found[1].startswith(line + "\n")
+        yield None if is_right else "%s: %s" % (words, found)
     for words in REFUSED:
         found = run(words.split(), folder)
-        yield None if found[:2] == (1, []) and USAGE in found[2] else "%s: %s" % (words, found)
+        yield None if found[:2] == (1, "") and USAGE in found[2] else "%s: %s" % (words, found)
     found = run(["--help"], folder)
-    yield None if found[0] == 0 and USAGE in found[1][0] else "--help: %s" % (found,)
+    yield None if found[0] == 0 and USAGE in found[1] else "--help: %s" % (found,)
     found = run(["client", "missing"], folder)
-    yield None if found[:2] == (2, []) else "client missing: %s" % (found,)
+    yield None if found[:2] == (2, "") else "client missing: %s" % (found,)
 
 
 def main():
     if "--help" in sys.argv:
         print(__doc__.strip())
         return
-    with tempfile.TemporaryDirectory() as folder:
-        found = [*of_sessions(pathlib.Path(folder)), *of_words(pathlib.Path(folder))]
+    with tempfile.TemporaryDirectory() as name:
+        folder = pathlib.Path(name)
+        found = [*of_sessions(folder), *of_refusals(folder), *of_faults(folder), *of_words(folder)]
     wrong = [fault for fault in found if fault]
     for fault in wrong:
         print("FAILED", fault)

@@ -1,262 +1,227 @@
-// The commands with each read, each write and each request for memory failing in turn.
+// The commands with each read, each write, the flush and each request for memory failing in turn.
 
-use crate::run::{Memory, each_goes, end_of, run};
-use refusing_allocator::NEVER;
-use std::io;
-use std::io::{ErrorKind, Write};
+use crate::run::{Faults, NO_FAULT, run};
+use std::alloc::Global;
+use std::io::ErrorKind;
 use std::test::Fail;
-use test_support::fixture::Heap;
-use test_support::readers::OneByOne;
+use test_support::facts::{no_row, same, wrong_row};
 
-// Takes so many bytes a write, and this many in all; then it takes none, or fails. The first write
-// may be interrupted. A flush succeeds or fails as told.
+// A command line, and how it ends.
 #[derive(Clone, Copy)]
-struct Narrow {
-    at_once: usize,
-    room: usize,
-    fails: bool,
-    interrupts: bool,
-    flushes: bool,
+struct Row<'a> {
+    words: &'a [&'a str],
+    input: &'a [u8],
+    // How many reads of one byte each it makes.
+    reads: usize,
+    status: u8,
+    text: &'a [u8],
+    // How many bytes of the text are written at most where a read fails.
+    most: usize,
+    // How many requests for memory it makes at least.
+    requests: usize,
 }
-
-const WIDE: Narrow = Narrow {
-    at_once: 99,
-    room: 99,
-    fails: false,
-    interrupts: false,
-    flushes: true,
-};
-
-impl Write for Narrow {
-    fn write(&mut self, buf: &[u8]) -> io::Result<usize> {
-        if self.interrupts {
-            self.interrupts = false;
-            return Err(io::Error::from(ErrorKind::Interrupted));
-        }
-        if self.fails & (self.room == 0) {
-            return Err(io::Error::from(ErrorKind::Other));
-        }
-        let count = buf.len().min(self.at_once).min(self.room);
-        self.room -= count;
-        Ok(count)
-    }
-
-    fn flush(&mut self) -> io::Result<()> {
-        if self.flushes {
-            Ok(())
-        } else {
-            Err(io::Error::from(ErrorKind::Other))
-        }
-    }
-}
-
-// The line, the input, how many reads they make of one byte each, the status and the text that
-// they end with, and how many bytes of that are written at most where a read fails.
-type Reads<'a> = (&'a str, &'a [u8], usize, u8, &'a [u8], usize);
 
 const MOST: usize = usize::MAX;
 
-const READS: &[Reads] = &[
-    // All input is read, and its end, before anything is written.
-    ("frame 0", b"123", 4, 0, b"\x03\0\0\0123", 0),
-    (
-        "frame 0",
-        b"\x03\0\0\0123",
-        8,
-        0,
-        b"\x07\0\0\0\x03\0\0\0123",
-        0,
-    ),
-    (
-        "chunk",
-        b"\x03\0\0\0123",
-        8,
-        0,
-        b"last 0 3 313233\nrest 0\n",
-        0,
-    ),
-    // The fault is known with the last of these bytes; one read more would fail.
-    (
-        "unframe 1 10",
-        b"\x01\0\0\0a\x01\0\0\x05b",
-        10,
-        5,
-        b"1 61\nout of sync\n",
-        MOST,
-    ),
-    (
-        "unframe 1 1",
-        b"\x01\0\0\0a\x02\0\0\x01",
-        9,
-        4,
-        b"1 61\ntoo large\n",
-        MOST,
-    ),
-    (
-        "unframe 1 1 5 9",
-        b"\x01\0\0\0a\x02\0\0\x01",
-        9,
-        4,
-        b"1 61\ntoo large\n",
-        MOST,
-    ),
-    (
-        "unframe 9 1 5 8",
-        b"\x01\0\0\0a\x02\0\0\x01bc",
-        12,
-        0,
-        b"1 61\n2 6263\nrest 0\n",
-        MOST,
-    ),
-    // Each packet is written as soon as it is whole.
-    ("reframe 3", b"\x03\0\0\0123", 8, 0, b"\x03\0\0\0123", MOST),
-    (
-        "reframe 3",
-        b"\x01\0\0\0a\0\0\0\x05",
-        9,
-        5,
-        b"\x01\0\0\0a",
-        MOST,
-    ),
-];
+const THREE: &[u8] = b"\x03\0\0\0123";
 
-// Whether a row ends so where the read of this number fails so. Where it is made, what was written
-// is a front of the text.
-fn is_read(memory: Memory<'_>, row: Reads<'_>, until_fault: usize, kind: ErrorKind) -> bool {
-    let (line, bytes, reads, wanted, text, most) = row;
-    let mut input = OneByOne {
-        bytes,
-        until_fault,
-        kind,
-    };
-    let mut output = Vec::new(memory.0);
-    let status = run(memory.1, NEVER, line, &mut input, &mut output);
-    let is_front = text.starts_with(output.as_slice());
-    if until_fault < reads {
-        (status == 2) & is_front & (output.len() <= most)
-    } else {
-        (status == wanted) & is_front & (output.len() == text.len())
-    }
-}
-
-// Whether it ends so at each read. An interrupted read is a failed one.
-fn are_read(memory: Memory<'_>, row: Reads<'_>) -> bool {
-    let mut all = true;
-    for until_fault in 0..=row.2 {
-        all &= is_read(memory, row, until_fault, ErrorKind::Other);
-        all &= is_read(memory, row, until_fault, ErrorKind::Interrupted);
-    }
-    all
-}
-
-#[test]
-fn each_read_fails_in_turn(rt: HostRuntime) -> Result<(), Fail> {
-    each_goes(rt.alloc(), READS, are_read)
-}
-
-// The line, the input, and how long their output is.
-type Writes<'a> = (&'a str, &'a [u8], usize);
-
-const WRITES: &[Writes] = &[
-    ("frame 0", b"\x03\0\0\0123", 11),
-    ("chunk", b"\x03\0\0\0123", 23),
-    ("unframe 2 3", b"\x03\0\0\0123", 16),
-    ("unframe 2 0 3 3", b"\x03\0\0\0123", 16),
-    ("frame 0", b"123", 7),
-    ("chunk", b"", 12),
-    ("reframe 3", b"\x03\0\0\0123", 7),
-];
-
-fn status_in(heap: &Heap, row: Writes<'_>, output: Narrow) -> u8 {
-    let (line, input, _) = row;
-    let mut input = input;
-    let mut output = output;
-    run(heap, NEVER, line, &mut input, &mut output)
-}
-
-// Whether a row's writes fail where there is too little room, however few bytes a write takes.
-fn fill(heap: &Heap, row: Writes<'_>, at_once: usize, fails: bool) -> bool {
-    let mut all = true;
-    for room in 0..30usize {
-        let wanted = if room < row.2 { 2 } else { 0 };
-        let output = Narrow {
-            at_once,
-            room,
-            fails,
-            ..WIDE
-        };
-        all &= status_in(heap, row, output) == wanted;
-    }
-    all
-}
-
-// Whether a write that is interrupted is made again, but by `reframe`, and a flush that fails is a
-// fault.
-fn is_flushed(heap: &Heap, row: Writes<'_>) -> bool {
-    let mut output = WIDE;
-    output.flushes = false;
-    let fails = status_in(heap, row, output) == 2;
-    output = WIDE;
-    output.interrupts = true;
-    let wanted = if row.0.starts_with("reframe") { 2 } else { 0 };
-    fails & (status_in(heap, row, output) == wanted)
-}
-
-// Whether a row's writes and its flush fail so.
-fn are_written(memory: Memory<'_>, row: Writes<'_>) -> bool {
-    let heap = memory.1;
-    let at_once = fill(heap, row, 99, false) & fill(heap, row, 99, true);
-    let by_one = fill(heap, row, 1, false) & fill(heap, row, 1, true);
-    at_once & by_one & is_flushed(heap, row)
-}
-
-#[test]
-fn each_write_and_the_flush_fail_in_turn(rt: HostRuntime) -> Result<(), Fail> {
-    each_goes(rt.alloc(), WRITES, are_written)
-}
-
-// The line, and how many requests for memory they make at least.
-type Requests<'a> = (&'a str, u64);
-
-const REQUESTS: &[Requests] = &[
-    // The input, as it grows, and the framing.
-    ("frame 0", 2),
-    // The input, the payload, and the text as it grows.
-    ("chunk", 3),
+const ROWS: &[Row] = &[
+    // All input is read, and its end, before anything is written. The requests are for the input,
+    // as it grows, and for the framing, or the payload and the text.
+    Row {
+        words: &["frame", "0"],
+        input: b"123",
+        reads: 4,
+        status: 0,
+        text: THREE,
+        most: 0,
+        requests: 2,
+    },
+    Row {
+        words: &["frame", "0"],
+        input: THREE,
+        reads: 8,
+        status: 0,
+        text: b"\x07\0\0\0\x03\0\0\0123",
+        most: 0,
+        requests: 2,
+    },
+    Row {
+        words: &["chunk"],
+        input: b"",
+        reads: 1,
+        status: 0,
+        text: b"none\nrest 0\n",
+        most: 0,
+        requests: 1,
+    },
+    Row {
+        words: &["chunk"],
+        input: THREE,
+        reads: 8,
+        status: 0,
+        text: b"last 0 3 313233\nrest 0\n",
+        most: 0,
+        requests: 3,
+    },
     // The pieces, what is unread, each packet, the list of packets, and each text.
-    ("unframe 2 3", 6),
-    ("unframe 2 0 3 3", 6),
-    // Room for a read, the packet, and its framing.
-    ("reframe 3", 3),
+    Row {
+        words: &["unframe", "2", "3"],
+        input: THREE,
+        reads: 8,
+        status: 0,
+        text: b"3 313233\nrest 0\n",
+        most: MOST,
+        requests: 6,
+    },
+    Row {
+        words: &["unframe", "2", "0", "3", "3"],
+        input: THREE,
+        reads: 8,
+        status: 0,
+        text: b"3 313233\nrest 0\n",
+        most: MOST,
+        requests: 6,
+    },
+    // The fault is known with the last of these bytes; one read more would fail.
+    Row {
+        words: &["unframe", "1", "10"],
+        input: b"\x01\0\0\0a\x01\0\0\x05b",
+        reads: 10,
+        status: 5,
+        text: b"1 61\nout of sync\n",
+        most: MOST,
+        requests: 6,
+    },
+    Row {
+        words: &["unframe", "1", "1"],
+        input: b"\x01\0\0\0a\x02\0\0\x01",
+        reads: 9,
+        status: 4,
+        text: b"1 61\ntoo large\n",
+        most: MOST,
+        requests: 6,
+    },
+    Row {
+        words: &["unframe", "1", "1", "5", "9"],
+        input: b"\x01\0\0\0a\x02\0\0\x01",
+        reads: 9,
+        status: 4,
+        text: b"1 61\ntoo large\n",
+        most: MOST,
+        requests: 6,
+    },
+    Row {
+        words: &["unframe", "9", "1", "5", "8"],
+        input: b"\x01\0\0\0a\x02\0\0\x01bc",
+        reads: 12,
+        status: 0,
+        text: b"1 61\n2 6263\nrest 0\n",
+        most: MOST,
+        requests: 6,
+    },
+    // Each packet is written as soon as it is whole. Room for a read, the packet, and its framing.
+    Row {
+        words: &["reframe", "3"],
+        input: THREE,
+        reads: 8,
+        status: 0,
+        text: THREE,
+        most: MOST,
+        requests: 3,
+    },
+    Row {
+        words: &["reframe", "3"],
+        input: b"\x01\0\0\0a\0\0\0\x05",
+        reads: 9,
+        status: 5,
+        text: b"\x01\0\0\0a",
+        most: MOST,
+        requests: 3,
+    },
 ];
 
-// Whether request number `nth` is met and refused, and the status is 6 then. None where the line
-// ends otherwise. The output is kept elsewhere.
-fn is_refused(memory: Memory<'_>, line: &str, nth: u64) -> Option<bool> {
-    let ending = end_of(memory, nth, line, b"\x03\0\0\0123");
-    let refused = memory.1.has_refused();
-    let is_right = if refused {
-        ending.status == 6
+// Whether a row ends with this status where this fails. Where it isn't the row's own, a front of its
+// text is written, of so many bytes at most.
+fn ends(alloc: Global, row: Row<'_>, faults: Faults, wanted: u8, most: usize) -> bool {
+    let (status, text, _) = run(alloc, row.words, row.input, faults);
+    let is_front = row.text.starts_with(text.as_slice());
+    let is_long = if wanted == row.status {
+        text.len() == row.text.len()
     } else {
-        (ending.status == 0) & !ending.output.is_empty()
+        text.len() <= most
     };
-    is_right.then_some(refused)
+    (status == wanted) & is_front & is_long
 }
 
-// Whether at least so many requests are refused, each in turn, before the line succeeds.
-fn are_refused(memory: Memory<'_>, row: Requests<'_>) -> bool {
-    let (line, least) = row;
-    for nth in 0..100u64 {
-        match is_refused(memory, line, nth) {
-            Some(true) => {}
-            Some(false) => return nth >= least,
-            None => return false,
-        }
+// Whether it does where the read of this number fails so, if it is made.
+fn is_read(alloc: Global, row: Row<'_>, read: usize, kind: ErrorKind) -> bool {
+    let mut faults = NO_FAULT;
+    faults.read = read;
+    faults.kind = kind;
+    let wanted = if read < row.reads { 2 } else { row.status };
+    ends(alloc, row, faults, wanted, row.most)
+}
+
+// Whether it does where writes of so many bytes take none or fail behind so many, if there are more.
+fn is_written(alloc: Global, row: Row<'_>, room: usize, at_once: usize, fails: bool) -> bool {
+    let mut faults = NO_FAULT;
+    faults.at_once = at_once;
+    faults.room = room;
+    faults.fails = fails;
+    let wanted = if room < row.text.len() { 2 } else { row.status };
+    ends(alloc, row, faults, wanted, room)
+}
+
+// Whether it does where a flush fails.
+fn is_flushed(alloc: Global, row: Row<'_>) -> bool {
+    let mut faults = NO_FAULT;
+    faults.flushes = false;
+    ends(alloc, row, faults, 2, MOST)
+}
+
+// Whether it does where the first write is interrupted, which only `reframe` takes for a failed one.
+fn is_interrupted(alloc: Global, row: Row<'_>) -> bool {
+    let mut faults = NO_FAULT;
+    faults.interrupts = true;
+    let is_met = matches!(row.words, ["reframe", _]);
+    ends(alloc, row, faults, if is_met { 2 } else { row.status }, 0)
+}
+
+// No row makes so many reads or requests, or writes so many bytes.
+const COUNT: usize = 30;
+
+// Whether it does where the request of this number is refused, if it is made.
+fn is_refused(alloc: Global, row: Row<'_>, number: usize) -> bool {
+    let mut faults = NO_FAULT;
+    faults.request = number as u64;
+    let (status, text, refused) = run(alloc, row.words, row.input, faults);
+    if refused {
+        (number < COUNT) & (status == 6) & row.text.starts_with(text.as_slice())
+    } else {
+        (number >= row.requests) & (status == row.status) & same(text.as_slice(), row.text)
     }
-    false
+}
+
+// Whether it does where the read or the write of this number fails in one of two ways.
+fn is_met(alloc: Global, row: Row<'_>, number: usize, kind: ErrorKind, fails: bool) -> bool {
+    let at_once = is_written(alloc, row, number, 99, fails);
+    let by_one = is_written(alloc, row, number, 1, fails);
+    at_once & by_one & is_read(alloc, row, number, kind)
+}
+
+// Whether a row tells of each fault.
+fn are_told(alloc: Global, row: Row<'_>) -> bool {
+    let mut all = is_flushed(alloc, row) & is_interrupted(alloc, row);
+    for number in 0..=COUNT {
+        all &= is_met(alloc, row, number, ErrorKind::Other, false);
+        all &= is_met(alloc, row, number, ErrorKind::Interrupted, true);
+        all &= is_refused(alloc, row, number);
+    }
+    all
 }
 
 #[test]
-fn each_request_for_memory_is_refused_in_turn(rt: HostRuntime) -> Result<(), Fail> {
-    each_goes(rt.alloc(), REQUESTS, are_refused)
+fn each_fault_is_told(rt: HostRuntime) -> Result<(), Fail> {
+    no_row(wrong_row(rt.alloc(), ROWS, are_told))
 }

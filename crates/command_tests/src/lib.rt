@@ -6,6 +6,4 @@ mod faults;
 #[cfg(test)]
 mod reads;
 #[cfg(test)]
-mod rows;
-#[cfg(test)]
 mod run;

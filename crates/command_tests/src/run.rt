@@ -1,18 +1,73 @@
-// A command line, run.
+// The words of a command line, run over a reader and a writer that fail where they are told to.
 
 use mysql_wire_commands::arguments::run_words;
 use refusing_allocator::{NEVER, Refusing};
 use std::alloc::{Allocator, Global};
-use std::io::{Read, Write};
-use std::test::Fail;
-use test_support::facts::{no_row, wrong_row};
-use test_support::fixture::Heap;
+use std::io;
+use std::io::{ErrorKind, Write};
+use test_support::readers::OneByOne;
 
-// The words of a command line, as a shell gives them to the program: `''` is one of no letters.
-fn given<A: Allocator + Copy>(alloc: A, line: &str) -> Vec<String<A>, A> {
+/// What fails.
+#[derive(Clone, Copy)]
+pub struct Faults {
+    /// The read of this number, counted from 0, fails or is interrupted.
+    pub read: usize,
+    pub kind: ErrorKind,
+    /// A write takes so many bytes at most; behind this many in all it takes none, or fails.
+    pub at_once: usize,
+    pub room: usize,
+    pub fails: bool,
+    /// The first write is interrupted.
+    pub interrupts: bool,
+    pub flushes: bool,
+    /// The request for memory of this number, counted from 0, is refused.
+    pub request: u64,
+}
+
+pub const NO_FAULT: Faults = Faults {
+    read: usize::MAX,
+    kind: ErrorKind::Other,
+    at_once: usize::MAX,
+    room: usize::MAX,
+    fails: false,
+    interrupts: false,
+    flushes: true,
+    request: NEVER,
+};
+
+// Keeps what it takes.
+#[derive(Drop)]
+struct Output {
+    text: Vec<u8>,
+    faults: Faults,
+}
+
+impl Write for Output {
+    fn write(&mut self, buf: &[u8]) -> io::Result<usize> {
+        if self.faults.interrupts {
+            self.faults.interrupts = false;
+            return Err(io::Error::from(ErrorKind::Interrupted));
+        }
+        if self.faults.fails & (self.faults.room == 0) {
+            return Err(io::Error::from(ErrorKind::Other));
+        }
+        let count = buf.len().min(self.faults.at_once).min(self.faults.room);
+        self.faults.room -= count;
+        self.text.write(&buf[..count])
+    }
+
+    fn flush(&mut self) -> io::Result<()> {
+        if self.faults.flushes {
+            Ok(())
+        } else {
+            Err(io::Error::from(ErrorKind::Other))
+        }
+    }
+}
+
+fn words_of<A: Allocator + Copy>(alloc: A, words: &[&str]) -> Vec<String<A>, A> {
     let mut given = Vec::new(alloc);
-    for word in line.split_whitespace() {
-        let word = if word == "''" { "" } else { word };
+    for word in words {
         if let Ok(word) = word.to_string(alloc) {
             let _ = given.push(word);
         }
@@ -20,66 +75,21 @@ fn given<A: Allocator + Copy>(alloc: A, line: &str) -> Vec<String<A>, A> {
     given
 }
 
-// The status of this line, whose command takes its memory of `alloc`, which is the heap.
-fn run_in<A: Allocator + Copy, R: Read, W: Write>(
-    heap: &Heap,
-    alloc: A,
-    nth: u64,
-    line: &str,
-    input: &mut R,
-    output: &mut W,
-) -> u8 {
-    heap.refuse(NEVER);
-    let given = given(alloc, line);
-    heap.refuse(nth);
-    let (status, _, _) = run_words(alloc, given.as_slice(), input, output);
-    status
-}
-
-/// The status of this line. Request number `nth` for memory is refused, counted from the first of
-/// the command.
-pub fn run<R: Read, W: Write>(
-    heap: &Heap,
-    nth: u64,
-    line: &str,
-    input: &mut R,
-    output: &mut W,
-) -> u8 {
-    run_in(heap, heap, nth, line, input, output)
-}
-
-/// How a command line ended: its status, how many bytes of its input are unread, and its output.
-#[derive(Drop)]
-pub struct Ending {
-    pub status: u8,
-    pub left: usize,
-    pub output: Vec<u8>,
-}
-
-/// What tests run command lines with: the memory that their output takes, and the heap of the
-/// commands.
-pub type Memory<'h> = (Global, &'h Heap);
-
-/// How this line ends over these bytes, with a request refused as by `run`.
-pub fn end_of(memory: Memory<'_>, nth: u64, line: &str, bytes: &[u8]) -> Ending {
-    let (alloc, heap) = memory;
-    let mut input = bytes;
-    let mut output = Vec::new(alloc);
-    let status = run(heap, nth, line, &mut input, &mut output);
-    Ending {
-        status,
-        left: input.len(),
-        output,
-    }
-}
-
-/// Fails the test with the number of a row that goes otherwise, if there is one.
-pub fn each_goes<T, F>(alloc: Global, rows: &[T], goes: F) -> Result<(), Fail>
-where
-    T: Copy,
-    F: Copy + FnOnce(Memory<'_>, T) -> bool,
-    requires { F.IsAlwaysCallable goes }
-{
+/// The status of these words, and what they wrote, where they read a byte at a time; and whether a
+/// request for memory was refused.
+pub fn run(alloc: Global, words: &[&str], bytes: &[u8], faults: Faults) -> (u8, Vec<u8>, bool) {
+    let input = OneByOne {
+        bytes,
+        until_fault: faults.read,
+        kind: faults.kind,
+    };
+    let output = Output {
+        text: Vec::new(alloc),
+        faults,
+    };
     let heap = Refusing::new(alloc, NEVER);
-    no_row(wrong_row((alloc, &heap), rows, goes))
+    let words = words_of(&heap, words);
+    heap.refuse(faults.request);
+    let (status, _, output) = run_words(&heap, words.as_slice(), input, output);
+    (status, output.text, heap.has_refused())
 }

@@ -99,16 +99,11 @@ where
     let eight: List<'de, RawInt<LeU16>> = (two, b"\x02\0\0\0\0\0\0\0\x01\0\x02\0\xff", 12, 8);
     let bare: List<'de, RawInt<LeU16>> = (two, b"\x01\0\x02\0\xff", 4, WHOLE);
     let varying: List<'de, RawInt<VarLen>> = (&[], b"\0\0\0\0\xff", 4, WHOLE);
-    let no_four: &[Refused<'de, ()>] = FOUR;
-    let no_eight: &[Refused<'de, ()>] = EIGHT;
-    let no_bare: &[Refused<'de, usize>] = BARE;
-    let no_varying: &[Refused<'de, ()>] = VARYING;
-    let nothing: &[Refused<'de, ()>] = &[];
-    let mut all = is_list_of_numbers::<LeU16, LeU32, A>(heap, alloc, (), four, no_four);
-    all &= is_list_of_numbers::<LeU16, LeU32, A>(heap, alloc, (), none, nothing);
-    all &= is_list_of_numbers::<LeU16, LeU64, A>(heap, alloc, (), eight, no_eight);
-    all &= is_list_of_numbers::<LeU16, Unknown, A>(heap, alloc, 2, bare, no_bare);
-    all & is_list_of_numbers::<VarLen, LeU32, A>(heap, alloc, (), varying, no_varying)
+    let mut all = is_list_of_numbers::<LeU16, LeU32, A>(heap, alloc, (), four, FOUR);
+    all &= is_list_of_numbers::<LeU16, LeU32, A>(heap, alloc, (), none, &[]);
+    all &= is_list_of_numbers::<LeU16, LeU64, A>(heap, alloc, (), eight, EIGHT);
+    all &= is_list_of_numbers::<LeU16, Unknown, A>(heap, alloc, 2, bare, BARE);
+    all & is_list_of_numbers::<VarLen, LeU32, A>(heap, alloc, (), varying, VARYING)
 }
 
 // ---- lists of other elements
@@ -131,10 +126,8 @@ where
 {
     let none: List<'de, Skip<0>> = (&[Skip, Skip, Skip], b"\x03\0\0\0", 4, WHOLE);
     let types: List<'de, Const<ColumnType, u8>> = (types, b"\x01\0\0\0\xf5\0", 5, 4);
-    let no_types: &[Refused<'de, ()>] = NO_TYPES;
-    let nothing: &[Refused<'de, ()>] = &[];
-    let mut all = is_list::<Skip<0>, LeU32, A>(heap, alloc, (), none, nothing);
-    all & is_list::<Const<ColumnType, u8>, LeU32, A>(heap, alloc, (), types, no_types)
+    let mut all = is_list::<Skip<0>, LeU32, A>(heap, alloc, (), none, &[]);
+    all & is_list::<Const<ColumnType, u8>, LeU32, A>(heap, alloc, (), types, NO_TYPES)
 }
 
 // Two texts, with one byte behind them.

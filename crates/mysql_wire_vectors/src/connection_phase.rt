@@ -1,4 +1,4 @@
-//! `connection_examples`: both ends of a connection, and the client's side on a recorded greeting.
+//! `connection_examples`: both ends of a connection phase, each over what the other sends.
 
 ghost use Rattle.std.specs.Prelude.{◌++◌};
 
@@ -22,13 +22,26 @@ use test_support::facts::{all_hold, same};
 
 const LIMIT: usize = 1024;
 
-// CLIENT_PROTOCOL_41, CLIENT_SECURE_CONNECTION and CLIENT_PLUGIN_AUTH.
+// What MariaDB 10.11 can do, and what the client can: CLIENT_PROTOCOL_41,
+// CLIENT_SECURE_CONNECTION and CLIENT_PLUGIN_AUTH, which are then in force.
+const SERVER_FLAGS: u32 = 0x81ff_f7fe;
+
 const FLAGS: u32 = 0x0008_8200;
 
-// What MariaDB 10.11 said to PyMySQL, framed.
-const RECORDED: &[u8] =
+// What the server sends, framed: what MariaDB 10.11 said to PyMySQL, the plugin `other` with the data
+// `uvw`, and an OK.
+const SERVER: &[u8] =
     b"\x64\0\0\0\x0a5.5.5-10.11.19-MariaDB-0+deb12u1\0\x17\0\0\0pf1^feHv\0\xfe\xf7\x2d\x02\0\xff\x81\
-    \x15\0\0\0\0\0\0\x1d\0\0\0<dfUT&_/g>>[\0mysql_native_password\0";
+    \x15\0\0\0\0\0\0\x1d\0\0\0<dfUT&_/g>>[\0mysql_native_password\0\
+    \x0a\0\0\x02\xfeother\0uvw\
+    \x07\0\0\x04\0\0\0\x02\0\0\0";
+
+// What the client sends: the login of the user `u`, and what answers the other plugin. An answer is
+// the plugin's name and data.
+const CLIENT: &[u8] =
+    b"\x62\0\0\x01\0\x82\x08\0\0\x04\0\0\x2d\0\0\0\0\0\0\0\0\0\0\0\0\0\0\0\0\0\0\0\0\0\0\0u\0\
+    \x29mysql_native_passwordpf1^feHv<dfUT&_/g>>[mysql_native_password\0\
+    \x08\0\0\x03otheruvw";
 
 // Answers with the plugin's name and data.
 struct Echo;
@@ -42,28 +55,29 @@ impl Secret for Echo {
         plugin: &[u8],
         plugin_data: &[u8],
     ) -> Result<Vec<u8>, AllocError> {
-        let mut answer = Vec::new(alloc);
-        answer.extend_from_slice(plugin)?;
-        answer.extend_from_slice(plugin_data)?;
-        Ok(answer)
+        let mut answer = Vec::from_slice(alloc, plugin)?;
+        match answer.extend_from_slice(plugin_data) {
+            Ok(()) => Ok(answer),
+            Err(error) => Err(error),
+        }
     }
 }
 
 fn greeting() -> HandshakeV10<'static> {
     HandshakeV10 {
-        server_version: RawBytes::from(b"8".as_slice()),
-        thread_id: 7,
-        auth_plugin_data_part_1: *b"abcdefgh",
+        server_version: RawBytes::from(b"5.5.5-10.11.19-MariaDB-0+deb12u1".as_slice()),
+        thread_id: 0x17,
+        auth_plugin_data_part_1: *b"pf1^feHv",
         filler: 0,
-        capability_flags_1: RawFlags::new(FLAGS & 0xffff),
+        capability_flags_1: RawFlags::new(SERVER_FLAGS & 0xffff),
         character_set: 45,
         status_flags: RawFlags::new(2),
-        capability_flags_2: RawFlags::new(FLAGS & 0xffff_0000),
+        capability_flags_2: RawFlags::new(SERVER_FLAGS & 0xffff_0000),
         auth_plugin_data_len: 21,
         reserved: [0; 6],
-        mariadb_capabilities: RawFlags::new(0),
-        auth_plugin_data_part_2: RawBytes::from(b"ijklmnopqrst\0".as_slice()),
-        auth_plugin_name: Some(Either::Left(RawBytes::from(b"first".as_slice()))),
+        mariadb_capabilities: RawFlags::new(0x1d),
+        auth_plugin_data_part_2: RawBytes::from(b"<dfUT&_/g>>[\0".as_slice()),
+        auth_plugin_name: Some(Either::Left(RawBytes::from(b"mysql_native_password".as_slice()))),
     }
 }
 
@@ -77,81 +91,32 @@ fn login(answer: &[u8]) -> HandshakeResponse41<'_> {
         username: RawBytes::from(b"u".as_slice()),
         auth_response: Either::Right(RawBytes::from(answer)),
         database: None,
-        client_plugin_name: Some(RawBytes::from(b"first".as_slice())),
+        client_plugin_name: Some(RawBytes::from(b"mysql_native_password".as_slice())),
         connect_attrs: None,
         zstd_compression_level: None,
     }
 }
 
+// What answers the plugin that the server begins with; nothing where memory is refused.
+fn answer_of(alloc: Global, greeted: &Greeted<'_>) -> Vec<u8> {
+    let plugin_data = greeted.plugin_data(alloc).unwrap_or(Vec::new(alloc));
+    let answer = Echo.answer(alloc, greeted.plugin_name(), plugin_data.as_slice());
+    answer.unwrap_or(Vec::new(alloc))
+}
+
+fn logs_in(alloc: Global, greeted: Greeted<'_>, wire: &mut BytesMut) -> Option<Waiting> {
+    let answer = answer_of(alloc, &greeted);
+    greeted.log_in(&login(answer.as_slice()), wire).ok()
+}
+
 // The client's first step, on a packet that has come whole.
-fn is_greeted<'a>(alloc: Global, input: &mut ParseBuf<'a>) -> Option<Greeted<'a>> {
+fn begins(alloc: Global, input: &mut ParseBuf<'_>, wire: &mut BytesMut) -> Option<Waiting> {
     let connecting = Connecting::new(LIMIT);
     if !connecting.line.has_packet(input) {
         return None;
     }
     match connecting.receive(alloc, input) {
-        Ok(Greeting::Greeted(greeted)) => Some(greeted),
-        _ => None,
-    }
-}
-
-// What is answered to the plugin that the server begins with.
-fn answer_of(alloc: Global, greeted: &Greeted<'_>) -> Result<Vec<u8>, AllocError> {
-    let plugin_data = greeted.plugin_data(alloc)?;
-    Echo.answer(alloc, greeted.plugin_name(), plugin_data.as_slice())
-}
-
-fn logs_in_by(greeted: Greeted<'_>, answer: &[u8], wire: &mut BytesMut) -> Option<Waiting> {
-    greeted.log_in(&login(answer), wire).ok()
-}
-
-fn logs_in(alloc: Global, greeted: Greeted<'_>, wire: &mut BytesMut) -> Option<Waiting> {
-    match answer_of(alloc, &greeted) {
-        Ok(answer) => logs_in_by(greeted, answer.as_slice(), wire),
-        Err(_) => None,
-    }
-}
-
-// Whether the user logs in by the first plugin's answer.
-fn is_login(sent: &HandshakeResponse41<'_>) -> bool {
-    let is_answer = match &sent.auth_response {
-        Either::Right(answer) => same(answer.as_bytes(), b"firstabcdefghijklmnopqrst"),
-        Either::Left(_) => false,
-    };
-    is_answer & same(sent.username.as_bytes(), b"u") & (sent.client_flag.0 == FLAGS)
-}
-
-fn switches(deciding: Deciding, wire: &mut BytesMut) -> Option<Asking> {
-    let request = AuthSwitchRequest {
-        plugin_name: RawBytes::from(b"other".as_slice()),
-        plugin_data: RawBytes::from(b"uvw".as_slice()),
-    };
-    deciding.switch(&request, wire).ok()
-}
-
-fn switches_if(is_login: bool, deciding: Deciding, wire: &mut BytesMut) -> Option<Asking> {
-    if is_login {
-        switches(deciding, wire)
-    } else {
-        None
-    }
-}
-
-// The server takes the login, and asks for another plugin.
-fn asks(
-    alloc: Global,
-    greeting: server::Greeting,
-    input: &mut ParseBuf<'_>,
-    wire: &mut BytesMut,
-) -> Option<Asking> {
-    if !greeting.line.has_packet(input) {
-        return None;
-    }
-    match greeting.receive(alloc, input) {
-        Ok(First::Login(deciding, sent)) => {
-            let is_login = is_login(&sent);
-            switches_if(is_login, deciding, wire)
-        }
+        Ok(Greeting::Greeted(greeted)) => logs_in(alloc, greeted, wire),
         _ => None,
     }
 }
@@ -167,23 +132,79 @@ fn answers_to(
     asked.answer(alloc, &Echo, plugin, plugin_data, wire).ok()
 }
 
-fn answers(
+fn is_done(logged_in: &LoggedIn, ok: &OkPacket<'_>) -> bool {
+    (logged_in.line.codec.sequence_id() == 0)
+        & (logged_in.capabilities.bits() == FLAGS)
+        & (ok.status_flags.0 == 2)
+}
+
+// The client's next step: it waits once more, or else this says whether it is in.
+fn goes_on(
     alloc: Global,
     waiting: Waiting,
     input: &mut ParseBuf<'_>,
     wire: &mut BytesMut,
-) -> Option<Waiting> {
+) -> Result<Waiting, bool> {
     if !waiting.line.has_packet(input) {
-        return None;
+        return Err(false);
     }
     match waiting.receive(alloc, input) {
-        Ok(Outcome::Switch(asked, request)) => answers_to(alloc, asked, request, wire),
+        Ok(Outcome::Switch(asked, request)) => {
+            answers_to(alloc, asked, request, wire).ok_or(false)
+        }
+        Ok(Outcome::Done(logged_in, ok)) => Err(is_done(&logged_in, &ok)),
+        _ => Err(false),
+    }
+}
+
+// Whether the client is in behind the last that the server sends.
+fn is_in(alloc: Global, wire: &mut BytesMut) -> bool {
+    let mut input = ParseBuf(SERVER);
+    let Some(waiting) = begins(alloc, &mut input, wire) else {
+        return false;
+    };
+    let Ok(waiting) = goes_on(alloc, waiting, &mut input, wire) else {
+        return false;
+    };
+    matches!(goes_on(alloc, waiting, &mut input, wire), Err(true)) & input.is_empty()
+}
+
+fn greets(wire: &mut BytesMut) -> Option<server::Greeting> {
+    Accepted::new(LIMIT).greet(&greeting(), wire).ok()
+}
+
+// Whether the user logs in by the first plugin's answer.
+fn is_login(sent: &HandshakeResponse41<'_>) -> bool {
+    let is_answer = match &sent.auth_response {
+        Either::Right(answer) => same(
+            answer.as_bytes(),
+            b"mysql_native_passwordpf1^feHv<dfUT&_/g>>[",
+        ),
+        Either::Left(_) => false,
+    };
+    is_answer & same(sent.username.as_bytes(), b"u") & (sent.client_flag.0 == FLAGS)
+}
+
+fn takes_login(
+    alloc: Global,
+    greeting: server::Greeting,
+    input: &mut ParseBuf<'_>,
+) -> Option<Deciding> {
+    if !greeting.line.has_packet(input) {
+        return None;
+    }
+    match greeting.receive(alloc, input) {
+        Ok(First::Login(deciding, sent)) => is_login(&sent).then_some(deciding),
         _ => None,
     }
 }
 
-fn is_answer(response: AuthSwitchResponse<'_>) -> bool {
-    same(response.data.as_bytes(), b"otheruvw")
+fn switches(deciding: Deciding, wire: &mut BytesMut) -> Option<Asking> {
+    let request = AuthSwitchRequest {
+        plugin_name: RawBytes::from(b"other".as_slice()),
+        plugin_data: RawBytes::from(b"uvw".as_slice()),
+    };
+    deciding.switch(&request, wire).ok()
 }
 
 fn takes_answer(alloc: Global, asking: Asking, input: &mut ParseBuf<'_>) -> Option<Deciding> {
@@ -191,7 +212,9 @@ fn takes_answer(alloc: Global, asking: Asking, input: &mut ParseBuf<'_>) -> Opti
         return None;
     }
     match asking.receive(alloc, input) {
-        Ok((deciding, response)) => is_answer(response).then_some(deciding),
+        Ok((deciding, response)) => {
+            same(response.data.as_bytes(), b"otheruvw").then_some(deciding)
+        }
         Err(_) => None,
     }
 }
@@ -208,128 +231,40 @@ fn accepts(deciding: Deciding, wire: &mut BytesMut) -> Option<server::LoggedIn> 
     deciding.accept(&ok, wire).ok()
 }
 
-fn is_done(logged_in: LoggedIn, ok: OkPacket<'_>) -> bool {
+// Whether the server lets the client in behind the last that it sends.
+fn lets_in(alloc: Global, wire: &mut BytesMut) -> bool {
+    let mut input = ParseBuf(CLIENT);
+    let Some(greeting) = greets(wire) else {
+        return false;
+    };
+    let Some(deciding) = takes_login(alloc, greeting, &mut input) else {
+        return false;
+    };
+    let Some(asking) = switches(deciding, wire) else {
+        return false;
+    };
+    let Some(deciding) = takes_answer(alloc, asking, &mut input) else {
+        return false;
+    };
+    let Some(logged_in) = accepts(deciding, wire) else {
+        return false;
+    };
     (logged_in.line.codec.sequence_id() == 0)
         & (logged_in.capabilities.bits() == FLAGS)
-        & (ok.status_flags.0 == 2)
+        & input.is_empty()
 }
 
-fn is_in(alloc: Global, waiting: Waiting, input: &mut ParseBuf<'_>) -> bool {
-    if !waiting.line.has_packet(input) {
-        return false;
-    }
-    match waiting.receive(alloc, input) {
-        Ok(Outcome::Done(logged_in, ok)) => is_done(logged_in, ok),
-        _ => false,
-    }
-}
-
-// The id in the first header.
-fn id_of(wire: &BytesMut) -> Option<u8> {
-    wire.as_slice().get(3).copied()
-}
-
-fn greets(hello: &mut BytesMut) -> Option<server::Greeting> {
-    Accepted::new(LIMIT).greet(&greeting(), hello).ok()
-}
-
-// The client logs in over a greeting that has come.
-fn answers_greeting(alloc: Global, hello: &[u8], first: &mut BytesMut) -> Option<Waiting> {
-    match is_greeted(alloc, &mut ParseBuf(hello)) {
-        Some(greeted) => logs_in(alloc, greeted, first),
-        None => None,
-    }
-}
-
-// Both ends up to the second plugin, each over what the other sent.
-fn both_begin(
-    alloc: Global,
-    hello: &mut BytesMut,
-    first: &mut BytesMut,
-    request: &mut BytesMut,
-) -> Option<(Waiting, Asking)> {
-    let greeting = greets(hello)?;
-    let waiting = answers_greeting(alloc, hello.as_slice(), first)?;
-    let asking = asks(alloc, greeting, &mut ParseBuf(first.as_slice()), request)?;
-    Some((waiting, asking))
-}
-
-// And from there on: whether the client is in, and whether the server's next id is 0.
-fn both_end(
-    alloc: Global,
-    (waiting, asking): (Waiting, Asking),
-    request: &mut BytesMut,
-    second: &mut BytesMut,
-    verdict: &mut BytesMut,
-) -> Option<[bool; 2]> {
-    let waiting = answers(alloc, waiting, &mut ParseBuf(request.as_slice()), second)?;
-    let deciding = takes_answer(alloc, asking, &mut ParseBuf(second.as_slice()))?;
-    let logged_in = accepts(deciding, verdict)?;
-    Some([
-        is_in(alloc, waiting, &mut ParseBuf(verdict.as_slice())),
-        logged_in.line.codec.sequence_id() == 0,
-    ])
-}
-
-// Whether the packets that were sent bear the ids from 0 on.
-fn have_ids([hello, first, request, second, verdict]: [&BytesMut; 5]) -> bool {
-    let ids = [
-        id_of(hello),
-        id_of(first),
-        id_of(request),
-        id_of(second),
-        id_of(verdict),
-    ];
-    ids == [Some(0), Some(1), Some(2), Some(3), Some(4)]
-}
-
-fn both_ends(alloc: Global) -> [bool; 3] {
-    let mut hello = BytesMut::new(alloc);
-    let mut first = BytesMut::new(alloc);
-    let mut request = BytesMut::new(alloc);
-    let mut second = BytesMut::new(alloc);
-    let mut verdict = BytesMut::new(alloc);
-    let ends = match both_begin(alloc, &mut hello, &mut first, &mut request) {
-        Some(states) => both_end(alloc, states, &mut request, &mut second, &mut verdict),
-        None => None,
-    };
-    let [is_in, begins_again] = ends.unwrap_or([false; 2]);
-    let have_ids = have_ids([&hello, &first, &request, &second, &verdict]);
-    [is_in, begins_again, have_ids]
+// Whether each end gets through, and sends what the other is given.
+fn both_ends(alloc: Global) -> [bool; 4] {
+    let mut wire = BytesMut::new(alloc);
+    let is_in = is_in(alloc, &mut wire);
+    let is_client = same(wire.as_slice(), CLIENT);
+    wire.clear();
+    let lets_in = lets_in(alloc, &mut wire);
+    [is_in, is_client, lets_in, same(wire.as_slice(), SERVER)]
 }
 
 #[test]
 fn both_ends_go_through_the_connection_phase(rt: HostRuntime) -> Result<(), Fail> {
     all_hold(&both_ends(rt.alloc()))
-}
-
-// Whether this is answered to the plugin that the server begins with.
-fn is_answered(alloc: Global, greeted: &Greeted<'_>, wanted: &[u8]) -> bool {
-    match answer_of(alloc, greeted) {
-        Ok(answer) => same(answer.as_slice(), wanted),
-        Err(_) => false,
-    }
-}
-
-// The client on a greeting that was recorded.
-fn recorded(alloc: Global, wire: &mut BytesMut) -> Option<[bool; 4]> {
-    let mut input = ParseBuf(RECORDED);
-    let greeted = is_greeted(alloc, &mut input)?;
-    let wanted = b"mysql_native_passwordpf1^feHv<dfUT&_/g>>[";
-    let is_answered = is_answered(alloc, &greeted, wanted);
-    let waiting = logs_in(alloc, greeted, wire)?;
-    Some([
-        input.is_empty(),
-        is_answered,
-        id_of(wire) == Some(1),
-        waiting.capabilities.bits() == FLAGS,
-    ])
-}
-
-#[test]
-fn a_recorded_greeting_is_answered(rt: HostRuntime) -> Result<(), Fail> {
-    match recorded(rt.alloc(), &mut BytesMut::new(rt.alloc())) {
-        Some(facts) => all_hold(&facts),
-        None => Err(Fail::new("a step was refused")),
-    }
 }

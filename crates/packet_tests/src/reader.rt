@@ -25,17 +25,45 @@ const TWO: Row = Row {
     ..ROW
 };
 
-// What is said of these where one of the three reads of the first packet fails, of the second, and
-// where the read behind them does.
-const FAILING: &[&[Answer]; 3] = &[
-    &[Answer::Io, Answer::Packet, Answer::Packet, Answer::End],
-    &[Answer::Packet, Answer::Io, Answer::Packet, Answer::End],
-    &[Answer::Packet, Answer::Packet, Answer::Io, Answer::End],
+// Where one of the three reads of the first packet fails.
+const FIRST: Row = Row {
+    answers: &[Answer::Io, Answer::Packet, Answer::Packet, Answer::End],
+    ..TWO
+};
+
+// Of the second.
+const SECOND: Row = Row {
+    answers: &[Answer::Packet, Answer::Io, Answer::Packet, Answer::End],
+    ..TWO
+};
+
+// The read behind them.
+const BEHIND: Row = Row {
+    until_fault: 6,
+    answers: &[Answer::Packet, Answer::Packet, Answer::Io, Answer::End],
+    ..TWO
+};
+
+macro_rules! failing {
+    ($row:ident, $until_fault:literal) => {
+        Row {
+            until_fault: $until_fault,
+            ..$row
+        }
+    };
+}
+
+const FAILING: &[Row] = &[
+    failing!(FIRST, 0),
+    failing!(FIRST, 1),
+    failing!(FIRST, 2),
+    failing!(SECOND, 3),
+    failing!(SECOND, 4),
+    failing!(SECOND, 5),
+    BEHIND,
 ];
 
-const COUNT: usize = 10;
-
-const ROWS: &[Row; COUNT] = &[
+const ROWS: &[Row] = &[
     ROW,
     // Nothing.
     Row {
@@ -143,30 +171,21 @@ fn goes_by_all(alloc: Global, row: &Row) -> bool {
     all
 }
 
-// The row of two packets whose read of this number fails.
-fn failing(until_fault: usize) -> Row<'static> {
-    Row {
-        until_fault,
-        answers: FAILING[until_fault.min(6) / 3],
-        ..TWO
+// The number of a row that goes otherwise by one of them.
+fn wrong_by_all(alloc: Global, rows: &[Row]) -> Option<usize> {
+    let mut wrong = None;
+    for i in 0..rows.len() {
+        if !goes_by_all(alloc, &rows[i]) {
+            wrong = Some(i);
+        }
     }
+    wrong
 }
 
 #[test]
 fn each_reader_goes_as_it_says(rt: HostRuntime) -> Result<(), Fail> {
-    let alloc = rt.alloc();
-    let mut wrong = None;
-    for i in 0..COUNT + 7 {
-        let row = if i < COUNT {
-            ROWS[i]
-        } else {
-            failing(i - COUNT)
-        };
-        if !goes_by_all(alloc, &row) {
-            wrong = Some(i);
-        }
-    }
-    no_row(wrong)
+    no_row(wrong_by_all(rt.alloc(), ROWS))?;
+    no_row(wrong_by_all(rt.alloc(), FAILING))
 }
 
 // A packet of two chunks, which are collected.

@@ -4,7 +4,7 @@ use crate::answers::{answer_by, answer_of};
 use mysql_wire::proto::codec::PacketCodec;
 use mysql_wire::proto::packet_io::{PacketIoError, PacketReader, PacketWriter};
 use refusing_allocator::{NEVER, Refusing};
-use std::alloc::Global;
+use std::alloc::{Allocator, Global};
 use std::io::ErrorKind;
 use test_support::answers::Answer;
 use test_support::facts::same;
@@ -119,18 +119,18 @@ fn codec_at(id: u8, limit: usize) -> PacketCodec {
 /// A reader and its codec, where packets go that are handed out or copied, and a writer to which
 /// they are passed on.
 #[derive(Drop)]
-pub struct Taker<'a> {
+pub struct Taker<'a, A: Allocator + Copy> {
     heap: &'a Heap,
     codec: PacketCodec,
-    reader: PacketReader<Parts<'a>, &'a Heap>,
+    reader: PacketReader<Parts<'a>, A>,
     out: Narrow,
-    writer: PacketWriter<Narrow, &'a Heap>,
+    writer: PacketWriter<Narrow, A>,
     writer_codec: PacketCodec,
 }
 
-impl<'a> Taker<'a> {
+impl<'a, A: Allocator + Copy> Taker<'a, A> {
     /// Nothing is taken yet.
-    pub fn new(heap: &'a Heap, kept: Global, row: &Row<'a>) -> Self {
+    pub fn new(heap: &'a Heap, alloc: A, kept: Global, row: &Row<'a>) -> Self {
         let input = Parts::new(
             row.parts,
             row.at_once,
@@ -141,9 +141,9 @@ impl<'a> Taker<'a> {
         Taker {
             heap,
             codec: codec_at(row.ids.0, row.limit),
-            reader: PacketReader::new(heap, input).unwrap(),
+            reader: PacketReader::new(alloc, input).unwrap(),
             out: Narrow::new(kept, row.room, row.until_refusal, ErrorKind::BrokenPipe),
-            writer: PacketWriter::new(heap, output).unwrap(),
+            writer: PacketWriter::new(alloc, output).unwrap(),
             writer_codec: codec_at(row.ids.1, 0),
         }
     }
@@ -333,8 +333,11 @@ impl Row<'_> {
 }
 
 // Whether packets are taken from a row's reader as it says.
-fn is_taken(heap: &Heap, kept: Global, way: Way, row: &Row) -> bool {
-    let mut taker = Taker::new(heap, kept, row);
+fn is_taken<A>(heap: &Heap, alloc: A, kept: Global, way: Way, row: &Row) -> bool
+where
+    A: Allocator + Copy,
+{
+    let mut taker = Taker::new(heap, alloc, kept, row);
     let all = taker.says_all(way, row) & taker.is_left(row);
     all & taker.ends(row).0
 }
@@ -343,10 +346,10 @@ fn is_taken(heap: &Heap, kept: Global, way: Way, row: &Row) -> bool {
 /// of so many is, of which the last is not made. None is larger than `largest`.
 pub fn goes(alloc: Global, way: Way, row: &Row, requests: u64, largest: usize) -> bool {
     let heap = Refusing::new(alloc, NEVER);
-    let mut all = is_taken(&heap, alloc, way, row) & (heap.largest() <= largest);
+    let mut all = is_taken(&heap, &heap, alloc, way, row) & (heap.largest() <= largest);
     for nth in 0..requests {
         heap.refuse(nth);
-        all &= is_taken(&heap, alloc, way, row);
+        all &= is_taken(&heap, &heap, alloc, way, row);
         all &= !heap.has_refused() | (nth + 1 < requests);
     }
     all
@@ -373,9 +376,15 @@ pub fn wrong_row(
 /// flushed in the end.
 pub type Steps = (Row<'static>, &'static [Step], usize);
 
+// Whether they do, with this memory.
+fn plays_in<A: Allocator + Copy>(heap: &Heap, alloc: A, kept: Global, steps: &Steps) -> bool {
+    let (row, steps, flushes) = steps;
+    let mut taker = Taker::new(heap, alloc, kept, row);
+    taker.goes_on(*steps) & (taker.ends(row) == (true, *flushes))
+}
+
 /// Whether the steps go as they say.
-pub fn plays(alloc: Global, (row, steps, flushes): Steps) -> bool {
+pub fn plays(alloc: Global, steps: Steps) -> bool {
     let heap = Refusing::new(alloc, NEVER);
-    let mut taker = Taker::new(&heap, alloc, &row);
-    taker.goes_on(steps) & (taker.ends(&row) == (true, flushes))
+    plays_in(&heap, &heap, alloc, &steps)
 }

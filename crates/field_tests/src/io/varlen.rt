@@ -26,27 +26,26 @@ fn is_read(row: &Row<'_, u64>) -> bool {
     all
 }
 
-// Whether a number is written as its spelling, where that is known, and read back from what is
-// written, whatever follows, and from nothing shorter.
-fn comes_back(alloc: Global, number: u64, spelling: Option<&[u8]>) -> bool {
+// Whether the row's number is written as its bytes, and read back from them, whatever follows, and
+// from nothing shorter.
+fn comes_back(alloc: Global, row: &Row<'_, u64>) -> bool {
+    let (width, bytes, number) = *row;
     let mut buf = Vec::new(alloc);
-    let mut all = write_varlen_uint(&mut buf, number).is_ok();
-    let width = buf.len();
-    all &= varlen_uint_size(number) == width;
-    all &= same(buf.as_slice(), spelling.unwrap_or(buf.as_slice()));
-    all &= buf.push(0xff).is_ok();
-    all & is_read(&(width, buf.as_slice(), number))
+    let is_put = write_varlen_uint(&mut buf, number).is_ok();
+    let is_sized = varlen_uint_size(number) == width;
+    is_put & is_sized & same(buf.as_slice(), between(bytes, 0, width)) & is_read(row)
 }
 
 const WRITTEN: &[Row<u64>] = &[
-    (1, b"\0", 0),
-    (1, b"\x0a", 5),
-    (1, b"\xfe", 127),
-    (2, b"\x01\x02", 128),
-    (2, b"\xfd\xff", 16383),
-    (3, b"\x03\0\x02", 16384),
-    (8, b"\x7f\xff\xff\xff\xff\xff\xff\xff", (1 << 56) - 1),
-    (9, b"\xff\0\0\0\0\0\0\0\x01", 1 << 56),
+    (1, b"\0\xff", 0),
+    (1, b"\x0a\xff", 5),
+    (1, b"\xfe\xff", 127),
+    (2, b"\x01\x02\xff", 128),
+    (2, b"\xfd\xff\xff", 16383),
+    (3, b"\x03\0\x02\xff", 16384),
+    (8, b"\x7f\xff\xff\xff\xff\xff\xff\xff\xff", (1 << 56) - 1),
+    (9, b"\xff\0\0\0\0\0\0\0\x01\xff", 1 << 56),
+    (9, b"\xff\xff\xff\xff\xff\xff\xff\xff\xff\xff", u64::MAX),
 ];
 
 const LONGER: &[Row<u64>] = &[
@@ -57,19 +56,12 @@ const LONGER: &[Row<u64>] = &[
 
 #[test]
 fn varlen_uints_are_written_and_read(rt: HostRuntime) {
-    let alloc = rt.alloc();
-    let mut all = comes_back(alloc, u64::MAX, None);
-    for (_, bytes, number) in WRITTEN {
-        all &= comes_back(alloc, *number, Some(*bytes));
+    let mut all = true;
+    for row in WRITTEN {
+        all &= comes_back(rt.alloc(), row);
     }
     for row in LONGER {
         all &= is_read(row);
-    }
-    for groups in 0..9u32 {
-        let edge = 1u64 << (7 * groups);
-        for number in [edge - 1, edge, edge + 1] {
-            all &= comes_back(alloc, number, None);
-        }
     }
     assert!(rt; all);
 }

@@ -1,0 +1,219 @@
+#!/usr/bin/env python3
+"""Runs the built program's commands on small inputs, which come as files or read by read, and with
+other command lines, and compares its status, what it writes and what it says on standard error.
+
+    scripts/tool_lines.py
+
+The last line is 'N passed, M failed'.
+"""
+
+import contextlib
+import os
+import pathlib
+import shlex
+import socket
+import subprocess
+import sys
+import tempfile
+
+TOP = pathlib.Path(__file__).resolve().parent.parent
+PROGRAM = TOP / "crates/mysql_wire_tool/out/mysql_wire_tool"
+USAGE = "usage: mysql_wire_tool frame ID | chunk | unframe STEP LIMIT [LATER AT] | reframe LIMIT\n"
+
+# The line, the input, and the status and the text that they end with: of the commands that read all
+# of their input first ..
+WHOLE = [
+    ("frame 0", b"123", 0, b"\3\0\0\x00123"),
+    ("frame 7", b"ab", 0, b"\2\0\0\7ab"),
+    ("frame 255", b"", 0, b"\0\0\0\xff"),
+    ("frame 0000000255", b"", 0, b"\0\0\0\xff"),
+    ("chunk", b"\3\0\0\x00123", 0, b"last 0 3 313233\nrest 0\n"),
+    ("chunk", b"\2\0\0\7ab\0", 0, b"last 7 2 6162\nrest 1\n"),
+    ("chunk", b"\0\0\0\xff", 0, b"last 255 0 -\nrest 0\n"),
+    ("chunk", b"", 0, b"none\nrest 0\n"),
+    ("chunk", b"\2\0\0", 3, b"none\nrest 3\n"),
+    ("chunk", b"\2\0\0\7a", 3, b"none\nrest 5\n"),
+]
+
+# .. and of those that read as they go.
+PIECES = [
+    ("unframe 1 10", b"\1\0\0\0a\0\0\0\1\2\0", 3, b"1 61\n0 -\nrest 2\n"),
+    ("unframe 1 10", b"\1\0\0\0a\1\0\0\5b", 5, b"1 61\nout of sync\n"),
+    ("unframe 9 0", b"\1\0\0\0", 4, b"too large\n"),
+    ("unframe 2 1", b"\1\0\0\0a\2\0\0\1bc", 4, b"1 61\ntoo large\n"),
+    ("unframe 65536 4294967295", b"", 0, b"rest 0\n"),
+    ("unframe 1 10", b"\1\0\0\0a", 0, b"1 61\nrest 0\n"),
+    ("unframe 3 1", b"\1\0\0\0a", 0, b"1 61\nrest 0\n"),
+    ("unframe 3 10", b"\1\0\0\0a\2\0", 3, b"1 61\nrest 2\n"),
+    ("unframe 3 1 5 8", b"\1\0\0\0a\2\0\0\1bc", 0, b"1 61\n2 6263\nrest 0\n"),
+    ("unframe 3 1 5 9", b"\1\0\0\0a\2\0\0\1bc", 4, b"1 61\ntoo large\n"),
+    ("unframe 1 5 0 4", b"\2\0\0\0ab\0\0\0\1\1\0\0\2c", 4, b"2 6162\n0 -\ntoo large\n"),
+    ("unframe 65536 0 4294967295 0", b"\1\0\0\0a", 0, b"1 61\nrest 0\n"),
+    ("unframe 1 1 0 4294967295", b"\1\0\0\0a", 0, b"1 61\nrest 0\n"),
+    ("reframe 10", b"\1\0\0\0a\2\0\0\1b", 3, b"\1\0\0\0a"),
+    ("reframe 10", b"\1\0\0\0a", 0, b"\1\0\0\0a"),
+    ("reframe 0", b"", 0, b""),
+    ("reframe 1", b"\1\0\0\0a\2\0\0\1bc", 4, b"\1\0\0\0a"),
+    ("reframe 4294967295", b"\1\0\0\0a\0\0\0\1\0\0\0\5", 5, b"\1\0\0\0a\0\0\0\1"),
+]
+
+# Lines that ask for no command: nothing is read, and nothing is written.
+OTHER_LINES = [
+    "", "frame", "frame 256", "frame x", "frame ''", "frame +5", "frame -0", "frame 00000000001",
+    "frame 1 2", "chunk 1", "chunk chunk", "Chunk", "unframe 0 1", "unframe 65537 1",
+    "unframe 1 4294967296", "unframe 1 -1", "unframe 1", "unframe 1 1 1", "unframe 0 1 1 1",
+    "unframe 65537 1 1 1", "unframe 1 4294967296 1 1", "unframe 1 1 4294967296 1",
+    "unframe 1 1 1 4294967296", "unframe 1 1 -1 1", "unframe 1 1 1 x", "unframe 1 1 1 1 1",
+    "reframe", "reframe 4294967296", "reframe 1 1",
+]
+
+# One chunk of two bytes, and behind it one of one byte.
+TWO = b"\2\0\0\0ab\1\0\0\1c"
+
+# The limit, and the later limit and the place from which on it holds, if it changes; the input, and
+# the status and the text, whatever the step is.
+STREAMS = [
+    ("1", b"\1\0\0\0a\1\0\0\1b\0\0\0\2", 0, b"1 61\n1 62\n0 -\nrest 0\n"),
+    ("2", b"\1\0\0\0a\3\0\0\x09b", 4, b"1 61\ntoo large\n"),
+    ("3", b"\1\0\0\0a\3\0\0\x09b", 3, b"1 61\nrest 5\n"),
+    ("3", b"\1\0\0\0a\3\0\0\x09bcd", 5, b"1 61\nout of sync\n"),
+    # From the first byte on, and from one behind the end.
+    ("0 2 0", TWO, 0, b"2 6162\n1 63\nrest 0\n"),
+    ("2 0 11", TWO, 0, b"2 6162\n1 63\nrest 0\n"),
+    ("2 0 4294967295", TWO, 0, b"2 6162\n1 63\nrest 0\n"),
+    # From the fourth byte of a header on, and from the byte behind it.
+    ("0 2 3", TWO, 0, b"2 6162\n1 63\nrest 0\n"),
+    ("0 2 4", TWO, 4, b"too large\n"),
+    ("2 0 3", TWO, 4, b"too large\n"),
+    ("2 0 4", TWO, 4, b"2 6162\ntoo large\n"),
+    ("2 0 9", TWO, 4, b"2 6162\ntoo large\n"),
+    ("2 0 10", TWO, 0, b"2 6162\n1 63\nrest 0\n"),
+    # The ends behind a change.
+    ("2 1 6", b"\2\0\0\0ab\1\0\0\5c", 5, b"2 6162\nout of sync\n"),
+    ("2 1 6", b"\2\0\0\0ab\1\0\0\1", 3, b"2 6162\nrest 4\n"),
+    ("2 1 6", b"\2\0\0\0ab\2\0\0\1", 4, b"2 6162\ntoo large\n"),
+]
+
+# A chunk's header, its length, and how its line begins: two digits stand for each byte.
+LENGTHS = [
+    (b"\x0b\0\0\1", 11, b"last 1 11 "),
+    (b"\xff\xff\xff\1", 16777215, b"middle 1 16777215 "),
+]
+
+# The limit, the input, what is written, the steps, and places in the input and behind it: what each
+# read asks for shows in what the program gets.
+READS = [
+    (9, b"\3\0\0\x00123\0\0\0\1", b"3 313233\n0 -\nrest 0\n", [1, 2, 9],
+     [0, 1, 5, 8, 11, 12, 4294967295]),
+    (100000, b"\xa0\x86\1\0" + b"B" * 100000, b"100000 " + b"42" * 100000 + b"\nrest 0\n",
+     [65536], [0, 1, 65535, 65537, 100004, 100005, 4294967295]),
+]
+
+
+def run(line, data, folder):
+    """The status, what was written, what was said on standard error, and how much was read."""
+    (folder / "input").write_bytes(data)
+    with open(folder / "input", "rb") as file:
+        ran = subprocess.run([PROGRAM, *shlex.split(line)], stdin=file, capture_output=True)
+        read = os.lseek(file.fileno(), 0, os.SEEK_CUR)
+    return ran.returncode, ran.stdout, ran.stderr.decode(), read
+
+
+def messages(data, step, at):
+    """What each read is to ask for: a step, or where that would pass this place from before it,
+    what is left up to there. A read takes one message, and the rest of it is lost: where it asks
+    for less, bytes are missing, and where it asks for more, it gets bytes that stand behind."""
+    place = 0
+    while place < len(data):
+        asked = min(step, at - place) if place < at else step
+        piece = data[place:place + asked]
+        yield piece + b"behind" if len(piece) == asked else piece
+        place += asked
+
+
+def run_on_messages(line, given):
+    """The status, what was written, and what was said on standard error."""
+    ours, theirs = socket.socketpair(socket.AF_UNIX, socket.SOCK_SEQPACKET)
+    pipes = {"stdin": theirs, "stdout": subprocess.PIPE, "stderr": subprocess.PIPE}
+    ran = subprocess.Popen([PROGRAM, *shlex.split(line)], **pipes)
+    theirs.close()
+    with ours, contextlib.suppress(OSError):  # where the program has ended
+        for message in given:
+            ours.send(message)
+    output, error = ran.communicate()
+    return ran.returncode, output, error.decode()
+
+
+def goes(line, data, status, text, folder):
+    """What goes otherwise, or None where the line goes as it must."""
+    found = run(line, data, folder)
+    return None if found[:3] == (status, text, "") else shown(found)
+
+
+def shown(found):
+    return ", ".join("%.99r" % (part,) for part in found)
+
+
+def joined(found):
+    """What goes otherwise of these lines."""
+    return "; ".join("%s: %s" % (line, fault) for line, fault in found if fault) or None
+
+
+def of_rows(folder):
+    """The name of each check, and what goes otherwise, or None."""
+    for line, data, status, text in [*WHOLE, *PIECES]:
+        name = "%s of %s: status %d" % (line, data.hex() or "nothing", status)
+        yield name, goes(line, data, status, text, folder)
+    for header, length, front in LENGTHS:
+        data, text = header + b"B" * length, front + b"42" * length + b"\nrest 0\n"
+        yield "chunk of %d bytes" % length, goes("chunk", data, 0, text, folder)
+
+
+def of_streams(folder):
+    """The same of the streams, each in steps of 1 to 15 bytes."""
+    for limits, data, status, text in STREAMS:
+        lines = ["unframe %d %s" % (step, limits) for step in range(1, 16)]
+        found = [(line, goes(line, data, status, text, folder)) for line in lines]
+        yield "unframe STEP %s of %s: status %d" % (limits, data.hex(), status), joined(found)
+
+
+def asks_right(line, data, text, step, at):
+    """What goes otherwise, or None where each read asks for a step, and none from before this place
+    for bytes behind it."""
+    found = run_on_messages(line, messages(data, step, at))
+    return None if found == (0, text, "") else shown(found)
+
+
+def of_reads():
+    """The same of the reads of `unframe`, where the limit doesn't change, and at each place."""
+    for limit, data, text, steps, places in READS:
+        for step in steps:
+            lines = [("unframe %d %d" % (step, limit), 0)]
+            lines += [("unframe %d %d %d %d" % (step, limit, limit, at), at) for at in places]
+            found = [(line, asks_right(line, data, text, step, at)) for line, at in lines]
+            yield "reads of %d bytes by unframe" % step, joined(found)
+
+
+def of_other_lines(folder):
+    """The same of the lines that ask for no command."""
+    for line in OTHER_LINES:
+        found = run(line, b"123", folder)
+        yield "no command: " + line, None if found == (1, b"", USAGE, 0) else shown(found)
+
+
+def main():
+    if "--help" in sys.argv:
+        print(__doc__.strip())
+        return
+    with tempfile.TemporaryDirectory() as name:
+        folder = pathlib.Path(name)
+        found = [*of_rows(folder), *of_streams(folder), *of_reads(), *of_other_lines(folder)]
+    for name, fault in found:
+        print("FAILED %s: %s" % (name, fault) if fault else "ok " + name)
+    failed = sum(1 for _, fault in found if fault)
+    print("%d passed, %d failed" % (len(found) - failed, failed))
+    sys.exit(bool(failed))
+
+
+if __name__ == "__main__":
+    main()
