@@ -44,22 +44,31 @@ const BEHIND: Row = Row {
     ..TWO
 };
 
-macro_rules! failing {
-    ($row:ident, $until_fault:literal) => {
-        Row {
-            until_fault: $until_fault,
-            ..$row
-        }
-    };
-}
-
 const FAILING: &[Row] = &[
-    failing!(FIRST, 0),
-    failing!(FIRST, 1),
-    failing!(FIRST, 2),
-    failing!(SECOND, 3),
-    failing!(SECOND, 4),
-    failing!(SECOND, 5),
+    Row {
+        until_fault: 0,
+        ..FIRST
+    },
+    Row {
+        until_fault: 1,
+        ..FIRST
+    },
+    Row {
+        until_fault: 2,
+        ..FIRST
+    },
+    Row {
+        until_fault: 3,
+        ..SECOND
+    },
+    Row {
+        until_fault: 4,
+        ..SECOND
+    },
+    Row {
+        until_fault: 5,
+        ..SECOND
+    },
     BEHIND,
 ];
 
