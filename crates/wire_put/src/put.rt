@@ -1,6 +1,6 @@
 //! Numbers and texts put into a buffer.
 
-ghost use Rattle.std.specs.Prelude.{◌≡◌, ◌+◌, ◌≤◌, ◌++◌, length, take, OnOk, IfErr};
+ghost use Rattle.std.specs.Prelude.{◌≡◌, ◌+◌, ◌≤◌, ◌++◌, ◌∷◌, [], length, take, OnOk, IfErr};
 ghost use Rattle.std.specs.Int.{cast_unsigned, w32, w64};
 ghost use Rattle.bytes.specs.Filled.{UsesSpare};
 ghost use Rattle.wire_buf.specs.declared.error.WireError.TheVariants.{OutOfMemory};
@@ -13,6 +13,18 @@ use crate::spelling::{four_bytes, nine_bytes, three_bytes};
 use crate::text::{first_bytes, longest_u8_str, longest_u32_str};
 use bytes::BufMut;
 use wire_buf::error::WireError;
+
+// Puts a byte.
+#[inline(always)]
+fn put_byte<B: BufMut>(buf: &mut B, byte: u8) -> Result<(), WireError>
+    ensures ok { OnOk result (B.written buf.new ≡ B.written buf.old ++ byte ∷ []) }
+    ensures err { IfErr result (λ error. (error ≡ OutOfMemory)
+        × (B.written buf.new ≡ B.written buf.old)) }
+    ensures spare { UsesSpare result (B.spare buf.old) (B.spare buf.new) 1 }
+{
+    buf.put_u8(byte)?;
+    Ok(())
+}
 
 // Puts these bytes, in one put.
 #[inline(always)]
@@ -37,7 +49,7 @@ fn put_spelling<B: BufMut>(buf: &mut B, n: u64) -> Result<(), WireError>
     ensures spare { UsesSpare result (B.spare buf.old) (B.spare buf.new) (length (lenenc_bytes n)) }
 {
     if n < 251 {
-        put(buf, &[n as u8])
+        put_byte(buf, n as u8)
     } else if n < 65_536 {
         put(buf, &three_bytes(n))
     } else if n < 16_777_216 {
