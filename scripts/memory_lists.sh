@@ -63,7 +63,8 @@ not_run() {
 
 work=$(mktemp -d)
 trap 'rm -rf "$work"' EXIT
-# (append.rt is for the layers above alone: the facade passes none of it on)
+# (append.rt and wire_values are for the layers above alone: the facade passes on no function of
+# theirs)
 mapfile -t sources < <(cd crates && find "${layers[@]/%//src}" -name '*.rt' ! -name append.rt | sort)
 (cd crates && ../scripts/public_functions.py "${sources[@]}") >"$work/functions" || exit 1
 for kind in within global none twice unread; do

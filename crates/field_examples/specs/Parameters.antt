@@ -3,7 +3,7 @@ use Rattle.std.specs.Prelude.{ℕ, ◌<◌, ◌^◌, ◌≡◌, List, [], ◌++�
 use Rattle.std.specs.Cow.{cow_slice_items}
 use Rattle.std.specs.List.{All}
 use Rattle.std.specs.declared.borrow.CowSlice.{CowSlice}
-use Rattle.mysql_wire.specs.Elements.{AllKept}
+use Rattle.mysql_wire.specs.ElementLaws.{AllKept}
 use Rattle.mysql_wire.specs.WireError.{WireError}
 use Rattle.mysql_wire.specs.Law.{ComesBack, ReadsFixed, Parses-back, Through-back, size-is}
 use Rattle.mysql_wire.specs.Lenenc.{IsLenencOrMark, lenenc_bytes}

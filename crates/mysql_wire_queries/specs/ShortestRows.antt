@@ -4,7 +4,7 @@ use Rattle.std.proofs.Common.{zero, suc, inl, inr, refl, sym, ap, subst, ◌∙�
 use Rattle.std.proofs.Math.Seq.{take-add}
 use Rattle.std.specs.List.{flat_map}
 use Rattle.std.specs.Prelude.{ℕ, ◌≡◌, ◌+◌, List, [], ◌∷◌, ◌++◌, take, drop, Option, Some, None, Result, Ok, Err}
-use Rattle.wire_list.specs.Elements.{ReadsEach, behind}
+use Rattle.wire_values.specs.Elements.{ReadsEach, behind}
 use Rattle.wire_buf.specs.Numbers.{IsBytes}
 use Rattle.wire_buf.specs.Reading.{Through}
 use Rattle.wire_buf.specs.declared.error.WireError.TheVariants.{Other}

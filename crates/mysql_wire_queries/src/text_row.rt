@@ -7,7 +7,7 @@ ghost use Rattle.mysql_wire_packets.specs.Optional.{OnIf};
 ghost use Rattle.mysql_wire_queries.specs.TextValues.{value_of, value_bytes, ReadsValue, SameValue, row_bytes, value-back, row-back};
 ghost use Rattle.std.specs.Cow.{cow_slice_items};
 ghost use Rattle.std.specs.List.{All};
-ghost use Rattle.wire_list.specs.Elements.{AllKept};
+ghost use Rattle.wire_list.specs.ElementLaws.{AllKept};
 
 use std::alloc::{Allocator, Global};
 use wire_buf::error::{InvalidLengthEncodedInteger, WireError};

@@ -1,3 +1,1 @@
 pub mod CountedLemmas
-pub mod ReadLemmas
-pub mod WriteLemmas

@@ -12,7 +12,8 @@ use Rattle.wire_buf.specs.declared.error.WireError.{WireError}
 use Rattle.wire_buf.specs.declared.error.WireError.TheVariants.{UnexpectedEof}
 use Rattle.wire_repr.specs.Law.{ComesBack, seen, Parses-back}
 use Rattle.wire_repr.specs.Texts.{IsOwned}
-use Rattle.wire_list.specs.Elements.{ReadsEach, ReadsAll, EachBack, AllKept, each-back}
+use Rattle.wire_values.specs.Elements.{ReadsEach, ReadsAll}
+use Rattle.wire_list.specs.ElementLaws.{EachBack, AllKept, each-back}
 
 -- the count is read, and then that many values, which are owned
 abbrev pub ReadsCounted : {X Z V : Type 0} → (V → CowSlice X Z) → Result ℕ WireError × ℕ

@@ -1,4 +1,4 @@
 pub mod Copies
-pub mod Elements
+pub mod ElementLaws
 pub mod Numbers
 pub mod Counted

@@ -7,7 +7,8 @@ use Rattle.wire_buf.specs.Reading.{Parses, Through}
 use Rattle.wire_buf.specs.declared.error.WireError.{WireError}
 use Rattle.wire_repr.specs.Law.{ComesBackFrom}
 use Rattle.wire_repr.specs.declared.int.RawInt.{RawInt}
-use Rattle.wire_list.specs.Elements.{AllKept, ReadsAll}
+use Rattle.wire_values.specs.Elements.{ReadsAll}
+use Rattle.wire_list.specs.ElementLaws.{AllKept}
 use Rattle.wire_list.specs.declared.seq.Seq.{Seq}
 
 -- so many are read, one after another

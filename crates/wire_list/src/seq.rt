@@ -8,13 +8,12 @@ ghost use Rattle.wire_buf.specs.Numbers.{le_bytes};
 ghost use Rattle.wire_buf.specs.Reading.{Parses};
 ghost use Rattle.wire_repr.specs.Law.{seen};
 ghost use Rattle.wire_repr.specs.Texts.{IsOwned, IsNotOwned};
+ghost use Rattle.wire_values.specs.Elements.{ReadsAll};
 ghost use Rattle.wire_list.specs.Counted.{ReadsCounted, count_at, count-back, each-laws, sized-values, seq-back, unknown-back, at_most, below_32};
 ghost use Rattle.wire_list.specs.Copies.{IsCopy, OwnsAs, Gains, SameList};
-ghost use Rattle.wire_list.specs.Elements.{ReadsAll, AllKept};
+ghost use Rattle.wire_list.specs.ElementLaws.{AllKept};
 
-mod read;
 mod repr;
-mod write;
 
 pub use repr::{SeqRepr, Unknown};
 use std::alloc::{Allocator, Global};

@@ -4,7 +4,7 @@ ghost use Rattle.std.specs.Prelude.{◌≡◌, ◌<◌, ◌≤◌, ◌^◌, ℕ,
 ghost use Rattle.std.specs.Cow.{cow_slice_items};
 ghost use Rattle.wire_buf.specs.Reading.{Reads, Answers, front_at};
 ghost use Rattle.wire_list.specs.Counted.{ReadsCounted, count_at};
-ghost use Rattle.wire_list.specs.Elements.{AllGood, AllKept};
+ghost use Rattle.wire_list.specs.ElementLaws.{AllGood, AllKept};
 ghost use Rattle.wire_list.specs.Numbers.{AreNumbers, NumbersFrom, ReadsNumbers, counted_bytes, numbers_bytes};
 ghost use Rattle.wire_repr.specs.Law.{ComesBackFrom};
 ghost use Rattle.wire_repr.specs.Texts.{IsBorrowedText, Borrows};

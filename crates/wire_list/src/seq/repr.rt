@@ -6,17 +6,17 @@ ghost use Rattle.wire_buf.specs.declared.error.WireError.{WireError};
 ghost use Rattle.wire_buf.specs.declared.error.WireError.TheVariants.{OutOfMemory};
 ghost use Rattle.wire_buf.specs.Numbers.{le_bytes};
 ghost use Rattle.wire_buf.specs.Reading.{Reads, Parses, Answers};
+ghost use Rattle.wire_values.specs.Elements.{ReadsAll};
 ghost use Rattle.wire_list.specs.Counted.{ReadsCounted, count_at};
-ghost use Rattle.wire_list.specs.Elements.{ReadsAll};
 
-use super::read::read_all;
-use super::write::{write_counted, write_each};
 use std::alloc::Allocator;
 use std::borrow::CowSlice;
 use wire_buf::error::WireError;
 use wire_buf::io::ParseBuf;
 use wire_buf::proto::{MyDeserialize, MySerialize};
 use wire_repr::int::{LeU32, LeU64};
+use wire_values::read::read_all;
+use wire_values::write::{write_counted, write_each};
 
 /// How many values a list has, and how that is written.
 ///

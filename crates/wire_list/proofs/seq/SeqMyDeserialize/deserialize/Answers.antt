@@ -1,7 +1,7 @@
 use Rattle.std.proofs.lemmas.Result.{err_from_is_err_and}
 use Rattle.wire_buf.specs.Reading.{Parses}
 use Rattle.wire_list.specs.declared.seq.Seq.{Seq}
-use Rattle.wire_list.specs.Elements.{ReadsAll}
+use Rattle.wire_values.specs.Elements.{ReadsAll}
 use Rattle.wire_list.proofs.CountedLemmas.{counted-part, counted-refused}
 use Rattle.wire_list.proofs.seq.SeqMyDeserialize.deserialize.Goals as goal
 

@@ -1,6 +1,6 @@
 use Rattle.std.proofs.lemmas.Result.{err_from_is_err_and}
 use Rattle.wire_buf.specs.Reading.{Parses}
-use Rattle.wire_list.specs.Elements.{ReadsAll}
+use Rattle.wire_values.specs.Elements.{ReadsAll}
 use Rattle.wire_list.specs.Counted.{counted-read, counted-failed}
 use Rattle.wire_list.proofs.seq.repr.SeqRepr.deserialize.Goals as goal
 

@@ -1,7 +1,7 @@
 use Rattle.std.proofs.Common.{◌∙◌, ◌++◌}
 use Rattle.std.specs.List.{flat_map}
-use Rattle.wire_field.proofs.WriteLemmas.{put-behind, taken-back}
-use Rattle.wire_list.proofs.seq.write.write_counted.Goals as goal
+use Rattle.wire_values.proofs.WriteLemmas.{put-behind, taken-back}
+use Rattle.wire_values.proofs.write.write_counted.Goals as goal
 
 pub returns-then-is_err : goal.returns-then-is_err
 returns-then-is_err g c =

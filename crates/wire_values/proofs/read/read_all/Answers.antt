@@ -1,8 +1,9 @@
 use Rattle.std.proofs.Common.{rules, ◌≡◌, ◌<◌, Some, None, subst, sym}
 use Rattle.std.specs.Vec.{vec_capacity}
 use Rattle.wire_buf.specs.Reading.{Parses}
-use Rattle.wire_list.specs.Elements.{ReadsAll, ReadsInto, eats-short, eats-none}
-use Rattle.wire_list.proofs.seq.read.read_all.Goals as goal
+use Rattle.wire_values.specs.Elements.{ReadsAll, ReadsInto}
+use Rattle.wire_values.proofs.ReadLemmas.{eats-short, eats-none}
+use Rattle.wire_values.proofs.read.read_all.Goals as goal
 
 pub returns-in-None : goal.returns-in-None
 returns-in-None g c =

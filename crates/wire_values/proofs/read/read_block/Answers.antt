@@ -1,9 +1,8 @@
 use Rattle.std.proofs.Common.{Vec, rules, ◌*◌, ◌<◌, length}
 use Rattle.std.specs.Vec.{vec_capacity, vec_len}
 use Rattle.wire_buf.specs.Reading.{Parses}
-use Rattle.wire_list.specs.Elements.{eats-short_block}
-use Rattle.wire_list.proofs.ReadLemmas.{has-all, too-few, block-read}
-use Rattle.wire_list.proofs.seq.read.read_block.Goals as goal
+use Rattle.wire_values.proofs.ReadLemmas.{has-all, too-few, block-read, eats-short_block}
+use Rattle.wire_values.proofs.read.read_block.Goals as goal
 
 pub returns : goal.returns
 returns g c = block-read (λ values. values.items) (vec_capacity c.reserve.new.self < c.args.count)

@@ -3,7 +3,7 @@
 ghost use Rattle.std.specs.Prelude.{◌≡◌, ◌≤◌, ◌<◌, [], Some, ◌*◌};
 ghost use Rattle.std.specs.Vec.{vec_capacity};
 ghost use Rattle.wire_buf.specs.Reading.{Parses};
-ghost use Rattle.wire_list.specs.Elements.{ReadsEach, ReadsAll, ReadsInto};
+ghost use Rattle.wire_values.specs.Elements.{ReadsEach, ReadsAll, ReadsInto};
 
 use std::alloc::Allocator;
 use wire_buf::error::WireError;

@@ -2,8 +2,8 @@ use Rattle.std.proofs.Common.{◌<◌, ◌∙◌, ap, length}
 use Rattle.std.proofs.lemmas.Result.{err_from_is_err_and}
 use Rattle.std.specs.Vec.{vec_capacity, vec_len}
 use Rattle.wire_buf.specs.Reading.{Parses}
-use Rattle.wire_list.proofs.ReadLemmas.{short-is, one-more, room-stays, same-room, has-room, start-at, refused-at, failed-at, more-at, done-at}
-use Rattle.wire_list.proofs.seq.read.read_each.Goals as goal
+use Rattle.wire_values.proofs.ReadLemmas.{short-is, one-more, room-stays, same-room, has-room, start-at, refused-at, failed-at, more-at, done-at}
+use Rattle.wire_values.proofs.read.read_each.Goals as goal
 
 pub returns-in_err-reserve : goal.returns-in_err-reserve
 returns-in_err-reserve g c =

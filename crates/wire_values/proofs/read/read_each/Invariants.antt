@@ -1,8 +1,8 @@
 use Rattle.std.proofs.Common.{◌≡◌, ◌-◌, ◌≤◌, ◌<◌}
 use Rattle.std.specs.Vec.{vec_capacity, vec_len}
 use Rattle.wire_buf.specs.Reading.{Parses}
-use Rattle.wire_list.specs.Elements.{SoFar}
-use Rattle.wire_list.proofs.seq.read.read_each.Given as goal
+use Rattle.wire_values.proofs.ReadLemmas.{SoFar}
+use Rattle.wire_values.proofs.read.read_each.Given as goal
 
 abbrev pub invariant-loop-i : goal.invariant-loop-i
 invariant-loop-i g l = record {

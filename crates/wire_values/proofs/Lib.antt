@@ -1,0 +1,2 @@
+mod ReadLemmas
+mod WriteLemmas
