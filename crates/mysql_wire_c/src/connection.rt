@@ -5,7 +5,7 @@ ghost use Rattle.wire_codec.specs.Codec.{codec_state};
 ghost use Rattle.wire_codec.specs.Framing.{max_payload, framing};
 ghost use Rattle.wire_codec.specs.Laws.{appended, empty_state};
 ghost use Rattle.wire_codec.specs.InPlace.{HasFront, behind_front};
-ghost use Rattle.mysql_wire_side.specs.Side.{IsReady, IsNumbered, is_lost_at, lent_at, behind_lent};
+ghost use Rattle.mysql_wire_side.specs.Side.{IsReady, is_lost_at, lent_at, behind_lent};
 ghost use Rattle.mysql_wire_side.specs.Answers.{new_connection};
 ghost use Rattle.mysql_wire_c.specs.Decoding.{Decodes, DecodesMany, FeedsFront, HasPacketIn, LendsFrom, LendsInTurn, codec_at};
 ghost use Rattle.mysql_wire_c.specs.Calls.{SetsLimit, unread_count, Encodes, EncodesTo, EncodesHeader, Sends, Resets, SetsId, Numbers};
@@ -59,14 +59,6 @@ pub fn unread(connection: &Connection) -> usize
     }
 }
 
-// The number behind a packet of so many bytes that begins with this one.
-#[tactic(auto, using(crate::proofs::SideLemmas::full_chunk))]
-fn number_behind(id: u8, len: usize) -> u8
-    ensures { result ≡ (id + len / max_payload + 1) % 256 }
-{
-    ((id as usize + len / MAX_PAYLOAD_LEN + 1) % 256) as u8
-}
-
 /// Frames a payload behind the bytes that wait to be sent, numbered on from the packet that was
 /// lent or sent last. `TOO_LARGE` and `NO_MEMORY` change nothing.
 pub fn encode(connection: &mut Connection, payload: &[u8]) -> i32
@@ -74,7 +66,6 @@ pub fn encode(connection: &mut Connection, payload: &[u8]) -> i32
 {
     match set_aside(
         &mut connection.codec,
-        &mut connection.id,
         &mut connection.src,
         &mut connection.dst,
         &mut connection.front,
@@ -82,16 +73,12 @@ pub fn encode(connection: &mut Connection, payload: &[u8]) -> i32
         Ok(()) => {}
         Err(_) => return NO_MEMORY,
     }
-    let len = payload.len();
     let mut payload = payload;
     match connection
         .codec
         .encode(&mut payload, &mut connection.output)
     {
-        Ok(()) => {
-            connection.id = number_behind(connection.id, len);
-            OK
-        }
+        Ok(()) => OK,
         Err(PacketCodecError::PacketTooLarge) => TOO_LARGE,
         Err(_) => NO_MEMORY,
     }
@@ -142,14 +129,12 @@ pub fn set_sequence_id(connection: &mut Connection, id: u8) -> i32
 {
     match set_aside(
         &mut connection.codec,
-        &mut connection.id,
         &mut connection.src,
         &mut connection.dst,
         &mut connection.front,
     ) {
         Ok(()) => {
             connection.codec.set_sequence_id(id);
-            connection.id = id;
             OK
         }
         Err(_) => NO_MEMORY,
@@ -178,7 +163,6 @@ pub fn encode_to(
     };
     match set_aside(
         &mut connection.codec,
-        &mut connection.id,
         &mut connection.src,
         &mut connection.dst,
         &mut connection.front,
@@ -195,13 +179,11 @@ pub fn encode_to(
         put_chunk(seq_id, payload, room);
         let next = seq_id.wrapping_add(1); // as of a header
         connection.codec.set_sequence_id(next);
-        connection.id = next;
         return OK;
     }
     match packet_to_slice(connection.codec.sequence_id(), payload, room) {
         Some((_, id)) => {
             connection.codec.set_sequence_id(id);
-            connection.id = id;
             OK
         }
         None => ROOM_TOO_SMALL,
@@ -226,7 +208,6 @@ pub fn encode_header(connection: &mut Connection, len: usize, header: &mut [u8; 
     }
     match set_aside(
         &mut connection.codec,
-        &mut connection.id,
         &mut connection.src,
         &mut connection.dst,
         &mut connection.front,
@@ -238,7 +219,6 @@ pub fn encode_header(connection: &mut Connection, len: usize, header: &mut [u8; 
     *header = Header { len, seq_id }.bytes();
     let next = seq_id.wrapping_add(1); // after 255 comes 0
     connection.codec.set_sequence_id(next);
-    connection.id = next;
     OK
 }
 
@@ -324,11 +304,11 @@ fn lend_many(
         _ => return,
     }
     let limit = connection.codec.max_allowed_packet;
-    let (packets, len, id) = lend_all(limit, connection.id, bytes, spans);
+    let seq_id = connection.codec.sequence_id();
+    let (packets, len, id) = lend_all(limit, seq_id, bytes, spans);
     *count = packets;
     *used = len;
     connection.codec.set_sequence_id(id);
-    connection.id = id;
 }
 
 // The packet in front of these bytes, where nothing came before it: the connection is behind it
@@ -349,7 +329,6 @@ fn lend_from<'a>(connection: &mut Connection, bytes: &'a [u8]) -> Option<&'a [u8
     }
     let packet = connection.codec.front_packet_in(bytes, &[])?;
     connection.codec.accept_front_in(bytes);
-    connection.id = connection.id.wrapping_add(1);
     Some(packet)
 }
 
@@ -424,8 +403,8 @@ pub fn sequence_id(connection: &Connection) -> i32
     ensures { Numbers result connection.now.side }
 {
     match connection.front {
-        Front::InPlace => connection.id.wrapping_add(1) as i32,
-        Front::Unfinished | Front::Copied => connection.id as i32,
+        Front::InPlace => connection.codec.sequence_id().wrapping_add(1) as i32,
+        Front::Unfinished | Front::Copied => connection.codec.sequence_id() as i32,
         Front::Lost => OUT_OF_SYNC,
     }
 }
@@ -434,15 +413,12 @@ pub fn sequence_id(connection: &Connection) -> i32
 #[inline(always)]
 fn set_aside(
     codec: &mut PacketCodec,
-    id: &mut u8,
     src: &mut BytesMut<Global>,
     dst: &mut Vec<u8, Global>,
     front: &mut Front,
 ) -> Result<(), AllocError>
     requires ready { IsReady front.old (codec_state codec.old src.old.items dst.old.items) }
-    requires numbered { IsNumbered front.old id.old codec.old }
     ensures ready { IsReady front.new (codec_state codec.new src.new.items dst.new.items) }
-    ensures numbered { IsNumbered front.new id.new codec.new }
     ensures apart { OnOk result (front.new ≢ Front.InPlace) }
     ensures memory { OnErr result (front.old ≡ Front.InPlace) }
     ensures lost { is_lost_at front.new ≡ is_lost_at front.old }
@@ -453,7 +429,6 @@ fn set_aside(
 {
     if let Front::InPlace = *front {
         copy_aside(codec, src, dst)?;
-        *id = id.wrapping_add(1);
         *front = Front::Copied;
     }
     Ok(())

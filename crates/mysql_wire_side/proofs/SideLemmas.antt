@@ -2,7 +2,6 @@
 use Rattle.std.proofs.Common.{◌≡◌, ℕ, ◌+◌, ◌≤◌, List, ◌++◌, length, take, drop, refl, sym, ap, ap₂, ◌∙◌, arith, Some, false, length-drop}
 use Rattle.std.proofs.lemmas.List.{take-append-le, drop-append-le}
 use Rattle.wire_buf.specs.Numbers.{le_number}
-use Rattle.wire_codec.specs.Framing.{max_payload, max_payload_is}
 use Rattle.wire_codec.specs.Delivery.{chunk_len}
 use Rattle.wire_codec.specs.Codec.{CodecState}
 use Rattle.wire_codec.specs.InPlace.{front_payload, behind_front}
@@ -57,7 +56,3 @@ found Unfinished state pending side other is = ap (λ (s : Side). s.is_lost) (sy
 found InPlace state pending side other is = ap (λ (s : Side). s.is_lost) (sym is)
 found Copied state pending side other is = ap (λ (s : Side). s.is_lost) (sym is)
 found Lost state pending side other is = absurd (other refl)
-
--- how many bytes a full chunk carries
-pub full_chunk : max_payload ≡ 16777215
-full_chunk = max_payload_is

@@ -1,7 +1,6 @@
 -- One side of a connection, as contracts see it.
-use Rattle.std.specs.Prelude.{◌≡◌, ℕ, List, [], Option, Some, None, Bool, true, false, ⊤}
-use Rattle.wire_codec.specs.declared.codec.packet.PacketCodec.{PacketCodec}
-use Rattle.wire_codec.specs.Codec.{CodecState, expected_id}
+use Rattle.std.specs.Prelude.{ℕ, List, [], Option, Some, None, Bool, true, false, ⊤}
+use Rattle.wire_codec.specs.Codec.{CodecState}
 use Rattle.wire_codec.specs.LimitedRuns.{Aligned}
 use Rattle.wire_codec.specs.InPlace.{HasFront, front_payload, behind_front}
 use Rattle.mysql_wire_side.specs.declared.connection.Front.{Front}
@@ -53,11 +52,6 @@ IsReady Unfinished state = Aligned state
 IsReady InPlace state = HasFront state
 IsReady Copied state = Aligned (emptied state)
 IsReady Lost state = ⊤
-
--- this is the number that the codec expects; where the connection is lost, nothing is known
-abbrev pub IsNumbered : Front → ℕ → PacketCodec → Type 0
-IsNumbered Lost id codec = ⊤
-IsNumbered other id codec = id ≡ expected_id codec
 
 -- the packet that is lent lies where it came
 abbrev pub is_in_place_at : Front → Bool

@@ -1,10 +1,9 @@
 //! One side of a connection: a codec with its buffers, and the packets that come.
 
-ghost use Rattle.std.specs.Prelude.{◌≡◌, ◌≢◌, ◌+◌, ◌-◌, ◌/◌, ◌%◌, None, IfSome, IsSome};
+ghost use Rattle.std.specs.Prelude.{◌≡◌, None, IfSome, IsSome};
 ghost use Rattle.wire_codec.specs.Codec.{codec_state, Stands};
-ghost use Rattle.wire_codec.specs.Framing.{max_payload};
 ghost use Rattle.wire_codec.specs.InPlace.{HasFront};
-ghost use Rattle.mysql_wire_side.specs.Side.{IsReady, IsNumbered};
+ghost use Rattle.mysql_wire_side.specs.Side.{IsReady};
 ghost use Rattle.mysql_wire_side.specs.Answers.{new_connection};
 ghost use Rattle.mysql_wire_side.specs.Finding.{Finds};
 ghost use Rattle.mysql_wire_side.specs.Calls.{Feeds, Peeks, LendsInPlace, Takes, CopiesNext};
@@ -17,7 +16,6 @@ use std::alloc::Global;
 use std::marker::Model;
 use wire_codec::codec::PacketCodec;
 use wire_codec::codec::error::PacketCodecError;
-use wire_const::MAX_PAYLOAD_LEN;
 
 /// What stands in front.
 #[derive(Clone, Copy, Drop)]
@@ -40,8 +38,6 @@ pub enum Front {
 #[derive(Drop)]
 pub struct Connection {
     pub codec: PacketCodec,
-    // The number that the codec expects, unless the connection is lost.
-    pub id: u8,
     pub src: BytesMut<Global>,
     pub dst: Vec<u8, Global>,
     pub front: Front,
@@ -50,15 +46,14 @@ pub struct Connection {
 
 impl Model for Connection {
     ghost use Rattle.wire_codec.specs.Codec.{codec_state};
-    ghost use Rattle.mysql_wire_side.specs.Side.{ConnectionState, connection_of, IsReady, IsNumbered};
+    ghost use Rattle.mysql_wire_side.specs.Side.{ConnectionState, connection_of, IsReady};
 
     ghost Value = { ConnectionState };
 
     ghost view = { λ c. connection_of c.front (codec_state c.codec c.src.items c.dst.items)
         c.output.items };
 
-    ghost invariant = { λ c. IsReady c.front (codec_state c.codec c.src.items c.dst.items)
-        × IsNumbered c.front c.id c.codec };
+    ghost invariant = { λ c. IsReady c.front (codec_state c.codec c.src.items c.dst.items) };
 }
 
 impl Connection {
@@ -70,7 +65,6 @@ impl Connection {
         codec.max_allowed_packet = limit;
         Connection {
             codec,
-            id: 0,
             src: BytesMut::new(alloc),
             dst: Vec::new(alloc),
             front: Front::Unfinished,
@@ -105,7 +99,6 @@ impl Connection {
             Front::Lost => OUT_OF_SYNC,
             Front::Unfinished => find(
                 &mut self.codec,
-                &mut self.id,
                 &mut self.src,
                 &mut self.dst,
                 &mut self.front,
@@ -134,7 +127,6 @@ impl Connection {
         match self.front {
             Front::InPlace => {
                 self.codec.take_front(&mut self.src);
-                self.id = self.id.wrapping_add(1);
             }
             Front::Copied => self.dst.clear(),
             Front::Unfinished | Front::Lost => return NO_PACKET,
@@ -144,29 +136,16 @@ impl Connection {
     }
 }
 
-// The number of the next chunk, where so many bytes of a packet were held when this was its number,
-// and so many are now.
-#[tactic(auto, using(crate::proofs::SideLemmas::full_chunk))]
-fn number_at(id: u8, held: usize, now: usize) -> u8
-    ensures { result ≡ ((id + 256 - held / max_payload % 256) % 256 + now / max_payload) % 256 }
-{
-    let opened = (id as usize + 256 - held / MAX_PAYLOAD_LEN % 256) % 256;
-    ((opened + now / MAX_PAYLOAD_LEN) % 256) as u8
-}
-
 // Looks for a packet that stands whole.
 fn find(
     codec: &mut PacketCodec,
-    id: &mut u8,
     src: &mut BytesMut<Global>,
     dst: &mut Vec<u8, Global>,
     front: &mut Front,
 ) -> i32
     requires ready { IsReady front.old (codec_state codec.old src.old.items dst.old.items) }
-    requires numbered { IsNumbered front.old id.old codec.old }
     requires found { front.old ≡ Front.Unfinished }
     ensures ready { IsReady front.new (codec_state codec.new src.new.items dst.new.items) }
-    ensures numbered { IsNumbered front.new id.new codec.new }
 
     ensures finds { Finds result (codec_state codec.old src.old.items dst.old.items)
         front.new (codec_state codec.new src.new.items dst.new.items) }
@@ -179,12 +158,8 @@ fn find(
         *front = Front::InPlace;
         return PACKET;
     }
-    let held = dst.len();
-    let answer = codec.decode(src, dst);
-    *id = number_at(*id, held, dst.len());
-    match answer {
+    match codec.decode(src, dst) {
         Ok(true) => {
-            *id = id.wrapping_add(1);
             *front = Front::Copied;
             PACKET
         }

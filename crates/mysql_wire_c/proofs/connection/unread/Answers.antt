@@ -8,7 +8,7 @@ pub overflow_sub-result : goal.overflow_sub-result
 overflow_sub-result c =
     let f = c.connection.inside in
     let unread = unread_behind f.front (codec_state f.codec f.src.items f.dst.items) f.output.items
-    c.args.connection.now.side c.packet.result.now c.in-InPlace.is c.connection.invariant.0
+    c.args.connection.now.side c.packet.result.now c.in-InPlace.is c.connection.invariant
     (ap (λ (s : ConnectionState). s.side) c.connection.view_is)
     c.packet.ensures in
     omega (arith, unread.0, c.len.ensures.value)
@@ -17,7 +17,7 @@ pub returns-in-InPlace : goal.returns-in-InPlace
 returns-in-InPlace c =
     let f = c.connection.inside in
     let unread = unread_behind f.front (codec_state f.codec f.src.items f.dst.items) f.output.items
-    c.args.connection.now.side c.packet.result.now c.in-InPlace.is c.connection.invariant.0
+    c.args.connection.now.side c.packet.result.now c.in-InPlace.is c.connection.invariant
     (ap (λ (s : ConnectionState). s.side) c.connection.view_is)
     c.packet.ensures in
     omega (arith, unread.1, c.len.ensures.value, c.len.ensures.bound)

@@ -5,24 +5,24 @@ use Rattle.mysql_wire_side.proofs.connection.find.Goals as goal
 
 pub returns-in-Ok-true-clause-finds : goal.returns-in-Ok-true-clause-finds
 returns-in-Ok-true-clause-finds c =
-    finds_packet c.args.front.now (codec_state c.args.codec.now c.args.src.now.items c.args.dst.now.items) c.decode-answer.result
-    (codec_state c.decode-answer.new.self c.decode-answer.new.src.items c.decode-answer.new.dst.items)
-    (c.requires.found, c.requires.ready, c.decode-answer.ensures.aligned, search rules)
+    finds_packet c.args.front.now (codec_state c.args.codec.now c.args.src.now.items c.args.dst.now.items) c.decode.result
+    (codec_state c.decode.new.self c.decode.new.src.items c.decode.new.dst.items)
+    (c.requires.found, c.requires.ready, c.decode.ensures.aligned, search rules)
 
 pub returns-in-Ok-false-clause-finds : goal.returns-in-Ok-false-clause-finds
 returns-in-Ok-false-clause-finds c =
-    finds_none c.args.front.now (codec_state c.args.codec.now c.args.src.now.items c.args.dst.now.items) c.decode-answer.result
-    (codec_state c.decode-answer.new.self c.decode-answer.new.src.items c.decode-answer.new.dst.items)
-    (c.requires.found, c.requires.ready, c.decode-answer.ensures.aligned, search rules)
+    finds_none c.args.front.now (codec_state c.args.codec.now c.args.src.now.items c.args.dst.now.items) c.decode.result
+    (codec_state c.decode.new.self c.decode.new.src.items c.decode.new.dst.items)
+    (c.requires.found, c.requires.ready, c.decode.ensures.aligned, search rules)
 
 pub returns-in-Err-PacketTooLarge-clause-finds : goal.returns-in-Err-PacketTooLarge-clause-finds
 returns-in-Err-PacketTooLarge-clause-finds c =
-    finds_too_large c.args.front.now (codec_state c.args.codec.now c.args.src.now.items c.args.dst.now.items) c.decode-answer.result
-    (codec_state c.decode-answer.new.self c.decode-answer.new.src.items c.decode-answer.new.dst.items)
-    (c.requires.found, c.requires.ready, c.decode-answer.ensures.aligned, search rules)
+    finds_too_large c.args.front.now (codec_state c.args.codec.now c.args.src.now.items c.args.dst.now.items) c.decode.result
+    (codec_state c.decode.new.self c.decode.new.src.items c.decode.new.dst.items)
+    (c.requires.found, c.requires.ready, c.decode.ensures.aligned, search rules)
 
 pub returns-in-Err-PacketsOutOfSync-clause-finds : goal.returns-in-Err-PacketsOutOfSync-clause-finds
 returns-in-Err-PacketsOutOfSync-clause-finds c =
-    finds_lost c.args.front.now (codec_state c.args.codec.now c.args.src.now.items c.args.dst.now.items) c.decode-answer.result
-    (codec_state c.decode-answer.new.self c.decode-answer.new.src.items c.decode-answer.new.dst.items)
-    (c.requires.found, c.requires.ready, c.decode-answer.ensures.aligned, search rules)
+    finds_lost c.args.front.now (codec_state c.args.codec.now c.args.src.now.items c.args.dst.now.items) c.decode.result
+    (codec_state c.decode.new.self c.decode.new.src.items c.decode.new.dst.items)
+    (c.requires.found, c.requires.ready, c.decode.ensures.aligned, search rules)

@@ -16,7 +16,7 @@ returns c = elim c.match-extend_from_slice.branch [
         fed = λ ok. (
           found fields.front old fields.output.items c.args.self.now.side c.in_default.not-Lost view,
           ap at w.in-Ok.ensures.ok
-              ∙ side_of-appended fields.front old c.args.bytes.now fields.output.items c.self.invariant.0
+              ∙ side_of-appended fields.front old c.args.bytes.now fields.output.items c.self.invariant
               ∙ ap (λ (s : Side). fed s c.args.bytes.now) view,
         );
         stays_lost = λ lost. absurd (
