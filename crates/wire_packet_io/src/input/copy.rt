@@ -36,9 +36,9 @@ impl<R: Read, A: Allocator + Copy> Input<R, A> {
         ensures steps { StepsCopy result (span_state decoder.old) self.old.src.items
             (W.contents writer.old) (span_state decoder.new) self.new.src.items
             (W.contents writer.new) }
-        ensures uncut { header_came (span_state decoder.new).place ≡ [] }
-        ensures limit { decoder.new.max_allowed_packet ≡ decoder.old.max_allowed_packet }
-        ensures rest { self.new ≡ record self.old { src = self.new.src } }
+        ensures kept { (header_came (span_state decoder.new).place ≡ [])
+            × (decoder.new.max_allowed_packet ≡ decoder.old.max_allowed_packet)
+            × (self.new ≡ record self.old { src = self.new.src }) }
     {
         let len = decoder.chunk_left().min(self.src.len());
         if len == 0 {
@@ -65,9 +65,9 @@ impl<R: Read, A: Allocator + Copy> Input<R, A> {
         ensures steps { StepsCopy result (span_state decoder.old) self.old.src.items
             (W.contents writer.old) (span_state decoder.new) self.new.src.items
             (W.contents writer.new) }
-        ensures uncut { header_came (span_state decoder.new).place ≡ [] }
-        ensures limit { decoder.new.max_allowed_packet ≡ decoder.old.max_allowed_packet }
-        ensures rest { self.new ≡ record self.old { src = self.new.src } }
+        ensures kept { (header_came (span_state decoder.new).place ≡ [])
+            × (decoder.new.max_allowed_packet ≡ decoder.old.max_allowed_packet)
+            × (self.new ≡ record self.old { src = self.new.src }) }
     {
         if decoder.chunk_left() > 0 {
             return self.copy_bytes(decoder, writer);
@@ -98,9 +98,9 @@ impl<R: Read, A: Allocator + Copy> Input<R, A> {
         ensures fewer { IsFalse (has_ended result)
             → most_bytes (span_state decoder.new) + length self.old.src.items
             ≤ most_bytes (span_state decoder.old) + length self.new.src.items }
-        ensures uncut { header_came (span_state decoder.new).place ≡ [] }
-        ensures limit { decoder.new.max_allowed_packet ≡ decoder.old.max_allowed_packet }
-        ensures rest { self.new ≡ record self.old { src = self.new.src } }
+        ensures kept { (header_came (span_state decoder.new).place ≡ [])
+            × (decoder.new.max_allowed_packet ≡ decoder.old.max_allowed_packet)
+            × (self.new ≡ record self.old { src = self.new.src }) }
     {
         'steps: loop {
             match self.copy_front(decoder, writer) {
@@ -139,10 +139,9 @@ impl<R: Read, A: Allocator + Copy> Input<R, A> {
             (span_state decoder.new) (lender None self.new) writer.new }
         ensures stops { CopyStops result (span_state decoder.new) self.new.src.items
             (R.remaining self.new.reader) }
-        ensures uncut { header_came (span_state decoder.new).place ≡ [] }
-        ensures held { self.new.dst ≡ self.old.dst }
-        ensures lost { self.new.lost ≡ self.old.lost }
-        ensures limit { decoder.new.max_allowed_packet ≡ decoder.old.max_allowed_packet }
+        ensures kept { (header_came (span_state decoder.new).place ≡ [])
+            × (self.new.dst ≡ self.old.dst) × (self.new.lost ≡ self.old.lost)
+            × (decoder.new.max_allowed_packet ≡ decoder.old.max_allowed_packet) }
     {
         'reads: loop {
             match self.copy_unread(decoder, writer) {

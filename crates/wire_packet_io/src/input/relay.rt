@@ -29,10 +29,10 @@ impl<R: Read, A: Allocator + Copy> Input<R, A> {
         ensures steps { (id : ℕ) → StepsRelay result (span_state decoder.old) id
             self.old.src.items writer.old.pending (span_state decoder.new) id
             self.new.src.items writer.new.pending }
-        ensures uncut { header_came (span_state decoder.new).place ≡ [] }
-        ensures limit { decoder.new.max_allowed_packet ≡ decoder.old.max_allowed_packet }
-        ensures rest { self.new ≡ record self.old { src = self.new.src } }
-        ensures writer { writer.new.writer ≡ writer.old.writer }
+        ensures kept { (header_came (span_state decoder.new).place ≡ [])
+            × (decoder.new.max_allowed_packet ≡ decoder.old.max_allowed_packet)
+            × (self.new ≡ record self.old { src = self.new.src })
+            × (writer.new.writer ≡ writer.old.writer) }
     {
         let len = decoder.chunk_left().min(self.src.len());
         if len == 0 {
@@ -59,10 +59,10 @@ impl<R: Read, A: Allocator + Copy> Input<R, A> {
         ensures steps { StepsRelay result (span_state decoder.old) next_id.old
             self.old.src.items writer.old.pending (span_state decoder.new) next_id.new
             self.new.src.items writer.new.pending }
-        ensures uncut { header_came (span_state decoder.new).place ≡ [] }
-        ensures limit { decoder.new.max_allowed_packet ≡ decoder.old.max_allowed_packet }
-        ensures rest { self.new ≡ record self.old { src = self.new.src } }
-        ensures writer { writer.new.writer ≡ writer.old.writer }
+        ensures kept { (header_came (span_state decoder.new).place ≡ [])
+            × (decoder.new.max_allowed_packet ≡ decoder.old.max_allowed_packet)
+            × (self.new ≡ record self.old { src = self.new.src })
+            × (writer.new.writer ≡ writer.old.writer) }
     {
         if decoder.chunk_left() > 0 {
             return self.relay_bytes(decoder, writer);
@@ -105,10 +105,10 @@ impl<R: Read, A: Allocator + Copy> Input<R, A> {
         ensures fewer { IsFalse (has_ended result)
             → most_bytes (span_state decoder.new) + length self.old.src.items
             ≤ most_bytes (span_state decoder.old) + length self.new.src.items }
-        ensures uncut { header_came (span_state decoder.new).place ≡ [] }
-        ensures limit { decoder.new.max_allowed_packet ≡ decoder.old.max_allowed_packet }
-        ensures rest { self.new ≡ record self.old { src = self.new.src } }
-        ensures writer { writer.new.writer ≡ writer.old.writer }
+        ensures kept { (header_came (span_state decoder.new).place ≡ [])
+            × (decoder.new.max_allowed_packet ≡ decoder.old.max_allowed_packet)
+            × (self.new ≡ record self.old { src = self.new.src })
+            × (writer.new.writer ≡ writer.old.writer) }
     {
         'steps: loop {
             match self.relay_front(decoder, writer, next_id) {
@@ -135,10 +135,9 @@ impl<R: Read, A: Allocator + Copy> Input<R, A> {
             (span_state decoder.new) (lender None self.new) next_id.new writer.new }
         ensures stops { RelayStops result (span_state decoder.new) self.new.src.items
             (R.remaining self.new.reader) writer.new.pending }
-        ensures uncut { header_came (span_state decoder.new).place ≡ [] }
-        ensures held { self.new.dst ≡ self.old.dst }
-        ensures lost { self.new.lost ≡ self.old.lost }
-        ensures limit { decoder.new.max_allowed_packet ≡ decoder.old.max_allowed_packet }
+        ensures kept { (header_came (span_state decoder.new).place ≡ [])
+            × (self.new.dst ≡ self.old.dst) × (self.new.lost ≡ self.old.lost)
+            × (decoder.new.max_allowed_packet ≡ decoder.old.max_allowed_packet) }
     {
         'reads: loop {
             match self.relay_unread(decoder, writer, next_id) {

@@ -20,13 +20,13 @@ reads-init g c = record {
 pub returns-in-Ok-true-clause-copies : goal.returns-in-Ok-true-clause-copies
 returns-in-Ok-true-clause-copies g c =
     copies_go (Ok true) (span_state c.args.decoder.now) (span_state c.reads.decoder) (span_state c.copy_unread.new.decoder) c.args.self.now.src.items _ _ _ _ _ _ _ _ _ _ _
-    c.reads.invariant.limit (ap (λ z. g.R.Read.remaining z.reader) c.copy_unread.ensures.rest) (ap (λ z. z.reads) c.copy_unread.ensures.rest) c.reads.invariant.so_far
+    c.reads.invariant.limit (ap (λ z. g.R.Read.remaining z.reader) c.copy_unread.ensures.kept.2) (ap (λ z. z.reads) c.copy_unread.ensures.kept.2) c.reads.invariant.so_far
     (rw c.in-Ok-true.field-0-test at c.in-Ok-true.ensures.goes)
 
 pub returns-in-Err-clause-copies : goal.returns-in-Err-clause-copies
 returns-in-Err-clause-copies g c =
     copies_go (Err c.in-Err.error) (span_state c.args.decoder.now) (span_state c.reads.decoder) (span_state c.copy_unread.new.decoder) c.args.self.now.src.items _ _ _ _ _ _ _ _ _ _ _
-    c.reads.invariant.limit (ap (λ z. g.R.Read.remaining z.reader) c.copy_unread.ensures.rest) (ap (λ z. z.reads) c.copy_unread.ensures.rest) c.reads.invariant.so_far c.in-Err.ensures.goes
+    c.reads.invariant.limit (ap (λ z. g.R.Read.remaining z.reader) c.copy_unread.ensures.kept.2) (ap (λ z. z.reads) c.copy_unread.ensures.kept.2) c.reads.invariant.so_far c.in-Err.ensures.goes
 
 -- what was there went, and the packet goes on
 went : (g : given.Over) (c : In-Ok-false g)
@@ -34,7 +34,7 @@ went : (g : given.Over) (c : In-Ok-false g)
     (span_state c.copy_unread.new.decoder) (lender None c.copy_unread.new.self) c.copy_unread.new.writer
 went g c =
     copies_go (Ok false) (span_state c.args.decoder.now) (span_state c.reads.decoder) (span_state c.copy_unread.new.decoder) c.args.self.now.src.items _ _ _ _ _ _ _ _ _ _ _
-    c.reads.invariant.limit (ap (λ z. g.R.Read.remaining z.reader) c.copy_unread.ensures.rest) (ap (λ z. z.reads) c.copy_unread.ensures.rest) c.reads.invariant.so_far
+    c.reads.invariant.limit (ap (λ z. g.R.Read.remaining z.reader) c.copy_unread.ensures.kept.2) (ap (λ z. z.reads) c.copy_unread.ensures.kept.2) c.reads.invariant.so_far
     (rw c.in-Ok-false.field-0-test at c.in-Ok-false.ensures.goes)
 
 pub returns-in-Ok-eq0-clause-copies : goal.returns-in-Ok-eq0-clause-copies
@@ -53,10 +53,10 @@ reads-preserved g c =
     let s = went g (goal.at.reads-preserved g c).In-Ok-false in
     let waits = rw c.in-Ok-false.field-0-test at c.in-Ok-false.ensures.ends in
     record {
-      uncut = c.copy_unread.ensures.uncut;
-      limit = c.copy_unread.ensures.limit ∙ inv.limit;
-      held = c.read_more.ensures.dst ∙ ap (λ z. z.dst) c.copy_unread.ensures.rest ∙ inv.held;
-      lost = c.read_more.ensures.lost ∙ ap (λ z. z.lost) c.copy_unread.ensures.rest ∙ inv.lost;
+      uncut = c.copy_unread.ensures.kept.0;
+      limit = c.copy_unread.ensures.kept.1 ∙ inv.limit;
+      held = c.read_more.ensures.dst ∙ ap (λ z. z.dst) c.copy_unread.ensures.kept.2 ∙ inv.held;
+      lost = c.read_more.ensures.lost ∙ ap (λ z. z.lost) c.copy_unread.ensures.kept.2 ∙ inv.lost;
       so_far = (s.0, s.1, reads_read _ _ _ _ _ _ _ _ _ _ _ s.0 _ s.2 waits c.in-Ok.ensures.ok c.in-Ok.ensures.small c.in-Ok.ensures.read);
     }
 

@@ -23,9 +23,9 @@ steps-preserved g c =
     let inv = c.steps.invariant in
     let step = rw (c.in-Ok-Some-false.field-0-is, c.in-Ok-Some-false.field-0-0-test) at c.in-Ok-Some-false.ensures.steps in
     record {
-      uncut = c.copy_front.ensures.uncut;
-      limit = c.copy_front.ensures.limit ∙ inv.limit;
-      rest = rw inv.rest at c.copy_front.ensures.rest;
+      uncut = c.copy_front.ensures.kept.0;
+      limit = c.copy_front.ensures.kept.1 ∙ inv.limit;
+      rest = rw inv.rest at c.copy_front.ensures.kept.2;
       fewer = let less = (step.2 refl).0 in omega (arith, inv.fewer, less);
       goes = copies_more false (span_state c.args.decoder.now) (span_state c.steps.decoder) (span_state c.copy_front.new.decoder) _ _ _ _ _ _ inv.limit inv.goes step.0;
     }

@@ -24,14 +24,14 @@ reads-init g c = record {
 pub returns-in-Ok-true-clause-relays : goal.returns-in-Ok-true-clause-relays
 returns-in-Ok-true-clause-relays g c =
     relays_go (Ok true) (span_state c.args.decoder.now) (span_state c.reads.decoder) (span_state c.relay_unread.new.decoder) _ _ _ c.args.self.now.src.items _ _ _ _ _ _ _ _ _ _ _ _ _ _
-    c.reads.invariant.limit (ap (λ z. g.R.Read.remaining z.reader) c.relay_unread.ensures.rest) (ap (λ z. z.reads) c.relay_unread.ensures.rest)
-    (ap (λ z. g.W.Write.contents z) c.relay_unread.ensures.writer) c.reads.invariant.so_far (rw c.in-Ok-true.field-0-test at c.in-Ok-true.ensures.goes)
+    c.reads.invariant.limit (ap (λ z. g.R.Read.remaining z.reader) c.relay_unread.ensures.kept.2) (ap (λ z. z.reads) c.relay_unread.ensures.kept.2)
+    (ap (λ z. g.W.Write.contents z) c.relay_unread.ensures.kept.3) c.reads.invariant.so_far (rw c.in-Ok-true.field-0-test at c.in-Ok-true.ensures.goes)
 
 pub returns-in-Err-clause-relays : goal.returns-in-Err-clause-relays
 returns-in-Err-clause-relays g c =
     relays_go (Err c.in-Err.error) (span_state c.args.decoder.now) (span_state c.reads.decoder) (span_state c.relay_unread.new.decoder) _ _ _ c.args.self.now.src.items _ _ _ _ _ _ _ _ _ _ _ _ _ _
-    c.reads.invariant.limit (ap (λ z. g.R.Read.remaining z.reader) c.relay_unread.ensures.rest) (ap (λ z. z.reads) c.relay_unread.ensures.rest)
-    (ap (λ z. g.W.Write.contents z) c.relay_unread.ensures.writer) c.reads.invariant.so_far c.in-Err.ensures.goes
+    c.reads.invariant.limit (ap (λ z. g.R.Read.remaining z.reader) c.relay_unread.ensures.kept.2) (ap (λ z. z.reads) c.relay_unread.ensures.kept.2)
+    (ap (λ z. g.W.Write.contents z) c.relay_unread.ensures.kept.3) c.reads.invariant.so_far c.in-Err.ensures.goes
 
 -- what was there went behind what is pending, a front of that was written, and the packet goes on
 went : (g : given.Over) (c : After-write_pending g)
@@ -40,8 +40,8 @@ went : (g : given.Over) (c : After-write_pending g)
 went g c =
     let wrote = c.write_pending.ensures.sent in
     let s = relays_go (Ok false) (span_state c.args.decoder.now) (span_state c.reads.decoder) (span_state c.relay_unread.new.decoder) _ _ _ c.args.self.now.src.items _ _ _ _ _ _ _ _ _ _ _ _ _ _
-    c.reads.invariant.limit (ap (λ z. g.R.Read.remaining z.reader) c.relay_unread.ensures.rest) (ap (λ z. z.reads) c.relay_unread.ensures.rest)
-    (ap (λ z. g.W.Write.contents z) c.relay_unread.ensures.writer) c.reads.invariant.so_far (rw c.in-Ok-false.field-0-test at c.in-Ok-false.ensures.goes) in
+    c.reads.invariant.limit (ap (λ z. g.R.Read.remaining z.reader) c.relay_unread.ensures.kept.2) (ap (λ z. z.reads) c.relay_unread.ensures.kept.2)
+    (ap (λ z. g.W.Write.contents z) c.relay_unread.ensures.kept.3) c.reads.invariant.so_far (rw c.in-Ok-false.field-0-test at c.in-Ok-false.ensures.goes) in
     (s.0, s.1, gone_out _ _ _ _ s.0 wrote.0 _ _ _ _ _ _ s.2 wrote.1 wrote.2)
 
 pub returns-in-Err-write_pending-clause-relays : goal.returns-in-Err-write_pending-clause-relays
@@ -73,10 +73,10 @@ reads-preserved g c =
     let waits = rw c.in-Ok-false.field-0-test at c.in-Ok-false.ensures.ends in
     let read = c.in-Ok-read_more.ensures in
     record {
-      uncut = c.relay_unread.ensures.uncut;
-      limit = c.relay_unread.ensures.limit ∙ inv.limit;
-      held = c.read_more.ensures.dst ∙ ap (λ z. z.dst) c.relay_unread.ensures.rest ∙ inv.held;
-      lost = c.read_more.ensures.lost ∙ ap (λ z. z.lost) c.relay_unread.ensures.rest ∙ inv.lost;
+      uncut = c.relay_unread.ensures.kept.0;
+      limit = c.relay_unread.ensures.kept.1 ∙ inv.limit;
+      held = c.read_more.ensures.dst ∙ ap (λ z. z.dst) c.relay_unread.ensures.kept.2 ∙ inv.held;
+      lost = c.read_more.ensures.lost ∙ ap (λ z. z.lost) c.relay_unread.ensures.kept.2 ∙ inv.lost;
       so_far = (s.0, reads_read _ _ _ _ _ _ _ _ _ _ _ s.0 _ s.1 waits read.ok read.small read.read, s.2);
     }
 

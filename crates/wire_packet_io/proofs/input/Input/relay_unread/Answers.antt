@@ -25,10 +25,10 @@ steps-preserved g c =
     let inv = c.steps.invariant in
     let step = rw (c.in-Ok-Some-false.field-0-is, c.in-Ok-Some-false.field-0-0-test) at c.in-Ok-Some-false.ensures.steps in
     record {
-      uncut = c.relay_front.ensures.uncut;
-      limit = c.relay_front.ensures.limit ∙ inv.limit;
-      rest = rw inv.rest at c.relay_front.ensures.rest;
-      writer = c.relay_front.ensures.writer ∙ inv.writer;
+      uncut = c.relay_front.ensures.kept.0;
+      limit = c.relay_front.ensures.kept.1 ∙ inv.limit;
+      rest = rw inv.rest at c.relay_front.ensures.kept.2;
+      writer = c.relay_front.ensures.kept.3 ∙ inv.writer;
       fewer = let less = (step.2 refl).0 in omega (arith, inv.fewer, less);
       goes = relays_more false (span_state c.args.decoder.now) (span_state c.steps.decoder) (span_state c.relay_front.new.decoder) c.args.next_id.now c.steps.next_id c.relay_front.new.next_id _ _ _ _ _ _
           inv.limit inv.goes step.0;
