@@ -105,9 +105,8 @@ impl<R: Read, A: Allocator + Copy> Input<R, A> {
             (answer_over result self.new.src.items) self.new.lost
             (input_state codec.new None self.new) }
         ensures apart { IsApart (found_in result) }
-        ensures reader { self.new.reader ≡ self.old.reader }
-        ensures reads { self.new.reads ≡ self.old.reads }
-        ensures limit { codec.new.max_allowed_packet ≡ codec.old.max_allowed_packet }
+        ensures kept { (self.new.reader ≡ self.old.reader) × (self.new.reads ≡ self.old.reads)
+            × (codec.new.max_allowed_packet ≡ codec.old.max_allowed_packet) }
     {
         self.make_room(codec.max_allowed_packet);
         match codec.decode(&mut self.src, &mut self.dst) {
@@ -142,9 +141,8 @@ impl<R: Read, A: Allocator + Copy> Input<R, A> {
             (input_state codec.new (found_in result) self.new) }
         ensures there { IsThere (found_in result) self.new.src.items }
         ensures apart { IsFalse lends → IsApart (found_in result) }
-        ensures reader { self.new.reader ≡ self.old.reader }
-        ensures reads { self.new.reads ≡ self.old.reads }
-        ensures limit { codec.new.max_allowed_packet ≡ codec.old.max_allowed_packet }
+        ensures kept { (self.new.reader ≡ self.old.reader) × (self.new.reads ≡ self.old.reads)
+            × (codec.new.max_allowed_packet ≡ codec.old.max_allowed_packet) }
     {
         if lends && codec.front_packet(&self.src, self.dst.as_slice()).is_some() {
             codec.accept_front(&self.src);
@@ -281,8 +279,8 @@ impl<R: Read, A: Allocator + Copy> Input<R, A> {
             (skipping skipped.new (lender None self.new)) }
         ensures loses { IsTrue self.new.lost ↔ (result ≡ Err PacketIoError.PacketsOutOfSync) }
         ensures ended { IfOk result (λ _. (skipped.new.held ≡ 0) × (skipped.new.begun ≡ None)) }
-        ensures held { self.new.dst ≡ self.old.dst }
-        ensures limit { codec.new.max_allowed_packet ≡ codec.old.max_allowed_packet }
+        ensures kept { (self.new.dst ≡ self.old.dst)
+            × (codec.new.max_allowed_packet ≡ codec.old.max_allowed_packet) }
     {
         'skips: loop {
             match codec.skip(&mut self.src, skipped) {

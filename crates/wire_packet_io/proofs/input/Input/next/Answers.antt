@@ -18,13 +18,13 @@ returns-in-Ok-Some-clause-next g c =
     let found = c.in-Ok-Some.found in
     let src = c.find.new.self.src.items in
     ends_by (answer_over (Ok (Some found)) src) c.find.new.self.lost (input_state c.args.codec.now None c.args.self.now) (input_state c.reads.codec None c.reads.self)
-    (input_state c.find.new.codec (Some found) c.find.new.self) _ _ _ _ _ _ c.reads.invariant.so_far (ap (λ z. g.R.Read.remaining z) c.find.ensures.reader) c.find.ensures.reads
+    (input_state c.find.new.codec (Some found) c.find.new.self) _ _ _ _ _ _ c.reads.invariant.so_far (ap (λ z. g.R.Read.remaining z) c.find.ensures.kept.0) c.find.ensures.kept.1
     (found_ends found src) (rw c.in-Ok-Some.field-0-is at c.in-Ok-Some.ensures.takes)
 
 pub returns-in-Err-clause-next : goal.returns-in-Err-clause-next
 returns-in-Err-clause-next g c =
     ends_by (Err c.in-Err.error) c.find.new.self.lost (input_state c.args.codec.now None c.args.self.now) (input_state c.reads.codec None c.reads.self)
-    (input_state c.find.new.codec None c.find.new.self) _ _ _ _ _ _ c.reads.invariant.so_far (ap (λ z. g.R.Read.remaining z) c.find.ensures.reader) c.find.ensures.reads
+    (input_state c.find.new.codec None c.find.new.self) _ _ _ _ _ _ c.reads.invariant.so_far (ap (λ z. g.R.Read.remaining z) c.find.ensures.kept.0) c.find.ensures.kept.1
     (λ e. absurd cc) c.in-Err.ensures.takes
 
 -- what was there had no packet
@@ -33,7 +33,7 @@ waits : (g : given.Over) (c : In-Ok-None g)
     (g.R.Read.remaining c.args.self.now.reader) (g.R.Read.remaining c.find.new.self.reader) c.args.self.now.reads c.find.new.self.reads
 waits g c =
     waited c.find.new.self.lost (input_state c.args.codec.now None c.args.self.now) (input_state c.reads.codec None c.reads.self) (input_state c.find.new.codec None c.find.new.self) _ _ _ _ _ _
-    c.reads.invariant.so_far (ap (λ z. g.R.Read.remaining z) c.find.ensures.reader) c.find.ensures.reads c.find.ensures.limit (rw c.in-Ok-None.field-0-is at c.in-Ok-None.ensures.takes)
+    c.reads.invariant.so_far (ap (λ z. g.R.Read.remaining z) c.find.ensures.kept.0) c.find.ensures.kept.1 c.find.ensures.kept.2 (rw c.in-Ok-None.field-0-is at c.in-Ok-None.ensures.takes)
 
 pub returns-in-Ok-eq0-clause-next : goal.returns-in-Ok-eq0-clause-next
 returns-in-Ok-eq0-clause-next g c =
