@@ -178,11 +178,11 @@ impl<R: Read, A: Allocator + Copy> Input<R, A> {
         ensures next { ReadsPacket R.remaining codec.old (lender None self.old)
             (answer_over result self.new.src.items) codec.new
             (lender (found_in result) self.new) }
-        ensures there { IsThere (found_in result) self.new.src.items }
-        ensures apart { IsFalse lends → IsApart (found_in result) }
-        ensures fits { FitsAt self.new.lost (input_state codec.new (found_in result) self.new) }
+        ensures there { IsThere (found_in result) self.new.src.items
+            × (IsFalse lends → IsApart (found_in result)) }
+        ensures fits { FitsAt self.new.lost (input_state codec.new (found_in result) self.new)
+            × (codec.new.max_allowed_packet ≡ codec.old.max_allowed_packet) }
         ensures loses { IsTrue self.new.lost ↔ (result ≡ Err PacketIoError.PacketsOutOfSync) }
-        ensures limit { codec.new.max_allowed_packet ≡ codec.old.max_allowed_packet }
     {
         'reads: loop {
             match self.find(codec, lends) {

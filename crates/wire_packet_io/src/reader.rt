@@ -148,13 +148,12 @@ impl<R: Read, A: Allocator + Copy> PacketReader<R, A> {
         ensures lent { IsFalse self.old.is_lost → IsSome self.old.lent
             → HandsOutLent (answer_of result) self.old self.new × (codec.new ≡ codec.old) }
         ensures taken { IsNone self.old.lent → IsNone self.new.lent }
-        ensures skipped { self.new.skipped ≡ self.old.skipped }
-        ensures copied { self.new.copied ≡ self.old.copied }
         ensures lost { IsTrue self.old.is_lost → (result ≡ Err PacketIoError.PacketsOutOfSync)
             × (self.new ≡ self.old) × (codec.new ≡ codec.old) }
         ensures fits { FitsAt self.new.is_lost (reading_state codec.new self.new) }
         ensures loses { IsTrue self.new.is_lost ↔ (result ≡ Err PacketIoError.PacketsOutOfSync) }
-        ensures limit { codec.new.max_allowed_packet ≡ codec.old.max_allowed_packet }
+        ensures rest { (self.new.skipped ≡ self.old.skipped) × (self.new.copied ≡ self.old.copied)
+            × (codec.new.max_allowed_packet ≡ codec.old.max_allowed_packet) }
     {
         if self.input.lost {
             return Err(PacketIoError::PacketsOutOfSync);
@@ -251,8 +250,8 @@ impl<R: Read, A: Allocator + Copy> PacketReader<R, A> {
             ↔ (IsSome self.new.skipped ⊎ (result ≡ Err PacketIoError.PacketsOutOfSync)) }
         ensures taken { IsNone self.new.lent }
         ensures can { IsNone self.old.lent → CanSkip codec.new self.new }
-        ensures copied { self.new.copied ≡ self.old.copied }
-        ensures limit { codec.new.max_allowed_packet ≡ codec.old.max_allowed_packet }
+        ensures rest { (self.new.copied ≡ self.old.copied)
+            × (codec.new.max_allowed_packet ≡ codec.old.max_allowed_packet) }
     {
         if self.lent.is_some() {
             self.take_packet();
@@ -351,13 +350,12 @@ impl<R: Read, A: Allocator + Copy> PacketReader<R, A> {
         ensures lends { IfOk result (λ ready. (IsTrue ready ↔ IsSome self.new.lent)
             × IsFalse self.new.is_lost) }
         ensures refused { OnErr result (self.new.lent ≡ self.old.lent) }
-        ensures skipped { self.new.skipped ≡ self.old.skipped }
-        ensures copied { self.new.copied ≡ self.old.copied }
         ensures lost { IsTrue self.old.is_lost → (result ≡ Err PacketIoError.PacketsOutOfSync)
             × (self.new ≡ self.old) × (codec.new ≡ codec.old) }
         ensures fits { FitsAt self.new.is_lost (reading_state codec.new self.new) }
         ensures loses { IsTrue self.new.is_lost ↔ (result ≡ Err PacketIoError.PacketsOutOfSync) }
-        ensures limit { codec.new.max_allowed_packet ≡ codec.old.max_allowed_packet }
+        ensures rest { (self.new.skipped ≡ self.old.skipped) × (self.new.copied ≡ self.old.copied)
+            × (codec.new.max_allowed_packet ≡ codec.old.max_allowed_packet) }
     {
         if self.input.lost {
             return Err(PacketIoError::PacketsOutOfSync);

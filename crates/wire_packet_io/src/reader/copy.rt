@@ -65,9 +65,9 @@ impl<R: Read, A: Allocator + Copy> PacketReader<R, A> {
         ensures loses { IsTrue self.new.is_lost
             ↔ (IsSome self.new.copied ⊎ (result ≡ Err PacketIoError.PacketsOutOfSync)) }
         ensures rest { (self.new.held ≡ self.old.held) × (self.new.lent ≡ self.old.lent)
-            × (self.new.skipped ≡ self.old.skipped) }
+            × (self.new.skipped ≡ self.old.skipped)
+            × (codec.new.max_allowed_packet ≡ codec.old.max_allowed_packet) }
         ensures can { CanCopy codec.new self.new }
-        ensures limit { codec.new.max_allowed_packet ≡ codec.old.max_allowed_packet }
     {
         if self.input.lost && self.copied.is_none() {
             return Err(PacketIoError::PacketsOutOfSync);
