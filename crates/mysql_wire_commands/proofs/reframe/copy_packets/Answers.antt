@@ -48,7 +48,7 @@ packets-preserved g c =
         old.0 ++ more,
         old.1 ++ framing first packet,
         reframing_more c.joined_splits.ensures c.stream_append.ensures c.id_after_append.ensures c.between_packets.ensures c.args.limit before after first (expected_id c.send.new.encoder)
-            old.0 old.1 more packet old.2 came.answers.0 came.answers.1 c.next_packet.ensures.limit next,
+            old.0 old.1 more packet old.2 came.answers.0 came.answers.1 c.next_packet.ensures.rest.2 next,
         Consumes-trans _ _ _ old.0 more old.3 came.consumed,
         Appends-trans _ _ _ old.1 (framing first packet) old.4 sent,
       );
