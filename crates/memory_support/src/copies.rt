@@ -193,11 +193,21 @@ where
 {
     heap.refuse(NEVER);
     let text = owned_text(alloc)?;
-    let other = owned_text(alloc)?;
     match owner {
-        Owner::Both => clones(heap, Both(text, other), nth),
+        Owner::Both => clones_both(heap, alloc, text, nth),
         Owner::Either => clones(heap, Either::<Text<'_, A>, RawInt<u8>>::Left(text), nth),
         Owner::Const => clones(heap, Const::<Text<'_, A>, u8>::new(text), nth),
+    }
+}
+
+// The same of two texts.
+fn clones_both<A>(heap: &Heap, alloc: A, text: Text<'_, A>, nth: u64) -> Option<bool>
+where
+    A: Allocator + Copy,
+{
+    match owned_text(alloc) {
+        Some(other) => clones(heap, Both(text, other), nth),
+        None => None,
     }
 }
 
@@ -248,7 +258,7 @@ pub fn reads_elements<A: Allocator + Copy>(alloc: A) -> Option<bool> {
 }
 
 // Whether a text that is pushed was refused, and the list is as it was; else it has one more.
-fn pushes_onto<'a, A>(heap: &Heap, alloc: A, mut list: Texts<'a, A>, nth: u64) -> Option<bool>
+fn pushes_onto<'a, A>(heap: &Heap, alloc: A, list: &mut Texts<'a, A>, nth: u64) -> Option<bool>
 where
     A: Allocator + Copy,
 {
@@ -263,9 +273,29 @@ where
     } else {
         b"\x03\0\0\0\x03abc\x03abc\x01c"
     };
-    let is_there = is_written(heap, &list, bytes);
+    let is_there = is_written(heap, list, bytes);
     heap.refuse(left);
     is_there.then_some(is_refused)
+}
+
+// The same onto a list of two that is lent.
+fn pushes_onto_lent<A: Allocator + Copy>(heap: &Heap, alloc: A, nth: u64) -> Option<bool> {
+    let texts = two_texts(alloc)?;
+    pushes_onto(heap, alloc, &mut list(texts.as_slice()), nth)
+}
+
+// A list of two, read.
+fn read_two<'a, A: Allocator + Copy>(alloc: A, input: &'a [u8]) -> Option<Texts<'a, A>> {
+    let mut buf = ParseBuf(input);
+    buf.parse_in(alloc, ()).ok()
+}
+
+// The same onto a list of two that is read.
+fn pushes_onto_read<'a, A>(heap: &Heap, alloc: A, input: &'a [u8], nth: u64) -> Option<bool>
+where
+    A: Allocator + Copy,
+{
+    pushes_onto(heap, alloc, &mut read_two(alloc, input)?, nth)
 }
 
 /// Whether a text that is pushed behind two was refused, and the list is as it was; else it has
@@ -276,20 +306,8 @@ where
 {
     heap.refuse(NEVER);
     match onto {
-        Onto::Lent => {
-            let texts = two_texts(alloc)?;
-            pushes_onto(
-                heap,
-                alloc,
-                Seq::new(CowSlice::Borrowed(texts.as_slice())),
-                nth,
-            )
-        }
-        Onto::Read => {
-            let input = b"\x02\0\0\0\x03abc\x03abc";
-            let (list, _) = read::<Texts<'_, A>, A>(alloc, Reading::ParseIn, input);
-            pushes_onto(heap, alloc, list.ok()?, nth)
-        }
+        Onto::Lent => pushes_onto_lent(heap, alloc, nth),
+        Onto::Read => pushes_onto_read(heap, alloc, b"\x02\0\0\0\x03abc\x03abc", nth),
     }
 }
 
@@ -305,6 +323,33 @@ fn list<'a, A: Allocator + Copy>(texts: &'a [Text<'a, A>]) -> Texts<'a, A> {
     Seq::new(CowSlice::Borrowed(texts))
 }
 
+fn copies_text<A>(heap: &Heap, alloc: A, copying: Copying, nth: u64) -> Option<bool>
+where
+    A: Allocator + Copy,
+{
+    copies(heap, alloc, text(), copying, nth, &text())
+}
+
+fn copies_numbers<A>(heap: &Heap, alloc: A, copying: Copying, nth: u64) -> Option<bool>
+where
+    A: Allocator + Copy,
+{
+    copies(heap, alloc, numbers(), copying, nth, &numbers())
+}
+
+fn copies_texts<'a, A>(
+    heap: &Heap,
+    alloc: A,
+    texts: &'a [Text<'a, A>],
+    copying: Copying,
+    nth: u64,
+) -> Option<bool>
+where
+    A: Allocator + Copy,
+{
+    copies(heap, alloc, list(texts), copying, nth, &list(texts))
+}
+
 /// Whether a copy was refused, or is the value.
 pub fn copies_held<A>(
     heap: &Heap,
@@ -317,13 +362,12 @@ where
     A: Allocator + Copy,
 {
     match holding {
-        Holding::Text => copies(heap, alloc, text(), copying, nth, &text()),
-        Holding::Numbers => copies(heap, alloc, numbers(), copying, nth, &numbers()),
+        Holding::Text => copies_text(heap, alloc, copying, nth),
+        Holding::Numbers => copies_numbers(heap, alloc, copying, nth),
         Holding::Texts => {
             heap.refuse(NEVER);
             let texts = two_texts(alloc)?;
-            let texts = texts.as_slice();
-            copies(heap, alloc, list(texts), copying, nth, &list(texts))
+            copies_texts(heap, alloc, texts.as_slice(), copying, nth)
         }
     }
 }
@@ -378,12 +422,17 @@ pub fn texts_work<A: Allocator + Copy>(heap: &Heap, alloc: A) -> bool {
     all & owned.eq_bytes(b"abc")
 }
 
+// Whether the calls of a list say that it has so many values.
+fn has_values<A: Allocator>(list: &List<'_, A>, count: usize) -> bool {
+    (list.len() == count) & (list.is_empty() == (count == 0)) & (list.as_slice().len() == count)
+}
+
 /// The same of a list.
 pub fn lists_work<A: Allocator>() -> bool {
     let one = [RawInt::new(1)];
-    let lent: List<'_, A> = Seq::new(CowSlice::Borrowed(&one));
-    let all = (lent.len() == 1) & !lent.is_empty() & (lent.as_slice().len() == 1);
-    all & List::<'_, A>::empty().is_empty() & List::<'_, A>::default().is_empty()
+    has_values::<A>(&Seq::new(CowSlice::Borrowed(&one)), 1)
+        & has_values::<A>(&Seq::empty(), 0)
+        & has_values::<A>(&Seq::default(), 0)
 }
 
 /// The same of numbers.

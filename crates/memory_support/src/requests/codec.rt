@@ -137,9 +137,8 @@ fn frames_pieces<A: Allocator + Copy>(heap: &Heap, alloc: A, nth: u64) -> Option
     frames(heap, &mut to, &mut packet, framing, (FRAMED_FROM_255, nth))
 }
 
-fn queues<A: Allocator + Copy>(heap: &Heap, alloc: A, nth: u64) -> Option<bool> {
-    heap.refuse(NEVER);
-    let mut to = Outlet::new(alloc)?;
+// Whether a packet that is queued was refused, and nothing is changed; it is then pending.
+fn queues_in<A: Allocator + Copy>(heap: &Heap, to: &mut Outlet<A>, nth: u64) -> Option<bool> {
     let mut packet = TEXT;
     heap.refuse(nth);
     let mut answer = to.queue(&mut packet);
@@ -154,6 +153,11 @@ fn queues<A: Allocator + Copy>(heap: &Heap, alloc: A, nth: u64) -> Option<bool> 
     all.then_some(refused)
 }
 
+fn queues<A: Allocator + Copy>(heap: &Heap, alloc: A, nth: u64) -> Option<bool> {
+    heap.refuse(NEVER);
+    queues_in(heap, &mut Outlet::new(alloc)?, nth)
+}
+
 // ---- decoding
 
 fn decode_once<A: Allocator + Copy>(to: &mut Fixture<'_, A, Vec<u8, A>>, one: bool) -> Answer {
@@ -165,21 +169,30 @@ fn decode_once<A: Allocator + Copy>(to: &mut Fixture<'_, A, Vec<u8, A>>, one: bo
 }
 
 // Whether the request was refused, and nothing was eaten; the one chunk is then decoded.
-fn decodes<A: Allocator + Copy>(heap: &Heap, alloc: A, one: bool, nth: u64) -> Option<bool> {
-    heap.refuse(NEVER);
-    let mut to = Fixture::new(alloc, None, Vec::new(alloc));
+fn decodes_in<A: Allocator + Copy>(
+    heap: &Heap,
+    to: &mut Fixture<'_, A, Vec<u8, A>>,
+    one: bool,
+    nth: u64,
+) -> Option<bool> {
     let mut all = to.encode(TEXT) == Answer::Done;
     to.codec.reset_seq_id();
     heap.refuse(nth);
-    let mut answer = decode_once(&mut to, one);
+    let mut answer = decode_once(to, one);
     let refused = answer == Answer::OutOfMemory;
     if refused {
         all &= (to.src.len() == LEN + 4) & to.dst.is_empty();
-        answer = decode_once(&mut to, one);
+        answer = decode_once(to, one);
     }
     let done = if one { Answer::Last(0) } else { Answer::Packet };
     all &= (answer == done) & to.src.is_empty() & same(to.dst.as_slice(), TEXT);
     all.then_some(refused)
+}
+
+fn decodes<A: Allocator + Copy>(heap: &Heap, alloc: A, one: bool, nth: u64) -> Option<bool> {
+    heap.refuse(NEVER);
+    let mut to = Fixture::new(alloc, None, Vec::new(alloc));
+    decodes_in(heap, &mut to, one, nth)
 }
 
 fn take_room<T: PacketDst>(dst: &mut T, puts: bool) -> bool {
@@ -243,23 +256,29 @@ fn is_run<A: Allocator + Copy>(to: &Receiver<A>, runner: Runner, tally: &Tally) 
 
 // Whether the request was refused; the run that goes on with the pieces that were not appended then
 // ends as one without a refusal does.
+fn delivers_to<A>(heap: &Heap, to: &mut Receiver<A>, runner: Runner, nth: u64) -> Option<bool>
+where
+    A: Allocator + Copy,
+{
+    let mut tally = Tally { bytes: 0 };
+    heap.refuse(nth);
+    let (mut count, mut answer) = run_once(to, runner, 0, &mut tally);
+    let refused = answer == Answer::OutOfMemory;
+    if refused {
+        let (more, again) = run_once(to, runner, count, &mut tally);
+        count = count.wrapping_add(more);
+        answer = again;
+    }
+    let all = (count == 3) & (answer == Answer::Waits) & is_run(to, runner, &tally);
+    all.then_some(refused)
+}
+
 fn delivers<A>(heap: &Heap, alloc: A, runner: Runner, nth: u64) -> Option<bool>
 where
     A: Allocator + Copy,
 {
     heap.refuse(NEVER);
-    let mut to = Receiver::new(alloc, LEN);
-    let mut tally = Tally { bytes: 0 };
-    heap.refuse(nth);
-    let (mut count, mut answer) = run_once(&mut to, runner, 0, &mut tally);
-    let refused = answer == Answer::OutOfMemory;
-    if refused {
-        let (more, again) = run_once(&mut to, runner, count, &mut tally);
-        count = count.wrapping_add(more);
-        answer = again;
-    }
-    let all = (count == 3) & (answer == Answer::Waits) & is_run(&to, runner, &tally);
-    all.then_some(refused)
+    delivers_to(heap, &mut Receiver::new(alloc, LEN), runner, nth)
 }
 
 // ---- readers

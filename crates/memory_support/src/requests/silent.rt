@@ -188,13 +188,11 @@ fn fixture<'h, A: Allocator + Copy, T: Target>(
 
 // Two calls, of which the second meets a remembered header where the first waits. The codec stands
 // before and, its ids set right, behind.
-fn decodes_nothing<A, T>(heap: &Heap, alloc: A, target: T, row: &Row<'_>) -> bool
+fn decodes_nothing_in<A, T>(to: &mut Fixture<'_, A, T>, answer: Answer) -> bool
 where
     A: Allocator + Copy,
     T: Target,
 {
-    let answer = row.2;
-    let mut to = fixture(heap, alloc, target, row);
     let mut all = to.stands() & to.is_aligned() & (to.decode() == answer);
     if answer == Answer::Waits {
         all &= to.decode() == answer;
@@ -205,6 +203,14 @@ where
     to.codec.sync_seq_id();
     to.codec.reset_seq_id();
     all & (to.requests() == (0, false))
+}
+
+fn decodes_nothing<A, T>(heap: &Heap, alloc: A, target: T, row: &Row<'_>) -> bool
+where
+    A: Allocator + Copy,
+    T: Target,
+{
+    decodes_nothing_in(&mut fixture(heap, alloc, target, row), row.2)
 }
 
 // The same of a single chunk, whose id isn't looked at.
