@@ -1,6 +1,6 @@
 //! The files that the words name, dumped.
 
-use mysql_wire_dump_commands::dump::run_dump;
+use crate::dump::run_dump;
 use mysql_wire_dump_lines::arguments::{Asked, Request, what_is_asked};
 use mysql_wire_dump_lines::status::{Stop, USAGE, exit_status};
 use std::alloc::{Allocator, Global};

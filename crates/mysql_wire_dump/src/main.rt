@@ -1,7 +1,10 @@
 //! Shows a captured session of MySQL's protocol, packet by packet.
 #![tactic(auto)]
 
+mod dump;
 mod files;
+mod session;
+mod statements;
 
 use files::run_words;
 use mysql_wire_dump_lines::status::fault_text;

@@ -1,0 +1,129 @@
+-- How the dump goes from packet to packet.
+use Rattle.std.specs.Prelude.{◌≡◌, ◌≢◌, ◌⊎◌, ℕ, List, [], ◌∷◌, ◌++◌, ⊤, All, string_bytes, Option, Some, None, Bool, true, false}
+use Rattle.std.specs.Io.KnownBytes.{Appends, Consumes}
+use Rattle.wire_codec.specs.Framing.{next_id}
+use Rattle.mysql_wire_dump.specs.declared.dump.Dump.{Dump}
+use Rattle.mysql_wire_dump_lines.specs.declared.options.Options.{Options}
+use Rattle.mysql_wire_dump_lines.specs.declared.side.Side.{Side}
+use Rattle.mysql_wire_dump_lines.specs.declared.side.Side.TheVariants.{Client, Server}
+use Rattle.mysql_wire_dump_lines.specs.declared.source.End.TheVariants.{Encrypted}
+use Rattle.mysql_wire_dump_lines.specs.declared.source.Next.{Next}
+use Rattle.mysql_wire_dump_lines.specs.declared.source.Next.TheVariants.{Unread, Packet, Ended}
+use Rattle.mysql_wire_dump.specs.Dumped.{InOrder, IsShown, Shown, lines_of, packets_of}
+use Rattle.mysql_wire_dump_lines.specs.Sources.{AtEnd, Stands, id_of}
+use Rattle.mysql_wire_dump_lines.specs.Turns.{turn}
+
+-- what may stand next of a side: where it was not looked at, anything
+abbrev pub Pends : Next → Option ℕ → Type 0
+Pends Unread next = ⊤
+Pends (Packet id) next = next ≡ Some id
+Pends (Ended end) next = next ≡ None
+
+-- the id behind these packets
+abbrev pub id_behind : ℕ → List Shown → ℕ
+id_behind next [] = next
+id_behind next (shown ∷ others) = id_behind (next_id shown.seen.id shown.payload) others
+
+-- so far these packets were shown, of these bytes of both sides, and so much text was written
+pub record Dumping {A : Type 0} (shown : List Shown) (client server written : List ℕ) (dump : Dump A) : Type 0
+  where
+    pub are_shown : All (IsShown dump.options) shown
+    pub clients : Stands (packets_of Client shown) client dump.client
+    pub servers : Stands (packets_of Server shown) server dump.server
+    pub client_limit : dump.client.limit ≡ dump.options.limit
+    pub server_limit : dump.server.limit ≡ dump.options.limit
+    pub behind : dump.next_id ≡ id_behind 0 shown
+    pub ordered : (client_next server_next : Option ℕ) → Pends dump.client.next client_next
+        → Pends dump.server.next server_next → InOrder 0 shown client_next server_next
+    pub lines : written ++ string_bytes dump.text ≡ lines_of dump.options.form shown
+
+-- a dump that begins
+pub record StartsDump {A : Type 0} (options : Options) (dump : Dump A) : Type 0 where
+  pub dumps : Dumping [] [] [] [] dump
+  pub options_are : dump.options ≡ options
+  pub client_next : dump.client.next ≡ Unread
+  pub server_next : dump.server.next ≡ Unread
+
+-- it is this side's turn
+abbrev pub IsTurn : {A : Type 0} → Side → Dump A → Type 0
+IsTurn side dump =
+    turn dump.session.place dump.next_id (id_of dump.client.next) (id_of dump.server.next)
+    ≡ Some side
+
+-- both sides were looked at
+abbrev pub IsLooked : {A : Type 0} → Dump A → Type 0
+IsLooked dump = (dump.client.next ≢ Unread) × (dump.server.next ≢ Unread)
+
+-- one packet more is shown, of the side whose turn it is
+pub record Shows {A : Type 0} (side : Side) (old new : Dump A) : Type 0 where
+  pub more : (shown : List Shown) (client server written : List ℕ)
+      → Dumping shown client server written old → IsTurn side old → IsLooked old
+      → (one : Shown) × Dumping (shown ++ one ∷ []) client server written new
+  pub options_are : new.options ≡ old.options
+  pub client_end : (left : Option (List ℕ)) → AtEnd old.client.next left
+      → AtEnd new.client.next left
+  pub server_end : (left : Option (List ℕ)) → AtEnd old.server.next left
+      → AtEnd new.server.next left
+
+-- what was read of both sides, shown and written so far
+pub record SoFar {A : Type 0} (dump : Dump A)
+    (client client_left server server_left written now : Option (List ℕ)) : Type 0 where
+  pub shown : List Shown
+  pub of_client : List ℕ
+  pub of_server : List ℕ
+  pub text : List ℕ
+  pub client_consumed : Consumes client client_left of_client
+  pub server_consumed : Consumes server server_left of_server
+  pub appended : Appends written now text
+  pub dumping : Dumping shown of_client of_server text dump
+  pub client_end : AtEnd dump.client.next client_left
+  pub server_end : AtEnd dump.server.next server_left
+
+-- what a dump that began showed of the bytes of both sides, and wrote
+pub record ShowsAll {A : Type 0} (dump : Dump A)
+    (client client_left server server_left written now : Option (List ℕ)) : Type 0 where
+  pub shown : List Shown
+  pub of_client : List ℕ
+  pub of_server : List ℕ
+  pub text : List ℕ
+  pub client_consumed : Consumes client client_left of_client
+  pub server_consumed : Consumes server server_left of_server
+  pub appended : Appends written now text
+  pub are_shown : All (IsShown dump.options) shown
+  pub clients : Stands (packets_of Client shown) of_client dump.client
+  pub servers : Stands (packets_of Server shown) of_server dump.server
+  pub client_next : Option ℕ
+  pub server_next : Option ℕ
+  pub ordered : InOrder 0 shown client_next server_next
+  pub none_left : (dump.client.next ≡ Ended Encrypted)
+      ⊎ ((client_next ≡ None) × (server_next ≡ None))
+  pub lines : text ++ string_bytes dump.text ≡ lines_of dump.options.form shown
+  pub client_end : AtEnd dump.client.next client_left
+  pub server_end : AtEnd dump.server.next server_left
+
+-- from what was shown so far a dump came here, and there may be more, or all is shown
+abbrev pub GoesTo : {A : Type 0} → Bool → Dump A → (client client_left server server_left written now : Option (List ℕ))
+    → Type 0
+GoesTo true = SoFar
+GoesTo false = ShowsAll
+
+abbrev pub Goes : {A : Type 0} → (old new : Dump A)
+    (client client_left server server_left written now : Option (List ℕ)) → Bool → Type 0
+Goes old new client client_left server server_left written now more =
+    (all_client all_server before : Option (List ℕ))
+    → SoFar old all_client client all_server server before written
+    → GoesTo more new all_client client_left all_server server_left before now
+
+-- the same over two readers and a writer
+abbrev pub GoesOver : {A R S W : Type 0} → (R → Option (List ℕ)) → (S → Option (List ℕ))
+    → (W → Option (List ℕ)) → Dump A → R → S → W → Dump A → R → S → W → Bool → Type 0
+GoesOver remaining others contents old client server output new client_left server_left now more =
+    Goes old new (remaining client) (remaining client_left) (others server) (others server_left)
+    (contents output) (contents now) more
+
+-- text was written, where there was much of it
+abbrev pub WritesMuch : {A W : Type 0} → (W → Option (List ℕ)) → Dump A → W → Dump A → W → Type 0
+WritesMuch contents old output new now =
+    (written : List ℕ) × Appends (contents output) (contents now) written
+    × (string_bytes old.text ≡ written ++ string_bytes new.text)
+    × (new ≡ record old { text = new.text })

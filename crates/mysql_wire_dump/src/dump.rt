@@ -1,0 +1,377 @@
+//! A session, packet by packet.
+
+ghost use Rattle.std.specs.Prelude.{◌≡◌, ◌≢◌, ◌<◌, ◌≤◌, ◌⊎◌, ◌++◌, ◌∷◌, ℕ, List, [], length, IfOk, IfSome, OnOk, string_bytes, false};
+ghost use Rattle.std.specs.Io.KnownBytes.{Appends};
+ghost use Rattle.mysql_wire_dump.specs.Dumped.{DumpEnds, Dumps, DumpsOver, ending_lines, field_form, status_of};
+ghost use Rattle.mysql_wire_dump.specs.Dumping.{GoesOver, StartsDump};
+ghost use Rattle.mysql_wire_dump.specs.Moments.{moment_of};
+ghost use Rattle.mysql_wire_dump.specs.Readings.{AreFields};
+ghost use Rattle.mysql_wire_dump_lines.specs.Naming.{IsOrBytes, kind_at};
+ghost use Rattle.mysql_wire_dump_lines.specs.Status.{end_status};
+ghost use Rattle.mysql_wire_dump_lines.specs.declared.kind.Kind.TheVariants.{TooLarge};
+
+use crate::session::Session;
+use mysql_wire_dump_lines::fields::{FieldForm, Fields};
+use mysql_wire_dump_lines::kind::Kind;
+use mysql_wire_dump_lines::lines::{LineForm, Seen, push_ending, push_packet};
+use mysql_wire_dump_lines::options::{Options, Sides};
+use mysql_wire_dump_lines::place::Place;
+use mysql_wire_dump_lines::side::Side;
+use mysql_wire_dump_lines::source::{End, Next, Source};
+use mysql_wire_dump_lines::status::{Stop, exit_status};
+use mysql_wire_dump_lines::turn::turn;
+use std::alloc::{AllocError, Allocator, Global};
+use std::io::{Read, Write};
+
+// How many bytes of text are written at a time.
+const WRITE_SIZE: usize = 65536;
+
+// Both directions, the session, and the text that is not written yet.
+#[derive(Drop)]
+struct Dump<A: Allocator + Copy> {
+    global: Global,
+    options: Options,
+    client: Source<A>,
+    server: Source<A>,
+    session: Session<A>,
+    fields: Fields<A>,
+    // The id behind the last packet.
+    next_id: u8,
+    text: String<A>,
+}
+
+// How fields are shown.
+fn field_form(options: Options) -> FieldForm
+    ensures { result ≡ field_form options }
+{
+    match (options.has_fields, options.form) {
+        (false, _) => FieldForm::Hidden,
+        (true, LineForm::Text) => FieldForm::Text,
+        (true, LineForm::Json) => FieldForm::Json,
+    }
+}
+
+// What a source's next packet is: its fields are put, and the session goes on behind it.
+#[tactic(auto, using(crate::proofs::ReadLemmas::shows_none, crate::proofs::ReadLemmas::shows_read))]
+fn name_packet<A: Allocator + Copy>(
+    global: Global,
+    side: Side,
+    id: u8,
+    source: &Source<A>,
+    session: &mut Session<A>,
+    fields: &mut Fields<A>,
+    form: FieldForm,
+) -> Result<Kind, Stop>
+    ensures large { IfOk result (λ kind. source.now.limit < source.now.len → kind ≡ TooLarge) }
+    ensures named { IfOk result (λ kind. source.now.len ≤ source.now.limit
+        → IsOrBytes (kind_at (moment_of session.old) side id source.now.held.items) kind) }
+    ensures passed { IfOk result (λ kind. source.now.limit < source.now.len
+        → (payload : List ℕ) → AreFields form kind payload fields.new.text) }
+    ensures shows { IfOk result (λ kind. source.now.len ≤ source.now.limit
+        → AreFields form kind source.now.held.items fields.new.text) }
+{
+    fields.begin(form);
+    let Some(payload) = source.payload() else {
+        session.pass(side, id);
+        return Ok(Kind::TooLarge);
+    };
+    let kind = session.name(global, side, id, payload, fields)?;
+    fields.end()?;
+    Ok(kind)
+}
+
+// The payload of which bytes may be shown.
+fn shown_payload<A: Allocator + Copy>(source: &Source<A>) -> &[u8]
+    ensures { source.now.len ≤ source.now.limit → result.now ≡ source.now.held.items }
+{
+    match source.payload() {
+        Some(payload) => payload,
+        None => &[],
+    }
+}
+
+impl<A: Allocator + Copy> Dump<A> {
+    ghost use Rattle.mysql_wire_dump.specs.Dumping.{Shows, WritesMuch};
+    ghost use Rattle.mysql_wire_dump_lines.specs.Turns.{turn};
+    ghost use Rattle.mysql_wire_dump_lines.specs.declared.side.Side.TheVariants.{Client, Server};
+    ghost use Rattle.mysql_wire_dump_lines.specs.Sources.{id_of};
+    ghost use Rattle.mysql_wire_dump_lines.specs.declared.source.Next.TheVariants.{Ended};
+
+    fn new(alloc: A, global: Global, options: Options) -> Self
+        ensures starts { StartsDump options result }
+    {
+        Dump {
+            global,
+            options,
+            client: Source::new(alloc, options.limit),
+            server: Source::new(alloc, options.limit),
+            session: Session::new(alloc),
+            fields: Fields::new(alloc),
+            next_id: 0,
+            text: String::new(alloc),
+        }
+    }
+
+    // Whose packet is next.
+    fn turn(&self) -> Option<Side>
+        ensures { result ≡ turn self.now.session.place self.now.next_id
+            (id_of self.now.client.next) (id_of self.now.server.next) }
+    {
+        turn(
+            self.session.place(),
+            self.next_id,
+            self.client.next_id(),
+            self.server.next_id(),
+        )
+    }
+
+    // Shows the client's next packet, and goes on behind it.
+    fn show_client(&mut self) -> Result<(), Stop>
+        ensures { OnOk result (Shows Client self.old self.new) }
+    {
+        let Some(id) = self.client.next_id() else {
+            return Err(Stop::Io);
+        };
+        let source = &self.client;
+        let session = &mut self.session;
+        let kind = name_packet(
+            self.global,
+            Side::Client,
+            id,
+            source,
+            session,
+            &mut self.fields,
+            field_form(self.options),
+        )?;
+        let seen = Seen {
+            side: Side::Client,
+            id,
+            len: source.payload_len(),
+            kind,
+        };
+        let fields = self.fields.text();
+        let payload = shown_payload(source);
+        push_packet(&mut self.text, self.options.form, &seen, payload, fields)?;
+        self.next_id = self.client.id_behind();
+        self.client.pass()?;
+        Ok(())
+    }
+
+    // Shows the server's next packet, and goes on behind it.
+    fn show_server(&mut self) -> Result<(), Stop>
+        ensures { OnOk result (Shows Server self.old self.new) }
+    {
+        let Some(id) = self.server.next_id() else {
+            return Err(Stop::Io);
+        };
+        let source = &self.server;
+        let session = &mut self.session;
+        let kind = name_packet(
+            self.global,
+            Side::Server,
+            id,
+            source,
+            session,
+            &mut self.fields,
+            field_form(self.options),
+        )?;
+        let seen = Seen {
+            side: Side::Server,
+            id,
+            len: source.payload_len(),
+            kind,
+        };
+        let fields = self.fields.text();
+        let payload = shown_payload(source);
+        push_packet(&mut self.text, self.options.form, &seen, payload, fields)?;
+        self.next_id = self.server.id_behind();
+        self.server.pass()?;
+        Ok(())
+    }
+
+    // Shows the next packet of a side.
+    fn show(&mut self, side: Side) -> Result<(), Stop>
+        ensures { OnOk result (Shows side self.old self.new) }
+    {
+        match side {
+            Side::Client => self.show_client(),
+            Side::Server => self.show_server(),
+        }
+    }
+
+    // Writes the text, where there is much of it.
+    fn write_much<W: Write>(&mut self, output: &mut W) -> Result<(), Stop>
+        ensures { OnOk result (WritesMuch W.contents self.old output.old self.new output.new) }
+    {
+        if self.text.len() >= WRITE_SIZE {
+            output.write_all(self.text.as_bytes())?;
+            self.text.clear();
+        }
+        Ok(())
+    }
+
+    // Why the client has no more packets, and the server.
+    fn ends(&self) -> Option<(End, End)>
+        ensures { IfSome result (λ ends. (self.now.client.next ≡ Ended ends.0)
+            × (self.now.server.next ≡ Ended ends.1)) }
+    {
+        match (self.client.next(), self.server.next()) {
+            (Next::Ended(client), Next::Ended(server)) => Some((client, server)),
+            _ => None,
+        }
+    }
+}
+
+// Shows the next packet. The answer is whether there may be more.
+fn show_next<A: Allocator + Copy, R: Read, S: Read, W: Write>(
+    dump: &mut Dump<A>,
+    client: &mut R,
+    server: &mut S,
+    output: &mut W,
+) -> Result<bool, Stop>
+    ensures goes { IfOk result (GoesOver R.remaining S.remaining W.contents
+        dump.old client.old server.old output.old dump.new client.new server.new output.new) }
+    ensures options { OnOk result (dump.new.options ≡ dump.old.options) }
+{
+    dump.client.look(client)?;
+    dump.server.look(server)?;
+    let Some(side) = dump.turn() else {
+        return Ok(false);
+    };
+    dump.show(side)?;
+    dump.write_much(output)?;
+    if dump.session.place() == Place::Encrypted {
+        dump.client.hide();
+        dump.server.hide();
+        return Ok(false);
+    }
+    Ok(true)
+}
+
+// Shows all packets of both sides.
+fn show_all<A: Allocator + Copy, R: Read, S: Read, W: Write>(
+    dump: &mut Dump<A>,
+    client: &mut R,
+    server: &mut S,
+    output: &mut W,
+) -> Result<(), Stop>
+    ensures goes { OnOk result (GoesOver R.remaining S.remaining W.contents
+        dump.old client.old server.old output.old dump.new client.new server.new output.new
+        false) }
+    ensures options { OnOk result (dump.new.options ≡ dump.old.options) }
+{
+    'packets: for _ in 0..u64::MAX {
+        if !show_next(dump, client, server, output)? {
+            return Ok(());
+        }
+    }
+    Err(Stop::Io)
+}
+
+// The status of a side that ends so.
+fn end_status(end: End) -> u8
+    ensures { result ≡ end_status end }
+{
+    match end {
+        End::Between | End::Encrypted => 0,
+        End::Unfinished => 3,
+        End::OutOfSync => 5,
+    }
+}
+
+// Appends how the sides end.
+fn push_endings<A: Allocator + Copy>(
+    text: &mut String<A>,
+    form: LineForm,
+    sides: Sides,
+    client: (End, u64),
+    server: (End, u64),
+) -> Result<(), AllocError>
+    ensures { OnOk result (string_bytes text.new ≡ string_bytes text.old
+        ++ ending_lines form sides client.0 client.1 server.0 server.1) }
+{
+    match sides {
+        Sides::Client => push_ending(text, form, Side::Client, client.0, client.1),
+        Sides::Server => push_ending(text, form, Side::Server, server.0, server.1),
+        Sides::Both => {
+            push_ending(text, form, Side::Client, client.0, client.1)?;
+            push_ending(text, form, Side::Server, server.0, server.1)
+        }
+    }
+}
+
+// The exit status where the sides end so.
+fn status_of(sides: Sides, client: End, server: End) -> u8
+    ensures { result ≡ status_of sides client server }
+{
+    match sides {
+        Sides::Client => end_status(client),
+        Sides::Server => end_status(server),
+        Sides::Both => end_status(client).max(end_status(server)),
+    }
+}
+
+// Shows what a dump that begins is given, and how each of its sides ends. The answer is the exit
+// status.
+fn show_whole<A: Allocator + Copy, R: Read, S: Read, W: Write>(
+    dump: &mut Dump<A>,
+    options: Options,
+    sides: Sides,
+    client: &mut R,
+    server: &mut S,
+    output: &mut W,
+) -> Result<u8, Stop>
+    ensures { IfOk result (λ status. StartsDump options dump.old → DumpsOver options sides
+        R.remaining S.remaining W.contents client.old server.old output.old
+        client.new server.new output.new status) }
+{
+    show_all(dump, client, server, output)?;
+    let Some((client_end, server_end)) = dump.ends() else {
+        return Err(Stop::Io);
+    };
+    let of_client = (client_end, dump.client.place());
+    let of_server = (server_end, dump.server.place());
+    push_endings(&mut dump.text, options.form, sides, of_client, of_server)?;
+    output.write_all(dump.text.as_bytes())?;
+    output.flush()?;
+    Ok(status_of(sides, client_end, server_end))
+}
+
+// Shows a session, and how each of its sides ends. The answer is the exit status.
+fn show_session<A: Allocator + Copy, R: Read, S: Read, W: Write>(
+    alloc: A,
+    global: Global,
+    options: Options,
+    sides: Sides,
+    client: &mut R,
+    server: &mut S,
+    output: &mut W,
+) -> Result<u8, Stop>
+    ensures { IfOk result (Dumps options sides (R.remaining client.old) (R.remaining client.new)
+        (S.remaining server.old) (S.remaining server.new) (W.contents output.old)
+        (W.contents output.new)) }
+{
+    let mut dump = Dump::new(alloc, global, options);
+    let status = show_whole(&mut dump, options, sides, client, server, output)?;
+    Ok(status)
+}
+
+/// Shows a session whose directions are these inputs, packet by packet. The answer is the exit
+/// status: 0 where each input ended between two packets, 3 where one ended inside a packet, 5 where
+/// the chunks of a packet are out of sync, 2 where a read or a write failed, 6 where memory was
+/// refused. All memory is `alloc`'s: with `global` packets are read, which takes none.
+pub fn run_dump<A: Allocator + Copy, R: Read, S: Read, W: Write>(
+    alloc: A,
+    global: Global,
+    options: Options,
+    sides: Sides,
+    client: &mut R,
+    server: &mut S,
+    output: &mut W,
+) -> u8
+    ensures { DumpEnds options sides (R.remaining client.old) (R.remaining client.new)
+        (S.remaining server.old) (S.remaining server.new) (W.contents output.old)
+        (W.contents output.new) result }
+{
+    exit_status(show_session(alloc, global, options, sides, client, server, output))
+}
