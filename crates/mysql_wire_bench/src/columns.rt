@@ -20,36 +20,30 @@ const NAMES: u8 = 6;
 
 type Text<'a> = RawBytes<'a, LenEnc>;
 
-// The catalog, the schema, the table and its own name, the column and its own name.
-type Names<'a> = Both<
-    Text<'a>,
-    Both<Text<'a>, Both<Text<'a>, Both<Text<'a>, Both<Text<'a>, Text<'a>>>>>,
->;
+// The catalog and the schema; the table and its own name; the column and its own name.
+type Names<'a> = Both<Pair<'a>, Both<Pair<'a>, Pair<'a>>>;
 
-// The collation, the length, the type, the flags, the decimals and a filler.
-type Numbers = Both<
-    ConstU8<FixedFields, FIXED_FIELDS>,
-    Both<
-        u16,
-        Both<
-            u32,
-            Both<Const<ColumnType, u8>, Both<RawFlags<ColumnFlags, LeU16>, Both<u8, Skip<2>>>>,
-        >,
-    >,
->;
+type Pair<'a> = Both<Text<'a>, Text<'a>>;
+
+// The collation and the length; the type and the flags; the decimals and a filler.
+type Numbers = Both<Sizes, Both<Kind, Both<u8, Skip<2>>>>;
+
+type Sizes = Both<ConstU8<FixedFields, FIXED_FIELDS>, Both<u16, u32>>;
+
+type Kind = Both<Const<ColumnType, u8>, RawFlags<ColumnFlags, LeU16>>;
 
 type Definition<'a> = Both<Names<'a>, Numbers>;
 
 // Reads a definition as a field.
 #[inline(always)]
 fn read<'a>(alloc: Global, buf: &mut ParseBuf<'a>) -> Result<Definition<'a>, WireError> {
-    let names = ((), ((), ((), ((), ((), ())))));
-    let numbers = ((), ((), ((), ((), ((), ((), ()))))));
+    let names = (((), ()), (((), ()), ((), ())));
+    let numbers = (((), ((), ())), (((), ()), ((), ())));
     buf.parse(alloc, (names, numbers))
 }
 
 fn of_names(names: &Names<'_>) -> u64 {
-    let Both(catalog, Both(schema, Both(table, Both(org_table, Both(name, org_name))))) = names;
+    let Both(Both(catalog, schema), Both(Both(table, org_table), Both(name, org_name))) = names;
     summary(catalog.as_bytes())
         .wrapping_add(summary(schema.as_bytes()))
         .wrapping_add(summary(table.as_bytes()))
@@ -59,7 +53,7 @@ fn of_names(names: &Names<'_>) -> u64 {
 }
 
 fn of_numbers(numbers: &Numbers) -> u64 {
-    let Both(_, Both(collation, Both(length, Both(column_type, Both(flags, Both(decimals, _)))))) =
+    let Both(Both(_, Both(collation, length)), Both(Both(column_type, flags), Both(decimals, _))) =
         numbers;
     (*collation as u64)
         .wrapping_add(*length as u64)
