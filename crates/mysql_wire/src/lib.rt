@@ -21,8 +21,9 @@ pub mod misc {
 
     /// Numbers, texts and constants as fields of packets, and fields in a row and in lists.
     pub mod raw {
-        pub use wire_field::converted::{Const, IntoNumber, Numbered, RawConst, RawFlags};
+        pub use wire_field::converted::{Const, IntoNumber, Numbered, RawConst};
         pub use wire_field::row::{Both, Either, Slice};
+        pub use wire_flags::flags::RawFlags;
         pub use wire_forms::constant::Skip;
         pub use wire_list::raw_seq::RawSeq;
         pub use wire_repr::int::RawInt;
@@ -45,7 +46,7 @@ pub mod misc {
 
         /// Numbers that stand for sets of flags.
         pub mod flags {
-            pub use wire_field::converted::RawFlags;
+            pub use wire_flags::flags::RawFlags;
         }
 
         /// Lists, by the representations of their count.

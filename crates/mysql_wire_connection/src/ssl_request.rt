@@ -10,8 +10,8 @@ use wire_buf::error::WireError;
 use wire_buf::io::ParseBuf;
 use wire_buf::proto::{HasSize, MyDeserialize, MySerialize, Varying};
 use wire_const::{CapabilityFlags, MariadbCapabilities};
-use wire_field::converted::RawFlags;
 use wire_field::row::Both;
+use wire_flags::flags::RawFlags;
 use wire_repr::int::LeU32;
 use wire_repr::wire::Wire;
 

@@ -20,8 +20,8 @@ use wire_buf::error::WireError;
 use wire_buf::io::ParseBuf;
 use wire_buf::proto::{HasSize, MyDeserialize, MySerialize, Varying};
 use wire_const::CursorType;
-use wire_field::converted::RawFlags;
 use wire_field::row::{Both, Either};
+use wire_flags::flags::RawFlags;
 use wire_forms::constant::{ConstU8, Skip};
 use wire_repr::wire::Wire;
 

@@ -20,7 +20,8 @@ use mysql_wire_statements::com_stmt_prepare::ComStmtPrepare;
 use mysql_wire_statements::prepare_answer::PrepareAnswer;
 use std::alloc::Global;
 use wire_const::{CapabilityFlags, ColumnType, Flags, MariadbCapabilities, StatusFlags};
-use wire_field::converted::{RawConst, RawFlags};
+use wire_field::converted::RawConst;
+use wire_flags::flags::RawFlags;
 use wire_repr::int::LeU16;
 
 /// What both sides have said so far.

@@ -1,5 +1,5 @@
-//! Fields that mean something, and fields together: constants and sets of flags by their numbers,
-//! bytes, one of two values, and two in a row.
+//! Fields that mean something, and fields together: constants by their numbers, bytes, one of two
+//! values, and two in a row.
 #![tactic(auto)]
 
 pub mod converted;

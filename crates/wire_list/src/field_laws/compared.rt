@@ -11,8 +11,9 @@ use crate::seq::Seq;
 use bitflags::Flags;
 use std::alloc::Allocator;
 use std::hash::Hash;
-use wire_field::converted::{Const, RawConst, RawFlags};
+use wire_field::converted::{Const, RawConst};
 use wire_field::row::{Both, Slice};
+use wire_flags::flags::RawFlags;
 use wire_repr::int::{IntRepr, RawInt};
 use wire_repr::text::{BytesRepr, RawBytes};
 

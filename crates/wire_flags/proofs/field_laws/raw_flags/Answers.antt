@@ -1,4 +1,4 @@
-use Rattle.mysql_wire.proofs.field_laws.converted.raw_flags.Goals as goal
+use Rattle.wire_flags.proofs.field_laws.raw_flags.Goals as goal
 
 pub returns-clause-back : goal.returns-clause-back
 returns-clause-back g c =
