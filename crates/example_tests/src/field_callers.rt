@@ -1,17 +1,11 @@
-//! The callers of fields, and the representations of one's own, run.
+//! The callers of fields, run.
 
-use field_examples::own_fields::{BeU16, U16Bytes, read_name, read_port};
-use field_examples::parameters::{Parameter, put_parameters, read_parameters};
-use mysql_wire::io::ParseBuf;
-use mysql_wire::misc::raw::bytes::RawBytes;
-use mysql_wire::misc::raw::int::RawInt;
-use mysql_wire::proto::MySerialize;
 use mysql_wire_examples::field_callers::{
     EofPacket, put_named, put_schema, read_eof, read_error, read_named, read_ok, write_name,
 };
 use std::alloc::Global;
 use std::test::Fail;
-use test_support::facts::{all_hold, ensure, same};
+use test_support::facts::{all_hold, same};
 
 #[test]
 fn payloads_are_read(_: HostRuntime) -> Result<(), Fail> {
@@ -38,97 +32,17 @@ fn is_named(alloc: Global) -> bool {
     named & read_named(alloc, b"\x01\x02\x03id").is_err()
 }
 
+fn are_put(buf: &mut Vec<u8>) -> bool {
+    let mut put = put_schema(buf, 0x030201, b"ab").is_ok();
+    put &= same(buf.as_slice(), b"\x01\x02\x03\x02ab");
+    put &= matches!(write_name(buf, b"abc"), Ok(4));
+    put &= same(buf.as_slice(), b"\x01\x02\x03\x02ab\x03abc");
+    put &= put_named(buf, 0x0201, b"id").is_ok();
+    put & same(buf.as_slice(), b"\x01\x02\x03\x02ab\x03abc\x01\x02\x02id")
+}
+
 #[test]
 fn fields_are_put_and_read(rt: HostRuntime) -> Result<(), Fail> {
     let mut buf = Vec::new(rt.alloc());
-    let mut put = put_schema(&mut buf, 0x030201, b"ab").is_ok();
-    put &= same(buf.as_slice(), b"\x01\x02\x03\x02ab");
-    put &= matches!(write_name(&mut buf, b"abc"), Ok(4));
-    put &= same(buf.as_slice(), b"\x01\x02\x03\x02ab\x03abc");
-    put &= put_named(&mut buf, 0x0201, b"id").is_ok();
-    put &= same(buf.as_slice(), b"\x01\x02\x03\x02ab\x03abc\x01\x02\x02id");
-    ensure(put & is_named(rt.alloc()), "a field is put otherwise")
-}
-
-// Whether a port and a name are read, and none of them where a byte is missing.
-fn is_own(alloc: Global, bytes: &[u8]) -> bool {
-    let mut buf = ParseBuf(bytes);
-    let port = match read_port(alloc, &mut buf) {
-        Ok(port) => port.0,
-        Err(_) => 0,
-    };
-    let name = match read_name(alloc, &mut buf) {
-        Ok(name) => same(name.as_bytes(), b"id"),
-        Err(_) => false,
-    };
-    let is_cut = read_port(alloc, &mut ParseBuf(b"\x12")).is_err()
-        & read_name(alloc, &mut ParseBuf(b"\0\x02i")).is_err();
-    (port == 0x1234) & name & buf.is_empty() & is_cut
-}
-
-// Whether just as many bytes of a text stand behind their length as two bytes can state.
-fn is_bounded(alloc: Global) -> bool {
-    match Vec::from_elem(alloc, b'a', 65536) {
-        Ok(long) => RawBytes::<U16Bytes>::from(long.as_slice()).len() == 65535,
-        Err(_) => false,
-    }
-}
-
-#[test]
-fn own_fields_are_written_and_read(rt: HostRuntime) -> Result<(), Fail> {
-    let mut buf = Vec::new(rt.alloc());
-    let port = RawInt::<BeU16>::new(0x1234);
-    let name = RawBytes::<U16Bytes>::from(b"id".as_slice());
-    let mut own = port.serialize(&mut buf).is_ok() & name.serialize(&mut buf).is_ok();
-    own &= same(buf.as_slice(), b"\x12\x34\0\x02id");
-    own &= is_own(rt.alloc(), buf.as_slice()) & is_bounded(rt.alloc());
-    ensure(own, "a port and a name")
-}
-
-// A number of two bytes and a name behind its length.
-fn parameter<'a>(type_and_flags: u16, name: &'a [u8]) -> Parameter<'a> {
-    Parameter {
-        type_and_flags: RawInt::new(type_and_flags),
-        name: RawBytes::from(name),
-    }
-}
-
-// Whether so many are these, or aren't there; and so many bytes are left.
-fn are_read(
-    alloc: Global,
-    bytes: &[u8],
-    count: usize,
-    parameters: Option<&[Parameter<'_>]>,
-    left: usize,
-) -> bool {
-    let mut buf = ParseBuf(bytes);
-    let is_so = match read_parameters(alloc, count, &mut buf) {
-        Ok(list) => parameters == Some(list.0.as_slice()),
-        Err(_) => parameters.is_none(),
-    };
-    is_so & (buf.len() == left)
-}
-
-#[test]
-fn parameters_are_written_and_read(rt: HostRuntime) -> Result<(), Fail> {
-    let alloc = rt.alloc();
-    let parameters = [parameter(0x8003, b"id"), parameter(0xfd, b"")];
-    let bytes = b"\x03\x80\x02id\xfd\0\0".as_slice();
-    let mut buf = Vec::new(alloc);
-    let is_put = put_parameters(&parameters, &mut buf).is_ok();
-    all_hold(&[
-        is_put & same(buf.as_slice(), bytes),
-        are_read(alloc, bytes, 2, Some(&parameters), 0),
-        are_read(
-            alloc,
-            b"\x03\x80\x02id\xfd\0\0\xaa",
-            2,
-            Some(&parameters),
-            1,
-        ),
-        are_read(alloc, b"\xaa", 0, Some(&[]), 1),
-        are_read(alloc, bytes, 3, None, 0),
-        are_read(alloc, b"\x03\x80\x02i\xaa", 2, None, 0),
-        are_read(alloc, b"\x03", 1, None, 1),
-    ])
+    all_hold(&[are_put(&mut buf), is_named(rt.alloc())])
 }

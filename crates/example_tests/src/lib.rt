@@ -1,12 +1,10 @@
-//! The callers of `mysql_wire_examples` and `field_examples`, run, and values as packets.
+//! The callers of `mysql_wire_examples`, run, and values as packets.
 #![tactic(auto)]
 
 #[cfg(test)]
 mod both_ends;
 #[cfg(test)]
 mod callers;
-#[cfg(test)]
-mod constant_calls;
 #[cfg(test)]
 mod field_callers;
 #[cfg(test)]
@@ -21,7 +19,5 @@ mod recorded;
 mod session;
 #[cfg(test)]
 mod sockets;
-#[cfg(test)]
-mod text_lists;
 #[cfg(test)]
 mod values;

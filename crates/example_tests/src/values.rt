@@ -1,11 +1,10 @@
 //! Values as packets, and packets as values.
 
-use bytes::BytesMut;
 use mysql_wire::misc::raw::Both;
 use mysql_wire::misc::raw::bytes::{BytesRepr, EofBytes, RawBytes, U8Bytes};
 use mysql_wire::misc::raw::int::{LeU16, LenEnc, RawInt};
 use mysql_wire::proto::MySerialize;
-use mysql_wire::proto::codec::{PacketCodec, encode_value, parse_packet};
+use mysql_wire::proto::codec::{encode_value, parse_packet};
 use mysql_wire_examples::values::{TransferError, send_and_read};
 use refusing_allocator::NEVER;
 use std::alloc::{Allocator, Global};
@@ -33,14 +32,6 @@ fn encode_two<A: Allocator + Copy>(to: &mut Receiver<A>) -> Answer {
     encode(to, &RawInt::<LeU16>::new(0x0302))
 }
 
-// Whether a value alone is these bytes.
-fn is_packet<T: MySerialize + Drop>(alloc: Global, value: T, packet: &[u8]) -> bool {
-    let mut codec = PacketCodec::default();
-    let mut wire = BytesMut::new(alloc);
-    let is_put = encode_value(&mut codec, &value, &mut wire).is_ok();
-    is_put & same(wire.as_slice(), packet)
-}
-
 // Whether three numbers are three packets.
 fn are_numbered(alloc: Global) -> bool {
     let mut to = Receiver::new(alloc, 4194304);
@@ -57,33 +48,38 @@ fn is_borrowed<T: BytesRepr>(text: &RawBytes<'_, T>, bytes: &[u8]) -> bool {
     matches!(text.0, CowSlice::Borrowed(_)) & same(text.0.as_slice(), bytes)
 }
 
+// Whether a row is the number 1 and these texts, which borrow.
+fn is_of(row: &Row<'_>, first: &[u8], second: &[u8]) -> bool {
+    (row.0.0 == 1) & is_borrowed(&row.1.0, first) & is_borrowed(&row.1.1, second)
+}
+
 // Whether a row is read from its payload, and borrows from it, and nothing is left.
-fn is_row(alloc: Global, payload: &[u8], number: u16, first: &[u8], second: &[u8]) -> bool {
-    match parse_packet::<Row<'_>>(alloc, ((), ((), ())), payload) {
-        Ok((back, rest)) => {
-            let all = (back.0.0 == number) & rest.is_empty();
-            all & is_borrowed(&back.1.0, first) & is_borrowed(&back.1.1, second)
-        }
+fn is_row(alloc: Global) -> bool {
+    match parse_packet::<Row<'_>>(alloc, ((), ((), ())), b"\x01\0\x01ab") {
+        Ok((row, rest)) => is_of(&row, b"a", b"b") & rest.is_empty(),
         Err(_) => false,
     }
 }
 
 // Whether the number 7 and the text `a` are read, and `ff` is left.
-fn is_pair(alloc: Global, payload: &[u8]) -> bool {
+fn is_pair(alloc: Global) -> bool {
+    let payload = b"\x07\x01a\xff";
     match parse_packet::<Both<RawInt<u8>, RawBytes<'_, U8Bytes>>>(alloc, ((), ()), payload) {
-        Ok((back, rest)) => { (back.0.0 == 7) & is_borrowed(&back.1, b"a") & same(rest.0, b"\xff") }
+        Ok((pair, rest)) => (pair.0.0 == 7) & is_borrowed(&pair.1, b"a") & same(rest.0, b"\xff"),
         Err(_) => false,
     }
 }
 
 // Whether a row is these bytes.
 fn is_row_put(alloc: Global) -> bool {
+    let mut to = Receiver::new(alloc, 4194304);
     let texts = Both(
         RawBytes::new(CowSlice::Borrowed(b"a")),
         RawBytes::new(CowSlice::Borrowed(b"b")),
     );
     let row: Row<'_> = Both(RawInt::new(1), texts);
-    is_packet(alloc, row, b"\x05\0\0\0\x01\0\x01ab")
+    let is_put = encode(&mut to, &row) == Answer::Done;
+    is_put & same(to.src.as_slice(), b"\x05\0\0\0\x01\0\x01ab")
 }
 
 // Whether two bytes are refused under a limit of one, or where request number `nth` is, and the
@@ -129,14 +125,14 @@ fn are_same(answer: &Result<Vec<RawBytes<'_, EofBytes>>, TransferError>) -> bool
     }
 }
 
+fn text(bytes: &'static [u8]) -> RawBytes<'static, EofBytes> {
+    RawBytes::new(CowSlice::Borrowed(bytes))
+}
+
 // Whether three texts come back over bytes that are cut there.
 fn come_back(alloc: Global, cuts: (usize, usize)) -> bool {
     let mut packets = Vec::new(alloc);
-    let texts: [RawBytes<'_, EofBytes>; 3] = [
-        RawBytes::new(CowSlice::Borrowed(b"ab")),
-        RawBytes::new(CowSlice::Borrowed(b"")),
-        RawBytes::new(CowSlice::Borrowed(b"c")),
-    ];
+    let texts = [text(b"ab"), text(b""), text(b"c")];
     are_same(&send_and_read(alloc, 2, &texts, cuts, &mut packets))
 }
 
@@ -157,9 +153,9 @@ fn values_are_packets_and_come_back(rt: HostRuntime) -> Result<(), Fail> {
     all_hold(&[
         are_numbered(alloc),
         is_row_put(alloc),
-        is_row(alloc, b"\x01\0\x01ab", 1, b"a", b"b"),
+        is_row(alloc),
         // What follows a value is left.
-        is_pair(alloc, b"\x07\x01a\xff"),
+        is_pair(alloc),
         come_back_wherever(alloc),
     ])
 }

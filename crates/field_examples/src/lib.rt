@@ -1,5 +1,5 @@
 //! Fields of payloads, lists and sets of flags, as CALLING.md names them: proved callers.
-//! `example_tests` runs them.
+//! `mysql_wire_vectors` runs them.
 #![tactic(auto)]
 
 pub mod commands;

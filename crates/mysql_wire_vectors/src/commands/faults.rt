@@ -1,6 +1,6 @@
 // The commands with each read, each write, the flush and each request for memory failing in turn.
 
-use crate::run::{Faults, NO_FAULT, run};
+use crate::commands::run::{Faults, NO_FAULT, run};
 use std::alloc::Global;
 use std::io::ErrorKind;
 use std::test::Fail;

@@ -19,8 +19,8 @@ const SECOND: u16 = 0x000e;
 // Whether the sets have these bits.
 fn are(sets: &[StatusFlags], wanted: &[u16]) -> bool {
     let mut all = sets.len() == wanted.len();
-    for (flags, number) in sets.iter().zip(wanted) {
-        all &= bits(*flags) == *number;
+    for i in 0..sets.len().min(wanted.len()) {
+        all &= bits(sets[i]) == wanted[i];
     }
     all
 }

@@ -12,40 +12,44 @@ use std::collections::{BTreeMap, HashMap};
 use std::test::Fail;
 use test_support::facts::{all_hold, same};
 
-fn are(list: &Texts<'_>, texts: &[&[u8]]) -> bool {
+fn are(list: &[RawBytes<'_, LenEnc>], texts: &[&[u8]]) -> bool {
     let mut all = list.len() == texts.len();
-    for (text, wanted) in list.as_slice().iter().zip(texts) {
-        all &= same(text.as_bytes(), wanted);
+    for i in 0..list.len().min(texts.len()) {
+        all &= same(list[i].as_bytes(), texts[i]);
     }
     all
 }
 
+// Whether a list that was made has these texts.
+fn is_list(list: Option<Texts<'_>>, texts: &[&[u8]]) -> bool {
+    match list {
+        Some(list) => are(list.as_slice(), texts),
+        None => false,
+    }
+}
+
+// Whether the copy of a list that is lent has this text, and is lent too.
+fn is_lent(alloc: Global, list: &Texts<'_>, text: &[u8]) -> bool {
+    match copy_texts(alloc, list) {
+        Ok(copy) => are(copy.as_slice(), &[text]) & matches!(copy.0, CowSlice::Borrowed(_)),
+        Err(_) => false,
+    }
+}
+
 // Whether a list that is lent has one text more, and its copies are the same.
 fn is_pushed<'a>(alloc: Global, one: &'a [RawBytes<'a, LenEnc>]) -> bool {
+    let wanted: &[&[u8]] = &[b"a", b"bc"];
     let mut list: Texts<'a> = Seq::new(CowSlice::Borrowed(one));
-    let copies = match copy_texts(alloc, &list) {
-        Ok(copy) => are(&copy, &[b"a"]) & matches!(copy.0, CowSlice::Borrowed(_)),
-        Err(_) => false,
-    };
-    let pushes = push_text(alloc, &mut list, b"bc").is_ok() & are(&list, &[b"a", b"bc"]);
-    let copied = match copy_texts(alloc, &list) {
-        Ok(copy) => are(&copy, &[b"a", b"bc"]),
-        Err(_) => false,
-    };
-    let owned = match own_texts(alloc, list) {
-        Ok(owned) => are(&owned, &[b"a", b"bc"]),
-        Err(_) => false,
-    };
-    copies & pushes & copied & owned
+    let mut all = is_lent(alloc, &list, b"a");
+    all &= push_text(alloc, &mut list, b"bc").is_ok() & are(list.as_slice(), wanted);
+    all &= is_list(copy_texts(alloc, &list).ok(), wanted);
+    all & is_list(own_texts(alloc, list).ok(), wanted)
 }
 
 fn is_read_and_pushed(alloc: Global) -> bool {
     let mut buf = ParseBuf(b"\x01\0\0\0\x02ab\xff");
-    let is_read = match read_and_push(alloc, &mut buf, b"c") {
-        Ok(list) => are(&list, &[b"ab", b"c"]),
-        Err(_) => false,
-    };
-    is_read & (buf.len() == 1)
+    let list = read_and_push(alloc, &mut buf, b"c").ok();
+    is_list(list, &[b"ab", b"c"]) & (buf.len() == 1)
 }
 
 fn are_statements(alloc: Global) -> bool {
