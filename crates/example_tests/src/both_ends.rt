@@ -132,13 +132,18 @@ const FIRST: &[First] = &[
     (b"\x03\0\0\0abc", None, 0),
 ];
 
+fn is_wanted(packet: Option<Vec<u8>>, wanted: Option<&[u8]>) -> bool {
+    match packet {
+        Some(packet) => same_if_any(Some(packet.as_slice()), wanted),
+        None => false,
+    }
+}
+
 fn is_first(alloc: Global, row: First) -> bool {
     let (bytes, wanted, left) = row;
     match first_packet(alloc, bytes, 2) {
         Ok((reader, codec, packet)) => {
-            let packet = packet.as_ref().map(Vec::as_slice);
-            let is_there = wanted.is_some() & same_if_any(packet, wanted);
-            is_there & (reader.unread().len() == left) & (codec.sequence_id() == 1)
+            is_wanted(packet, wanted) & (reader.unread().len() == left) & (codec.sequence_id() == 1)
         }
         Err(_) => wanted.is_none(),
     }

@@ -53,9 +53,9 @@ fn fill<A: Allocator + Copy>(src: &mut BytesMut<A>) -> bool {
 }
 
 // Whether a full chunk is decoded under a limit of 1 GiB, and room is taken for its payload alone.
-fn full_chunk_is_decoded(heap: &Heap) -> bool {
-    let mut src = BytesMut::new(heap);
-    let mut dst = Vec::new(heap);
+fn full_chunk_is_decoded<A: Allocator + Copy>(heap: &Heap, alloc: A) -> bool {
+    let mut src = BytesMut::new(alloc);
+    let mut dst = Vec::new(alloc);
     let mut codec = PacketCodec::default();
     codec.max_allowed_packet = 1 << 30;
     let filled = fill(&mut src);
@@ -66,8 +66,8 @@ fn full_chunk_is_decoded(heap: &Heap) -> bool {
 }
 
 // Whether a packet of 1 MiB is encoded, and room is taken for its framing alone.
-fn packet_is_encoded(heap: &Heap, payload: &[u8]) -> bool {
-    let mut dst = BytesMut::new(heap);
+fn packet_is_encoded<A: Allocator + Copy>(heap: &Heap, alloc: A, payload: &[u8]) -> bool {
+    let mut dst = BytesMut::new(alloc);
     let mut codec = PacketCodec::default();
     let mut packet = payload;
     heap.refuse(NEVER);
@@ -76,12 +76,17 @@ fn packet_is_encoded(heap: &Heap, payload: &[u8]) -> bool {
     room & (answer == Answer::Done) & (dst.len() == 4 + 1048576)
 }
 
+// Both over the same allocator, which is looked at as one once.
+fn packets_take_room<A: Allocator + Copy>(heap: &Heap, alloc: A, payload: &[u8]) -> [bool; 2] {
+    [
+        full_chunk_is_decoded(heap, alloc),
+        packet_is_encoded(heap, alloc, payload),
+    ]
+}
+
 #[test]
 fn a_packet_takes_room_for_itself(rt: HostRuntime) -> Result<(), Fail> {
     let heap = Refusing::new(rt.alloc(), NEVER);
     let payload = Vec::from_elem(rt.alloc(), 7u8, 1048576)?;
-    all_hold(&[
-        full_chunk_is_decoded(&heap),
-        packet_is_encoded(&heap, payload.as_slice()),
-    ])
+    all_hold(&packets_take_room(&heap, &heap, payload.as_slice()))
 }
