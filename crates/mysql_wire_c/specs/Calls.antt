@@ -5,7 +5,7 @@ use Rattle.wire_codec.specs.declared.codec.error.PacketCodecError.TheVariants.{O
 use Rattle.wire_codec.specs.Framing.{max_payload, framing, next_id}
 use Rattle.mysql_wire_side.specs.declared.codes.TheConstants.{OK, TOO_LARGE, OUT_OF_SYNC, NO_MEMORY, ROOM_TOO_SMALL, PACKET_WAITS}
 use Rattle.mysql_wire_side.specs.Side.{Side, ConnectionState}
-use Rattle.mysql_wire_side.specs.Answers.{HandsOut, HasPacket, Waits, Stops, LosesSync}
+use Rattle.mysql_wire_side.specs.Answers.{IsNextPacket, HasPacket, Waits, Stops, LosesSync}
 
 -- this holds of two connections, where both are open
 abbrev pub BothStates : Option ConnectionState → Option ConnectionState
@@ -22,7 +22,7 @@ pub record SetsLimit (limit : ℕ) (answer : ℤ) (before after : Side) : Type 0
       × (Waits before between ⊎ Stops before PacketTooLarge between)
       × (after ≡ record between { state = record between.state { limit = limit } })
   pub packet : answer ≡ PACKET_WAITS
-      → IfSome after.lent (λ packet. HandsOut before packet after.state)
+      → IfSome after.lent (λ packet. IsNextPacket before packet after.state)
   pub lent : answer ≡ PACKET_WAITS → IsSome after.lent × (after.is_lost ≡ false)
   pub found : HasPacket before → answer ≡ PACKET_WAITS
   pub memory : answer ≡ NO_MEMORY → Stops before OutOfMemory after

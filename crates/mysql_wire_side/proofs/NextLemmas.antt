@@ -5,14 +5,14 @@ use Rattle.std.proofs.Math.Seq.{take-append_seam, drop-append_seam}
 use Rattle.wire_codec.specs.Codec.{CodecState}
 use Rattle.mysql_wire_side.specs.declared.codes.TheConstants.{PACKET, ROOM_TOO_SMALL}
 use Rattle.mysql_wire_side.specs.Side.{Side}
-use Rattle.mysql_wire_side.specs.Answers.{HandsOut}
+use Rattle.mysql_wire_side.specs.Answers.{IsNextPacket}
 use Rattle.mysql_wire_side.specs.Calls.{Peeks, CopiesNext}
 
 -- the packet that is shown is the one that is lent
 shown_is : (lent : Option (List ℕ)) (packet : List ℕ) (before : Side) (state : CodecState) → IsSome lent
-    → IfSome lent (λ p. HandsOut before p state) → IfSome lent (λ p. packet ≡ p) → HandsOut before packet state
+    → IfSome lent (λ p. IsNextPacket before p state) → IfSome lent (λ p. packet ≡ p) → IsNextPacket before packet state
 shown_is None packet before state some hands shown = absurd (true≢false (sym some))
-shown_is (Some lent) packet before state some hands shown = subst (λ (p : List ℕ). HandsOut before p state) (sym shown) hands
+shown_is (Some lent) packet before state some hands shown = subst (λ (p : List ℕ). IsNextPacket before p state) (sym shown) hands
 
 -- it is copied, and taken
 pub next_copies : (old_room front packet : List ℕ) (answer : ℤ) (before between after : Side) → Peeks answer before between → answer ≡ PACKET
@@ -22,9 +22,9 @@ next_copies old_room front packet answer before between after peeks is shown sam
     let rest = drop (length packet) old_room in
     let all : take (length packet) (packet ++ rest) ≡ packet = take-append_seam packet rest in
     let long = length-append packet rest in
-    let here : HandsOut before packet between.state = shown_is between.lent packet before between.state (peeks.lent is).0 (peeks.packet is) shown in
+    let here : IsNextPacket before packet between.state = shown_is between.lent packet before between.state (peeks.lent is).0 (peeks.packet is) shown in
     let copied : CopiesNext old_room (packet ++ rest) (length packet) PACKET before (record between { lent = None }) = record {
-      packet = λ _. (refl, (peeks.lent is).1, omega (arith, long), subst (λ (p : List ℕ). HandsOut before p between.state) (sym all) here);
+      packet = λ _. (refl, (peeks.lent is).1, omega (arith, long), subst (λ (p : List ℕ). IsNextPacket before p between.state) (sym all) here);
       small = λ no. absurd (cc);
       lent = λ no. absurd (cc);
       found = λ _. inl refl;
@@ -44,9 +44,9 @@ next_copies old_room front packet answer before between after peeks is shown sam
     (subst (λ (f : List ℕ). CopiesNext old_room (f ++ rest) (length packet) PACKET before (record between { lent = None })) (sym same) copied)
 
 -- it is longer than the room
-lent_small : (lent : Option (List ℕ)) (packet room : List ℕ) (before : Side) (state : CodecState) → IfSome lent (λ p. HandsOut before p state)
+lent_small : (lent : Option (List ℕ)) (packet room : List ℕ) (before : Side) (state : CodecState) → IfSome lent (λ p. IsNextPacket before p state)
     → IfSome lent (λ p. packet ≡ p) → length room < length packet
-    → IfSome lent (λ p. HandsOut before p state × (length packet ≡ length p) × (length room < length packet))
+    → IfSome lent (λ p. IsNextPacket before p state × (length packet ≡ length p) × (length room < length packet))
 lent_small None packet room before state hands shown short = hands
 lent_small (Some lent) packet room before state hands shown short = (hands, ap length shown, short)
 

@@ -22,8 +22,8 @@ holding packet state = record state { held = packet }
 
 -- the packet is the one that was lent, or else the next one, as one call of the codec's `decode`
 -- has it; and this stands behind it, with nothing held
-abbrev pub HandsOut : Side → List ℕ → CodecState → Type 0
-HandsOut before packet behind =
+abbrev pub IsNextPacket : Side → List ℕ → CodecState → Type 0
+IsNextPacket before packet behind =
     (behind.held ≡ [])
     × MatchOption before.lent (DecodesAligned before.state (Ok true) (holding packet behind))
     (λ lent. (packet ≡ lent) × (behind ≡ before.state))

@@ -5,7 +5,7 @@ use Rattle.wire_codec.specs.declared.codec.error.PacketCodecError.TheVariants.{O
 use Rattle.wire_codec.specs.Laws.{appended}
 use Rattle.mysql_wire_side.specs.declared.codes.TheConstants.{OK, WAITS, PACKET, TOO_LARGE, OUT_OF_SYNC, NO_MEMORY, ROOM_TOO_SMALL, NO_PACKET}
 use Rattle.mysql_wire_side.specs.Side.{Side, ConnectionState}
-use Rattle.mysql_wire_side.specs.Answers.{HandsOut, HasPacket, Waits, Stops, LosesSync}
+use Rattle.mysql_wire_side.specs.Answers.{IsNextPacket, HasPacket, Waits, Stops, LosesSync}
 
 pub record Feeds (bytes : List ℕ) (answer : ℤ) (before after : Side) : Type 0 where
   pub fed : answer ≡ OK → (before.is_lost ≡ false)
@@ -16,7 +16,7 @@ pub record Feeds (bytes : List ℕ) (answer : ℤ) (before after : Side) : Type 
   pub answers : (answer ≡ OK) ⊎ (answer ≡ OUT_OF_SYNC) ⊎ (answer ≡ NO_MEMORY)
 
 pub record Peeks (answer : ℤ) (before after : Side) : Type 0 where
-  pub packet : answer ≡ PACKET → IfSome after.lent (λ packet. HandsOut before packet after.state)
+  pub packet : answer ≡ PACKET → IfSome after.lent (λ packet. IsNextPacket before packet after.state)
   pub lent : answer ≡ PACKET → IsSome after.lent × (after.is_lost ≡ false)
   pub waits : answer ≡ WAITS → Waits before after
   pub too_large : answer ≡ TOO_LARGE → Stops before PacketTooLarge after
@@ -43,9 +43,9 @@ pub record Takes (answer : ℤ) (before after : Side) : Type 0 where
 pub record CopiesNext (old_room room : List ℕ) (len : ℕ) (answer : ℤ) (before after : Side)
     : Type 0 where
   pub packet : answer ≡ PACKET → (after.lent ≡ None) × (after.is_lost ≡ false)
-      × (len ≤ length room) × HandsOut before (take len room) after.state
+      × (len ≤ length room) × IsNextPacket before (take len room) after.state
   pub small : answer ≡ ROOM_TOO_SMALL → IfSome after.lent (λ packet.
-      HandsOut before packet after.state × (len ≡ length packet) × (length old_room < len))
+      IsNextPacket before packet after.state × (len ≡ length packet) × (length old_room < len))
   pub lent : answer ≡ ROOM_TOO_SMALL → IsSome after.lent × (after.is_lost ≡ false)
   pub found : HasPacket before → (answer ≡ PACKET) ⊎ (answer ≡ ROOM_TOO_SMALL)
   pub waits : answer ≡ WAITS → Waits before after

@@ -14,8 +14,8 @@ EatsIfThere count value old (Some answer) new = (count ≤ length old)
     × (answer ≡ value (take count old)) × (new ≡ drop count old)
 
 -- the same where the bytes themselves are handed out, as the text of the answer
-abbrev pub HandsOut : {X : Type 0} → (X → List ℕ) → ℕ → List ℕ → Option X → List ℕ → Type 0
-HandsOut text count old answer new = MatchOption answer ((length old < count) × (new ≡ old))
+abbrev pub TakesIfThere : {X : Type 0} → (X → List ℕ) → ℕ → List ℕ → Option X → List ℕ → Type 0
+TakesIfThere text count old answer new = MatchOption answer ((length old < count) × (new ≡ old))
     (λ front. (count ≤ length old) × (text front ≡ take count old) × (new ≡ drop count old))
 
 -- there are as many bytes as the size says, where it says a number

@@ -1,7 +1,7 @@
 //! A buffer that is read from its front.
 
 ghost use Rattle.std.specs.Prelude.{◌≡◌, ◌<◌, ◌≤◌, ◌↔◌, [], length, take, drop, IsTrue};
-ghost use Rattle.wire_buf.specs.Reading.{HandsOut};
+ghost use Rattle.wire_buf.specs.Reading.{TakesIfThere};
 
 mod big_endian;
 mod lenenc;
@@ -70,7 +70,7 @@ impl<'a> ParseBuf<'a> {
 
     /// As `eat`, where the bytes are there.
     pub fn checked_eat(&mut self, count: usize) -> Option<&'a [u8]>
-        ensures { HandsOut (λ front. front.now) count self.old.0.now result self.new.0.now }
+        ensures { TakesIfThere (λ front. front.now) count self.old.0.now result self.new.0.now }
     {
         if self.len() >= count {
             Some(self.eat(count))
@@ -90,7 +90,7 @@ impl<'a> ParseBuf<'a> {
 
     /// As `eat_buf`, where the bytes are there.
     pub fn checked_eat_buf(&mut self, count: usize) -> Option<Self>
-        ensures { HandsOut (λ front. front.0.now) count self.old.0.now result self.new.0.now }
+        ensures { TakesIfThere (λ front. front.0.now) count self.old.0.now result self.new.0.now }
     {
         Some(Self(self.checked_eat(count)?))
     }
