@@ -1,3 +1,2 @@
 pub mod ConvertedLemmas
 pub mod RowLemmas
-pub mod WriteLemmas

@@ -1,2 +1,2 @@
 mod ReadLemmas
-mod WriteLemmas
+pub mod WriteLemmas
