@@ -36,6 +36,7 @@ use Rattle.mysql_wire_dump_fields.specs.contracts.payload.ProgressReportPayload.
 use Rattle.mysql_wire_dump_fields.specs.contracts.payload.SslRequestPayload.TheImpl as tls_request
 use Rattle.mysql_wire_dump_lines.specs.declared.fields.FieldForm.{FieldForm}
 use Rattle.mysql_wire_dump_lines.specs.Fields.{Member, Written, fields_text}
+use Rattle.mysql_wire_dump_lines.specs.Naming.{IsOrBytes}
 use Rattle.mysql_wire_dump_fields.specs.Packets.{Packet, HasFields, PutsFields}
 use Rattle.mysql_wire_dump_fields.specs.Packets as packet
 
@@ -45,8 +46,8 @@ Is {X = X} is_payload variant payload shown =
     (read : X) × (shown ≡ variant read) × is_payload payload read
 
 -- a row of so many columns, of these types; or why it is none
-abbrev pub IsRow : Option Refusal → List ℕ → Packet → Type 0
-IsRow refusal payload shown = (count : ℕ) × (types : List ℕ)
+abbrev pub IsBinaryRow : Option Refusal → List ℕ → Packet → Type 0
+IsBinaryRow refusal payload shown = (count : ℕ) × (types : List ℕ)
     × Is binary_row.ghosts.is_payload (λ row. packet.Row count types row refusal) payload shown
 
 -- a row of so many texts; or why it is none
@@ -75,7 +76,7 @@ ReadsAs kind.ColumnCount = Is columns.ghosts.is_payload packet.Columns
 ReadsAs kind.Column = λ payload shown. Is column.ghosts.is_payload packet.Column payload shown
     ⊎ (shown ≡ packet.ColumnBytes payload)
 ReadsAs kind.Row = λ payload shown. IsTexts None payload shown ⊎ (shown ≡ packet.RowBytes payload)
-ReadsAs kind.BinaryRow = IsRow None
+ReadsAs kind.BinaryRow = IsBinaryRow None
 ReadsAs kind.LocalInfile = Is local_infile.ghosts.is_payload packet.File
 ReadsAs kind.File = λ payload shown. shown ≡ packet.Nothing
 ReadsAs kind.Prepared = Is prepared.ghosts.is_payload packet.Prepared
@@ -106,13 +107,17 @@ ReadsAs kind.BinaryLogRequest = λ payload shown. shown ≡ packet.OtherCommand 
 ReadsAs kind.OtherCommand = λ payload shown. shown ≡ packet.OtherCommand payload
 ReadsAs kind.TooLarge = λ payload shown. shown ≡ packet.Nothing
 ReadsAs (kind.Bytes refusal) = λ payload shown. (shown ≡ packet.Nothing)
-    ⊎ IsTexts (Some refusal) payload shown ⊎ IsRow (Some refusal) payload shown
+    ⊎ IsTexts (Some refusal) payload shown ⊎ IsBinaryRow (Some refusal) payload shown
 
 -- the fields of the packet were put that a payload of this kind is shown as
 pub record PutsRead (named : Kind) (payload : List ℕ) (old new : Written) : Type 0 where
   pub shown : Packet
   pub reads : ReadsAs named payload shown
   pub puts : PutsFields shown old new
+
+-- a packet of this kind is told: it is named so, or as bytes that are refused, and its fields are put
+abbrev pub Tells : Kind → List ℕ → Written → Written → Kind → Type 0
+Tells wanted payload old new named = IsOrBytes wanted named × PutsRead named payload old new
 
 -- the text of its fields
 pub record AreFields (form : FieldForm) (named : Kind) (payload text : List ℕ) : Type 0 where

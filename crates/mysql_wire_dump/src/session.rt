@@ -8,12 +8,12 @@ mod named;
 mod rows;
 
 ghost use Rattle.std.specs.Prelude.{◌≡◌, IfOk};
-ghost use Rattle.mysql_wire_dump_lines.specs.Naming.{IsOrBytes, kind_at};
+ghost use Rattle.mysql_wire_dump_lines.specs.Naming.{kind_at};
 ghost use Rattle.mysql_wire_dump_lines.specs.declared.kind.Kind.TheVariants.{Bytes, Error};
 ghost use Rattle.mysql_wire_dump_lines.specs.declared.place.Place.TheVariants.{Greeting};
 ghost use Rattle.mysql_wire_dump_lines.specs.declared.refusal.Refusal.{Refusal};
 ghost use Rattle.mysql_wire_dump.specs.Moments.{moment_of};
-ghost use Rattle.mysql_wire_dump.specs.Readings.{PutsRead};
+ghost use Rattle.mysql_wire_dump.specs.Readings.{Tells};
 
 use crate::statements::Statements;
 use follow::Follow;
@@ -105,9 +105,7 @@ impl<A: Allocator + Copy> Session<A> {
         payload: &[u8],
         fields: &mut Fields<A>,
     ) -> Result<Kind, Stop>
-        ensures named { IfOk result (λ named.
-            IsOrBytes (kind_at (moment_of self.old) side id payload.now) named) }
-        ensures puts { IfOk result (λ named. PutsRead named payload.now fields.old fields.new) }
+        ensures { IfOk result (Tells (kind_at (moment_of self.old) side id payload.now) payload.now fields.old fields.new) }
     {
         let kind = kind_at(self.moment(), side, id, payload);
         match side {
@@ -138,9 +136,7 @@ impl<A: Allocator + Copy> Session<A> {
         fields: &mut Fields<A>,
     ) -> Result<Kind, Stop>
         requires { kind ≡ T.kind }
-        ensures named { IfOk result (λ named. IsOrBytes kind named) }
-        ensures puts { IfOk result (λ named. PutsRead named payload.entry.now fields.old
-            fields.new) }
+        ensures { IfOk result (Tells kind payload.entry.now fields.old fields.new) }
     {
         let packet = match read_whole::<T>(global, ctx, payload) {
             Ok(packet) => packet,
@@ -159,8 +155,7 @@ impl<A: Allocator + Copy> Session<A> {
         payload: &[u8],
         fields: &mut Fields<A>,
     ) -> Result<Kind, Stop>
-        ensures named { IfOk result (λ named. IsOrBytes kind named) }
-        ensures puts { IfOk result (λ named. PutsRead named payload.now fields.old fields.new) }
+        ensures { IfOk result (Tells kind payload.now fields.old fields.new) }
     {
         match kind {
             Kind::TlsRequest => {
@@ -192,8 +187,7 @@ impl<A: Allocator + Copy> Session<A> {
         payload: &[u8],
         fields: &mut Fields<A>,
     ) -> Result<Kind, Stop>
-        ensures named { IfOk result (λ named. IsOrBytes kind named) }
-        ensures puts { IfOk result (λ named. PutsRead named payload.now fields.old fields.new) }
+        ensures { IfOk result (Tells kind payload.now fields.old fields.new) }
     {
         match kind {
             Kind::Greeting => {
@@ -214,8 +208,7 @@ impl<A: Allocator + Copy> Session<A> {
         payload: &[u8],
         fields: &mut Fields<A>,
     ) -> Result<Kind, Stop>
-        ensures named { IfOk result (λ named. IsOrBytes Error named) }
-        ensures puts { IfOk result (λ named. PutsRead named payload.now fields.old fields.new) }
+        ensures { IfOk result (Tells Error payload.now fields.old fields.new) }
     {
         let mut capabilities = self.capabilities;
         self.place = match self.place {

@@ -2,9 +2,8 @@
 #![tactic(auto, using(crate::proofs::ReadLemmas::puts_none))]
 
 ghost use Rattle.std.specs.Prelude.{IfOk};
-ghost use Rattle.mysql_wire_dump_lines.specs.Naming.{IsOrBytes};
 ghost use Rattle.mysql_wire_dump_lines.specs.declared.kind.Kind.TheVariants as kind;
-ghost use Rattle.mysql_wire_dump.specs.Readings.{PutsRead};
+ghost use Rattle.mysql_wire_dump.specs.Readings.{Tells};
 
 use super::Session;
 use mysql_wire_connection::auth_more_data::AuthMoreData;
@@ -30,8 +29,7 @@ impl<A: Allocator + Copy> Session<A> {
         payload: &[u8],
         fields: &mut Fields<A>,
     ) -> Result<Kind, Stop>
-        ensures named { IfOk result (λ named. IsOrBytes kind named) }
-        ensures puts { IfOk result (λ named. PutsRead named payload.now fields.old fields.new) }
+        ensures { IfOk result (Tells kind payload.now fields.old fields.new) }
     {
         match kind {
             Kind::Ok => self.read_ok(global, payload, fields),
@@ -62,8 +60,7 @@ impl<A: Allocator + Copy> Session<A> {
         payload: &[u8],
         fields: &mut Fields<A>,
     ) -> Result<Kind, Stop>
-        ensures named { IfOk result (λ named. IsOrBytes kind.Ok named) }
-        ensures puts { IfOk result (λ named. PutsRead named payload.now fields.old fields.new) }
+        ensures { IfOk result (Tells kind.Ok payload.now fields.old fields.new) }
     {
         self.place = match self.place {
             Place::Login | Place::Authentication => Place::Authentication,
@@ -81,8 +78,7 @@ impl<A: Allocator + Copy> Session<A> {
         payload: &[u8],
         fields: &mut Fields<A>,
     ) -> Result<Kind, Stop>
-        ensures named { IfOk result (λ named. IsOrBytes kind named) }
-        ensures puts { IfOk result (λ named. PutsRead named payload.now fields.old fields.new) }
+        ensures { IfOk result (Tells kind payload.now fields.old fields.new) }
     {
         match kind {
             Kind::AuthSwitch => {

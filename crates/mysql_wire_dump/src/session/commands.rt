@@ -2,9 +2,8 @@
 #![tactic(auto, using(crate::proofs::ReadLemmas::puts_none))]
 
 ghost use Rattle.std.specs.Prelude.{◌≡◌, IfOk, IfSome};
-ghost use Rattle.mysql_wire_dump_lines.specs.Naming.{IsOrBytes};
 ghost use Rattle.mysql_wire_dump_lines.specs.declared.kind.Kind.TheVariants.{Execute, Query};
-ghost use Rattle.mysql_wire_dump.specs.Readings.{PutsRead, statement_number};
+ghost use Rattle.mysql_wire_dump.specs.Readings.{Tells, statement_number};
 
 use super::{Session, refused};
 use mysql_wire_dump_fields::show;
@@ -63,8 +62,7 @@ impl<A: Allocator + Copy> Session<A> {
         payload: &[u8],
         fields: &mut Fields<A>,
     ) -> Result<Kind, Stop>
-        ensures named { IfOk result (λ named. IsOrBytes kind named) }
-        ensures puts { IfOk result (λ named. PutsRead named payload.now fields.old fields.new) }
+        ensures { IfOk result (Tells kind payload.now fields.old fields.new) }
     {
         self.place = place_behind(kind);
         self.row_form = RowForm::Text;
@@ -87,8 +85,7 @@ impl<A: Allocator + Copy> Session<A> {
         payload: &[u8],
         fields: &mut Fields<A>,
     ) -> Result<Kind, Stop>
-        ensures named { IfOk result (λ named. IsOrBytes Query named) }
-        ensures puts { IfOk result (λ named. PutsRead named payload.now fields.old fields.new) }
+        ensures { IfOk result (Tells Query payload.now fields.old fields.new) }
     {
         if self
             .capabilities
@@ -108,8 +105,7 @@ impl<A: Allocator + Copy> Session<A> {
         payload: &[u8],
         fields: &mut Fields<A>,
     ) -> Result<Kind, Stop>
-        ensures named { IfOk result (λ named. IsOrBytes kind named) }
-        ensures puts { IfOk result (λ named. PutsRead named payload.now fields.old fields.new) }
+        ensures { IfOk result (Tells kind payload.now fields.old fields.new) }
     {
         match kind {
             Kind::Prepare => self.read::<ComStmtPrepare<'_>>(global, kind, (), payload, fields),
@@ -133,8 +129,7 @@ impl<A: Allocator + Copy> Session<A> {
         payload: &[u8],
         fields: &mut Fields<A>,
     ) -> Result<Kind, Stop>
-        ensures named { IfOk result (λ named. IsOrBytes Execute named) }
-        ensures puts { IfOk result (λ named. PutsRead named payload.now fields.old fields.new) }
+        ensures { IfOk result (Tells Execute payload.now fields.old fields.new) }
     {
         self.row_form = RowForm::Binary;
         let Some(statement_id) = statement_of(payload) else {
@@ -155,8 +150,7 @@ impl<A: Allocator + Copy> Session<A> {
         payload: &[u8],
         fields: &mut Fields<A>,
     ) -> Result<Kind, Stop>
-        ensures named { IfOk result (λ named. IsOrBytes kind named) }
-        ensures puts { IfOk result (λ named. PutsRead named payload.now fields.old fields.new) }
+        ensures { IfOk result (Tells kind payload.now fields.old fields.new) }
     {
         match kind {
             Kind::FieldList

@@ -2,9 +2,8 @@
 #![tactic(auto, using(crate::proofs::ReadLemmas::puts_none))]
 
 ghost use Rattle.std.specs.Prelude.{IfOk};
-ghost use Rattle.mysql_wire_dump_lines.specs.Naming.{IsOrBytes};
 ghost use Rattle.mysql_wire_dump_lines.specs.declared.kind.Kind.TheVariants as kind;
-ghost use Rattle.mysql_wire_dump.specs.Readings.{PutsRead};
+ghost use Rattle.mysql_wire_dump.specs.Readings.{Tells};
 
 use super::{Session, refused};
 use mysql_wire_dump_fields::show;
@@ -93,8 +92,7 @@ impl<A: Allocator + Copy> Session<A> {
         payload: &[u8],
         fields: &mut Fields<A>,
     ) -> Result<Kind, Stop>
-        ensures named { IfOk result (λ named. IsOrBytes kind named) }
-        ensures puts { IfOk result (λ named. PutsRead named payload.now fields.old fields.new) }
+        ensures { IfOk result (Tells kind payload.now fields.old fields.new) }
     {
         self.skip_columns_end();
         match kind {
@@ -114,8 +112,7 @@ impl<A: Allocator + Copy> Session<A> {
         payload: &[u8],
         fields: &mut Fields<A>,
     ) -> Result<Kind, Stop>
-        ensures named { IfOk result (λ named. IsOrBytes kind.Column named) }
-        ensures puts { IfOk result (λ named. PutsRead named payload.now fields.old fields.new) }
+        ensures { IfOk result (Tells kind.Column payload.now fields.old fields.new) }
     {
         if let Place::Columns { left, behind } = self.place {
             self.pass_column(left, behind);
@@ -133,8 +130,7 @@ impl<A: Allocator + Copy> Session<A> {
         payload: &[u8],
         fields: &mut Fields<A>,
     ) -> Result<Kind, Stop>
-        ensures named { IfOk result (λ named. IsOrBytes kind.Eof named) }
-        ensures puts { IfOk result (λ named. PutsRead named payload.now fields.old fields.new) }
+        ensures { IfOk result (Tells kind.Eof payload.now fields.old fields.new) }
     {
         let is_ok = match self.place {
             Place::ColumnsEnd(_) => false,
@@ -158,8 +154,7 @@ impl<A: Allocator + Copy> Session<A> {
         payload: &[u8],
         fields: &mut Fields<A>,
     ) -> Result<Kind, Stop>
-        ensures named { IfOk result (λ named. IsOrBytes kind.Row named) }
-        ensures puts { IfOk result (λ named. PutsRead named payload.now fields.old fields.new) }
+        ensures { IfOk result (Tells kind.Row payload.now fields.old fields.new) }
     {
         if self.row_form != RowForm::Text {
             show::row_bytes(fields, payload)?;
@@ -178,8 +173,7 @@ impl<A: Allocator + Copy> Session<A> {
         payload: &[u8],
         fields: &mut Fields<A>,
     ) -> Result<Kind, Stop>
-        ensures named { IfOk result (λ named. IsOrBytes kind.BinaryRow named) }
-        ensures puts { IfOk result (λ named. PutsRead named payload.now fields.old fields.new) }
+        ensures { IfOk result (Tells kind.BinaryRow payload.now fields.old fields.new) }
     {
         let row = match read_whole::<BinaryRow<'_>>(global, self.columns as usize, payload) {
             Ok(row) => row,
