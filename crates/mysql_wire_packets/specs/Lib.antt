@@ -1,5 +1,6 @@
 pub mod Again
 pub mod Fields
+pub mod FirstBytes
 pub mod InOrder
 pub mod More
 pub mod NullTexts

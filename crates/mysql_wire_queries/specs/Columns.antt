@@ -1,15 +1,20 @@
 -- The definition of a column.
-use Rattle.std.specs.Prelude.{ℕ, List}
+use Rattle.std.specs.Prelude.{ℕ, List, ◌++◌, ◌⊎◌, Result, Ok, Err}
+use Rattle.std.proofs.Common.{inl, inr}
+use Rattle.wire_buf.specs.declared.error.WireError.{WireError}
+use Rattle.wire_field.specs.Rows.{ReadsBoth, both-back}
 use Rattle.wire_field.specs.declared.row.Both.{Both}
 use Rattle.wire_forms.specs.declared.lenenc.LenEnc.{LenEnc}
 use Rattle.mysql_wire_packets.specs.Fields.{Constant, Optional, Text}
 use Rattle.mysql_wire_packets.specs.Optional.{field}
+use Rattle.mysql_wire_packets.specs.InOrder.{Back}
+use Rattle.wire_repr.specs.Law.{ComesBack}
 use Rattle.mysql_wire_queries.specs.declared.column_definition.ColumnDefinition41.{ColumnDefinition41}
+use Rattle.mysql_wire_queries.specs.declared.column_definition.Pair.{Pair}
 
 -- its names, in order
 abbrev pub Names : Type 0
-Names = Both (Both (Text LenEnc) (Text LenEnc))
-    (Both (Both (Text LenEnc) (Text LenEnc)) (Both (Text LenEnc) (Text LenEnc)))
+Names = Both Pair (Both Pair Pair)
 
 -- and its numbers, behind their length
 abbrev pub Numbers : Type 0
@@ -30,3 +35,25 @@ column_fields column = (
     ),
   ),
 )
+
+-- ---- lemmas
+
+-- without the premise of memory
+no_memory : {X : Type 0} (kept : X → Type 0) (len : ℕ) (answer : Result X WireError) (eaten : ℕ)
+    → ComesBack kept (⊥ ⊎ ⊥) len answer eaten → ComesBack kept ⊥ len answer eaten
+no_memory kept len (Ok value) eaten back = back
+no_memory kept len (Err error) eaten (is, inl none) = absurd none
+no_memory kept len (Err error) eaten (is, inr none) = absurd none
+
+-- two texts come back
+pub pair : {reads_a reads_b : List ℕ → Result (Text LenEnc) WireError → ℕ → Type 0}
+    {kept_a kept_b : Text LenEnc → Type 0} {bytes_a bytes_b rest : List ℕ}
+    → Back reads_a kept_a bytes_a (bytes_b ++ rest) → Back reads_b kept_b bytes_b rest
+    → Back (ReadsBoth {Y = Pair} (λ pair. pair.0) (λ pair. pair.1) reads_a reads_b)
+    (λ back. kept_a back.0 × kept_b back.1) (bytes_a ++ bytes_b) rest
+pair {reads_a = reads_a} {reads_b = reads_b} {kept_a = kept_a} {kept_b = kept_b}
+    {bytes_a = bytes_a} {bytes_b = bytes_b} {rest = rest} back_a back_b = record {
+      law = λ answer eaten read. no_memory _ _ answer eaten (both-back {Y = Pair}
+          (λ pair. pair.0) (λ pair. pair.1) reads_a reads_b kept_a kept_b ⊥ ⊥ bytes_a bytes_b rest
+          back_a.law back_b.law answer eaten read);
+    }

@@ -8,7 +8,8 @@ ghost use Rattle.wire_buf.specs.Reading.{Through};
 ghost use Rattle.mysql_wire_packets.specs.InOrder.{packet, both, array, const_u8, byte, number, lenenc_text, text_bytes};
 ghost use Rattle.mysql_wire_packets.specs.Optional.{BothIf, IsThere, OnIf, bytes_if, has, kept_field, optional, side};
 ghost use Rattle.wire_const.specs.FlagSets.{mariadb_capabilities_bits};
-ghost use Rattle.mysql_wire_queries.specs.Columns.{column_fields};
+ghost use Rattle.mysql_wire_queries.specs.Columns.{column_fields, pair};
+ghost use Rattle.wire_field.specs.Rows.{ReadsBoth};
 ghost use Rattle.std.proofs.Common.{subst};
 
 use mysql_wire_packets::lent::{Lent, LentIf};
@@ -32,13 +33,15 @@ type Fields<'a> = Both<Names<'a>, Both<Optional<RawBytes<'a, LenEnc>>, Numbers>>
 
 type Names<'a> = Both<Pair<'a>, Both<Pair<'a>, Pair<'a>>>;
 
-type Pair<'a> = Both<RawBytes<'a, LenEnc>, RawBytes<'a, LenEnc>>;
-
 type Numbers = Both<Sizes, Kind>;
 
 type Sizes = Both<ConstU8<(), 0x0c>, Both<u16, u32>>;
 
 type Kind = Both<Both<u8, u16>, Both<u8, [u8; 2]>>;
+
+// Two texts, one behind the other.
+#[derive(Drop)]
+struct Pair<'a>(RawBytes<'a, LenEnc>, RawBytes<'a, LenEnc>);
 
 /// What a server says of a column, on a connection under `CLIENT_PROTOCOL_41`. The context are the
 /// capabilities of MariaDB that both sides have; none of them with MySQL. Another length of the
@@ -77,9 +80,9 @@ fn of_fields<'a>(fields: Fields<'a>) -> ColumnDefinition41<'a>
     ensures { column_fields result ≡ fields.entry }
 {
     let Both(Both(schemas, Both(tables, names)), Both(metadata, Both(sizes, kind))) = fields;
-    let Both(catalog, schema) = schemas;
-    let Both(table, org_table) = tables;
-    let Both(name, org_name) = names;
+    let Pair(catalog, schema) = schemas;
+    let Pair(table, org_table) = tables;
+    let Pair(name, org_name) = names;
     let Both(_, Both(character_set, column_length)) = sizes;
     let Both(Both(column_type, flags), end) = kind;
     let reserved = end.1;
@@ -137,6 +140,25 @@ impl MySerialize for ColumnDefinition41<'_> {
     }
 }
 
+impl HasSize for Pair<'_> {
+    type Size = Varying;
+}
+
+impl<'de> MyDeserialize<'de, Global> for Pair<'de> {
+    type Ctx = ();
+
+    ghost reads = { λ _. ReadsBoth (λ pair. pair.0) (λ pair. pair.1)
+        (⟦<RawBytes<'de, LenEnc> as MyDeserialize<'de, Global>>⟧.reads tt)
+        (⟦<RawBytes<'de, LenEnc> as MyDeserialize<'de, Global>>⟧.reads tt) };
+
+    fn deserialize(alloc: Global, _: (), buf: &mut ParseBuf<'de>) -> Result<Self, WireError> {
+        match buf.parse::<Both<RawBytes<'de, LenEnc>, RawBytes<'de, LenEnc>>>(alloc, ((), ())) {
+            Ok(Both(first, second)) => Ok(Pair(first, second)),
+            Err(error) => Err(error),
+        }
+    }
+}
+
 impl HasSize for ColumnDefinition41<'_> {
     type Size = Varying;
 }
@@ -147,7 +169,7 @@ impl<'de> MyDeserialize<'de, Global> for ColumnDefinition41<'de> {
     ghost reads = { λ ctx input. Through
         column_fields
         (⟦<Fields<'de> as MyDeserialize<'de, Global>>⟧.reads (
-          ((tt, tt), ((tt, tt), (tt, tt))),
+          (tt, (tt, tt)),
           (
             side tt (has (mariadb_capabilities_bits ctx) 0x8),
             ((tt, (tt, tt)), ((tt, tt), (tt, tt))),
@@ -159,7 +181,7 @@ impl<'de> MyDeserialize<'de, Global> for ColumnDefinition41<'de> {
         capabilities: MariadbCapabilities,
         buf: &mut ParseBuf<'de>,
     ) -> Result<Self, WireError> {
-        let names = (((), ()), (((), ()), ((), ())));
+        let names = ((), ((), ()));
         let metadata = metadata_under(capabilities);
         let numbers = (((), ((), ())), (((), ()), ((), ())));
         match buf.parse::<Fields<'de>>(alloc, (names, (metadata, numbers))) {
@@ -222,7 +244,7 @@ impl<'de> Wire<'de, Global> for ColumnDefinition41<'de> {
 
     ghost comes_back = { λ ctx column rest answer eaten value good read.
         packet (⟦<Fields<'de> as MyDeserialize<'de, Global>>⟧.reads (
-          ((tt, tt), ((tt, tt), (tt, tt))),
+          (tt, (tt, tt)),
           (
             side tt (has (mariadb_capabilities_bits ctx) 0x8),
             ((tt, (tt, tt)), ((tt, tt), (tt, tt))),
@@ -248,11 +270,11 @@ impl<'de> Wire<'de, Global> for ColumnDefinition41<'de> {
           reserved = kind.1.1;
         })
         (both
-        (both (both (lenenc_text (λ text. text.0) (cow_slice_items column.catalog.0) value.catalog)
+        (both (pair (lenenc_text (λ text. text.0) (cow_slice_items column.catalog.0) value.catalog)
         (lenenc_text (λ text. text.0) (cow_slice_items column.schema.0) value.schema))
-        (both (both (lenenc_text (λ text. text.0) (cow_slice_items column.table.0) value.table)
+        (both (pair (lenenc_text (λ text. text.0) (cow_slice_items column.table.0) value.table)
         (lenenc_text (λ text. text.0) (cow_slice_items column.org_table.0) value.org_table))
-        (both (lenenc_text (λ text. text.0) (cow_slice_items column.name.0) value.name)
+        (pair (lenenc_text (λ text. text.0) (cow_slice_items column.name.0) value.name)
         (lenenc_text (λ text. text.0) (cow_slice_items column.org_name.0) value.org_name))))
         (both (optional (⟦<RawBytes<'de, LenEnc> as MyDeserialize<'de, Global>>⟧.reads) tt
         (has (mariadb_capabilities_bits ctx) 0x8) column.extended_metadata
