@@ -44,11 +44,15 @@ pub behind_none : {X : Type 0} (count : ℕ) (value : List ℕ → X) (input : L
     → length input < suc count → Answers (behind count value input) (Err UnexpectedEof) 0
 behind_none count value input short = rw (lt-ltb (length input) (suc count) short) (refl, refl)
 
-heads : (a b : ℕ) → a ∷ [] ≡ b ∷ [] → a ≡ b
+pub heads : (a b : ℕ) → a ∷ [] ≡ b ∷ [] → a ≡ b
 heads a b is = cc is
 
-empty_head : (a : ℕ) → a ∷ [] ≡ [] → ⊥
+pub empty_head : (a : ℕ) → a ∷ [] ≡ [] → ⊥
 empty_head a is = cc is
+
+pub one_there : (input : List ℕ) (a : ℕ) → take 1 input ≡ a ∷ [] → 1 ≤ length input
+one_there [] a is = cc is
+one_there (x ∷ xs) a is = omega arith
 
 -- where the value of the bytes that are written is this one, it is answered
 behind-back : {X : Type 0} (count : ℕ) (value : List ℕ → X) (bytes rest : List ℕ) (x : X)
