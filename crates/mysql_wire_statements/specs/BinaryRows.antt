@@ -5,5 +5,5 @@ use Rattle.mysql_wire_statements.specs.declared.binary_row.BinaryRow.{BinaryRow}
 abbrev pub row_bytes : List ℕ → List ℕ → List ℕ
 row_bytes nulls values = 0x00 ∷ (nulls ++ values)
 
-abbrev pub IsRow : List ℕ → List ℕ → BinaryRow → Type 0
-IsRow nulls values row = (row.nulls.0.now ≡ nulls) × (row.values.now ≡ values)
+abbrev pub IsRowOf : List ℕ → List ℕ → BinaryRow → Type 0
+IsRowOf nulls values row = (row.nulls.0.now ≡ nulls) × (row.values.now ≡ values)

@@ -4,7 +4,7 @@ ghost use Rattle.std.specs.Prelude.{◌≡◌, ◌+◌, [], length, Ok};
 ghost use Rattle.wire_buf.specs.Reading.{Reads, Through};
 ghost use Rattle.mysql_wire_packets.specs.InOrder.{packet, both, const_u8};
 ghost use Rattle.mysql_wire_statements.specs.Again.{packet_again, both_again, const_again, rest_again, slice_again};
-ghost use Rattle.mysql_wire_statements.specs.BinaryRows.{row_bytes, IsRow};
+ghost use Rattle.mysql_wire_statements.specs.BinaryRows.{row_bytes, IsRowOf};
 ghost use Rattle.mysql_wire_statements.specs.Bitmaps.{bitmap_len, IsSet};
 ghost use Rattle.mysql_wire_statements.specs.InOrder.{rest_of, slice_of};
 ghost use Rattle.mysql_wire_statements.specs.Values.{form_of, ReadsForm};
@@ -100,7 +100,7 @@ impl<'de, A: Allocator + Copy> Wire<'de, A> for BinaryRow<'de> {
     ghost good = { λ columns row rest. (bitmap_len 2 columns ≡ length row.nulls.0.now)
         × (rest ≡ []) };
 
-    ghost kept = { λ row. IsRow row.nulls.0.now row.values.now };
+    ghost kept = { λ row. IsRowOf row.nulls.0.now row.values.now };
 
     ghost takes_memory = { ⊥ };
 

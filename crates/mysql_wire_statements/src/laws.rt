@@ -4,7 +4,7 @@
 ghost use Rattle.std.specs.Prelude.{◌≡◌, ◌<◌, ◌^◌, ℕ, List, ◌∷◌, ◌++◌, length, IfOk};
 ghost use Rattle.wire_repr.specs.Law.{ComesBackAlone, ComesBackFrom};
 ghost use Rattle.wire_buf.specs.Numbers.{le_bytes};
-ghost use Rattle.mysql_wire_statements.specs.BinaryRows.{row_bytes, IsRow};
+ghost use Rattle.mysql_wire_statements.specs.BinaryRows.{row_bytes, IsRowOf};
 ghost use Rattle.mysql_wire_statements.specs.Bitmaps.{bitmap_len};
 ghost use Rattle.mysql_wire_statements.specs.Commands.{fetch_bytes, long_data_bytes, IsFetch, IsLongData};
 ghost use Rattle.mysql_wire_statements.specs.Executed.{execute_bytes, IsExecution, SameExecution};
@@ -166,7 +166,7 @@ pub fn row_comes_back<'a>(
     buf: &mut ParseBuf<'a>,
 ) -> Result<BinaryRow<'a>, WireError>
     ensures { (nulls values : List ℕ) → bitmap_len 2 columns ≡ length nulls
-        → ComesBackAlone (row_bytes nulls values) (IsRow nulls values) buf.old.0.now result
+        → ComesBackAlone (row_bytes nulls values) (IsRowOf nulls values) buf.old.0.now result
         buf.new.0.now }
 {
     parse_back(alloc, columns, buf)
