@@ -22,7 +22,7 @@ set -u
 export LC_ALL=C
 cd "$(dirname "$0")/.." || exit 1
 source scripts/checks.sh
-layers=(wire_const wire_buf wire_put wire_ext wire_repr wire_forms wire_field wire_flags wire_list wire_codec wire_span wire_packet_io mysql_wire)
+layers=(wire_const wire_buf wire_put wire_ext wire_repr wire_forms wire_field wire_flags wire_values wire_list wire_codec wire_span wire_packet_io mysql_wire)
 tests=crates/memory_support/src/requests
 lists=crates/memory_support
 
@@ -63,9 +63,9 @@ not_run() {
 
 work=$(mktemp -d)
 trap 'rm -rf "$work"' EXIT
-# (append.rt and wire_values are for the layers above alone: the facade passes on no function of
-# theirs)
-mapfile -t sources < <(cd crates && find "${layers[@]/%//src}" -name '*.rt' ! -name append.rt | sort)
+# (append.rt, read.rt and write.rt of wire_values are for the layers above alone: the facade passes
+# on no function of theirs)
+mapfile -t sources < <(cd crates && find "${layers[@]/%//src}" -name '*.rt' ! -name append.rt ! -path 'wire_values/src/[rw]*.rt' | sort)
 (cd crates && ../scripts/public_functions.py "${sources[@]}") >"$work/functions" || exit 1
 for kind in within global none twice unread; do
     sed -n "s/^$kind //p" "$work/functions" | sort >"$work/$kind"

@@ -12,13 +12,13 @@ source "$top/scripts/c_archive.sh"
 work=$(mktemp -d)
 trap 'rm -rf "$work"' EXIT
 
-# proves FILE: checks a file as a crate that uses wire_buf, wire_repr and wire_forms.
+# proves FILE: checks a file as a crate that uses wire_buf, wire_repr, wire_forms and wire_values.
 proves() {
     local found=() layer
-    for layer in wire_buf wire_put wire_repr wire_forms; do
+    for layer in wire_buf wire_put wire_repr wire_forms wire_values; do
         found+=(-L "dependency=$crates/$layer/out/rlib")
     done
-    for layer in wire_buf wire_repr wire_forms; do
+    for layer in wire_buf wire_repr wire_forms wire_values; do
         found+=(--extern "$layer=$crates/$layer/out/rlib/$layer.rlib")
     done
     mkdir -p "$work/src" "$work/specs" && : > "$work/specs/Lib.antt"
@@ -34,9 +34,9 @@ is_refused() {
     grep -q "error\[borrow-e0597\]: \`$1\` does not live long enough" "$work/log"
 }
 
-if [ ! -d "$crates/wire_forms/out/rlib" ]; then
-    (cd "$crates/wire_forms" && rt lib) > "$work/log" 2>&1
-fi
+for layer in wire_forms wire_values; do
+    [ -d "$crates/$layer/out/rlib" ] || (cd "$crates/$layer" && rt lib) > "$work/log" 2>&1
+done
 check 'a text within its payload is proved' proves text_within_payload || tail "$work/log"
 proves text_outlives_payload
 check 'a text from a buffer does not outlive its payload' is_refused payload

@@ -4,7 +4,7 @@ use Rattle.std.proofs.Common.{subst, sym, append-nil}
 use Rattle.wire_buf.specs.declared.error.WireError.{WireError}
 use Rattle.wire_buf.specs.declared.error.WireError.TheVariants.{OutOfMemory}
 use Rattle.wire_buf.specs.declared.io.ParseBuf.{ParseBuf}
-use Rattle.wire_buf.specs.Payloads.{ReadsPayload}
+use Rattle.wire_values.specs.Payloads.{ReadsPayload}
 use Rattle.wire_buf.specs.Reading.{Parses}
 use Rattle.wire_codec.specs.Delivery.{Ending, Delivers}
 use Rattle.wire_codec.specs.Framing.{id_after, stream}

@@ -2,14 +2,14 @@
 //! answers nothing: its contract is the law, and a caller has it by calling.
 
 ghost use Rattle.std.specs.Prelude.{◌≤◌, ℕ, List, [], length, map, All};
-ghost use Rattle.wire_buf.specs.Payloads.{ReadsPayload};
+ghost use Rattle.wire_values.specs.Payloads.{ReadsPayload};
 ghost use Rattle.wire_buf.specs.Reading.{Parses};
 ghost use Rattle.wire_repr.specs.Law.{seen};
 ghost use Rattle.mysql_wire.specs.PayloadsBack.{DeliversFirst, LeavesBehind, ReadsBack};
 
 use std::alloc::Allocator;
 use wire_buf::error::WireError;
-use wire_buf::io::{ParseBuf, parse_packet_in};
+use wire_buf::io::ParseBuf;
 pub use wire_codec::laws::{
     aligned_goes_on, appended_run, between_packets, bounded_delivery, bounded_limited_delivery,
     chunks_counted, empty_goes_on, encoded_first, equal_limits, framed_length, id_after_append,
@@ -23,6 +23,7 @@ pub use wire_span::laws::{
     nothing_came, nothing_framed, one_spanning, renumbered_stream, spans_begin, spans_deliver,
     spans_end, spans_follow, spans_stand, spans_stop,
 };
+use wire_values::payload::parse_packet_in;
 
 /// Reads a value from the front of a payload, as `parse_packet_in` does. Where what a value was
 /// written as stands at the front, and the value is good under the context and before what follows,

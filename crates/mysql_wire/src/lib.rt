@@ -102,7 +102,6 @@ pub mod proto {
 
     /// Packets and chunks.
     pub mod codec {
-        pub use wire_buf::io::{parse_packet, parse_packet_in};
         pub use wire_codec::codec::{
             ChunkDecoder, ChunkInfo, PacketCodec, PacketDst, Skipped, Visit, deliver, deliver_each,
             deliver_each_limited, deliver_limited, encode_value, error, framed_len,
@@ -112,6 +111,7 @@ pub mod proto {
             FramePart, FrameWriter, Renumber, Span, SpanDecoder, SpanError, SpanParts,
             UnfinishedPacket, VisitSpan, visit_spans,
         };
+        pub use wire_values::payload::{parse_packet, parse_packet_in};
     }
 
     /// Packets from readers, and to writers.

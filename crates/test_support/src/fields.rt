@@ -7,8 +7,9 @@ use crate::fixture::Heap;
 use crate::reference::between;
 use refusing_allocator::NEVER;
 use std::alloc::{Allocator, Global};
-use wire_buf::io::{ParseBuf, parse_packet_in};
+use wire_buf::io::ParseBuf;
 use wire_buf::proto::{MyDeserialize, MySerialize};
+use wire_values::payload::parse_packet_in;
 
 /// What follows a value in most inputs.
 pub const MORE: &[u8] = b"\xff\x80\0";

@@ -7,11 +7,8 @@ mod big_endian;
 mod lenenc;
 mod little_endian;
 mod parse;
-mod payload;
 mod read;
 mod text;
-
-pub use payload::{parse_packet, parse_packet_in};
 
 /// Bytes that are read from the front. What is handed out borrows from the payload, and nothing is
 /// copied.

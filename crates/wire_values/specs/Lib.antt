@@ -1,1 +1,2 @@
 pub mod Elements
+pub mod Payloads

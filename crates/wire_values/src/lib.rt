@@ -1,5 +1,6 @@
-//! Values that are written and read one after another, for the lists of the layer above.
+//! Values at the front of a payload, and values one after another, for the lists of a layer above.
 #![tactic(auto)]
 
+pub mod payload;
 pub mod read;
 pub mod write;

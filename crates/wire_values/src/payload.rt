@@ -1,12 +1,12 @@
 //! A value from the front of a payload.
 
 ghost use Rattle.wire_buf.specs.Reading.{Parses};
-ghost use Rattle.wire_buf.specs.Payloads.{ReadsPayload};
+ghost use Rattle.wire_values.specs.Payloads.{ReadsPayload};
 
-use crate::error::WireError;
-use crate::io::ParseBuf;
-use crate::proto::MyDeserialize;
 use std::alloc::{Allocator, Global};
+use wire_buf::error::WireError;
+use wire_buf::io::ParseBuf;
+use wire_buf::proto::MyDeserialize;
 
 /// Reads a value from the front of a payload, as `ParseBuf::parse` does, and answers it with what
 /// it left. Texts are borrowed from the payload. The refusals are those of the type.
