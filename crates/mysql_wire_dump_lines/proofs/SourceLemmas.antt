@@ -1,5 +1,5 @@
 -- How a source goes from packet to packet.
-use Rattle.std.proofs.Common.{◌≡◌, ◌≢◌, ℕ, ◌+◌, ◌-◌, ◌≤◌, Bool, true, false, List, [], ◌∷◌, ◌++◌, length, drop, refl, sym, ap, ap₂, ◌∙◌, subst, append-nil, append_assoc, length-append, inr, arith, Option, Some, None}
+use Rattle.std.proofs.Common.{◌≡◌, ◌≢◌, ℕ, ◌+◌, ◌-◌, ◌≤◌, Bool, true, false, List, [], ◌∷◌, ◌++◌, length, drop, refl, sym, ap, ap₂, ◌∙◌, subst, append-nil, append_assoc, length-append, inr, arith, Option, Some, None, Result, Ok, Err, IfOk}
 use Rattle.std.proofs.Math.Seq.{drop-append_seam}
 use Rattle.std.proofs.KnownBytes.{Consumes-trans}
 use Rattle.std.specs.Io.KnownBytes.{Consumes, IsAtEnd}
@@ -14,7 +14,8 @@ use Rattle.mysql_wire_dump_lines.specs.declared.source.Next.TheVariants.{Unread}
 use Rattle.mysql_wire_dump_lines.specs.declared.source.Source.{Source}
 use Rattle.mysql_wire_dump_lines.specs.declared.source.Step.{Step}
 use Rattle.mysql_wire_dump_lines.specs.declared.source.Step.TheVariants.{Waits, Goes, Whole, LosesSync}
-use Rattle.mysql_wire_dump_lines.specs.Sources.{BeginsWith, Collected, Collects, EndsAs, Found, HasPacket, IsIdle, Stands, StandsNext, Stepped, SteppedAs, Steps, Took, TookAs, collected, framed, most}
+use Rattle.mysql_wire_dump_lines.specs.declared.status.Stop.{Stop}
+use Rattle.mysql_wire_dump_lines.specs.Sources.{BeginsWith, Collected, Collects, EndsAs, Found, HasPacket, IsIdle, IsReady, Stands, StandsNext, Stepped, SteppedAs, Steps, Took, TookAs, collected, framed, most}
 
 -- nothing is consumed
 pub consumes_none : (known : Option (List ℕ)) → Consumes known known []
@@ -407,3 +408,11 @@ found_after next old mid new unread left later came src consumed at limit found 
   limit = found.limit ∙ limit;
   next_is = found.next_is;
 }
+
+-- the same of a call, which may fail
+pub found_behind : {A : Type 0} (answer : Result Next Stop) (id : ℕ) (old mid new : Source A) (unread left later : Option (List ℕ)) (came : List ℕ)
+    → mid.src.items ≡ old.src.items ++ came → Consumes unread left came → mid.at ≡ old.at → mid.limit ≡ old.limit → (IsIdle old → IsReady id mid)
+    → IfOk answer (λ next. IsReady id mid → Found next mid new left later) → IfOk answer (λ next. IsIdle old → Found next old new unread later)
+found_behind (Ok next) id old mid new unread left later came src consumed at limit ready found =
+    λ idle. found_after next old mid new unread left later came src consumed at limit (found (ready idle))
+found_behind (Err stop) id old mid new unread left later came src consumed at limit ready found = tt

@@ -11,7 +11,7 @@ use std::alloc::{AllocError, Allocator, Global};
 use std::marker::Model;
 
 /// How fields are shown.
-#[derive(Clone, Copy, PartialEq, Eq)]
+#[derive(Clone, Copy)]
 pub enum FieldForm {
     Hidden,
     /// Each on a line of its own.
@@ -172,10 +172,9 @@ fn push_member<A: Allocator + Copy>(
 fn push_closing<A: Allocator>(text: &mut String<A>, form: FieldForm) -> Result<(), AllocError>
     ensures { OnOk result (string_bytes text.new ≡ with_end form (string_bytes text.old)) }
 {
-    if form == FieldForm::Json && !text.is_empty() {
-        text.push_str("}")
-    } else {
-        Ok(())
+    match form {
+        FieldForm::Json if !text.is_empty() => text.push_str("}"),
+        _ => Ok(()),
     }
 }
 

@@ -17,7 +17,7 @@ use wire_span::{SpanDecoder, SpanError, laws};
 const READ_SIZE: usize = 16384;
 
 /// Why a direction has no more packets.
-#[derive(Clone, Copy, PartialEq, Eq)]
+#[derive(Clone, Copy)]
 pub enum End {
     /// It ended between two packets.
     Between,
@@ -30,7 +30,7 @@ pub enum End {
 }
 
 /// What stands next in a direction.
-#[derive(Clone, Copy, PartialEq, Eq)]
+#[derive(Clone, Copy)]
 pub enum Next {
     /// It has not been looked for.
     Unread,
@@ -41,7 +41,7 @@ pub enum Next {
 }
 
 // How a packet goes on.
-#[derive(Clone, Copy, PartialEq, Eq)]
+#[derive(Clone, Copy)]
 enum Step {
     // More bytes are needed.
     Waits,
@@ -88,9 +88,9 @@ fn read_header<A: Allocator + Copy, R: Read>(
     src: &mut BytesMut<A>,
     input: &mut R,
 ) -> Result<(), Stop>
-    ensures came { OnOk result ((came : List ℕ) × (src.new.items ≡ src.old.items ++ came)
-        × Consumes (R.remaining input.old) (R.remaining input.new) came) }
-    ensures end { OnOk result (length src.new.items < 4 → IsAtEnd (R.remaining input.new)) }
+    ensures { OnOk result ((came : List ℕ) × (src.new.items ≡ src.old.items ++ came)
+        × Consumes (R.remaining input.old) (R.remaining input.new) came
+        × (length src.new.items < 4 → IsAtEnd (R.remaining input.new))) }
 {
     'reads: for _ in 0..u64::MAX {
         if src.len() >= 4 {
@@ -134,8 +134,8 @@ fn take_span<A: Allocator + Copy>(
     ensures steps { IfOk result (λ step. Steps step
         (collects decoder.old len.old limit held.old.items piece.old.now)
         (collects decoder.new len.new limit held.new.items piece.new.now)) }
-    ensures most { decoder.new.max_allowed_packet ≡ decoder.old.max_allowed_packet }
-    ensures shorter { IfOk result (λ _. length piece.new.now ≤ length piece.old.now) }
+    ensures kept { (decoder.new.max_allowed_packet ≡ decoder.old.max_allowed_packet)
+        × (length piece.new.now ≤ length piece.old.now) }
 {
     laws::spans_end();
     match decoder.next_span(piece) {
@@ -257,9 +257,9 @@ impl<A: Allocator + Copy> Source<A> {
             (R.remaining input.old) (R.remaining input.new)) }
     {
         laws::spans_deliver();
-        let step = self.take_read()?;
-        if step != Step::Waits {
-            return Ok(step);
+        match self.take_read()? {
+            Step::Waits => {}
+            step => return Ok(step),
         }
         if read_more(&mut self.src, input)? == 0 {
             Ok(Step::Waits)
@@ -272,9 +272,9 @@ impl<A: Allocator + Copy> Source<A> {
     fn take_packet<R: Read>(&mut self, id: u8, input: &mut R) -> Result<Next, Stop>
         ensures found { IfOk result (λ next. IsReady id self.old → Found next self.old self.new
             (R.remaining input.old) (R.remaining input.new)) }
-        ensures kept { OnOk result ((self.new.next ≡ self.old.next) × (self.new.limit ≡ self.old.limit)) }
-        ensures end { IfOk result (λ next. AtEnd next (R.remaining input.new)) }
-        ensures looked { IfOk result (λ next. next ≢ Unread) }
+        ensures kept { IfOk result (λ next. (self.new.next ≡ self.old.next)
+            × (self.new.limit ≡ self.old.limit) × (next ≢ Unread)
+            × AtEnd next (R.remaining input.new)) }
     {
         laws::spans_begin();
         self.decoder.set_sequence_id(id);
@@ -293,17 +293,16 @@ impl<A: Allocator + Copy> Source<A> {
     fn find<R: Read>(&mut self, input: &mut R) -> Result<Next, Stop>
         ensures found { IfOk result (λ next. IsIdle self.old → Found next self.old self.new
             (R.remaining input.old) (R.remaining input.new)) }
-        ensures kept { OnOk result ((self.new.next ≡ self.old.next) × (self.new.limit ≡ self.old.limit)) }
-        ensures end { IfOk result (λ next. AtEnd next (R.remaining input.new)) }
-        ensures looked { IfOk result (λ next. next ≢ Unread) }
+        ensures kept { IfOk result (λ next. (self.new.next ≡ self.old.next)
+            × (self.new.limit ≡ self.old.limit) × (next ≢ Unread)
+            × AtEnd next (R.remaining input.new)) }
     {
         read_header(&mut self.src, input)?;
         match self.src.as_slice() {
             [] => Ok(Next::Ended(End::Between)),
             [_, _, _, id, ..] => {
                 let id = *id;
-                let next = self.take_packet(id, input)?;
-                Ok(next)
+                self.take_packet(id, input)
             }
             _ => Ok(Next::Ended(End::Unfinished)),
         }
@@ -319,7 +318,7 @@ impl<A: Allocator + Copy> Source<A> {
             → AtEnd self.new.next (R.remaining input.new)) }
         ensures limit { OnOk result (self.new.limit ≡ self.old.limit) }
     {
-        if self.next == Next::Unread {
+        if let Next::Unread = self.next {
             self.next = self.find(input)?;
         }
         Ok(())

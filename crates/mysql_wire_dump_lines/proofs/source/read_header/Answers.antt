@@ -1,4 +1,4 @@
-use Rattle.std.proofs.Common.{◌≡◌, ◌++◌, ◌∙◌, List, ℕ, ap, append_assoc}
+use Rattle.std.proofs.Common.{◌++◌, ◌∙◌, List, ℕ, ap, append_assoc, arith}
 use Rattle.std.proofs.KnownBytes.{Consumes-trans}
 use Rattle.mysql_wire_dump_lines.proofs.source.read_header.Goals as goal
 
@@ -9,4 +9,19 @@ reads-preserved g c =
       before.0 ++ came.0,
       came.2 ∙ ap (λ (z : List ℕ). z ++ came.0) before.1 ∙ append_assoc c.args.src.now.items before.0 came.0,
       Consumes-trans (g.R.Read.remaining c.args.input.now) (g.R.Read.remaining c.reads.input) (g.R.Read.remaining c.read_more.new.input) before.0 came.0 before.2 came.3,
+    )
+
+pub returns-then-len-ge4 : goal.returns-then-len-ge4
+returns-then-len-ge4 g c =
+    let before = c.reads.invariant in
+    (before.0, before.1, before.2, λ short. absurd (omega (arith, short, c.if-len-ge4.true, c.len.ensures)))
+
+pub returns-then-branch-eq0 : goal.returns-then-branch-eq0
+returns-then-branch-eq0 g c =
+    let before = c.reads.invariant in
+    let came = c.in_ok-read_more.ensures.came in (
+      before.0 ++ came.0,
+      came.2 ∙ ap (λ (z : List ℕ). z ++ came.0) before.1 ∙ append_assoc c.args.src.now.items before.0 came.0,
+      Consumes-trans (g.R.Read.remaining c.args.input.now) (g.R.Read.remaining c.reads.input) (g.R.Read.remaining c.read_more.new.input) before.0 came.0 before.2 came.3,
+      λ short. c.in_ok-read_more.ensures.end c.if-branch-eq0.true,
     )

@@ -1,6 +1,6 @@
 use Rattle.std.proofs.Common.{◌≤◌, ℕ, List, [], ◌∷◌, length, get_or, arith, refl, subst}
 use Rattle.mysql_wire_dump_lines.specs.Sources.{BeginsWith}
-use Rattle.mysql_wire_dump_lines.proofs.SourceLemmas.{found_after}
+use Rattle.mysql_wire_dump_lines.proofs.SourceLemmas.{found_behind}
 use Rattle.mysql_wire_dump_lines.proofs.source.Source.find.Goals as goal
 
 -- the fourth byte of four or more is the id of the header in front
@@ -11,18 +11,19 @@ begins_at (a ∷ b ∷ []) long = absurd (omega (arith, long))
 begins_at (a ∷ b ∷ c ∷ []) long = absurd (omega (arith, long))
 begins_at (a ∷ b ∷ c ∷ id ∷ more) long = (a, b, c, more, refl)
 
-pub returns-in_ok-next-in-len4-up-clause-found : goal.returns-in_ok-next-in-len4-up-clause-found
-returns-in_ok-next-in-len4-up-clause-found g c idle =
-    let came = c.in_ok-read_header.ensures.came in
+pub returns-in-len4-up-clause-found : goal.returns-in-len4-up-clause-found
+returns-in-len4-up-clause-found g c =
+    let came = c.in_ok-read_header.ensures in
     let begins = subst (λ (z : List ℕ). BeginsWith (get_or c.as_slice.result.now 3 0) z) c.as_slice.ensures (begins_at c.as_slice.result.now c.in-len4-up.len_at_least) in
-    let fresh = idle.fresh in
-    found_after c.in_ok-next-in-len4-up.next c.args.self.now _ c.take_packet.new.self (g.R.Read.remaining c.args.input.now) (g.R.Read.remaining c.read_header.new.input)
-    (g.R.Read.remaining c.take_packet.new.input) came.0 came.1 came.2 refl refl
-    (c.in_ok-next-in-len4-up.ensures.found (
+    found_behind c.take_packet.result _ c.args.self.now _ c.take_packet.new.self (g.R.Read.remaining c.args.input.now) (g.R.Read.remaining c.read_header.new.input)
+    (g.R.Read.remaining c.take_packet.new.input) came.0 came.1 came.2 refl refl (λ idle. (
       record {
         most_is = idle.most_is;
         taken = idle.taken;
-        fresh = record { begun_is = fresh.begun_is; len = fresh.len; held = fresh.held; between = fresh.between };
+        fresh = record { begun_is = idle.fresh.begun_is; len = idle.fresh.len; held = idle.fresh.held; between = idle.fresh.between };
       },
       begins,
-    ))
+    )) c.take_packet.ensures.found
+
+pub returns-in-len4-up-clause-kept : goal.returns-in-len4-up-clause-kept
+returns-in-len4-up-clause-kept g c = c.take_packet.ensures.kept

@@ -1,18 +1,18 @@
-use Rattle.std.proofs.Common.{◌≡◌, ◌≢◌, ◌∙◌, refl, rules, subst}
+use Rattle.std.proofs.Common.{◌≡◌, ◌≢◌, ◌∙◌, refl, subst}
 use Rattle.mysql_wire_dump_lines.specs.declared.source.Step.{Step}
 use Rattle.mysql_wire_dump_lines.specs.declared.source.Step.TheVariants.{Waits}
 use Rattle.mysql_wire_dump_lines.specs.Sources.{Took}
 use Rattle.mysql_wire_dump_lines.proofs.SourceLemmas.{step_ended, step_read, step_taken}
 use Rattle.mysql_wire_dump_lines.proofs.source.Source.step.Goals as goal
 
-pub returns-then-ne : goal.returns-then-ne
-returns-then-ne g c =
-    let other : c.in_ok-step.step ≢ Waits = search (rules, c.if-ne.true, c.if-ne.ensures) in
+pub returns-in_default : goal.returns-in_default
+returns-in_default g c =
+    let other : c.in_ok-step.step ≢ Waits = c.in_default.not-Waits in
     step_taken c.in_ok-step.step c.args.self.now c.take_read.new.self (g.R.Read.remaining c.args.input.now) c.in_ok-step.ensures other
 
 pub returns-then-branch-eq0 : goal.returns-then-branch-eq0
 returns-then-branch-eq0 g c =
-    let waits : c.in_ok-step.step ≡ Waits = search (rules, c.if-ne.false, c.if-ne.ensures) in
+    let waits : c.in_ok-step.step ≡ Waits = c.in-Waits.is in
     let took = subst (λ (s : Step). Took s c.args.self.now c.take_read.new.self) waits c.in_ok-step.ensures in
     let came = c.in_ok-read_more.ensures.came in
     step_ended c.spans_deliver.ensures c.args.self.now c.take_read.new.self _ (g.R.Read.remaining c.args.input.now) (g.R.Read.remaining c.read_more.new.input) came.0 took
@@ -20,7 +20,7 @@ returns-then-branch-eq0 g c =
 
 pub returns-else-branch-eq0 : goal.returns-else-branch-eq0
 returns-else-branch-eq0 g c =
-    let waits : c.in_ok-step.step ≡ Waits = search (rules, c.if-ne.false, c.if-ne.ensures) in
+    let waits : c.in_ok-step.step ≡ Waits = c.in-Waits.is in
     let took = subst (λ (s : Step). Took s c.args.self.now c.take_read.new.self) waits c.in_ok-step.ensures in
     let came = c.in_ok-read_more.ensures.came in
     step_read c.args.self.now c.take_read.new.self _ (g.R.Read.remaining c.args.input.now) (g.R.Read.remaining c.read_more.new.input) came.0 took
