@@ -15,7 +15,7 @@ use std::alloc::Allocator;
 use std::io::{Read, Write};
 
 /// One of the program's commands.
-#[derive(Clone, Copy, PartialEq, Eq)]
+#[derive(Clone, Copy)]
 pub enum Request {
     /// `frame ID`
     Frame(u8),

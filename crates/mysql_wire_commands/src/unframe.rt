@@ -19,7 +19,7 @@ use wire_codec::laws;
 use wire_const::MAX_PAYLOAD_LEN;
 
 /// Why no more packets come from the bytes read so far.
-#[derive(Clone, Copy, PartialEq, Eq)]
+#[derive(Clone, Copy)]
 pub enum Verdict {
     /// More bytes are needed.
     Waits,
@@ -97,9 +97,8 @@ impl<A: Allocator + Copy> Run<A> {
             (λ verdict. TakesPiece (run_state self.old) (next_limit self.old) piece.now verdict
             (payloads self.new.packets.items) (run_state self.new)) }
         ensures aligned { IfOk result (λ verdict. verdict ≡ Waits → Aligned (run_state self.new)) }
-        ensures passed { self.new.ahead ≡ self.old.ahead - length piece.now }
-        ensures limit { self.new.limit ≡ self.old.limit }
-        ensures later { self.new.later ≡ self.old.later }
+        ensures limits { (self.new.limit ≡ self.old.limit) × (self.new.later ≡ self.old.later)
+            × (self.new.ahead ≡ self.old.ahead - length piece.now) }
     {
         let pieces = [(self.next_limit(), piece)];
         self.ahead = self.ahead.saturating_sub(piece.len());
@@ -161,9 +160,8 @@ fn take_piece<A: Allocator + Copy, W: Write>(
     ensures takes { IfOk result (λ verdict. WritesPiece run.old run.new piece.now verdict
         (W.contents output.old) (W.contents output.new)) }
     ensures aligned { IfOk result (λ verdict. verdict ≡ Waits → Aligned (run_state run.new)) }
-    ensures passed { run.new.ahead ≡ run.old.ahead - length piece.now }
-    ensures limit { run.new.limit ≡ run.old.limit }
-    ensures later { run.new.later ≡ run.old.later }
+    ensures limits { (run.new.limit ≡ run.old.limit) × (run.new.later ≡ run.old.later)
+        × (run.new.ahead ≡ run.old.ahead - length piece.now) }
 {
     let verdict = run.take(piece)?;
     run.text.clear();
@@ -254,8 +252,8 @@ fn take_pieces<A: Allocator + Copy, R: NotedRead, W: Write>(
     ensures ended { IfOk result
         (λ status. RunEnds run.old status (R.remaining input.old) (R.remaining input.new)
         (W.contents output.old) (W.contents output.new)) }
-    ensures asked { AsksUpTo step run.old.ahead (R.reads input.old) (R.reads input.new) }
-    ensures stops { StopsOver run.old.limit run.old.later run.old.ahead
+    ensures reads { AsksUpTo step run.old.ahead (R.reads input.old) (R.reads input.new)
+        × StopsOver run.old.limit run.old.later run.old.ahead
         (R.reads input.old) (R.reads input.new) (R.remaining input.old) }
 {
     laws::empty_goes_on();
@@ -289,9 +287,9 @@ fn unframe<A: Allocator + Copy, R: NotedRead, W: Write>(
     ensures ended { IfOk result (λ status. UnframeEndsOver limit later at status
         (R.remaining input.old) (R.remaining input.new)
         (W.contents output.old) (W.contents output.new)) }
-    ensures asked { AsksUpTo step at (R.reads input.old) (R.reads input.new) }
-    ensures stops { StopsOver limit later at
-        (R.reads input.old) (R.reads input.new) (R.remaining input.old) }
+    ensures reads { AsksUpTo step at (R.reads input.old) (R.reads input.new)
+        × StopsOver limit later at (R.reads input.old) (R.reads input.new)
+        (R.remaining input.old) }
 {
     let mut piece = Vec::from_elem(alloc, 0u8, step)?;
     let mut run = Run::new(alloc, limit, later, at);

@@ -13,10 +13,10 @@ returns-clause-ended g c =
     rw (sym c.exit_status.ensures) at ended
 
 pub returns-clause-asked : goal.returns-clause-asked
-returns-clause-asked g c = asked_step c.args.step _ _ c.unframe.ensures.asked
+returns-clause-asked g c = asked_step c.args.step _ _ c.unframe.ensures.reads.0
 
 pub returns-clause-stops : goal.returns-clause-stops
 returns-clause-stops g c =
     let limits : Limits = run_limits (empty_state 0 c.args.limit) [] in
     while_alike (λ (front : List ℕ). WaitsUnder limits 0 front []) (λ (front : List ℕ). WaitsFrom 0 front [] c.args.limit) _ _ _
-    (waits_alike c.equal_limits.ensures c.nothing_read.ensures c.args.limit) (c.unframe.ensures.stops limits (one_limit c.args.limit))
+    (waits_alike c.equal_limits.ensures c.nothing_read.ensures c.args.limit) (c.unframe.ensures.reads.1 limits (one_limit c.args.limit))

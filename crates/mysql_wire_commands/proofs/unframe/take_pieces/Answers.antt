@@ -6,10 +6,14 @@ use Rattle.wire_codec.specs.Limited.{place_after}
 use Rattle.wire_codec.specs.LimitedRuns.{WaitsUnder}
 use Rattle.std.specs.Io.KnownBytes.{Appends}
 use Rattle.mysql_wire_commands.specs.declared.status.Stop.{Stop}
-use Rattle.mysql_wire_commands.specs.Unframe.{ending_status, UnframeEndsOver, place_limits, run_state, next_limit, packet_lines, bytes_left, ending_line, UnframedUnder}
+use Rattle.mysql_wire_commands.specs.declared.noted_read.OneRead.{OneRead}
+use Rattle.mysql_wire_commands.specs.Reads.{AsksUpTo}
+use Rattle.mysql_wire_commands.specs.Unframe.{ending_status, StopsOver, UnframeEndsOver, place_limits, run_state, next_limit, packet_lines, bytes_left, ending_line, UnframedUnder}
 use Rattle.mysql_wire_commands.proofs.ReadLemmas.{Asking, asking_start, asking_more, asked_more, Waited, waited_start, waited_more, waited}
 use Rattle.mysql_wire_commands.proofs.UnframeLemmas.{unframing_start, limits_here, unframing_more, unframing_ended, unframing_too_large, unframing_out_of_sync, rest_cases}
+use Rattle.mysql_wire_commands.proofs.unframe.take_pieces.Given as given
 use Rattle.mysql_wire_commands.proofs.unframe.take_pieces.Goals as goal
+use Rattle.mysql_wire_commands.proofs.unframe.take_pieces.Goals.{In_ok-count}
 
 pub reads-init : goal.reads-init
 reads-init g c =
@@ -51,8 +55,8 @@ reads-preserved g c =
     let len = length-append old.0 piece in let part = length-take c.in_ok-count.count c.deref.result.now in omega (arith, len, part, c.in_ok-count.ensures.count) in
     record {
       piece_len = c.read_piece.ensures.len ∙ c.reads.invariant.piece_len;
-      limit = c.take_piece.ensures.limit ∙ c.reads.invariant.limit;
-      later = c.take_piece.ensures.later ∙ c.reads.invariant.later;
+      limit = c.take_piece.ensures.limits.0 ∙ c.reads.invariant.limit;
+      later = c.take_piece.ensures.limits.1 ∙ c.reads.invariant.later;
       aligned = c.in_ok-take_piece.ensures.aligned c.in-Waits.is;
       so_far = (
         old.0 ++ piece,
@@ -62,7 +66,7 @@ reads-preserved g c =
             let took = takes.1 limits u.mark (place_after 0 u.payloads) u.goes_on
             (limits_here c.framed_length.ensures limits c.args.run.now.limit c.args.run.now.later c.args.run.now.ahead ahead (next_limit c.reads.run) before old.0 old.1 piece u known old.3 here apart) in
             unframing_more c.joined_limited_runs.ensures limits c.args.run.now.ahead ahead before (run_state c.take_piece.new.run) old.0 old.1 piece takes.0 u old.3 apart took,
-        (let len = length-append old.0 piece in omega (arith, len, c.take_piece.ensures.passed, old.3)),
+        (let len = length-append old.0 piece in omega (arith, len, c.take_piece.ensures.limits.2, old.3)),
         Consumes-trans _ _ _ old.0 piece old.4 read,
         Appends-trans _ _ _ old.1 (packet_lines takes.0) old.5 lines,
         subst (λ (n : ℕ). Asking c.args.step c.args.run.now.ahead n (g.R.NotedRead.reads c.args.input.now) (g.R.NotedRead.reads c.read_piece.new.input)) came asking,
@@ -165,75 +169,49 @@ returns-then-count-eq0-clause-ended g c =
       all_read = λ _. c.in_ok-count.ensures.end c.if-count-eq0.true;
     })
 
-pub returns-in_err-count-clause-asked : goal.returns-in_err-count-clause-asked
-returns-in_err-count-clause-asked g c =
+pub returns-in_err-count-clause-reads : goal.returns-in_err-count-clause-reads
+returns-in_err-count-clause-reads g c =
     let old = c.reads.invariant.so_far in
     let asks = c.next_read.ensures in
-    asked_more _ _ _ _ _ _ _ (record { asked = c.next_read.result; came = 0 }) old.6 old.3 asks.some asks.step asks.apart asks.no_less c.in_err-count.ensures.noted
+    let read : OneRead = record { asked = c.next_read.result; came = 0 } in (
+      asked_more _ _ _ _ _ _ _ read old.6 old.3 asks.some asks.step asks.apart asks.no_less c.in_err-count.ensures.noted,
+      λ limits known.
+          let u = old.2 limits known in
+          let state = run_state c.reads.run in
+          waited _ _ _ _ _ (waited_more (λ (front : List ℕ). WaitsUnder limits 0 front []) (length old.0) old.0 _ _ _ _ _ read
+          (old.7 limits known) refl old.4 (u.payloads, state.held, state.unread, u.delivered) c.in_err-count.ensures.noted),
+    )
 
-pub returns-then-count-eq0-clause-asked : goal.returns-then-count-eq0-clause-asked
-returns-then-count-eq0-clause-asked g c =
+-- what was read with this read
+reads_here : (g : given.Over) (c : In_ok-count g)
+    → AsksUpTo c.args.step c.args.run.now.ahead (g.R.NotedRead.reads c.args.input.now) (g.R.NotedRead.reads c.read_piece.new.input)
+    × StopsOver c.args.run.now.limit c.args.run.now.later c.args.run.now.ahead (g.R.NotedRead.reads c.args.input.now) (g.R.NotedRead.reads c.read_piece.new.input) (g.R.Read.remaining c.args.input.now)
+reads_here g c =
     let old = c.reads.invariant.so_far in
     let asks = c.next_read.ensures in
-    asked_more _ _ _ _ _ _ _ (record { asked = c.next_read.result; came = c.in_ok-count.count }) old.6 old.3 asks.some asks.step asks.apart asks.no_less c.in_ok-count.ensures.noted
+    let read : OneRead = record { asked = c.next_read.result; came = c.in_ok-count.count } in (
+      asked_more _ _ _ _ _ _ _ read old.6 old.3 asks.some asks.step asks.apart asks.no_less c.in_ok-count.ensures.noted,
+      λ limits known.
+          let u = old.2 limits known in
+          let state = run_state c.reads.run in
+          waited _ _ _ _ _ (waited_more (λ (front : List ℕ). WaitsUnder limits 0 front []) (length old.0) old.0 _ _ _ _ _ read
+          (old.7 limits known) refl old.4 (u.payloads, state.held, state.unread, u.delivered) c.in_ok-count.ensures.noted),
+    )
 
-pub returns-in_err-take_piece-clause-asked : goal.returns-in_err-take_piece-clause-asked
-returns-in_err-take_piece-clause-asked g c =
+pub returns-then-count-eq0-clause-reads : goal.returns-then-count-eq0-clause-reads
+returns-then-count-eq0-clause-reads g c = reads_here g (goal.at.returns-then-count-eq0-clause-reads g c).In_ok-count
+
+pub returns-in_err-take_piece-clause-reads : goal.returns-in_err-take_piece-clause-reads
+returns-in_err-take_piece-clause-reads g c = reads_here g (goal.at.returns-in_err-take_piece-clause-reads g c).In_ok-count
+
+pub returns-in-TooLarge-clause-reads : goal.returns-in-TooLarge-clause-reads
+returns-in-TooLarge-clause-reads g c = reads_here g (goal.at.returns-in-TooLarge-clause-reads g c).In_ok-count
+
+pub returns-in-OutOfSync-clause-reads : goal.returns-in-OutOfSync-clause-reads
+returns-in-OutOfSync-clause-reads g c = reads_here g (goal.at.returns-in-OutOfSync-clause-reads g c).In_ok-count
+
+pub returns-clause-reads : goal.returns-clause-reads
+returns-clause-reads g c =
     let old = c.reads.invariant.so_far in
-    let asks = c.next_read.ensures in
-    asked_more _ _ _ _ _ _ _ (record { asked = c.next_read.result; came = c.in_ok-count.count }) old.6 old.3 asks.some asks.step asks.apart asks.no_less c.in_ok-count.ensures.noted
-
-pub returns-in-TooLarge-clause-asked : goal.returns-in-TooLarge-clause-asked
-returns-in-TooLarge-clause-asked g c =
-    let old = c.reads.invariant.so_far in
-    let asks = c.next_read.ensures in
-    asked_more _ _ _ _ _ _ _ (record { asked = c.next_read.result; came = c.in_ok-count.count }) old.6 old.3 asks.some asks.step asks.apart asks.no_less c.in_ok-count.ensures.noted
-
-pub returns-in-OutOfSync-clause-asked : goal.returns-in-OutOfSync-clause-asked
-returns-in-OutOfSync-clause-asked g c =
-    let old = c.reads.invariant.so_far in
-    let asks = c.next_read.ensures in
-    asked_more _ _ _ _ _ _ _ (record { asked = c.next_read.result; came = c.in_ok-count.count }) old.6 old.3 asks.some asks.step asks.apart asks.no_less c.in_ok-count.ensures.noted
-
-pub returns-in_err-count-clause-stops : goal.returns-in_err-count-clause-stops
-returns-in_err-count-clause-stops g c limits known =
-    let old = c.reads.invariant.so_far in
-    let u = old.2 limits known in
-    let state = run_state c.reads.run in
-    waited _ _ _ _ _ (waited_more (λ (front : List ℕ). WaitsUnder limits 0 front []) (length old.0) old.0 _ _ _ _ _ (record { asked = c.next_read.result; came = 0 })
-    (old.7 limits known) refl old.4 (u.payloads, state.held, state.unread, u.delivered) c.in_err-count.ensures.noted)
-
-pub returns-then-count-eq0-clause-stops : goal.returns-then-count-eq0-clause-stops
-returns-then-count-eq0-clause-stops g c limits known =
-    let old = c.reads.invariant.so_far in
-    let u = old.2 limits known in
-    let state = run_state c.reads.run in
-    waited _ _ _ _ _ (waited_more (λ (front : List ℕ). WaitsUnder limits 0 front []) (length old.0) old.0 _ _ _ _ _ (record { asked = c.next_read.result; came = c.in_ok-count.count })
-    (old.7 limits known) refl old.4 (u.payloads, state.held, state.unread, u.delivered) c.in_ok-count.ensures.noted)
-
-pub returns-in_err-take_piece-clause-stops : goal.returns-in_err-take_piece-clause-stops
-returns-in_err-take_piece-clause-stops g c limits known =
-    let old = c.reads.invariant.so_far in
-    let u = old.2 limits known in
-    let state = run_state c.reads.run in
-    waited _ _ _ _ _ (waited_more (λ (front : List ℕ). WaitsUnder limits 0 front []) (length old.0) old.0 _ _ _ _ _ (record { asked = c.next_read.result; came = c.in_ok-count.count })
-    (old.7 limits known) refl old.4 (u.payloads, state.held, state.unread, u.delivered) c.in_ok-count.ensures.noted)
-
-pub returns-in-TooLarge-clause-stops : goal.returns-in-TooLarge-clause-stops
-returns-in-TooLarge-clause-stops g c limits known =
-    let old = c.reads.invariant.so_far in
-    let u = old.2 limits known in
-    let state = run_state c.reads.run in
-    waited _ _ _ _ _ (waited_more (λ (front : List ℕ). WaitsUnder limits 0 front []) (length old.0) old.0 _ _ _ _ _ (record { asked = c.next_read.result; came = c.in_ok-count.count })
-    (old.7 limits known) refl old.4 (u.payloads, state.held, state.unread, u.delivered) c.in_ok-count.ensures.noted)
-
-pub returns-in-OutOfSync-clause-stops : goal.returns-in-OutOfSync-clause-stops
-returns-in-OutOfSync-clause-stops g c limits known =
-    let old = c.reads.invariant.so_far in
-    let u = old.2 limits known in
-    let state = run_state c.reads.run in
-    waited _ _ _ _ _ (waited_more (λ (front : List ℕ). WaitsUnder limits 0 front []) (length old.0) old.0 _ _ _ _ _ (record { asked = c.next_read.result; came = c.in_ok-count.count })
-    (old.7 limits known) refl old.4 (u.payloads, state.held, state.unread, u.delivered) c.in_ok-count.ensures.noted)
-
-pub returns-clause-stops : goal.returns-clause-stops
-returns-clause-stops g c limits known = waited _ _ _ _ _ (c.reads.invariant.so_far.7 limits known)
+    let asked = old.6 in
+    (record { made = asked.made; makes = asked.makes; each = asked.each }, λ limits known. waited _ _ _ _ _ (old.7 limits known))

@@ -17,8 +17,5 @@ take_pieces-requires-clause-starts g c =
 pub returns-clause-ended : goal.returns-clause-ended
 returns-clause-ended g c = let new = c.new-run.ensures in rw (new.limit_is, new.later_is, new.ahead_is) at c.take_pieces.ensures.ended
 
-pub returns-clause-asked : goal.returns-clause-asked
-returns-clause-asked g c = rw c.new-run.ensures.ahead_is at c.take_pieces.ensures.asked
-
-pub returns-clause-stops : goal.returns-clause-stops
-returns-clause-stops g c = let new = c.new-run.ensures in rw (new.limit_is, new.later_is, new.ahead_is) at c.take_pieces.ensures.stops
+pub returns-clause-reads : goal.returns-clause-reads
+returns-clause-reads g c = let new = c.new-run.ensures in rw (new.limit_is, new.later_is, new.ahead_is) at c.take_pieces.ensures.reads
