@@ -1,7 +1,8 @@
-use Rattle.std.proofs.Common.{◌≡◌, ◌+◌, ℕ, List, [], ◌∷◌, ◌++◌, take, get_or, ap, sym, ◌∙◌, append_assoc}
+use Rattle.std.proofs.Common.{◌≡◌, ◌+◌, ℕ, List, [], ◌∷◌, ◌++◌, take, get_or, ap, sym, ◌∙◌, append_assoc, take_all}
 use Rattle.std.proofs.lemmas.List.{map_more, take_more}
 use Rattle.std.specs.List.{flat_map}
-use Rattle.mysql_wire_examples.specs.BothEnds.{answer_of, commands_of, ids_in}
+use Rattle.mysql_wire.specs.Runs.{payloads}
+use Rattle.mysql_wire_examples.specs.BothEnds.{answer_of, answers_of, commands_of, ids_in, ids_of}
 use Rattle.mysql_wire_examples.specs.declared.both_ends.Exchange.{Exchange}
 use Rattle.mysql_wire_examples.proofs.BothEndsLemmas.{handed_more}
 use Rattle.mysql_wire_examples.proofs.ConnectionLemmas.{flat_map-one_more}
@@ -28,4 +29,17 @@ exchanges-preserved g c =
           (map_more (λ (exchange : Exchange). exchange.command.packet.now) all index _ c.exchanges-test.true) told.commands;
       answers = flat_more answer_of (take index all) exchange (take (index + 1) all) _ _ _ old.answers taken told.answers;
       ids = flat_more ids_in (take index all) exchange (take (index + 1) all) _ _ _ old.ids taken told.ids;
+    }
+
+pub returns : goal.returns
+returns g c =
+    let old = c.exchanges.invariant in
+    let heard = c.args.heard.now in
+    let all : take c.exchanges.exchange-index c.args.exchanges.now ≡ c.args.exchanges.now =
+    take_all c.exchanges.exchange-index c.args.exchanges.now c.exchanges-test.false in
+    record {
+      commands = old.commands ∙ ap (λ (z : List Exchange). payloads heard.commands.items ++ commands_of z) all;
+      answers = old.answers ∙ ap (λ (z : List Exchange). payloads heard.answers.items ++ answers_of z) all;
+      ids = old.ids ∙ ap (λ (z : List Exchange). heard.ids.items ++ ids_of z) all;
+      in_step = old.step;
     }

@@ -1,4 +1,4 @@
-use Rattle.std.proofs.Common.{rules, ◌≡◌, ◌≤◌, ◌<◌, ◌+◌, ◌++◌, ◌∷◌, [], length, map, take, sym, ap, ◌∙◌, append-nil, append_assoc, subst}
+use Rattle.std.proofs.Common.{rules, ◌≡◌, ◌≤◌, ◌<◌, ◌+◌, ◌++◌, ◌∷◌, [], length, map, take, sym, ap, ◌∙◌, append-nil, append_assoc, subst, All, take_all}
 use Rattle.std.proofs.lemmas.List.{map_more}
 use Rattle.std.proofs.lemmas.List.Elements.{All-more}
 use Rattle.mysql_wire.specs.Codec.{expected_id}
@@ -34,4 +34,19 @@ loop-value-preserved g c =
       known = All-more g.T.Wire.is_value values i value there inv.known
           (subst g.T.Wire.is_value c.value-item.is c.known.ensures);
       limit = put.limit ∙ inv.limit;
+    }
+
+pub returns : goal.returns
+returns g c =
+    let inv = c.loop-value.invariant in
+    let values = c.args.values.now in
+    let first = expected_id c.args.codec.now in
+    let bytes = g.T.MySerialize.bytes in
+    let all : take c.loop-value.value-index values ≡ values = take_all c.loop-value.value-index values c.loop-value-test.false in
+    record {
+      sent = inv.sent ∙ ap (λ z. c.args.output.now.items ++ stream first (map bytes z)) all;
+      next = inv.next ∙ ap (λ z. id_after first (map bytes z)) all;
+      fit = subst (λ z. All (λ value. length (bytes value) ≤ c.args.codec.now.max_allowed_packet) z) all inv.fit;
+      values = subst (λ z. All g.T.Wire.is_value z) all inv.known;
+      limit = inv.limit;
     }
