@@ -41,6 +41,14 @@ no_digits = refl
 pub digits_begin : (held : List ℕ) (written : Option (List ℕ)) → Goes held (encode_lower []) held written written
 digits_begin held written = goes_held held (encode_lower []) held written (sym (ap (λ (z : List ℕ). held ++ z) no_digits ∙ append-nil held))
 
+-- and no line yet
+pub lines_begin : (held : List ℕ) (written : Option (List ℕ)) → Goes held [] held written written
+lines_begin held written = goes_held held [] held written (sym (append-nil held))
+
+pub no_bytes : (bytes : List ℕ) → length bytes ≡ 0 → bytes ≡ []
+no_bytes [] none = refl
+no_bytes (byte ∷ bytes) none = absurd (omega (arith, none))
+
 -- the digits of some bytes more, of which some may have been written
 pub digits_on : (held done bytes text pushed left : List ℕ) (before between after : Option (List ℕ)) → Goes held (encode_lower done) text before between
     → pushed ≡ text ++ encode_lower bytes → Goes pushed [] left between after → Goes held (encode_lower (done ++ bytes)) left before after

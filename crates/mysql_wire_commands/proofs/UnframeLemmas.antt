@@ -51,6 +51,9 @@ piece_waits limits place before limit piece count answer old packets after none 
       on.1,
     )
 
+pub not_lost : (answer : Result (Unit {0}) PacketCodecError) → answer ≡ Ok tt → answer ≡ Err PacketsOutOfSync → ⊥
+not_lost answer is lost = (let e = sym is ∙ lost in cc)
+
 -- it ends at a packet past the limit
 pub piece_too_large : (limits : Limits) (place : ℕ) (before : CodecState) (limit : ℕ) (piece : Bor (List ℕ)) (count : ℕ) (answer : Result (Unit {0}) PacketCodecError) (old packets : List (List ℕ)) (after : CodecState)
     → old ≡ [] → answer ≡ Err PacketTooLarge → CallRuns limits place before limit piece count answer old packets after

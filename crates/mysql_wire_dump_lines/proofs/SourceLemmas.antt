@@ -8,9 +8,10 @@ use Rattle.wire_codec.specs.Framing.{framing}
 use Rattle.wire_span.specs.declared.span.SpanError.TheVariants.{PacketsOutOfSync}
 use Rattle.wire_span.specs.Spans.{SpanState, CameTo, EatsSpans, IsBetween, IsOfAnotherId, StopsBefore, packets_of, opened_after, span_state}
 use Rattle.wire_span.specs.SpanLaws.{SpansDeliver, SpansEnd}
+use Rattle.mysql_wire_dump_lines.specs.declared.source.End.{End}
 use Rattle.mysql_wire_dump_lines.specs.declared.source.End.TheVariants.{OutOfSync, Unfinished}
 use Rattle.mysql_wire_dump_lines.specs.declared.source.Next.{Next}
-use Rattle.mysql_wire_dump_lines.specs.declared.source.Next.TheVariants.{Unread}
+use Rattle.mysql_wire_dump_lines.specs.declared.source.Next.TheVariants.{Unread, Packet, Ended}
 use Rattle.mysql_wire_dump_lines.specs.declared.source.Source.{Source}
 use Rattle.mysql_wire_dump_lines.specs.declared.source.Step.{Step}
 use Rattle.mysql_wire_dump_lines.specs.declared.source.Step.TheVariants.{Waits, Goes, Whole, LosesSync}
@@ -29,6 +30,13 @@ pub came_more : (id : ℕ) (begun opened unread left : List ℕ) (spans : List (
 came_more id begun opened unread left spans before after most_is came eats =
     let within : before.limit ≤ most = omega (arith, most_is) in
     eats.2 id most begun [] opened within came
+
+-- what was looked for and found is told from what was not
+pub packet_looked : (id : ℕ) → Packet id ≡ Unread → ⊥
+packet_looked id same = cc
+
+pub ended_looked : (end : End) → Ended end ≡ Unread → ⊥
+ended_looked end same = cc
 
 -- its header still stands in front
 pub begins_more : (id : ℕ) (begun unread left eaten : List ℕ) → unread ≡ eaten ++ left

@@ -1,5 +1,7 @@
-use Rattle.std.proofs.Common.{List, [], ℕ, ◌++◌, refl, ap, ap₂, ◌∙◌, append_assoc, take-append-drop}
-use Rattle.mysql_wire_commands.proofs.PacketLineLemmas.{digits_begin, digits_on}
+use Rattle.std.proofs.Common.{rules, ◌≡◌, List, [], ℕ, ◌++◌, refl, sym, subst, ap, ap₂, ◌∙◌, append-nil, append_assoc, take-append-drop}
+use Rattle.hex.specs.Hex.{encode_lower}
+use Rattle.mysql_wire_commands.specs.PacketLines.{Goes}
+use Rattle.mysql_wire_commands.proofs.PacketLineLemmas.{digits_begin, digits_on, no_bytes}
 use Rattle.mysql_wire_commands.proofs.packet_lines.write_digits.Goals as goal
 
 pub loop-rest-init : goal.loop-rest-init
@@ -15,3 +17,10 @@ loop-rest-preserved g c =
           ∙ old.1,
       digits_on _ old.0 c.split_at.result.0.now _ _ _ _ _ _ old.2 c.in_ok-push_digits.ensures c.in_ok-write_long.ensures,
     )
+
+pub returns : goal.returns
+returns g c =
+    let old = c.loop-rest.invariant in
+    let empty = no_bytes c.loop-rest.rest.now (search rules) in
+    subst (λ z. Goes c.args.text.now.items (encode_lower z) c.loop-rest.text.items (g.W.Write.contents c.args.output.now) (g.W.Write.contents c.loop-rest.output))
+    (sym (append-nil old.0) ∙ ap (λ (z : List ℕ). old.0 ++ z) (sym empty) ∙ old.1) old.2

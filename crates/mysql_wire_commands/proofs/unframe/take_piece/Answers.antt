@@ -16,3 +16,21 @@ returns-clause-takes g c = (
       ∙ ap (λ (z : List ℕ). c.write_packets.new.text.items ++ z) (c.as_bytes.ensures.value ∙ c.verdict_text.ensures))
       c.in_ok-write_whole.ensures),
 )
+
+pub returns-clause-aligned : goal.returns-clause-aligned
+returns-clause-aligned g c = c.in_ok-verdict.ensures.aligned
+
+pub returns-clause-limits : goal.returns-clause-limits
+returns-clause-limits g c = c.take.ensures.limits
+
+pub returns-in_err-verdict-clause-limits : goal.returns-in_err-verdict-clause-limits
+returns-in_err-verdict-clause-limits g c = c.take.ensures.limits
+
+pub returns-in_err-write_packets-clause-limits : goal.returns-in_err-write_packets-clause-limits
+returns-in_err-write_packets-clause-limits g c = c.take.ensures.limits
+
+pub returns-in_err-extend_from_slice-clause-limits : goal.returns-in_err-extend_from_slice-clause-limits
+returns-in_err-extend_from_slice-clause-limits g c = c.take.ensures.limits
+
+pub returns-in_err-write_whole-clause-limits : goal.returns-in_err-write_whole-clause-limits
+returns-in_err-write_whole-clause-limits g c = c.take.ensures.limits

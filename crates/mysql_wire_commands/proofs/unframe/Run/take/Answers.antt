@@ -2,7 +2,7 @@ use Rattle.std.proofs.Common.{ℕ, ap, sym, ◌∙◌, Some, rules}
 use Rattle.wire_codec.specs.Codec.{codec_state}
 use Rattle.wire_codec.specs.Runs.{payloads}
 use Rattle.mysql_wire_commands.specs.Unframe.{run_state}
-use Rattle.mysql_wire_commands.proofs.UnframeLemmas.{piece_waits, piece_too_large, piece_out_of_sync}
+use Rattle.mysql_wire_commands.proofs.UnframeLemmas.{not_lost, piece_waits, piece_too_large, piece_out_of_sync}
 use Rattle.mysql_wire_commands.proofs.unframe.Run.take.Goals as goal
 
 pub returns-in-Ok-clause-takes : goal.returns-in-Ok-clause-takes
@@ -25,3 +25,6 @@ returns-in-Err-PacketsOutOfSync-clause-takes g c limits mark place goes_on known
     let after = codec_state call.new.codec call.new.src.items call.new.dst.items in
     let told = call.ensures.on limits mark place goes_on ((λ i inside. known i inside ∙ ap (λ (n : ℕ). Some n) (sym c.next_limit.ensures)), tt) in
     piece_out_of_sync limits place (run_state c.args.self.now) c.next_limit.result c.args.piece call.result.0 call.result.1 (payloads c.clear.new.self.items) (payloads call.new.out.items) after (ap payloads c.clear.ensures.items) (search rules) told
+
+pub returns-in-Ok-clause-aligned : goal.returns-in-Ok-clause-aligned
+returns-in-Ok-clause-aligned g c waits = c.deliver_limited-result.ensures.aligned (not_lost c.deliver_limited-result.result.1 c.in-Ok.is)

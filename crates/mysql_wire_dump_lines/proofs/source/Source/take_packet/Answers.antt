@@ -2,7 +2,7 @@ use Rattle.std.proofs.Common.{◌∙◌}
 use Rattle.mysql_wire_dump_lines.specs.declared.source.End.TheVariants.{OutOfSync, Unfinished}
 use Rattle.mysql_wire_dump_lines.specs.declared.source.Next.TheVariants.{Packet, Ended}
 use Rattle.mysql_wire_dump_lines.specs.declared.source.Step.TheVariants.{Waits, Whole, LosesSync}
-use Rattle.mysql_wire_dump_lines.proofs.SourceLemmas.{goes_on, found_by}
+use Rattle.mysql_wire_dump_lines.proofs.SourceLemmas.{goes_on, found_by, packet_looked, ended_looked}
 use Rattle.mysql_wire_dump_lines.proofs.source.Source.take_packet.Goals as goal
 
 pub returns-in-Whole-clause-found : goal.returns-in-Whole-clause-found
@@ -29,3 +29,18 @@ spans-preserved g c =
       going = λ ready. goes_on c.args.id c.args.self.now c.spans.self c.step.new.self (g.R.Read.remaining c.args.input.now) (g.R.Read.remaining c.spans.input)
           (g.R.Read.remaining c.step.new.input) (c.spans.invariant.going ready) step;
     }
+
+pub returns-in-Whole-clause-kept : goal.returns-in-Whole-clause-kept
+returns-in-Whole-clause-kept g c =
+    let step = c.in_ok-step.ensures in
+    (step.next ∙ c.spans.invariant.next, step.limit ∙ c.spans.invariant.limit, packet_looked c.args.id, tt)
+
+pub returns-in-LosesSync-clause-kept : goal.returns-in-LosesSync-clause-kept
+returns-in-LosesSync-clause-kept g c =
+    let step = c.in_ok-step.ensures in
+    (step.next ∙ c.spans.invariant.next, step.limit ∙ c.spans.invariant.limit, ended_looked OutOfSync, tt)
+
+pub returns-in-Waits-clause-kept : goal.returns-in-Waits-clause-kept
+returns-in-Waits-clause-kept g c =
+    let step = c.in_ok-step.ensures in
+    (step.next ∙ c.spans.invariant.next, step.limit ∙ c.spans.invariant.limit, ended_looked Unfinished, step.end c.in-Waits.is)
