@@ -44,3 +44,13 @@ runs-preserved g c =
         subst (λ (z : List ℕ). RunsTo before z c.deliver-more.result.1 (old.0 ++ new.0) after) bytes all,
       );
     }
+
+pub returns : goal.returns
+returns g c =
+    let old = c.runs.invariant in
+    record { runs = old.so_far; count = old.counted; all = old.all; stands = old.stands; limit = old.limited }
+
+pub returns-in_default : goal.returns-in_default
+returns-in_default g c =
+    let old = c.runs.invariant in
+    record { runs = old.so_far; count = old.counted; all = old.all; stands = old.stands; limit = old.limited }

@@ -1,4 +1,4 @@
-use Rattle.std.proofs.Common.{◌≡◌, List, ℕ, ◌++◌, ap, ap₂, ◌∙◌, append_assoc, take-append-drop}
+use Rattle.std.proofs.Common.{List, ℕ, ◌++◌, ap, ap₂, ◌∙◌, append_assoc, take-append-drop}
 use Rattle.mysql_wire.specs.Runs.{joined}
 use Rattle.mysql_wire_examples.proofs.ConnectionLemmas.{flat_map-one_more}
 use Rattle.mysql_wire_examples.proofs.both_ends.cut.Goals as goal

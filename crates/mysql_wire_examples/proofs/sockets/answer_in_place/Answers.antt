@@ -1,4 +1,4 @@
-use Rattle.std.proofs.Common.{rules, ◌≡◌, sym, subst}
+use Rattle.std.proofs.Common.{rules, ◌≡◌, IsNone, refl, sym, subst}
 use Rattle.mysql_wire.specs.Lent.{reading_state}
 use Rattle.mysql_wire_examples.specs.Relayed.{Brings, IsNext, at_id}
 use Rattle.mysql_wire_examples.proofs.RelayedLemmas.{next_lent, is_false}
@@ -25,3 +25,6 @@ returns-clause-answered g c done clear =
           (subst (λ z. IsNext z from shown after left) is next);
       sent = search rules;
     }
+
+pub returns-clause-taken : goal.returns-clause-taken
+returns-clause-taken g c = subst (λ z. IsNone z.lent) (sym c.take_packet.ensures) refl
