@@ -314,7 +314,7 @@ step_read old mid new left later more took src consumed same taken most_is at li
   end = λ waits. absurd (goes_waits waits);
 }
 
-none_of : (more : List ℕ) → length more ≡ 0 → more ≡ []
+pub none_of : (more : List ℕ) → length more ≡ 0 → more ≡ []
 none_of [] none = refl
 none_of (byte ∷ more) none = absurd (omega (arith, none))
 
@@ -424,3 +424,19 @@ pub found_behind : {A : Type 0} (answer : Result Next Stop) (id : ℕ) (old mid 
 found_behind (Ok next) id old mid new unread left later came src consumed at limit ready found =
     λ idle. found_after next old mid new unread left later came src consumed at limit (found (ready idle))
 found_behind (Err stop) id old mid new unread left later came src consumed at limit ready found = tt
+
+-- where no packet is next, nothing was taken
+pub found_none : {A : Type 0} (end : End) (old mid : Source A) (unread left : Option (List ℕ)) (came : List ℕ) → mid.src.items ≡ old.src.items ++ came
+    → Consumes unread left came → mid.at ≡ old.at → mid.limit ≡ old.limit → mid.taken ≡ old.taken → mid.decoder.max_allowed_packet ≡ old.decoder.max_allowed_packet
+    → EndsAs end mid.src.items → IsIdle old → Found (Ended end) old mid unread left
+found_none end old mid unread left came src consumed at limit taken most_is ends idle = record {
+  came = came;
+  begun = [];
+  consumed = consumed;
+  split = sym src;
+  taken = taken ∙ idle.taken;
+  most_is = most_is ∙ idle.most_is;
+  at = at;
+  limit = limit;
+  next_is = ends;
+}

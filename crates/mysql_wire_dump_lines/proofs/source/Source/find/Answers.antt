@@ -1,6 +1,7 @@
-use Rattle.std.proofs.Common.{◌≤◌, ℕ, List, [], ◌∷◌, length, get_or, arith, refl, subst}
+use Rattle.std.proofs.Common.{◌≤◌, ℕ, List, [], ◌∷◌, length, get_or, arith, refl, subst, ap, inl}
+use Rattle.mysql_wire_dump_lines.specs.declared.source.End.TheVariants.{Between, Unfinished}
 use Rattle.mysql_wire_dump_lines.specs.Sources.{BeginsWith}
-use Rattle.mysql_wire_dump_lines.proofs.SourceLemmas.{found_behind}
+use Rattle.mysql_wire_dump_lines.proofs.SourceLemmas.{found_behind, found_none, none_of}
 use Rattle.mysql_wire_dump_lines.proofs.source.Source.find.Goals as goal
 
 -- the fourth byte of four or more is the id of the header in front
@@ -27,3 +28,17 @@ returns-in-len4-up-clause-found g c =
 
 pub returns-in-len4-up-clause-kept : goal.returns-in-len4-up-clause-kept
 returns-in-len4-up-clause-kept g c = c.take_packet.ensures.kept
+
+pub returns-in-empty-clause-found : goal.returns-in-empty-clause-found
+returns-in-empty-clause-found g c idle =
+    let came = c.in_ok-read_header.ensures in
+    let shown = ap length c.as_slice.ensures in
+    found_none Between c.args.self.now _ (g.R.Read.remaining c.args.input.now) (g.R.Read.remaining c.read_header.new.input) came.0 came.1 came.2 refl refl refl refl
+    (none_of c.read_header.new.src.items (omega (arith, shown))) idle
+
+pub returns-in_default-clause-found : goal.returns-in_default-clause-found
+returns-in_default-clause-found g c idle =
+    let came = c.in_ok-read_header.ensures in
+    let shown = ap length c.as_slice.ensures in
+    found_none Unfinished c.args.self.now _ (g.R.Read.remaining c.args.input.now) (g.R.Read.remaining c.read_header.new.input) came.0 came.1 came.2 refl refl refl refl
+    (inl (omega (arith, shown))) idle
