@@ -2,7 +2,9 @@
 
 use std::alloc::Global;
 use std::fmt::Display;
+use std::test::Fail;
 use test_support::answers::shows;
+use test_support::facts::all_hold;
 use wire_const::{
     ColumnType, Command, GeometryType, ItemResult, MariadbBulkIndicator, SessionStateType,
     UnknownColumnType, UnknownGeometryType, UnknownItemResultType, UnknownMariadbBulkIndicator,
@@ -195,14 +197,14 @@ where
 }
 
 #[test]
-fn each_enum_is_converted_by_its_numbers(rt: HostRuntime) {
+fn each_enum_is_converted_by_its_numbers(rt: HostRuntime) -> Result<(), Fail> {
     let alloc = rt.alloc();
     let indicator = "Unknown MariaDB bulk execute parameter value indicator 4";
     let state = "Unknown session state type 6";
     let geometry = "Unknown geometry type 8";
     let column = "Unknown column type 244";
     let item = "Unknown item result type -2";
-    let enums = [
+    all_hold(&[
         is_enum(
             alloc,
             MARIADB_BULK_INDICATORS,
@@ -219,21 +221,19 @@ fn each_enum_is_converted_by_its_numbers(rt: HostRuntime) {
         is_enum(alloc, COLUMN_TYPES, UnknownColumnType, (244, column)),
         is_enum(alloc, ITEM_RESULTS, UnknownItemResultType, (-2, item)),
         are_cast(COMMANDS),
-    ];
-    assert!(rt; enums == [true; 6]);
+    ])
 }
 
 #[test]
-fn values_and_errors_give_their_numbers(rt: HostRuntime) {
-    let given = [
+fn values_and_errors_give_their_numbers(_: HostRuntime) -> Result<(), Fail> {
+    all_hold(&[
         are_given(MARIADB_BULK_INDICATORS),
         are_given(SESSION_STATE_TYPES),
         are_given(COLUMN_TYPES),
         u8::from(UnknownGeometryType(99)) == 99,
         u8::from(UnknownColumnType(99)) == 99,
         i8::from(UnknownItemResultType(99)) == 99,
-    ];
-    assert!(rt; given == [true; 6]);
+    ])
 }
 
 // The seven tests of a type, by its number.

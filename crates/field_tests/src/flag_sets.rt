@@ -4,7 +4,9 @@
 use bitflags::Bits;
 use std::alloc::Global;
 use std::fmt::Display;
+use std::test::Fail;
 use test_support::answers::shows;
+use test_support::facts::all_hold;
 use wire_const::{
     CapabilityFlags, ColumnFlags, CursorType, Flags, Flags2, MariadbCapabilities, SqlMode,
     StatusFlags, StmtBulkExecuteFlags, StmtExecuteParamFlags, StmtExecuteParamsFlags,
@@ -246,9 +248,9 @@ where
 }
 
 #[test]
-fn sets_of_the_protocol(rt: HostRuntime) {
+fn sets_of_the_protocol(rt: HostRuntime) -> Result<(), Fail> {
     let alloc = rt.alloc();
-    let sets = [
+    all_hold(&[
         is_set(alloc, "StatusFlags", STATUS, 0xfffb),
         is_set(alloc, "CapabilityFlags", CAPABILITIES, 0xffff_ffff),
         is_set(alloc, "MariadbCapabilities", MARIADB_CAPABILITIES, 0x3f),
@@ -263,29 +265,26 @@ fn sets_of_the_protocol(rt: HostRuntime) {
             &UnknownColumnFlags(6),
             "Unknown flags in the raw value of ColumnFlags (raw=110)",
         ),
-    ];
-    assert!(rt; sets == [true; 6]);
+    ])
 }
 
 #[test]
-fn sets_of_statements(rt: HostRuntime) {
+fn sets_of_statements(rt: HostRuntime) -> Result<(), Fail> {
     let alloc = rt.alloc();
-    let sets = [
+    all_hold(&[
         is_set(alloc, "CursorType", CURSORS, 0x07),
         is_set(alloc, "StmtExecuteParamsFlags", EXECUTE_PARAMS, 0x01),
         is_set(alloc, "StmtExecuteParamFlags", EXECUTE_PARAM, 0x80),
         is_set(alloc, "StmtBulkExecuteParamsFlags", BULK_EXECUTE, 0xc0),
         CursorType::CURSOR_TYPE_NO_CURSOR.bits() == 0,
-    ];
-    assert!(rt; sets == [true; 5]);
+    ])
 }
 
 #[test]
-fn sets_of_the_binary_log(rt: HostRuntime) {
+fn sets_of_the_binary_log(rt: HostRuntime) -> Result<(), Fail> {
     let alloc = rt.alloc();
-    let sets = [
+    all_hold(&[
         is_set(alloc, "Flags2", FLAGS2, 0x0c08_4000),
         is_set(alloc, "SqlMode", SQL_MODES, 0x3_ffff_ffff),
-    ];
-    assert!(rt; sets == [true; 2]);
+    ])
 }

@@ -25,10 +25,15 @@ fn are_bytes<A: Allocator + Copy>(heap: &Heap, alloc: A) -> bool {
 // Numbers that name changes of a session's state.
 type States<'a, A> = RawSeq<'a, u8, SessionStateType, A>;
 
+// These bytes in a row.
+fn row_of<A: Allocator>(bytes: &[u8]) -> States<'_, A> {
+    RawSeq::new(CowSlice::Borrowed(bytes))
+}
+
 // Whether numbers of one byte in a row are written and read, and one byte is left.
 fn is_row_of_states<A: Allocator + Copy>(heap: &Heap, alloc: A, input: &[u8]) -> bool {
     let len = input.len().saturating_sub(1);
-    let numbers: States<'_, A> = RawSeq::new(CowSlice::Borrowed(between(input, 0, len)));
+    let numbers = row_of::<A>(between(input, 0, len));
     let value = (&numbers, len, 0, input, len, WHOLE);
     is_field(heap, alloc, None, &value, &[])
 }
@@ -40,15 +45,20 @@ fn is_owned<A: Allocator + Copy>(alloc: A, states: States<'_, A>, bytes: &[u8]) 
     }
 }
 
+// Whether the last of three numbers is 9.
+fn are_three<A: Allocator>(states: &States<'_, A>) -> bool {
+    let is_last = match states.get(2) {
+        Some(raw) => raw.0 == 9,
+        None => false,
+    };
+    (states.len() == 3) & !states.is_empty() & is_last & states.get(3).is_none()
+}
+
 fn are_shown<A: Allocator + Copy>(heap: &Heap, alloc: A, bytes: &[u8]) -> bool {
-    let states: States<'_, A> = RawSeq::new(CowSlice::Borrowed(bytes));
-    let mut all = (states.len() == 3) & !states.is_empty();
-    all &= matches!(states.get(2), Some(raw) if raw.0 == 9);
-    all &= states.get(3).is_none();
-    let again: States<'_, A> = RawSeq::new(CowSlice::Borrowed(bytes));
-    all &= is_copied(again) & (heap.left() == 0);
+    let mut all = are_three(&row_of::<A>(bytes));
+    all &= is_copied(row_of::<A>(bytes)) & (heap.left() == 0);
     heap.refuse(1);
-    all & is_owned(alloc, states, bytes) & (heap.left() == 0)
+    all & is_owned(alloc, row_of(bytes), bytes) & (heap.left() == 0)
 }
 
 // One number of four bytes or of one.

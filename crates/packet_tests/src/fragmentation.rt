@@ -167,21 +167,31 @@ fn raised_agrees(alloc: Global, case: &Case, limit: usize, at: usize) -> bool {
     case.agrees_raised(alloc, limit, &pieces)
 }
 
-// Whether a stream agrees, cut at any two places.
-fn agrees(alloc: Global, first_id: u8, limit: usize, stream: &[u8]) -> bool {
-    let case = Case::new(alloc, first_id, limit, stream);
-    let unlimited = Case::new(alloc, first_id, usize::MAX, stream);
-    let (Ok(case), Ok(unlimited)) = (case, unlimited) else {
-        return false;
-    };
+// Whether a stream agrees, cut at any two places. The second case is of the same stream, without a
+// limit.
+fn each_cut_agrees(alloc: Global, case: &Case, unlimited: &Case) -> bool {
     let mut agree = true;
-    for a in 0..=stream.len() {
-        for b in a..=stream.len() {
-            agree &= three_pieces_agree(alloc, &case, a, b);
+    for a in 0..=case.stream.len() {
+        for b in a..=case.stream.len() {
+            agree &= three_pieces_agree(alloc, case, a, b);
         }
-        agree &= raised_agrees(alloc, &unlimited, limit, a);
+        agree &= raised_agrees(alloc, unlimited, case.limit, a);
     }
     agree
+}
+
+fn case_agrees(alloc: Global, case: &Case) -> bool {
+    match Case::new(alloc, case.first_id, usize::MAX, case.stream) {
+        Ok(unlimited) => each_cut_agrees(alloc, case, &unlimited),
+        Err(_) => false,
+    }
+}
+
+fn agrees(alloc: Global, first_id: u8, limit: usize, stream: &[u8]) -> bool {
+    match Case::new(alloc, first_id, limit, stream) {
+        Ok(case) => case_agrees(alloc, &case),
+        Err(_) => false,
+    }
 }
 
 type Short = (u8, usize, &'static [u8]);

@@ -63,17 +63,21 @@ const PAYLOADS: &[&[u8]] = &[b"abc", b"", b"z", b"hello"];
 const STREAM: &[u8] = b"\x03\0\0\xfeabc\0\0\0\xff\x01\0\0\0z\x05\0\0\x01hello";
 
 // Whether packets go in one piece, and the bytes behind them stay.
-fn they_go_in_one_piece(alloc: Global) -> bool {
-    let mut writer = writer_from(254);
-    let mut out = Vec::new(alloc);
+fn they_go(writer: &mut FrameWriter, out: &mut Vec<u8>) -> bool {
     let mut piece = b"abczhello, and more".as_slice();
     let mut all = true;
     for payload in PAYLOADS {
         all &= writer.begin(payload.len()).is_ok();
-        all &= send(&mut writer, &mut piece, &mut out);
+        all &= send(writer, &mut piece, out);
     }
-    all &= same(out.as_slice(), STREAM) & (writer.sequence_id() == 2);
     all & writer.next_part(&mut piece).is_none() & same(piece, b", and more")
+}
+
+fn they_go_in_one_piece(alloc: Global) -> bool {
+    let mut writer = writer_from(254);
+    let mut out = Vec::new(alloc);
+    let all = they_go(&mut writer, &mut out);
+    all & same(out.as_slice(), STREAM) & (writer.sequence_id() == 2)
 }
 
 // Whether 300 empty packets go with no byte of a piece, and ids begin again behind 255.

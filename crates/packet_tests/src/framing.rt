@@ -2,15 +2,14 @@
 //! as values, and as their bytes come.
 
 use crate::framed::goes_as;
-use bytes::{Buf, BytesMut};
+use bytes::Buf;
 use mysql_wire::constants::MAX_PAYLOAD_LEN;
-use mysql_wire::misc::raw::bytes::{EofBytes, RawBytes};
-use mysql_wire::proto::codec::{PacketCodec, encode_value, packet_to_chunks};
 use std::alloc::Global;
 use std::num::NonZeroUsize;
 use std::test::Fail;
 use test_support::answers::Answer;
 use test_support::facts::{no_row, same, same_if_any, wrong_row};
+use test_support::receiver::Receiver;
 use test_support::reference::{between, chunk_count, low_byte, put_framing};
 use test_support::targets::Trickle;
 
@@ -25,12 +24,23 @@ struct Framed<'a> {
 impl Framed<'_> {
     // Whether this packet becomes so, behind what was there, and is emptied.
     fn is_made<T: Buf>(&self, alloc: Global, packet: &mut T) -> bool {
-        let mut dst = BytesMut::new(alloc);
-        let begins = dst.extend_from_slice(b"ab").is_ok();
-        let answer = packet_to_chunks(self.first_id, packet, &mut dst);
-        let mut all = begins & (packet.remaining() == 0);
-        all &= matches!(answer, Ok(id) if id == self.next_id);
-        all & same_if_any(dst.as_slice().strip_prefix(b"ab"), Some(self.bytes))
+        let mut to = Receiver::holding(alloc, 0, b"ab");
+        let is_framed = self.is_framed(&mut to, packet);
+        is_framed & same_if_any(to.src.as_slice().strip_prefix(b"ab"), Some(self.bytes))
+    }
+
+    // Whether all of the packet is framed, up to this id.
+    fn is_framed<T: Buf>(&self, to: &mut Receiver<Global>, packet: &mut T) -> bool {
+        let is_next = match to.frame(self.first_id, packet) {
+            Ok(id) => id == self.next_id,
+            Err(_) => false,
+        };
+        is_next & (packet.remaining() == 0)
+    }
+
+    // Whether two packets, one behind the other, become so.
+    fn is_made_of_two<T: Buf + Drop>(&self, alloc: Global, front: T, back: T) -> bool {
+        self.is_made(alloc, &mut front.chain(back))
     }
 
     // Whether a payload becomes so in one piece, in two, and in pieces of so many bytes.
@@ -44,24 +54,21 @@ impl Framed<'_> {
         };
         let mut whole = payload;
         let mut all = self.is_made(alloc, &mut whole);
-        all &= self.is_made(alloc, &mut empty.chain(front).chain(empty.chain(back)));
+        all &= self.is_made_of_two(alloc, empty.chain(front), empty.chain(back));
         all & self.is_made(alloc, &mut trickle)
     }
 
     // Whether the payload becomes so as a value under this limit. Where it doesn't, nothing is put.
     fn is_encoded(&self, alloc: Global, payload: &[u8], limit: usize) -> bool {
-        let value = RawBytes::<EofBytes>::from(payload);
-        let mut codec = PacketCodec::default();
-        codec.max_allowed_packet = limit;
-        codec.set_sequence_id(self.first_id);
-        let mut wire = BytesMut::new(alloc);
-        let answer = Answer::of_encode(encode_value(&mut codec, &value, &mut wire));
-        if limit < payload.len() {
-            let is_unchanged = wire.is_empty() & (codec.sequence_id() == self.first_id);
-            return is_unchanged & (answer == Answer::TooLarge);
-        }
-        let is_next = codec.sequence_id() == self.next_id;
-        is_next & (answer == Answer::Done) & same(wire.as_slice(), self.bytes)
+        let mut to = Receiver::new(alloc, limit);
+        to.codec.set_sequence_id(self.first_id);
+        let answer = to.encode_text(payload);
+        let (wanted, next_id, bytes) = if limit < payload.len() {
+            (Answer::TooLarge, self.first_id, b"".as_slice())
+        } else {
+            (Answer::Done, self.next_id, self.bytes)
+        };
+        (answer == wanted) & (to.codec.sequence_id() == next_id) & same(to.src.as_slice(), bytes)
     }
 }
 

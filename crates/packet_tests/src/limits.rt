@@ -5,7 +5,7 @@ use refusing_allocator::Refusing;
 use std::alloc::{Allocator, Global};
 use std::test::Fail;
 use test_support::answers::Answer;
-use test_support::facts::{ensure, no_row};
+use test_support::facts::{ensure, no_row, wrong_row};
 use test_support::receiver::{Receiver, Run};
 
 type Piece<'a> = (usize, &'a [u8]);
@@ -62,16 +62,21 @@ fn pieces_from<'a, 'b>(pieces: &'a [Piece<'b>], count: usize) -> &'a [Piece<'b>]
 
 // Whether the run goes so; where it was refused memory, it goes on by the pieces that it did not
 // append.
-fn goes<A: Allocator + Copy>(alloc: A, row: &Row) -> bool {
-    let mut to = Receiver::new(alloc, 0);
+fn is_delivered<A: Allocator + Copy>(to: &mut Receiver<A>, row: &Row) -> bool {
     let (mut count, mut answer) = to.deliver_limited(row.pieces);
     if answer == Answer::OutOfMemory {
         let (more, again) = to.deliver_limited(pieces_from(row.pieces, count));
         count = count.wrapping_add(more);
         answer = again;
     }
-    let all = (count, answer) == row.run;
-    all & to.shows(row.packets, row.left, b"") & (to.codec.max_allowed_packet == row.limit)
+    (count, answer) == row.run
+}
+
+fn goes<A: Allocator + Copy>(alloc: A, row: &Row) -> bool {
+    let mut to = Receiver::new(alloc, 0);
+    let is_delivered = is_delivered(&mut to, row);
+    let is_left = to.shows(row.packets, row.left, b"");
+    is_delivered & is_left & (to.codec.max_allowed_packet == row.limit)
 }
 
 // Whether a visitor sees the packets in the same run.
@@ -80,6 +85,15 @@ fn is_visited(alloc: Global, row: &Row) -> bool {
     let mut seen = Compared::new(row.packets);
     let run = to.visit_limited(row.pieces, &mut seen);
     (run == row.run) & seen.is_done() & to.shows(&[], row.left, b"")
+}
+
+// Whether the run is visited so, and delivered whichever request for memory is refused.
+fn all_go(alloc: Global, row: Row) -> bool {
+    let mut all = is_visited(alloc, &row);
+    for nth in 0..13 {
+        all &= goes(&Refusing::new(alloc, nth), &row);
+    }
+    all
 }
 
 // Whether a run goes on under another limit.
@@ -99,17 +113,6 @@ fn goes_on(alloc: Global) -> bool {
 // Each chunk is judged once; and limits are raised and lowered.
 #[test]
 fn runs_go_as_their_limits_say(rt: HostRuntime) -> Result<(), Fail> {
-    let mut wrong = None;
-    let alloc = rt.alloc();
-    for (i, row) in ROWS.iter().enumerate() {
-        let mut all = is_visited(alloc, row);
-        for nth in 0..13 {
-            all &= goes(&Refusing::new(alloc, nth), row);
-        }
-        if !all {
-            wrong = Some(i);
-        }
-    }
-    no_row(wrong)?;
-    ensure(goes_on(alloc), "a limit that moves")
+    no_row(wrong_row(rt.alloc(), ROWS, all_go))?;
+    ensure(goes_on(rt.alloc()), "a limit that moves")
 }

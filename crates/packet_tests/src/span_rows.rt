@@ -296,7 +296,7 @@ fn all_go(alloc: Global, rows: &[Row]) -> bool {
 
 // Whether the stream goes so in three pieces, with an empty one among them.
 fn is_cut(alloc: Global, [front, middle, end]: [&[u8]; 3]) -> bool {
-    let row = &LIMITS[0];
+    let row = ROW;
     let begin = row.start(renumber_from(0));
     row.spans_of(alloc, begin, &[front, middle, b"", end])
         .0

@@ -5,7 +5,7 @@ use mysql_wire::proto::codec::PacketCodec;
 use mysql_wire::proto::packet_io::{PacketIoError, PacketReader, PacketWriter};
 use refusing_allocator::{NEVER, Refusing};
 use std::alloc::{Allocator, Global};
-use std::io::ErrorKind;
+use std::io::{ErrorKind, Read, Write};
 use test_support::answers::Answer;
 use test_support::facts::same;
 use test_support::fixture::Heap;
@@ -119,16 +119,16 @@ fn codec_at(id: u8, limit: usize) -> PacketCodec {
 /// A reader and its codec, where packets go that are handed out or copied, and a writer to which
 /// they are passed on.
 #[derive(Drop)]
-pub struct Taker<'a, A: Allocator + Copy> {
+pub struct Taker<'a, R: Read, W: Write, A: Allocator + Copy> {
     heap: &'a Heap,
     codec: PacketCodec,
-    reader: PacketReader<Parts<'a>, A>,
+    reader: PacketReader<R, A>,
     out: Narrow,
-    writer: PacketWriter<Narrow, A>,
+    writer: PacketWriter<W, A>,
     writer_codec: PacketCodec,
 }
 
-impl<'a, A: Allocator + Copy> Taker<'a, A> {
+impl<'a, A: Allocator + Copy> Taker<'a, Parts<'a>, Narrow, A> {
     /// Nothing is taken yet.
     pub fn new(heap: &'a Heap, alloc: A, kept: Global, row: &Row<'a>) -> Self {
         let input = Parts::new(
@@ -148,17 +148,42 @@ impl<'a, A: Allocator + Copy> Taker<'a, A> {
         }
     }
 
+    // Whether what was handed out or written is as the row says, each read was of 8192 bytes, and
+    // no copy was flushed. And how often the writer was.
+    fn ends(self, row: &Row) -> (bool, usize) {
+        let Taker {
+            reader,
+            out,
+            writer,
+            ..
+        } = self;
+        let is_even = reader.into_inner().odd_reads == 0;
+        let sent = writer.into_inner();
+        (is_even & row.is_sent(&out, &sent), sent.flushes)
+    }
+}
+
+// Takes a packet that is handed out behind the others.
+fn keeps<A: Allocator>(out: &mut Vec<u8>, packet: Option<Vec<u8, A>>) -> Answer {
+    match packet {
+        Some(packet) => {
+            let _ = out.extend_from_slice(packet.as_slice());
+            Answer::Packet
+        }
+        None => Answer::End,
+    }
+}
+
+// The methods know of the reader and the writer only that they are some: what each call knows of
+// `Parts` and `Narrow` it would prove anew.
+impl<R: Read, W: Write, A: Allocator + Copy> Taker<'_, R, W, A> {
     // Takes a packet by `next_packet`, behind the others.
     fn hands_out(&mut self) -> Answer {
         if !self.reader.fits(&self.codec) {
             return Answer::Fallen;
         }
         match self.reader.next_packet(&mut self.codec) {
-            Ok(Some(packet)) => {
-                let _ = self.out.taken.extend_from_slice(packet.as_slice());
-                Answer::Packet
-            }
-            Ok(None) => Answer::End,
+            Ok(packet) => keeps(&mut self.out.taken, packet),
             Err(error) => answer_of(&error),
         }
     }
@@ -247,9 +272,13 @@ impl<'a, A: Allocator + Copy> Taker<'a, A> {
         all
     }
 
-    // Whether all is as the step says.
+    // Whether all is as the step says. A refusal of memory changes nothing here.
     fn shows(&self, step: Step) -> bool {
         match step {
+            Step::Refuse(nth) => {
+                self.heap.refuse(nth);
+                true
+            }
             Step::Has(out) => same(self.out.taken.as_slice(), out),
             Step::Pending(bytes) => same(self.writer.pending(), bytes),
             Step::Lends(packet) => same(self.reader.packet(), packet),
@@ -265,23 +294,15 @@ impl<'a, A: Allocator + Copy> Taker<'a, A> {
 
     // Whether the step goes as it says.
     fn goes(&mut self, step: Step) -> bool {
-        let (answer, wanted) = match step {
-            Step::Says(way, wanted) => (self.says(way), wanted),
-            Step::Queues(packet, wanted) => (self.queues(packet), wanted),
-            Step::Writes(wanted) => (answer_by(self.writer.write_pending()), wanted),
-            _ => {
-                self.changes(step);
-                return self.shows(step);
-            }
-        };
-        answer == wanted
-    }
-
-    fn changes(&mut self, step: Step) {
         match step {
-            Step::Limit(limit) => self.codec.max_allowed_packet = limit,
-            Step::Refuse(nth) => self.heap.refuse(nth),
-            _ => {}
+            Step::Says(way, wanted) => self.says(way) == wanted,
+            Step::Queues(packet, wanted) => self.queues(packet) == wanted,
+            Step::Writes(wanted) => answer_by(self.writer.write_pending()) == wanted,
+            Step::Limit(limit) => {
+                self.codec.max_allowed_packet = limit;
+                true
+            }
+            _ => self.shows(step),
         }
     }
 
@@ -303,23 +324,6 @@ impl<'a, A: Allocator + Copy> Taker<'a, A> {
             & (self.writer_codec.sequence_id() == row.ids_after.1)
             & (self.reader.reads() == row.reads.unwrap_or(self.reader.reads()))
     }
-
-    // Whether what was handed out or written is as the row says, each read was of 8192 bytes, and
-    // no copy was flushed. And how often the writer was.
-    fn ends(self, row: &Row) -> (bool, usize) {
-        let Taker {
-            reader,
-            out,
-            writer,
-            ..
-        } = self;
-        let sent = writer.into_inner();
-        let is_out = row.is_out(out.taken.as_slice()) | row.is_out(sent.taken.as_slice());
-        let len = out.taken.len().saturating_add(sent.taken.len());
-        let all = is_out & (len == row.out.len().saturating_add(row.zeros));
-        let is_even = (reader.into_inner().odd_reads == 0) & (out.flushes == 0);
-        (all & is_even, sent.flushes)
-    }
 }
 
 impl Row<'_> {
@@ -329,6 +333,13 @@ impl Row<'_> {
             Some(rest) => rest.len() == self.zeros,
             None => false,
         }
+    }
+
+    // Whether just this was handed out, or this written, and no copy was flushed.
+    fn is_sent(&self, out: &Narrow, sent: &Narrow) -> bool {
+        let is_out = self.is_out(out.taken.as_slice()) | self.is_out(sent.taken.as_slice());
+        let len = out.taken.len().saturating_add(sent.taken.len());
+        is_out & (len == self.out.len().saturating_add(self.zeros)) & (out.flushes == 0)
     }
 }
 
