@@ -269,7 +269,7 @@ fn sets_of_the_protocol(rt: HostRuntime) -> Result<(), Fail> {
 }
 
 #[test]
-fn sets_of_statements(rt: HostRuntime) -> Result<(), Fail> {
+fn sets_of_statements_and_of_the_binary_log(rt: HostRuntime) -> Result<(), Fail> {
     let alloc = rt.alloc();
     all_hold(&[
         is_set(alloc, "CursorType", CURSORS, 0x07),
@@ -277,13 +277,6 @@ fn sets_of_statements(rt: HostRuntime) -> Result<(), Fail> {
         is_set(alloc, "StmtExecuteParamFlags", EXECUTE_PARAM, 0x80),
         is_set(alloc, "StmtBulkExecuteParamsFlags", BULK_EXECUTE, 0xc0),
         CursorType::CURSOR_TYPE_NO_CURSOR.bits() == 0,
-    ])
-}
-
-#[test]
-fn sets_of_the_binary_log(rt: HostRuntime) -> Result<(), Fail> {
-    let alloc = rt.alloc();
-    all_hold(&[
         is_set(alloc, "Flags2", FLAGS2, 0x0c08_4000),
         is_set(alloc, "SqlMode", SQL_MODES, 0x3_ffff_ffff),
     ])

@@ -39,8 +39,9 @@ const NO_ONCE: &[Refused<()>] = &[((), 0, b"\x02\x01", UNKNOWN, 1)];
 pub fn are_read<A: Allocator + Copy>(heap: &Heap, alloc: A) -> bool {
     let row = Const::<Kind, u8>::new(Kind::Row);
     let end = Const::<Kind, u8>::new(Kind::End);
+    let once = Const::<Once, u8>::new(Once(1));
     let mut all = is_at(heap, alloc, &row, b"\x01\xfe", 1, NO_KIND);
     all &= is_at(heap, alloc, &end, b"\xfe\x01", 1, &[]);
-    all &= gives(alloc, (), b"\x01\x02", &Const::<Once, u8>::new(Once(1)), 1);
+    all &= gives(alloc, (), b"\x01\x02", &once, 1);
     all & are_refused::<Const<Once, u8>, (), A>(heap, alloc, Some(1), NO_ONCE)
 }

@@ -1,7 +1,7 @@
 //! What readers and writers of packets answered.
 
-use mysql_wire::proto::packet_io::PacketIoError;
 use test_support::answers::Answer;
+use wire_packet_io::PacketIoError;
 
 pub fn answer_of(error: &PacketIoError) -> Answer {
     match error {

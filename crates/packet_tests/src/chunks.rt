@@ -1,12 +1,12 @@
 //! One chunk at a time, in each state of a decoder.
 
-use mysql_wire::constants::MAX_PAYLOAD_LEN;
 use std::alloc::Global;
 use std::test::Fail;
 use test_support::answers::Answer;
 use test_support::facts::{no_row, wrong_row};
 use test_support::fixture::Remembered;
 use test_support::script::{Step, first_fault};
+use wire_const::MAX_PAYLOAD_LEN;
 
 // A state, what is to be read, what is held and a limit; and the same after the call, with its
 // answer.

@@ -1,12 +1,12 @@
 //! Packets, one call of the codec at a time.
 
-use mysql_wire::constants::MAX_PAYLOAD_LEN;
 use std::alloc::Global;
 use std::test::Fail;
 use test_support::answers::Answer;
 use test_support::facts::{no_row, wrong_row};
 use test_support::reference::framed_len;
 use test_support::script::{Script, Step, first_fault, play};
+use wire_const::MAX_PAYLOAD_LEN;
 
 // What each call answers, takes and leaves.
 const CALLS: &[Script] = &[

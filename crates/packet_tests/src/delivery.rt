@@ -1,12 +1,12 @@
 //! Packets from a stream that comes in pieces, row by row: delivered, visited, and taken one by one,
 //! lent where they lie.
 
-use mysql_wire::proto::codec::Visit;
 use std::alloc::Global;
 use std::test::Fail;
 use test_support::answers::Answer;
 use test_support::facts::{no_row, same, wrong_row};
 use test_support::receiver::Receiver;
+use wire_codec::codec::Visit;
 
 // Pieces, the first of them in a run of their own, and what came of them. A row begins with these
 // bytes in `src`, nothing held, and id 0.

@@ -1,7 +1,6 @@
 //! Streams cut in many ways, damaged at each byte and cut short: each run is compared with the
 //! reference reading of the whole stream.
 
-use mysql_wire::constants::MAX_PAYLOAD_LEN;
 use std::alloc::Global;
 use std::test::Fail;
 use test_support::answers::Answer;
@@ -9,6 +8,7 @@ use test_support::case::{Case, Wanted};
 use test_support::facts::{no_row, wrong_row};
 use test_support::fixture::FILL;
 use test_support::reference::{between, low_byte};
+use wire_const::MAX_PAYLOAD_LEN;
 
 // The stream, cut behind its byte number i + 1 where bit i of the number is set, and an empty piece
 // behind each piece where they are spaced. A piece that no memory is left for is missing, which no

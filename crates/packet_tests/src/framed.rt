@@ -2,11 +2,11 @@
 //! begun inside another.
 
 use crate::spanned::each_cut;
-use mysql_wire::proto::codec::{FrameWriter, UnfinishedPacket};
 use std::alloc::Global;
 use std::test::Fail;
 use test_support::facts::{all_hold, same};
 use test_support::reference::{between, low_byte};
+use wire_span::{FrameWriter, UnfinishedPacket};
 
 fn writer_from(seq_id: u8) -> FrameWriter {
     let mut writer = FrameWriter::default();

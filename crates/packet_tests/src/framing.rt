@@ -3,7 +3,6 @@
 
 use crate::framed::goes_as;
 use bytes::Buf;
-use mysql_wire::constants::MAX_PAYLOAD_LEN;
 use std::alloc::Global;
 use std::num::NonZeroUsize;
 use std::test::Fail;
@@ -12,6 +11,7 @@ use test_support::facts::{no_row, same, same_if_any, wrong_row};
 use test_support::receiver::Receiver;
 use test_support::reference::{between, chunk_count, low_byte, put_framing};
 use test_support::targets::Trickle;
+use wire_const::MAX_PAYLOAD_LEN;
 
 // What a payload must become, from its first id on, and the id behind it.
 #[derive(Clone, Copy)]

@@ -1,8 +1,8 @@
 //! Packets in slices: framed into one, and found in one.
 
-use mysql_wire::proto::codec::{PacketCodec, framed_len, packet_to_slice};
 use std::test::Fail;
 use test_support::facts::{no_row, same, wrong_row};
+use wire_codec::codec::{PacketCodec, framed_len, packet_to_slice};
 
 // ---- framed into a slice
 

@@ -3,14 +3,14 @@
 //! 255; decoders in plain numbers.
 
 use crate::spanned::{Renumbered, Spanned, decoder_of, each_cut};
-use mysql_wire::constants::MAX_PAYLOAD_LEN;
-use mysql_wire::proto::codec::{Renumber, SpanDecoder, SpanError, SpanParts};
 use std::alloc::Global;
 use std::test::Fail;
 use test_support::answers::Answer;
 use test_support::facts::{all_hold, same};
 use test_support::receiver::{Receiver, are_packets};
 use test_support::reference::{between, low_byte};
+use wire_const::MAX_PAYLOAD_LEN;
+use wire_span::{Renumber, SpanDecoder, SpanError, SpanParts};
 
 // What comes to a decoder, and what comes of it in spans and with other ids.
 #[derive(Clone, Copy)]

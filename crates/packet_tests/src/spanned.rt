@@ -1,9 +1,9 @@
 //! What comes of streams in spans, and with other ids.
 
-use mysql_wire::proto::codec::{Renumber, Span, SpanDecoder, SpanError};
 use std::alloc::Global;
 use std::mem;
 use test_support::reference::between;
+use wire_span::{Renumber, Span, SpanDecoder, SpanError};
 
 /// A decoder that expects this id, under a limit.
 pub fn decoder_of(first_id: u8, limit: usize) -> SpanDecoder {

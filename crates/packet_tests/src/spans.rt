@@ -3,7 +3,6 @@
 //! the packets.
 
 use crate::spanned::{Renumbered, Spanned, decoder_of};
-use mysql_wire::proto::codec::{Renumber, SpanError};
 use std::alloc::Global;
 use std::test::Fail;
 use test_support::answers::Answer;
@@ -12,6 +11,7 @@ use test_support::facts::{all_hold, no_row, same};
 use test_support::generated::{Draws, Stream, pieces_of};
 use test_support::receiver::Receiver;
 use test_support::reference::{between, header_at, low_byte};
+use wire_span::{Renumber, SpanError};
 
 // ---- what a decoder of spans must do with a stream of small packets
 

@@ -1,8 +1,6 @@
 //! How packets are taken from a reader and put into a writer: each call, and what it says.
 
 use crate::answers::{answer_by, answer_of};
-use mysql_wire::proto::codec::PacketCodec;
-use mysql_wire::proto::packet_io::{PacketIoError, PacketReader, PacketWriter};
 use refusing_allocator::{NEVER, Refusing};
 use std::alloc::{Allocator, Global};
 use std::io::{ErrorKind, Read, Write};
@@ -10,6 +8,8 @@ use test_support::answers::Answer;
 use test_support::facts::same;
 use test_support::fixture::Heap;
 use test_support::readers::{Narrow, Parts};
+use wire_codec::codec::PacketCodec;
+use wire_packet_io::{PacketIoError, PacketReader, PacketWriter};
 
 /// How a packet is taken.
 #[derive(Clone, Copy)]
@@ -258,7 +258,8 @@ impl<R: Read, W: Write, A: Allocator + Copy> Taker<'_, R, W, A> {
         }
     }
 
-    // Whether the calls say this, where each is made once more after a refusal of memory.
+    // Whether the calls say this, where each is made once more after a refusal of memory, and leave
+    // what the row says.
     fn says_all(&mut self, way: Way, row: &Row) -> bool {
         let mut all = true;
         for wanted in row.answers {
@@ -269,7 +270,7 @@ impl<R: Read, W: Write, A: Allocator + Copy> Taker<'_, R, W, A> {
             all &= answer == *wanted;
             self.codec.max_allowed_packet = row.later_limit;
         }
-        all
+        all & self.is_left(row)
     }
 
     // Whether all is as the step says. A refusal of memory changes nothing here.
@@ -349,8 +350,7 @@ where
     A: Allocator + Copy,
 {
     let mut taker = Taker::new(heap, alloc, kept, row);
-    let all = taker.says_all(way, row) & taker.is_left(row);
-    all & taker.ends(row).0
+    taker.says_all(way, row) & taker.ends(row).0
 }
 
 /// Whether a row goes as it says by a way, where no request for memory is refused, and where each

@@ -76,7 +76,7 @@ fn is_spelled(alloc: Global, row: &Row<'_, u64>) -> bool {
     all &= is_put(Vec::new(alloc), bytes, number);
     all &= is_put(BytesMut::new(alloc), bytes, number);
     for room in 0..11usize {
-        all &= leaves(alloc, None, number, room, width, bytes);
+        all &= leaves(Vec::new(alloc), None, number, room, width, bytes);
     }
     all & is_written(alloc, bytes, number)
 }
@@ -96,7 +96,7 @@ const PUT: &[u8] = b"\x04\x03\x02\
     \x01a\x01b\x01\0\0\0c\xff";
 
 // Puts numbers of a fixed width, and texts behind their length, each as it stands in `PUT`.
-fn put_fixed(buf: &mut Vec<u8>, long: &[u8]) -> [bool; 10] {
+fn put_fixed<B: BufMutExt>(buf: &mut B, long: &[u8]) -> [bool; 10] {
     [
         is_done(buf.put_u24_le(0x01020304)),
         is_done(buf.put_i24_le(8388608)),
@@ -112,12 +112,14 @@ fn put_fixed(buf: &mut Vec<u8>, long: &[u8]) -> [bool; 10] {
 }
 
 // Whether these are put one behind the other, and of a text whose length its byte can't say, as
-// much as that says.
+// much as that says. And of a text that is refused the length is left.
 fn all_are_put(alloc: Global) -> bool {
     let mut buf = Vec::new(alloc);
     let long = [b'd'; 256];
     let are_put = put_fixed(&mut buf, &long) == [true; 10];
-    are_put & are_parts(buf.as_slice(), [PUT, &long[1..], b""])
+    are_put
+        & are_parts(buf.as_slice(), [PUT, &long[1..], b""])
+        & leaves(Vec::new(alloc), Some(b"abc"), 0, 2, 1, b"\x03abc")
 }
 
 // What the length of a text is.
@@ -199,9 +201,9 @@ fn left_of(front: usize, whole: usize, room: usize) -> usize {
 }
 
 // Whether a put of a text, or else of a number, leaves so much of all that it writes in so much
-// room, and no memory is the answer where that is not all.
-fn leaves(
-    alloc: Global,
+// room of an empty buffer, and no memory is the answer where that is not all.
+fn leaves<B: BufMut + AsSlice<u8> + Drop>(
+    buf: B,
     text: Option<&[u8]>,
     number: u64,
     room: usize,
@@ -214,7 +216,7 @@ fn leaves(
     } else {
         Err(Answer::OutOfMemory)
     };
-    let mut buf = Vec::new(alloc).limit(room);
+    let mut buf = buf.limit(room);
     let is_answered = answer(&mut buf, text, number) == wanted;
     is_answered & same(buf.into_inner().as_slice(), between(whole, 0, len))
 }
@@ -227,7 +229,14 @@ fn is_text_left(alloc: Global, text: &[u8]) -> bool {
     all &= lenenc_int_len(text.len() as u64) == front as u64;
     all &= lenenc_str_len(text) == whole.len() as u64;
     for room in 0..whole.len().saturating_add(2) {
-        all &= leaves(alloc, Some(text), 0, room, front, whole.as_slice());
+        all &= leaves(
+            Vec::new(alloc),
+            Some(text),
+            0,
+            room,
+            front,
+            whole.as_slice(),
+        );
     }
     all
 }
@@ -249,6 +258,5 @@ fn numbers_and_texts_are_put_and_eaten(rt: HostRuntime) {
     for len in LENGTHS {
         all &= is_text_left(alloc, between(&[b'a'; 300], 0, *len));
     }
-    // The length of a refused text is left.
-    assert!(rt; all & leaves(alloc, Some(b"abc"), 0, 2, 1, b"\x03abc"));
+    assert!(rt; all);
 }
