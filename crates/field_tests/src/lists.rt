@@ -131,21 +131,24 @@ where
 }
 
 // Two texts, with one byte behind them.
-fn are_texts<'de, A>(heap: &Heap, alloc: A, texts: &'de [RawBytes<'de, U8Bytes, A>]) -> bool
-where
-    A: 'de + Allocator + Copy,
-{
-    let texts: List<'de, RawBytes<'de, U8Bytes, A>> = (texts, b"\x02\0\0\0\x01a\0\xff", 7, UNCUT);
-    is_list::<RawBytes<'de, U8Bytes, A>, LeU32, A>(heap, alloc, (), texts, NO_TEXTS)
+fn are_texts<A: Allocator + Copy>(heap: &Heap, alloc: A) -> bool {
+    heap.refuse(NEVER);
+    let mut texts: Vec<RawBytes<'_, U8Bytes, A>, A> = Vec::new(alloc);
+    let _ = texts.push(RawBytes::from(b"a".as_slice()));
+    let _ = texts.push(RawBytes::from(b"".as_slice()));
+    let list: List<'_, RawBytes<'_, U8Bytes, A>> = (
+        texts.as_slice(),
+        b"\x02\0\0\0\x01a\0\xff",
+        7,
+        UNCUT,
+    );
+    is_list::<RawBytes<'_, U8Bytes, A>, LeU32, A>(heap, alloc, (), list, NO_TEXTS)
 }
 
-/// Whether lists are written and read, and others refused. The texts are `a` and one of no bytes.
-pub fn are_lists<'de, A>(heap: &Heap, alloc: A, texts: &'de [RawBytes<'de, U8Bytes, A>]) -> bool
-where
-    A: 'de + Allocator + Copy,
-{
+/// Whether lists are written and read, and others refused.
+pub fn are_lists<A: Allocator + Copy>(heap: &Heap, alloc: A) -> bool {
     let two = [RawInt::<LeU16>::new(1), RawInt::<LeU16>::new(2)];
     let types = [Const::<ColumnType, u8>::new(ColumnType::MYSQL_TYPE_JSON)];
     let are_numbers = are_numbers(heap, alloc, &two);
-    are_numbers & are_others(heap, alloc, &types) & are_texts(heap, alloc, texts)
+    are_numbers & are_others(heap, alloc, &types) & are_texts(heap, alloc)
 }
