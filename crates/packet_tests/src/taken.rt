@@ -174,8 +174,8 @@ fn keeps<A: Allocator>(out: &mut Vec<u8>, packet: Option<Vec<u8, A>>) -> Answer 
     }
 }
 
-// The methods know of the reader and the writer only that they are some: what each call knows of
-// `Parts` and `Narrow` it would prove anew.
+// Generic in the reader and the writer: that `Parts` is a reader and `Narrow` a writer is proved anew
+// in each function that calls through them.
 impl<R: Read, W: Write, A: Allocator + Copy> Taker<'_, R, W, A> {
     // Takes a packet by `next_packet`, behind the others.
     fn hands_out(&mut self) -> Answer {
@@ -273,7 +273,7 @@ impl<R: Read, W: Write, A: Allocator + Copy> Taker<'_, R, W, A> {
         all & self.is_left(row)
     }
 
-    // Whether all is as the step says. A refusal of memory changes nothing here.
+    // Whether all is as the step says. A refusal of memory changes the heap alone.
     fn shows(&self, step: Step) -> bool {
         match step {
             Step::Refuse(nth) => {
