@@ -48,6 +48,9 @@ SESSIONS = [
      ["client 0 9 query", "server 1 1 column count", "server 2 23 column", "server 3 5 eof",
       "server 4 2 row", "server 5 1 row", "server 6 5 eof", "client end at 13",
       "server end at 61"]),
+    # the OK that ends no rows shows that the client wants no EOF behind definitions
+    ("no rows, and an OK behind the definitions", "", None, ROWS[:32] + b"\7\0\0\3\xfe\0\0\2\0\0\0", 0,
+     ["server 1 1 column count", "server 2 23 column", "server 3 7 eof", "server end at 43"]),
     # the second command's answer begins with the id that would follow the first
     ("a command without an answer", "", b"\5\0\0\0\x19\1\0\0\0" + PING, DONE, 0,
      ["client 0 5 close statement", "client 0 1 ping", "server 1 7 ok", "client end at 14",

@@ -1,10 +1,9 @@
 -- How a dump goes from packet to packet.
-use Rattle.std.proofs.Common.{◌≡◌, ◌≢◌, ℕ, ◌≤◌, ◌<◌, Bool, true, false, if◌then◌else◌, List, [], ◌∷◌, ◌++◌, All, refl, sym, ap, ap₂, ◌∙◌, subst, append-nil, append_assoc, inl, inr, arith, Option, Some, None, string_bytes, rules}
+use Rattle.std.proofs.Common.{◌≡◌, ◌≢◌, ℕ, ◌≤◌, ◌<◌, Bool, true, false, if◌then◌else◌, List, [], ◌∷◌, ◌++◌, length, refl, sym, ap, ap₂, ◌∙◌, subst, append-nil, append_assoc, inl, inr, arith, Option, Some, None, string_bytes, rules}
 use Rattle.std.proofs.KnownBytes.{Consumes-trans, Appends-trans}
-use Rattle.std.proofs.lemmas.Bool.{cases_lt}
+use Rattle.std.proofs.lemmas.Bool.{cases_lt, cond_above, cond_below}
 use Rattle.std.specs.Io.KnownBytes.{Appends, Consumes}
 use Rattle.std.proofs.lemmas.Grind.{flat_map-append}
-use Rattle.std.proofs.lemmas.List.Elements.{All-append}
 use Rattle.wire_codec.specs.Framing.{next_id}
 use Rattle.wire_span.specs.Spans.{span_state}
 use Rattle.mysql_wire_dump.specs.declared.dump.Dump.{Dump}
@@ -22,11 +21,10 @@ use Rattle.mysql_wire_dump_lines.specs.declared.source.End.TheVariants.{Encrypte
 use Rattle.mysql_wire_dump_lines.specs.declared.source.Next.{Next}
 use Rattle.mysql_wire_dump_lines.specs.declared.source.Next.TheVariants.{Unread, Packet, Ended}
 use Rattle.mysql_wire_dump_lines.specs.declared.source.Source.{Source}
-use Rattle.mysql_wire_dump.specs.Dumped.{field_form, Dumps, InOrder, IsShown, Shown, SideEnds, ending_lines, first_of, is_of, lines_of, packets_of, status_of}
-use Rattle.mysql_wire_dump.specs.Dumping.{Dumping, Goes, IsLooked, IsTurn, Pends, Shows, ShowsAll, SoFar, StartsDump, id_behind}
-use Rattle.mysql_wire_dump.specs.Moments.{moment_of}
-use Rattle.mysql_wire_dump_lines.specs.Naming.{IsOrBytes, kind_at}
-use Rattle.mysql_wire_dump.specs.Readings.{AreFields}
+use Rattle.mysql_wire_dump.specs.Dumped.{AreShown, field_form, Dumps, InOrder, IsShown, Shown, SideEnds, ending_lines, first_of, is_of, known_after, known_behind, lines_of, packets_of, status_of}
+use Rattle.mysql_wire_dump.specs.Dumping.{Dumping, Goes, IsLooked, IsTurn, NamesOne, PassesOver, Pends, Shows, ShowsAll, SoFar, StartsDump, id_behind}
+use Rattle.mysql_wire_dump.specs.Known.{Known, known_of, nothing_known}
+use Rattle.mysql_wire_dump_fields.specs.Packets as packet
 use Rattle.mysql_wire_dump_lines.specs.Lines.{bytes_part, line_end, packet_front, packet_line}
 use Rattle.mysql_wire_dump_lines.specs.Sources.{AtEnd, HasPacket, Stands, StandsNext, collected, id_of}
 use Rattle.mysql_wire_dump_lines.proofs.SourceLemmas.{consumes_none}
@@ -56,6 +54,18 @@ first_of_more side (first ∷ shown) others behind =
 pub id_behind_more : (next : ℕ) (shown : List Shown) (one : Shown) → id_behind next (shown ++ one ∷ []) ≡ next_id one.seen.id one.payload
 id_behind_more next [] one = refl
 id_behind_more next (first ∷ shown) one = id_behind_more (next_id first.seen.id first.payload) shown one
+
+pub known_after_more : (options : Options) (known : Known) (shown : List Shown) (one : Shown)
+    → known_after options known (shown ++ one ∷ []) ≡ known_behind options one
+known_after_more options known [] one = refl
+known_after_more options known (first ∷ shown) one = known_after_more options (known_behind options first) shown one
+
+-- one packet more is shown, where this is known behind those before it
+pub shown_more : (options : Options) (known : Known) (shown : List Shown) (one : Shown) → AreShown options known shown
+    → one.at ≡ known_after options known shown → IsShown options one → AreShown options known (shown ++ one ∷ [])
+shown_more options known [] one are at is = (at, is, tt)
+shown_more options known (first ∷ shown) one are at is =
+    (are.0, are.1, shown_more options (known_behind options first) shown one are.2 at is)
 
 -- one packet more, whose turn it is
 pub in_order_more : (next : ℕ) (shown : List Shown) (one : Shown) (client server client_next server_next : Option ℕ)
@@ -100,12 +110,48 @@ same_line form seen shown payload fields limit same large =
       | inr within ↦ ap (λ (z : List ℕ). packet_line form seen z fields) (same within)
     ]
 
+-- a packet that was named and read, or passed over, as it is shown, and what is known behind it
+abbrev shown_as : Seen → List ℕ → List ℕ → Known → packet.Packet → Shown
+shown_as seen payload fields known one =
+    record { seen = seen; payload = payload; packet = one; fields = fields; at = known }
+
+one_told : (options : Options) (seen : Seen) (payload held fields : List ℕ) (known next : Known) (limit : ℕ) → limit ≡ options.limit
+    → seen.len ≡ length payload → (seen.len ≤ limit → held ≡ payload)
+    → (limit < seen.len → PassesOver (field_form options) seen.side seen.id known next fields seen.kind)
+    → (seen.len ≤ limit → NamesOne (field_form options) seen.side seen.id held known next fields seen.kind)
+    → (one : packet.Packet) × IsShown options (shown_as seen payload fields known one)
+    × (next ≡ known_behind options (shown_as seen payload fields known one))
+one_told options seen payload held fields known next limit limit_is len_is held_is large named =
+    elim (cases_lt limit seen.len) [
+      | inl above ↦ (let over = large above in (
+        packet.Nothing,
+        record {
+          len = len_is;
+          large = λ is. (over.0, refl);
+          reads = λ within. absurd (omega (arith, len_is, limit_is, above, within));
+          fields = over.2;
+        },
+        over.1 ∙ cond_below options.limit (length payload) _ _ (omega (arith, len_is, limit_is, above)),
+      ))
+      | inr within ↦ (let one : NamesOne (field_form options) seen.side seen.id payload known next fields seen.kind =
+          subst (λ (bytes : List ℕ). NamesOne (field_form options) seen.side seen.id bytes known next fields seen.kind) (held_is within) (named within) in (
+            one.packet,
+            record {
+              len = len_is;
+              large = λ above. absurd (omega (arith, len_is, limit_is, above, within));
+              reads = λ below. one.reads;
+              fields = one.fields_are;
+            },
+            cond_above options.limit (length payload) _ _ next (omega (arith, len_is, limit_is, within)) one.goes_on,
+          ))
+    ]
+
 -- the client's next packet is shown
 pub client_shown : {A : Type 0} (old new : Dump A) (id : ℕ) (kind : Kind) (bytes fields : List ℕ) → old.client.next ≡ Packet id
-    → (old.client.limit < old.client.len → kind ≡ TooLarge)
-    → (old.client.len ≤ old.client.limit → IsOrBytes (kind_at (moment_of old.session) Client id old.client.held.items) kind) → (old.client.len ≤ old.client.limit → bytes ≡ old.client.held.items)
-    → (old.client.limit < old.client.len → (payload : List ℕ) → AreFields (field_form old.options) kind payload fields)
-    → (old.client.len ≤ old.client.limit → AreFields (field_form old.options) kind old.client.held.items fields)
+    → (old.client.limit < old.client.len → PassesOver (field_form old.options) Client id (known_of old.session) (known_of new.session) fields kind)
+    → (old.client.len ≤ old.client.limit
+    → NamesOne (field_form old.options) Client id old.client.held.items (known_of old.session) (known_of new.session) fields kind)
+    → (old.client.len ≤ old.client.limit → bytes ≡ old.client.held.items)
     → string_bytes new.text ≡ string_bytes old.text ++ packet_line old.options.form (record { side = Client; id = id; len = old.client.len; kind = kind }) bytes fields
     → new.next_id ≡ (span_state old.client.decoder).id → new.options ≡ old.options → new.server ≡ old.server
     → new.client.limit ≡ old.client.limit
@@ -113,25 +159,14 @@ pub client_shown : {A : Type 0} (old new : Dump A) (id : ℕ) (kind : Kind) (byt
     → (payload : List ℕ) × HasPacket number payload stands.begun (collected old.client) × Stands (packets ++ (number, payload) ∷ []) came new.client)
     → (shown : List Shown) (client server written : List ℕ) → Dumping shown client server written old → IsTurn Client old → IsLooked old
     → (one : Shown) × Dumping (shown ++ one ∷ []) client server written new
-client_shown {A = A} old new id kind bytes fields is large named same passed shows text next_id_is options other_same limit passes shown client server written dumping is_turn looked =
+client_shown {A = A} old new id kind bytes fields is large named same text next_id_is options other_same limit passes shown client server written dumping is_turn looked =
     let pass = passes (packets_of Client shown) client id is dumping.clients in
     let payload : List ℕ = pass.0 in
     let has = pass.1 in
     let seen : Seen = record { side = Client; id = id; len = old.client.len; kind = kind } in
-    let one : Shown = record { seen = seen; payload = payload; fields = fields; at = moment_of old.session } in
     let limit_is : old.client.limit ≡ old.options.limit = dumping.client_limit in
-    let is_shown : IsShown old.options one =
-    record {
-      len = has.len;
-      large = λ above. large (let len_is = has.len in omega (arith, len_is, limit_is, above));
-      named = λ within.
-          let below : old.client.len ≤ old.client.limit = let len_is = has.len in omega (arith, len_is, limit_is, within) in
-          subst (λ (z : List ℕ). IsOrBytes (kind_at (moment_of old.session) Client id z) kind) (has.held below) (named below);
-      fields = elim (cases_lt old.client.limit old.client.len) [
-        | inl above ↦ passed above payload
-        | inr within ↦ subst (λ (z : List ℕ). AreFields (field_form old.options) kind z fields) (has.held within) (shows within)
-      ];
-    } in
+    let it = one_told old.options seen payload old.client.held.items fields (known_of old.session) (known_of new.session) old.client.limit limit_is has.len has.held large named in
+    let one : Shown = shown_as seen payload fields (known_of old.session) it.0 in
     let here : Pends old.client.next (Some id) = subst (λ (n : Next). Pends n (Some id)) (sym is) refl in
     let turn_is : turn old.session.place (id_behind 0 shown) (Some id) (id_of old.server.next) ≡ Some Client =
     ap₂ (λ (n : ℕ) (c : Option ℕ). turn old.session.place n c (id_of old.server.next)) (sym dumping.behind) (sym (ap id_of is)) ∙ is_turn in
@@ -139,8 +174,10 @@ client_shown {A = A} old new id kind bytes fields is large named same passed sho
     λ number pends. pends_is old.server.next number looked.1 (subst (λ (source : Source A). Pends source.next number) other_same pends) in (
       one,
       record {
-        are_shown = subst (λ (o : Options). All (IsShown o) (shown ++ one ∷ [])) (sym options)
-            (All-append (IsShown old.options) shown (one ∷ []) dumping.are_shown (search (rules, is_shown)));
+        are_shown = subst (λ (o : Options). AreShown o nothing_known (shown ++ one ∷ [])) (sym options)
+            (shown_more old.options nothing_known shown one dumping.are_shown dumping.known it.1);
+        known = subst (λ (o : Options). known_of new.session ≡ known_after o nothing_known (shown ++ one ∷ [])) (sym options)
+            (it.2 ∙ sym (known_after_more old.options nothing_known shown one));
         clients = subst (λ (z : List (ℕ × List ℕ)). Stands z client new.client) (sym (packets_of_more Client shown one)) pass.2;
         servers = subst (λ (source : Source A). Stands (packets_of Server (shown ++ one ∷ [])) server source) (sym other_same)
             (subst (λ (z : List (ℕ × List ℕ)). Stands z server old.server) (sym (packets_of_more Server shown one ∙ append-nil (packets_of Server shown))) dumping.servers);
@@ -152,17 +189,17 @@ client_shown {A = A} old new id kind bytes fields is large named same passed sho
         lines = ap (λ (z : List ℕ). written ++ z) text ∙ sym (append_assoc written (string_bytes old.text) (packet_line old.options.form seen bytes fields))
             ∙ ap (λ (z : List ℕ). z ++ packet_line old.options.form seen bytes fields) dumping.lines
             ∙ ap (λ (z : List ℕ). lines_of old.options.form shown ++ z)
-            (same_line old.options.form seen bytes payload fields old.client.limit (λ within. same within ∙ has.held within) large)
+            (same_line old.options.form seen bytes payload fields old.client.limit (λ within. same within ∙ has.held within) (λ above. (large above).0))
             ∙ sym (lines_of_more old.options.form shown one) ∙ ap (λ (o : Options). lines_of o.form (shown ++ one ∷ [])) (sym options);
       },
     )
 
 -- the server's next packet is shown
 pub server_shown : {A : Type 0} (old new : Dump A) (id : ℕ) (kind : Kind) (bytes fields : List ℕ) → old.server.next ≡ Packet id
-    → (old.server.limit < old.server.len → kind ≡ TooLarge)
-    → (old.server.len ≤ old.server.limit → IsOrBytes (kind_at (moment_of old.session) Server id old.server.held.items) kind) → (old.server.len ≤ old.server.limit → bytes ≡ old.server.held.items)
-    → (old.server.limit < old.server.len → (payload : List ℕ) → AreFields (field_form old.options) kind payload fields)
-    → (old.server.len ≤ old.server.limit → AreFields (field_form old.options) kind old.server.held.items fields)
+    → (old.server.limit < old.server.len → PassesOver (field_form old.options) Server id (known_of old.session) (known_of new.session) fields kind)
+    → (old.server.len ≤ old.server.limit
+    → NamesOne (field_form old.options) Server id old.server.held.items (known_of old.session) (known_of new.session) fields kind)
+    → (old.server.len ≤ old.server.limit → bytes ≡ old.server.held.items)
     → string_bytes new.text ≡ string_bytes old.text ++ packet_line old.options.form (record { side = Server; id = id; len = old.server.len; kind = kind }) bytes fields
     → new.next_id ≡ (span_state old.server.decoder).id → new.options ≡ old.options → new.client ≡ old.client
     → new.server.limit ≡ old.server.limit
@@ -170,25 +207,14 @@ pub server_shown : {A : Type 0} (old new : Dump A) (id : ℕ) (kind : Kind) (byt
     → (payload : List ℕ) × HasPacket number payload stands.begun (collected old.server) × Stands (packets ++ (number, payload) ∷ []) came new.server)
     → (shown : List Shown) (client server written : List ℕ) → Dumping shown client server written old → IsTurn Server old → IsLooked old
     → (one : Shown) × Dumping (shown ++ one ∷ []) client server written new
-server_shown {A = A} old new id kind bytes fields is large named same passed shows text next_id_is options other_same limit passes shown client server written dumping is_turn looked =
+server_shown {A = A} old new id kind bytes fields is large named same text next_id_is options other_same limit passes shown client server written dumping is_turn looked =
     let pass = passes (packets_of Server shown) server id is dumping.servers in
     let payload : List ℕ = pass.0 in
     let has = pass.1 in
     let seen : Seen = record { side = Server; id = id; len = old.server.len; kind = kind } in
-    let one : Shown = record { seen = seen; payload = payload; fields = fields; at = moment_of old.session } in
     let limit_is : old.server.limit ≡ old.options.limit = dumping.server_limit in
-    let is_shown : IsShown old.options one =
-    record {
-      len = has.len;
-      large = λ above. large (let len_is = has.len in omega (arith, len_is, limit_is, above));
-      named = λ within.
-          let below : old.server.len ≤ old.server.limit = let len_is = has.len in omega (arith, len_is, limit_is, within) in
-          subst (λ (z : List ℕ). IsOrBytes (kind_at (moment_of old.session) Server id z) kind) (has.held below) (named below);
-      fields = elim (cases_lt old.server.limit old.server.len) [
-        | inl above ↦ passed above payload
-        | inr within ↦ subst (λ (z : List ℕ). AreFields (field_form old.options) kind z fields) (has.held within) (shows within)
-      ];
-    } in
+    let it = one_told old.options seen payload old.server.held.items fields (known_of old.session) (known_of new.session) old.server.limit limit_is has.len has.held large named in
+    let one : Shown = shown_as seen payload fields (known_of old.session) it.0 in
     let here : Pends old.server.next (Some id) = subst (λ (n : Next). Pends n (Some id)) (sym is) refl in
     let turn_is : turn old.session.place (id_behind 0 shown) (id_of old.client.next) (Some id) ≡ Some Server =
     ap₂ (λ (n : ℕ) (c : Option ℕ). turn old.session.place n (id_of old.client.next) c) (sym dumping.behind) (sym (ap id_of is)) ∙ is_turn in
@@ -196,8 +222,10 @@ server_shown {A = A} old new id kind bytes fields is large named same passed sho
     λ number pends. pends_is old.client.next number looked.0 (subst (λ (source : Source A). Pends source.next number) other_same pends) in (
       one,
       record {
-        are_shown = subst (λ (o : Options). All (IsShown o) (shown ++ one ∷ [])) (sym options)
-            (All-append (IsShown old.options) shown (one ∷ []) dumping.are_shown (search (rules, is_shown)));
+        are_shown = subst (λ (o : Options). AreShown o nothing_known (shown ++ one ∷ [])) (sym options)
+            (shown_more old.options nothing_known shown one dumping.are_shown dumping.known it.1);
+        known = subst (λ (o : Options). known_of new.session ≡ known_after o nothing_known (shown ++ one ∷ [])) (sym options)
+            (it.2 ∙ sym (known_after_more old.options nothing_known shown one));
         servers = subst (λ (z : List (ℕ × List ℕ)). Stands z server new.server) (sym (packets_of_more Server shown one)) pass.2;
         clients = subst (λ (source : Source A). Stands (packets_of Client (shown ++ one ∷ [])) client source) (sym other_same)
             (subst (λ (z : List (ℕ × List ℕ)). Stands z client old.client) (sym (packets_of_more Client shown one ∙ append-nil (packets_of Client shown))) dumping.clients);
@@ -209,7 +237,7 @@ server_shown {A = A} old new id kind bytes fields is large named same passed sho
         lines = ap (λ (z : List ℕ). written ++ z) text ∙ sym (append_assoc written (string_bytes old.text) (packet_line old.options.form seen bytes fields))
             ∙ ap (λ (z : List ℕ). z ++ packet_line old.options.form seen bytes fields) dumping.lines
             ∙ ap (λ (z : List ℕ). lines_of old.options.form shown ++ z)
-            (same_line old.options.form seen bytes payload fields old.server.limit (λ within. same within ∙ has.held within) large)
+            (same_line old.options.form seen bytes payload fields old.server.limit (λ within. same within ∙ has.held within) (λ above. (large above).0))
             ∙ sym (lines_of_more old.options.form shown one) ∙ ap (λ (o : Options). lines_of o.form (shown ++ one ∷ [])) (sym options);
       },
     )
@@ -260,6 +288,7 @@ client_looked dump source client client_left left server server_left written now
       appended = so_far.appended;
       dumping = record {
         are_shown = was.are_shown;
+        known = was.known;
         clients = look.2;
         servers = was.servers;
         client_limit = limit ∙ was.client_limit;
@@ -292,6 +321,7 @@ server_looked dump source client client_left server server_left left written now
       appended = so_far.appended;
       dumping = record {
         are_shown = was.are_shown;
+        known = was.known;
         clients = was.clients;
         servers = look.2;
         client_limit = was.client_limit;
@@ -358,6 +388,7 @@ much_written {A = A} old new part client client_left server server_left written 
       appended = Appends-trans written now later so_far.text part so_far.appended appended;
       dumping = record {
         are_shown = was.are_shown;
+        known = was.known;
         clients = was.clients;
         servers = was.servers;
         client_limit = was.client_limit;
@@ -487,7 +518,7 @@ dumps_all options sides dump client_end server_end last status client client_lef
       appended = Appends-trans written now later all.text last all.appended appended;
       dumped = record {
         shown = all.shown;
-        are_shown = subst (λ (o : Options). All (IsShown o) all.shown) options_are all.are_shown;
+        are_shown = subst (λ (o : Options). AreShown o nothing_known all.shown) options_are all.are_shown;
         clients = side_ends dump.client (packets_of Client all.shown) all.of_client client_end all.clients client_is;
         servers = side_ends dump.server (packets_of Server all.shown) all.of_server server_end all.servers server_is;
         client_next = all.client_next;

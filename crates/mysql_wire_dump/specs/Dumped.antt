@@ -1,36 +1,40 @@
 -- What the dump writes, from the bytes that it reads.
 use Rattle.std.specs.Io.KnownBytes.{Appends, Consumes}
 use Rattle.std.specs.List.{flat_map}
-use Rattle.std.specs.Prelude.{◌≡◌, ℕ, ◌<◌, ◌≤◌, ◌⊎◌, List, [], ◌∷◌, ◌++◌, length, ⊤, All, Bool, true, false, if◌then◌else◌, max, Option, Some, None}
+use Rattle.std.specs.Prelude.{◌≡◌, ℕ, ◌<◌, ◌≤◌, ◌⊎◌, List, [], ◌∷◌, ◌++◌, length, nat_lt, ⊤, Bool, true, false, if◌then◌else◌, max, Option, Some, None}
 use Rattle.wire_codec.specs.Framing.{next_id}
 use Rattle.mysql_wire_dump_lines.specs.declared.options.Options.{Options}
 use Rattle.mysql_wire_dump_lines.specs.declared.options.Sides.{Sides}
 use Rattle.mysql_wire_dump_lines.specs.declared.options.Sides.TheVariants as sides
+use Rattle.mysql_wire_dump_lines.specs.declared.kind.Kind.{Kind}
 use Rattle.mysql_wire_dump_lines.specs.declared.kind.Kind.TheVariants.{TooLarge}
 use Rattle.mysql_wire_dump_lines.specs.declared.fields.FieldForm.{FieldForm}
 use Rattle.mysql_wire_dump_lines.specs.declared.fields.FieldForm.TheVariants.{Hidden, Text, Json}
 use Rattle.mysql_wire_dump_lines.specs.declared.lines.LineForm.{LineForm}
 use Rattle.mysql_wire_dump_lines.specs.declared.lines.LineForm.TheVariants as line
 use Rattle.mysql_wire_dump_lines.specs.declared.lines.Seen.{Seen}
-use Rattle.mysql_wire_dump_lines.specs.declared.naming.Moment.{Moment}
 use Rattle.mysql_wire_dump_lines.specs.declared.side.Side.{Side}
 use Rattle.mysql_wire_dump_lines.specs.declared.side.Side.TheVariants.{Client, Server}
 use Rattle.mysql_wire_dump_lines.specs.declared.source.End.{End}
 use Rattle.mysql_wire_dump_lines.specs.declared.source.End.TheVariants.{Encrypted}
-use Rattle.mysql_wire_dump.specs.Readings.{AreFields}
+use Rattle.mysql_wire_dump_fields.specs.Packets.{HasFields, Nothing, Packet}
+use Rattle.mysql_wire_dump.specs.GoingOn.{follow, passed, went}
+use Rattle.mysql_wire_dump.specs.Known.{Known, nothing_known}
+use Rattle.mysql_wire_dump.specs.Readings.{Is, ReadsAs, kind_of, opened_at}
+use Rattle.mysql_wire_dump_lines.specs.Fields.{Member, fields_text}
 use Rattle.mysql_wire_dump_lines.specs.Lines.{packet_line, ending_line}
-use Rattle.mysql_wire_dump_lines.specs.Naming.{IsOrBytes, kind_at}
 use Rattle.mysql_wire_dump_lines.specs.Sources.{EndsAs, ReadWhole, framed}
 use Rattle.mysql_wire_dump_lines.specs.Status.{end_status}
 use Rattle.mysql_wire_dump_lines.specs.Turns.{turn}
 
--- a packet that is shown: who sent it, its id, its length and what it is; its payload; the fields
--- behind it; and what the session knew where it came
+-- a packet that is shown: who sent it, its id, its length and what it is; its payload, and what that
+-- is read as; the fields behind it; and what the session knew where it came
 pub record Shown : Type 0 where
   pub seen : Seen
   pub payload : List ℕ
+  pub packet : Packet
   pub fields : List ℕ
-  pub at : Moment
+  pub at : Known
 
 -- how the fields behind a line are shown
 abbrev pub form_if : Bool → LineForm → FieldForm
@@ -41,15 +45,48 @@ form_if true line.Json = Json
 abbrev pub field_form : Options → FieldForm
 field_form options = form_if options.has_fields options.form
 
--- its length is the payload's; it is named by the session's place, its first byte and its length,
--- where its type reads it, and so where it is above the limit; and its fields are the text of those
--- of the packet that the payload is read as, which is empty where none are asked for
+-- a packet's fields as text, which is empty where none are asked for
+pub record AreFields (form : FieldForm) (packet : Packet) (text : List ℕ) : Type 0 where
+  pub members : List Member
+  pub has : HasFields packet members
+  pub is : text ≡ fields_text form members
+
+-- what a packet is named by, and what was known where it was read
+abbrev pub wanted_of : Shown → Kind
+wanted_of shown = kind_of shown.seen.side shown.seen.id shown.payload shown.at
+
+abbrev pub known_at : Shown → Known
+known_at shown = opened_at shown.seen.side shown.seen.id shown.payload shown.at
+
+-- its length is the payload's; it is named and read by its place, its first byte, its length and what
+-- is known, or passed over where it is above the limit; and its fields are those of what it is read as
 pub record IsShown (options : Options) (shown : Shown) : Type 0 where
   pub len : shown.seen.len ≡ length shown.payload
-  pub large : options.limit < length shown.payload → shown.seen.kind ≡ TooLarge
-  pub named : length shown.payload ≤ options.limit
-      → IsOrBytes (kind_at shown.at shown.seen.side shown.seen.id shown.payload) shown.seen.kind
-  pub fields : AreFields (field_form options) shown.seen.kind shown.payload shown.fields
+  pub large : options.limit < length shown.payload
+      → Is TooLarge Nothing shown.seen.kind shown.packet
+  pub reads : length shown.payload ≤ options.limit
+      → ReadsAs (known_at shown) (wanted_of shown) shown.payload shown.seen.kind shown.packet
+  pub fields : AreFields (field_form options) shown.packet shown.fields
+
+-- what is known behind it
+abbrev pub known_behind : Options → Shown → Known
+known_behind options shown =
+    if nat_lt options.limit (length shown.payload)
+    then passed shown.seen.side shown.seen.id shown.at
+    else follow shown.packet
+    (went shown.seen.side (wanted_of shown) shown.payload (known_at shown))
+
+abbrev pub known_after : Options → Known → List Shown → Known
+known_after options known [] = known
+known_after options known (shown ∷ others) =
+    known_after options (known_behind options shown) others
+
+-- they are shown, where this was known at the first, and at each other what was known behind the
+-- packet before it
+abbrev pub AreShown : Options → Known → List Shown → Type 0
+AreShown options known [] = ⊤
+AreShown options known (shown ∷ others) = (shown.at ≡ known) × IsShown options shown
+    × AreShown options (known_behind options shown) others
 
 abbrev pub is_of : Side → Side → Bool
 is_of Client Client = true
@@ -109,7 +146,7 @@ status_of sides.Both client server = max (end_status client) (end_status server)
 pub record Dumped (options : Options) (sides : Sides) (client server : List ℕ) (status : ℕ)
     (text : List ℕ) (client_end server_end : End) : Type 0 where
   pub shown : List Shown
-  pub are_shown : All (IsShown options) shown
+  pub are_shown : AreShown options nothing_known shown
   pub clients : SideEnds client (packets_of Client shown) client_end
   pub servers : SideEnds server (packets_of Server shown) server_end
   pub client_next : Option ℕ

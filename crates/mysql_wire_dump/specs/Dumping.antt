@@ -1,23 +1,31 @@
 -- How the dump goes from packet to packet.
-use Rattle.std.specs.Prelude.{◌≡◌, ◌≢◌, ◌⊎◌, ℕ, List, [], ◌∷◌, ◌++◌, ⊤, All, string_bytes, Option, Some, None, Bool, true, false}
+use Rattle.std.specs.Prelude.{◌≡◌, ◌≢◌, ◌⊎◌, ℕ, List, [], ◌∷◌, ◌++◌, ⊤, string_bytes, Option, Some, None, Bool, true, false}
 use Rattle.std.specs.Io.KnownBytes.{Appends, Consumes}
 use Rattle.wire_codec.specs.Framing.{next_id}
 use Rattle.mysql_wire_dump.specs.declared.dump.Dump.{Dump}
+use Rattle.mysql_wire_dump_fields.specs.Packets.{Nothing, Packet}
+use Rattle.mysql_wire_dump_lines.specs.declared.fields.FieldForm.{FieldForm}
+use Rattle.mysql_wire_dump_lines.specs.declared.kind.Kind.{Kind}
+use Rattle.mysql_wire_dump_lines.specs.declared.kind.Kind.TheVariants.{TooLarge}
 use Rattle.mysql_wire_dump_lines.specs.declared.options.Options.{Options}
 use Rattle.mysql_wire_dump_lines.specs.declared.side.Side.{Side}
 use Rattle.mysql_wire_dump_lines.specs.declared.side.Side.TheVariants.{Client, Server}
 use Rattle.mysql_wire_dump_lines.specs.declared.source.End.TheVariants.{Encrypted}
 use Rattle.mysql_wire_dump_lines.specs.declared.source.Next.{Next}
-use Rattle.mysql_wire_dump_lines.specs.declared.source.Next.TheVariants.{Unread, Packet, Ended}
-use Rattle.mysql_wire_dump.specs.Dumped.{InOrder, IsShown, Shown, lines_of, packets_of}
+use Rattle.mysql_wire_dump_lines.specs.declared.source.Next.TheVariants.{Unread, Ended}
+use Rattle.mysql_wire_dump_lines.specs.declared.source.Next.TheVariants as next
+use Rattle.mysql_wire_dump.specs.Dumped.{AreFields, AreShown, InOrder, Shown, known_after, lines_of, packets_of}
+use Rattle.mysql_wire_dump.specs.GoingOn.{follow, passed, went}
+use Rattle.mysql_wire_dump.specs.Known.{Known, known_of, nothing_known}
+use Rattle.mysql_wire_dump.specs.Readings.{Is, ReadsAs, kind_of, opened_at}
 use Rattle.mysql_wire_dump_lines.specs.Sources.{AtEnd, Stands, id_of}
 use Rattle.mysql_wire_dump_lines.specs.Turns.{turn}
 
 -- what may stand next of a side: where it was not looked at, anything
 abbrev pub Pends : Next → Option ℕ → Type 0
-Pends Unread next = ⊤
-Pends (Packet id) next = next ≡ Some id
-Pends (Ended end) next = next ≡ None
+Pends Unread found = ⊤
+Pends (next.Packet id) found = found ≡ Some id
+Pends (Ended end) found = found ≡ None
 
 -- the id behind these packets
 abbrev pub id_behind : ℕ → List Shown → ℕ
@@ -27,7 +35,8 @@ id_behind next (shown ∷ others) = id_behind (next_id shown.seen.id shown.paylo
 -- so far these packets were shown, of these bytes of both sides, and so much text was written
 pub record Dumping {A : Type 0} (shown : List Shown) (client server written : List ℕ) (dump : Dump A) : Type 0
   where
-    pub are_shown : All (IsShown dump.options) shown
+    pub are_shown : AreShown dump.options nothing_known shown
+    pub known : known_of dump.session ≡ known_after dump.options nothing_known shown
     pub clients : Stands (packets_of Client shown) client dump.client
     pub servers : Stands (packets_of Server shown) server dump.server
     pub client_limit : dump.client.limit ≡ dump.options.limit
@@ -43,6 +52,21 @@ pub record StartsDump {A : Type 0} (options : Options) (dump : Dump A) : Type 0 
   pub options_are : dump.options ≡ options
   pub client_next : dump.client.next ≡ Unread
   pub server_next : dump.server.next ≡ Unread
+
+-- a packet above the limit was passed over
+abbrev pub PassesOver : FieldForm → Side → ℕ → Known → Known → List ℕ → Kind → Type 0
+PassesOver form side id known next fields named =
+    (named ≡ TooLarge) × (next ≡ passed side id known) × AreFields form Nothing fields
+
+-- a packet was named and read, and these are its fields as text
+pub record NamesOne (form : FieldForm) (side : Side) (id : ℕ) (payload : List ℕ)
+    (known next : Known) (fields : List ℕ) (named : Kind) : Type 0 where
+  pub packet : Packet
+  pub reads : ReadsAs (opened_at side id payload known) (kind_of side id payload known) payload
+      named packet
+  pub goes_on : next ≡ follow packet
+      (went side (kind_of side id payload known) payload (opened_at side id payload known))
+  pub fields_are : AreFields form packet fields
 
 -- it is this side's turn
 abbrev pub IsTurn : {A : Type 0} → Side → Dump A → Type 0
@@ -89,7 +113,7 @@ pub record ShowsAll {A : Type 0} (dump : Dump A)
   pub client_consumed : Consumes client client_left of_client
   pub server_consumed : Consumes server server_left of_server
   pub appended : Appends written now text
-  pub are_shown : All (IsShown dump.options) shown
+  pub are_shown : AreShown dump.options nothing_known shown
   pub clients : Stands (packets_of Client shown) of_client dump.client
   pub servers : Stands (packets_of Server shown) of_server dump.server
   pub client_next : Option ℕ

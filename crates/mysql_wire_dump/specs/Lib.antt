@@ -1,4 +1,5 @@
-pub mod Moments
+pub mod Known
+pub mod GoingOn
 pub mod Readings
 pub mod Dumped
 pub mod Dumping

@@ -3,12 +3,9 @@
 ghost use Rattle.std.specs.Prelude.{◌≡◌, ◌≢◌, ◌<◌, ◌≤◌, ◌⊎◌, ◌++◌, ◌∷◌, ℕ, List, [], length, IfOk, IfSome, OnOk, string_bytes, false};
 ghost use Rattle.std.specs.Io.KnownBytes.{Appends};
 ghost use Rattle.mysql_wire_dump.specs.Dumped.{DumpEnds, Dumps, DumpsOver, ending_lines, field_form, status_of};
-ghost use Rattle.mysql_wire_dump.specs.Dumping.{GoesOver, StartsDump};
-ghost use Rattle.mysql_wire_dump.specs.Moments.{moment_of};
-ghost use Rattle.mysql_wire_dump.specs.Readings.{AreFields};
-ghost use Rattle.mysql_wire_dump_lines.specs.Naming.{IsOrBytes, kind_at};
+ghost use Rattle.mysql_wire_dump.specs.Dumping.{GoesOver, NamesOne, PassesOver, StartsDump};
+ghost use Rattle.mysql_wire_dump.specs.Known.{known_of};
 ghost use Rattle.mysql_wire_dump_lines.specs.Status.{end_status};
-ghost use Rattle.mysql_wire_dump_lines.specs.declared.kind.Kind.TheVariants.{TooLarge};
 
 use crate::session::Session;
 use mysql_wire_dump_lines::fields::{FieldForm, Fields};
@@ -29,7 +26,6 @@ const WRITE_SIZE: usize = 65536;
 // Both directions, the session, and the text that is not written yet.
 #[derive(Drop)]
 struct Dump<A: Allocator + Copy> {
-    global: Global,
     options: Options,
     client: Source<A>,
     server: Source<A>,
@@ -52,9 +48,8 @@ fn field_form(options: Options) -> FieldForm
 }
 
 // What a source's next packet is: its fields are put, and the session goes on behind it.
-#[tactic(auto, using(crate::proofs::ReadLemmas::shows_none, crate::proofs::ReadLemmas::shows_read))]
+#[tactic(auto, using(crate::proofs::ReadLemmas::passed_over, crate::proofs::ReadLemmas::names_one))]
 fn name_packet<A: Allocator + Copy>(
-    global: Global,
     side: Side,
     id: u8,
     source: &Source<A>,
@@ -62,20 +57,17 @@ fn name_packet<A: Allocator + Copy>(
     fields: &mut Fields<A>,
     form: FieldForm,
 ) -> Result<Kind, Stop>
-    ensures large { IfOk result (λ kind. source.now.limit < source.now.len → kind ≡ TooLarge) }
-    ensures named { IfOk result (λ kind. source.now.len ≤ source.now.limit
-        → IsOrBytes (kind_at (moment_of session.old) side id source.now.held.items) kind) }
-    ensures passed { IfOk result (λ kind. source.now.limit < source.now.len
-        → (payload : List ℕ) → AreFields form kind payload fields.new.text) }
-    ensures shows { IfOk result (λ kind. source.now.len ≤ source.now.limit
-        → AreFields form kind source.now.held.items fields.new.text) }
+    ensures large { IfOk result (λ kind. source.now.limit < source.now.len → PassesOver form side id
+        (known_of session.old) (known_of session.new) fields.new.text kind) }
+    ensures named { IfOk result (λ kind. source.now.len ≤ source.now.limit → NamesOne form side id
+        source.now.held.items (known_of session.old) (known_of session.new) fields.new.text kind) }
 {
     fields.begin(form);
     let Some(payload) = source.payload() else {
         session.pass(side, id);
         return Ok(Kind::TooLarge);
     };
-    let kind = session.name(global, side, id, payload, fields)?;
+    let kind = session.name(side, id, payload, fields)?;
     fields.end()?;
     Ok(kind)
 }
@@ -101,11 +93,10 @@ impl<A: Allocator + Copy> Dump<A> {
         ensures starts { StartsDump options result }
     {
         Dump {
-            global,
             options,
             client: Source::new(alloc, options.limit),
             server: Source::new(alloc, options.limit),
-            session: Session::new(alloc),
+            session: Session::new(alloc, global),
             fields: Fields::new(alloc),
             next_id: 0,
             text: String::new(alloc),
@@ -135,7 +126,6 @@ impl<A: Allocator + Copy> Dump<A> {
         let source = &self.client;
         let session = &mut self.session;
         let kind = name_packet(
-            self.global,
             Side::Client,
             id,
             source,
@@ -167,7 +157,6 @@ impl<A: Allocator + Copy> Dump<A> {
         let source = &self.server;
         let session = &mut self.session;
         let kind = name_packet(
-            self.global,
             Side::Server,
             id,
             source,

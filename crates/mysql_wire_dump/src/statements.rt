@@ -1,51 +1,46 @@
 //! The statements that were prepared.
 
+ghost use Rattle.std.specs.Prelude.{◌≡◌, ◌∷◌, [], OnOk, option_copied, take};
+ghost use Rattle.mysql_wire_dump.specs.Known.{statement_of};
+
 use mysql_wire_statements::com_stmt_prepare_ok::ComStmtPrepareOk;
+use std::alloc::{AllocError, Allocator};
 
 // How many statements are known at a time.
 const COUNT: usize = 64;
 
-/// How many parameters and columns the statements that were prepared last have.
+/// How many parameters and columns the statements that were prepared last have, the newest first.
 #[derive(Drop)]
-pub struct Statements {
-    known: [Option<ComStmtPrepareOk>; COUNT],
-    next: usize,
+pub struct Statements<A: Allocator> {
+    known: Vec<ComStmtPrepareOk, A>,
 }
 
-impl Statements {
-    pub fn new() -> Self {
+impl<A: Allocator> Statements<A> {
+    pub fn new(alloc: A) -> Self
+        ensures { result.known.items ≡ [] }
+    {
         Statements {
-            known: [None; COUNT],
-            next: 0,
+            known: Vec::new(alloc),
         }
     }
 
-    // Where the statement of this id is, if it is known.
-    fn place_of(&self, id: u32) -> Option<usize> {
-        self.known.iter().position(|known| known.is_some_and(|statement| statement.statement_id
-            == id))
-    }
-
-    /// One more, in place of that of its id, or of the oldest.
-    pub fn put(&mut self, statement: ComStmtPrepareOk) {
-        let place = match self.place_of(statement.statement_id) {
-            Some(place) => place,
-            None => {
-                self.next = (self.next % COUNT + 1) % COUNT;
-                self.next
-            }
-        };
-        if let Some(known) = self.known.get_mut(place) {
-            *known = Some(statement);
+    /// One more. The oldest is forgotten where there are too many.
+    pub fn put(&mut self, statement: ComStmtPrepareOk) -> Result<(), AllocError>
+        ensures { OnOk result (self.new.known.items ≡ take 64 (statement ∷ self.old.known.items)) }
+    {
+        self.known.truncate(COUNT - 1);
+        match self.known.insert(0, statement) {
+            Ok(()) => Ok(()),
+            Err(failed) => Err(AllocError::from(failed)),
         }
     }
 
-    /// The statement of this id.
-    pub fn get(&self, id: u32) -> Option<ComStmtPrepareOk> {
-        let place = self.place_of(id)?;
-        match self.known.get(place) {
-            Some(known) => *known,
-            None => None,
-        }
+    /// The newest statement of this number.
+    pub fn get(&self, number: u32) -> Option<&ComStmtPrepareOk>
+        ensures { option_copied result ≡ statement_of number self.now.known.items }
+    {
+        self.known
+            .iter()
+            .find(|statement| statement.statement_id == number)
     }
 }

@@ -1,8 +1,9 @@
 -- The values of rows, one more at a time.
-use Rattle.std.proofs.Common.{◌≡◌, ℕ, ◌+◌, true, false, List, [], ◌∷◌, ◌++◌, length, take, refl, sym, ap, ◌∙◌, append-nil, append_assoc, length-append, arith, Some, None}
+use Rattle.std.proofs.Common.{◌≡◌, ◌≢◌, ◌<◌, ℕ, ◌+◌, true, false, List, [], ◌∷◌, ◌++◌, length, get_or, take, refl, sym, ap, ◌∙◌, inl, inr, append-nil, append_assoc, length-append, arith, Some, None}
 use Rattle.mysql_wire_dump_lines.specs.Fields.{Member, Octets, Puts, Written, put, puts}
-use Rattle.mysql_wire_dump_fields.specs.ValueFields.{AreTexts, AreValues, PutsColumn, PutsText, PutsTexts, PutsValues, rest_if}
+use Rattle.mysql_wire_dump_fields.specs.ValueFields.{AreTexts, AreValues, IsNoText, IsNoValueAt, PutsColumn, PutsText, PutsTexts, PutsValues, rest_if}
 use Rattle.mysql_wire_dump_lines.specs.declared.refusal.Refusal.{Refusal}
+use Rattle.mysql_wire_dump_lines.specs.declared.refusal.Refusal.TheVariants.{TrailingBytes}
 use Rattle.mysql_wire_statements.specs.declared.binary_row.BinaryRow.{BinaryRow}
 use Rattle.std.proofs.lemmas.List.{take_all}
 use Rattle.std.proofs.lemmas.Grind.{common_steps}
@@ -90,13 +91,25 @@ values-all nulls types place payload bytes start now so =
 
 -- a row of texts that was refused
 pub texts-refused : (columns place : ℕ) (payload bytes : List ℕ) (start old new : Written) (refusal : Refusal)
-    → Texts place payload bytes start old → new ≡ old → PutsTexts columns payload (Some refusal) start new
-texts-refused columns place payload bytes start old new refusal so same = record {
+    → Texts place payload bytes start old → place < columns → IsNoText bytes refusal × (new ≡ old)
+    → PutsTexts columns payload (Some refusal) start new
+texts-refused columns place payload bytes start old new refusal so below refused = record {
   members = so.before;
   rest = bytes;
   are = texts-all place payload bytes start old so;
-  ends = tt;
-  puts = record { are = same ∙ so.puts.are };
+  ends = inl (rw (← so.count) at below, refused.0);
+  puts = record { are = refused.1 ∙ so.puts.are };
+}
+
+-- one behind which bytes stand
+pub texts-trailing : (columns : ℕ) (payload bytes : List ℕ) (start now : Written)
+    → Texts columns payload bytes start now → bytes ≢ [] → PutsTexts columns payload (Some TrailingBytes) start now
+texts-trailing columns payload bytes start now so some = record {
+  members = so.before;
+  rest = bytes;
+  are = texts-all columns payload bytes start now so;
+  ends = inr (so.count, some, refl);
+  puts = so.puts;
 }
 
 -- and one that was read
@@ -112,12 +125,14 @@ texts-ended columns payload bytes start now so none = record {
 
 -- the same of values in their binary form
 pub values-refused : (types : List ℕ) (place : ℕ) (row : BinaryRow) (bytes : List ℕ) (start old new : Written) (refusal : Refusal)
-    → Values row.nulls.0.now types place row.values.now bytes start old → new ≡ old → PutsValues types row (Some refusal) start new
-values-refused types place row bytes start old new refusal so same = record {
+    → Values row.nulls.0.now types place row.values.now bytes start old → place < length types
+    → IsNoValueAt row.nulls.0.now place (get_or types place 0) bytes refusal × (new ≡ old)
+    → PutsValues types row (Some refusal) start new
+values-refused types place row bytes start old new refusal so below refused = record {
   members = so.before;
   rest = bytes;
-  are = (place, values-all row.nulls.0.now types place row.values.now bytes start old so);
-  puts = record { are = rw append-nil (same ∙ so.puts.are) };
+  are = (place, below, values-all row.nulls.0.now types place row.values.now bytes start old so, refused.0);
+  puts = record { are = rw append-nil (refused.1 ∙ so.puts.are) };
 }
 
 pub values-ended : (types : List ℕ) (row : BinaryRow) (bytes : List ℕ) (start now new : Written)
@@ -134,6 +149,9 @@ values-ended types row bytes start now new so behind = record {
 pub is_empty : (bytes : List ℕ) → (length bytes == 0) ≡ true → bytes ≡ []
 is_empty [] is = refl
 is_empty (byte ∷ bytes) is = absurd (grind (arith, common_steps, is))
+
+pub is_some : (bytes : List ℕ) → (length bytes == 0) ≡ false → bytes ≢ []
+is_some bytes is none = cc (is, ap (λ (z : List ℕ). length z == 0) none)
 
 pub rest-none : (bytes : List ℕ) → (length bytes == 0) ≡ true → rest_if None bytes ≡ []
 rest-none [] is = refl

@@ -3,8 +3,9 @@ use Rattle.fast_float.specs.Parse.{parse_float}
 use Rattle.ryu.specs.Plain.{IsPlainNumber, word_of}
 use Rattle.std.specs.Float.{Float, Format, binary32, binary64, float_is_finite}
 use Rattle.std.specs.Fmt.{decimal}
-use Rattle.std.specs.Prelude.{◌≡◌, ◌≢◌, ◌⊎◌, ℕ, ◌+◌, Bool, true, false, from_bits, List, [], ◌∷◌, ◌++◌, codes, length, take, drop, ⊤, Option, Some, None, Ok}
+use Rattle.std.specs.Prelude.{◌≡◌, ◌≢◌, ◌<◌, ◌⊎◌, ℕ, ◌+◌, Bool, true, false, from_bits, List, [], ◌∷◌, ◌++◌, codes, length, get_or, take, drop, Option, Some, None, Ok, Err}
 use Rattle.wire_buf.specs.Reading.{Reads}
+use Rattle.wire_buf.specs.declared.error.WireError.{WireError}
 use Rattle.wire_const.specs.declared.column_type.ColumnType.{ColumnType}
 use Rattle.wire_const.specs.declared.column_type.ColumnType.TheVariants.{MYSQL_TYPE_UNKNOWN}
 use Rattle.wire_const.specs.EnumNumbers.{column_type_number}
@@ -15,7 +16,9 @@ use Rattle.mysql_wire_statements.specs.declared.binary_row.BinaryRow.{BinaryRow}
 use Rattle.mysql_wire_statements.specs.declared.binary_value.BinaryValue.{BinaryValue}
 use Rattle.mysql_wire_statements.specs.declared.binary_value.BinaryValue.TheVariants as binary
 use Rattle.mysql_wire_dump_lines.specs.Fields.{Member, Null, Number, Octets, Printed, Value, Puts, Word, Words, Written}
+use Rattle.mysql_wire_dump_lines.specs.Refusals.{refusal_of_wire}
 use Rattle.mysql_wire_dump_lines.specs.declared.refusal.Refusal.{Refusal}
+use Rattle.mysql_wire_dump_lines.specs.declared.refusal.Refusal.TheVariants.{TrailingBytes}
 use Rattle.mysql_wire_dump_fields.specs.MomentTexts.{date_text, time_text}
 
 abbrev pub text_shown : Option (List ℕ) → Value
@@ -39,10 +42,20 @@ AreTexts place bytes (member ∷ members) rest =
     (behind : List ℕ) × (IsTextAt place bytes member behind
     × AreTexts (place + 1) behind members rest)
 
--- all columns of a row were read, and no byte is left; or it was refused
+-- the text in front of these bytes is refused
+pub record IsNoText (bytes : List ℕ) (refusal : Refusal) : Type 0 where
+  pub error : WireError
+  pub eaten : ℕ
+  pub reads : ReadsValue bytes (Err error) eaten
+  pub named : refusal_of_wire error ≡ Ok refusal
+
+-- all columns of a row were read, and no byte is left; or the next one's text is refused, or bytes
+-- stand behind the last
 abbrev pub EndsRow : ℕ → Option Refusal → List Member → List ℕ → Type 0
 EndsRow columns None members rest = (length members ≡ columns) × (rest ≡ [])
-EndsRow columns (Some refusal) members rest = ⊤
+EndsRow columns (Some refusal) members rest =
+    ((length members < columns) × IsNoText rest refusal)
+    ⊎ ((length members ≡ columns) × (rest ≢ []) × (refusal ≡ TrailingBytes))
 
 -- the values of a row of texts were put, up to where it was refused
 pub record PutsTexts (columns : ℕ) (payload : List ℕ) (refusal : Option Refusal)
@@ -57,7 +70,7 @@ pub record PutsTexts (columns : ℕ) (payload : List ℕ) (refusal : Option Refu
 abbrev pub PutsText : ℕ → List ℕ → List ℕ → Option Refusal → Written → Written → Type 0
 PutsText place bytes rest None old new =
     (member : Member) × (IsTextAt place bytes member rest × Puts (member ∷ []) old new)
-PutsText place bytes rest (Some refusal) old new = new ≡ old
+PutsText place bytes rest (Some refusal) old new = IsNoText bytes refusal × (new ≡ old)
 
 -- a number whose digits read back as the float, and no definition says which they are; or a word
 abbrev pub IsFloatIf : Bool → Format → Float → Value → Type 0
@@ -92,10 +105,10 @@ abbrev pub PutsShown : ℕ → BinaryValue → Written → Written → Type 0
 PutsShown place value old new =
     (shown : Value) × (IsShownAs value shown × Puts ((decimal place, shown) ∷ []) old new)
 
--- the type of a column that is told by this number
+-- the type of a column that is told by this number, where one is
 abbrev pub IsTypeOf : ℕ → ColumnType → Type 0
-IsTypeOf number type =
-    (column_type_number type ≡ number) ⊎ (type ≡ MYSQL_TYPE_UNKNOWN)
+IsTypeOf number type = (column_type_number type ≡ number)
+    ⊎ (((other : ColumnType) → column_type_number other ≢ number) × (type ≡ MYSQL_TYPE_UNKNOWN))
 
 -- the value of the column at this place, whose type has this number
 pub record IsValueAt (nulls : List ℕ) (place number : ℕ) (bytes : List ℕ) (value : BinaryValue)
@@ -113,13 +126,25 @@ pub record IsColumnAt (nulls : List ℕ) (place number : ℕ) (bytes : List ℕ)
   pub is_shown : IsShownAs value shown
   pub member_is : member ≡ (decimal place, shown)
 
+-- the value of the column at this place, whose type has this number, is refused
+pub record IsNoValueAt (nulls : List ℕ) (place number : ℕ) (bytes : List ℕ) (refusal : Refusal)
+    : Type 0 where
+  pub there : IsSet nulls (2 + place) → ⊥
+  pub type : ColumnType
+  pub is_type : IsTypeOf number type
+  pub error : WireError
+  pub eaten : ℕ
+  pub reads : ReadsForm (form_of type) bytes (Err error) eaten
+  pub named : refusal_of_wire error ≡ Ok refusal
+
 -- it was put, or refused
 abbrev pub PutsColumn : List ℕ → ℕ → ℕ → List ℕ → List ℕ → Option Refusal → Written → Written
     → Type 0
 PutsColumn nulls place number bytes rest None old new =
     (member : Member) × (IsColumnAt nulls place number bytes member rest
     × Puts (member ∷ []) old new)
-PutsColumn nulls place number bytes rest (Some refusal) old new = new ≡ old
+PutsColumn nulls place number bytes rest (Some refusal) old new =
+    IsNoValueAt nulls place number bytes refusal × (new ≡ old)
 
 -- these are the values of columns of these types, from this place of a row on
 abbrev pub AreValues : List ℕ → ℕ → List ℕ → List ℕ → List Member → List ℕ → Type 0
@@ -141,12 +166,14 @@ abbrev pub row_bytes_fields : BinaryRow → List Member
 row_bytes_fields row =
     (codes "null_bitmap", Octets row.nulls.0.now) ∷ (codes "values", Octets row.values.now) ∷ []
 
--- all values of a row were read; or only those before the one that is refused
+-- all values of a row were read; or those before the one that is refused
 abbrev pub AreRowValues : BinaryRow → List ℕ → Option Refusal → List Member → List ℕ → Type 0
 AreRowValues row types None members rest =
     AreValues row.nulls.0.now 0 types row.values.now members rest
 AreRowValues row types (Some refusal) members rest =
-    (count : ℕ) × AreValues row.nulls.0.now 0 (take count types) row.values.now members rest
+    (count : ℕ) × (count < length types)
+    × AreValues row.nulls.0.now 0 (take count types) row.values.now members rest
+    × IsNoValueAt row.nulls.0.now count (get_or types count 0) rest refusal
 
 -- the values of a row were put, up to where it was refused, and what stands behind the last
 pub record PutsValues (types : List ℕ) (row : BinaryRow) (refusal : Option Refusal)

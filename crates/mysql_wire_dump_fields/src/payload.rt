@@ -1,11 +1,9 @@
 //! What it is that a payload is a packet.
 
-ghost use Rattle.std.specs.Prelude.{ℕ, List, length, Ok, Some};
+ghost use Rattle.std.specs.Prelude.{ℕ, List, Result, None, Some};
 ghost use Rattle.wire_buf.specs.Reading.{Parses};
-ghost use Rattle.wire_const.specs.declared.flag_sets.capability.CapabilityFlags.{CapabilityFlags};
-ghost use Rattle.wire_const.specs.declared.flag_sets.mariadb.MariadbCapabilities.{MariadbCapabilities};
 ghost use Rattle.mysql_wire_packets.specs.Places.{ReadsWhole};
-ghost use Rattle.mysql_wire_packets.specs.declared.ok_packet.InfoForm.{InfoForm};
+ghost use Rattle.mysql_wire_packets.specs.declared.places.PayloadError.{PayloadError};
 
 use mysql_wire_connection::auth_more_data::AuthMoreData;
 use mysql_wire_connection::auth_switch::AuthSwitchRequest;
@@ -39,201 +37,199 @@ use wire_buf::proto::MyDeserialize;
 
 /// A packet that payloads are read as.
 pub trait Payload<'a>: MyDeserialize<'a, Global> {
-    /// The payload is this packet, on some connection.
-    ghost is_payload: { List ℕ → Self → Type 0 };
+    /// What such a read of a whole payload answers.
+    ghost reads_whole: { Self.Ctx → List ℕ → Result Self PayloadError → Type 0 };
 
-    ghost is_read: { (ctx : Self.Ctx) (payload : List ℕ) (packet : Self) →
-        Parses Self.Size.SIZE (Self.reads ctx) payload (Ok packet) (length payload)
-        → is_payload payload packet };
+    ghost is_read: { (ctx : Self.Ctx) (payload : List ℕ) (result : Result Self PayloadError) →
+        ReadsWhole (Parses Self.Size.SIZE (Self.reads ctx)) payload result
+        → reads_whole ctx payload result };
 }
 
 impl<'a> Payload<'a> for HandshakeV10<'a> {
-    ghost is_payload = { λ payload packet.
-        ReadsWhole (⟦<HandshakeV10<'a> as MyDeserialize<'a, Global>>⟧.reads tt) payload (Ok packet) };
+    ghost reads_whole = { λ ctx.
+        ReadsWhole (Parses None (⟦<HandshakeV10<'a> as MyDeserialize<'a, Global>>⟧.reads ctx)) };
 
-    ghost is_read = { λ _ payload packet read. read };
+    ghost is_read = { λ _ _ _ read. read };
 }
 
 impl<'a> Payload<'a> for SslRequest {
-    ghost is_payload = { λ payload packet.
-        ReadsWhole (⟦<SslRequest as MyDeserialize<'a, Global>>⟧.reads tt) payload (Ok packet) };
+    ghost reads_whole = { λ ctx.
+        ReadsWhole (Parses None (⟦<SslRequest as MyDeserialize<'a, Global>>⟧.reads ctx)) };
 
-    ghost is_read = { λ _ payload packet read. read };
+    ghost is_read = { λ _ _ _ read. read };
 }
 
 impl<'a> Payload<'a> for HandshakeResponse41<'a> {
-    ghost is_payload = { λ payload packet.
-        ReadsWhole (⟦<HandshakeResponse41<'a> as MyDeserialize<'a, Global>>⟧.reads tt) payload (Ok packet) };
+    ghost reads_whole = { λ ctx.
+        ReadsWhole (Parses None (⟦<HandshakeResponse41<'a> as MyDeserialize<'a, Global>>⟧.reads ctx)) };
 
-    ghost is_read = { λ _ payload packet read. read };
+    ghost is_read = { λ _ _ _ read. read };
 }
 
 impl<'a> Payload<'a> for AuthSwitchRequest<'a> {
-    ghost is_payload = { λ payload packet.
-        ReadsWhole (⟦<AuthSwitchRequest<'a> as MyDeserialize<'a, Global>>⟧.reads tt) payload (Ok packet) };
+    ghost reads_whole = { λ ctx.
+        ReadsWhole (Parses None (⟦<AuthSwitchRequest<'a> as MyDeserialize<'a, Global>>⟧.reads ctx)) };
 
-    ghost is_read = { λ _ payload packet read. read };
+    ghost is_read = { λ _ _ _ read. read };
 }
 
 impl<'a> Payload<'a> for AuthMoreData<'a> {
-    ghost is_payload = { λ payload packet.
-        ReadsWhole (⟦<AuthMoreData<'a> as MyDeserialize<'a, Global>>⟧.reads tt) payload (Ok packet) };
+    ghost reads_whole = { λ ctx.
+        ReadsWhole (Parses None (⟦<AuthMoreData<'a> as MyDeserialize<'a, Global>>⟧.reads ctx)) };
 
-    ghost is_read = { λ _ payload packet read. read };
+    ghost is_read = { λ _ _ _ read. read };
 }
 
 impl<'a> Payload<'a> for AuthSwitchResponse<'a> {
-    ghost is_payload = { λ payload packet.
-        ReadsWhole (⟦<AuthSwitchResponse<'a> as MyDeserialize<'a, Global>>⟧.reads tt) payload (Ok packet) };
+    ghost reads_whole = { λ ctx.
+        ReadsWhole (Parses None (⟦<AuthSwitchResponse<'a> as MyDeserialize<'a, Global>>⟧.reads ctx)) };
 
-    ghost is_read = { λ _ payload packet read. read };
+    ghost is_read = { λ _ _ _ read. read };
 }
 
 impl<'a, const HEADER: u8> Payload<'a> for OkForm<'a, HEADER> {
-    ghost is_payload = { λ payload packet. (ctx : InfoForm)
-        × ReadsWhole (⟦<OkForm<'a, HEADER> as MyDeserialize<'a, Global>>⟧.reads ctx) payload (Ok packet) };
+    ghost reads_whole = { λ ctx.
+        ReadsWhole (Parses None (⟦<OkForm<'a, HEADER> as MyDeserialize<'a, Global>>⟧.reads ctx)) };
 
-    ghost is_read = { λ ctx payload packet read. (ctx, read) };
+    ghost is_read = { λ _ _ _ read. read };
 }
 
 impl<'a> Payload<'a> for ErrPacket<'a> {
-    ghost is_payload = { λ payload packet. (ctx : CapabilityFlags)
-        × ReadsWhole (⟦<ErrPacket<'a> as MyDeserialize<'a, Global>>⟧.reads ctx) payload (Ok packet) };
+    ghost reads_whole = { λ ctx.
+        ReadsWhole (Parses None (⟦<ErrPacket<'a> as MyDeserialize<'a, Global>>⟧.reads ctx)) };
 
-    ghost is_read = { λ ctx payload packet read. (ctx, read) };
+    ghost is_read = { λ _ _ _ read. read };
 }
 
 impl<'a> Payload<'a> for ProgressReport<'a> {
-    ghost is_payload = { λ payload packet.
-        ReadsWhole (⟦<ProgressReport<'a> as MyDeserialize<'a, Global>>⟧.reads tt) payload (Ok packet) };
+    ghost reads_whole = { λ ctx.
+        ReadsWhole (Parses None (⟦<ProgressReport<'a> as MyDeserialize<'a, Global>>⟧.reads ctx)) };
 
-    ghost is_read = { λ _ payload packet read. read };
+    ghost is_read = { λ _ _ _ read. read };
 }
 
 impl<'a> Payload<'a> for EofPacket {
-    ghost is_payload = { λ payload packet.
-        ReadsWhole (⟦<EofPacket as MyDeserialize<'a, Global>>⟧.reads tt) payload (Ok packet) };
+    ghost reads_whole = { λ ctx.
+        ReadsWhole (Parses None (⟦<EofPacket as MyDeserialize<'a, Global>>⟧.reads ctx)) };
 
-    ghost is_read = { λ _ payload packet read. read };
+    ghost is_read = { λ _ _ _ read. read };
 }
 
 impl<'a> Payload<'a> for LocalInfileRequest<'a> {
-    ghost is_payload = { λ payload packet.
-        ReadsWhole (⟦<LocalInfileRequest<'a> as MyDeserialize<'a, Global>>⟧.reads tt) payload (Ok packet) };
+    ghost reads_whole = { λ ctx.
+        ReadsWhole (Parses None (⟦<LocalInfileRequest<'a> as MyDeserialize<'a, Global>>⟧.reads ctx)) };
 
-    ghost is_read = { λ _ payload packet read. read };
+    ghost is_read = { λ _ _ _ read. read };
 }
 
 impl<'a> Payload<'a> for ColumnCount {
-    ghost is_payload = { λ payload packet. (ctx : CapabilityFlags × MariadbCapabilities)
-        × ReadsWhole (⟦<ColumnCount as MyDeserialize<'a, Global>>⟧.reads ctx) payload (Ok packet) };
+    ghost reads_whole = { λ ctx.
+        ReadsWhole (Parses None (⟦<ColumnCount as MyDeserialize<'a, Global>>⟧.reads ctx)) };
 
-    ghost is_read = { λ ctx payload packet read. (ctx, read) };
+    ghost is_read = { λ _ _ _ read. read };
 }
 
 impl<'a> Payload<'a> for ColumnDefinition41<'a> {
-    ghost is_payload = { λ payload packet. (ctx : MariadbCapabilities)
-        × ReadsWhole (⟦<ColumnDefinition41<'a> as MyDeserialize<'a, Global>>⟧.reads ctx) payload (Ok packet) };
+    ghost reads_whole = { λ ctx.
+        ReadsWhole (Parses None (⟦<ColumnDefinition41<'a> as MyDeserialize<'a, Global>>⟧.reads ctx)) };
 
-    ghost is_read = { λ ctx payload packet read. (ctx, read) };
+    ghost is_read = { λ _ _ _ read. read };
 }
 
 impl<'a> Payload<'a> for ComStmtPrepareOk {
-    ghost is_payload = { λ payload packet.
-        ReadsWhole (⟦<ComStmtPrepareOk as MyDeserialize<'a, Global>>⟧.reads tt) payload (Ok packet) };
+    ghost reads_whole = { λ ctx.
+        ReadsWhole (Parses None (⟦<ComStmtPrepareOk as MyDeserialize<'a, Global>>⟧.reads ctx)) };
 
-    ghost is_read = { λ _ payload packet read. read };
+    ghost is_read = { λ _ _ _ read. read };
 }
 
 impl<'a> Payload<'a> for ComQuit {
-    ghost is_payload = { λ payload packet. ReadsWhole
-        (Parses (Some 1) (⟦<ComQuit as MyDeserialize<'a, Global>>⟧.reads tt)) payload (Ok packet) };
+    ghost reads_whole = { λ ctx.
+        ReadsWhole (Parses (Some 1) (⟦<ComQuit as MyDeserialize<'a, Global>>⟧.reads ctx)) };
 
-    ghost is_read = { λ _ payload packet read. read };
+    ghost is_read = { λ _ _ _ read. read };
 }
 
 impl<'a> Payload<'a> for ComPing {
-    ghost is_payload = { λ payload packet. ReadsWhole
-        (Parses (Some 1) (⟦<ComPing as MyDeserialize<'a, Global>>⟧.reads tt)) payload (Ok packet) };
+    ghost reads_whole = { λ ctx.
+        ReadsWhole (Parses (Some 1) (⟦<ComPing as MyDeserialize<'a, Global>>⟧.reads ctx)) };
 
-    ghost is_read = { λ _ payload packet read. read };
+    ghost is_read = { λ _ _ _ read. read };
 }
 
 impl<'a> Payload<'a> for ComInitDb<'a> {
-    ghost is_payload = { λ payload packet.
-        ReadsWhole (⟦<ComInitDb<'a> as MyDeserialize<'a, Global>>⟧.reads tt) payload (Ok packet) };
+    ghost reads_whole = { λ ctx.
+        ReadsWhole (Parses None (⟦<ComInitDb<'a> as MyDeserialize<'a, Global>>⟧.reads ctx)) };
 
-    ghost is_read = { λ _ payload packet read. read };
+    ghost is_read = { λ _ _ _ read. read };
 }
 
 impl<'a> Payload<'a> for ComQuery<'a> {
-    ghost is_payload = { λ payload packet.
-        ReadsWhole (⟦<ComQuery<'a> as MyDeserialize<'a, Global>>⟧.reads tt) payload (Ok packet) };
+    ghost reads_whole = { λ ctx.
+        ReadsWhole (Parses None (⟦<ComQuery<'a> as MyDeserialize<'a, Global>>⟧.reads ctx)) };
 
-    ghost is_read = { λ _ payload packet read. read };
+    ghost is_read = { λ _ _ _ read. read };
 }
 
 impl<'a> Payload<'a> for ComQueryWithAttributes<'a> {
-    ghost is_payload = { λ payload packet.
-        ReadsWhole (⟦<ComQueryWithAttributes<'a> as MyDeserialize<'a, Global>>⟧.reads tt) payload
-        (Ok packet) };
+    ghost reads_whole = { λ ctx.
+        ReadsWhole (Parses None (⟦<ComQueryWithAttributes<'a> as MyDeserialize<'a, Global>>⟧.reads ctx)) };
 
-    ghost is_read = { λ _ payload packet read. read };
+    ghost is_read = { λ _ _ _ read. read };
 }
 
 impl<'a> Payload<'a> for ComChangeUser<'a> {
-    ghost is_payload = { λ payload packet. (ctx : CapabilityFlags)
-        × ReadsWhole (⟦<ComChangeUser<'a> as MyDeserialize<'a, Global>>⟧.reads ctx) payload
-        (Ok packet) };
+    ghost reads_whole = { λ ctx.
+        ReadsWhole (Parses None (⟦<ComChangeUser<'a> as MyDeserialize<'a, Global>>⟧.reads ctx)) };
 
-    ghost is_read = { λ ctx payload packet read. (ctx, read) };
+    ghost is_read = { λ _ _ _ read. read };
 }
 
 impl<'a> Payload<'a> for ComStmtExecute<'a> {
-    ghost is_payload = { λ payload packet. (ctx : ℕ)
-        × ReadsWhole (⟦<ComStmtExecute<'a> as MyDeserialize<'a, Global>>⟧.reads ctx) payload (Ok packet) };
+    ghost reads_whole = { λ ctx.
+        ReadsWhole (Parses None (⟦<ComStmtExecute<'a> as MyDeserialize<'a, Global>>⟧.reads ctx)) };
 
-    ghost is_read = { λ ctx payload packet read. (ctx, read) };
+    ghost is_read = { λ _ _ _ read. read };
 }
 
 impl<'a> Payload<'a> for ComStmtSendLongData<'a> {
-    ghost is_payload = { λ payload packet.
-        ReadsWhole (⟦<ComStmtSendLongData<'a> as MyDeserialize<'a, Global>>⟧.reads tt) payload (Ok packet) };
+    ghost reads_whole = { λ ctx.
+        ReadsWhole (Parses None (⟦<ComStmtSendLongData<'a> as MyDeserialize<'a, Global>>⟧.reads ctx)) };
 
-    ghost is_read = { λ _ payload packet read. read };
+    ghost is_read = { λ _ _ _ read. read };
 }
 
 impl<'a> Payload<'a> for ComStmtFetch {
-    ghost is_payload = { λ payload packet.
-        ReadsWhole (⟦<ComStmtFetch as MyDeserialize<'a, Global>>⟧.reads tt) payload (Ok packet) };
+    ghost reads_whole = { λ ctx.
+        ReadsWhole (Parses None (⟦<ComStmtFetch as MyDeserialize<'a, Global>>⟧.reads ctx)) };
 
-    ghost is_read = { λ _ payload packet read. read };
+    ghost is_read = { λ _ _ _ read. read };
 }
 
 impl<'a> Payload<'a> for ComStmtPrepare<'a> {
-    ghost is_payload = { λ payload packet.
-        ReadsWhole (⟦<ComStmtPrepare<'a> as MyDeserialize<'a, Global>>⟧.reads tt) payload (Ok packet) };
+    ghost reads_whole = { λ ctx.
+        ReadsWhole (Parses None (⟦<ComStmtPrepare<'a> as MyDeserialize<'a, Global>>⟧.reads ctx)) };
 
-    ghost is_read = { λ _ payload packet read. read };
+    ghost is_read = { λ _ _ _ read. read };
 }
 
 impl<'a> Payload<'a> for ComStmtClose {
-    ghost is_payload = { λ payload packet.
-        ReadsWhole (⟦<ComStmtClose as MyDeserialize<'a, Global>>⟧.reads tt) payload (Ok packet) };
+    ghost reads_whole = { λ ctx.
+        ReadsWhole (Parses None (⟦<ComStmtClose as MyDeserialize<'a, Global>>⟧.reads ctx)) };
 
-    ghost is_read = { λ _ payload packet read. read };
+    ghost is_read = { λ _ _ _ read. read };
 }
 
 impl<'a> Payload<'a> for ComStmtReset {
-    ghost is_payload = { λ payload packet.
-        ReadsWhole (⟦<ComStmtReset as MyDeserialize<'a, Global>>⟧.reads tt) payload (Ok packet) };
+    ghost reads_whole = { λ ctx.
+        ReadsWhole (Parses None (⟦<ComStmtReset as MyDeserialize<'a, Global>>⟧.reads ctx)) };
 
-    ghost is_read = { λ _ payload packet read. read };
+    ghost is_read = { λ _ _ _ read. read };
 }
 
 impl<'a> Payload<'a> for BinaryRow<'a> {
-    ghost is_payload = { λ payload row. (columns : ℕ)
-        × ReadsWhole (⟦<BinaryRow<'a> as MyDeserialize<'a, Global>>⟧.reads columns) payload (Ok row) };
+    ghost reads_whole = { λ ctx.
+        ReadsWhole (Parses None (⟦<BinaryRow<'a> as MyDeserialize<'a, Global>>⟧.reads ctx)) };
 
-    ghost is_read = { λ columns payload row read. (columns, read) };
+    ghost is_read = { λ _ _ _ read. read };
 }

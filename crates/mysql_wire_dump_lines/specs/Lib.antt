@@ -1,6 +1,7 @@
 pub mod Names
 pub mod Naming
 pub mod Status
+pub mod Refusals
 pub mod Sources
 pub mod Turns
 pub mod Lines

@@ -2,6 +2,7 @@
 
 ghost use Rattle.std.specs.Prelude.{◌≡◌};
 ghost use Rattle.mysql_wire_dump_lines.specs.Names.{refusal_name};
+ghost use Rattle.mysql_wire_dump_lines.specs.Refusals.{refusal_of, refusal_of_wire};
 
 use crate::status::Stop;
 use mysql_wire_packets::places::PayloadError;
@@ -36,7 +37,9 @@ impl Refusal {
     }
 
     /// The refusal of a value that was not read; or memory was refused.
-    pub fn of_wire(error: WireError) -> Result<Refusal, Stop> {
+    pub fn of_wire(error: WireError) -> Result<Refusal, Stop>
+        ensures { result ≡ refusal_of_wire error }
+    {
         match error {
             WireError::UnexpectedEof => Ok(Refusal::UnexpectedEnd),
             WireError::InvalidData(InvalidReason::UnknownValue) => Ok(Refusal::UnknownValue),
@@ -51,7 +54,9 @@ impl Refusal {
     }
 
     /// The refusal of a payload; or memory was refused.
-    pub fn of(error: PayloadError) -> Result<Refusal, Stop> {
+    pub fn of(error: PayloadError) -> Result<Refusal, Stop>
+        ensures { result ≡ refusal_of error }
+    {
         match error {
             PayloadError::Refused(error) => Refusal::of_wire(error),
             PayloadError::Trailing(_) => Ok(Refusal::TrailingBytes),

@@ -15,8 +15,10 @@ returns g c =
     c.payload_len.ensures c.in_ok-push_packet.ensures in
     record {
       more = λ shown client server written dumping is_turn looked.
-          client_shown old _ c.in-Some.id c.in_ok-kind.kind c.shown_payload-payload.result.now c.text-fields.result.now is c.in_ok-kind.ensures.large
-          c.in_ok-kind.ensures.named c.shown_payload-payload.ensures (rw (c.text-fields.ensures, ← c.field_form.ensures) c.in_ok-kind.ensures.passed) (rw (c.text-fields.ensures, ← c.field_form.ensures) c.in_ok-kind.ensures.shows) text c.id_behind-self.ensures refl refl
+          client_shown old _ c.in-Some.id c.in_ok-kind.kind c.shown_payload-payload.result.now c.text-fields.result.now is
+          (rw (c.text-fields.ensures, ← c.field_form.ensures) c.in_ok-kind.ensures.large)
+          (rw (c.text-fields.ensures, ← c.field_form.ensures) c.in_ok-kind.ensures.named)
+          c.shown_payload-payload.ensures text c.id_behind-self.ensures refl refl
           c.in_ok-pass.ensures.limit c.in_ok-pass.ensures.passes shown client server written dumping is_turn looked;
       options_are = refl;
       client_end = λ left ended. subst (λ (n : Next). AtEnd n left) (sym c.in_ok-pass.ensures.next) tt;

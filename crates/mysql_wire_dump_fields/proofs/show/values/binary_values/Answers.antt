@@ -7,7 +7,7 @@ use Rattle.mysql_wire_dump_fields.proofs.show.values.binary_values.Goals as goal
 pub returns-in-Some : goal.returns-in-Some
 returns-in-Some g c =
     values-refused c.args.types.now c.columns.place c.args.row.now c.columns.rest.0.now c.args.fields.now c.columns.fields c.put_column.new.fields c.in-Some.refusal
-    c.columns.invariant (rw c.in-Some.is at c.in_ok-put_column.ensures)
+    c.columns.invariant c.columns-test.true (rw c.in-Some.is at c.in_ok-put_column.ensures)
 
 pub columns-preserved : goal.columns-preserved
 columns-preserved g c =

@@ -1,12 +1,11 @@
-use Rattle.std.proofs.Common.{ℕ, ◌∙◌, refl, subst, sym, arith}
-use Rattle.mysql_wire_dump_lines.specs.declared.refusal.Refusal.TheVariants.{TrailingBytes}
-use Rattle.mysql_wire_dump_fields.proofs.ValueLemmas.{Texts, is_empty, texts-ended, texts-more, texts-refused}
+use Rattle.std.proofs.Common.{ℕ, ◌∙◌, subst, sym, arith}
+use Rattle.mysql_wire_dump_fields.proofs.ValueLemmas.{Texts, is_empty, is_some, texts-ended, texts-more, texts-refused, texts-trailing}
 use Rattle.mysql_wire_dump_fields.proofs.show.values.put_texts.Goals as goal
 
 pub returns-in-Some : goal.returns-in-Some
 returns-in-Some g c =
     texts-refused c.args.columns c.values.place c.args.payload.now c.values.rest.0.now c.args.fields.now c.values.fields c.put_text.new.fields c.in-Some.refusal
-    c.values.invariant (rw c.in-Some.is at c.in_ok-put_text.ensures)
+    c.values.invariant c.values-test.true (rw c.in-Some.is at c.in_ok-put_text.ensures)
 
 pub values-preserved : goal.values-preserved
 values-preserved g c =
@@ -21,5 +20,6 @@ returns-then-is_empty g c =
 
 pub returns-else-is_empty : goal.returns-else-is_empty
 returns-else-is_empty g c =
-    texts-refused c.args.columns c.values.place c.args.payload.now c.values.rest.0.now c.args.fields.now c.values.fields c.values.fields TrailingBytes
-    c.values.invariant refl
+    texts-trailing c.args.columns c.args.payload.now c.values.rest.0.now c.args.fields.now c.values.fields
+    (subst (λ (place : ℕ). Texts place c.args.payload.now c.values.rest.0.now c.args.fields.now c.values.fields) (omega arith) c.values.invariant)
+    (is_some c.values.rest.0.now (sym c.is_empty.ensures ∙ c.if-is_empty.false))
