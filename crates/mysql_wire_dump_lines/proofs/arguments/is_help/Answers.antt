@@ -1,0 +1,10 @@
+use Rattle.std.proofs.Common.{string_bytes, codes}
+use Rattle.std.proofs.lemmas.Slice.Eq.{slice_eq-Decides}
+use Rattle.std.proofs.lemmas.Bool.Decides.{Decides-eqb}
+use Rattle.mysql_wire_dump_lines.proofs.ArgumentLemmas.{one_word_is, word_decides}
+use Rattle.mysql_wire_dump_lines.proofs.arguments.is_help.Goals as goal
+
+pub returns-in-len1 : goal.returns-in-len1
+returns-in-len1 g c =
+    let one = one_word_is string_bytes c.args.words.now c.word-item.result c.as_str.result.now c.in-len1.len_at_least c.in-len1.len_below c.word-item.is c.as_str.ensures.value in
+    word_decides _ c.as_str.result.now (codes "--help") c.eq.result one (slice_eq-Decides Decides-eqb _ _ _ c.eq.ensures)
