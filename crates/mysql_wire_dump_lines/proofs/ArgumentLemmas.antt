@@ -1,5 +1,5 @@
 -- What words on the command line ask for.
-use Rattle.std.proofs.Common.{◌≡◌, ◌≢◌, ◌+◌, Bool, All, true, false, is_some, is_none, string_bytes, MatchBool, ◌==◌, ◌<◌, ◌≤◌, ℕ, List, [], ◌∷◌, ◌++◌, length, map, get_or, drop, take, codes, Option, Some, None, IfSome, MatchOption, if◌then◌else◌, option_to_list, option_copied, option_map, flat_map, arith, ap, ap₂, sym, ◌∙◌, subst, refl, inl, inr, ◌⊎◌, append_assoc, append-nil}
+use Rattle.std.proofs.Common.{◌≡◌, ◌≢◌, ◌+◌, Bool, All, true, false, MatchBool, ◌==◌, ◌<◌, ◌≤◌, ℕ, List, [], ◌∷◌, ◌++◌, length, map, get_or, drop, take, codes, Option, Some, None, if◌then◌else◌, option_to_list, option_copied, option_map, flat_map, arith, ap, ap₂, sym, ◌∙◌, subst, refl, inl, inr, ◌⊎◌, append_assoc, append-nil}
 use Rattle.std.specs.Bool.{Decides}
 use Rattle.std.proofs.lemmas.Bool.{false≢true}
 use Rattle.std.proofs.lemmas.Grind.{flat_map-append}

@@ -1,5 +1,5 @@
 -- What the words on the command line ask for.
-use Rattle.std.specs.Prelude.{◌≡◌, ◌≢◌, ◌≤◌, ◌⊎◌, ℕ, List, [], ◌∷◌, ◌++◌, length, codes, ⊤, All, Bool, true, false, if◌then◌else◌, fold, flat_map, Option, None, Some, IfSome, MatchOption, option_copied, option_map, option_to_list}
+use Rattle.std.specs.Prelude.{◌≡◌, ◌≢◌, ◌≤◌, ◌⊎◌, ℕ, List, [], ◌∷◌, ◌++◌, length, codes, ⊤, All, Bool, true, false, if◌then◌else◌, fold, flat_map, Option, None, Some, IfSome, MatchOption, option_copied, option_to_list}
 use Rattle.std.specs.List.{list_any}
 use Rattle.std.specs.Str.Parse.{IsNumeral, digits_value}
 use denote.Ref.{Bor}

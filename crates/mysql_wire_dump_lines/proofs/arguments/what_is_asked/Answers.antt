@@ -1,5 +1,4 @@
-use Rattle.std.proofs.Common.{string_bytes, option_map, map, ap}
-use Rattle.mysql_wire_dump_lines.specs.Arguments.{Help, Dump, command_of, session_of}
+use Rattle.mysql_wire_dump_lines.specs.Arguments.{Help, Dump, session_of}
 use Rattle.mysql_wire_dump_lines.proofs.ArgumentLemmas.{is_asked, nothing_asked}
 use Rattle.mysql_wire_dump_lines.proofs.arguments.what_is_asked.Goals as goal
 

@@ -1,6 +1,6 @@
-use Rattle.std.proofs.Common.{map, take, drop, string_bytes, option_copied, ◌+◌, arith, ap, ◌∙◌, List, ◌∷◌, [], ◌++◌, ℕ, subst, sym}
+use Rattle.std.proofs.Common.{string_bytes, option_copied, ◌∙◌, List, ℕ, subst, sym}
 use Rattle.mysql_wire_dump_lines.specs.Arguments.{Reads, Asks, Dump, Session}
-use Rattle.mysql_wire_dump_lines.proofs.ArgumentLemmas.{all_words, words_here, words_split, ends_waiting, ends_sideless, ends_asking}
+use Rattle.mysql_wire_dump_lines.proofs.ArgumentLemmas.{all_words, words_here, words_split, ends_waiting, ends_sideless}
 use Rattle.mysql_wire_dump_lines.proofs.arguments.Request.of.Goals.{in_default-via-in-None+in_default, in_default-via-in_default}
 use Rattle.mysql_wire_dump_lines.proofs.arguments.Request.of.Goals as goal
 
