@@ -1,12 +1,12 @@
 -- What the program makes of words.
-use Rattle.std.proofs.Common.{◌≡◌, ◌≢◌, ℕ, List, [], max, Option, Some, None, Result, Ok, Err, MatchResult, ◌++◌, codes, IsErr, IfSome, option_copied, option_map, ◌↔◌, arith, ap, sym, ◌∙◌, subst, refl, inl, inr, ◌⊎◌}
+use Rattle.std.proofs.Common.{◌≡◌, ◌≢◌, ℕ, List, [], Option, Some, None, Result, Ok, Err, MatchResult, ◌++◌, codes, IsErr, IfSome, option_map, ◌↔◌, arith, ap, sym, ◌∙◌, subst, refl, inl, inr, ◌⊎◌}
 use Rattle.std.specs.Io.KnownBytes.{Appends, Keeps}
 use Rattle.mysql_wire_dump_lines.specs.declared.arguments.Request.{Request}
 use Rattle.mysql_wire_dump_lines.specs.declared.options.Sides.{Sides}
 use Rattle.mysql_wire_dump_lines.specs.declared.options.Sides.TheVariants as sides
 use Rattle.mysql_wire_dump_lines.specs.declared.source.End.{End}
 use Rattle.mysql_wire_dump_lines.specs.declared.source.End.TheVariants.{Between, Unfinished, OutOfSync, Encrypted}
-use Rattle.mysql_wire_dump_lines.specs.Arguments.{Asks, Command, Help, Dump, IsAsked, Session, session_of, sides_of}
+use Rattle.mysql_wire_dump_lines.specs.Arguments.{Asks, Command, Help, Dump, IsAsked, session_of, sides_of}
 use Rattle.mysql_wire_dump_lines.specs.declared.status.Stop.{Stop}
 use Rattle.mysql_wire_dump_lines.specs.declared.status.Stop.TheVariants.{Io, Memory}
 use Rattle.mysql_wire_dump_lines.specs.Status.{end_status, exit_status_of, usage}
