@@ -22,11 +22,6 @@ framed (packet ∷ packets) = framing packet.0 packet.1 ++ framed packets
 abbrev pub most : ℕ
 most = 18446744073709551615
 
--- so many bytes came from a reader, behind those that were there
-abbrev pub Came : ℕ → List ℕ → List ℕ → Option (List ℕ) → Option (List ℕ) → Type 0
-Came count old new unread left =
-    (came : List ℕ) × (length came ≡ count) × (new ≡ old ++ came) × Consumes unread left came
-
 -- a header stands in front of these bytes, and bears this id
 abbrev pub BeginsWith : ℕ → List ℕ → Type 0
 BeginsWith id bytes =

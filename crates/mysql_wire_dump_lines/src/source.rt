@@ -5,7 +5,7 @@ ghost use Rattle.std.specs.Io.KnownBytes.{Consumes, IsAtEnd};
 ghost use Rattle.wire_span.specs.Spans.{span_state};
 ghost use Rattle.mysql_wire_dump_lines.specs.declared.source.Next.TheVariants.{Unread, Packet, Ended};
 ghost use Rattle.mysql_wire_dump_lines.specs.declared.source.End.TheVariants.{Encrypted};
-ghost use Rattle.mysql_wire_dump_lines.specs.Sources.{AtEnd, Came, Found, IsIdle, IsReady, LooksOn, PassesPacket, Stands, Stepped, Steps, Took, collects, id_of};
+ghost use Rattle.mysql_wire_dump_lines.specs.Sources.{AtEnd, Found, IsIdle, IsReady, LooksOn, PassesPacket, Stands, Stepped, Steps, Took, collects, id_of};
 
 use crate::status::Stop;
 use bytes::BytesMut;
@@ -74,8 +74,9 @@ fn read_more<A: Allocator + Copy, R: Read>(
     src: &mut BytesMut<A>,
     input: &mut R,
 ) -> Result<usize, Stop>
-    ensures came { IfOk result (λ count. Came count src.old.items src.new.items
-        (R.remaining input.old) (R.remaining input.new)) }
+    ensures came { IfOk result (λ count. (came : List ℕ) × (length came ≡ count)
+        × (src.new.items ≡ src.old.items ++ came)
+        × Consumes (R.remaining input.old) (R.remaining input.new) came) }
     ensures end { IfOk result (λ count. count ≡ 0 → IsAtEnd (R.remaining input.new)) }
 {
     src.reserve(READ_SIZE)?;
@@ -87,9 +88,9 @@ fn read_header<A: Allocator + Copy, R: Read>(
     src: &mut BytesMut<A>,
     input: &mut R,
 ) -> Result<(), Stop>
-    ensures { OnOk result ((came : List ℕ) × (src.new.items ≡ src.old.items ++ came)
-        × Consumes (R.remaining input.old) (R.remaining input.new) came
-        × (length src.new.items < 4 → IsAtEnd (R.remaining input.new))) }
+    ensures came { OnOk result ((came : List ℕ) × (src.new.items ≡ src.old.items ++ came)
+        × Consumes (R.remaining input.old) (R.remaining input.new) came) }
+    ensures end { OnOk result (length src.new.items < 4 → IsAtEnd (R.remaining input.new)) }
 {
     'reads: for _ in 0..u64::MAX {
         if src.len() >= 4 {
