@@ -73,11 +73,13 @@ pub record Says (parts : List Part) (session : Session) : Type 0 where
   pub client : option_to_list session.client ≡ flat_map client_of parts
   pub server : option_to_list session.server ≡ flat_map server_of parts
 
+-- what a command line asks for
 pub data Command : Type 0 where
   Help : Command
   Dump : Session → Command
 
--- these words ask for this: they are the words of such parts, one behind another, which name a file
+-- these words ask for this: `--help` alone, or they are the words of parts, one behind another,
+-- which say this and name a file
 abbrev pub Asks : List (List ℕ) → Command → Type 0
 Asks words Help = words ≡ codes "--help" ∷ []
 Asks words (Dump session) =
@@ -90,8 +92,11 @@ pub record IsAsked (words : List (List ℕ)) (answer : Option Command) : Type 0 
   pub exact : (command : Command) → Asks words command → answer ≡ Some command
 
 abbrev pub session_of : Request → Session
-session_of request =
-    record { options = request.options; client = option_copied request.client; server = option_copied request.server }
+session_of request = record {
+  options = request.options;
+  client = option_copied request.client;
+  server = option_copied request.server;
+}
 
 -- the directions that have files
 abbrev pub sides_of : {X : Type 0} → Option X → Option X → Option Sides
@@ -142,9 +147,11 @@ pub record Reads (words : List (List ℕ)) (request : Request) (waits : Option (
   pub waiting : IfSome waits (λ word. (part : Part) → words_of part ≢ word ∷ [])
 
 -- a word more, or no words that go on so ask for a session
-abbrev pub Steps : List ℕ → Request → Option (List ℕ) → Option (Request × Option (Bor (List ℕ))) → Type 0
+abbrev pub Steps : List ℕ → Request → Option (List ℕ)
+    → Option (Request × Option (Bor (List ℕ))) → Type 0
 Steps word old waits result =
     (words : List (List ℕ)) → Reads words old waits
     → MatchOption result
-    ((others : List (List ℕ)) (session : Session) → ¬ (Asks (words ++ word ∷ others) (Dump session)))
+    ((others : List (List ℕ)) (session : Session)
+    → ¬ (Asks (words ++ word ∷ others) (Dump session)))
     (λ new. Reads (words ++ word ∷ []) new.0 (option_copied new.1))
