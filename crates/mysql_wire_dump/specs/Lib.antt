@@ -3,3 +3,4 @@ pub mod GoingOn
 pub mod Readings
 pub mod Dumped
 pub mod Dumping
+pub mod Files

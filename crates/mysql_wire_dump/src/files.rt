@@ -1,5 +1,12 @@
 //! The files that the words name, dumped.
 
+ghost use Rattle.std.specs.Prelude.{◌≡◌, ◌≢◌, ◌↔◌, ◌++◌, codes, map, string_bytes, None, IfOk, MatchResult};
+ghost use Rattle.std.specs.Io.KnownBytes.{Appends, Keeps};
+ghost use Rattle.mysql_wire_dump_lines.specs.declared.status.Stop.TheVariants.{Io};
+ghost use Rattle.mysql_wire_dump_lines.specs.Arguments.{Asks, Command, session_of, sides_of};
+ghost use Rattle.mysql_wire_dump_lines.specs.Status.{exit_status_of, usage};
+ghost use Rattle.mysql_wire_dump.specs.Files.{CommandEnds, FilesEnd, left_in};
+
 use crate::dump::run_dump;
 use mysql_wire_dump_lines::arguments::{Asked, Request, what_is_asked};
 use mysql_wire_dump_lines::status::{Stop, USAGE, exit_status};
@@ -14,7 +21,9 @@ use std::rt::Files;
 struct Input<T: Drop>(Option<T>);
 
 // The file of this name, where there is one.
-fn open<F: Files>(files: &F, name: Option<&str>) -> Result<Input<F::File>, Stop> {
+fn open<F: Files>(files: &F, name: Option<&str>) -> Result<Input<F::File>, Stop>
+    ensures { IfOk result (λ input. name.entry ≡ None → input.0 ≡ None) }
+{
     match name {
         Some(name) => Ok(Input(Some(File::open(files, name)?))),
         None => Ok(Input(None)),
@@ -22,6 +31,8 @@ fn open<F: Files>(files: &F, name: Option<&str>) -> Result<Input<F::File>, Stop>
 }
 
 impl<T: Read + Drop> Read for Input<T> {
+    ghost remaining = { λ input. left_in T.remaining input.0 };
+
     fn read(&mut self, buf: &mut [u8]) -> io::Result<usize> {
         match &mut self.0 {
             Some(file) => file.read(buf),
@@ -36,7 +47,11 @@ fn dump_files<F: Files, W: Write>(
     alloc: Global,
     request: Request<'_>,
     output: &mut W,
-) -> Result<u8, Stop> {
+) -> Result<u8, Stop>
+    ensures { sides_of request.entry.client request.entry.server ≢ None
+        → FilesEnd (session_of request.entry)
+        (W.contents output.old) (W.contents output.new) (exit_status_of result) }
+{
     let Some(sides) = request.sides() else {
         return Ok(1);
     };
@@ -54,7 +69,11 @@ fn dump_files<F: Files, W: Write>(
 }
 
 // Writes the usage line.
-fn help<W: Write>(output: &mut W) -> Result<u8, Stop> {
+fn help<W: Write>(output: &mut W) -> Result<u8, Stop>
+    ensures { MatchResult result (λ status. (status ≡ 0)
+        × Appends (W.contents output.old) (W.contents output.new) (usage ++ codes "\n"))
+        (λ stop. stop ≡ Io) }
+{
     writeln!(output, "{USAGE}")?;
     output.flush()?;
     Ok(0)
@@ -67,7 +86,13 @@ pub fn run_words<A: Allocator, F: Files, W: Write>(
     alloc: Global,
     words: &[String<A>],
     output: &mut W,
-) -> u8 {
+) -> u8
+    ensures ran { (command : Command) → Asks (map string_bytes words.now) command
+        → CommandEnds command (W.contents output.old) (W.contents output.new) result }
+    ensures refused { (result ≡ 1)
+        ↔ ((command : Command) → ¬ (Asks (map string_bytes words.now) command)) }
+    ensures untouched { result ≡ 1 → Keeps (W.contents output.old) (W.contents output.new) }
+{
     match what_is_asked(words) {
         None => 1,
         Some(Asked::Help) => exit_status(help(output)),

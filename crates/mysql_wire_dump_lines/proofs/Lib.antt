@@ -1,2 +1,4 @@
 pub mod SourceLemmas
 pub mod FieldLemmas
+pub mod NumberLemmas
+pub mod ArgumentLemmas

@@ -7,3 +7,4 @@ pub mod Turns
 pub mod Lines
 pub mod Fields
 pub mod FieldTables
+pub mod Arguments

@@ -88,9 +88,9 @@ fn read_header<A: Allocator + Copy, R: Read>(
     src: &mut BytesMut<A>,
     input: &mut R,
 ) -> Result<(), Stop>
-    ensures { OnOk result ((came : List ℕ) × (src.new.items ≡ src.old.items ++ came)
-        × Consumes (R.remaining input.old) (R.remaining input.new) came
-        × (length src.new.items < 4 → IsAtEnd (R.remaining input.new))) }
+    ensures came { OnOk result ((came : List ℕ) × (src.new.items ≡ src.old.items ++ came)
+        × Consumes (R.remaining input.old) (R.remaining input.new) came) }
+    ensures end { OnOk result (length src.new.items < 4 → IsAtEnd (R.remaining input.new)) }
 {
     'reads: for _ in 0..u64::MAX {
         if src.len() >= 4 {
