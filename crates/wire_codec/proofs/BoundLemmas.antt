@@ -8,6 +8,7 @@ use Rattle.wire_codec.specs.Limited.{Limits, Allows, AreAtMost, bound, limit_at,
 use Rattle.wire_codec.specs.LimitedRuns.{Aligned, AlignedAt, WasAllowed, unread_place}
 use Rattle.wire_codec.specs.GoingOn.{GoesOn, GoesOnAt, HasLimits}
 use Rattle.wire_codec.specs.Codec.{CodecState, first_id, input_of, DecodesFrom}
+use Rattle.wire_codec.specs.Laws.{AlignedGoesOn, BoundedDelivery, BoundedLimitedDelivery}
 use Rattle.wire_codec.proofs.ChunkLemmas.{blocks_whole, max_payload_pos}
 use Rattle.wire_codec.proofs.GoingOnLemmas.{length-input}
 use Rattle.wire_codec.proofs.RunLemmas.{nothing_whole}
@@ -24,8 +25,7 @@ waiting_bounded : (limit most : ℕ) (unfinished rest : List ℕ) → length unf
 waiting_bounded limit most unfinished rest few less (inl short) = omega arith
 waiting_bounded limit most unfinished rest few less (inr waits) = let fits = waits.1 in let part = waits.2 in omega arith
 
-pub bounded_delivery_is : (held input : List ℕ) (open_id limit : ℕ) (payloads : List (List ℕ)) (unfinished rest : List ℕ)
-    → Delivers held input open_id limit payloads Waiting unfinished rest → IsBounded limit held unfinished rest
+pub bounded_delivery_is : BoundedDelivery
 bounded_delivery_is held input open_id limit payloads unfinished rest d =
     let few = unfinished_bounded held limit payloads unfinished d.splits.within in
     (few, waiting_bounded limit (max limit (length held)) unfinished rest few (omega arith) d.ends)
@@ -75,8 +75,7 @@ unfinished_under limits most place held [] unfinished few whole ends within =
 unfinished_under limits most place held (payload ∷ payloads) unfinished few whole ends within =
     let fits = unfinished_under limits most (place + framed_size payload) [] payloads unfinished few nothing_whole ends within.1 in omega arith
 
-pub bounded_limited_delivery_is : (limits : Limits) (most place : ℕ) (held input : List ℕ) (open_id : ℕ) (payloads : List (List ℕ)) (unfinished rest : List ℕ)
-    → AreAtMost most limits → DeliversUnder limits place held input open_id payloads Waiting unfinished rest → IsBounded most held unfinished rest
+pub bounded_limited_delivery_is : BoundedLimitedDelivery
 bounded_limited_delivery_is limits most place held input open_id payloads unfinished rest few d =
     let splits = d.splits in
     let fits = unfinished_under limits most place held payloads unfinished few splits.held_whole splits.unfinished_whole splits.within in
@@ -106,9 +105,7 @@ goes_on_at limits place limit (Some h) src held aligned same allowed = (
   },
 )
 
-pub aligned_goes_on_is : (limits : Limits) (place : ℕ) (state : CodecState) → Aligned state
-    → (place + length (input_of state) ≡ unread_place place state.held + length state.unread)
-    × (HasLimits limits place state → (mark : ℕ) × GoesOn limits mark place state)
+pub aligned_goes_on_is : AlignedGoesOn
 aligned_goes_on_is limits place state aligned = (
   (let here = length-input (first_id state) state.unread state.held in omega arith),
   λ has. goes_on_at limits place state.limit state.header state.unread state.held aligned has.0 has.1,

@@ -6,6 +6,7 @@ use Rattle.std.proofs.lemmas.List.{take-append-le, drop-append-le, length-take-l
 use Rattle.std.proofs.Math.Nat.{min_comm}
 use Rattle.wire_buf.specs.Numbers.{le_number, le_bytes}
 use Rattle.wire_codec.specs.Framing.{max_payload, max_payload_is, header, chunk, chunks, framing}
+use Rattle.wire_codec.specs.Laws.{UniqueFraming, FramedLength}
 
 pub max_payload_pos : 0 < max_payload
 max_payload_pos = omega (arith, max_payload_is)
@@ -154,7 +155,7 @@ framing_cancel_same s p q x y same e =
     (joined, last.2)
 
 -- a framing is told apart from what follows it
-pub framing_cancel : (s : ℕ) (p q x y : List ℕ) → framing s p ++ x ≡ framing s q ++ y → (p ≡ q) × (x ≡ y)
+pub framing_cancel : UniqueFraming
 framing_cancel s p q x y e =
     elim (cases_lt (length p / max_payload) (length q / max_payload)) [
       | inl short ↦ absurd (framing_ends s (length q / max_payload) p q x (chunk (s + length q / max_payload) (take max_payload (drop (length q / max_payload * max_payload) q)) ++ y) short (blocks_below (length q)) (e ∙ append_assoc (chunks (length q / max_payload) s q) (chunk (s + length q / max_payload) (take max_payload (drop (length q / max_payload * max_payload) q))) y))
@@ -214,7 +215,7 @@ length-chunks (suc n) s p h =
     ∙ (let a = length-chunks n s p (omega arith) in let b = length-chunk_alone (s + n) (take max_payload (drop (n * max_payload) p)) in omega arith)
 
 -- n bytes framed are n + 4 * (n / MAX + 1) bytes
-pub length-framing : (s : ℕ) (p : List ℕ) → length (framing s p) ≡ length p + 4 * (length p / max_payload + 1)
+pub length-framing : FramedLength
 length-framing s p =
     let b : ℕ = length p / max_payload in
     let low : b * max_payload ≤ length p = blocks_below (length p) in

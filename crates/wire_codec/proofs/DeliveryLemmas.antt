@@ -5,14 +5,15 @@ use Rattle.std.proofs.lemmas.List.Elements.{All-nil, All-cons, All-head, All-tai
 use Rattle.std.proofs.lemmas.Bool.{cases_lt}
 use Rattle.wire_codec.specs.Framing.{max_payload, max_payload_is, chunk, chunks, framing, front, next_id, stream, id_after}
 use Rattle.wire_codec.specs.Delivery.{chunk_len, id_at, IsWholeChunks, Continues, AreWithin, Splits, Ending, Waiting, TooLarge, OutOfSync, Ends, Delivers}
+use Rattle.wire_codec.specs.Laws.{EncodedFirst, JoinedRuns, JoinedSplits, OneDelivery, StreamAppend, IdAfterAppend}
 use Rattle.wire_codec.proofs.ChunkLemmas.{blocks_below, blocks_whole, whole_blocks, le_number-le_bytes, chunks-add, chunks_cancel, length-chunks_tail, framing_ends, framing_cancel}
 
 -- streams joined
-pub stream-append : (s : ℕ) (ps qs : List (List ℕ)) → stream s (ps ++ qs) ≡ stream s ps ++ stream (id_after s ps) qs
+pub stream-append : StreamAppend
 stream-append s [] qs = refl
 stream-append s (p ∷ ps) qs = ap (λ (z : List ℕ). framing s p ++ z) (stream-append (next_id s p) ps qs) ∙ sym (append_assoc (framing s p) (stream (next_id s p) ps) (stream (id_after (next_id s p) ps) qs))
 
-pub id_after-append : (s : ℕ) (ps qs : List (List ℕ)) → id_after s (ps ++ qs) ≡ id_after (id_after s ps) qs
+pub id_after-append : IdAfterAppend
 id_after-append s [] qs = refl
 id_after-append s (p ∷ ps) qs = id_after-append (next_id s p) ps qs
 
@@ -58,8 +59,7 @@ within_append d L (p ∷ ps) qs q r a b =
     (a.0, All-join (λ (o : List ℕ). length o ≤ L) ps qs a.1 more.0, more.1)
 
 -- one run, and then another over what it left and what came
-pub splits_join : (d S : List ℕ) (s L : ℕ) (ps : List (List ℕ)) (q W x : List ℕ) (qs : List (List ℕ)) (r V : List ℕ)
-    → Splits d S s L ps q W → Splits q (front (id_after s ps) q ++ (W ++ x)) (id_after s ps) L qs r V → Splits d (S ++ x) s L (ps ++ qs) r V
+pub splits_join : JoinedSplits
 splits_join d S s L ps q W x qs r V a b = record {
   is =
       let A : List ℕ = stream s ps in
@@ -75,8 +75,7 @@ splits_join d S s L ps q W x qs r V a b = record {
   within = within_append d L ps qs q r a.within b.within;
 }
 
-pub delivers_join : (d S : List ℕ) (s L : ℕ) (ps : List (List ℕ)) (q W x : List ℕ) (qs : List (List ℕ)) (e : Ending) (r V : List ℕ)
-    → Splits d S s L ps q W → Delivers q (front (id_after s ps) q ++ (W ++ x)) (id_after s ps) L qs e r V → Delivers d (S ++ x) s L (ps ++ qs) e r V
+pub delivers_join : JoinedRuns
 delivers_join d S s L ps q W x qs e r V a b = record {
   splits = splits_join d S s L ps q W x qs r V a b.splits;
   ends = subst (λ (i : ℕ). Ends e i L r V) (sym (id_after-append s ps qs)) b.ends;
@@ -230,8 +229,7 @@ one_reading e f s L d (p ∷ ps) (o ∷ qs) q r W V wq wr aq ar same eq er =
     (ap₂ (λ (u : List ℕ) (v : List (List ℕ)). u ∷ v) parts.0 more.0, more.1, more.2)
 
 -- a stream delivers one thing
-pub one_delivery_is : (d S : List ℕ) (s L : ℕ) (ps qs : List (List ℕ)) (e f : Ending) (q r W V : List ℕ)
-    → Delivers d S s L ps e q W → Delivers d S s L qs f r V → (ps ≡ qs) × (e ≡ f) × (q ≡ r) × (W ≡ V)
+pub one_delivery_is : OneDelivery
 one_delivery_is d S s L ps qs e f q r W V a b =
     let parts = one_reading e f s L d ps qs q r W V a.splits.unfinished_whole b.splits.unfinished_whole a.splits.within b.splits.within
     (sym a.splits.is ∙ b.splits.is) a.ends b.ends in
@@ -242,9 +240,7 @@ one_delivery_is d S s L ps qs e f q r W V a b =
     (parts.0, one_ending e f (id_after s ps) L q W a.ends other, parts.1, parts.2)
 
 -- what a stream of payloads within the limit, with anything behind it, delivers: these payloads first
-pub encoded_first_is : (s L : ℕ) (ps qs : List (List ℕ)) (x : List ℕ) (e : Ending) (q W : List ℕ)
-    → All (λ (o : List ℕ). length o ≤ L) ps → Delivers [] (stream s ps ++ x) s L qs e q W
-    → (others : List (List ℕ)) × (qs ≡ ps ++ others) × Delivers [] x (id_after s ps) L others e q W
+pub encoded_first_is : EncodedFirst
 encoded_first_is s L [] qs x e q W small d = (qs, refl, d)
 encoded_first_is s L (p ∷ ps) [] x e q W small d =
     absurd (not_whole e s L (length q / max_payload) q p W (stream (next_id s p) ps ++ x) (blocks_whole (length q) d.splits.unfinished_whole)

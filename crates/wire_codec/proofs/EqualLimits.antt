@@ -7,6 +7,7 @@ use Rattle.wire_codec.specs.Delivery.{chunk_len, IsWholeChunks, Continues, AreWi
 use Rattle.wire_codec.specs.Codec.{CodecState, first_id, input_of, Stands, StandsAt, open_id}
 use Rattle.wire_codec.specs.Limited.{Limits, Allows, bound, chunk_place, framed_size, place_after, ContinuesUnder, AreUnder, DeliversUnder}
 use Rattle.wire_codec.specs.LimitedRuns.{run_limits, piece_limit, unread_place}
+use Rattle.wire_codec.specs.Laws.{EqualLimits}
 use Rattle.wire_codec.proofs.ChunkLemmas.{blocks_below, blocks_above, blocks_whole, chunks-add, chunks_cancel, length-chunks_tail}
 use Rattle.wire_codec.proofs.DeliveryLemmas.{chunk_len-chunk}
 use Rattle.wire_codec.proofs.LimitedLemmas.{begins_long}
@@ -280,10 +281,7 @@ run_limits_same limit id (Some h) src held pieces stands a x =
       ]
     ]
 
-pub equal_limits_is : (before : CodecState) (pieces : List (ℕ × Bor (List ℕ))) (more : List ℕ) (ps : List (List ℕ)) (e : Ending) (q W : List ℕ)
-    → Stands before → All (λ (piece : ℕ × Bor (List ℕ)). piece.0 ≡ before.limit) pieces
-    → DeliversUnder (run_limits before pieces) 0 before.held (input_of before ++ more) (first_id before) ps e q W
-    ↔ Delivers before.held (input_of before ++ more) (first_id before) before.limit ps e q W
+pub equal_limits_is : EqualLimits
 equal_limits_is before pieces more ps e q W stands all =
     let same = run_limits_same before.limit before.id before.header before.unread before.held pieces stands all in (
       λ a. equal_to (run_limits before pieces) before.limit (first_id before) before.held before.unread more ps e q W same a,

@@ -14,6 +14,7 @@ use Rattle.wire_codec.specs.Limited.{Limits, Allows, bound, limit_at, ContinuesU
 use Rattle.wire_codec.specs.LimitedRuns.{AlignedAt, unread_place, WasAllowed, run_limits, piece_limit}
 use Rattle.wire_codec.specs.Codec.{open_id}
 use Rattle.wire_codec.specs.GoingOn.{GoesOnAt, DecodesOn, TakesOn}
+use Rattle.wire_codec.specs.Laws.{EmptyGoesOn}
 use Rattle.wire_codec.proofs.ChunkLemmas.{blocks_whole, whole_blocks, blocks_are}
 use Rattle.wire_codec.proofs.LimitedLemmas.{allows_bound, bound_allows, same_block, under_trans, length-front_under}
 use Rattle.wire_codec.proofs.CodecLemmas.{Outcome, outcome_of, outcome_finished, Taken, len_taken, chunk_len_small, taken_last, taken_middle, none_none, short, empty, large, partial, taken, refused}
@@ -322,7 +323,7 @@ goes_on_start limit id (Some h) src held pieces aligned = record {
 }
 
 -- nothing has come yet
-pub empty_goes_on_is : (limits : Limits) (place id limit : ℕ) → GoesOnAt limits place place limit None [] []
+pub empty_goes_on_is : EmptyGoesOn
 unfolding max_payload
 empty_goes_on_is limits place id limit = record {
   aligned = (refl, tt);

@@ -6,6 +6,7 @@ use Rattle.std.proofs.lemmas.Bool.{cases_lt}
 use Rattle.wire_codec.specs.Framing.{max_payload, framing, front, next_id, stream, id_after, max_payload_is}
 use Rattle.wire_codec.specs.Delivery.{chunk_len, IsWholeChunks, Ending, Ends}
 use Rattle.wire_codec.specs.Limited.{Limits, Allows, bound, chunk_place, framed_size, place_after, limit_at, ContinuesUnder, AreUnder, SplitsUnder, rest_limit, DeliversUnder}
+use Rattle.wire_codec.specs.Laws.{JoinedLimitedRuns, OneLimitedDelivery}
 use Rattle.wire_codec.proofs.ChunkLemmas.{blocks_below, blocks_whole, length-framing, length-chunks, framing_cancel}
 use Rattle.wire_codec.proofs.DeliveryLemmas.{FitsAt, stops_once, not_whole, stream-append, id_after-append, one_ending}
 
@@ -85,9 +86,7 @@ splits_join_under limits place d S s ps q W x qs r V a b = record {
   within = under_append limits place d ps qs q r a.unfinished_whole a.within b.within;
 }
 
-pub delivers_join_under : (limits : Limits) (place : ℕ) (d S : List ℕ) (s : ℕ) (ps : List (List ℕ)) (q W x : List ℕ) (qs : List (List ℕ)) (e : Ending) (r V : List ℕ)
-    → SplitsUnder limits place d S s ps q W → DeliversUnder limits (place_after place ps) q (front (id_after s ps) q ++ (W ++ x)) (id_after s ps) qs e r V
-    → DeliversUnder limits place d (S ++ x) s (ps ++ qs) e r V
+pub delivers_join_under : JoinedLimitedRuns
 delivers_join_under limits place d S s ps q W x qs e r V a b = record {
   splits = splits_join_under limits place d S s ps q W x qs r V a b.splits;
   ends = subst (λ (i : ℕ). Ends e i (rest_limit limits (place_after place (ps ++ qs)) r V) r V) (sym (id_after-append s ps qs))
@@ -136,8 +135,7 @@ one_reading_under limits e f s place d (p ∷ ps) (o ∷ qs) q r W V wq wr aq ar
     (ap₂ (λ (u : List ℕ) (v : List (List ℕ)). u ∷ v) parts.0 more.0, more.1, more.2)
 
 -- a stream delivers one thing
-pub one_delivery_under_is : (limits : Limits) (place : ℕ) (d S : List ℕ) (s : ℕ) (ps qs : List (List ℕ)) (e f : Ending) (q r W V : List ℕ)
-    → DeliversUnder limits place d S s ps e q W → DeliversUnder limits place d S s qs f r V → (ps ≡ qs) × (e ≡ f) × (q ≡ r) × (W ≡ V)
+pub one_delivery_under_is : OneLimitedDelivery
 one_delivery_under_is limits place d S s ps qs e f q r W V a b =
     let parts = one_reading_under limits e f s place d ps qs q r W V a.splits.unfinished_whole b.splits.unfinished_whole a.splits.within b.splits.within
     (sym a.splits.is ∙ b.splits.is) a.ends b.ends in

@@ -8,7 +8,7 @@ use Rattle.wire_codec.specs.Framing.{max_payload, front, next_id, stream, id_aft
 use Rattle.wire_codec.specs.Delivery.{chunk_len, id_at, IsWholeChunks, Splits, Waiting, TooLarge, OutOfSync}
 use Rattle.wire_codec.specs.Codec.{Stands, StandsAt, CodecState, open_id, first_id, input_of}
 use Rattle.wire_codec.specs.Runs.{RunsFrom, RunsTo}
-use Rattle.wire_codec.specs.Laws.{appended, empty_state}
+use Rattle.wire_codec.specs.Laws.{appended, empty_state, AppendedRun, BetweenPackets, NothingRead, RunGoesOn}
 use Rattle.wire_codec.proofs.DeliveryLemmas.{id_after-append, splits_join, delivers_join}
 use Rattle.wire_codec.proofs.CodecLemmas.{open_at_id, open_small, stands_without}
 
@@ -83,8 +83,7 @@ pub open_waiting : (s : ℕ) (ps : List (List ℕ)) (id : ℕ) (dst : List ℕ) 
 open_waiting s ps id dst h e = ap (λ (n : ℕ). open_id n dst) e ∙ open_at_id (id_after s ps) dst (id_after_small s ps h)
 
 -- bytes appended to what is to be read
-pub appended_run_is : (before after : CodecState) (more : List ℕ) (answer : Result (Unit {0}) PacketCodecError) (gained : List (List ℕ))
-    → (Stands before → Stands (appended before more)) × (RunsTo (appended before more) [] answer gained after → RunsTo before more answer gained after)
+pub appended_run_is : AppendedRun
 appended_run_is before after more answer gained =
     let first : ℕ = first_id before in
     let chunks : List ℕ = front first before.held in (
@@ -94,13 +93,12 @@ appended_run_is before after more answer gained =
     )
 
 -- between two packets
-pub between_packets_is : (state : CodecState) → state.id < 256 → state.header ≡ None → state.held ≡ []
-    → Stands state × (first_id state ≡ state.id) × (input_of state ≡ state.unread)
+pub between_packets_is : BetweenPackets
 unfolding max_payload
 between_packets_is state small header held = rw (header, held) ((refl, tt), omega arith, refl)
 
 -- from empty buffers nothing is delivered yet
-pub nothing_read_is : (id limit : ℕ) → id < 256 → RunsTo (empty_state id limit) [] (Ok tt) [] (empty_state id limit)
+pub nothing_read_is : NothingRead
 unfolding max_payload
 nothing_read_is id limit small = (
   record {
@@ -127,10 +125,7 @@ stopped_splits (Err PacketTooLarge) d S s L ps id header src dst small h r = eli
 stopped_splits (Err PacketsOutOfSync) d S s L ps id header src dst small h r = elim h [ inl e ↦ absurd cc | inr e ↦ absurd cc ]
 stopped_splits (Err (Io e)) d S s L ps id header src dst small h r = absurd r
 
-pub run_goes_on_is : (before between after : CodecState) (more next : List ℕ) (stopped answer : Result (Unit {0}) PacketCodecError) (gained others : List (List ℕ))
-    → (stopped ≡ Ok tt) ⊎ (stopped ≡ Err OutOfMemory)
-    → RunsTo before more stopped gained between → between.limit ≡ before.limit → RunsTo between next answer others after
-    → RunsTo before (more ++ next) answer (gained ++ others) after
+pub run_goes_on_is : RunGoesOn
 run_goes_on_is before between after more next stopped answer gained others could run same on =
     let s : ℕ = first_id before in
     let S : List ℕ = input_of before ++ more in

@@ -6,6 +6,7 @@ use Rattle.wire_codec.specs.Delivery.{chunk_len, Ending, Waiting, TooLarge, OutO
 use Rattle.wire_codec.specs.Runs.{LeavesFrom, RunsOver}
 use Rattle.wire_codec.proofs.DeliveryLemmas.{one_delivery_is}
 use Rattle.wire_codec.specs.Codec.{CodecState, first_id, input_of}
+use Rattle.wire_codec.specs.Laws.{OneRun}
 
 -- how a run ends, and what it leaves, by how its delivery ends
 abbrev answer_of : Ending → Result (Unit {0}) PacketCodecError
@@ -42,10 +43,7 @@ delivered (Err OutOfMemory) held input first limit gained src left dst some d = 
 delivered (Err (Io error)) held input first limit gained src left dst some d = absurd d
 
 -- runs from one state over the same bytes are one run
-pub one_run_is : (before after other_after : CodecState) (more : List ℕ) (answer other : Result (Unit {0}) PacketCodecError) (gained others : List (List ℕ)) (left other_left : List ℕ)
-    → answer ≢ Err OutOfMemory → other ≢ Err OutOfMemory
-    → RunsOver before more answer gained after left → RunsOver before more other others other_after other_left
-    → (gained ≡ others) × (answer ≡ other) × (after.held ≡ other_after.held) × (after.unread ++ left ≡ other_after.unread ++ other_left)
+pub one_run_is : OneRun
 one_run_is before after other_after more answer other gained others left other_left some some_other run other_run =
     let a = delivered answer before.held (input_of before ++ more) (first_id before) before.limit gained after.unread left after.held some run in
     let b = delivered other before.held (input_of before ++ more) (first_id before) before.limit others other_after.unread other_left other_after.held some_other other_run in
