@@ -9,17 +9,16 @@ use Rattle.wire_codec.specs.Delivery.{chunk_len, id_at, IsWholeChunks, Splits, W
 use Rattle.wire_codec.specs.Codec.{Stands, StandsAt, CodecState, open_id, first_id, input_of}
 use Rattle.wire_codec.specs.Runs.{RunsFrom, RunsTo}
 use Rattle.wire_codec.specs.Laws.{appended, empty_state, AppendedRun, BetweenPackets, NothingRead, RunGoesOn}
-use Rattle.wire_codec.proofs.DeliveryLemmas.{id_after-append, splits_join, delivers_join}
+use Rattle.wire_codec.proofs.DeliveryLemmas.{id_after-append}
+use Rattle.wire_codec.proofs.ConstantLimit.{splits_join, delivers_join, splits_one, one_splits}
+use Rattle.wire_codec.proofs.LimitedLemmas.{splits_more}
+pub use Rattle.wire_codec.proofs.ChunkLemmas.{nothing_whole}
 use Rattle.wire_codec.proofs.CodecLemmas.{open_at_id, open_small, stands_without}
 
 -- nothing unfinished
 pub front-nil : (s : ℕ) → front s [] ≡ []
 unfolding max_payload
 front-nil s = refl
-
-pub nothing_whole : IsWholeChunks []
-unfolding max_payload
-nothing_whole = refl
 
 pub id_after_small : (s : ℕ) (ps : List (List ℕ)) → s < 256 → id_after s ps < 256
 id_after_small s [] h = h
@@ -59,15 +58,7 @@ runs_join (Err (Io e)) d S s L ps q W x qs id header src dst a b = b
 
 -- the whole input, of which a part is left
 pub splits_extend : (d S : List ℕ) (s L : ℕ) (ps : List (List ℕ)) (q W x : List ℕ) → Splits d S s L ps q W → Splits d (S ++ x) s L ps q (W ++ x)
-splits_extend d S s L ps q W x a = record {
-  is =
-      let A : List ℕ = stream s ps in
-      let F : List ℕ = front (id_after s ps) q in
-      ap (λ (z : List ℕ). z ++ x) a.is ∙ append_assoc A (F ++ W) x ∙ ap (λ (z : List ℕ). A ++ z) (append_assoc F W x);
-  held_whole = a.held_whole;
-  unfinished_whole = a.unfinished_whole;
-  within = a.within;
-}
+splits_extend d S s L ps q W x a = splits_one (splits_more x (one_splits 0 a))
 
 -- after everything but a lost sync the codec stands
 pub runs_stand : (answer : Result (Unit {0}) PacketCodecError) (first : ℕ) (input held : List ℕ) (limit now : ℕ) (gained : List (List ℕ)) (id : ℕ) (header : Option (ℕ × ℕ)) (src dst : List ℕ)

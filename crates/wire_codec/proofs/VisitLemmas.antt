@@ -4,7 +4,7 @@ use Rattle.wire_codec.specs.declared.codec.error.PacketCodecError.{PacketCodecEr
 use Rattle.wire_codec.specs.declared.codec.error.PacketCodecError.TheVariants.{PacketTooLarge, PacketsOutOfSync, OutOfMemory, Io}
 use Rattle.wire_codec.specs.Delivery.{chunk_len, Ending, Waiting, TooLarge, OutOfSync, Delivers}
 use Rattle.wire_codec.specs.Runs.{LeavesFrom, RunsOver}
-use Rattle.wire_codec.proofs.DeliveryLemmas.{one_delivery_is}
+use Rattle.wire_codec.proofs.ConstantLimit.{one_delivery_is}
 use Rattle.wire_codec.specs.Codec.{CodecState, first_id, input_of}
 use Rattle.wire_codec.specs.Laws.{OneRun}
 

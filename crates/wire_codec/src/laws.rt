@@ -62,7 +62,7 @@ pub fn unique_framing()
 
 /// What is delivered of framed payloads within the limit, with anything behind them, begins with
 /// these payloads; the other payloads are delivered of what is behind them.
-#[tactic(auto, using(crate::proofs::DeliveryLemmas::encoded_first_is))]
+#[tactic(auto, using(crate::proofs::ConstantLimit::encoded_first_is))]
 pub fn encoded_first()
     ensures { EncodedFirst }
 {}
