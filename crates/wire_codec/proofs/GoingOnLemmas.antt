@@ -152,19 +152,25 @@ pub awaited_under : (first : ℕ) {limits : Limits} {mark place limit : ℕ} {h 
     → GoesOnAt limits mark place limit h src held → id ≡ id_at first held → Outcome (rest_limit limits place held src) src held (Ok None) header rest dst
     → DecodesOn limits mark place first (front first held ++ src) held (Ok false) id header rest dst
 awaited_under first {limits = limits} {place = place} {src = src} {held = held} header rest dst g at (r, d, inl (less, x)) =
-    rw (r, d, x) ((
-      record { splits = splits_here_under limits place first held src g.aligned.0; ends = inl less },
-      at,
-      (g.aligned.0, tt),
-      (λ s. absurd (none_some s), λ long. absurd (omega arith)),
-    ), tt)
+    rw (r, d, x) (
+      (
+        record { splits = splits_here_under limits place first held src g.aligned.0; ends = inl less },
+        at,
+        (g.aligned.0, tt),
+        (λ s. absurd (none_some s), λ long. absurd (omega arith)),
+      ),
+      tt,
+    )
 awaited_under first {limits = limits} {place = place} {src = src} {held = held} header rest dst g at (r, d, inr (long, some, small, less, x)) =
-    rw (r, d, x) ((
-      record { splits = splits_here_under limits place first held src g.aligned.0; ends = inr (some, small, less) },
-      at,
-      (g.aligned.0, (long, refl, refl, some)),
-      (λ s. long, λ l. search rules),
-    ), tt)
+    rw (r, d, x) (
+      (
+        record { splits = splits_here_under limits place first held src g.aligned.0; ends = inr (some, small, less) },
+        at,
+        (g.aligned.0, (long, refl, refl, some)),
+        (λ s. long, λ l. search rules),
+      ),
+      tt,
+    )
 
 -- the chunk is refused, or no memory is found
 pub failed_under : (error : PacketCodecError) (first : ℕ) {limits : Limits} {mark place limit : ℕ} {h : Option (ℕ × ℕ)} {id : ℕ} {src held : List ℕ} (header : Option (ℕ × ℕ)) (rest dst : List ℕ)

@@ -158,13 +158,13 @@ refuses_piece {took = took} error {before = before} {pieces = pieces} {i = i} {o
     memory_under error limits place (first_id before) S before.held run.0 state.id state.header state.unread state.held unread is (open_small before.id before.held) kept run.2 in
     stops took error before pieces i old mid (with_unread state.limit unread state) (λ mark place. place + length S) aligned
     (λ limits mark place at known.
-        let run = so_far.on limits mark place at known in (
-          (run.0, run.1, refused limits place run),
-          λ e. rw kept (marked_on limits place (first_id before) S before.held run.0 state.id state.header state.unread state.held state.limit run.2),
-        ))
+    let run = so_far.on limits mark place at known in (
+      (run.0, run.1, refused limits place run),
+      λ e. rw kept (marked_on limits place (first_id before) S before.held run.0 state.id state.header state.unread state.held state.limit run.2),
+    ))
     (λ run e long which.
-        let len = length-splits_under (run_limits before pieces) 0 before.held S (first_id before) run.0.0 state.held unread (rw is at run.0.2).0 in
-        remembers_on (run.1 e) long (omega arith))
+    let len = length-splits_under (run_limits before pieces) 0 before.held S (first_id before) run.0.0 state.held unread (rw is at run.0.2).0 in
+    remembers_on (run.1 e) long (omega arith))
     inside so_far.waits so_far.limit
 
 -- it stops behind a piece

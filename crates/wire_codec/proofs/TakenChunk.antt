@@ -126,13 +126,13 @@ outcome_finished limit src held answer header rest dst all long some small f =
       | inl less ↦ let w = f.waits less in subst (λ (z : Answer). Outcome limit src held z header rest dst) (sym w.0) (w.2, w.3, inr (long, some, small, less, w.1))
       | inr whole ↦ elim (f.takes whole) [
         | inl t ↦ subst (λ (z : Answer). Outcome limit src held z header rest dst) (sym t.0) (record {
-            whole = whole;
-            fits = inr small;
-            none = t.1;
-            rest_is = t.2;
-            dst_is = t.3;
-            kind = info_kind (slice_index src 3) (chunk_len src) held dst all (ap (λ (z : List ℕ). length z) t.3 ∙ len_taken src held whole) some;
-          })
+          whole = whole;
+          fits = inr small;
+          none = t.1;
+          rest_is = t.2;
+          dst_is = t.3;
+          kind = info_kind (slice_index src 3) (chunk_len src) held dst all (ap (λ (z : List ℕ). length z) t.3 ∙ len_taken src held whole) some;
+        })
         | inr r ↦ subst (λ (z : Answer). Outcome limit src held z header rest dst) (sym r.0) (r.2, r.3, long, some, inr (refl, small, r.1))
       ]
     ]
