@@ -1,13 +1,12 @@
 -- How many bytes a delivery that waits holds, and where a codec goes on.
-use Rattle.std.proofs.Common.{◌≡◌, ℕ, ◌+◌, ◌*◌, ◌/◌, ◌<◌, ◌≤◌, List, [], ◌∷◌, length, arith, inl, inr, max, min, Option, Some, None, MatchOption, Result, Ok, Bool, false, subst, zero, suc, IsSome, mul-le-mul_right}
-use Rattle.std.proofs.lemmas.Bool.{cases_lt}
+use Rattle.std.proofs.Common.{◌≡◌, ℕ, ◌+◌, ◌/◌, ◌<◌, ◌≤◌, List, [], ◌∷◌, length, arith, inl, inr, max, Option, Some, None, MatchOption, Result, Ok, Bool, false, subst, IsSome}
 use Rattle.wire_codec.specs.declared.codec.error.PacketCodecError.{PacketCodecError}
 use Rattle.wire_codec.specs.Framing.{max_payload}
-use Rattle.wire_codec.specs.Delivery.{chunk_len, IsWholeChunks, AreWithin, IsWaiting, Delivers, Waiting, IsBounded}
-use Rattle.wire_codec.specs.Limited.{Limits, Allows, AreAtMost, bound, limit_at, framed_size, place_after, ContinuesUnder, AreUnder, rest_limit, DeliversUnder}
-use Rattle.wire_codec.specs.LimitedRuns.{Aligned, AlignedAt, WasAllowed, unread_place}
-use Rattle.wire_codec.specs.GoingOn.{GoesOn, GoesOnAt, HasLimits}
-use Rattle.wire_codec.specs.Codec.{CodecState, first_id, input_of, DecodesFrom}
+use Rattle.wire_codec.specs.Delivery.{chunk_len, IsWholeChunks, IsWaiting, IsBounded}
+use Rattle.wire_codec.specs.Limited.{Limits, AreAtMost, bound, limit_at, framed_size, place_after, AreUnder, rest_limit}
+use Rattle.wire_codec.specs.LimitedRuns.{AlignedAt, WasAllowed, unread_place}
+use Rattle.wire_codec.specs.GoingOn.{GoesOnAt}
+use Rattle.wire_codec.specs.Codec.{first_id, DecodesFrom}
 use Rattle.wire_codec.specs.Laws.{AlignedGoesOn, BoundedDelivery, BoundedLimitedDelivery}
 use Rattle.wire_codec.proofs.ChunkLemmas.{nothing_whole}
 use Rattle.wire_codec.proofs.ConstantLimit.{one, one_delivers}

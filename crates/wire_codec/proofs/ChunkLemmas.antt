@@ -1,5 +1,5 @@
 -- Chunks of a payload: how they are cut, joined and told apart.
-use Rattle.std.proofs.Common.{◌≡◌, ℕ, ◌+◌, ◌-◌, ◌*◌, ◌/◌, ◌%◌, ◌<◌, ◌≤◌, List, [], ◌++◌, length, take, drop, zero, suc, refl, sym, ap, ap₂, ◌∙◌, subst, arith, append_assoc, append-nil, length-append, length-drop, length-take, drop-drop, take_all, take_at, drop_at, drop_of_length-le, add-suc, add-one, add-zero, zero-mul, mul-le-mul_right, le_trans, inl, inr, take-append-drop, min}
+use Rattle.std.proofs.Common.{◌≡◌, ℕ, ◌+◌, ◌-◌, ◌*◌, ◌/◌, ◌%◌, ◌<◌, ◌≤◌, List, [], ◌++◌, length, take, drop, zero, suc, refl, sym, ap, ap₂, ◌∙◌, subst, arith, append_assoc, append-nil, length-append, length-drop, length-take, drop-drop, take_all, take_at, drop_at, drop_of_length-le, add-suc, add-one, add-zero, zero-mul, mul-le-mul_right, inl, inr, take-append-drop, min}
 use Rattle.std.proofs.lemmas.Bool.{cases_lt}
 use Rattle.std.proofs.Math.Seq.{take-add}
 use Rattle.std.proofs.lemmas.List.{take-append-le, drop-append-le, length-take-le, take_min, drop_min}

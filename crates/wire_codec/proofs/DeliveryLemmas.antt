@@ -1,12 +1,11 @@
 -- What one input delivers: runs joined, and no two readings of one input.
-use Rattle.std.proofs.Common.{◌≡◌, ℕ, ◌+◌, ◌-◌, ◌*◌, ◌/◌, ◌%◌, ◌<◌, ◌≤◌, ◌⊎◌, List, [], ◌∷◌, ◌++◌, length, take, drop, suc, refl, sym, ap, ap₂, ◌∙◌, subst, arith, append_assoc, length-append, length-drop, length-take, take_all, inl, inr, All, max, min, slice_index, mul-le-mul_right, le_of_lt}
-use Rattle.std.proofs.lemmas.List.{take-take}
+use Rattle.std.proofs.Common.{◌≡◌, ℕ, ◌+◌, ◌-◌, ◌*◌, ◌/◌, ◌%◌, ◌<◌, ◌≤◌, ◌⊎◌, List, [], ◌∷◌, ◌++◌, length, suc, refl, sym, ap, ◌∙◌, arith, append_assoc, length-append, length-drop, length-take, take_all, inl, inr, All, max, min, slice_index, mul-le-mul_right, le_of_lt}
 use Rattle.std.proofs.lemmas.List.Elements.{All-nil, All-cons, All-head, All-tail}
 use Rattle.std.proofs.lemmas.Bool.{cases_lt}
-use Rattle.wire_codec.specs.Framing.{max_payload, max_payload_is, chunk, chunks, framing, front, next_id, stream, id_after}
-use Rattle.wire_codec.specs.Delivery.{chunk_len, id_at, IsWholeChunks, Continues, AreWithin, Splits, Ending, Waiting, TooLarge, OutOfSync, Ends, Delivers}
-use Rattle.wire_codec.specs.Laws.{EncodedFirst, JoinedRuns, JoinedSplits, OneDelivery, StreamAppend, IdAfterAppend}
-use Rattle.wire_codec.proofs.ChunkLemmas.{blocks_below, blocks_whole, whole_blocks, le_number-le_bytes, block, length-block, next_chunk, chunks_cancel, framing_ends}
+use Rattle.wire_codec.specs.Framing.{max_payload, max_payload_is, chunk, chunks, framing, next_id, stream, id_after}
+use Rattle.wire_codec.specs.Delivery.{chunk_len, id_at, Continues, AreWithin, Ending, Waiting, TooLarge, OutOfSync, Ends}
+use Rattle.wire_codec.specs.Laws.{StreamAppend, IdAfterAppend}
+use Rattle.wire_codec.proofs.ChunkLemmas.{blocks_below, whole_blocks, le_number-le_bytes, block, length-block, next_chunk, chunks_cancel, framing_ends}
 
 -- streams joined
 pub stream-append : StreamAppend

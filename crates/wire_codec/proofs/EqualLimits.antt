@@ -1,11 +1,11 @@
 -- Equal limits are one limit.
-use Rattle.std.proofs.Common.{◌≡◌, ℕ, ◌+◌, ◌-◌, ◌*◌, ◌/◌, ◌<◌, ◌≤◌, ◌⊎◌, ◌↔◌, List, [], ◌∷◌, ◌++◌, length, take, drop, suc, refl, sym, ap, ◌∙◌, subst, arith, append_assoc, length-drop, length-take, inl, inr, min, Option, Some, None, mul-le-mul_right, le_of_lt, All, Bor, Bool, true, false, if◌then◌else◌, nat_lt, ◌==◌, ne_eqb, eq-eqb}
-use Rattle.std.proofs.lemmas.List.Elements.{All-nil, All-cons, All-head, All-tail}
+use Rattle.std.proofs.Common.{◌≡◌, ℕ, ◌+◌, ◌-◌, ◌*◌, ◌/◌, ◌<◌, ◌≤◌, ◌⊎◌, List, [], ◌∷◌, ◌++◌, length, suc, refl, sym, ap, ◌∙◌, subst, arith, append_assoc, inl, inr, min, Option, Some, None, All, Bor, Bool, true, false, if◌then◌else◌, nat_lt, ◌==◌, ne_eqb, eq-eqb}
+use Rattle.std.proofs.lemmas.List.Elements.{All-head, All-tail}
 use Rattle.std.proofs.lemmas.Bool.{cases_lt}
-use Rattle.wire_codec.specs.Framing.{max_payload, chunk, chunks, framing, front, next_id, stream, id_after}
-use Rattle.wire_codec.specs.Delivery.{chunk_len, IsWholeChunks, Continues, AreWithin, Ending, Waiting, TooLarge, OutOfSync, Ends, Delivers}
-use Rattle.wire_codec.specs.Codec.{CodecState, first_id, input_of, Stands, StandsAt, open_id}
-use Rattle.wire_codec.specs.Limited.{Limits, Allows, bound, chunk_place, framed_size, place_after, limit_at, ContinuesUnder, AreUnder, DeliversUnder}
+use Rattle.wire_codec.specs.Framing.{max_payload, chunks, framing, front, next_id, stream, id_after}
+use Rattle.wire_codec.specs.Delivery.{chunk_len, IsWholeChunks, Ending, Waiting, TooLarge, OutOfSync, Ends}
+use Rattle.wire_codec.specs.Codec.{first_id, input_of, StandsAt, open_id}
+use Rattle.wire_codec.specs.Limited.{Limits, Allows, bound, chunk_place, framed_size, place_after, ContinuesUnder, AreUnder}
 use Rattle.wire_codec.specs.LimitedRuns.{run_limits, piece_limit, unread_place}
 use Rattle.wire_codec.specs.Laws.{EqualLimits}
 use Rattle.wire_codec.proofs.ChunkLemmas.{blocks_above, blocks_whole, block_below, more_blocks, place_same, chunks_cancel}

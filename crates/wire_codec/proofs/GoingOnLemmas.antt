@@ -1,5 +1,5 @@
 -- One chunk of a stream whose bytes came under different limits, as a codec takes it.
-use Rattle.std.proofs.Common.{◌≡◌, ℕ, ◌+◌, ◌-◌, ◌*◌, ◌/◌, ◌%◌, ◌<◌, ◌≤◌, ◌≢◌, ◌⊎◌, List, [], ◌++◌, length, take, drop, suc, refl, sym, ap, ◌∙◌, subst, arith, length-append, length-drop, take_all, take_at, inl, inr, min, slice_index, Option, Some, None, IsSome, Result, Ok, Err, Bool, true, false, rules, ap₂, eq-eqb, ne_eqb, if◌then◌else◌, nat_lt, Bor}
+use Rattle.std.proofs.Common.{◌≡◌, ℕ, ◌+◌, ◌-◌, ◌*◌, ◌/◌, ◌%◌, ◌<◌, ◌≤◌, ◌≢◌, List, [], ◌++◌, length, take, drop, suc, refl, sym, ap, ◌∙◌, subst, arith, length-append, length-drop, take_all, take_at, inl, inr, min, slice_index, Option, Some, None, IsSome, Result, Ok, Err, Bool, true, false, rules, ap₂, eq-eqb, ne_eqb, if◌then◌else◌, nat_lt, Bor}
 use Rattle.std.proofs.lemmas.Bool.{cases_lt, lt-ltb}
 use Rattle.wire_codec.specs.declared.codec.chunk.ChunkInfo.{ChunkInfo}
 use Rattle.wire_codec.specs.declared.codec.chunk.ChunkInfo.TheVariants.{Middle, Last}
@@ -8,10 +8,10 @@ use Rattle.wire_codec.specs.declared.codec.error.PacketCodecError.TheVariants.{P
 use Rattle.wire_codec.specs.declared.codec.packet.Progress.{Progress}
 use Rattle.wire_codec.specs.declared.codec.packet.Progress.TheVariants.{Whole, Starved, More}
 use Rattle.wire_codec.specs.Framing.{max_payload, chunks, front}
-use Rattle.wire_codec.specs.Delivery.{chunk_len, IsSpelled, id_at, IsWholeChunks, Ending, Waiting, TooLarge, OutOfSync}
+use Rattle.wire_codec.specs.Delivery.{chunk_len, IsSpelled, id_at, IsWholeChunks}
 use Rattle.wire_codec.specs.OneChunk.{Answer, DecodesChunk, FinishesChunk}
-use Rattle.wire_codec.specs.Limited.{Limits, Allows, bound, limit_at, ContinuesUnder, SplitsUnder, rest_limit, DeliversUnder}
-use Rattle.wire_codec.specs.LimitedRuns.{AlignedAt, unread_place, WasAllowed, header_ends_at, run_limits, piece_limit}
+use Rattle.wire_codec.specs.Limited.{Limits, Allows, bound, limit_at, ContinuesUnder, SplitsUnder, rest_limit}
+use Rattle.wire_codec.specs.LimitedRuns.{AlignedAt, unread_place, header_ends_at, run_limits, piece_limit}
 use Rattle.wire_codec.specs.Chain.{id_of}
 use Rattle.wire_codec.specs.Codec.{CodecState, open_id, first_id, input_of}
 use Rattle.wire_codec.specs.GoingOn.{GoesOnAt, DecodesOn, TakesOn}

@@ -1,13 +1,12 @@
 -- A packet where it lies.
-use Rattle.std.proofs.Common.{◌≡◌, ℕ, ◌+◌, ◌-◌, ◌%◌, ◌<◌, ◌≤◌, List, [], ◌∷◌, length, take, drop, refl, sym, ap, ◌∙◌, subst, arith, inl, inr, slice_index, Option, Some, None, MatchOption, Ok, Bool, true, ne_eqb, if◌then◌else◌, length-drop}
+use Rattle.std.proofs.Common.{◌≡◌, ℕ, ◌+◌, ◌-◌, ◌%◌, ◌<◌, ◌≤◌, List, [], ◌∷◌, length, take, drop, refl, sym, ap, ◌∙◌, subst, arith, inl, inr, slice_index, Option, Some, None, MatchOption, Ok, true, length-drop}
 use Rattle.std.proofs.lemmas.List.{length-take-le}
 use Rattle.wire_codec.specs.declared.codec.chunk.ChunkInfo.{ChunkInfo}
-use Rattle.wire_codec.specs.declared.codec.chunk.ChunkInfo.TheVariants.{Middle, Last}
+use Rattle.wire_codec.specs.declared.codec.chunk.ChunkInfo.TheVariants.{Last}
 use Rattle.wire_codec.specs.Framing.{max_payload}
-use Rattle.wire_codec.specs.Delivery.{chunk_len, IsSpelled, IsWholeChunks}
+use Rattle.wire_codec.specs.Delivery.{chunk_len, IsSpelled}
 use Rattle.wire_codec.specs.OneChunk.{info_of, FinishesChunk, DecodesChunk}
 use Rattle.wire_codec.specs.Codec.{CodecState, Stands, open_id, DecodesPacket, ChunkChain}
-use Rattle.wire_codec.specs.Limited.{rest_limit}
 use Rattle.wire_codec.specs.LimitedRuns.{DecodesAligned, run_limits}
 use Rattle.wire_codec.specs.GoingOn.{Decodes}
 use Rattle.wire_codec.specs.InPlace.{front_payload, HasFront, behind_front}

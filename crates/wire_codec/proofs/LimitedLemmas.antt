@@ -1,9 +1,9 @@
 -- What one input delivers where each byte has its limit: runs joined, and no two readings of one
 -- input.
-use Rattle.std.proofs.Common.{◌≡◌, ℕ, ◌+◌, ◌*◌, ◌/◌, ◌<◌, ◌≤◌, List, [], ◌∷◌, ◌++◌, length, take, suc, refl, sym, ap, ap₂, ◌∙◌, subst, arith, append_assoc, length-append, length-take, inl, inr, min, max, Option, Some, None, MatchOption, mul-le-mul_right}
+use Rattle.std.proofs.Common.{◌≡◌, ℕ, ◌+◌, ◌*◌, ◌/◌, ◌≤◌, List, [], ◌∷◌, ◌++◌, length, take, refl, sym, ap, ap₂, ◌∙◌, subst, arith, append_assoc, length-append, length-take, inl, inr, min, max, Option, Some, None, MatchOption}
 use Rattle.std.proofs.lemmas.List.{take-take}
 use Rattle.std.proofs.lemmas.Bool.{cases_lt}
-use Rattle.wire_codec.specs.Framing.{max_payload, framing, front, next_id, stream, id_after, max_payload_is}
+use Rattle.wire_codec.specs.Framing.{max_payload, framing, front, next_id, stream, id_after}
 use Rattle.wire_codec.specs.Delivery.{chunk_len, IsWholeChunks, Ending, Ends}
 use Rattle.wire_codec.specs.Limited.{Limits, Allows, AreAtMost, bound, chunk_place, framed_size, place_after, limit_at, ContinuesUnder, AreUnder, SplitsUnder, rest_limit, DeliversUnder}
 use Rattle.wire_codec.specs.Laws.{JoinedLimitedRuns, OneLimitedDelivery}

@@ -5,12 +5,12 @@ use Rattle.std.proofs.lemmas.List.Concat.{flat_map-append}
 use Rattle.std.proofs.lemmas.Bool.{cases_lt, lt-ltb, le-ltb}
 use Rattle.wire_codec.specs.declared.codec.error.PacketCodecError.{PacketCodecError}
 use Rattle.wire_codec.specs.declared.codec.error.PacketCodecError.TheVariants.{PacketTooLarge, OutOfMemory, PacketsOutOfSync, Io}
-use Rattle.wire_codec.specs.Framing.{max_payload, framing, front, next_id, stream, id_after}
-use Rattle.wire_codec.specs.Delivery.{chunk_len, id_at, Ending, Waiting, TooLarge, OutOfSync}
-use Rattle.wire_codec.specs.Codec.{CodecState, open_id, first_id, input_of}
+use Rattle.wire_codec.specs.Framing.{max_payload, framing, front, next_id, id_after}
+use Rattle.wire_codec.specs.Delivery.{chunk_len, Ending, Waiting}
+use Rattle.wire_codec.specs.Codec.{CodecState, first_id, input_of}
 use Rattle.wire_codec.specs.Limited.{Limits, Allows, bound, framed_size, place_after, limit_at, ContinuesUnder, SplitsUnder, rest_limit, DeliversUnder}
 use Rattle.wire_codec.specs.LimitedRuns.{Aligned, AlignedAt, unread_place, RunsUnder, LeavesUnder, WasAllowed, run_limits, piece_limit, limited_bytes, last_limit, RemembersLimited}
-use Rattle.wire_codec.specs.GoingOn.{GoesOn, GoesOnAt, DecodesOn, HavePieceLimits, Remembers}
+use Rattle.wire_codec.specs.GoingOn.{GoesOnAt, DecodesOn, HavePieceLimits, Remembers}
 use Rattle.wire_codec.proofs.ChunkLemmas.{length-framing, nothing_whole}
 use Rattle.wire_codec.proofs.DeliveryLemmas.{id_after-append}
 use Rattle.wire_codec.proofs.RunLemmas.{front-nil, chunk_len_append, id_append, open_waiting}

@@ -1,5 +1,5 @@
 -- What one link of a chain makes of a codec that stands, or goes on under limits.
-use Rattle.std.proofs.Common.{◌≡◌, ◌≢◌, ℕ, ◌+◌, ◌%◌, ◌<◌, ◌⊎◌, List, ◌++◌, length, refl, sym, subst, ◌∙◌, inl, inr, Option, Some, None, Result, Ok, Err, Bool, true, false}
+use Rattle.std.proofs.Common.{◌≡◌, ℕ, ◌+◌, ◌%◌, ◌<◌, List, ◌++◌, length, sym, subst, ◌∙◌, inl, inr, Option, Some, None, Result, Ok, Err, Bool, true, false}
 use Rattle.wire_codec.specs.declared.codec.chunk.ChunkInfo.{ChunkInfo}
 use Rattle.wire_codec.specs.declared.codec.chunk.ChunkInfo.TheVariants.{Middle, Last}
 use Rattle.wire_codec.specs.declared.codec.error.PacketCodecError.{PacketCodecError}
@@ -8,7 +8,7 @@ use Rattle.wire_codec.specs.declared.codec.packet.Progress.TheVariants.{Whole, S
 use Rattle.wire_codec.specs.Framing.{front}
 use Rattle.wire_codec.specs.Delivery.{IsSpelled}
 use Rattle.wire_codec.specs.OneChunk.{Answer, DecodesChunk}
-use Rattle.wire_codec.specs.Chain.{id_of, StopsBy, EndsBy, AcceptsChunk, RefusesChunk}
+use Rattle.wire_codec.specs.Chain.{id_of, StopsBy, EndsBy, AcceptsChunk}
 use Rattle.wire_codec.specs.Codec.{StandsAt, open_id, TakesChunk, LinksChain}
 use Rattle.wire_codec.specs.Limited.{Limits}
 use Rattle.wire_codec.specs.GoingOn.{GoesOnAt, DecodesOn, TakesOn}

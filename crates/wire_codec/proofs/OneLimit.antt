@@ -1,15 +1,14 @@
 -- Runs over pieces under one limit, from runs whose pieces each have it.
-use Rattle.std.proofs.Common.{◌≡◌, ◌≢◌, ℕ, ◌+◌, ◌<◌, ◌≤◌, List, [], ◌∷◌, ◌++◌, length, take, drop, refl, sym, subst, ap, ◌∙◌, arith, append_assoc, Option, Some, None, Result, Ok, Err, OnOk, All, Bor, inl, inr}
+use Rattle.std.proofs.Common.{◌≡◌, ◌≢◌, ℕ, ◌+◌, ◌<◌, ◌≤◌, List, [], ◌∷◌, ◌++◌, length, take, drop, refl, subst, ap, ◌∙◌, arith, Option, Result, Ok, Err, OnOk, All, Bor}
 use Rattle.std.proofs.lemmas.List.{length-map, take-map, drop-map, map-id}
 use Rattle.std.proofs.lemmas.List.Elements.{All-nil, All-cons}
 use Rattle.wire_codec.specs.declared.codec.error.PacketCodecError.{PacketCodecError}
-use Rattle.wire_codec.specs.declared.codec.error.PacketCodecError.TheVariants.{PacketTooLarge, OutOfMemory, PacketsOutOfSync, Io}
-use Rattle.wire_codec.specs.Framing.{front}
-use Rattle.wire_codec.specs.Delivery.{IsWaiting, Waiting, TooLarge, OutOfSync, Splits, IsBounded}
-use Rattle.wire_codec.specs.Codec.{CodecState, first_id, input_of, Stands, StandsAt}
-use Rattle.wire_codec.specs.Limited.{Limits, Allows, place_after, SplitsUnder, DeliversUnder}
-use Rattle.wire_codec.specs.LimitedRuns.{Aligned, AlignedAt, WasAllowed, RunsUnder, LeavesUnder, run_limits, limited_bytes, last_limit}
-use Rattle.wire_codec.specs.Runs.{joined, RunsFrom, RunsTo, LeavesFrom, RunsOver, Waits}
+use Rattle.wire_codec.specs.declared.codec.error.PacketCodecError.TheVariants.{PacketsOutOfSync}
+use Rattle.wire_codec.specs.Delivery.{Waiting, IsBounded}
+use Rattle.wire_codec.specs.Codec.{CodecState, first_id, input_of, Stands}
+use Rattle.wire_codec.specs.Limited.{DeliversUnder}
+use Rattle.wire_codec.specs.LimitedRuns.{Aligned, RunsUnder, LeavesUnder, run_limits, limited_bytes, last_limit}
+use Rattle.wire_codec.specs.Runs.{joined, RunsFrom, RunsTo, RunsOver, Waits}
 use Rattle.wire_codec.specs.GoingOn.{HavePieceLimits}
 use Rattle.wire_codec.specs.Taking.{pieces_under, RunsPieces}
 use Rattle.wire_codec.proofs.BoundLemmas.{bounded_delivery_is}

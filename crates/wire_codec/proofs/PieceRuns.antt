@@ -1,5 +1,5 @@
 -- Runs over pieces, one piece after another.
-use Rattle.std.proofs.Common.{◌≡◌, ℕ, ◌+◌, ◌<◌, ◌≤◌, List, ◌++◌, length, take, get_or, refl, sym, subst, ap, ◌∙◌, append-nil, arith, Result, Ok, Err, below_more, Bor, inl, inr}
+use Rattle.std.proofs.Common.{◌≡◌, ℕ, ◌+◌, ◌<◌, ◌≤◌, List, ◌++◌, length, take, get_or, sym, subst, ap, ◌∙◌, append-nil, arith, Result, Ok, Err, below_more, Bor, inl, inr}
 use Rattle.wire_codec.specs.declared.codec.error.PacketCodecError.{PacketCodecError}
 use Rattle.wire_codec.specs.declared.codec.error.PacketCodecError.TheVariants.{OutOfMemory}
 use Rattle.wire_codec.specs.Framing.{front, id_after}

@@ -4,11 +4,11 @@ use Rattle.std.proofs.lemmas.List.{take-append-le, get_or_append_left}
 use Rattle.wire_buf.specs.Numbers.{le_number}
 use Rattle.wire_codec.specs.declared.codec.error.PacketCodecError.{PacketCodecError}
 use Rattle.wire_codec.specs.declared.codec.error.PacketCodecError.TheVariants.{PacketTooLarge, OutOfMemory, PacketsOutOfSync, Io}
-use Rattle.wire_codec.specs.Framing.{max_payload, front, next_id, stream, id_after}
-use Rattle.wire_codec.specs.Delivery.{chunk_len, id_at, IsWholeChunks, Splits, Waiting, TooLarge, OutOfSync}
-use Rattle.wire_codec.specs.Codec.{Stands, StandsAt, CodecState, open_id, first_id, input_of}
-use Rattle.wire_codec.specs.Runs.{RunsFrom, RunsTo}
-use Rattle.wire_codec.specs.Laws.{appended, empty_state, AppendedRun, BetweenPackets, NothingRead, RunGoesOn}
+use Rattle.wire_codec.specs.Framing.{max_payload, front, next_id, id_after}
+use Rattle.wire_codec.specs.Delivery.{chunk_len, id_at, Splits, Waiting, TooLarge, OutOfSync}
+use Rattle.wire_codec.specs.Codec.{StandsAt, open_id, first_id, input_of}
+use Rattle.wire_codec.specs.Runs.{RunsFrom}
+use Rattle.wire_codec.specs.Laws.{AppendedRun, BetweenPackets, NothingRead, RunGoesOn}
 use Rattle.wire_codec.proofs.DeliveryLemmas.{id_after-append}
 use Rattle.wire_codec.proofs.ConstantLimit.{splits_join, delivers_join, splits_one, one_splits}
 use Rattle.wire_codec.proofs.LimitedLemmas.{splits_more}

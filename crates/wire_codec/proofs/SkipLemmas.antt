@@ -14,7 +14,7 @@ use Rattle.wire_codec.specs.declared.codec.packet.PacketCodec.{PacketCodec}
 use Rattle.wire_codec.specs.declared.codec.packet.skip.OpenChunk.{OpenChunk}
 use Rattle.wire_codec.specs.declared.codec.packet.skip.Skipped.{Skipped}
 use Rattle.wire_codec.specs.declared.codec.packet.Progress.TheVariants.{Whole, Starved, More}
-use Rattle.wire_codec.specs.Framing.{max_payload, max_payload_is, front, header}
+use Rattle.wire_codec.specs.Framing.{max_payload, max_payload_is, header}
 use Rattle.wire_codec.specs.Delivery.{chunk_len, id_at, IsWholeChunks}
 use Rattle.wire_codec.specs.Chain.{id_of}
 use Rattle.wire_codec.specs.GoingOn.{GoesOnAt}

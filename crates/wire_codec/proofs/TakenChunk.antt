@@ -1,18 +1,15 @@
 -- One chunk of a stream, and what a step makes of it.
-use Rattle.std.proofs.Common.{◌≡◌, ℕ, ◌+◌, ◌*◌, ◌/◌, ◌%◌, ◌<◌, ◌≤◌, ◌≢◌, ◌⊎◌, List, [], ◌∷◌, ◌++◌, length, take, drop, suc, refl, sym, ap, ◌∙◌, subst, arith, append_assoc, append-nil, length-append, length-drop, length-take, drop-drop, take_all, take_at, inl, inr, take-append-drop, slice_index, Option, Some, None, IsSome, Result, Ok, Err, Bool, true, false, eq-eqb, ne_eqb, rules, if◌then◌else◌}
+use Rattle.std.proofs.Common.{◌≡◌, ℕ, ◌+◌, ◌*◌, ◌/◌, ◌%◌, ◌<◌, ◌≤◌, ◌⊎◌, List, [], ◌∷◌, ◌++◌, length, take, drop, suc, refl, sym, ap, ◌∙◌, subst, arith, append_assoc, append-nil, length-append, length-drop, length-take, drop-drop, inl, inr, take-append-drop, slice_index, Option, Some, None, IsSome, Ok, Err, Bool, eq-eqb, ne_eqb, if◌then◌else◌}
 use Rattle.std.proofs.lemmas.List.{length-take-le}
 use Rattle.std.proofs.lemmas.Bool.{cases_lt}
 use Rattle.wire_codec.specs.declared.codec.chunk.ChunkInfo.{ChunkInfo}
 use Rattle.wire_codec.specs.declared.codec.chunk.ChunkInfo.TheVariants.{Middle, Last}
-use Rattle.wire_codec.specs.declared.codec.error.PacketCodecError.{PacketCodecError}
-use Rattle.wire_codec.specs.declared.codec.error.PacketCodecError.TheVariants.{PacketTooLarge, OutOfMemory, PacketsOutOfSync, Io}
+use Rattle.wire_codec.specs.declared.codec.error.PacketCodecError.TheVariants.{PacketTooLarge, OutOfMemory}
 use Rattle.wire_codec.specs.Framing.{max_payload, max_payload_is, header, chunk, chunks, front}
-use Rattle.wire_codec.specs.Delivery.{chunk_len, IsSpelled, id_at, IsWholeChunks, Continues, Splits, Ending, Waiting, TooLarge, OutOfSync, Delivers}
+use Rattle.wire_codec.specs.Delivery.{chunk_len, IsSpelled, id_at, IsWholeChunks}
 use Rattle.wire_codec.specs.OneChunk.{info_of, Answer, FinishesChunk, DecodesChunk}
 use Rattle.wire_codec.specs.Chain.{id_of}
-use Rattle.wire_codec.specs.Codec.{StandsAt, open_id, DecodesFrom, TakesChunk}
-use Rattle.wire_codec.specs.declared.codec.packet.Progress.{Progress}
-use Rattle.wire_codec.specs.declared.codec.packet.Progress.TheVariants.{Whole, Starved, More}
+use Rattle.wire_codec.specs.Codec.{StandsAt, open_id}
 use Rattle.wire_codec.proofs.ChunkLemmas.{blocks_whole, chunk-mod, chunks-push}
 
 -- ids

@@ -1,12 +1,12 @@
 -- Packets that are taken, one after another.
-use Rattle.std.proofs.Common.{◌≡◌, ℕ, ◌+◌, ◌<◌, ◌≤◌, List, [], ◌∷◌, ◌++◌, length, refl, sym, subst, ap, ◌∙◌, arith, Result, Ok, Err, true}
+use Rattle.std.proofs.Common.{◌≡◌, ℕ, ◌<◌, ◌≤◌, List, [], ◌∷◌, ◌++◌, length, refl, subst, ap, ◌∙◌, arith, Result, Ok, Err, true}
 use Rattle.wire_codec.specs.declared.codec.error.PacketCodecError.{PacketCodecError}
 use Rattle.wire_codec.specs.declared.codec.error.PacketCodecError.TheVariants.{PacketTooLarge, OutOfMemory, PacketsOutOfSync, Io}
 use Rattle.wire_codec.specs.Framing.{front, id_after}
 use Rattle.wire_codec.specs.Codec.{CodecState, open_id, first_id, input_of}
-use Rattle.wire_codec.specs.Limited.{Limits, SplitsUnder, place_after, framed_size}
+use Rattle.wire_codec.specs.Limited.{Limits, SplitsUnder, place_after}
 use Rattle.wire_codec.specs.LimitedRuns.{RunsUnder}
-use Rattle.wire_codec.specs.GoingOn.{GoesOn, GoesOnAt, DecodesOn}
+use Rattle.wire_codec.specs.GoingOn.{GoesOn, DecodesOn}
 use Rattle.wire_codec.specs.Taking.{TakesNext}
 use Rattle.wire_codec.proofs.CodecLemmas.{open_at_id, open_small}
 use Rattle.wire_codec.proofs.RunLemmas.{next_open}

@@ -3,9 +3,9 @@ use Rattle.std.proofs.Common.{◌≡◌, ℕ, List, ◌++◌, ◌+◌, ◌≢◌
 use Rattle.wire_codec.specs.declared.codec.error.PacketCodecError.{PacketCodecError}
 use Rattle.wire_codec.specs.declared.codec.error.PacketCodecError.TheVariants.{PacketTooLarge, PacketsOutOfSync, OutOfMemory, Io}
 use Rattle.wire_codec.specs.Delivery.{chunk_len, Ending, Waiting, TooLarge, OutOfSync, Delivers}
-use Rattle.wire_codec.specs.Runs.{LeavesFrom, RunsOver}
+use Rattle.wire_codec.specs.Runs.{LeavesFrom}
 use Rattle.wire_codec.proofs.ConstantLimit.{one_delivery_is}
-use Rattle.wire_codec.specs.Codec.{CodecState, first_id, input_of}
+use Rattle.wire_codec.specs.Codec.{first_id, input_of}
 use Rattle.wire_codec.specs.Laws.{OneRun}
 
 -- how a run ends, and what it leaves, by how its delivery ends

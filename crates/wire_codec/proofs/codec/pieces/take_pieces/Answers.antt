@@ -1,8 +1,8 @@
-use Rattle.std.proofs.Common.{◌≡◌, ◌+◌, ◌<◌, ◌++◌, ◌∙◌, ℕ, List, Ok, Err, Bor, length, get_or, refl, sym, ap, subst, arith}
+use Rattle.std.proofs.Common.{◌≡◌, ◌+◌, ◌<◌, ◌++◌, ◌∙◌, ℕ, List, Bor, length, get_or, refl, sym, ap, arith}
 use Rattle.std.proofs.Math.ListN.{get_or-map}
 use Rattle.std.proofs.lemmas.List.{length-map}
 use Rattle.wire_codec.specs.Codec.{CodecState, codec_state}
-use Rattle.wire_codec.specs.Taking.{pieces_under, RunsPieces}
+use Rattle.wire_codec.specs.Taking.{pieces_under}
 use Rattle.wire_codec.proofs.PieceRuns.{Comes, has_run_first, has_run_more, stops_first, refuses_piece, stops_behind, takes_all}
 use Rattle.wire_codec.proofs.codec.pieces.take_pieces.Goals as goal
 

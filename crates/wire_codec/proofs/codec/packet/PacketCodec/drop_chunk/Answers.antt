@@ -1,8 +1,5 @@
-use Rattle.std.proofs.Common.{◌≡◌, ◌<◌, ◌+◌, ◌%◌, ◌∙◌, ◌-◌, ℕ, drop, length, sym, ap, subst, arith, eqb-true, min, Ok, None}
-use Rattle.wire_codec.specs.declared.codec.chunk.ChunkDecoder.TheVariants.{Idle}
-use Rattle.wire_codec.specs.declared.codec.packet.Progress.TheVariants.{Whole, Starved, More}
+use Rattle.std.proofs.Common.{◌<◌, ◌∙◌, ℕ, length, sym, ap, arith, eqb-true, min}
 use Rattle.wire_codec.specs.Framing.{max_payload_is}
-use Rattle.wire_codec.specs.Skipping.{nothing_skipped, DropsChunk}
 use Rattle.wire_codec.proofs.SkipLemmas.{all_came, dropped_part, dropped_other, dropped_last, dropped_middle, dropped_alone}
 use Rattle.wire_codec.proofs.codec.packet.PacketCodec.drop_chunk.Goals as goal
 
