@@ -1,5 +1,5 @@
 -- A packet whose bytes are dropped as they come.
-use Rattle.std.proofs.Common.{◌≡◌, ◌≢◌, ℕ, ◌+◌, ◌-◌, ◌%◌, ◌<◌, ◌≤◌, ◌⊎◌, ◌↔◌, ◌^◌, Bool, true, false, IsTrue, replicate, min, List, [], ◌++◌, length, take, drop, refl, sym, ap, ap₂, ◌∙◌, subst, arith, append_assoc, length-append, drop-drop, drop_at, take-append-drop, slice_index, inl, inr, Some, None, Option, Ok, Err}
+use Rattle.std.proofs.Common.{◌≡◌, ◌≢◌, ℕ, ◌+◌, ◌-◌, ◌%◌, ◌<◌, ◌≤◌, ◌⊎◌, ◌↔◌, ◌^◌, Bool, true, false, IsTrue, replicate, min, List, [], ◌++◌, length, take, drop, refl, sym, ap, ap₂, ◌∙◌, subst, arith, append_assoc, length-append, drop-drop, drop_at, take-append-drop, slice_index, inl, inr, Some, None, Option, Result, Ok, Err}
 use Rattle.std.proofs.lemmas.List.{length-replicate, length-take-le}
 use Rattle.std.proofs.lemmas.Bool.{cases_lt}
 use Rattle.std.specs.Int.NonZero.{non_zero_usize_get}
@@ -13,16 +13,17 @@ use Rattle.wire_codec.specs.declared.codec.header.Header.{Header}
 use Rattle.wire_codec.specs.declared.codec.packet.PacketCodec.{PacketCodec}
 use Rattle.wire_codec.specs.declared.codec.packet.skip.OpenChunk.{OpenChunk}
 use Rattle.wire_codec.specs.declared.codec.packet.skip.Skipped.{Skipped}
+use Rattle.wire_codec.specs.declared.codec.packet.Progress.{Progress}
 use Rattle.wire_codec.specs.declared.codec.packet.Progress.TheVariants.{Whole, Starved, More}
 use Rattle.wire_codec.specs.Framing.{max_payload, max_payload_is, header}
-use Rattle.wire_codec.specs.Delivery.{chunk_len, id_at, IsWholeChunks}
+use Rattle.wire_codec.specs.Delivery.{chunk_len, id_at, IsWholeChunks, Splits}
 use Rattle.wire_codec.specs.Chain.{id_of}
 use Rattle.wire_codec.specs.GoingOn.{GoesOnAt}
 use Rattle.wire_codec.specs.Limited.{SplitsUnder}
 use Rattle.wire_codec.specs.Codec.{CodecState, codec_state, expected_id, header_of, first_id, input_of, Stands, StandsAt}
 use Rattle.wire_codec.specs.Skipping.{nothing_skipped, header_at, IsGone, WouldStand, AtChunk, DropsChunk, MaySkip}
 use Rattle.wire_codec.proofs.ChunkLemmas.{le_number-le_bytes}
-use Rattle.wire_codec.proofs.CodecLemmas.{chunk_failed, stands_without}
+use Rattle.wire_codec.proofs.CodecLemmas.{chunk_failed, stands_without, takes_later}
 use Rattle.wire_codec.proofs.ConstantLimit.{one, splits_one, stands_on, decodes_one}
 use Rattle.wire_codec.proofs.GoingOnLemmas.{awaited_under, other_under, last_under, middle_under, alone_under}
 use Rattle.wire_codec.proofs.TakenChunk.{id_at_open, chunk_len_small, Taken, len_taken}
@@ -210,6 +211,23 @@ refused_header skipped codec src full error small closed w is none long some mor
           (refl, refl, long', some', inl (refl, past, w.header ∙ ap (λ (b : Option OpenChunk). header_at b (header_of codec)) closed ∙ none)),
       w,
     )
+
+-- full chunks were dropped in a call that began with this packet
+abbrev pub HasSkipped : Skipped → PacketCodec → List ℕ → CodecState → Type 0
+HasSkipped skipped codec unread full =
+    (mid : CodecState) × WouldStand skipped codec unread mid
+    × Splits full.held (input_of full) (first_id full) full.limit [] mid.held mid.unread × (first_id mid ≡ first_id full)
+
+pub skips_later : (answer : Result Progress PacketCodecError) {start : Skipped} {first : PacketCodec} {whole : List ℕ} {skipped : Skipped} {codec : PacketCodec} {src : List ℕ}
+    (new : Skipped) (after : PacketCodec) (rest : List ℕ) {full : CodecState} → WouldStand start first whole full → HasSkipped skipped codec src full
+    → codec.max_allowed_packet ≡ first.max_allowed_packet → ((mid : CodecState) → WouldStand skipped codec src mid → DropsChunk answer mid new after rest)
+    → DropsChunk answer full new after rest
+skips_later answer new after rest {full = full} w run same drops =
+    let mid = run.0 in
+    let d = drops mid run.1 in
+    let takes = takes_later answer (first_id mid) (first_id full) mid.limit full.limit full.held (input_of full) mid.held mid.unread d.0.id d.0.header d.0.unread d.0.held
+    run.3 (run.1.limit ∙ same ∙ sym w.limit) run.2 d.1 in
+    (d.0, takes, d.2)
 
 -- what a codec needs to go on with a packet of which full chunks were dropped
 pub may_skip_closed : (answer : Bool) (skipped : Skipped) (codec : PacketCodec) (unread : List ℕ) → skipped.begun ≡ None
