@@ -167,33 +167,34 @@ framing_ends s n p q x y short long e =
     absurd (omega (arith, ap (λ (z : List ℕ). length z) same))
 
 -- one payload alone has this framing
+last_block_is : (b : ℕ) (p : List ℕ) → length p < b * max_payload + max_payload → take (b * max_payload) p ++ block b p ≡ p
+last_block_is b p high =
+    ap (λ (z : List ℕ). take (b * max_payload) p ++ z) (take_all max_payload (drop (b * max_payload) p) (rw length-drop (omega arith))) ∙ take-append-drop (b * max_payload) p
+
 framing_cancel_same : (s : ℕ) (p q x y : List ℕ) → length p / max_payload ≡ length q / max_payload
     → framing s p ++ x ≡ framing s q ++ y → (p ≡ q) × (x ≡ y)
 framing_cancel_same s p q x y same e =
     let b : ℕ = length p / max_payload in
-    let c : List ℕ = take max_payload (drop (b * max_payload) p) in
-    let d : List ℕ = take max_payload (drop (b * max_payload) q) in
-    let e' : chunks b s p ++ (chunk (s + b) c ++ x) ≡ chunks b s q ++ (chunk (s + b) d ++ y) =
-    sym (append_assoc (chunks b s p) (chunk (s + b) c) x) ∙ e ∙ ap (λ (k : ℕ). chunks (suc k) s q ++ y) (sym same)
-    ∙ append_assoc (chunks b s q) (chunk (s + b) d) y in
-    let low : b * max_payload ≤ length q = subst (λ (k : ℕ). k * max_payload ≤ length q) (sym same) (blocks_below (length q)) in
-    let high : length q < b * max_payload + max_payload = subst (λ (k : ℕ). length q < k * max_payload + max_payload) (sym same) (blocks_above (length q)) in
-    let below : b * max_payload ≤ length p = blocks_below (length p) in
-    let above : length p < b * max_payload + max_payload = blocks_above (length p) in
-    let parts = chunks_cancel b s p q (chunk (s + b) c ++ x) (chunk (s + b) d ++ y) below low e' in
-    let last = chunk_cancel (s + b) (s + b) c d x y (length-block b p) (length-block b q) parts.1 in
-    let whole_c : c ≡ drop (b * max_payload) p = take_all max_payload (drop (b * max_payload) p) (rw length-drop (omega arith)) in
-    let whole_d : d ≡ drop (b * max_payload) q = take_all max_payload (drop (b * max_payload) q) (rw length-drop (omega arith)) in
-    let joined : p ≡ q = sym (take-append-drop (b * max_payload) p) ∙ ap₂ (λ (u v : List ℕ). u ++ v) parts.0 (sym whole_c ∙ last.1 ∙ whole_d) ∙ take-append-drop (b * max_payload) q in
-    (joined, last.2)
+    let count : suc (length q / max_payload) ≡ suc b + 0 = omega arith in
+    let low : b * max_payload ≤ length q = rw same (blocks_below (length q)) in
+    let high : length q < b * max_payload + max_payload = rw same (blocks_above (length q)) in
+    let parts = next_chunk s b 0 p q (chunk (s + b) (block b p) ++ x) y (blocks_below (length p)) low
+    (sym (append_assoc (chunks b s p) (chunk (s + b) (block b p)) x) ∙ e ∙ ap (λ (k : ℕ). chunks k s q ++ y) count) in
+    let last = chunk_cancel (s + b) (s + b) (block b p) (block b q) x y (length-block b p) (length-block b q) parts.1 in
+    (sym (last_block_is b p (blocks_above (length p))) ∙ ap₂ (λ (u v : List ℕ). u ++ v) parts.0 last.1 ∙ last_block_is b q high, last.2)
 
 -- a framing is told apart from what follows it
+framing_apart : (s : ℕ) (p q x y : List ℕ) → length p / max_payload < length q / max_payload → framing s p ++ x ≡ framing s q ++ y → ⊥
+framing_apart s p q x y short e =
+    let b : ℕ = length q / max_payload in
+    framing_ends s b p q x (chunk (s + b) (block b q) ++ y) short (blocks_below (length q)) (e ∙ append_assoc (chunks b s q) (chunk (s + b) (block b q)) y)
+
 pub framing_cancel : UniqueFraming
 framing_cancel s p q x y e =
     elim (cases_lt (length p / max_payload) (length q / max_payload)) [
-      | inl short ↦ absurd (framing_ends s (length q / max_payload) p q x (chunk (s + length q / max_payload) (take max_payload (drop (length q / max_payload * max_payload) q)) ++ y) short (blocks_below (length q)) (e ∙ append_assoc (chunks (length q / max_payload) s q) (chunk (s + length q / max_payload) (take max_payload (drop (length q / max_payload * max_payload) q))) y))
+      | inl short ↦ absurd (framing_apart s p q x y short e)
       | inr long ↦ elim (cases_lt (length q / max_payload) (length p / max_payload)) [
-        | inl short ↦ absurd (framing_ends s (length p / max_payload) q p y (chunk (s + length p / max_payload) (take max_payload (drop (length p / max_payload * max_payload) p)) ++ x) short (blocks_below (length p)) (sym e ∙ append_assoc (chunks (length p / max_payload) s p) (chunk (s + length p / max_payload) (take max_payload (drop (length p / max_payload * max_payload) p))) x))
+        | inl short ↦ absurd (framing_apart s q p y x short (sym e))
         | inr other ↦ framing_cancel_same s p q x y (omega arith) e
       ]
     ]

@@ -33,13 +33,10 @@ outcome_under answer {limits = limits} {place = place} {limit = limit} {h = None
     ]
 outcome_under answer {limits = limits} {place = place} {h = Some (id, needed)} {src = src} {held = held} header rest dst g d =
     let s = g.aligned.1 in
-    let d' : FinishesChunk (slice_index src 3) (chunk_len src) src held answer header rest dst =
-    subst (λ (n : ℕ). FinishesChunk (slice_index src 3) n src held answer header rest dst) (sym s.2)
-    (subst (λ (n : ℕ). FinishesChunk n needed src held answer header rest dst) (sym s.1) d) in
     let allowed : Allows (limit_at limits place (length held / max_payload)) (length held + chunk_len src) =
     subst (λ (n : ℕ). Allows (limit_at limits place (length held / max_payload)) (length held + n)) (sym s.2) g.marked.0 in
     outcome_finished (rest_limit limits place held src) src held answer header rest dst g.aligned.0 s.0 (omega (arith, s.2, s.3))
-    (allows_bound (limit_at limits place (length held / max_payload)) (length held + chunk_len src) allowed) d'
+    (allows_bound (limit_at limits place (length held / max_payload)) (length held + chunk_len src) allowed) (rw (s.1, s.2) d)
 
 -- where the header behind the chunk in front stands, past the mark
 behind_mark : (limits : Limits) (mark place limit : ℕ) (h : Option (ℕ × ℕ)) (src held : List ℕ) → GoesOnAt limits mark place limit h src held

@@ -55,9 +55,7 @@ front_chunk limit id None src (aligned, empty, long, whole, small, is, within) =
 }
 front_chunk limit id (Some (i, needed)) src (aligned, empty, long, whole, small, is, within) =
     let s = aligned.1 in
-    subst (λ (n : ℕ). FinishesChunk n needed src [] (Ok (Some (Last id))) None (drop (4 + chunk_len src) src) (front_payload src)) s.1
-    (subst (λ (n : ℕ). FinishesChunk (slice_index src 3) n src [] (Ok (Some (Last id))) None (drop (4 + chunk_len src) src) (front_payload src)) s.2
-    (front_finishes id src whole (omega (arith, s.2, s.3)) small is))
+    rw (sym s.1, sym s.2) (front_finishes id src whole (omega (arith, s.2, s.3)) small is)
 
 -- what stands after it
 abbrev pub after_front : ℕ → ℕ → List ℕ → CodecState

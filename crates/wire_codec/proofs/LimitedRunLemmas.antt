@@ -21,17 +21,6 @@ use Rattle.wire_codec.proofs.TakenChunk.{none_some}
 abbrev pub Pieces : Type 0
 Pieces = List (ℕ × Bor (List ℕ))
 
--- a run that hands out no more
-splits_still : {limits : Limits} {place : ℕ} {d S : List ℕ} {s : ℕ} {ps : List (List ℕ)} {q W r V : List ℕ}
-    → SplitsUnder limits place d S s ps q W → SplitsUnder limits (place_after place ps) q (front (id_after s ps) q ++ W) (id_after s ps) [] r V
-    → SplitsUnder limits place d S s ps r V
-splits_still {ps = ps} a b = rw (append-nil ps) at (splits_trans a b)
-
-delivers_still : {limits : Limits} {place : ℕ} {d S : List ℕ} {s : ℕ} {ps : List (List ℕ)} {q W : List ℕ} {e : Ending} {r V : List ℕ}
-    → SplitsUnder limits place d S s ps q W → DeliversUnder limits (place_after place ps) q (front (id_after s ps) q ++ W) (id_after s ps) [] e r V
-    → DeliversUnder limits place d S s ps e r V
-delivers_still a b = record { splits = splits_still a b.splits; ends = b.ends }
-
 -- nothing unfinished
 unread_nothing : (place : ℕ) → unread_place place [] ≡ place
 unfolding max_payload
@@ -104,16 +93,6 @@ pub stays_on : (error : PacketCodecError) {limits : Limits} {mark place limit : 
     → GoesOnAt limits mark place limit header src dst
 stays_on error s id header src dst g t is = stays s id header src dst g (rw is at t)
 
--- a run that hands out no more stops as its last step does
-pub runs_still : (answer : Result (Unit {0}) PacketCodecError) {limits : Limits} {place : ℕ} {d S : List ℕ} {s : ℕ} {ps : List (List ℕ)} {q W : List ℕ} (id : ℕ) (header : Option (ℕ × ℕ)) (src dst : List ℕ)
-    → SplitsUnder limits place d S s ps q W → RunsUnder limits (place_after place ps) (id_after s ps) (front (id_after s ps) q ++ W) q answer [] id header src dst
-    → RunsUnder limits place s S d answer ps id header src dst
-runs_still (Ok u) id header src dst a t = (delivers_still a t.0, t.1, t.2, t.3)
-runs_still (Err PacketTooLarge) id header src dst a t = (delivers_still a t.0, t.1, t.2)
-runs_still (Err PacketsOutOfSync) id header src dst a t = (t.0, t.1, delivers_still a t.2, t.3, t.4, t.5, t.6)
-runs_still (Err OutOfMemory) id header src dst a t = (splits_still a t.0, t.1, t.2, t.3)
-runs_still (Err (Io e)) id header src dst a t = absurd t
-
 -- a run, and then one over what came since
 runs_trans : (answer : Result (Unit {0}) PacketCodecError) {limits : Limits} {place : ℕ} {d S : List ℕ} {s : ℕ} {ps : List (List ℕ)} {q W : List ℕ} (qs : List (List ℕ)) (id : ℕ) (header : Option (ℕ × ℕ)) (src dst : List ℕ)
     → SplitsUnder limits place d S s ps q W → RunsUnder limits (place_after place ps) (id_after s ps) (front (id_after s ps) q ++ W) q answer qs id header src dst
@@ -124,6 +103,12 @@ runs_trans (Err PacketsOutOfSync) {s = s} {ps = ps} qs id header src dst a b = (
 runs_trans (Err OutOfMemory) {place = place} {s = s} {ps = ps} qs id header src dst a b =
     (splits_trans a b.0, rw (id_after-append s ps qs) b.1, b.2, rw (place_after-append place ps qs) b.3)
 runs_trans (Err (Io e)) qs id header src dst a b = absurd b
+
+-- where it hands out no more, it stops as its last step does
+pub runs_still : (answer : Result (Unit {0}) PacketCodecError) {limits : Limits} {place : ℕ} {d S : List ℕ} {s : ℕ} {ps : List (List ℕ)} {q W : List ℕ} (id : ℕ) (header : Option (ℕ × ℕ)) (src dst : List ℕ)
+    → SplitsUnder limits place d S s ps q W → RunsUnder limits (place_after place ps) (id_after s ps) (front (id_after s ps) q ++ W) q answer [] id header src dst
+    → RunsUnder limits place s S d answer ps id header src dst
+runs_still answer {ps = ps} id header src dst a t = rw (append-nil ps) at (runs_trans answer [] id header src dst a t)
 
 pub runs_join_under : (answer : Result (Unit {0}) PacketCodecError) {limits : Limits} {place : ℕ} {d S : List ℕ} {s : ℕ} {ps : List (List ℕ)} {q W : List ℕ} (x : List ℕ) (qs : List (List ℕ)) (id : ℕ) (header : Option (ℕ × ℕ)) (src dst : List ℕ)
     → SplitsUnder limits place d S s ps q W → RunsUnder limits (place_after place ps) (id_after s ps) (front (id_after s ps) q ++ (W ++ x)) q answer qs id header src dst

@@ -21,7 +21,7 @@ pub step_takes : (answer : Result Progress PacketCodecError) (start before after
     → TakesChunk (first_id start) (input_of start) start.held start.limit answer after.id after.header after.unread after.held
 step_takes answer start before after same run takes =
     takes_later answer (first_id before) (first_id start) before.limit start.limit start.held (input_of start) before.held before.unread after.id after.header after.unread after.held run.2 same run.0
-    (takes (subst (λ (z : ℕ). StandsAt z before.header before.unread before.held) (sym same) run.1))
+    (takes (rw same run.1))
 
 -- the same under limits
 abbrev pub HasReadUnder : Limits → ℕ → ℕ → CodecState → CodecState → Type 0
@@ -34,6 +34,4 @@ pub step_takes_under : (answer : Result Progress PacketCodecError) (limits : Lim
     → TakesOn limits mark place start.limit (first_id start) (input_of start) start.held answer after.id after.header after.unread after.held
 step_takes_under answer limits mark place start before after same run takes =
     takes_on_under answer mark start.limit after.id after.header after.unread after.held run.0
-    (subst (λ (z : ℕ). TakesOn limits mark place z (first_id start) (front (first_id start) before.held ++ before.unread) before.held answer after.id after.header after.unread after.held) same
-    (subst (λ (z : ℕ). TakesOn limits mark place before.limit z (front z before.held ++ before.unread) before.held answer after.id after.header after.unread after.held) run.2
-    (takes limits mark place (subst (λ (z : ℕ). GoesOnAt limits mark place z before.header before.unread before.held) (sym same) run.1))))
+    (rw (run.2, same) at (takes limits mark place (rw same run.1)))

@@ -122,11 +122,5 @@ run_goes_on_is before between after more next stopped answer gained others could
     let S : List ℕ = input_of before ++ more in
     let t : ℕ = id_after s gained in
     let here = stopped_splits stopped before.held S s before.limit gained between.id between.header between.unread between.held (open_small before.id before.held) could run in
-    let opened : RunsFrom t (front t between.held ++ between.unread ++ next) between.held between.limit answer others after.id after.header after.unread after.held =
-    subst (λ (z : ℕ). RunsFrom z (front z between.held ++ between.unread ++ next) between.held between.limit answer others after.id after.header after.unread after.held) here.1 on in
-    let limited : RunsFrom t (front t between.held ++ between.unread ++ next) between.held before.limit answer others after.id after.header after.unread after.held =
-    subst (λ (z : ℕ). RunsFrom t (front t between.held ++ between.unread ++ next) between.held z answer others after.id after.header after.unread after.held) same opened in
-    let grouped : RunsFrom t (front t between.held ++ (between.unread ++ next)) between.held before.limit answer others after.id after.header after.unread after.held =
-    subst (λ (z : List ℕ). RunsFrom t z between.held before.limit answer others after.id after.header after.unread after.held) (append_assoc (front t between.held) between.unread next) limited in
-    subst (λ (z : List ℕ). RunsFrom s z before.held before.limit answer (gained ++ others) after.id after.header after.unread after.held) (append_assoc (input_of before) more next)
-    (runs_join answer before.held S s before.limit gained between.held between.unread next others after.id after.header after.unread after.held here.0 grouped)
+    rw (append_assoc (input_of before) more next) at (runs_join answer before.held S s before.limit gained between.held between.unread next others after.id after.header after.unread after.held here.0
+    (rw (here.1, same, append_assoc (front t between.held) between.unread next) at on))

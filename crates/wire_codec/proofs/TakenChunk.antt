@@ -159,10 +159,7 @@ outcome_of None limit src held answer header rest dst stands d =
     ]
 outcome_of (Some (id, needed)) limit src held answer header rest dst stands d =
     let s = stands.1 in
-    let d' : FinishesChunk (slice_index src 3) (chunk_len src) src held answer header rest dst =
-    subst (λ (n : ℕ). FinishesChunk (slice_index src 3) n src held answer header rest dst) (sym s.2)
-    (subst (λ (n : ℕ). FinishesChunk n needed src held answer header rest dst) (sym s.1) d) in
-    outcome_finished limit src held answer header rest dst stands.0 s.0 (omega (arith, s.2, s.3)) (omega (arith, s.2, s.4)) d'
+    outcome_finished limit src held answer header rest dst stands.0 s.0 (omega (arith, s.2, s.3)) (omega (arith, s.2, s.4)) (rw (s.1, s.2) d)
 
 -- the taken chunk joins the full ones
 pub chunk_joins : (first limit : ℕ) (src held : List ℕ) (info : ChunkInfo) (header : Option (ℕ × ℕ)) (rest dst : List ℕ)

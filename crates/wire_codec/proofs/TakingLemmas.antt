@@ -53,7 +53,7 @@ has_taken_more took joins limits mark place first d S old mid new before after r
     let gained = run.0 in
     let next = takes (place_after place gained) run.3 in
     let packet = next.0 in
-    let known = subst (λ (z : ℕ). DecodesOn limits mark (place_after place gained) z (front z before.held ++ before.unread) before.held (Ok true) after.id after.header after.unread packet) run.4 next.2 in
+    let known = rw run.4 at next.2 in
     let small : after.id < 256 = let e = known.0.2 in omega arith in (
       gained ++ packet ∷ [],
       joins old mid new gained (packet ∷ []) run.1 next.1,
@@ -68,5 +68,4 @@ pub has_taken_all : {O : Type 0} (took : O → List (List ℕ) → O → Type 0)
     → RunsUnder limits (place_after place run.0) (first_id before) (input_of before) before.held answer [] after.id after.header after.unread after.held
     → RunsUnder limits place first S d answer run.0 after.id after.header after.unread after.held
 has_taken_all took limits mark place first d S old mid before after answer run stops =
-    runs_still answer after.id after.header after.unread after.held run.2
-    (subst (λ (z : ℕ). RunsUnder limits (place_after place run.0) z (front z before.held ++ before.unread) before.held answer [] after.id after.header after.unread after.held) run.4 stops)
+    runs_still answer after.id after.header after.unread after.held run.2 (rw run.4 at stops)
