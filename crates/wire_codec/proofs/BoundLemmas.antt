@@ -53,22 +53,10 @@ goes_on_at : (limits : Limits) (place limit : ℕ) (header : Option (ℕ × ℕ)
     → ((i : ℕ) → (IsSome header → 4 ≤ i) → i < length src → limits (unread_place place held + i) ≡ Some limit)
     → WasAllowed limits place header held
     → (mark : ℕ) × GoesOnAt limits mark place limit header src held
-goes_on_at limits place limit None src held aligned same allowed = (
-  0,
-  record {
-    aligned = aligned;
-    marked = omega arith;
-    same = λ i low high. same i (λ none. absurd cc) high;
-  },
-)
-goes_on_at limits place limit (Some h) src held aligned same allowed = (
-  unread_place place held + 4,
-  record {
-    aligned = aligned;
-    marked = (allowed, omega arith);
-    same = λ i low high. same i (λ some. omega arith) high;
-  },
-)
+goes_on_at limits place limit None src held aligned same allowed =
+    (0, record { aligned = aligned; marked = omega arith; same = λ i low high. same i (λ none. absurd cc) high })
+goes_on_at limits place limit (Some h) src held aligned same allowed =
+    (unread_place place held + 4, record { aligned = aligned; marked = (allowed, omega arith); same = λ i low high. same i (λ some. omega arith) high })
 
 pub aligned_goes_on_is : AlignedGoesOn
 aligned_goes_on_is limits place state aligned = (

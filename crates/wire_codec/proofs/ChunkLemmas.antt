@@ -9,9 +9,6 @@ use Rattle.wire_codec.specs.Delivery.{IsWholeChunks}
 use Rattle.wire_codec.specs.Framing.{max_payload, max_payload_is, header, chunk, chunks, framing}
 use Rattle.wire_codec.specs.Laws.{UniqueFraming, FramedLength}
 
-pub max_payload_pos : 0 < max_payload
-max_payload_pos = omega (arith, max_payload_is)
-
 -- whole chunks in n bytes, and what is over
 pub blocks_below : (n : ℕ) → n / max_payload * max_payload ≤ n
 unfolding max_payload
@@ -20,10 +17,6 @@ blocks_below n = omega arith
 pub blocks_above : (n : ℕ) → n < n / max_payload * max_payload + max_payload
 unfolding max_payload
 blocks_above n = omega arith
-
-pub blocks_are : (k n : ℕ) → k * max_payload ≤ n → n < k * max_payload + max_payload → n / max_payload ≡ k
-unfolding max_payload
-blocks_are k n h g = omega arith
 
 pub blocks_whole : (n : ℕ) → n % max_payload ≡ 0 → n ≡ n / max_payload * max_payload
 unfolding max_payload

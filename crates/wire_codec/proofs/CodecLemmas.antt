@@ -47,20 +47,15 @@ decodes_later (Err PacketsOutOfSync) first limit before input held src id header
 decodes_later (Err OutOfMemory) first limit before input held src id header rest dst s d = (splits_on s d.0, d.1, d.2, d.3)
 decodes_later (Err (Io e)) first limit before input held src id header rest dst s d = d
 
-takes_on : (answer : Result Progress PacketCodecError) (first limit : ℕ) (before input held src : List ℕ) (id : ℕ) (header : Option (ℕ × ℕ)) (rest dst : List ℕ)
-    → Splits before input first limit [] held src → TakesChunk first (front first held ++ src) held limit answer id header rest dst
-    → TakesChunk first input before limit answer id header rest dst
-takes_on (Ok Whole) first limit before input held src id header rest dst s t = decodes_later (Ok true) first limit before input held src id header rest dst s t
-takes_on (Ok Starved) first limit before input held src id header rest dst s t = decodes_later (Ok false) first limit before input held src id header rest dst s t
-takes_on (Ok More) first limit before input held src id header rest dst s t = (splits_on s t.0, t.1, t.2)
-takes_on (Err e) first limit before input held src id header rest dst s t = decodes_later (Err e) first limit before input held src id header rest dst s t
-
 -- one chunk more in a call
 pub takes_later : (answer : Result Progress PacketCodecError) (opened first now limit : ℕ) (before input held src : List ℕ) (id : ℕ) (header : Option (ℕ × ℕ)) (rest dst : List ℕ)
     → opened ≡ first → now ≡ limit → Splits before input first limit [] held src
     → TakesChunk opened (front opened held ++ src) held now answer id header rest dst
     → TakesChunk first input before limit answer id header rest dst
-takes_later answer opened first now limit before input held src id header rest dst o n s t =
-    takes_on answer first limit before input held src id header rest dst s
-    (subst (λ (z : ℕ). TakesChunk first (front first held ++ src) held z answer id header rest dst) n
-    (subst (λ (z : ℕ). TakesChunk z (front z held ++ src) held now answer id header rest dst) o t))
+takes_later (Ok Whole) opened first now limit before input held src id header rest dst o n s t = decodes_later (Ok true) first limit before input held src id header rest dst s (rw (o, n) at t)
+takes_later (Ok Starved) opened first now limit before input held src id header rest dst o n s t = decodes_later (Ok false) first limit before input held src id header rest dst s (rw (o, n) at t)
+takes_later (Ok More) opened first now limit before input held src id header rest dst o n s t = let u = rw (o, n) at t in (splits_on s u.0, u.1, u.2)
+takes_later (Err e) opened first now limit before input held src id header rest dst o n s t =
+    decodes_later (Err e) first limit before input held src id header rest dst s
+    (subst (λ (z : ℕ). DecodesFrom first (front first held ++ src) held z (Err e) id header rest dst) n
+    (subst (λ (z : ℕ). DecodesFrom z (front z held ++ src) held now (Err e) id header rest dst) o t))

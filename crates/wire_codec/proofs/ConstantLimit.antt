@@ -88,7 +88,7 @@ encoded_first_is s L (p ∷ ps) (o ∷ qs) x e q W small d =
         unfinished_whole = d.splits.unfinished_whole;
         within = within_rest L qs q d.splits.within.1 d.splits.within.2;
       };
-      ends = subst (λ (z : List ℕ). Ends e (id_after (next_id s z) qs) L q W) (sym parts.0) d.ends;
+      ends = rw (sym parts.0) at d.ends;
     } in
     let more = encoded_first_is (next_id s p) L ps qs x e q W (All-tail (λ (o : List ℕ). length o ≤ L) p ps small) here in
     (more.0, ap₂ (λ (u : List ℕ) (v : List (List ℕ)). u ∷ v) (sym parts.0) more.1, more.2)

@@ -36,12 +36,8 @@ rest_within L d (p ∷ ps) q h w =
 -- a chunk that is to be accepted is no end
 pub no_end : (e : Ending) (s L l : ℕ) (q W : List ℕ) → chunk_len W ≡ l → 4 + l ≤ length W → (l ≡ 0) ⊎ (length q + l ≤ L) → slice_index W 3 ≡ id_at s q
     → Ends e s L q W → ⊥
-no_end Waiting s L l q W len long (inl none) id (inl h) = absurd (omega arith)
-no_end Waiting s L l q W len long (inl none) id (inr h) = absurd (omega (arith, h.0, h.2))
-no_end Waiting s L l q W len long (inr fits) id (inl h) = absurd (omega arith)
-no_end Waiting s L l q W len long (inr fits) id (inr h) = absurd (omega (arith, h.2))
-no_end TooLarge s L l q W len long (inl none) id h = absurd (omega (arith, h.1))
-no_end TooLarge s L l q W len long (inr fits) id h = absurd (omega (arith, h.2))
+no_end Waiting s L l q W len long fits id h = grind (arith, long, len, fits, h)
+no_end TooLarge s L l q W len long fits id h = grind (arith, len, fits, h)
 no_end OutOfSync s L l q W len long fits id h = h.2 id
 
 -- the three ends exclude each other
@@ -49,16 +45,12 @@ pub one_ending : (e f : Ending) (s L : ℕ) (q W : List ℕ) → Ends e s L q W 
 one_ending Waiting Waiting s L q W h g = refl
 one_ending TooLarge TooLarge s L q W h g = refl
 one_ending OutOfSync OutOfSync s L q W h g = refl
-one_ending Waiting TooLarge s L q W (inl h) g = absurd (omega (arith, g.0))
-one_ending Waiting TooLarge s L q W (inr h) g = absurd (omega (arith, h.1, g.2))
-one_ending Waiting OutOfSync s L q W (inl h) g = absurd (omega (arith, g.0))
-one_ending Waiting OutOfSync s L q W (inr h) g = absurd (omega (arith, h.2, g.0))
-one_ending TooLarge Waiting s L q W g (inl h) = absurd (omega (arith, g.0))
-one_ending TooLarge Waiting s L q W g (inr h) = absurd (omega (arith, h.1, g.2))
-one_ending OutOfSync Waiting s L q W g (inl h) = absurd (omega (arith, g.0))
-one_ending OutOfSync Waiting s L q W g (inr h) = absurd (omega (arith, h.2, g.0))
-one_ending TooLarge OutOfSync s L q W h g = elim g.1 [ inl none ↦ absurd (omega (arith, h.1)) | inr fits ↦ absurd (omega (arith, h.2)) ]
-one_ending OutOfSync TooLarge s L q W g h = elim g.1 [ inl none ↦ absurd (omega (arith, h.1)) | inr fits ↦ absurd (omega (arith, h.2)) ]
+one_ending Waiting TooLarge s L q W h g = grind (arith, h, g)
+one_ending Waiting OutOfSync s L q W h g = grind (arith, h, g.0)
+one_ending TooLarge Waiting s L q W h g = grind (arith, h, g)
+one_ending OutOfSync Waiting s L q W h g = grind (arith, h.0, g)
+one_ending TooLarge OutOfSync s L q W h g = grind (arith, h, g.1)
+one_ending OutOfSync TooLarge s L q W h g = grind (arith, h.1, g)
 
 -- what a header says
 pub chunk_len-chunk : (i : ℕ) (c r : List ℕ) → length c ≤ max_payload → chunk_len (chunk i c ++ r) ≡ length c

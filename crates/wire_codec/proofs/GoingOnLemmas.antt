@@ -131,43 +131,21 @@ middle_under first {limits = limits} {mark = mark} {place = place} {limit = limi
 pub other_under : (first : ℕ) (info : ChunkInfo) {limits : Limits} {mark place limit : ℕ} {h : Option (ℕ × ℕ)} {id : ℕ} {src held : List ℕ} {header : Option (ℕ × ℕ)} {rest dst : List ℕ}
     → GoesOnAt limits mark place limit h src held → IsSpelled src → id ≡ id_at first held → id_of info ≢ id → Taken (rest_limit limits place held src) src held info header rest dst
     → DecodesOn limits mark place first (front first held ++ src) held (Err PacketsOutOfSync) id header rest dst
-other_under first info {limits = limits} {place = place} {src = src} {held = held} g b at apart t = (
-  (
-    held,
-    src,
-    record { splits = splits_here_under limits place first held src g.aligned.0; ends = (t.whole, t.fits, λ e. apart (sym (taken_id b t) ∙ e ∙ sym at)) },
-    t.dst_is,
-    t.rest_is,
-    at,
-    t.none,
-  ),
-  λ e. absurd cc,
-)
+other_under first info {limits = limits} {place = place} {src = src} {held = held} g b at apart t =
+    let splits = splits_here_under limits place first held src g.aligned.0 in
+    let other : slice_index src 3 ≢ id_at first held = λ e. apart (sym (taken_id b t) ∙ e ∙ sym at) in
+    ((held, src, record { splits = splits; ends = (t.whole, t.fits, other) }, t.dst_is, t.rest_is, at, t.none), λ e. absurd cc)
 
 -- more bytes are needed
 pub awaited_under : (first : ℕ) {limits : Limits} {mark place limit : ℕ} {h : Option (ℕ × ℕ)} {id : ℕ} {src held : List ℕ} (header : Option (ℕ × ℕ)) (rest dst : List ℕ)
     → GoesOnAt limits mark place limit h src held → id ≡ id_at first held → Outcome (rest_limit limits place held src) src held (Ok None) header rest dst
     → DecodesOn limits mark place first (front first held ++ src) held (Ok false) id header rest dst
 awaited_under first {limits = limits} {place = place} {src = src} {held = held} header rest dst g at (r, d, inl (less, x)) =
-    rw (r, d, x) (
-      (
-        record { splits = splits_here_under limits place first held src g.aligned.0; ends = inl less },
-        at,
-        (g.aligned.0, tt),
-        (λ s. absurd (none_some s), λ long. absurd (omega arith)),
-      ),
-      tt,
-    )
+    let splits = splits_here_under limits place first held src g.aligned.0 in
+    rw (r, d, x) ((record { splits = splits; ends = inl less }, at, (g.aligned.0, tt), (λ s. absurd (none_some s), λ long. absurd (omega arith))), tt)
 awaited_under first {limits = limits} {place = place} {src = src} {held = held} header rest dst g at (r, d, inr (long, some, small, less, x)) =
-    rw (r, d, x) (
-      (
-        record { splits = splits_here_under limits place first held src g.aligned.0; ends = inr (some, small, less) },
-        at,
-        (g.aligned.0, (long, refl, refl, some)),
-        (λ s. long, λ l. search rules),
-      ),
-      tt,
-    )
+    let splits = splits_here_under limits place first held src g.aligned.0 in
+    rw (r, d, x) ((record { splits = splits; ends = inr (some, small, less) }, at, (g.aligned.0, (long, refl, refl, some)), (λ s. long, λ l. search rules)), tt)
 
 -- the chunk is refused, or no memory is found
 pub failed_under : (error : PacketCodecError) (first : ℕ) {limits : Limits} {mark place limit : ℕ} {h : Option (ℕ × ℕ)} {id : ℕ} {src held : List ℕ} (header : Option (ℕ × ℕ)) (rest dst : List ℕ)
@@ -258,8 +236,4 @@ goes_on_start limit id (Some h) src held pieces aligned = record {
 -- nothing has come yet
 pub empty_goes_on_is : EmptyGoesOn
 unfolding max_payload
-empty_goes_on_is limits place id limit = record {
-  aligned = (refl, tt);
-  marked = omega arith;
-  same = λ i low high. absurd (omega arith);
-}
+empty_goes_on_is limits place id limit = record { aligned = (refl, tt); marked = omega arith; same = λ i low high. absurd (omega arith) }

@@ -136,10 +136,7 @@ one_reading_under limits e f s place d (p ∷ ps) (o ∷ qs) q r W V wq wr aq ar
     (sym (append_assoc (framing s p) (stream (next_id s p) ps) (front (id_after (next_id s p) ps) q ++ W)) ∙ same
     ∙ append_assoc (framing s o) (stream (next_id s o) qs) (front (id_after (next_id s o) qs) r ++ V)) in
     let rest : X ≡ Y p = parts.1 ∙ ap (λ (z : List ℕ). Y z) (sym parts.0) in
-    let er' : Ends f (id_after (next_id s p) qs) (rest_limit limits (place_after (place + framed_size p) qs) r V) r V =
-    subst (λ (z : List ℕ). Ends f (id_after (next_id s z) qs) (rest_limit limits (place_after (place + framed_size z) qs) r V) r V) (sym parts.0) er in
-    let ar' : AreUnder limits (place + framed_size p) [] qs r = subst (λ (z : List ℕ). AreUnder limits (place + framed_size z) [] qs r) (sym parts.0) ar.1 in
-    let more = one_reading_under limits e f (next_id s p) (place + framed_size p) [] ps qs q r W V wq wr aq.1 ar' rest eq er' in
+    let more = one_reading_under limits e f (next_id s p) (place + framed_size p) [] ps qs q r W V wq wr aq.1 (rw (sym parts.0) at ar.1) rest eq (rw (sym parts.0) at er) in
     (ap₂ (λ (u : List ℕ) (v : List (List ℕ)). u ∷ v) parts.0 more.0, more.1, more.2)
 
 -- a stream delivers one thing
@@ -147,11 +144,7 @@ pub one_delivery_under_is : OneLimitedDelivery
 one_delivery_under_is limits place d S s ps qs e f q r W V a b =
     let parts = one_reading_under limits e f s place d ps qs q r W V a.splits.unfinished_whole b.splits.unfinished_whole a.splits.within b.splits.within
     (sym a.splits.is ∙ b.splits.is) a.ends b.ends in
-    let other : Ends f (id_after s ps) (rest_limit limits (place_after place ps) q W) q W =
-    subst (λ (z : List (List ℕ)). Ends f (id_after s z) (rest_limit limits (place_after place z) q W) q W) (sym parts.0)
-    (subst (λ (z : List ℕ). Ends f (id_after s qs) (rest_limit limits (place_after place qs) z W) z W) (sym parts.1)
-    (subst (λ (z : List ℕ). Ends f (id_after s qs) (rest_limit limits (place_after place qs) r z) r z) (sym parts.2) b.ends)) in
-    (parts.0, one_ending e f (id_after s ps) (rest_limit limits (place_after place ps) q W) q W a.ends other, parts.1, parts.2)
+    (parts.0, one_ending e f (id_after s ps) (rest_limit limits (place_after place ps) q W) q W a.ends (rw (sym parts.0, sym parts.1, sym parts.2) at b.ends), parts.1, parts.2)
 
 -- how long an input is up to the rest
 pub length-stream_under : (s place : ℕ) (ps : List (List ℕ)) → place + length (stream s ps) ≡ place_after place ps

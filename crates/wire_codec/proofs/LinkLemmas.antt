@@ -68,12 +68,10 @@ link_takes (Err error) limit id h src held new header rest dst byte b s l =
 -- what is unread is shorter where a chunk was taken
 pub more_shorter : (answer : Result Progress PacketCodecError) (limit id : ℕ) (h : Option (ℕ × ℕ)) (src held : List ℕ) (new : ℕ) (header : Option (ℕ × ℕ)) (rest dst : List ℕ)
     → answer ≡ Ok More → LinksChain limit id h src held answer new header rest dst → length rest < length src
-more_shorter answer limit id h src held new header rest dst said l =
-    let taken : LinksChain limit id h src held (Ok More) new header rest dst = subst (λ (a : Result Progress PacketCodecError). LinksChain limit id h src held a new header rest dst) said l in
-    taken_shorter h limit src held (Middle id) header rest dst taken.0
+more_shorter answer limit id h src held new header rest dst said l = taken_shorter h limit src held (Middle id) header rest dst (rw said at l).0
 
 pub whole_shorter : (answer : Result Progress PacketCodecError) (limit id : ℕ) (h : Option (ℕ × ℕ)) (src held : List ℕ) (new : ℕ) (header : Option (ℕ × ℕ)) (rest dst : List ℕ)
     → answer ≡ Ok Whole → LinksChain limit id h src held answer new header rest dst → length rest < length src
 whole_shorter answer limit id h src held new header rest dst said l =
-    let taken : AcceptsChunk limit id h src held (Ok true) new header rest dst = subst (λ (a : Result Progress PacketCodecError). LinksChain limit id h src held a new header rest dst) said l in
+    let taken = rw said at l in
     taken_shorter h limit src held taken.info header rest dst taken.chunk

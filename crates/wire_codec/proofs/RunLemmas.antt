@@ -79,8 +79,7 @@ appended_run_is before after more answer gained =
     let first : ℕ = first_id before in
     let chunks : List ℕ = front first before.held in (
       λ stands. stands_append before.limit before.header before.unread more before.held stands,
-      λ run. subst (λ (z : List ℕ). RunsFrom first z before.held before.limit answer gained after.id after.header after.unread after.held)
-          (append-nil (chunks ++ (before.unread ++ more)) ∙ sym (append_assoc chunks before.unread more)) run,
+      λ run. rw (append-nil (chunks ++ (before.unread ++ more)), sym (append_assoc chunks before.unread more)) at run,
     )
 
 -- between two packets

@@ -190,25 +190,21 @@ dropped_alone new {codec = codec} {rest = rest} {full = full} c same more count 
       middle_left new c takes.0.unfinished_whole more count most,
     )
 
-gone_none : (skipped : Skipped) (gone unread : List ℕ) → skipped.begun ≡ None → IsGone skipped.begun gone unread → gone ≡ []
-gone_none skipped gone unread closed g = subst (λ (b : Option OpenChunk). IsGone b gone unread) closed g
-
 -- a header that is past the limit, and isn't dropped
 pub refused_header : (skipped : Skipped) (codec : PacketCodec) (src : List ℕ) (full : CodecState) (error : PacketCodecError)
     → codec.seq_id < 256 → skipped.begun ≡ None → WouldStand skipped codec src full
     → error ≡ PacketTooLarge → header_of codec ≡ None → 4 ≤ length src → 0 < chunk_len src → codec.max_allowed_packet < skipped.held + chunk_len src
     → DropsChunk (Err error) full skipped codec src
 refused_header skipped codec src full error small closed w is none long some more =
-    let same : full.unread ≡ src = w.unread_is ∙ ap (λ (z : List ℕ). z ++ src) (gone_none skipped w.gone full.unread closed w.gone_is) in
+    let none_gone : w.gone ≡ [] = rw closed at w.gone_is in
+    let same : full.unread ≡ src = w.unread_is ∙ ap (λ (z : List ℕ). z ++ src) none_gone in
     let at : full.id ≡ id_at (first_id full) full.held = sym (id_at_open full.id full.held (subst (λ (n : ℕ). n < 256) (sym w.id) small)) in
-    let long' : 4 ≤ length full.unread = subst (λ (z : List ℕ). 4 ≤ length z) (sym same) long in
-    let some' : 0 < chunk_len full.unread = subst (λ (z : List ℕ). 0 < chunk_len z) (sym same) some in
     let len : chunk_len full.unread ≡ chunk_len src = ap (λ (z : List ℕ). chunk_len z) same in
     let past : full.limit < length full.held + chunk_len full.unread = omega (arith, more, len, w.limit, w.held_is) in
-    subst (λ (e : PacketCodecError). DropsChunk (Err e) full skipped codec src) (sym is) (
+    rw is (
       full,
       chunk_failed PacketTooLarge (first_id full) full.id full.limit full.unread full.held full.header full.unread full.held w.stands.0 at
-          (refl, refl, long', some', inl (refl, past, w.header ∙ ap (λ (b : Option OpenChunk). header_at b (header_of codec)) closed ∙ none)),
+          (refl, refl, rw same long, rw same some, inl (refl, past, w.header ∙ ap (λ (b : Option OpenChunk). header_at b (header_of codec)) closed ∙ none)),
       w,
     )
 
@@ -241,9 +237,9 @@ may_skip_closed answer skipped codec unread closed test =
         record {
           limit = refl;
           id = refl;
-          header = sym (ap (λ (b : Option OpenChunk). header_at b (header_of codec)) closed);
+          header = rw closed refl;
           gone = [];
-          gone_is = subst (λ (b : Option OpenChunk). IsGone b [] unread) (sym closed) refl;
+          gone_is = rw closed refl;
           unread_is = refl;
           held_is = long;
           stands = (test zeros long).0 yes;
@@ -252,12 +248,10 @@ may_skip_closed answer skipped codec unread closed test =
       λ may.
           let full = may.0 in
           let w = may.1 in
-          let same : full.unread ≡ unread = w.unread_is ∙ ap (λ (z : List ℕ). z ++ unread) (gone_none skipped w.gone full.unread closed w.gone_is) in
+          let none_gone : w.gone ≡ [] = rw closed at w.gone_is in
+          let same : full.unread ≡ unread = w.unread_is ∙ ap (λ (z : List ℕ). z ++ unread) none_gone in
           let header : full.header ≡ header_of codec = w.header ∙ ap (λ (b : Option OpenChunk). header_at b (header_of codec)) closed in
-          (test full.held w.held_is).1
-          (subst (λ (n : ℕ). StandsAt n (header_of codec) unread full.held) w.limit
-          (subst (λ (h : Option (ℕ × ℕ)). StandsAt full.limit h unread full.held) header
-          (subst (λ (z : List ℕ). StandsAt full.limit full.header z full.held) same w.stands))),
+          (test full.held w.held_is).1 (rw (w.limit, header, same) at w.stands),
     )
 
 -- a header and zeros, as what was dropped of an open chunk
@@ -290,13 +284,12 @@ would_skip skipped begun codec unread opened small some numbers =
       record {
         limit = refl;
         id = refl;
-        header = sym (ap (λ (b : Option OpenChunk). header_at b (header_of codec)) opened);
+        header = rw opened refl;
         gone = gone;
-        gone_is = subst (λ (b : Option OpenChunk). IsGone b gone (gone ++ unread)) (sym opened)
-            (omega (arith, size), some, omega (arith, size, many, numbers.1), λ more. ap₂ header (sym says) (sym bears));
+        gone_is = rw opened (omega (arith, size), some, omega (arith, size, many, numbers.1), λ more. ap₂ header (sym says) (sym bears));
         unread_is = refl;
         held_is = long;
-        stands = (subst (λ (n : ℕ). n % max_payload ≡ 0) (sym long) numbers.0, (four, bears, says, omega (arith, some, numbers.1), omega (arith, long, numbers.3)));
+        stands = (rw long numbers.0, (four, bears, says, omega (arith, some, numbers.1), omega (arith, long, numbers.3)));
       },
     )
 
@@ -311,13 +304,12 @@ may_skip_open answer skipped begun codec unread opened small some test = (
   λ may.
       let full = may.0 in
       let w = may.1 in
-      let gone : IsGone (Some begun) w.gone full.unread = subst (λ (b : Option OpenChunk). IsGone b w.gone full.unread) opened w.gone_is in
+      let gone : IsGone (Some begun) w.gone full.unread = rw opened at w.gone_is in
       let header : full.header ≡ Some (begun.header.seq_id, begun.header.len) = w.header ∙ ap (λ (b : Option OpenChunk). header_at b (header_of codec)) opened in
-      let at : StandsAt full.limit (Some (begun.header.seq_id, begun.header.len)) full.unread full.held =
-      subst (λ (h : Option (ℕ × ℕ)). StandsAt full.limit h full.unread full.held) header w.stands in
+      let at : StandsAt full.limit (Some (begun.header.seq_id, begun.header.len)) full.unread full.held = rw header at w.stands in
       let little = chunk_len_small full.unread gone.3 at.1.0 in
       test.1 (
-        subst (λ (n : ℕ). n % max_payload ≡ 0) w.held_is at.0,
+        rw w.held_is at at.0,
         omega (arith, gone.0, gone.2),
         omega (arith, little, at.1.2),
         omega (arith, at.1.4, w.held_is, w.limit),
