@@ -45,8 +45,7 @@ bounded_delivery_is held input open_id limit payloads unfinished rest d =
 pub decoded_bounded : (answer : Result Bool PacketCodecError) (first : ℕ) (input held : List ℕ) (limit id : ℕ) (header : Option (ℕ × ℕ)) (src dst : List ℕ)
     → answer ≡ Ok false → DecodesFrom first input held limit answer id header src dst → IsBounded limit held dst src
 decoded_bounded answer first input held limit id header src dst waits d =
-    bounded_delivery_is held input first limit [] dst src
-    (subst (λ (z : Result Bool PacketCodecError). DecodesFrom first input held limit z id header src dst) waits d).0
+    bounded_delivery_is held input first limit [] dst src (rw waits at d).0
 
 -- the bytes that a codec has stand in the stream
 goes_on_at : (limits : Limits) (place limit : ℕ) (header : Option (ℕ × ℕ)) (src held : List ℕ) → AlignedAt header src held

@@ -251,6 +251,8 @@ length-framing s p =
     length-append (chunks b s p) (chunk (s + b) (take max_payload (drop (b * max_payload) p)))
     ∙ (let a = length-chunks b s p low in let e = length-chunk_alone (s + b) (take max_payload (drop (b * max_payload) p)) in omega arith)
 
+pub ruleset framing_laws = (length-framing)
+
 -- bytes written at a place, and others behind them
 pub put_twice : (old mid new a b : List ℕ) (at : ℕ) → at + length a ≤ length old → mid ≡ take at old ++ a ++ drop (at + length a) old
     → new ≡ take (at + length a) mid ++ b ++ drop (at + length a + length b) mid

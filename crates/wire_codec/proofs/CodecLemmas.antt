@@ -1,9 +1,6 @@
 -- One chunk of a stream, as a codec that stands takes it.
 use Rattle.std.proofs.Common.{◌≡◌, ℕ, List, [], ◌++◌, ◌∙◌, subst, Option, None, Result, Ok, Err, Bool, true, false}
-use Rattle.wire_codec.specs.declared.codec.error.PacketCodecError.{PacketCodecError}
-use Rattle.wire_codec.specs.declared.codec.error.PacketCodecError.TheVariants.{PacketTooLarge, OutOfMemory, PacketsOutOfSync, Io}
-use Rattle.wire_codec.specs.declared.codec.packet.Progress.{Progress}
-use Rattle.wire_codec.specs.declared.codec.packet.Progress.TheVariants.{Whole, Starved, More}
+use Rattle.wire_codec.proofs.Declared.{PacketCodecError, PacketTooLarge, OutOfMemory, PacketsOutOfSync, Io, Progress, Whole, Starved, More}
 use Rattle.wire_codec.specs.Framing.{front}
 use Rattle.wire_codec.specs.Delivery.{IsWholeChunks, id_at, Splits, Ending, Delivers}
 use Rattle.wire_codec.specs.Codec.{StandsAt, DecodesFrom, TakesChunk}

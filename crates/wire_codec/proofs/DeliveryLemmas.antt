@@ -16,6 +16,9 @@ pub id_after-append : IdAfterAppend
 id_after-append s [] qs = refl
 id_after-append s (p ∷ ps) qs = id_after-append (next_id s p) ps qs
 
+-- the two, as tactics take them
+pub ruleset stream_laws = (stream-append, id_after-append)
+
 pub continues_nothing : (L : ℕ) (p : List ℕ) → length p ≤ L → Continues [] L p
 continues_nothing L p h = record { begins = refl; small = omega arith }
 

@@ -1,12 +1,7 @@
 -- One chunk of a stream whose bytes came under different limits, as a codec takes it.
 use Rattle.std.proofs.Common.{◌≡◌, ℕ, ◌+◌, ◌-◌, ◌*◌, ◌/◌, ◌%◌, ◌<◌, ◌≤◌, ◌≢◌, List, [], ◌++◌, length, take, drop, suc, refl, sym, ap, ◌∙◌, subst, arith, length-append, length-drop, take_all, take_at, inl, inr, min, slice_index, Option, Some, None, IsSome, Result, Ok, Err, Bool, true, false, rules, ap₂, eq-eqb, ne_eqb, if◌then◌else◌, nat_lt, Bor}
 use Rattle.std.proofs.lemmas.Bool.{cases_lt, lt-ltb}
-use Rattle.wire_codec.specs.declared.codec.chunk.ChunkInfo.{ChunkInfo}
-use Rattle.wire_codec.specs.declared.codec.chunk.ChunkInfo.TheVariants.{Middle, Last}
-use Rattle.wire_codec.specs.declared.codec.error.PacketCodecError.{PacketCodecError}
-use Rattle.wire_codec.specs.declared.codec.error.PacketCodecError.TheVariants.{PacketTooLarge, OutOfMemory, PacketsOutOfSync, Io}
-use Rattle.wire_codec.specs.declared.codec.packet.Progress.{Progress}
-use Rattle.wire_codec.specs.declared.codec.packet.Progress.TheVariants.{Whole, Starved, More}
+use Rattle.wire_codec.proofs.Declared.{ChunkInfo, Middle, Last, PacketCodecError, PacketTooLarge, OutOfMemory, PacketsOutOfSync, Io, Progress, Whole, Starved, More}
 use Rattle.wire_codec.specs.Framing.{max_payload, chunks, front}
 use Rattle.wire_codec.specs.Delivery.{chunk_len, IsSpelled, id_at, IsWholeChunks}
 use Rattle.wire_codec.specs.OneChunk.{Answer, DecodesChunk, FinishesChunk}
@@ -190,13 +185,9 @@ takes_on_under (Err e) mark limit id header rest dst s t = decodes_on (Err e) ma
 pub length-input : (first : ℕ) (src held : List ℕ) → length (front first held ++ src) ≡ unread_place 0 held + length src
 length-input first src held = length-append (front first held) src ∙ ap (λ (n : ℕ). n + length src) (length-front_under first held) ∙ omega arith
 
-pub start_mark : Option (ℕ × ℕ) → List ℕ → ℕ
+abbrev pub start_mark : Option (ℕ × ℕ) → List ℕ → ℕ
 start_mark None held = unread_place 0 held + 3
 start_mark (Some h) held = unread_place 0 held + 4
-
-pub start_mark_some : (h : ℕ × ℕ) (held : List ℕ) → start_mark (Some h) held ≡ unread_place 0 held + 4
-unfolding start_mark
-start_mark_some h held = refl
 
 -- a place that is not that of a remembered header
 pub not_remembered : (header : Option (ℕ × ℕ)) (end place : ℕ) → (IsSome header → place ≡ end → ⊥) → header_ends_at header end place ≡ false
@@ -217,7 +208,6 @@ start_same state pieces i low high =
 pub goes_on_start : (limit id : ℕ) (header : Option (ℕ × ℕ)) (src held : List ℕ) (pieces : List (ℕ × Bor (List ℕ)))
     → AlignedAt header src held
     → GoesOnAt (run_limits (record { limit = limit; id = id; header = header; unread = src; held = held }) pieces) (start_mark header held) 0 limit header src held
-unfolding start_mark
 goes_on_start limit id None src held pieces aligned = record {
   aligned = aligned;
   marked = omega arith;

@@ -1,8 +1,7 @@
 -- A packet where it lies.
 use Rattle.std.proofs.Common.{◌≡◌, ℕ, ◌+◌, ◌-◌, ◌%◌, ◌<◌, ◌≤◌, List, [], ◌∷◌, length, take, drop, refl, sym, ap, ◌∙◌, subst, arith, inl, inr, slice_index, Option, Some, None, MatchOption, Ok, true, length-drop}
 use Rattle.std.proofs.lemmas.List.{length-take-le}
-use Rattle.wire_codec.specs.declared.codec.chunk.ChunkInfo.{ChunkInfo}
-use Rattle.wire_codec.specs.declared.codec.chunk.ChunkInfo.TheVariants.{Last}
+use Rattle.wire_codec.proofs.Declared.{ChunkInfo, Last}
 use Rattle.wire_codec.specs.Framing.{max_payload}
 use Rattle.wire_codec.specs.Delivery.{chunk_len, IsSpelled}
 use Rattle.wire_codec.specs.OneChunk.{info_of, FinishesChunk, DecodesChunk}

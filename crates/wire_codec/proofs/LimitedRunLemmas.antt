@@ -3,8 +3,7 @@ use Rattle.std.proofs.Common.{◌≡◌, ◌≢◌, ℕ, ◌+◌, ◌-◌, ◌/�
 use Rattle.std.proofs.lemmas.List.{take-append-le, drop-append-le, take_more, flat_map_more, take-append-drop}
 use Rattle.std.proofs.lemmas.List.Concat.{flat_map-append}
 use Rattle.std.proofs.lemmas.Bool.{cases_lt, lt-ltb, le-ltb}
-use Rattle.wire_codec.specs.declared.codec.error.PacketCodecError.{PacketCodecError}
-use Rattle.wire_codec.specs.declared.codec.error.PacketCodecError.TheVariants.{PacketTooLarge, OutOfMemory, PacketsOutOfSync, Io}
+use Rattle.wire_codec.proofs.Declared.{PacketCodecError, PacketTooLarge, OutOfMemory, PacketsOutOfSync, Io}
 use Rattle.wire_codec.specs.Framing.{max_payload, framing, front, next_id, id_after}
 use Rattle.wire_codec.specs.Delivery.{chunk_len, Ending, Waiting}
 use Rattle.wire_codec.specs.Codec.{CodecState, first_id, input_of}
@@ -15,7 +14,7 @@ use Rattle.wire_codec.proofs.ChunkLemmas.{length-framing, nothing_whole}
 use Rattle.wire_codec.proofs.DeliveryLemmas.{id_after-append}
 use Rattle.wire_codec.proofs.RunLemmas.{front-nil, chunk_len_append, id_append, open_waiting}
 use Rattle.wire_codec.proofs.LimitedLemmas.{begins_long, bound_allows, place_after-append, splits_trans, delivers_trans, splits_more, length-front_under, length-splits_under}
-use Rattle.wire_codec.proofs.GoingOnLemmas.{length-input, not_remembered, aligned_long, start_mark, start_mark_some}
+use Rattle.wire_codec.proofs.GoingOnLemmas.{length-input, not_remembered, aligned_long, start_mark}
 use Rattle.wire_codec.proofs.TakenChunk.{none_some}
 
 abbrev pub Pieces : Type 0
@@ -70,7 +69,7 @@ unfolding max_payload
 unread_up place q dst h = omega arith
 
 -- a decode that was refused memory goes on where it stands
-stays : {limits : Limits} {mark place limit : ℕ} (s : ℕ) {h : Option (ℕ × ℕ)} {q W : List ℕ} (id : ℕ) (header : Option (ℕ × ℕ)) (src dst : List ℕ)
+pub stays : {limits : Limits} {mark place limit : ℕ} (s : ℕ) {h : Option (ℕ × ℕ)} {q W : List ℕ} (id : ℕ) (header : Option (ℕ × ℕ)) (src dst : List ℕ)
     → GoesOnAt limits mark place limit h W q → DecodesOn limits mark place s (front s q ++ W) q (Err OutOfMemory) id header src dst
     → GoesOnAt limits mark place limit header src dst
 stays s id None src dst g t = absurd (none_some t.0.4)
@@ -88,13 +87,8 @@ stays {limits = limits} {place = place} s {q = q} {W = W} id (Some header) src d
           ap limits there ∙ g.same (unread_place place dst + i - unread_place place q) (omega arith) (omega arith);
     }
 
-pub stays_on : (error : PacketCodecError) {limits : Limits} {mark place limit : ℕ} (s : ℕ) {h : Option (ℕ × ℕ)} {q W : List ℕ} (id : ℕ) (header : Option (ℕ × ℕ)) (src dst : List ℕ)
-    → GoesOnAt limits mark place limit h W q → DecodesOn limits mark place s (front s q ++ W) q (Err error) id header src dst → error ≡ OutOfMemory
-    → GoesOnAt limits mark place limit header src dst
-stays_on error s id header src dst g t is = stays s id header src dst g (rw is at t)
-
 -- a run, and then one over what came since
-runs_trans : (answer : Result (Unit {0}) PacketCodecError) {limits : Limits} {place : ℕ} {d S : List ℕ} {s : ℕ} {ps : List (List ℕ)} {q W : List ℕ} (qs : List (List ℕ)) (id : ℕ) (header : Option (ℕ × ℕ)) (src dst : List ℕ)
+pub runs_trans : (answer : Result (Unit {0}) PacketCodecError) {limits : Limits} {place : ℕ} {d S : List ℕ} {s : ℕ} {ps : List (List ℕ)} {q W : List ℕ} (qs : List (List ℕ)) (id : ℕ) (header : Option (ℕ × ℕ)) (src dst : List ℕ)
     → SplitsUnder limits place d S s ps q W → RunsUnder limits (place_after place ps) (id_after s ps) (front (id_after s ps) q ++ W) q answer qs id header src dst
     → RunsUnder limits place s S d answer (ps ++ qs) id header src dst
 runs_trans (Ok u) {s = s} {ps = ps} qs id header src dst a b = (delivers_trans a b.0, rw (id_after-append s ps qs) b.1, b.2, b.3)
@@ -109,11 +103,6 @@ pub runs_still : (answer : Result (Unit {0}) PacketCodecError) {limits : Limits}
     → SplitsUnder limits place d S s ps q W → RunsUnder limits (place_after place ps) (id_after s ps) (front (id_after s ps) q ++ W) q answer [] id header src dst
     → RunsUnder limits place s S d answer ps id header src dst
 runs_still answer {ps = ps} id header src dst a t = rw (append-nil ps) at (runs_trans answer [] id header src dst a t)
-
-pub runs_join_under : (answer : Result (Unit {0}) PacketCodecError) {limits : Limits} {place : ℕ} {d S : List ℕ} {s : ℕ} {ps : List (List ℕ)} {q W : List ℕ} (x : List ℕ) (qs : List (List ℕ)) (id : ℕ) (header : Option (ℕ × ℕ)) (src dst : List ℕ)
-    → SplitsUnder limits place d S s ps q W → RunsUnder limits (place_after place ps) (id_after s ps) (front (id_after s ps) q ++ (W ++ x)) q answer qs id header src dst
-    → RunsUnder limits place s (S ++ x) d answer (ps ++ qs) id header src dst
-runs_join_under answer x qs id header src dst a b = runs_trans answer qs id header src dst (splits_more x a) b
 
 -- the whole input, of which a part is left
 limit_append : (limits : Limits) (place : ℕ) (q W x : List ℕ) → 4 ≤ length W → rest_limit limits place q (W ++ x) ≡ rest_limit limits place q W
@@ -275,7 +264,7 @@ memory_under error limits place first S held gained id header src dst unread is 
 -- a header that was remembered at the start
 pub start_before : (header : Option (ℕ × ℕ)) (held : List ℕ) (n : ℕ) → IsSome header → n ≡ unread_place 0 held → n + 3 < start_mark header held
 start_before None held n some e = absurd (none_some some)
-start_before (Some h) held n some e = (let f = start_mark_some h held in omega arith)
+start_before (Some h) held n some e = omega arith
 
 pub remembers_limited : (before : CodecState) (pieces : Pieces) (index : ℕ) (gained : List (List ℕ)) (header : Option (ℕ × ℕ)) (src dst : List ℕ) → Aligned before
     → Remembers (0 + length (input_of before ++ limited_bytes (take index pieces))) (place_after 0 gained) header src dst

@@ -1,10 +1,6 @@
 -- What one link of a chain makes of a codec that stands, or goes on under limits.
 use Rattle.std.proofs.Common.{◌≡◌, ℕ, ◌+◌, ◌%◌, ◌<◌, List, ◌++◌, length, sym, subst, ◌∙◌, inl, inr, Option, Some, None, Result, Ok, Err, Bool, true, false}
-use Rattle.wire_codec.specs.declared.codec.chunk.ChunkInfo.{ChunkInfo}
-use Rattle.wire_codec.specs.declared.codec.chunk.ChunkInfo.TheVariants.{Middle, Last}
-use Rattle.wire_codec.specs.declared.codec.error.PacketCodecError.{PacketCodecError}
-use Rattle.wire_codec.specs.declared.codec.packet.Progress.{Progress}
-use Rattle.wire_codec.specs.declared.codec.packet.Progress.TheVariants.{Whole, Starved, More}
+use Rattle.wire_codec.proofs.Declared.{ChunkInfo, Middle, Last, PacketCodecError, Progress, Whole, Starved, More}
 use Rattle.wire_codec.specs.Framing.{front}
 use Rattle.wire_codec.specs.Delivery.{IsSpelled}
 use Rattle.wire_codec.specs.OneChunk.{Answer, DecodesChunk}
@@ -23,11 +19,9 @@ accepts : (info : ChunkInfo) {limits : Limits} {mark place limit : ℕ} (id : �
     → DecodesChunk h src held limit (Ok (Some info)) header rest dst → id_of info ≡ id → EndsBy info rest answer → new ≡ (id + 1) % 256
     → DecodesOn limits mark place (open_id id held) (front (open_id id held) held ++ src) held answer new header rest dst
 accepts (Last i) id {held = held} answer new header rest dst byte b on d is ends rises =
-    let same : i ≡ id = is in
-    rw (ends, rises) (last_under (open_id id held) on b (sym (id_at_open id held byte)) (outcome_under (Ok (Some (Last id))) header rest dst on (rw same at d)))
+    rw (ends, rises) (last_under (open_id id held) on b (sym (id_at_open id held byte)) (outcome_under (Ok (Some (Last id))) header rest dst on (rw is at d)))
 accepts (Middle i) id {src = src} {held = held} answer new header rest dst byte b on d is ends rises =
-    let same : i ≡ id = is in
-    rw (ends.1, rises) (alone_under src ends.0 (middle_under (open_id id held) on b (sym (id_at_open id held byte)) (outcome_under (Ok (Some (Middle id))) header rest dst on (rw same at d))))
+    rw (ends.1, rises) (alone_under src ends.0 (middle_under (open_id id held) on b (sym (id_at_open id held byte)) (outcome_under (Ok (Some (Middle id))) header rest dst on (rw is at d))))
 
 -- no chunk is accepted
 refuses : (said : Answer) {limits : Limits} {mark place limit : ℕ} (id : ℕ) {h : Option (ℕ × ℕ)} {src held : List ℕ} (answer : Result Bool PacketCodecError) (new : ℕ) (header : Option (ℕ × ℕ)) (rest dst : List ℕ)

@@ -2,8 +2,7 @@
 use Rattle.std.proofs.Common.{◌≡◌, ◌≢◌, ℕ, ◌+◌, ◌<◌, ◌≤◌, List, [], ◌∷◌, ◌++◌, length, take, drop, refl, subst, ap, ◌∙◌, arith, Option, Result, Ok, Err, OnOk, All, Bor}
 use Rattle.std.proofs.lemmas.List.{length-map, take-map, drop-map, map-id}
 use Rattle.std.proofs.lemmas.List.Elements.{All-nil, All-cons}
-use Rattle.wire_codec.specs.declared.codec.error.PacketCodecError.{PacketCodecError}
-use Rattle.wire_codec.specs.declared.codec.error.PacketCodecError.TheVariants.{PacketsOutOfSync}
+use Rattle.wire_codec.proofs.Declared.{PacketCodecError, PacketsOutOfSync}
 use Rattle.wire_codec.specs.Delivery.{Waiting, IsBounded}
 use Rattle.wire_codec.specs.Codec.{CodecState, first_id, input_of, Stands}
 use Rattle.wire_codec.specs.Limited.{DeliversUnder}

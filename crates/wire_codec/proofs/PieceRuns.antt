@@ -1,7 +1,6 @@
 -- Runs over pieces, one piece after another.
 use Rattle.std.proofs.Common.{◌≡◌, ℕ, ◌+◌, ◌<◌, ◌≤◌, List, ◌++◌, length, take, get_or, sym, subst, ap, ◌∙◌, append-nil, arith, Result, Ok, Err, below_more, Bor, inl, inr}
-use Rattle.wire_codec.specs.declared.codec.error.PacketCodecError.{PacketCodecError}
-use Rattle.wire_codec.specs.declared.codec.error.PacketCodecError.TheVariants.{OutOfMemory}
+use Rattle.wire_codec.proofs.Declared.{PacketCodecError, OutOfMemory}
 use Rattle.wire_codec.specs.Framing.{front, id_after}
 use Rattle.wire_codec.specs.Codec.{CodecState, first_id, input_of}
 use Rattle.wire_codec.specs.GoingOn.{GoesOn, GoesOnAt, HavePieceLimits}
@@ -9,9 +8,9 @@ use Rattle.wire_codec.specs.Limited.{Limits, place_after}
 use Rattle.wire_codec.specs.LimitedRuns.{Aligned, run_limits, limited_bytes, last_limit, RunsUnder, RemembersLimited, WaitsLimited}
 use Rattle.wire_codec.specs.Taking.{Drains, RunsPieces}
 use Rattle.wire_codec.proofs.RunLemmas.{open_waiting}
-use Rattle.wire_codec.proofs.LimitedLemmas.{place_after-append, length-splits_under}
+use Rattle.wire_codec.proofs.LimitedLemmas.{place_after-append, splits_more, length-splits_under}
 use Rattle.wire_codec.proofs.GoingOnLemmas.{goes_on_start, start_mark}
-use Rattle.wire_codec.proofs.LimitedRunLemmas.{Pieces, aligned_after, memory_under, start_before, remembers_limited, run_limits_have, last_limit_more, goes_on_next, marked_on, remembers_on, stopped_leaves, waited_on, limited_more, runs_join_under}
+use Rattle.wire_codec.proofs.LimitedRunLemmas.{Pieces, aligned_after, memory_under, start_before, remembers_limited, run_limits_have, last_limit_more, goes_on_next, marked_on, remembers_on, stopped_leaves, waited_on, limited_more, runs_trans}
 use Rattle.wire_codec.proofs.TakenChunk.{open_small}
 
 -- the codec with another limit and other bytes to be read
@@ -90,7 +89,7 @@ next joins answer {before = before} {pieces = pieces} {i = i} {old = old} {mid =
         gained ++ more.0,
         joins old mid new gained more.0 run.1 more.1,
         subst (λ (z : List ℕ). RunsUnder limits place first z before.held answer (gained ++ more.0) after.id after.header after.unread after.held) bytes
-            (runs_join_under answer piece.1.now more.0 after.id after.header after.unread after.held run.2.0.splits
+            (runs_trans answer more.0 after.id after.header after.unread after.held (splits_more piece.1.now run.2.0.splits)
             (subst (λ (z : List ℕ). runs (id_after first gained) z) comes.came (subst (λ (z : ℕ). runs z unread) opened more.2))),
       ),
       λ e. rw (place_after-append place gained more.0) (more.3 e),

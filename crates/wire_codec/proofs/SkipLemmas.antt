@@ -5,16 +5,11 @@ use Rattle.std.proofs.lemmas.Bool.{cases_lt}
 use Rattle.std.specs.Int.NonZero.{non_zero_usize_get}
 use Rattle.std.specs.declared.num.NonZeroUsize.{NonZeroUsize}
 use Rattle.wire_codec.specs.declared.codec.chunk.ChunkDecoder.TheVariants.{Idle}
-use Rattle.wire_codec.specs.declared.codec.chunk.ChunkInfo.{ChunkInfo}
-use Rattle.wire_codec.specs.declared.codec.chunk.ChunkInfo.TheVariants.{Middle, Last}
-use Rattle.wire_codec.specs.declared.codec.error.PacketCodecError.{PacketCodecError}
-use Rattle.wire_codec.specs.declared.codec.error.PacketCodecError.TheVariants.{PacketTooLarge, PacketsOutOfSync}
+use Rattle.wire_codec.proofs.Declared.{ChunkInfo, Middle, Last, PacketCodecError, PacketTooLarge, PacketsOutOfSync, Progress, Whole, Starved, More}
 use Rattle.wire_codec.specs.declared.codec.header.Header.{Header}
 use Rattle.wire_codec.specs.declared.codec.packet.PacketCodec.{PacketCodec}
 use Rattle.wire_codec.specs.declared.codec.packet.skip.OpenChunk.{OpenChunk}
 use Rattle.wire_codec.specs.declared.codec.packet.skip.Skipped.{Skipped}
-use Rattle.wire_codec.specs.declared.codec.packet.Progress.{Progress}
-use Rattle.wire_codec.specs.declared.codec.packet.Progress.TheVariants.{Whole, Starved, More}
 use Rattle.wire_codec.specs.Framing.{max_payload, max_payload_is, header}
 use Rattle.wire_codec.specs.Delivery.{chunk_len, id_at, IsWholeChunks, Splits}
 use Rattle.wire_codec.specs.Chain.{id_of}

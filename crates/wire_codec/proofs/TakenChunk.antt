@@ -1,10 +1,9 @@
 -- One chunk of a stream, and what a step makes of it.
-use Rattle.std.proofs.Common.{◌≡◌, ℕ, ◌+◌, ◌*◌, ◌/◌, ◌%◌, ◌<◌, ◌≤◌, ◌⊎◌, List, [], ◌∷◌, ◌++◌, length, take, drop, suc, refl, sym, ap, ◌∙◌, subst, arith, append_assoc, append-nil, length-append, length-drop, length-take, drop-drop, inl, inr, take-append-drop, slice_index, Option, Some, None, IsSome, Ok, Err, Bool, eq-eqb, ne_eqb, if◌then◌else◌}
-use Rattle.std.proofs.lemmas.List.{length-take-le}
+use Rattle.std.proofs.Common.{◌≡◌, ℕ, ◌+◌, ◌*◌, ◌/◌, ◌%◌, ◌<◌, ◌≤◌, ◌⊎◌, List, [], ◌∷◌, ◌++◌, length, take, drop, suc, refl, sym, ap, ap₂, ◌∙◌, subst, arith, append_assoc, append-nil, length-append, length-drop, length-take, drop-drop, inl, inr, take-append-drop, slice_index, Option, Some, None, IsSome, Ok, Err, Bool, eq-eqb, ne_eqb, if◌then◌else◌}
+use Rattle.std.proofs.lemmas.List.{length-take-le, take-take}
+use Rattle.wire_buf.specs.Numbers.{le_number, le_bytes}
 use Rattle.std.proofs.lemmas.Bool.{cases_lt}
-use Rattle.wire_codec.specs.declared.codec.chunk.ChunkInfo.{ChunkInfo}
-use Rattle.wire_codec.specs.declared.codec.chunk.ChunkInfo.TheVariants.{Middle, Last}
-use Rattle.wire_codec.specs.declared.codec.error.PacketCodecError.TheVariants.{PacketTooLarge, OutOfMemory}
+use Rattle.wire_codec.proofs.Declared.{ChunkInfo, Middle, Last, PacketTooLarge, OutOfMemory}
 use Rattle.wire_codec.specs.Framing.{max_payload, max_payload_is, header, chunk, chunks, front}
 use Rattle.wire_codec.specs.Delivery.{chunk_len, IsSpelled, id_at, IsWholeChunks}
 use Rattle.wire_codec.specs.OneChunk.{info_of, Answer, FinishesChunk, DecodesChunk}
@@ -31,40 +30,25 @@ pub part_more : (d l : ℕ) → d % max_payload ≡ 0 → l < max_payload → ((
 unfolding max_payload
 part_more d l h e = (omega arith, omega arith)
 
+le_number_small : (n : ℕ) → le_number (le_bytes 3 n) ≤ 16777215
+le_number_small n = omega arith
+
 pub chunk_len_small : (src : List ℕ) → IsSpelled src → 4 ≤ length src → chunk_len src ≤ max_payload
-chunk_len_small [] b h = absurd (omega arith)
-chunk_len_small (x ∷ []) b h = absurd (omega arith)
-chunk_len_small (x ∷ y ∷ []) b h = absurd (omega arith)
-chunk_len_small (x ∷ y ∷ z ∷ []) b h = absurd (omega arith)
-chunk_len_small (x ∷ y ∷ z ∷ i ∷ src) b h =
-    let n : ℕ = chunk_len (x ∷ y ∷ z ∷ i ∷ src) in
-    let e = b h in
-    let e0 : x ≡ n % 256 = cc in
-    let e1 : y ≡ n / 256 % 256 = cc in
-    let e2 : z ≡ n / 256 / 256 % 256 = cc in
-    omega (arith, e0, e1, e2, max_payload_is)
+chunk_len_small src b h =
+    let spelled : chunk_len src ≡ le_number (le_bytes 3 (chunk_len src)) = ap le_number (sym (take-take 3 4 src (omega arith))) ∙ ap (λ (z : List ℕ). le_number (take 3 z)) (b h) in
+    omega (arith, spelled, le_number_small (chunk_len src), max_payload_is)
 
 -- the bytes in front are the chunk that their header states
 pub chunk_in_front : (src : List ℕ) → IsSpelled src → 4 + chunk_len src ≤ length src
     → src ≡ chunk (slice_index src 3) (take (chunk_len src) (drop 4 src)) ++ drop (4 + chunk_len src) src
 unfolding chunk
-chunk_in_front [] b h = absurd (omega arith)
-chunk_in_front (x ∷ []) b h = absurd (omega arith)
-chunk_in_front (x ∷ y ∷ []) b h = absurd (omega arith)
-chunk_in_front (x ∷ y ∷ z ∷ []) b h = absurd (omega arith)
-chunk_in_front (x ∷ y ∷ z ∷ i ∷ src) b h =
-    let all : List ℕ = x ∷ y ∷ z ∷ i ∷ src in
-    let l : ℕ = x + 256 * (y + 256 * (z + 0)) in
-    let room : l ≤ length src = omega arith in
-    let n : ℕ = length (take l src) in
-    let len : n ≡ l = length-take-le l src room in
-    let e = b (omega arith) in
-    let e0 : x ≡ n % 256 = (let f : x ≡ l % 256 = cc in f ∙ ap (λ (m : ℕ). m % 256) (sym len)) in
-    let e1 : y ≡ n / 256 % 256 = (let f : y ≡ l / 256 % 256 = cc in f ∙ ap (λ (m : ℕ). m / 256 % 256) (sym len)) in
-    let e2 : z ≡ n / 256 / 256 % 256 = (let f : z ≡ l / 256 / 256 % 256 = cc in f ∙ ap (λ (m : ℕ). m / 256 / 256 % 256) (sym len)) in
-    let e3 : i ≡ i % 256 = cc in
-    let tail : src ≡ take l src ++ drop (4 + l) all = sym (take-append-drop l src) ∙ ap (λ (w : List ℕ). take l src ++ w) (drop-drop l 4 all) in
-    λ j. e0 j ∷ e1 j ∷ e2 j ∷ e3 j ∷ tail j
+chunk_in_front src b h =
+    let i : ℕ = slice_index src 3 in
+    let c : List ℕ = take (chunk_len src) (drop 4 src) in
+    let rest : List ℕ = drop (4 + chunk_len src) src in
+    let len : length c ≡ chunk_len src = length-take-le (chunk_len src) (drop 4 src) (rw length-drop (omega arith)) in
+    let behind : drop 4 src ≡ c ++ rest = sym (take-append-drop (chunk_len src) (drop 4 src)) ∙ ap (λ (z : List ℕ). c ++ z) (drop-drop (chunk_len src) 4 src) in
+    sym (take-append-drop 4 src) ∙ ap₂ (λ (u v : List ℕ). u ++ v) (b (omega arith) ∙ ap (λ (n : ℕ). header n i) (sym len)) behind ∙ sym (append_assoc (header (length c) i) c rest)
 
 -- a chunk that is taken, whatever it holds
 pub record Taken (limit : ℕ) (src held : List ℕ) (info : ChunkInfo) (header : Option (ℕ × ℕ)) (rest dst : List ℕ) : Type 0 where

@@ -1,7 +1,6 @@
 -- Packets that are taken, one after another.
 use Rattle.std.proofs.Common.{◌≡◌, ℕ, ◌<◌, ◌≤◌, List, [], ◌∷◌, ◌++◌, length, refl, subst, ap, ◌∙◌, arith, Result, Ok, Err, true}
-use Rattle.wire_codec.specs.declared.codec.error.PacketCodecError.{PacketCodecError}
-use Rattle.wire_codec.specs.declared.codec.error.PacketCodecError.TheVariants.{PacketTooLarge, OutOfMemory, PacketsOutOfSync, Io}
+use Rattle.wire_codec.proofs.Declared.{PacketCodecError, PacketTooLarge, OutOfMemory, PacketsOutOfSync, Io}
 use Rattle.wire_codec.specs.Framing.{front, id_after}
 use Rattle.wire_codec.specs.Codec.{CodecState, open_id, first_id, input_of}
 use Rattle.wire_codec.specs.Limited.{Limits, SplitsUnder, place_after}
@@ -12,7 +11,7 @@ use Rattle.wire_codec.proofs.CodecLemmas.{open_at_id, open_small}
 use Rattle.wire_codec.proofs.RunLemmas.{next_open}
 use Rattle.wire_codec.proofs.LimitedLemmas.{place_after-append}
 use Rattle.wire_codec.proofs.GoingOnLemmas.{splits_here_under}
-use Rattle.wire_codec.proofs.LimitedRunLemmas.{splits_push, goes_on_pushed, was_allowed, stays_on, runs_still}
+use Rattle.wire_codec.proofs.LimitedRunLemmas.{splits_push, goes_on_pushed, was_allowed, stays, runs_still}
 
 -- a decode that stops, as a run that takes nothing
 stopped : (error : PacketCodecError) (limits : Limits) (mark place : ℕ) (before after : CodecState)
@@ -30,7 +29,7 @@ pub stopped_next : (error : PacketCodecError) (limits : Limits) (mark place : �
     × (error ≡ OutOfMemory → GoesOn limits mark place after)
 stopped_next error limits mark place before after same on t = (
   stopped error limits mark place before after t,
-  λ e. rw same (stays_on error (first_id before) after.id after.header after.unread after.held on t e),
+  λ e. rw same (stays (first_id before) after.id after.header after.unread after.held on (rw e at t)),
 )
 
 -- no room for a packet, before anything is decoded

@@ -1,7 +1,6 @@
 -- Packets that are visited, one after another.
 use Rattle.std.proofs.Common.{◌≡◌, ℕ, List, ◌++◌, ◌+◌, ◌≢◌, take, drop, refl, sym, ap, ap₂, ◌∙◌, Result, Ok, Err}
-use Rattle.wire_codec.specs.declared.codec.error.PacketCodecError.{PacketCodecError}
-use Rattle.wire_codec.specs.declared.codec.error.PacketCodecError.TheVariants.{PacketTooLarge, PacketsOutOfSync, OutOfMemory, Io}
+use Rattle.wire_codec.proofs.Declared.{PacketCodecError, PacketTooLarge, OutOfMemory, PacketsOutOfSync, Io}
 use Rattle.wire_codec.specs.Delivery.{chunk_len, Ending, Waiting, TooLarge, OutOfSync, Delivers}
 use Rattle.wire_codec.specs.Runs.{LeavesFrom}
 use Rattle.wire_codec.proofs.ConstantLimit.{one_delivery_is}

@@ -68,12 +68,14 @@ pub fn encoded_first()
 {}
 
 /// Streams one behind the other are one stream, so that what one `encode` after another appends is.
+#[tactic(auto, using(crate::proofs::DeliveryLemmas::stream_laws))]
 pub fn stream_append()
     ensures { StreamAppend }
 {}
 
 /// The id after two lists of payloads is the one after the second, begun at the one after the
 /// first.
+#[tactic(auto, using(crate::proofs::DeliveryLemmas::stream_laws))]
 pub fn id_after_append()
     ensures { IdAfterAppend }
 {}
@@ -123,6 +125,7 @@ pub fn chunks_counted()
 {}
 
 /// A payload of n bytes is framed in n + 4 * (n / 16777215 + 1) bytes.
+#[tactic(auto, using(crate::proofs::ChunkLemmas::framing_laws))]
 pub fn framed_length()
     ensures { FramedLength }
 {}

@@ -1,6 +1,5 @@
 use Rattle.std.proofs.Common.{◌∙◌, ℕ, ap, refl, Ok, Err}
-use Rattle.wire_codec.specs.declared.codec.packet.Progress.{Progress}
-use Rattle.wire_codec.specs.declared.codec.packet.Progress.TheVariants.{Whole, Starved, More}
+use Rattle.wire_codec.proofs.Declared.{Progress, Whole, Starved, More}
 use Rattle.wire_codec.specs.Codec.{open_id, first_id}
 use Rattle.wire_codec.proofs.CodecLemmas.{splits_here, open_at_id, open_small}
 use Rattle.wire_codec.proofs.SkipLemmas.{skips_later}
