@@ -1,5 +1,5 @@
 -- How many bytes a delivery that waits holds, and where a codec goes on.
-use Rattle.std.proofs.Common.{◌≡◌, ℕ, ◌+◌, ◌/◌, ◌<◌, ◌≤◌, List, [], ◌∷◌, length, arith, inl, inr, max, Option, Some, None, MatchOption, Result, Ok, Bool, false, subst, IsSome}
+use Rattle.std.proofs.Common.{◌≡◌, ℕ, ◌+◌, ◌/◌, ◌<◌, ◌≤◌, List, [], ◌∷◌, length, arith, inl, inr, max, Option, Some, None, MatchOption, Result, Ok, Bool, false, IsSome}
 use Rattle.wire_codec.specs.declared.codec.error.PacketCodecError.{PacketCodecError}
 use Rattle.wire_codec.specs.Framing.{max_payload}
 use Rattle.wire_codec.specs.Delivery.{chunk_len, IsWholeChunks, IsWaiting, IsBounded}

@@ -1,9 +1,9 @@
 -- One limit, as limits that are all the same: what holds under limits holds under one.
-use Rattle.std.proofs.Common.{ℕ, ◌+◌, ◌*◌, ◌/◌, ◌≤◌, List, [], ◌∷◌, ◌++◌, length, min, refl, sym, ap, ap₂, ◌∙◌, subst, arith, append_assoc, inl, inr, Option, Some, None, Result, Ok, Err, Bool, true, false}
+use Rattle.std.proofs.Common.{ℕ, ◌+◌, ◌*◌, ◌/◌, ◌≤◌, List, [], ◌∷◌, ◌++◌, length, min, refl, sym, ap, ap₂, ◌∙◌, arith, append_assoc, inl, inr, Option, Some, None, Result, Ok, Err, Bool, true, false}
 use Rattle.std.proofs.lemmas.List.Elements.{All-head, All-tail}
 use Rattle.wire_codec.proofs.Declared.{PacketCodecError, PacketTooLarge, OutOfMemory, PacketsOutOfSync, Io}
 use Rattle.wire_codec.specs.Framing.{max_payload, framing, front, next_id, stream, id_after}
-use Rattle.wire_codec.specs.Delivery.{IsWholeChunks, Continues, AreWithin, IsWaiting, Splits, Ending, Ends, Delivers}
+use Rattle.wire_codec.specs.Delivery.{IsWholeChunks, Continues, AreWithin, IsWaiting, Splits, Ending, Delivers}
 use Rattle.wire_codec.specs.Limited.{Limits, framed_size, place_after, ContinuesUnder, AreUnder, SplitsUnder, DeliversUnder}
 use Rattle.wire_codec.specs.LimitedRuns.{AlignedAt, WasAllowed, RunsUnder, LeavesUnder, DecodesUnder}
 use Rattle.wire_codec.specs.Codec.{StandsAt, DecodesFrom}

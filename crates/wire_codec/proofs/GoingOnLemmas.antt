@@ -4,7 +4,7 @@ use Rattle.std.proofs.lemmas.Bool.{cases_lt, lt-ltb}
 use Rattle.wire_codec.proofs.Declared.{ChunkInfo, Middle, Last, PacketCodecError, PacketTooLarge, OutOfMemory, PacketsOutOfSync, Io, Progress, Whole, Starved, More}
 use Rattle.wire_codec.specs.Framing.{max_payload, chunks, front}
 use Rattle.wire_codec.specs.Delivery.{chunk_len, IsSpelled, id_at, IsWholeChunks}
-use Rattle.wire_codec.specs.OneChunk.{Answer, DecodesChunk, FinishesChunk}
+use Rattle.wire_codec.specs.OneChunk.{Answer, DecodesChunk}
 use Rattle.wire_codec.specs.Limited.{Limits, Allows, bound, limit_at, ContinuesUnder, SplitsUnder, rest_limit}
 use Rattle.wire_codec.specs.LimitedRuns.{AlignedAt, unread_place, header_ends_at, run_limits, piece_limit}
 use Rattle.wire_codec.specs.Chain.{id_of}

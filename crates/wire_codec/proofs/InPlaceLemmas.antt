@@ -1,5 +1,5 @@
 -- A packet where it lies.
-use Rattle.std.proofs.Common.{◌≡◌, ℕ, ◌+◌, ◌-◌, ◌%◌, ◌<◌, ◌≤◌, List, [], ◌∷◌, length, take, drop, refl, sym, ap, ◌∙◌, subst, arith, inl, inr, slice_index, Option, Some, None, MatchOption, Ok, true, length-drop}
+use Rattle.std.proofs.Common.{◌≡◌, ℕ, ◌+◌, ◌-◌, ◌%◌, ◌<◌, ◌≤◌, List, [], ◌∷◌, length, take, drop, refl, sym, ap, ◌∙◌, arith, inl, inr, slice_index, Option, Some, None, MatchOption, Ok, true, length-drop}
 use Rattle.std.proofs.lemmas.List.{length-take-le}
 use Rattle.wire_codec.proofs.Declared.{ChunkInfo, Last}
 use Rattle.wire_codec.specs.Framing.{max_payload}

@@ -5,7 +5,7 @@ use Rattle.std.proofs.lemmas.List.Concat.{flat_map-append}
 use Rattle.std.proofs.lemmas.Bool.{cases_lt, lt-ltb, le-ltb}
 use Rattle.wire_codec.proofs.Declared.{PacketCodecError, PacketTooLarge, OutOfMemory, PacketsOutOfSync, Io}
 use Rattle.wire_codec.specs.Framing.{max_payload, framing, front, next_id, id_after}
-use Rattle.wire_codec.specs.Delivery.{chunk_len, Ending, Waiting}
+use Rattle.wire_codec.specs.Delivery.{chunk_len, Waiting}
 use Rattle.wire_codec.specs.Codec.{CodecState, first_id, input_of}
 use Rattle.wire_codec.specs.Limited.{Limits, Allows, bound, framed_size, place_after, limit_at, ContinuesUnder, SplitsUnder, rest_limit, DeliversUnder}
 use Rattle.wire_codec.specs.LimitedRuns.{Aligned, AlignedAt, unread_place, RunsUnder, LeavesUnder, WasAllowed, run_limits, piece_limit, limited_bytes, last_limit, RemembersLimited}

@@ -1,10 +1,10 @@
 -- What one link of a chain makes of a codec that stands, or goes on under limits.
-use Rattle.std.proofs.Common.{◌≡◌, ℕ, ◌+◌, ◌%◌, ◌<◌, List, ◌++◌, length, sym, subst, ◌∙◌, inl, inr, Option, Some, None, Result, Ok, Err, Bool, true, false}
+use Rattle.std.proofs.Common.{◌≡◌, ℕ, ◌+◌, ◌%◌, ◌<◌, List, ◌++◌, length, sym, ◌∙◌, inl, inr, Option, Some, None, Result, Ok, Err, Bool, true, false}
 use Rattle.wire_codec.proofs.Declared.{ChunkInfo, Middle, Last, PacketCodecError, Progress, Whole, Starved, More}
 use Rattle.wire_codec.specs.Framing.{front}
 use Rattle.wire_codec.specs.Delivery.{IsSpelled}
 use Rattle.wire_codec.specs.OneChunk.{Answer, DecodesChunk}
-use Rattle.wire_codec.specs.Chain.{id_of, StopsBy, EndsBy, AcceptsChunk}
+use Rattle.wire_codec.specs.Chain.{id_of, StopsBy, EndsBy}
 use Rattle.wire_codec.specs.Codec.{StandsAt, open_id, TakesChunk, LinksChain}
 use Rattle.wire_codec.specs.Limited.{Limits}
 use Rattle.wire_codec.specs.GoingOn.{GoesOnAt, DecodesOn, TakesOn}

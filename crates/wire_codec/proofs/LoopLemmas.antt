@@ -1,7 +1,6 @@
 -- One chunk more in a call.
-use Rattle.std.proofs.Common.{◌≡◌, ℕ, [], ◌++◌, sym, subst, Result}
+use Rattle.std.proofs.Common.{◌≡◌, ℕ, [], Result}
 use Rattle.wire_codec.proofs.Declared.{PacketCodecError, Progress}
-use Rattle.wire_codec.specs.Framing.{front}
 use Rattle.wire_codec.specs.Delivery.{Splits}
 use Rattle.wire_codec.specs.Codec.{CodecState, first_id, input_of, StandsAt, Stands, TakesChunk}
 use Rattle.wire_codec.specs.Limited.{Limits, SplitsUnder}

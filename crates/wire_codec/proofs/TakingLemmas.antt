@@ -1,7 +1,7 @@
 -- Packets that are taken, one after another.
-use Rattle.std.proofs.Common.{◌≡◌, ℕ, ◌<◌, ◌≤◌, List, [], ◌∷◌, ◌++◌, length, refl, subst, ap, ◌∙◌, arith, Result, Ok, Err, true}
+use Rattle.std.proofs.Common.{◌≡◌, ℕ, ◌<◌, ◌≤◌, List, [], ◌∷◌, ◌++◌, length, refl, ap, ◌∙◌, arith, Result, Ok, Err, true}
 use Rattle.wire_codec.proofs.Declared.{PacketCodecError, PacketTooLarge, OutOfMemory, PacketsOutOfSync, Io}
-use Rattle.wire_codec.specs.Framing.{front, id_after}
+use Rattle.wire_codec.specs.Framing.{id_after}
 use Rattle.wire_codec.specs.Codec.{CodecState, open_id, first_id, input_of}
 use Rattle.wire_codec.specs.Limited.{Limits, SplitsUnder, place_after}
 use Rattle.wire_codec.specs.LimitedRuns.{RunsUnder}

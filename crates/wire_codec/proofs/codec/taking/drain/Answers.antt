@@ -1,7 +1,6 @@
-use Rattle.std.proofs.Common.{◌≡◌, ◌∙◌, [], refl, append-nil, ap, arith, Ok, Err, Bool, true, subst}
+use Rattle.std.proofs.Common.{◌≡◌, ◌∙◌, [], refl, append-nil, ap, arith, Ok, Err, Bool, true}
 use Rattle.wire_codec.specs.Codec.{codec_state, first_id, input_of}
 use Rattle.wire_codec.specs.Limited.{place_after}
-use Rattle.wire_codec.specs.Taking.{TakesNext}
 use Rattle.wire_codec.proofs.GoingOnLemmas.{splits_here_under}
 use Rattle.wire_codec.proofs.TakingLemmas.{has_taken_more, has_taken_all}
 use Rattle.wire_codec.proofs.codec.taking.drain.Goals as goal
