@@ -21,7 +21,7 @@ pub outcome_under : (answer : Answer) {limits : Limits} {mark place limit : ℕ}
     → Outcome (rest_limit limits place held src) src held answer header rest dst
 outcome_under answer {limits = limits} {place = place} {limit = limit} {h = None} {src = src} {held = held} header rest dst g d =
     elim (cases_lt (length src) 4) [
-      | inl less ↦ let w = d.short less in subst (λ (z : Answer). Outcome (rest_limit limits place held src) src held z header rest dst) (sym w.0) (w.2, w.3, inl (less, w.1))
+      | inl less ↦ let w = d.short less in rw w.0 (w.2, w.3, inl (less, w.1))
       | inr long ↦
           let known : rest_limit limits place held src ≡ limit = ap (λ (b : Option ℕ). bound b (length held + chunk_len src)) (g.same 3 g.marked long) in
           subst (λ (n : ℕ). Outcome n src held answer header rest dst) (sym known) (outcome_of None limit src held answer header rest dst (g.aligned.0, tt) d)
@@ -53,8 +53,7 @@ taken_under limits place src held info header rest dst b whole t =
           let here : index ≡ k = same_block index k (omega arith) (omega arith) in
           let fits : length held + chunk_len src ≤ rest_limit limits place held src = elim t.fits [ inl none ↦ absurd (omega arith) | inr small ↦ small ] in
           let size : length held + chunk_len src ≡ min (length dst) (k * max_payload + max_payload) = omega arith in
-          subst (λ (i : ℕ). Allows (limit_at limits place i) (min (length dst) (i * max_payload + max_payload))) (sym here)
-          (subst (λ (n : ℕ). Allows (limit_at limits place k) n) size (bound_allows (limit_at limits place k) (length held + chunk_len src) fits));
+          rw (here, sym size) (bound_allows (limit_at limits place k) (length held + chunk_len src) fits);
     }
 
 pub splits_here_under : (limits : Limits) (place first : ℕ) (held src : List ℕ) → IsWholeChunks held → SplitsUnder limits place held (front first held ++ src) first [] held src

@@ -191,7 +191,7 @@ waits_allowed limits place first S held gained id (Some h) src dst r =
     let l : chunk_len src ≡ h.1 = r.2.1.2 in
     let k : ℕ = length dst / max_payload in
     let small : length dst + chunk_len src ≤ rest_limit limits (place_after place gained) dst src = elim r.0.ends [ inl less ↦ absurd (omega arith) | inr waits ↦ waits.1 ] in
-    subst (λ (n : ℕ). Allows (limit_at limits (place_after place gained) k) (length dst + n)) l (bound_allows (limit_at limits (place_after place gained) k) (length dst + chunk_len src) small)
+    rw l at (bound_allows (limit_at limits (place_after place gained) k) (length dst + chunk_len src) small)
 
 -- a run that waited goes on under the next piece's limit
 marked_next : (limits : Limits) (place first : ℕ) (S held : List ℕ) (gained : List (List ℕ)) (id : ℕ) (header : Option (ℕ × ℕ)) (src dst piece : List ℕ) (limit : ℕ)

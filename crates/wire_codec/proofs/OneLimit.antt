@@ -69,11 +69,8 @@ runs_same took before pieces count answer old new after stands run =
     let many : length (all_at before.limit pieces) ≡ length pieces = length-map pieces (λ (piece : Bor (List ℕ)). (before.limit, piece)) in
     let on = run.on limits 0 0 (stands_on before.limit 0 before.header before.unread before.held stands) (have_all before.limit _ pieces) in
     let gained = on.0 in
-    let to = runs_one answer before.limit first _ before.held gained after.id after.header after.unread after.held
-    (subst (λ (z : List ℕ). RunsUnder limits 0 first (input_of before ++ z) before.held answer gained after.id after.header after.unread after.held) (joined_take before.limit count pieces) on.2.0) in
-    let over = leaves_one answer before.limit first _ before.held gained after.unread _ after.held
-    (subst (λ (z : List ℕ). LeavesUnder limits 0 first (input_of before ++ joined pieces) before.held answer gained after.unread z after.held) (joined_drop before.limit count pieces)
-    (subst (λ (z : List ℕ). LeavesUnder limits 0 first (input_of before ++ z) before.held answer gained after.unread (limited_bytes (drop count (all_at before.limit pieces))) after.held) (joined_all before.limit pieces) on.2.1)) in
+    let to = runs_one answer before.limit first _ before.held gained after.id after.header after.unread after.held (rw (joined_take before.limit count pieces) at on.2.0) in
+    let over = leaves_one answer before.limit first _ before.held gained after.unread _ after.held (rw (joined_drop before.limit count pieces, joined_all before.limit pieces) at on.2.1) in
     let kept : after.limit ≡ before.limit = run.limit ∙ ap (λ (z : List (ℕ × Bor (List ℕ))). last_limit before.limit z) (take-map (λ (piece : Bor (List ℕ)). (before.limit, piece)) count pieces) ∙ last_all before.limit (take count pieces) in
     record {
       runs = (gained, on.1, to, over);
@@ -83,10 +80,9 @@ runs_same took before pieces count answer old new after stands run =
             w.0,
             w.1,
             w.2,
-            (equal_limits_is before (all_at before.limit pieces) (joined (take j pieces)) w.0 Waiting w.1 w.2 stands (same_all before.limit pieces)).0
-                (subst (λ (z : List ℕ). DeliversUnder (run_limits before (all_at before.limit pieces)) 0 before.held (input_of before ++ z) first w.0 Waiting w.1 w.2) (joined_take before.limit j pieces) w.3),
+            (equal_limits_is before (all_at before.limit pieces) (joined (take j pieces)) w.0 Waiting w.1 w.2 stands (same_all before.limit pieces)).0 (rw (joined_take before.limit j pieces) at w.3),
           );
-      all = subst (λ (n : ℕ). OnOk answer (count ≡ n)) many run.all;
+      all = rw many at run.all;
       bounded = bounded_run answer (first_id before) (input_of before ++ joined (take count pieces)) before.held before.limit gained after.id after.header after.unread after.held to;
       stands = λ other. runs_stand answer (first_id before) (input_of before ++ joined (take count pieces)) before.held before.limit after.limit gained after.id after.header after.unread after.held kept to other;
       limit = kept;

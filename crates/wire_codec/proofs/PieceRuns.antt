@@ -78,9 +78,7 @@ next joins answer {before = before} {pieces = pieces} {i = i} {old = old} {mid =
     let run = so_far.on limits mark place at known in
     let gained = run.0 in
     let behind = goes_on_next limits place first (input_of before) before.held pieces i piece gained state.id state.header state.unread state.held known comes.inside run.2 in
-    let here : GoesOnAt limits (place + length S) (place_after place gained) piece.0 state.header (state.unread ++ piece.1.now) state.held =
-    subst (λ (p : ℕ × Bor (List ℕ)). GoesOnAt limits (place + length S) (place_after place gained) p.0 state.header (state.unread ++ p.1.now) state.held) comes.is behind in
-    let more = drains limits (place + length S) (place_after place gained) (rw (comes.set, comes.came) here) in
+    let more = drains limits (place + length S) (place_after place gained) (rw (comes.set, comes.came) (rw comes.is at behind)) in
     let runs : ℕ → List ℕ → Type 0 = λ first z. RunsUnder limits (place_after place gained) first (front first state.held ++ z) state.held answer more.0 after.id after.header after.unread after.held in
     let opened : first_id state ≡ id_after first gained = open_waiting first gained state.id state.held (open_small before.id before.held) run.2.1 in
     let bytes : S ++ piece.1.now ≡ input_of before ++ limited_bytes (take (i + 1) pieces) =

@@ -62,10 +62,10 @@ splits_extend d S s L ps q W x a = splits_one (splits_more x (one_splits 0 a))
 -- after everything but a lost sync the codec stands
 pub runs_stand : (answer : Result (Unit {0}) PacketCodecError) (first : ℕ) (input held : List ℕ) (limit now : ℕ) (gained : List (List ℕ)) (id : ℕ) (header : Option (ℕ × ℕ)) (src dst : List ℕ)
     → now ≡ limit → RunsFrom first input held limit answer gained id header src dst → answer ≢ Err PacketsOutOfSync → StandsAt now header src dst
-runs_stand (Ok u) first input held limit now gained id header src dst n r other = subst (λ (z : ℕ). StandsAt z header src dst) (sym n) r.2
+runs_stand (Ok u) first input held limit now gained id header src dst n r other = rw n r.2
 runs_stand (Err PacketTooLarge) first input held limit now gained id header src dst n r other = stands_without now src dst header r.0.splits.unfinished_whole r.2
 runs_stand (Err PacketsOutOfSync) first input held limit now gained id header src dst n r other = absurd (other refl)
-runs_stand (Err OutOfMemory) first input held limit now gained id header src dst n r other = subst (λ (z : ℕ). StandsAt z header src dst) (sym n) r.2
+runs_stand (Err OutOfMemory) first input held limit now gained id header src dst n r other = rw n r.2
 runs_stand (Err (Io e)) first input held limit now gained id header src dst n r other = absurd r
 
 -- the open id of a codec that waits

@@ -27,7 +27,7 @@ use Rattle.wire_codec.proofs.TakenChunk.{id_at_open, chunk_len_small, Taken, len
 at_id : (header : Header) (left held : ℕ) (codec : PacketCodec) (src : List ℕ) (full : CodecState)
     → codec.seq_id < 256 → AtChunk header left held codec src full → codec.seq_id ≡ id_at (first_id full) full.held
 at_id header left held codec src full small a =
-    sym a.id ∙ sym (id_at_open full.id full.held (subst (λ (n : ℕ). n < 256) (sym a.id) small))
+    sym a.id ∙ sym (id_at_open full.id full.held (rw a.id small))
 
 -- it goes on under its limit, with no header remembered
 open_on : (full : CodecState) → IsWholeChunks full.held → GoesOnAt (one full.limit) 0 0 full.limit None full.unread full.held
@@ -85,7 +85,7 @@ all_came {header = header} {left = left} {held = held} {count = count} {codec = 
   id = at_id header left held codec src full small a;
   long = omega arith;
   is = is ∙ ap (λ (n : ℕ). drop n src) (omega (arith, counted, all));
-  small = subst (λ (n : ℕ). n ≤ max_payload) a.len_is (chunk_len_small full.unread a.spelled a.there);
+  small = rw a.len_is at (chunk_len_small full.unread a.spelled a.there);
 }
 
 taken_whole : {header : Header} {left held : ℕ} {codec : PacketCodec} {src rest : List ℕ} {full : CodecState} (info : ChunkInfo) → Came header left held codec src rest full
@@ -103,7 +103,7 @@ taken_whole {header = header} {left = left} {src = src} {full = full} info c kin
       dst_is = refl;
       kind = λ _. elim kind [
         | inl full ↦ inl (c.at.len_is ∙ full.0, full.1 ∙ ap (λ (n : ℕ). Middle n) (sym c.at.id_is))
-        | inr part ↦ inr (subst (λ (n : ℕ). n < max_payload) (sym c.at.len_is) part.0, part.1 ∙ ap (λ (n : ℕ). Last n) (sym c.at.id_is))
+        | inr part ↦ inr (rw c.at.len_is part.0, part.1 ∙ ap (λ (n : ℕ). Last n) (sym c.at.id_is))
       ];
     }
 
@@ -134,56 +134,51 @@ dropped_last {codec = codec} {rest = rest} {full = full} c same less = (
 )
 
 -- the packet goes on
-middle_joins : {header : Header} {left held : ℕ} {codec : PacketCodec} {src rest : List ℕ} {full : CodecState} → Came header left held codec src rest full
-    → header.seq_id ≡ codec.seq_id → max_payload ≤ header.len
-    → SplitsUnder (one full.limit) 0 full.held (input_of full) (first_id full) [] (joined_held full) rest × ((codec.seq_id + 1) % 256 ≡ id_at (first_id full) (joined_held full))
-    × GoesOnAt (one full.limit) 0 0 full.limit None rest (joined_held full) × (◌≡◌ {A = Option (ℕ × ℕ)} None None)
-middle_joins {codec = codec} {full = full} c same more =
-    let top = c.small in
-    middle_under (first_id full) (open_on full c.at.whole) c.at.spelled c.id
-    (taken_whole (Middle codec.seq_id) c (inl (omega (arith, top, more), ap (λ (n : ℕ). Middle n) (sym same))))
+abbrev behind : PacketCodec → PacketCodec
+behind codec = record codec { decoder = Idle; seq_id = (codec.seq_id + 1) % 256 }
 
-middle_left : {header : Header} {left held : ℕ} (new : ℕ) {codec : PacketCodec} {src rest : List ℕ} {full : CodecState} → Came header left held codec src rest full → IsWholeChunks (joined_held full)
-    → max_payload ≤ header.len → new ≡ min (min (held + header.len) (2 ^ 64 - 1)) codec.max_allowed_packet → codec.max_allowed_packet < 2 ^ 64
-    → WouldStand (record { held = new; begun = None }) (record codec { decoder = Idle; seq_id = (codec.seq_id + 1) % 256 }) rest
-    (codec_state (record codec { decoder = Idle; seq_id = (codec.seq_id + 1) % 256 }) rest (joined_held full))
-middle_left {header = header} new {codec = codec} {src = src} {rest = rest} {full = full} c whole more is most =
+went_on : {header : Header} {left held : ℕ} (new : ℕ) {codec : PacketCodec} {src rest : List ℕ} {full : CodecState} → Came header left held codec src rest full
+    → header.seq_id ≡ codec.seq_id → max_payload ≤ header.len → new ≡ min (min (held + header.len) (2 ^ 64 - 1)) codec.max_allowed_packet → codec.max_allowed_packet < 2 ^ 64
+    → (SplitsUnder (one full.limit) 0 full.held (input_of full) (first_id full) [] (joined_held full) rest × ((codec.seq_id + 1) % 256 ≡ id_at (first_id full) (joined_held full))
+    × GoesOnAt (one full.limit) 0 0 full.limit None rest (joined_held full) × (◌≡◌ {A = Option (ℕ × ℕ)} None None))
+    × WouldStand (record { held = new; begun = None }) (behind codec) rest (codec_state (behind codec) rest (joined_held full))
+went_on {header = header} new {codec = codec} {src = src} {rest = rest} {full = full} c same more is most =
     let a = c.at in
+    let top = c.small in
     let some : 0 < header.len = omega (arith, more, max_payload_is) in
     let all : length full.unread ≡ length a.gone + length src = ap (λ (z : List ℕ). length z) a.unread_is ∙ length-append a.gone src in
     let size : length (joined_held full) ≡ length full.held + chunk_len full.unread = len_taken full.unread full.held (omega (arith, all, c.long, a.left_is, a.len_is)) in
     let within : length full.held + header.len ≤ codec.max_allowed_packet =
     elim a.fits [ inl none ↦ absurd (omega (arith, none, some)) | inr fits ↦ omega (arith, fits, a.limit) ] in
-    record {
-      limit = refl;
-      id = refl;
-      header = refl;
-      gone = [];
-      gone_is = refl;
-      unread_is = refl;
-      held_is = omega (arith, size, is, within, most, a.held_is, a.len_is);
-      stands = stands_without codec.max_allowed_packet rest (joined_held full) None whole refl;
-    }
+    let takes = middle_under (first_id full) (open_on full a.whole) a.spelled c.id
+    (taken_whole (Middle codec.seq_id) c (inl (omega (arith, top, more), ap (λ (n : ℕ). Middle n) (sym same)))) in (
+      takes,
+      record {
+        limit = refl;
+        id = refl;
+        header = refl;
+        gone = [];
+        gone_is = refl;
+        unread_is = refl;
+        held_is = omega (arith, size, is, within, most, a.held_is, a.len_is);
+        stands = stands_without codec.max_allowed_packet rest (joined_held full) None takes.0.unfinished_whole refl;
+      },
+    )
 
 pub dropped_middle : {header : Header} {left held : ℕ} (new : ℕ) {codec : PacketCodec} {src rest : List ℕ} {full : CodecState} → Came header left held codec src rest full
     → header.seq_id ≡ codec.seq_id → max_payload ≤ header.len → new ≡ min (min (held + header.len) (2 ^ 64 - 1)) codec.max_allowed_packet → codec.max_allowed_packet < 2 ^ 64
     → DropsChunk (Ok More) full (record { held = new; begun = None }) (record codec { decoder = Idle; seq_id = (codec.seq_id + 1) % 256 }) rest
 dropped_middle new {codec = codec} {rest = rest} {full = full} c same more count most =
-    let takes = middle_joins c same more in (
-      codec_state (record codec { decoder = Idle; seq_id = (codec.seq_id + 1) % 256 }) rest (joined_held full),
-      (splits_one takes.0, takes.1, refl),
-      (middle_left new c takes.0.unfinished_whole more count most, refl),
-    )
+    let on = went_on new c same more count most in
+    (codec_state (behind codec) rest (joined_held full), (splits_one on.0.0, on.0.1, refl), (on.1, refl))
 
 pub dropped_alone : {header : Header} {left held : ℕ} (new : ℕ) {codec : PacketCodec} {src rest : List ℕ} {full : CodecState} → Came header left held codec src rest full
     → header.seq_id ≡ codec.seq_id → max_payload ≤ header.len → new ≡ min (min (held + header.len) (2 ^ 64 - 1)) codec.max_allowed_packet → codec.max_allowed_packet < 2 ^ 64
     → length rest ≡ 0 → DropsChunk (Ok Starved) full (record { held = new; begun = None }) (record codec { decoder = Idle; seq_id = (codec.seq_id + 1) % 256 }) rest
 dropped_alone new {codec = codec} {rest = rest} {full = full} c same more count most none =
-    let takes = middle_joins c same more in (
-      codec_state (record codec { decoder = Idle; seq_id = (codec.seq_id + 1) % 256 }) rest (joined_held full),
-      decodes_one (Ok false) full.limit _ _ full.held _ None rest (joined_held full) c.at.whole (alone_under full.unread none takes).0,
-      middle_left new c takes.0.unfinished_whole more count most,
-    )
+    let on = went_on new c same more count most in
+    let waits = decodes_one (Ok false) full.limit _ _ full.held _ None rest (joined_held full) c.at.whole (alone_under full.unread none on.0).0 in
+    (codec_state (behind codec) rest (joined_held full), waits, on.1)
 
 -- a header that is past the limit, and isn't dropped
 pub refused_header : (skipped : Skipped) (codec : PacketCodec) (src : List ℕ) (full : CodecState) (error : PacketCodecError)
@@ -193,7 +188,7 @@ pub refused_header : (skipped : Skipped) (codec : PacketCodec) (src : List ℕ) 
 refused_header skipped codec src full error small closed w is none long some more =
     let none_gone : w.gone ≡ [] = rw closed at w.gone_is in
     let same : full.unread ≡ src = w.unread_is ∙ ap (λ (z : List ℕ). z ++ src) none_gone in
-    let at : full.id ≡ id_at (first_id full) full.held = sym (id_at_open full.id full.held (subst (λ (n : ℕ). n < 256) (sym w.id) small)) in
+    let at : full.id ≡ id_at (first_id full) full.held = sym (id_at_open full.id full.held (rw w.id small)) in
     let len : chunk_len full.unread ≡ chunk_len src = ap (λ (z : List ℕ). chunk_len z) same in
     let past : full.limit < length full.held + chunk_len full.unread = omega (arith, more, len, w.limit, w.held_is) in
     rw is (
@@ -269,13 +264,7 @@ would_skip skipped begun codec unread opened small some numbers =
     let says : chunk_len (gone ++ unread) ≡ len = le_number-le_bytes len (omega (arith, numbers.2, max_payload_is)) in
     let bears : slice_index (gone ++ unread) 3 ≡ id = omega (arith, small) in
     let four : 4 ≤ length (gone ++ unread) = omega (arith, all, size) in (
-      record {
-        limit = codec.max_allowed_packet;
-        id = expected_id codec;
-        header = Some (id, len);
-        unread = gone ++ unread;
-        held = held;
-      },
+      record { limit = codec.max_allowed_packet; id = expected_id codec; header = Some (id, len); unread = gone ++ unread; held = held },
       record {
         limit = refl;
         id = refl;

@@ -104,9 +104,9 @@ pub outcome_finished : (limit : ℕ) (src held : List ℕ) (answer : Answer) (he
     → FinishesChunk (slice_index src 3) (chunk_len src) src held answer header rest dst → Outcome limit src held answer header rest dst
 outcome_finished limit src held answer header rest dst all long some small f =
     elim (cases_lt (length src) (4 + chunk_len src)) [
-      | inl less ↦ let w = f.waits less in subst (λ (z : Answer). Outcome limit src held z header rest dst) (sym w.0) (w.2, w.3, inr (long, some, small, less, w.1))
+      | inl less ↦ let w = f.waits less in rw w.0 (w.2, w.3, inr (long, some, small, less, w.1))
       | inr whole ↦ elim (f.takes whole) [
-        | inl t ↦ subst (λ (z : Answer). Outcome limit src held z header rest dst) (sym t.0) (record {
+        | inl t ↦ rw t.0 (record {
           whole = whole;
           fits = inr small;
           none = t.1;
@@ -114,7 +114,7 @@ outcome_finished limit src held answer header rest dst all long some small f =
           dst_is = t.3;
           kind = info_kind (slice_index src 3) (chunk_len src) held dst all (ap (λ (z : List ℕ). length z) t.3 ∙ len_taken src held whole) some;
         })
-        | inr r ↦ subst (λ (z : Answer). Outcome limit src held z header rest dst) (sym r.0) (r.2, r.3, long, some, inr (refl, small, r.1))
+        | inr r ↦ rw r.0 (r.2, r.3, long, some, inr (refl, small, r.1))
       ]
     ]
 
@@ -122,12 +122,12 @@ pub outcome_of : (h : Option (ℕ × ℕ)) (limit : ℕ) (src held : List ℕ) (
     → StandsAt limit h src held → DecodesChunk h src held limit answer header rest dst → Outcome limit src held answer header rest dst
 outcome_of None limit src held answer header rest dst stands d =
     elim (cases_lt (length src) 4) [
-      | inl less ↦ let w = d.short less in subst (λ (z : Answer). Outcome limit src held z header rest dst) (sym w.0) (w.2, w.3, inl (less, w.1))
+      | inl less ↦ let w = d.short less in rw w.0 (w.2, w.3, inl (less, w.1))
       | inr long ↦ elim (cases_lt 0 (chunk_len src)) [
         | inr none ↦
             let zero' : chunk_len src ≡ 0 = omega arith in
             let w = d.empty long zero' in
-            subst (λ (z : Answer). Outcome limit src held z header rest dst) (sym w.0) (record {
+            rw w.0 (record {
               whole = omega arith;
               fits = inl zero';
               none = w.1;
@@ -136,7 +136,7 @@ outcome_of None limit src held answer header rest dst stands d =
               kind = λ small. inr (omega (arith, max_payload_is), refl);
             })
         | inl some ↦ elim (cases_lt limit (length held + chunk_len src)) [
-          | inl more ↦ let w = d.large long some more in subst (λ (z : Answer). Outcome limit src held z header rest dst) (sym w.0) (w.2, w.3, long, some, inl (refl, more, w.1))
+          | inl more ↦ let w = d.large long some more in rw w.0 (w.2, w.3, long, some, inl (refl, more, w.1))
           | inr small ↦ outcome_finished limit src held answer header rest dst stands.0 long some small (d.begins long some small)
         ]
       ]

@@ -40,8 +40,7 @@ returns-in_err-needed-clause-small c =
     let none : c.from_residual.result ≡ None = c.from_residual.ensures in
     let len = length-framing c.args.seq_id c.args.packet.now in
     let above = c.in_err-needed.ensures in
-    subst (λ z. IfNone z ((c.args.room.now ≡ c.args.room.now) × (length c.args.room.now < length (framing c.args.seq_id c.args.packet.now)))) (sym none)
-    (refl, omega (arith, len, above))
+    rw none (refl, omega (arith, len, above))
 
 pub returns-then-room-needed-clause-small : goal.returns-then-room-needed-clause-small
 returns-then-room-needed-clause-small c =
