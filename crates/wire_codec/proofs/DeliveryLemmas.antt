@@ -95,25 +95,22 @@ front_goes_on e s L a more q p W y len_q long allowed same ends =
     (ap (λ (z : List ℕ). slice_index z 3) is ∙ id-chunk (s + a) (block a p) _ ∙ ap (λ (n : ℕ). (s + n) % 256) (sym at))
     ends
 
+goes_past : (e : Ending) (s L a b : ℕ) (q r W V : List ℕ) → length q ≡ a * max_payload → length r ≡ b * max_payload → FitsAt L a q W r
+    → chunks a s q ++ W ≡ chunks b s r ++ V → Ends e s L q W → a < b → ⊥
+goes_past e s L a b q r W V len_q len_r fits same ends short =
+    let count : b ≡ suc a + (b - suc a) = omega arith in
+    let room : a * max_payload ≤ b * max_payload = mul-le-mul_right max_payload (le_of_lt short) in
+    front_goes_on e s L a (b - suc a) q r W V len_q (omega arith) fits (same ∙ ap (λ (k : ℕ). chunks k s r ++ V) count) ends
+
 -- unfinished payloads: two readings that stop before the first whole payload are one
 pub stops_once : (e f : Ending) (s L M a b : ℕ) (q r W V : List ℕ) → length q ≡ a * max_payload → length r ≡ b * max_payload
     → FitsAt L a q W r → FitsAt M b r V q
     → chunks a s q ++ W ≡ chunks b s r ++ V → Ends e s L q W → Ends f s M r V → (q ≡ r) × (W ≡ V)
 stops_once e f s L M a b q r W V len_q len_r fits_r fits_q same eq er =
     elim (cases_lt a b) [
-      | inl short ↦
-          let more : ℕ = b - suc a in
-          let count : b ≡ suc a + more = omega arith in
-          let room : a * max_payload ≤ b * max_payload = mul-le-mul_right max_payload (le_of_lt short) in
-          absurd (front_goes_on e s L a more q r W V len_q (omega arith) fits_r
-          (same ∙ ap (λ (k : ℕ). chunks k s r ++ V) count) eq)
+      | inl short ↦ absurd (goes_past e s L a b q r W V len_q len_r fits_r same eq short)
       | inr long ↦ elim (cases_lt b a) [
-        | inl short ↦
-            let more : ℕ = a - suc b in
-            let count : a ≡ suc b + more = omega arith in
-            let room : b * max_payload ≤ a * max_payload = mul-le-mul_right max_payload (le_of_lt short) in
-            absurd (front_goes_on f s M b more r q V W len_r (omega arith) fits_q
-            (sym same ∙ ap (λ (k : ℕ). chunks k s q ++ W) count) er)
+        | inl short ↦ absurd (goes_past f s M b a r q V W len_r len_q fits_q (sym same) er short)
         | inr other ↦
             let ab : a ≡ b = omega arith in
             let same' : chunks a s q ++ W ≡ chunks a s r ++ V = same ∙ ap (λ (k : ℕ). chunks k s r ++ V) (sym ab) in

@@ -12,7 +12,7 @@ use Rattle.wire_codec.proofs.DeliveryLemmas.{id_after-append}
 use Rattle.wire_codec.proofs.ConstantLimit.{splits_join, delivers_join, splits_one, one_splits}
 use Rattle.wire_codec.proofs.LimitedLemmas.{splits_more}
 pub use Rattle.wire_codec.proofs.ChunkLemmas.{nothing_whole}
-use Rattle.wire_codec.proofs.CodecLemmas.{open_at_id, open_small, stands_without}
+use Rattle.wire_codec.proofs.CodecLemmas.{open_at_id, open_small, splits_here, stands_without}
 
 -- nothing unfinished
 pub front-nil : (s : ℕ) → front s [] ≡ []
@@ -45,14 +45,11 @@ stands_append limit (Some h) src x held s =
 pub runs_join : (answer : Result (Unit {0}) PacketCodecError) (d S : List ℕ) (s L : ℕ) (ps : List (List ℕ)) (q W x : List ℕ) (qs : List (List ℕ)) (id : ℕ) (header : Option (ℕ × ℕ)) (src dst : List ℕ)
     → Splits d S s L ps q W → RunsFrom (id_after s ps) (front (id_after s ps) q ++ (W ++ x)) q L answer qs id header src dst
     → RunsFrom s (S ++ x) d L answer (ps ++ qs) id header src dst
-runs_join (Ok u) d S s L ps q W x qs id header src dst a b =
-    (delivers_join d S s L ps q W x qs Waiting dst src a b.0, b.1 ∙ ap (λ (n : ℕ). id_at n dst) (sym (id_after-append s ps qs)), b.2, b.3)
-runs_join (Err PacketTooLarge) d S s L ps q W x qs id header src dst a b =
-    (delivers_join d S s L ps q W x qs TooLarge dst src a b.0, b.1 ∙ ap (λ (n : ℕ). id_at n dst) (sym (id_after-append s ps qs)), b.2)
+runs_join (Ok u) d S s L ps q W x qs id header src dst a b = (delivers_join _ _ _ _ _ _ _ _ _ _ _ _ a b.0, rw (id_after-append s ps qs) b.1, b.2, b.3)
+runs_join (Err PacketTooLarge) d S s L ps q W x qs id header src dst a b = (delivers_join _ _ _ _ _ _ _ _ _ _ _ _ a b.0, rw (id_after-append s ps qs) b.1, b.2)
 runs_join (Err PacketsOutOfSync) d S s L ps q W x qs id header src dst a b =
-    (b.0, b.1, delivers_join d S s L ps q W x qs OutOfSync b.0 b.1 a b.2, b.3, b.4, b.5 ∙ ap (λ (n : ℕ). id_at n b.0) (sym (id_after-append s ps qs)), b.6)
-runs_join (Err OutOfMemory) d S s L ps q W x qs id header src dst a b =
-    (splits_join d S s L ps q W x qs dst src a b.0, b.1 ∙ sym (id_after-append s ps qs), b.2)
+    (b.0, b.1, delivers_join _ _ _ _ _ _ _ _ _ _ _ _ a b.2, b.3, b.4, rw (id_after-append s ps qs) b.5, b.6)
+runs_join (Err OutOfMemory) d S s L ps q W x qs id header src dst a b = (splits_join _ _ _ _ _ _ _ _ _ _ _ a b.0, rw (id_after-append s ps qs) b.1, b.2)
 runs_join (Err (Io e)) d S s L ps q W x qs id header src dst a b = b
 
 -- the whole input, of which a part is left
@@ -89,20 +86,9 @@ between_packets_is state small header held = rw (header, held) ((refl, tt), omeg
 -- from empty buffers nothing is delivered yet
 pub nothing_read_is : NothingRead
 unfolding max_payload
-nothing_read_is id limit small = (
-  record {
-    splits = record {
-      is = refl;
-      held_whole = refl;
-      unfinished_whole = refl;
-      within = record { begins = refl; small = omega arith };
-    };
-    ends = inl (omega arith);
-  },
-  omega arith,
-  (refl, tt),
-  (λ some. cc, λ long. absurd (omega arith)),
-)
+nothing_read_is id limit small =
+    let splits = splits_here (open_id id []) limit [] [] refl in
+    (record { splits = splits; ends = inl (omega arith) }, omega arith, (refl, tt), (λ some. cc, λ long. absurd (omega arith)))
 
 -- a run that stopped here, and could go on
 stopped_splits : (stopped : Result (Unit {0}) PacketCodecError) (d S : List ℕ) (s L : ℕ) (ps : List (List ℕ)) (id : ℕ) (header : Option (ℕ × ℕ)) (src dst : List ℕ)
