@@ -7,7 +7,7 @@ use Rattle.wire_codec.proofs.Declared.{PacketCodecError, PacketTooLarge, OutOfMe
 use Rattle.wire_codec.specs.Framing.{max_payload, framing, front, next_id, id_after}
 use Rattle.wire_codec.specs.Delivery.{chunk_len, Waiting}
 use Rattle.wire_codec.specs.Codec.{CodecState, first_id, input_of}
-use Rattle.wire_codec.specs.Limited.{Limits, Allows, bound, framed_size, place_after, limit_at, ContinuesUnder, SplitsUnder, rest_limit, DeliversUnder}
+use Rattle.wire_codec.specs.Limited.{Limits, bound, framed_size, place_after, limit_at, ContinuesUnder, SplitsUnder, rest_limit, DeliversUnder}
 use Rattle.wire_codec.specs.LimitedRuns.{Aligned, AlignedAt, unread_place, RunsUnder, LeavesUnder, WasAllowed, run_limits, piece_limit, limited_bytes, last_limit, RemembersLimited}
 use Rattle.wire_codec.specs.GoingOn.{GoesOnAt, DecodesOn, HavePieceLimits, Remembers}
 use Rattle.wire_codec.proofs.ChunkLemmas.{length-framing, nothing_whole}

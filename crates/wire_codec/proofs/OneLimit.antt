@@ -5,8 +5,7 @@ use Rattle.std.proofs.lemmas.List.Elements.{All-nil, All-cons}
 use Rattle.wire_codec.proofs.Declared.{PacketCodecError, PacketsOutOfSync}
 use Rattle.wire_codec.specs.Delivery.{Waiting, IsBounded}
 use Rattle.wire_codec.specs.Codec.{CodecState, first_id, input_of, Stands}
-use Rattle.wire_codec.specs.Limited.{DeliversUnder}
-use Rattle.wire_codec.specs.LimitedRuns.{Aligned, RunsUnder, LeavesUnder, run_limits, limited_bytes, last_limit}
+use Rattle.wire_codec.specs.LimitedRuns.{Aligned, limited_bytes, last_limit}
 use Rattle.wire_codec.specs.Runs.{joined, RunsFrom, RunsTo, RunsOver, Waits}
 use Rattle.wire_codec.specs.GoingOn.{HavePieceLimits}
 use Rattle.wire_codec.specs.Taking.{pieces_under, RunsPieces}

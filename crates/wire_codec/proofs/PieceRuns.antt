@@ -3,7 +3,7 @@ use Rattle.std.proofs.Common.{◌≡◌, ℕ, ◌+◌, ◌<◌, ◌≤◌, List,
 use Rattle.wire_codec.proofs.Declared.{PacketCodecError, OutOfMemory}
 use Rattle.wire_codec.specs.Framing.{front, id_after}
 use Rattle.wire_codec.specs.Codec.{CodecState, first_id, input_of}
-use Rattle.wire_codec.specs.GoingOn.{GoesOn, GoesOnAt, HavePieceLimits}
+use Rattle.wire_codec.specs.GoingOn.{GoesOn, HavePieceLimits}
 use Rattle.wire_codec.specs.Limited.{Limits, place_after}
 use Rattle.wire_codec.specs.LimitedRuns.{Aligned, run_limits, limited_bytes, last_limit, RunsUnder, RemembersLimited, WaitsLimited}
 use Rattle.wire_codec.specs.Taking.{Drains, RunsPieces}

@@ -1,10 +1,10 @@
 -- Runs of decodes, joined.
-use Rattle.std.proofs.Common.{◌≡◌, ℕ, ◌<◌, ◌≤◌, List, [], ◌∷◌, ◌++◌, length, refl, sym, ap, ◌∙◌, subst, arith, append_assoc, append-nil, length-append, inl, inr, ◌⊎◌, slice_index, Option, Some, None, Result, Ok, Err, ◌≢◌}
+use Rattle.std.proofs.Common.{◌≡◌, ℕ, ◌<◌, ◌≤◌, List, [], ◌∷◌, ◌++◌, length, refl, sym, ap, ◌∙◌, arith, append_assoc, append-nil, length-append, inl, inr, ◌⊎◌, slice_index, Option, Some, None, Result, Ok, Err, ◌≢◌}
 use Rattle.std.proofs.lemmas.List.{take-append-le, get_or_append_left}
 use Rattle.wire_buf.specs.Numbers.{le_number}
 use Rattle.wire_codec.proofs.Declared.{PacketCodecError, PacketTooLarge, OutOfMemory, PacketsOutOfSync, Io}
 use Rattle.wire_codec.specs.Framing.{max_payload, front, next_id, id_after}
-use Rattle.wire_codec.specs.Delivery.{chunk_len, id_at, Splits, Waiting, TooLarge, OutOfSync}
+use Rattle.wire_codec.specs.Delivery.{chunk_len, id_at, Splits}
 use Rattle.wire_codec.specs.Codec.{StandsAt, open_id, first_id, input_of}
 use Rattle.wire_codec.specs.Runs.{RunsFrom}
 use Rattle.wire_codec.specs.Laws.{AppendedRun, BetweenPackets, NothingRead, RunGoesOn}

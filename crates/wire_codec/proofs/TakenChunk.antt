@@ -1,5 +1,5 @@
 -- One chunk of a stream, and what a step makes of it.
-use Rattle.std.proofs.Common.{◌≡◌, ℕ, ◌+◌, ◌/◌, ◌%◌, ◌<◌, ◌≤◌, ◌⊎◌, List, ◌++◌, length, take, drop, suc, refl, sym, ap, ap₂, ◌∙◌, subst, arith, append_assoc, append-nil, length-append, length-drop, length-take, drop-drop, inl, inr, take-append-drop, slice_index, Option, Some, None, IsSome, Ok, Err, Bool, eq-eqb, ne_eqb, if◌then◌else◌}
+use Rattle.std.proofs.Common.{◌≡◌, ℕ, ◌+◌, ◌/◌, ◌%◌, ◌<◌, ◌≤◌, ◌⊎◌, List, ◌++◌, length, take, drop, suc, refl, sym, ap, ap₂, ◌∙◌, arith, append_assoc, append-nil, length-append, length-drop, length-take, drop-drop, inl, inr, take-append-drop, slice_index, Option, Some, None, IsSome, Ok, Err, Bool, eq-eqb, ne_eqb, if◌then◌else◌}
 use Rattle.std.proofs.lemmas.List.{length-take-le, take-take}
 use Rattle.wire_buf.specs.Numbers.{le_number, le_bytes}
 use Rattle.std.proofs.lemmas.Bool.{cases_lt}

@@ -1,5 +1,5 @@
-use Rattle.std.proofs.Common.{◌≡◌, ℕ, ◌+◌, ◌/◌, ◌%◌, ◌<◌, ◌++◌, length, min, drop, sym, ap, ◌∙◌, arith, add-one, refl, subst, None, IfNone}
-use Rattle.wire_codec.specs.Framing.{max_payload, max_payload_is, chunks, framing}
+use Rattle.std.proofs.Common.{◌≡◌, ℕ, ◌+◌, ◌/◌, ◌%◌, ◌++◌, length, min, drop, sym, ap, ◌∙◌, arith, add-one, refl, None}
+use Rattle.wire_codec.specs.Framing.{max_payload, max_payload_is, chunks}
 use Rattle.wire_codec.proofs.ChunkLemmas.{left_more, chunk_behind, length-framing}
 use Rattle.wire_codec.proofs.codec.framing.packet_to_slice.Goals as goal
 
