@@ -11,7 +11,7 @@ use Rattle.wire_codec.specs.Laws.{EqualLimits}
 use Rattle.wire_codec.proofs.ChunkLemmas.{blocks_above, blocks_whole, block_below, more_blocks, place_same, chunks_cancel}
 use Rattle.wire_codec.proofs.ConstantLimit.{one, delivers_one, one_delivers}
 use Rattle.wire_codec.proofs.DeliveryLemmas.{next_len}
-use Rattle.wire_codec.proofs.LimitedLemmas.{begins_long}
+use Rattle.wire_codec.proofs.LimitedLemmas.{begins_long, length-stream_under}
 use Rattle.wire_codec.proofs.RunLemmas.{chunk_len_append}
 
 -- each limit is this one, but for that of the remembered header, whose chunk is within it
@@ -91,10 +91,6 @@ ends_same Waiting s a b q W ha hb (inr h) = inr (h.0, hb, h.2)
 ends_same TooLarge s a b q W ha hb h = absurd (let g = h.2 in omega arith)
 ends_same OutOfSync s a b q W ha hb h = (h.0, inr hb, h.2)
 
-place_up : (place : ℕ) (ps : List (List ℕ)) → place ≤ place_after place ps
-place_up place [] = omega arith
-place_up place (p ∷ ps) = let h = place_up (place + framed_size p) ps in omega arith
-
 -- where the rest is judged by the remembered header
 here_fits : (limits : Limits) (L s : ℕ) (d src more : List ℕ) (ps : List (List ℕ)) (q W : List ℕ) → IsWholeChunks d → IsWholeChunks q
     → front s d ++ (src ++ more) ≡ stream s ps ++ (front (id_after s ps) q ++ W) → AreUnder limits 0 d ps q
@@ -110,7 +106,7 @@ here_fits limits L s d src more [] q W wd wq is a at long fits =
     omega arith
 here_fits limits L s d src more (p ∷ ps) q W wd wq is a at long fits =
     let behind = past_header d p wd (begins_long d p a.0.begins) in
-    let up = place_up (0 + framed_size p) ps in
+    let up = length-stream_under s (0 + framed_size p) ps in
     absurd (omega arith)
 
 -- pieces that all have the codec's limit

@@ -30,13 +30,10 @@ pub part_more : (d l : ℕ) → d % max_payload ≡ 0 → l < max_payload → ((
 unfolding max_payload
 part_more d l h e = (omega arith, omega arith)
 
-le_number_small : (n : ℕ) → le_number (le_bytes 3 n) ≤ 16777215
-le_number_small n = omega arith
-
 pub chunk_len_small : (src : List ℕ) → IsSpelled src → 4 ≤ length src → chunk_len src ≤ max_payload
 chunk_len_small src b h =
     let spelled : chunk_len src ≡ le_number (le_bytes 3 (chunk_len src)) = ap le_number (sym (take-take 3 4 src (omega arith))) ∙ ap (λ (z : List ℕ). le_number (take 3 z)) (b h) in
-    omega (arith, spelled, le_number_small (chunk_len src), max_payload_is)
+    omega (arith, spelled, max_payload_is)
 
 -- the bytes in front are the chunk that their header states
 pub chunk_in_front : (src : List ℕ) → IsSpelled src → 4 + chunk_len src ≤ length src
