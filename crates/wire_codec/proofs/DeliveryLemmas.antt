@@ -1,4 +1,4 @@
--- What one input delivers: runs joined, and no two readings of one input.
+-- Streams joined, and where a reading of one stops.
 use Rattle.std.proofs.Common.{◌≡◌, ℕ, ◌+◌, ◌-◌, ◌*◌, ◌/◌, ◌%◌, ◌<◌, ◌≤◌, ◌⊎◌, List, [], ◌∷◌, ◌++◌, length, suc, refl, sym, ap, ◌∙◌, arith, append_assoc, length-append, length-drop, length-take, take_all, inl, inr, All, max, min, slice_index, mul-le-mul_right, le_of_lt}
 use Rattle.std.proofs.lemmas.List.Elements.{All-nil, All-cons, All-head, All-tail}
 use Rattle.std.proofs.lemmas.Bool.{cases_lt}
