@@ -15,10 +15,10 @@ use Rattle.wire_codec.specs.Delivery.{chunk_len, id_at, IsWholeChunks, Splits}
 use Rattle.wire_codec.specs.Chain.{id_of}
 use Rattle.wire_codec.specs.GoingOn.{GoesOnAt}
 use Rattle.wire_codec.specs.Limited.{SplitsUnder}
-use Rattle.wire_codec.specs.Codec.{CodecState, codec_state, expected_id, header_of, first_id, input_of, Stands, StandsAt}
+use Rattle.wire_codec.specs.Codec.{CodecState, codec_state, expected_id, header_of, open_id, first_id, input_of, Stands, StandsAt}
 use Rattle.wire_codec.specs.Skipping.{nothing_skipped, header_at, IsGone, WouldStand, AtChunk, DropsChunk, MaySkip}
 use Rattle.wire_codec.proofs.ChunkLemmas.{le_number-le_bytes}
-use Rattle.wire_codec.proofs.CodecLemmas.{chunk_failed, stands_without, takes_later}
+use Rattle.wire_codec.proofs.CodecLemmas.{open_at_id, open_small, chunk_failed, stands_without, takes_later}
 use Rattle.wire_codec.proofs.ConstantLimit.{one, splits_one, stands_on, decodes_one}
 use Rattle.wire_codec.proofs.GoingOnLemmas.{awaited_under, other_under, last_under, middle_under, alone_under}
 use Rattle.wire_codec.proofs.TakenChunk.{id_at_open, chunk_len_small, Taken, len_taken}
@@ -214,6 +214,10 @@ skips_later answer new after rest {full = full} w run same drops =
     let takes = takes_later answer (first_id mid) (first_id full) mid.limit full.limit full.held (input_of full) mid.held mid.unread d.0.id d.0.header d.0.unread d.0.held
     run.3 (run.1.limit ∙ same ∙ sym w.limit) run.2 d.1 in
     (d.0, takes, d.2)
+
+pub has_skipped_more : (skipped : Skipped) (codec : PacketCodec) (unread : List ℕ) (full : CodecState) → DropsChunk (Ok More) full skipped codec unread → HasSkipped skipped codec unread full
+has_skipped_more skipped codec unread full d =
+    (d.0, d.2.0, d.1.0, ap (λ (n : ℕ). open_id n d.0.held) d.1.1 ∙ open_at_id (first_id full) d.0.held (open_small full.id full.held))
 
 -- what a codec needs to go on with a packet of which full chunks were dropped
 pub may_skip_closed : (answer : Bool) (skipped : Skipped) (codec : PacketCodec) (unread : List ℕ) → skipped.begun ≡ None

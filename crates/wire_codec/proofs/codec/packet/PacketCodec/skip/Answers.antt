@@ -1,8 +1,8 @@
-use Rattle.std.proofs.Common.{◌∙◌, ℕ, ap, refl, Ok, Err}
+use Rattle.std.proofs.Common.{◌∙◌, ap, refl, Ok, Err}
 use Rattle.wire_codec.proofs.Declared.{Progress, Whole, Starved, More}
-use Rattle.wire_codec.specs.Codec.{open_id, first_id}
-use Rattle.wire_codec.proofs.CodecLemmas.{splits_here, open_at_id, open_small}
-use Rattle.wire_codec.proofs.SkipLemmas.{skips_later}
+use Rattle.wire_codec.specs.Codec.{first_id}
+use Rattle.wire_codec.proofs.CodecLemmas.{splits_here}
+use Rattle.wire_codec.proofs.SkipLemmas.{skips_later, has_skipped_more}
 use Rattle.wire_codec.proofs.codec.packet.PacketCodec.skip.Goals as goal
 
 pub chunks-init : goal.chunks-init
@@ -13,13 +13,13 @@ chunks-init g c = record {
 
 pub returns-in-Ok-Whole : goal.returns-in-Ok-Whole
 returns-in-Ok-Whole g c = record {
-  skips = λ full w. skips_later (Ok Whole) _ _ _ w (c.chunks.invariant.runs full w) c.chunks.invariant.same (rw c.in-Ok-Whole.field-0-is at c.in-Ok-Whole.ensures.drops);
+  skips = λ full w. skips_later (Ok Whole) c.skip_chunk.new.skipped c.skip_chunk.new.self c.skip_chunk.new.src.items w (c.chunks.invariant.runs full w) c.chunks.invariant.same (rw c.in-Ok-Whole.field-0-is at c.in-Ok-Whole.ensures.drops);
   limit = c.skip_chunk.ensures.limit ∙ c.chunks.invariant.same;
 }
 
 pub returns-in-Ok-Starved : goal.returns-in-Ok-Starved
 returns-in-Ok-Starved g c = record {
-  skips = λ full w. skips_later (Ok Starved) _ _ _ w (c.chunks.invariant.runs full w) c.chunks.invariant.same (rw c.in-Ok-Starved.field-0-is at c.in-Ok-Starved.ensures.drops);
+  skips = λ full w. skips_later (Ok Starved) c.skip_chunk.new.skipped c.skip_chunk.new.self c.skip_chunk.new.src.items w (c.chunks.invariant.runs full w) c.chunks.invariant.same (rw c.in-Ok-Starved.field-0-is at c.in-Ok-Starved.ensures.drops);
   limit = c.skip_chunk.ensures.limit ∙ c.chunks.invariant.same;
 }
 
@@ -29,13 +29,12 @@ chunks-smaller g c = c.skip_chunk.ensures.more (c.in-Ok-More.is ∙ ap (λ (z : 
 pub chunks-preserved : goal.chunks-preserved
 chunks-preserved g c = record {
   same = c.skip_chunk.ensures.limit ∙ c.chunks.invariant.same;
-  runs = λ full w.
-      let on = skips_later (Ok More) _ _ _ w (c.chunks.invariant.runs full w) c.chunks.invariant.same (rw c.in-Ok-More.field-0-is at c.in-Ok-More.ensures.drops) in
-      (on.0, on.2.0, on.1.0, ap (λ (n : ℕ). open_id n on.0.held) on.1.1 ∙ open_at_id (first_id full) on.0.held (open_small full.id full.held));
+  runs = λ full w. has_skipped_more _ _ _ full (skips_later (Ok More) c.skip_chunk.new.skipped c.skip_chunk.new.self c.skip_chunk.new.src.items w (c.chunks.invariant.runs full w)
+      c.chunks.invariant.same (rw c.in-Ok-More.field-0-is at c.in-Ok-More.ensures.drops));
 }
 
 pub returns-in-Err : goal.returns-in-Err
 returns-in-Err g c = record {
-  skips = λ full w. skips_later (Err c.in-Err.error) _ _ _ w (c.chunks.invariant.runs full w) c.chunks.invariant.same c.in-Err.ensures.drops;
+  skips = λ full w. skips_later (Err c.in-Err.error) c.skip_chunk.new.skipped c.skip_chunk.new.self c.skip_chunk.new.src.items w (c.chunks.invariant.runs full w) c.chunks.invariant.same c.in-Err.ensures.drops;
   limit = c.skip_chunk.ensures.limit ∙ c.chunks.invariant.same;
 }
