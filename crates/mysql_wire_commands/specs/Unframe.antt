@@ -172,6 +172,11 @@ abbrev pub RunEnds : {A : Type 0} → Run A → ℕ → Option (List ℕ) → Op
 RunEnds run status unread left written now =
     UnframeEndsOver run.limit run.later run.ahead status unread left written now
 
+-- and no byte was asked for behind a fault
+abbrev pub RunStops : {A : Type 0} → Run A → Option (List OneRead) → Option (List OneRead)
+    → Option (List ℕ) → Type 0
+RunStops run old new unread = StopsOver run.limit run.later run.ahead old new unread
+
 -- a run at the start of a stream
 pub record StartsRun (limit later at : ℕ) {A : Type 0} (run : Run A) : Type 0 where
   pub id : expected_id run.codec ≡ 0

@@ -143,7 +143,7 @@ fn verdict_text(verdict: Verdict) -> &'static str
     }
 }
 
-ghost use Rattle.mysql_wire_commands.specs.Unframe.{RunEnds, StartsRun, StopsOver, UnframeEnds, UnframeEndsOver, UnframeLimitedEnds, WritesPiece, bytes_left, ending_line, ending_status, next_limit, place_limits, run_state};
+ghost use Rattle.mysql_wire_commands.specs.Unframe.{RunEnds, RunStops, StartsRun, StopsOver, UnframeEnds, UnframeEndsOver, UnframeLimitedEnds, WritesPiece, bytes_left, ending_line, ending_status, next_limit, place_limits, run_state};
 ghost use Rattle.mysql_wire_commands.specs.Reads.{AsksStep, AsksUpTo, ReadsWhile};
 ghost use Rattle.std.specs.Io.KnownBytes.{Appends};
 ghost use Rattle.wire_codec.specs.Delivery.{Waiting};
@@ -253,8 +253,7 @@ fn take_pieces<A: Allocator + Copy, R: NotedRead, W: Write>(
         (λ status. RunEnds run.old status (R.remaining input.old) (R.remaining input.new)
         (W.contents output.old) (W.contents output.new)) }
     ensures reads { AsksUpTo step run.old.ahead (R.reads input.old) (R.reads input.new)
-        × StopsOver run.old.limit run.old.later run.old.ahead
-        (R.reads input.old) (R.reads input.new) (R.remaining input.old) }
+        × RunStops run.old (R.reads input.old) (R.reads input.new) (R.remaining input.old) }
 {
     laws::empty_goes_on();
     laws::joined_limited_runs();

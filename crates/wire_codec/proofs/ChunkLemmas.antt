@@ -1,14 +1,13 @@
 -- Chunks of a payload: how they are cut, joined and told apart.
-use Rattle.std.proofs.Common.{◌≡◌, ℕ, ◌+◌, ◌-◌, ◌*◌, ◌/◌, ◌%◌, ◌<◌, ◌≤◌, List, [], ◌++◌, length, take, drop, zero, suc, refl, sym, ap, ap₂, ◌∙◌, subst, arith, append_assoc, append-nil, length-append, length-drop, length-take, drop-drop, take_all, take_at, drop_at, drop_of_length-le, add-suc, add-one, add-zero, zero-mul, mul-le-mul_right, le_trans, inl, inr, take-append-drop, min}
+use Rattle.std.proofs.Common.{◌≡◌, ℕ, ◌+◌, ◌-◌, ◌*◌, ◌/◌, ◌%◌, ◌<◌, ◌≤◌, List, [], ◌++◌, length, take, drop, zero, suc, refl, sym, ap, ap₂, ◌∙◌, subst, arith, append_assoc, append-nil, length-append, length-drop, length-take, drop-drop, take_all, take_at, drop_at, drop_of_length-le, add-suc, add-one, add-zero, zero-mul, mul-le-mul_right, inl, inr, take-append-drop, min}
 use Rattle.std.proofs.lemmas.Bool.{cases_lt}
 use Rattle.std.proofs.Math.Seq.{take-add}
 use Rattle.std.proofs.lemmas.List.{take-append-le, drop-append-le, length-take-le, take_min, drop_min}
 use Rattle.std.proofs.Math.Nat.{min_comm}
 use Rattle.wire_buf.specs.Numbers.{le_number, le_bytes}
+use Rattle.wire_codec.specs.Delivery.{IsWholeChunks}
 use Rattle.wire_codec.specs.Framing.{max_payload, max_payload_is, header, chunk, chunks, framing}
-
-pub max_payload_pos : 0 < max_payload
-max_payload_pos = omega (arith, max_payload_is)
+use Rattle.wire_codec.specs.Laws.{UniqueFraming, FramedLength}
 
 -- whole chunks in n bytes, and what is over
 pub blocks_below : (n : ℕ) → n / max_payload * max_payload ≤ n
@@ -19,10 +18,6 @@ pub blocks_above : (n : ℕ) → n < n / max_payload * max_payload + max_payload
 unfolding max_payload
 blocks_above n = omega arith
 
-pub blocks_are : (k n : ℕ) → k * max_payload ≤ n → n < k * max_payload + max_payload → n / max_payload ≡ k
-unfolding max_payload
-blocks_are k n h g = omega arith
-
 pub blocks_whole : (n : ℕ) → n % max_payload ≡ 0 → n ≡ n / max_payload * max_payload
 unfolding max_payload
 blocks_whole n h = omega arith
@@ -30,6 +25,40 @@ blocks_whole n h = omega arith
 pub whole_blocks : (k n : ℕ) → n ≡ k * max_payload → (n % max_payload ≡ 0) × (n / max_payload ≡ k)
 unfolding max_payload
 whole_blocks k n h = (omega arith, omega arith)
+
+pub nothing_whole : IsWholeChunks []
+unfolding max_payload
+nothing_whole = refl
+
+pub same_block : (i k : ℕ) → k * max_payload ≤ i * max_payload → i * max_payload < k * max_payload + max_payload → i ≡ k
+unfolding max_payload
+same_block i k low high = omega arith
+
+pub place_same : (i k : ℕ) → i * max_payload + 4 * i ≡ k * max_payload + 4 * k → i ≡ k
+unfolding max_payload
+place_same i k e = omega arith
+
+pub block_below : (a i n : ℕ) → a * max_payload < n → n ≤ i * max_payload + max_payload → a ≤ i
+unfolding max_payload
+block_below a i n low high = omega arith
+
+pub more_blocks : (k b : ℕ) → k * max_payload < b * max_payload → suc k ≤ b
+unfolding max_payload
+more_blocks k b h = omega arith
+
+-- the last chunk that isn't empty
+pub last_block : (n : ℕ) → 0 < n → (i : ℕ) × (i * max_payload < n) × (n ≤ i * max_payload + max_payload)
+unfolding max_payload
+last_block n some = ((n - 1) / max_payload, omega arith, omega arith)
+
+-- what ends with full chunks, and a chunk in it, or behind it
+pub whole_end : (i n : ℕ) → n % max_payload ≡ 0 → i * max_payload < n → i * max_payload + max_payload ≤ n
+unfolding max_payload
+whole_end i n whole inside = omega arith
+
+pub whole_below : (i n m : ℕ) → n % max_payload ≡ 0 → n < m → m ≤ i * max_payload + max_payload → n ≤ i * max_payload
+unfolding max_payload
+whole_below i n m whole longer high = omega arith
 
 -- three bytes spell each number below 2 ^ 24
 pub le_number-le_bytes : (n : ℕ) → n < 16777216 → le_number (le_bytes 3 n) ≡ n
@@ -99,67 +128,66 @@ chunks_cancel (suc a) s q p x y hq hp e =
     (rw (count, take-add (a * max_payload) max_payload q, take-add (a * max_payload) max_payload p) (ap₂ (λ (u v : List ℕ). u ++ v) before.0 last.1), last.2)
 
 -- a block past full ones
-pub length-chunks_tail : (n : ℕ) (p : List ℕ) → length (take max_payload (drop (n * max_payload) p)) ≤ max_payload
-length-chunks_tail n p = rw length-take (omega arith)
+abbrev pub block : ℕ → List ℕ → List ℕ
+block n p = take max_payload (drop (n * max_payload) p)
+
+pub length-block : (n : ℕ) (p : List ℕ) → length (block n p) ≤ max_payload
+length-block n p = rw length-take (omega arith)
+
+-- behind full chunks of a longer payload stands its next one
+pub next_chunk : (s a more : ℕ) (q p W y : List ℕ) → a * max_payload ≤ length q → a * max_payload ≤ length p → chunks a s q ++ W ≡ chunks (suc a + more) s p ++ y
+    → (take (a * max_payload) q ≡ take (a * max_payload) p) × (W ≡ chunk (s + a) (block a p) ++ (chunks more (s + suc a) (drop (suc a * max_payload) p) ++ y))
+next_chunk s a more q p W y long_q long_p same =
+    let others : List ℕ = chunks more (s + suc a) (drop (suc a * max_payload) p) in
+    chunks_cancel a s q p W (chunk (s + a) (block a p) ++ (others ++ y)) long_q long_p
+    (same ∙ ap (λ (z : List ℕ). z ++ y) (chunks-add (suc a) more s p) ∙ append_assoc (chunks a s p ++ chunk (s + a) (block a p)) others y
+    ∙ append_assoc (chunks a s p) (chunk (s + a) (block a p)) (others ++ y))
 
 -- a whole payload's framing is no front of a longer one's full chunks
-pub framing_ends_at : (s b more : ℕ) (p q x y : List ℕ) → b * max_payload ≤ length p → length p < b * max_payload + max_payload → suc b * max_payload ≤ length q
-    → chunks (suc b) s p ++ x ≡ chunks (suc b + more) s q ++ y → ⊥
-framing_ends_at s b more p q x y low high long e =
-    let c : List ℕ = take max_payload (drop (b * max_payload) p) in
-    let d : List ℕ = take max_payload (drop (b * max_payload) q) in
-    let tail : List ℕ = chunks more (s + suc b) (drop (suc b * max_payload) q) ++ y in
-    let e' : chunks b s p ++ (chunk (s + b) c ++ x) ≡ chunks b s q ++ (chunk (s + b) d ++ tail) =
-    sym (append_assoc (chunks b s p) (chunk (s + b) c) x) ∙ e ∙ ap (λ (z : List ℕ). z ++ y) (chunks-add (suc b) more s q)
-    ∙ append_assoc (chunks b s q ++ chunk (s + b) d) (chunks more (s + suc b) (drop (suc b * max_payload) q)) y ∙ append_assoc (chunks b s q) (chunk (s + b) d) tail in
-    let last : chunk (s + b) c ++ x ≡ chunk (s + b) d ++ tail = (chunks_cancel b s p q (chunk (s + b) c ++ x) (chunk (s + b) d ++ tail) low (omega arith) e').1 in
-    let same : c ≡ d = (chunk_cancel (s + b) (s + b) c d x tail (length-chunks_tail b p) (length-chunks_tail b q) last).1 in
-    let len_c : length c < max_payload = rw (length-take, length-drop) (omega arith) in
-    let len_d : length d ≡ max_payload = rw (length-take, length-drop) (omega arith) in
-    absurd (omega (arith, ap (λ (z : List ℕ). length z) same))
-
 pub framing_ends : (s n : ℕ) (p q x y : List ℕ) → length p / max_payload < n → n * max_payload ≤ length q
     → framing s p ++ x ≡ chunks n s q ++ y → ⊥
 framing_ends s n p q x y short long e =
     let b : ℕ = length p / max_payload in
-    let more : ℕ = n - suc b in
-    let count : n ≡ suc b + more = omega arith in
+    let count : n ≡ suc b + (n - suc b) = omega arith in
     let longer : suc b * max_payload ≤ n * max_payload = mul-le-mul_right max_payload short in
-    framing_ends_at s b more p q x y (blocks_below (length p)) (blocks_above (length p)) (le_trans longer long)
-    (e ∙ ap (λ (k : ℕ). chunks k s q ++ y) count)
-
--- the framing of a payload, as its full chunks and its last one
-last_block : List ℕ → List ℕ
-last_block p = drop (length p / max_payload * max_payload) p
+    let low = blocks_below (length p) in
+    let high = blocks_above (length p) in
+    let last = (next_chunk s b (n - suc b) p q (chunk (s + b) (block b p) ++ x) y low (omega arith)
+    (sym (append_assoc (chunks b s p) (chunk (s + b) (block b p)) x) ∙ e ∙ ap (λ (k : ℕ). chunks k s q ++ y) count)).1 in
+    let same : block b p ≡ block b q = (chunk_cancel (s + b) (s + b) (block b p) (block b q) x _ (length-block b p) (length-block b q) last).1 in
+    let len_p : length (block b p) < max_payload = rw (length-take, length-drop) (omega arith) in
+    let len_q : length (block b q) ≡ max_payload = rw (length-take, length-drop) (omega arith) in
+    absurd (omega (arith, ap (λ (z : List ℕ). length z) same))
 
 -- one payload alone has this framing
+last_block_is : (b : ℕ) (p : List ℕ) → length p < b * max_payload + max_payload → take (b * max_payload) p ++ block b p ≡ p
+last_block_is b p high =
+    ap (λ (z : List ℕ). take (b * max_payload) p ++ z) (take_all max_payload (drop (b * max_payload) p) (rw length-drop (omega arith))) ∙ take-append-drop (b * max_payload) p
+
 framing_cancel_same : (s : ℕ) (p q x y : List ℕ) → length p / max_payload ≡ length q / max_payload
     → framing s p ++ x ≡ framing s q ++ y → (p ≡ q) × (x ≡ y)
 framing_cancel_same s p q x y same e =
     let b : ℕ = length p / max_payload in
-    let c : List ℕ = take max_payload (drop (b * max_payload) p) in
-    let d : List ℕ = take max_payload (drop (b * max_payload) q) in
-    let e' : chunks b s p ++ (chunk (s + b) c ++ x) ≡ chunks b s q ++ (chunk (s + b) d ++ y) =
-    sym (append_assoc (chunks b s p) (chunk (s + b) c) x) ∙ e ∙ ap (λ (k : ℕ). chunks (suc k) s q ++ y) (sym same)
-    ∙ append_assoc (chunks b s q) (chunk (s + b) d) y in
-    let low : b * max_payload ≤ length q = subst (λ (k : ℕ). k * max_payload ≤ length q) (sym same) (blocks_below (length q)) in
-    let high : length q < b * max_payload + max_payload = subst (λ (k : ℕ). length q < k * max_payload + max_payload) (sym same) (blocks_above (length q)) in
-    let below : b * max_payload ≤ length p = blocks_below (length p) in
-    let above : length p < b * max_payload + max_payload = blocks_above (length p) in
-    let parts = chunks_cancel b s p q (chunk (s + b) c ++ x) (chunk (s + b) d ++ y) below low e' in
-    let last = chunk_cancel (s + b) (s + b) c d x y (length-chunks_tail b p) (length-chunks_tail b q) parts.1 in
-    let whole_c : c ≡ drop (b * max_payload) p = take_all max_payload (drop (b * max_payload) p) (rw length-drop (omega arith)) in
-    let whole_d : d ≡ drop (b * max_payload) q = take_all max_payload (drop (b * max_payload) q) (rw length-drop (omega arith)) in
-    let joined : p ≡ q = sym (take-append-drop (b * max_payload) p) ∙ ap₂ (λ (u v : List ℕ). u ++ v) parts.0 (sym whole_c ∙ last.1 ∙ whole_d) ∙ take-append-drop (b * max_payload) q in
-    (joined, last.2)
+    let count : suc (length q / max_payload) ≡ suc b + 0 = omega arith in
+    let low : b * max_payload ≤ length q = rw same (blocks_below (length q)) in
+    let high : length q < b * max_payload + max_payload = rw same (blocks_above (length q)) in
+    let parts = next_chunk s b 0 p q (chunk (s + b) (block b p) ++ x) y (blocks_below (length p)) low
+    (sym (append_assoc (chunks b s p) (chunk (s + b) (block b p)) x) ∙ e ∙ ap (λ (k : ℕ). chunks k s q ++ y) count) in
+    let last = chunk_cancel (s + b) (s + b) (block b p) (block b q) x y (length-block b p) (length-block b q) parts.1 in
+    (sym (last_block_is b p (blocks_above (length p))) ∙ ap₂ (λ (u v : List ℕ). u ++ v) parts.0 last.1 ∙ last_block_is b q high, last.2)
 
 -- a framing is told apart from what follows it
-pub framing_cancel : (s : ℕ) (p q x y : List ℕ) → framing s p ++ x ≡ framing s q ++ y → (p ≡ q) × (x ≡ y)
+framing_apart : (s : ℕ) (p q x y : List ℕ) → length p / max_payload < length q / max_payload → framing s p ++ x ≡ framing s q ++ y → ⊥
+framing_apart s p q x y short e =
+    let b : ℕ = length q / max_payload in
+    framing_ends s b p q x (chunk (s + b) (block b q) ++ y) short (blocks_below (length q)) (e ∙ append_assoc (chunks b s q) (chunk (s + b) (block b q)) y)
+
+pub framing_cancel : UniqueFraming
 framing_cancel s p q x y e =
     elim (cases_lt (length p / max_payload) (length q / max_payload)) [
-      | inl short ↦ absurd (framing_ends s (length q / max_payload) p q x (chunk (s + length q / max_payload) (take max_payload (drop (length q / max_payload * max_payload) q)) ++ y) short (blocks_below (length q)) (e ∙ append_assoc (chunks (length q / max_payload) s q) (chunk (s + length q / max_payload) (take max_payload (drop (length q / max_payload * max_payload) q))) y))
+      | inl short ↦ absurd (framing_apart s p q x y short e)
       | inr long ↦ elim (cases_lt (length q / max_payload) (length p / max_payload)) [
-        | inl short ↦ absurd (framing_ends s (length p / max_payload) q p y (chunk (s + length p / max_payload) (take max_payload (drop (length p / max_payload * max_payload) p)) ++ x) short (blocks_below (length p)) (sym e ∙ append_assoc (chunks (length p / max_payload) s p) (chunk (s + length p / max_payload) (take max_payload (drop (length p / max_payload * max_payload) p))) x))
+        | inl short ↦ absurd (framing_apart s q p y x short (sym e))
         | inr other ↦ framing_cancel_same s p q x y (omega arith) e
       ]
     ]
@@ -214,7 +242,7 @@ length-chunks (suc n) s p h =
     ∙ (let a = length-chunks n s p (omega arith) in let b = length-chunk_alone (s + n) (take max_payload (drop (n * max_payload) p)) in omega arith)
 
 -- n bytes framed are n + 4 * (n / MAX + 1) bytes
-pub length-framing : (s : ℕ) (p : List ℕ) → length (framing s p) ≡ length p + 4 * (length p / max_payload + 1)
+pub length-framing : FramedLength
 length-framing s p =
     let b : ℕ = length p / max_payload in
     let low : b * max_payload ≤ length p = blocks_below (length p) in
@@ -222,6 +250,8 @@ length-framing s p =
     let last : length (take max_payload (drop (b * max_payload) p)) ≡ length p - b * max_payload = rw (length-take, length-drop) (omega arith) in
     length-append (chunks b s p) (chunk (s + b) (take max_payload (drop (b * max_payload) p)))
     ∙ (let a = length-chunks b s p low in let e = length-chunk_alone (s + b) (take max_payload (drop (b * max_payload) p)) in omega arith)
+
+pub ruleset framing_laws = (length-framing)
 
 -- bytes written at a place, and others behind them
 pub put_twice : (old mid new a b : List ℕ) (at : ℕ) → at + length a ≤ length old → mid ≡ take at old ++ a ++ drop (at + length a) old

@@ -1,30 +1,22 @@
 -- A packet where it lies.
-use Rattle.std.proofs.Common.{◌≡◌, ℕ, ◌+◌, ◌-◌, ◌%◌, ◌<◌, ◌≤◌, List, [], ◌∷◌, length, take, drop, refl, sym, ap, ◌∙◌, subst, arith, inl, slice_index, Option, Some, None, MatchOption, Ok, Bool, true, ne_eqb, if◌then◌else◌, length-drop}
+use Rattle.std.proofs.Common.{◌≡◌, ℕ, ◌+◌, ◌-◌, ◌%◌, ◌<◌, ◌≤◌, List, [], ◌∷◌, length, take, drop, refl, sym, ap, ◌∙◌, arith, inl, inr, slice_index, Option, Some, None, MatchOption, Ok, true, length-drop}
 use Rattle.std.proofs.lemmas.List.{length-take-le}
-use Rattle.wire_codec.specs.declared.codec.chunk.ChunkInfo.{ChunkInfo}
-use Rattle.wire_codec.specs.declared.codec.chunk.ChunkInfo.TheVariants.{Middle, Last}
+use Rattle.wire_codec.proofs.Declared.{ChunkInfo, Last}
 use Rattle.wire_codec.specs.Framing.{max_payload}
-use Rattle.wire_codec.specs.Delivery.{chunk_len, IsSpelled, IsWholeChunks}
+use Rattle.wire_codec.specs.Delivery.{chunk_len, IsSpelled}
 use Rattle.wire_codec.specs.OneChunk.{info_of, FinishesChunk, DecodesChunk}
 use Rattle.wire_codec.specs.Codec.{CodecState, Stands, open_id, DecodesPacket, ChunkChain}
-use Rattle.wire_codec.specs.Limited.{rest_limit}
 use Rattle.wire_codec.specs.LimitedRuns.{DecodesAligned, run_limits}
 use Rattle.wire_codec.specs.GoingOn.{Decodes}
 use Rattle.wire_codec.specs.InPlace.{front_payload, HasFront, behind_front}
-use Rattle.wire_codec.proofs.CodecLemmas.{id_at_open, outcome_of, chunk_taken, taken_last}
+use Rattle.wire_codec.proofs.ChunkLemmas.{nothing_whole}
+use Rattle.wire_codec.proofs.ConstantLimit.{one, stands_on, decodes_one}
+use Rattle.wire_codec.proofs.TakenChunk.{id_at_open, info_kind}
 use Rattle.wire_codec.proofs.GoingOnLemmas.{outcome_under, last_under, start_mark, goes_on_start}
 
 -- a codec and its buffers, by the parts
 abbrev pub state_of : ℕ → ℕ → Option (ℕ × ℕ) → List ℕ → List ℕ → CodecState
 state_of limit id header unread held = record { limit = limit; id = id; header = header; unread = unread; held = held }
-
-short_chunk : (n : ℕ) → 0 < n → n < max_payload → n % max_payload ≡ 0 → ⊥
-unfolding max_payload
-short_chunk n some small e = absurd (omega arith)
-
-nothing_whole : IsWholeChunks []
-unfolding max_payload
-nothing_whole = refl
 
 pub front_len : (src : List ℕ) → 4 + chunk_len src ≤ length src → length (front_payload src) ≡ chunk_len src
 front_len src whole =
@@ -34,9 +26,10 @@ front_len src whole =
 front_info : (src : List ℕ) → 4 + chunk_len src ≤ length src → 0 < chunk_len src → chunk_len src < max_payload
     → info_of (slice_index src 3) (front_payload src) ≡ Last (slice_index src 3)
 front_info src whole some small =
-    let len = front_len src whole in
-    let ne : length (front_payload src) % max_payload ≡ 0 → ⊥ = λ z. short_chunk (chunk_len src) some small (ap (λ (n : ℕ). n % max_payload) (sym len) ∙ z) in
-    ap (λ (t : Bool). if t then Middle (slice_index src 3) else Last (slice_index src 3)) (ne_eqb (length (front_payload src) % max_payload) 0 ne)
+    elim (info_kind (slice_index src 3) (chunk_len src) [] (front_payload src) nothing_whole (front_len src whole ∙ omega arith) some (omega arith)) [
+      | inl full ↦ absurd (let e = full.0 in omega arith)
+      | inr part ↦ part.1
+    ]
 
 front_finishes : (id : ℕ) (src : List ℕ) → 4 + chunk_len src ≤ length src → 0 < chunk_len src → chunk_len src < max_payload → slice_index src 3 ≡ id
     → FinishesChunk (slice_index src 3) (chunk_len src) src [] (Ok (Some (Last id))) None (drop (4 + chunk_len src) src) (front_payload src)
@@ -61,34 +54,21 @@ front_chunk limit id None src (aligned, empty, long, whole, small, is, within) =
 }
 front_chunk limit id (Some (i, needed)) src (aligned, empty, long, whole, small, is, within) =
     let s = aligned.1 in
-    subst (λ (n : ℕ). FinishesChunk n needed src [] (Ok (Some (Last id))) None (drop (4 + chunk_len src) src) (front_payload src)) s.1
-    (subst (λ (n : ℕ). FinishesChunk (slice_index src 3) n src [] (Ok (Some (Last id))) None (drop (4 + chunk_len src) src) (front_payload src)) s.2
-    (front_finishes id src whole (omega (arith, s.2, s.3)) small is))
+    rw (sym s.1, sym s.2) (front_finishes id src whole (omega (arith, s.2, s.3)) small is)
 
 -- what stands after it
 abbrev pub after_front : ℕ → ℕ → List ℕ → CodecState
 after_front limit id src = state_of limit ((id + 1) % 256) None (drop (4 + chunk_len src) src) (front_payload src)
 
-pub front_decodes : (limit id : ℕ) (header : Option (ℕ × ℕ)) (src : List ℕ) → id < 256 → IsSpelled src → HasFront (state_of limit id header src [])
-    → Stands (state_of limit id header src []) → DecodesPacket (state_of limit id header src []) (Ok true) (after_front limit id src)
-front_decodes limit id header src byte spelled there stands =
-    let first = open_id id [] in
-    let rest = drop (4 + chunk_len src) src in
-    let dst = front_payload src in
-    let t = chunk_taken header limit src [] (Last id) None rest dst spelled stands
-    (outcome_of header limit src [] (Ok (Some (Last id))) None rest dst stands (front_chunk limit id header src there)) in
-    taken_last first id limit src [] None rest dst spelled stands.0 (sym (id_at_open id [] byte)) t
-
 pub front_on : (limit id : ℕ) (header : Option (ℕ × ℕ)) (src : List ℕ) → id < 256 → IsSpelled src → HasFront (state_of limit id header src [])
     → Decodes (state_of limit id header src []) (Ok true) (after_front limit id src)
 front_on limit id header src byte spelled there limits mark place on =
-    let first = open_id id [] in
-    let rest = drop (4 + chunk_len src) src in
-    let dst = front_payload src in
-    let judged = rest_limit limits place [] src in
-    let t = chunk_taken None judged src [] (Last id) None rest dst spelled (on.aligned.0, tt)
-    (outcome_under limits mark place limit header src [] (Ok (Some (Last id))) None rest dst on (front_chunk limit id header src there)) in
-    last_under limits mark place limit header first id src [] None rest dst on spelled (sym (id_at_open id [] byte)) t
+    last_under (open_id id []) on spelled (sym (id_at_open id [] byte)) (outcome_under (Ok (Some (Last id))) _ _ _ on (front_chunk limit id header src there))
+
+pub front_decodes : (limit id : ℕ) (header : Option (ℕ × ℕ)) (src : List ℕ) → id < 256 → IsSpelled src → HasFront (state_of limit id header src [])
+    → Stands (state_of limit id header src []) → DecodesPacket (state_of limit id header src []) (Ok true) (after_front limit id src)
+front_decodes limit id header src byte spelled there stands =
+    decodes_one (Ok true) limit _ _ [] _ _ _ _ stands.0 (front_on limit id header src byte spelled there (one limit) 0 0 (stands_on limit 0 header src [] stands)).0
 
 pub front_aligned : (limit id : ℕ) (header : Option (ℕ × ℕ)) (src : List ℕ) → id < 256 → IsSpelled src → HasFront (state_of limit id header src [])
     → DecodesAligned (state_of limit id header src []) (Ok true) (after_front limit id src)

@@ -1,18 +1,17 @@
 -- Packets that are taken, one after another.
-use Rattle.std.proofs.Common.{◌≡◌, ℕ, ◌+◌, ◌<◌, ◌≤◌, List, [], ◌∷◌, ◌++◌, length, refl, sym, subst, ap, ◌∙◌, arith, Result, Ok, Err, true}
-use Rattle.wire_codec.specs.declared.codec.error.PacketCodecError.{PacketCodecError}
-use Rattle.wire_codec.specs.declared.codec.error.PacketCodecError.TheVariants.{PacketTooLarge, OutOfMemory, PacketsOutOfSync, Io}
-use Rattle.wire_codec.specs.Framing.{front, id_after}
+use Rattle.std.proofs.Common.{◌≡◌, ℕ, ◌<◌, ◌≤◌, List, [], ◌∷◌, ◌++◌, length, refl, ap, ◌∙◌, arith, Result, Ok, Err, true}
+use Rattle.wire_codec.proofs.Declared.{PacketCodecError, PacketTooLarge, OutOfMemory, PacketsOutOfSync, Io}
+use Rattle.wire_codec.specs.Framing.{id_after}
 use Rattle.wire_codec.specs.Codec.{CodecState, open_id, first_id, input_of}
-use Rattle.wire_codec.specs.Limited.{Limits, SplitsUnder, place_after, framed_size}
+use Rattle.wire_codec.specs.Limited.{Limits, SplitsUnder, place_after}
 use Rattle.wire_codec.specs.LimitedRuns.{RunsUnder}
-use Rattle.wire_codec.specs.GoingOn.{GoesOn, GoesOnAt, DecodesOn}
+use Rattle.wire_codec.specs.GoingOn.{GoesOn, DecodesOn}
 use Rattle.wire_codec.specs.Taking.{TakesNext}
 use Rattle.wire_codec.proofs.CodecLemmas.{open_at_id, open_small}
 use Rattle.wire_codec.proofs.RunLemmas.{next_open}
 use Rattle.wire_codec.proofs.LimitedLemmas.{place_after-append}
 use Rattle.wire_codec.proofs.GoingOnLemmas.{splits_here_under}
-use Rattle.wire_codec.proofs.LimitedRunLemmas.{splits_push_under, goes_on_pushed, was_allowed, stays_on, runs_still_under}
+use Rattle.wire_codec.proofs.LimitedRunLemmas.{splits_push, goes_on_pushed, was_allowed, stays, runs_still}
 
 -- a decode that stops, as a run that takes nothing
 stopped : (error : PacketCodecError) (limits : Limits) (mark place : ℕ) (before after : CodecState)
@@ -30,15 +29,14 @@ pub stopped_next : (error : PacketCodecError) (limits : Limits) (mark place : �
     × (error ≡ OutOfMemory → GoesOn limits mark place after)
 stopped_next error limits mark place before after same on t = (
   stopped error limits mark place before after t,
-  λ e. subst (λ (z : ℕ). GoesOnAt limits mark place z after.header after.unread after.held) (sym same)
-      (stays_on error limits mark place before.limit (first_id before) before.header before.held before.unread after.id after.header after.unread after.held on t e),
+  λ e. rw same (stays (first_id before) after.id after.header after.unread after.held on (rw e at t)),
 )
 
 -- no room for a packet, before anything is decoded
 pub refused_next : (limits : Limits) (mark place : ℕ) (before : CodecState) → GoesOn limits mark place before
     → RunsUnder limits place (first_id before) (input_of before) before.held (Err OutOfMemory) [] before.id before.header before.unread before.held
 refused_next limits mark place before on =
-    (splits_here_under limits place (first_id before) before.held before.unread on.aligned.0, refl, on.aligned, was_allowed limits mark place before.limit before.header before.unread before.held on)
+    (splits_here_under limits place (first_id before) before.held before.unread on.aligned.0, refl, on.aligned, was_allowed on)
 
 -- a run that takes packets and goes on
 abbrev pub HasTaken : {O : Type 0} → (O → List (List ℕ) → O → Type 0) → Limits → ℕ → ℕ → ℕ → List ℕ → List ℕ → O → O → CodecState → Type 0
@@ -54,17 +52,12 @@ has_taken_more took joins limits mark place first d S old mid new before after r
     let gained = run.0 in
     let next = takes (place_after place gained) run.3 in
     let packet = next.0 in
-    let known = subst (λ (z : ℕ). DecodesOn limits mark (place_after place gained) z (front z before.held ++ before.unread) before.held (Ok true) after.id after.header after.unread packet) run.4 next.2 in
-    let on = goes_on_pushed limits mark (place_after place gained) before.limit (id_after first gained) before.header after.header before.held before.unread packet after.unread run.3 known.0.0 known.0.3 known.1 less in
-    let there : place_after place gained + framed_size packet ≡ place_after place (gained ++ packet ∷ []) = sym (place_after-append place gained (packet ∷ [])) in
+    let known = rw run.4 at next.2 in
     let small : after.id < 256 = let e = known.0.2 in omega arith in (
       gained ++ packet ∷ [],
       joins old mid new gained (packet ∷ []) run.1 next.1,
-      subst (λ (z : List ℕ). SplitsUnder limits place d S first (gained ++ packet ∷ []) z after.unread) (sym next.3)
-          (splits_push_under limits place d S first gained before.held before.unread packet after.unread run.2 known.0.0 known.0.1),
-      subst (λ (z : List ℕ). GoesOnAt limits mark (place_after place (gained ++ packet ∷ [])) after.limit after.header after.unread z) (sym next.3)
-          (subst (λ (n : ℕ). GoesOnAt limits mark (place_after place (gained ++ packet ∷ [])) n after.header after.unread []) (sym same)
-          (subst (λ (n : ℕ). GoesOnAt limits mark n before.limit after.header after.unread []) there on)),
+      rw next.3 (splits_push after.unread run.2 known.0.0 known.0.1),
+      rw (next.3, same, place_after-append place gained (packet ∷ [])) (goes_on_pushed (id_after first gained) after.header packet after.unread run.3 known.0.0 known.0.3 known.1 less),
       ap (λ (z : List ℕ). open_id after.id z) next.3 ∙ next_open first gained after.id packet known.0.2 small,
     )
 
@@ -74,5 +67,4 @@ pub has_taken_all : {O : Type 0} (took : O → List (List ℕ) → O → Type 0)
     → RunsUnder limits (place_after place run.0) (first_id before) (input_of before) before.held answer [] after.id after.header after.unread after.held
     → RunsUnder limits place first S d answer run.0 after.id after.header after.unread after.held
 has_taken_all took limits mark place first d S old mid before after answer run stops =
-    runs_still_under answer limits place d S first run.0 before.held before.unread after.id after.header after.unread after.held run.2
-    (subst (λ (z : ℕ). RunsUnder limits (place_after place run.0) z (front z before.held ++ before.unread) before.held answer [] after.id after.header after.unread after.held) run.4 stops)
+    runs_still answer after.id after.header after.unread after.held run.2 (rw run.4 at stops)

@@ -1,11 +1,11 @@
 -- Packets that are visited, one after another.
 use Rattle.std.proofs.Common.{◌≡◌, ℕ, List, ◌++◌, ◌+◌, ◌≢◌, take, drop, refl, sym, ap, ap₂, ◌∙◌, Result, Ok, Err}
-use Rattle.wire_codec.specs.declared.codec.error.PacketCodecError.{PacketCodecError}
-use Rattle.wire_codec.specs.declared.codec.error.PacketCodecError.TheVariants.{PacketTooLarge, PacketsOutOfSync, OutOfMemory, Io}
+use Rattle.wire_codec.proofs.Declared.{PacketCodecError, PacketTooLarge, OutOfMemory, PacketsOutOfSync, Io}
 use Rattle.wire_codec.specs.Delivery.{chunk_len, Ending, Waiting, TooLarge, OutOfSync, Delivers}
-use Rattle.wire_codec.specs.Runs.{LeavesFrom, RunsOver}
-use Rattle.wire_codec.proofs.DeliveryLemmas.{one_delivery_is}
-use Rattle.wire_codec.specs.Codec.{CodecState, first_id, input_of}
+use Rattle.wire_codec.specs.Runs.{LeavesFrom}
+use Rattle.wire_codec.proofs.ConstantLimit.{one_delivery_is}
+use Rattle.wire_codec.specs.Codec.{first_id, input_of}
+use Rattle.wire_codec.specs.Laws.{OneRun}
 
 -- how a run ends, and what it leaves, by how its delivery ends
 abbrev answer_of : Ending → Result (Unit {0}) PacketCodecError
@@ -23,35 +23,24 @@ left_of Waiting rest = rest
 left_of TooLarge rest = rest
 left_of OutOfSync rest = drop (4 + chunk_len rest) rest
 
-record Delivered (held input : List ℕ) (first limit : ℕ) (answer : Result (Unit {0}) PacketCodecError) (gained : List (List ℕ)) (dst left : List ℕ) : Type 0 where
-  ending : Ending
-  unfinished : List ℕ
-  rest : List ℕ
-  delivers : Delivers held input first limit gained ending unfinished rest
-  answered : answer ≡ answer_of ending
-  kept : dst ≡ held_of ending unfinished rest
-  goes : left ≡ left_of ending rest
-
 delivered : (answer : Result (Unit {0}) PacketCodecError) (held input : List ℕ) (first limit : ℕ) (gained : List (List ℕ)) (src left dst : List ℕ) → answer ≢ Err OutOfMemory
-    → LeavesFrom first input held limit answer gained src left dst → Delivered held input first limit answer gained dst (src ++ left)
-delivered (Ok tt) held input first limit gained src left dst some d = record { ending = Waiting; unfinished = dst; rest = src ++ left; delivers = d; answered = refl; kept = refl; goes = refl }
-delivered (Err PacketTooLarge) held input first limit gained src left dst some d = record { ending = TooLarge; unfinished = dst; rest = src ++ left; delivers = d; answered = refl; kept = refl; goes = refl }
-delivered (Err PacketsOutOfSync) held input first limit gained src left dst some (unfinished, rest, d, kept, goes) =
-    record { ending = OutOfSync; unfinished = unfinished; rest = rest; delivers = d; answered = refl; kept = kept; goes = goes }
+    → LeavesFrom first input held limit answer gained src left dst
+    → (ending : Ending) × (unfinished : List ℕ) × (rest : List ℕ) × Delivers held input first limit gained ending unfinished rest
+    × (answer ≡ answer_of ending) × (dst ≡ held_of ending unfinished rest) × (src ++ left ≡ left_of ending rest)
+delivered (Ok tt) held input first limit gained src left dst some d = (Waiting, dst, src ++ left, d, refl, refl, refl)
+delivered (Err PacketTooLarge) held input first limit gained src left dst some d = (TooLarge, dst, src ++ left, d, refl, refl, refl)
+delivered (Err PacketsOutOfSync) held input first limit gained src left dst some (unfinished, rest, d, kept, goes) = (OutOfSync, unfinished, rest, d, refl, kept, goes)
 delivered (Err OutOfMemory) held input first limit gained src left dst some d = absurd (some refl)
 delivered (Err (Io error)) held input first limit gained src left dst some d = absurd d
 
 -- runs from one state over the same bytes are one run
-pub one_run_is : (before after other_after : CodecState) (more : List ℕ) (answer other : Result (Unit {0}) PacketCodecError) (gained others : List (List ℕ)) (left other_left : List ℕ)
-    → answer ≢ Err OutOfMemory → other ≢ Err OutOfMemory
-    → RunsOver before more answer gained after left → RunsOver before more other others other_after other_left
-    → (gained ≡ others) × (answer ≡ other) × (after.held ≡ other_after.held) × (after.unread ++ left ≡ other_after.unread ++ other_left)
+pub one_run_is : OneRun
 one_run_is before after other_after more answer other gained others left other_left some some_other run other_run =
     let a = delivered answer before.held (input_of before ++ more) (first_id before) before.limit gained after.unread left after.held some run in
     let b = delivered other before.held (input_of before ++ more) (first_id before) before.limit others other_after.unread other_left other_after.held some_other other_run in
-    let one = one_delivery_is before.held (input_of before ++ more) (first_id before) before.limit gained others a.ending b.ending a.unfinished b.unfinished a.rest b.rest a.delivers b.delivers in (
+    let one = one_delivery_is before.held (input_of before ++ more) (first_id before) before.limit gained others a.0 b.0 a.1 b.1 a.2 b.2 a.3 b.3 in (
       one.0,
-      a.answered ∙ ap (λ z. answer_of z) one.1 ∙ sym b.answered,
-      a.kept ∙ ap (λ z. held_of z a.unfinished a.rest) one.1 ∙ ap₂ (λ u v. held_of b.ending u v) one.2 one.3 ∙ sym b.kept,
-      a.goes ∙ ap (λ z. left_of z a.rest) one.1 ∙ ap (λ z. left_of b.ending z) one.3 ∙ sym b.goes,
+      a.4 ∙ ap (λ z. answer_of z) one.1 ∙ sym b.4,
+      a.5 ∙ ap (λ z. held_of z a.1 a.2) one.1 ∙ ap₂ (λ u v. held_of b.0 u v) one.2 one.3 ∙ sym b.5,
+      a.6 ∙ ap (λ z. left_of z a.2) one.1 ∙ ap (λ z. left_of b.0 z) one.3 ∙ sym b.6,
     )

@@ -4,8 +4,9 @@ use Rattle.std.specs.Io.KnownBytes.{Appends, IsAtEnd}
 use Rattle.wire_codec.specs.declared.codec.packet.PacketCodec.{PacketCodec}
 use Rattle.wire_codec.specs.Codec.{expected_id}
 use Rattle.wire_codec.specs.Framing.{framing, next_id}
+use Rattle.wire_span.specs.declared.span.SpanDecoder.{SpanDecoder}
 use Rattle.wire_span.specs.declared.span.SpanError.TheVariants as span
-use Rattle.wire_span.specs.Spans.{SpanState, CameTo, EatsSpans, IsBetween, SpansOn, StopsBefore}
+use Rattle.wire_span.specs.Spans.{SpanState, header_came, span_state, CameTo, EatsSpans, IsBetween, SpansOn, StopsBefore}
 use Rattle.wire_span.specs.Passing.{most_bytes}
 use Rattle.wire_span.specs.Renumbering.{sent}
 use Rattle.wire_packet_io.specs.declared.error.PacketIoError.{PacketIoError}
@@ -42,6 +43,10 @@ abbrev pub RelaysPacket : {R W : Type 0} → (R → Option (List ℕ)) → (W �
 RelaysPacket remaining contents codec old other held result behind new next more =
     RelaysTo remaining contents (copied_to old.copied codec) old (expected_id other) held result
     (copied_to new.copied behind) new (expected_id next) more
+
+-- no header has come in part
+abbrev pub IsUncut : SpanDecoder → Type 0
+IsUncut decoder = header_came (span_state decoder).place ≡ []
 
 -- the front of what was unread is moved behind what was pending, in one span on both sides
 abbrev pub Relays : Bool → SpanState → ℕ → List ℕ → List ℕ → SpanState → ℕ → List ℕ → List ℕ → Type 0

@@ -1,10 +1,11 @@
 //! Bytes, one of two values, and two in a row come back, where each part does.
 
-ghost use Rattle.std.specs.Prelude.{◌≡◌, ℕ, List, ◌++◌, length, ◌⊎◌};
+ghost use Rattle.std.specs.Prelude.{◌≡◌, ℕ, List, length, ◌⊎◌};
+ghost use Rattle.mysql_wire.specs.RowsBack.{BothComeBack, EitherComesBack, GoodInRow};
 ghost use Rattle.wire_buf.specs.Reading.{Reads, Parses, Answers, Through, front_at};
-ghost use Rattle.wire_field.specs.Rows.{ReadsBoth, ReadsEither, OnSide, SameSide, by_side};
+ghost use Rattle.wire_field.specs.Rows.{ReadsBoth, ReadsEither, SameSide};
 ghost use Rattle.wire_field.specs.declared.row.Either.{Either};
-ghost use Rattle.wire_repr.specs.Law.{ComesBackFrom, GoodBefore, LeavesRest, seen};
+ghost use Rattle.wire_repr.specs.Law.{ComesBackFrom, GoodBefore};
 
 use std::alloc::{Allocator, Global};
 use wire_buf::error::WireError;
@@ -43,12 +44,8 @@ pub fn either<'de, T: Wire<'de, A>, U: Wire<'de, A>, A: Allocator + Copy>(
 ) -> Result<Either<T, U>, WireError>
     ensures reads { Reads (ReadsEither (λ ctx. Parses T.Size.SIZE (T.reads ctx))
         (λ ctx. Parses U.Size.SIZE (U.reads ctx)) ctx) buf.old.0.now result buf.new.0.now }
-    ensures back { (value : Either T U) (rest : List ℕ) → OnSide T.is_value U.is_value value
-        → SameSide (λ ctx left. T.good ctx left (seen T.Size.SIZE rest))
-        (λ ctx right. U.good ctx right (seen U.Size.SIZE rest)) ctx value
-        → buf.old.0.now ≡ by_side T.bytes U.bytes value ++ rest
-        → LeavesRest (SameSide T.kept U.kept value) (T.takes_memory ⊎ U.takes_memory) rest result
-        buf.new.0.now }
+    ensures back { EitherComesBack T.Size.SIZE U.Size.SIZE T.is_value U.is_value T.good U.good
+        T.bytes U.bytes T.kept U.kept (T.takes_memory ⊎ U.takes_memory) ctx buf.old result buf.new }
 {
     parse_back::<'de, Either<T, U>, A>(alloc, ctx, buf)
 }
@@ -75,12 +72,8 @@ pub fn both<'de, T: Wire<'de, A>, U: Wire<'de, A>, A: Allocator + Copy>(
     ensures reads { Reads (ReadsBoth (λ both. both.0) (λ both. both.1)
         (Parses T.Size.SIZE (T.reads ctx.0)) (Parses U.Size.SIZE (U.reads ctx.1)))
         buf.old.0.now result buf.new.0.now }
-    ensures back { (first : T) (second : U) (rest : List ℕ) → T.is_value first → U.is_value second
-        → T.good ctx.0 first (seen T.Size.SIZE (U.bytes second ++ rest))
-        → U.good ctx.1 second (seen U.Size.SIZE rest)
-        → buf.old.0.now ≡ (T.bytes first ++ U.bytes second) ++ rest
-        → LeavesRest (λ back. T.kept first back.0 × U.kept second back.1)
-        (T.takes_memory ⊎ U.takes_memory) rest result buf.new.0.now }
+    ensures back { BothComeBack T.Size.SIZE U.Size.SIZE T.is_value U.is_value T.good U.good
+        T.bytes U.bytes T.kept U.kept (T.takes_memory ⊎ U.takes_memory) ctx buf.old result buf.new }
 {
     parse_back::<'de, Both<T, U>, A>(alloc, ctx, buf)
 }
@@ -93,8 +86,7 @@ pub fn both_comes_back<'de, T: Wire<'de, A>, U: Wire<'de, A>, A: Allocator + Cop
     _back: &Both<T, U>,
 )
     ensures good { (rest : List ℕ)
-        → T.good _ctx.0 _both.now.0 (seen T.Size.SIZE (U.bytes _both.now.1 ++ rest))
-        → U.good _ctx.1 _both.now.1 (seen U.Size.SIZE rest)
+        → GoodInRow T.Size.SIZE U.Size.SIZE T.good U.good U.bytes _ctx _both.now.0 _both.now.1 rest
         → ⟦<Both<T, U> as Wire<'de, A>>⟧.good _ctx _both.now rest }
     ensures kept { ⟦<Both<T, U> as Wire<'de, A>>⟧.kept _both.now _back.now
         → T.kept _both.now.0 _back.now.0 × U.kept _both.now.1 _back.now.1 }

@@ -1,11 +1,11 @@
 //! The loop that passes a packet on to a writer of packets, with other sequence ids.
 
-ghost use Rattle.std.specs.Prelude.{◌≡◌, ℕ, ◌+◌, ◌<◌, ◌≤◌, [], length, IsFalse};
-ghost use Rattle.wire_span.specs.Spans.{header_came, span_state};
+ghost use Rattle.std.specs.Prelude.{◌≡◌, ℕ, ◌+◌, ◌<◌, ◌≤◌, length, IsFalse};
+ghost use Rattle.wire_span.specs.Spans.{span_state};
 ghost use Rattle.wire_span.specs.Passing.{left_in, most_bytes};
 ghost use Rattle.wire_packet_io.specs.Copying.{has_ended};
 ghost use Rattle.wire_packet_io.specs.Lent.{lender};
-ghost use Rattle.wire_packet_io.specs.Relaying.{EndsRelay, RelayStops, Relays, RelaysTo, StepsRelay};
+ghost use Rattle.wire_packet_io.specs.Relaying.{EndsRelay, IsUncut, RelayStops, Relays, RelaysTo, StepsRelay};
 
 use super::Input;
 use super::copy::refusal;
@@ -25,11 +25,11 @@ impl<R: Read, A: Allocator + Copy> Input<R, A> {
         writer: &mut PacketWriter<W, B>,
     ) -> Result<Option<bool>, PacketIoError>
         requires open { 0 < left_in (span_state decoder.old).place }
-        requires uncut { header_came (span_state decoder.old).place ≡ [] }
+        requires uncut { IsUncut decoder.old }
         ensures steps { (id : ℕ) → StepsRelay result (span_state decoder.old) id
             self.old.src.items writer.old.pending (span_state decoder.new) id
             self.new.src.items writer.new.pending }
-        ensures kept { (header_came (span_state decoder.new).place ≡ [])
+        ensures kept { IsUncut decoder.new
             × (decoder.new.max_allowed_packet ≡ decoder.old.max_allowed_packet)
             × (self.new ≡ record self.old { src = self.new.src })
             × (writer.new.writer ≡ writer.old.writer) }
@@ -55,11 +55,11 @@ impl<R: Read, A: Allocator + Copy> Input<R, A> {
         writer: &mut PacketWriter<W, B>,
         next_id: &mut u8,
     ) -> Result<Option<bool>, PacketIoError>
-        requires uncut { header_came (span_state decoder.old).place ≡ [] }
+        requires uncut { IsUncut decoder.old }
         ensures steps { StepsRelay result (span_state decoder.old) next_id.old
             self.old.src.items writer.old.pending (span_state decoder.new) next_id.new
             self.new.src.items writer.new.pending }
-        ensures kept { (header_came (span_state decoder.new).place ≡ [])
+        ensures kept { IsUncut decoder.new
             × (decoder.new.max_allowed_packet ≡ decoder.old.max_allowed_packet)
             × (self.new ≡ record self.old { src = self.new.src })
             × (writer.new.writer ≡ writer.old.writer) }
@@ -97,7 +97,7 @@ impl<R: Read, A: Allocator + Copy> Input<R, A> {
         writer: &mut PacketWriter<W, B>,
         next_id: &mut u8,
     ) -> Result<bool, PacketIoError>
-        requires uncut { header_came (span_state decoder.old).place ≡ [] }
+        requires uncut { IsUncut decoder.old }
         ensures goes { Relays (has_ended result) (span_state decoder.old) next_id.old
             self.old.src.items writer.old.pending (span_state decoder.new) next_id.new
             self.new.src.items writer.new.pending }
@@ -105,7 +105,7 @@ impl<R: Read, A: Allocator + Copy> Input<R, A> {
         ensures fewer { IsFalse (has_ended result)
             → most_bytes (span_state decoder.new) + length self.old.src.items
             ≤ most_bytes (span_state decoder.old) + length self.new.src.items }
-        ensures kept { (header_came (span_state decoder.new).place ≡ [])
+        ensures kept { IsUncut decoder.new
             × (decoder.new.max_allowed_packet ≡ decoder.old.max_allowed_packet)
             × (self.new ≡ record self.old { src = self.new.src })
             × (writer.new.writer ≡ writer.old.writer) }
@@ -129,13 +129,13 @@ impl<R: Read, A: Allocator + Copy> Input<R, A> {
         writer: &mut PacketWriter<W, B>,
         next_id: &mut u8,
     ) -> Result<bool, PacketIoError>
-        requires uncut { header_came (span_state decoder.old).place ≡ [] }
+        requires uncut { IsUncut decoder.old }
         ensures relays { RelaysTo R.remaining W.contents
             (span_state decoder.old) (lender None self.old) next_id.old writer.old result
             (span_state decoder.new) (lender None self.new) next_id.new writer.new }
         ensures stops { RelayStops result (span_state decoder.new) self.new.src.items
             (R.remaining self.new.reader) writer.new.pending }
-        ensures kept { (header_came (span_state decoder.new).place ≡ [])
+        ensures kept { IsUncut decoder.new
             × (self.new.dst ≡ self.old.dst) × (self.new.lost ≡ self.old.lost)
             × (decoder.new.max_allowed_packet ≡ decoder.old.max_allowed_packet) }
     {

@@ -1,5 +1,5 @@
-use Rattle.std.proofs.Common.{◌≡◌, ℕ, ◌+◌, ◌/◌, ◌%◌, ◌<◌, ◌++◌, length, min, drop, sym, ap, ◌∙◌, arith, add-one, refl, subst, None, IfNone}
-use Rattle.wire_codec.specs.Framing.{max_payload, max_payload_is, chunks, framing}
+use Rattle.std.proofs.Common.{◌≡◌, ℕ, ◌+◌, ◌/◌, ◌%◌, ◌++◌, length, min, drop, sym, ap, ◌∙◌, arith, add-one, refl, None}
+use Rattle.wire_codec.specs.Framing.{max_payload, max_payload_is, chunks}
 use Rattle.wire_codec.proofs.ChunkLemmas.{left_more, chunk_behind, length-framing}
 use Rattle.wire_codec.proofs.codec.framing.packet_to_slice.Goals as goal
 
@@ -40,34 +40,26 @@ returns-in_err-needed-clause-small c =
     let none : c.from_residual.result ≡ None = c.from_residual.ensures in
     let len = length-framing c.args.seq_id c.args.packet.now in
     let above = c.in_err-needed.ensures in
-    subst (λ z. IfNone z ((c.args.room.now ≡ c.args.room.now) × (length c.args.room.now < length (framing c.args.seq_id c.args.packet.now)))) (sym none)
-    (refl, omega (arith, len, above))
+    rw none (refl, omega (arith, len, above))
 
 pub returns-then-room-needed-clause-small : goal.returns-then-room-needed-clause-small
 returns-then-room-needed-clause-small c =
     let len = length-framing c.args.seq_id c.args.packet.now in
     (refl, omega (arith, len, c.if-room-needed.true, c.in_ok-needed.ensures))
 
-pub returns-clause-written : goal.returns-clause-written
-returns-clause-written c =
+pub returns : goal.returns
+returns c =
     let p = c.args.packet.now in
+    let inv = c.loop.invariant in
     let same : length p / max_payload ≡ length p / 16777215 = ap (λ (n : ℕ). length p / n) max_payload_is in
     let all : c.loop.counter ≡ length p / max_payload + 1 = omega arith in
-    let inv = c.loop.invariant in (
-      omega (arith, inv.count, all, c.if-room-needed.false, c.in_ok-needed.ensures),
-      inv.written ∙ ap (λ (n : ℕ). chunks n c.args.seq_id p ++ drop c.loop.at c.args.room.now) (all ∙ add-one (length p / max_payload)),
-    )
-
-pub returns-clause-len : goal.returns-clause-len
-returns-clause-len c =
-    let p = c.args.packet.now in
-    let same : length p / max_payload ≡ length p / 16777215 = ap (λ (n : ℕ). length p / n) max_payload_is in
-    let all : c.loop.counter ≡ length p / max_payload + 1 = omega arith in
-    sym c.loop.invariant.ended ∙ ap (λ (n : ℕ). length (chunks n c.args.seq_id p)) (all ∙ add-one (length p / max_payload))
-
-pub returns-clause-next : goal.returns-clause-next
-returns-clause-next c =
-    let p = c.args.packet.now in
-    let same : length p / max_payload ≡ length p / 16777215 = ap (λ (n : ℕ). length p / n) max_payload_is in
-    let all : c.loop.counter ≡ length p / max_payload + 1 = omega arith in
-    c.loop.invariant.id ∙ ap (λ (n : ℕ). n % 256) (omega (arith, all))
+    let count = all ∙ add-one (length p / max_payload) in
+    record {
+      written = (
+        omega (arith, inv.count, all, c.if-room-needed.false, c.in_ok-needed.ensures),
+        inv.written ∙ ap (λ (n : ℕ). chunks n c.args.seq_id p ++ drop c.loop.at c.args.room.now) count,
+      );
+      len = sym inv.ended ∙ ap (λ (n : ℕ). length (chunks n c.args.seq_id p)) count;
+      next = inv.id ∙ ap (λ (n : ℕ). n % 256) (omega (arith, all));
+      small = tt;
+    }

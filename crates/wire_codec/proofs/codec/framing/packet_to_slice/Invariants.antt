@@ -1,4 +1,4 @@
-use Rattle.std.proofs.Common.{◌≡◌, ◌+◌, ◌*◌, ◌%◌, ◌≤◌, ◌++◌, length, drop}
+use Rattle.std.proofs.Common.{◌≡◌, ◌+◌, ◌*◌, ◌%◌, ◌++◌, length, drop}
 use Rattle.wire_codec.specs.Framing.{max_payload, chunks}
 use Rattle.wire_codec.proofs.codec.framing.packet_to_slice.Given as goal
 

@@ -1,4 +1,4 @@
-use Rattle.std.proofs.Common.{ap, ◌∙◌, length, List, ℕ, refl}
+use Rattle.std.proofs.Common.{ap, length, List, ℕ}
 use Rattle.wire_codec.proofs.ChunkLemmas.{put_chunk_there}
 use Rattle.wire_codec.proofs.codec.framing.put_chunk_at.Goals as goal
 

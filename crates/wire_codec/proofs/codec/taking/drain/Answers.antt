@@ -1,7 +1,6 @@
-use Rattle.std.proofs.Common.{◌≡◌, ◌∙◌, [], refl, append-nil, ap, arith, Ok, Err, Bool, true, subst}
-use Rattle.wire_codec.specs.Codec.{codec_state, first_id, input_of}
+use Rattle.std.proofs.Common.{◌≡◌, ◌∙◌, [], refl, append-nil, ap, arith, Ok, Err, Bool, true}
+use Rattle.wire_codec.specs.Codec.{codec_state, first_id}
 use Rattle.wire_codec.specs.Limited.{place_after}
-use Rattle.wire_codec.specs.Taking.{TakesNext}
 use Rattle.wire_codec.proofs.GoingOnLemmas.{splits_here_under}
 use Rattle.wire_codec.proofs.TakingLemmas.{has_taken_more, has_taken_all}
 use Rattle.wire_codec.proofs.codec.taking.drain.Goals as goal
@@ -20,42 +19,38 @@ packets-init g c = record {
 
 pub packets-preserved : goal.packets-preserved
 packets-preserved g c =
-    let start = codec_state c.args.codec.now c.args.src.now.items c.args.dst.now.items in
     let before = codec_state c.packets.codec c.packets.src.items c.packets.dst.items in
     let after = codec_state c.take_next.new.codec c.take_next.new.src.items c.take_next.new.dst.items in
     let said : c.take_next.result ≡ Ok true = c.in-Ok-true.is ∙ ap (λ (b : Bool). Ok b) c.in-Ok-true.field-0-test in
     record {
       same = c.take_next.ensures.limit ∙ c.packets.invariant.same;
       on = λ limits mark place at.
-          has_taken_more g.K.Takes.took g.met.K.Takes.joins limits mark place (first_id start) start.held (input_of start) c.args.out.now c.packets.out c.take_next.new.out before after
+          has_taken_more g.K.Takes.took g.met.K.Takes.joins limits mark place _ _ _ c.args.out.now c.packets.out c.take_next.new.out before after
           (c.packets.invariant.on limits mark place at)
-          (λ there here. subst (λ (b : Bool). TakesNext g.K.Takes.took limits mark there before (Ok b) c.packets.out c.take_next.new.out after) c.in-Ok-true.field-0-test (c.in-Ok-true.ensures.takes limits mark there here))
+          (λ there here. rw c.in-Ok-true.field-0-test at (c.in-Ok-true.ensures.takes limits mark there here))
           (let less = c.take_next.ensures.shorter said in omega arith) c.take_next.ensures.limit;
     }
 
 pub returns-in-Ok-false-clause-on : goal.returns-in-Ok-false-clause-on
 returns-in-Ok-false-clause-on g c limits mark place at =
-    let start = codec_state c.args.codec.now c.args.src.now.items c.args.dst.now.items in
     let before = codec_state c.packets.codec c.packets.src.items c.packets.dst.items in
     let after = codec_state c.take_next.new.codec c.take_next.new.src.items c.take_next.new.dst.items in
     let run = c.packets.invariant.on limits mark place at in
-    let next = subst (λ (b : Bool). TakesNext g.K.Takes.took limits mark (place_after place run.0) before (Ok b) c.packets.out c.take_next.new.out after) c.in-Ok-false.field-0-test
-    (c.in-Ok-false.ensures.takes limits mark (place_after place run.0) run.3) in (
+    let next = rw c.in-Ok-false.field-0-test at (c.in-Ok-false.ensures.takes limits mark (place_after place run.0) run.3) in (
       run.0,
-      subst (λ ps. g.K.Takes.took c.args.out.now ps c.take_next.new.out) (append-nil run.0) (g.met.K.Takes.joins c.args.out.now c.packets.out c.take_next.new.out run.0 [] run.1 next.0),
-      has_taken_all g.K.Takes.took limits mark place (first_id start) start.held (input_of start) c.args.out.now c.packets.out before after (Ok tt) run next.1,
+      rw (append-nil run.0) at (g.met.K.Takes.joins c.args.out.now c.packets.out c.take_next.new.out run.0 [] run.1 next.0),
+      has_taken_all g.K.Takes.took limits mark place _ _ _ c.args.out.now c.packets.out before after (Ok tt) run next.1,
       λ e. absurd cc,
     )
 
 pub returns-in-Err-clause-on : goal.returns-in-Err-clause-on
 returns-in-Err-clause-on g c limits mark place at =
-    let start = codec_state c.args.codec.now c.args.src.now.items c.args.dst.now.items in
     let before = codec_state c.packets.codec c.packets.src.items c.packets.dst.items in
     let after = codec_state c.take_next.new.codec c.take_next.new.src.items c.take_next.new.dst.items in
     let run = c.packets.invariant.on limits mark place at in
     let next = c.in-Err.ensures.takes limits mark (place_after place run.0) run.3 in (
       run.0,
-      subst (λ ps. g.K.Takes.took c.args.out.now ps c.take_next.new.out) (append-nil run.0) (g.met.K.Takes.joins c.args.out.now c.packets.out c.take_next.new.out run.0 [] run.1 next.0),
-      has_taken_all g.K.Takes.took limits mark place (first_id start) start.held (input_of start) c.args.out.now c.packets.out before after (Err c.in-Err.error) run next.1,
+      rw (append-nil run.0) at (g.met.K.Takes.joins c.args.out.now c.packets.out c.take_next.new.out run.0 [] run.1 next.0),
+      has_taken_all g.K.Takes.took limits mark place _ _ _ c.args.out.now c.packets.out before after (Err c.in-Err.error) run next.1,
       λ e. next.2 cc,
     )

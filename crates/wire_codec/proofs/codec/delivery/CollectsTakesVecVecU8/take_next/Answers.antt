@@ -1,6 +1,5 @@
-use Rattle.std.proofs.Common.{◌∙◌, List, ℕ, [], ◌∷◌, ◌++◌, ap, sym, append-nil, Ok, Bool, subst}
-use Rattle.wire_codec.specs.Codec.{codec_state, first_id, input_of, header_of, expected_id}
-use Rattle.wire_codec.specs.GoingOn.{DecodesOn}
+use Rattle.std.proofs.Common.{◌∙◌, List, ℕ, [], ◌∷◌, ◌++◌, ap, sym, append-nil}
+use Rattle.wire_codec.specs.Codec.{codec_state}
 use Rattle.wire_codec.specs.Runs.{payloads}
 use Rattle.wire_codec.proofs.TakingLemmas.{refused_next, stopped_next}
 use Rattle.wire_codec.proofs.codec.delivery.CollectsTakesVecVecU8.take_next.Goals as goal
@@ -12,20 +11,16 @@ returns-then-is_err-clause-takes g c limits mark place at =
 
 pub returns-in-Ok-true-clause-takes : goal.returns-in-Ok-true-clause-takes
 returns-in-Ok-true-clause-takes g c limits mark place at =
-    let before = codec_state c.args.codec.now c.args.src.now.items c.args.dst.now.items in
     let packet = c.decode_on.new.dst.items in (
       packet,
       c.hand_out.ensures.packet ∙ ap (λ (z : List (List ℕ)). z ++ packet ∷ []) (ap payloads c.reserve.ensures.items),
-      subst (λ (b : Bool). DecodesOn limits mark place (first_id before) (input_of before) before.held (Ok b) (expected_id c.decode_on.new.self) (header_of c.decode_on.new.self) c.decode_on.new.src.items packet)
-          c.in-Ok-true.field-0-test (c.in-Ok-true.ensures.on limits mark place at),
+      rw c.in-Ok-true.field-0-test at (c.in-Ok-true.ensures.on limits mark place at),
       c.hand_out.ensures.empty,
     )
 
 pub returns-in-Ok-false-clause-takes : goal.returns-in-Ok-false-clause-takes
 returns-in-Ok-false-clause-takes g c limits mark place at =
-    let before = codec_state c.args.codec.now c.args.src.now.items c.args.dst.now.items in
-    let known = subst (λ (b : Bool). DecodesOn limits mark place (first_id before) (input_of before) before.held (Ok b) (expected_id c.decode_on.new.self) (header_of c.decode_on.new.self) c.decode_on.new.src.items c.decode_on.new.dst.items)
-    c.in-Ok-false.field-0-test (c.in-Ok-false.ensures.on limits mark place at) in
+    let known = rw c.in-Ok-false.field-0-test at (c.in-Ok-false.ensures.on limits mark place at) in
     (ap payloads c.reserve.ensures.items ∙ sym (append-nil (payloads c.args.out.now.items)), known.0)
 
 pub returns-in-Err-clause-takes : goal.returns-in-Err-clause-takes
