@@ -17,8 +17,9 @@
 //! ```
 //!
 //! It differs from `mysql_common` in what a caller sees of a packet that isn't whole. One of less than
-//! 16777215 bytes stays in `src`, with its header, and `src` gets room for the rest: 32 KiB of it, or
-//! up to eight times what has come. Of one of 16777215 bytes and above the codec takes what has come.
+//! 16777215 bytes stays in `src`, with its header, and `src` gets room for the rest and one more read:
+//! 32 KiB of it, or up to eight times what has come. Of one of 16777215 bytes and above the codec
+//! takes what has come.
 
 use bytes::{Buf, BufMut, BytesMut};
 use mysql_wire::{Connection, Place};
@@ -47,6 +48,10 @@ pub struct PacketCodec {
     limit: usize,
     // Whether the connection has taken bytes of a packet that isn't whole.
     is_begun: bool,
+    // How many bytes `src` had when more were last asked for, and how many came then: about what a read
+    // brings.
+    left: usize,
+    came: usize,
     judged: Judged,
 }
 
@@ -96,7 +101,15 @@ impl Default for PacketCodec {
     fn default() -> PacketCodec {
         let limit = DEFAULT_MAX_ALLOWED_PACKET;
         let judged = Judged { places: [Place::NOWHERE; MOST_JUDGED], next: 0, end: 0, next_id: 0 };
-        PacketCodec { max_allowed_packet: limit, connection: None, limit, is_begun: false, judged }
+        PacketCodec {
+            max_allowed_packet: limit,
+            connection: None,
+            limit,
+            is_begun: false,
+            left: 0,
+            came: 0,
+            judged,
+        }
     }
 }
 
@@ -127,11 +140,14 @@ impl PacketCodec {
     // chunk that is cut short, of less than 16777215 bytes, and within the limit.
     #[inline]
     fn missing(&self, src: &[u8]) -> Option<usize> {
-        let &[a, b, c, _, ref bytes @ ..] = src else {
+        let Some((header, bytes)) = src.split_first_chunk::<HEADER_LEN>() else {
             return Some(0);
         };
-        let len = u32::from_le_bytes([a, b, c, 0]) as usize;
-        let is_cut = bytes.len() < len && len < MAX_PAYLOAD_LEN && len <= self.max_allowed_packet;
+        let len = u32::from_le_bytes(*header) as usize & MAX_PAYLOAD_LEN;
+        if len <= bytes.len() {
+            return None;
+        }
+        let is_cut = len < MAX_PAYLOAD_LEN && len <= self.max_allowed_packet;
         is_cut.then(|| len - bytes.len())
     }
 
@@ -139,12 +155,10 @@ impl PacketCodec {
     // judged one, it is there whole, and the limit is the one that it was judged by.
     #[inline]
     fn accepted(&self, src: &[u8]) -> Option<usize> {
-        let &[a, b, c, d, ref bytes @ ..] = src else {
-            return None;
-        };
+        let (header, bytes) = src.split_first_chunk::<HEADER_LEN>()?;
         let len = self.judged.next_len();
         let fits = len <= bytes.len() && self.limit == self.max_allowed_packet;
-        let is_next = u32::from_le_bytes([a, b, c, d]) == len as u32 | self.judged.next_id;
+        let is_next = u32::from_le_bytes(*header) == len as u32 | self.judged.next_id;
         (fits && is_next).then_some(len)
     }
 
@@ -206,8 +220,13 @@ impl PacketCodec {
     fn decode_next(&mut self, src: &mut BytesMut, dst: &mut impl BufMut) -> Result<bool, Error> {
         self.forget_judged();
         if !self.is_begun {
+            if src.len() > self.left {
+                self.came = src.len() - self.left;
+            }
+            self.left = usize::MAX;
             if let Some(missing) = self.missing(src) {
-                make_room(missing, src);
+                self.left = src.len();
+                make_room(missing, self.came, src);
                 return Ok(false);
             }
             if let Some(len) = self.judge(src)? {
@@ -300,12 +319,15 @@ impl PacketCodec {
     pub fn sync_seq_id(&mut self) {}
 }
 
-/// Takes room for so many bytes that are to come, or for eight times what has come. `BytesMut` moves
-/// what it holds where room is short: now that is the least of the packet.
-fn make_room(missing: usize, src: &mut BytesMut) {
-    if src.capacity() - src.len() < missing {
+/// Takes room for the bytes that a packet lacks and what a read brings behind them, or for eight times
+/// what has come. `BytesMut` moves what it holds where room is short: now that is the least of the
+/// packet.
+#[inline]
+fn make_room(missing: usize, came: usize, src: &mut BytesMut) {
+    let wanted = missing.saturating_add(came);
+    if missing > 0 && src.capacity() - src.len() < wanted {
         let most = src.len().saturating_mul(8).max(MOST_PROMISED);
-        src.reserve(missing.min(most));
+        src.reserve(wanted.min(most));
     }
 }
 

@@ -329,6 +329,9 @@ impl PacketCodec {
         ensures decodes { OnErr result (DecodesStanding
             (codec_state self.old src.now.items (T.held dst.old)) (Err PacketCodecError.OutOfMemory)
             (codec_state self.new src.now.items (T.held dst.new))) }
+        ensures on { OnErr result (Decodes
+            (codec_state self.old src.now.items (T.held dst.old)) (Err PacketCodecError.OutOfMemory)
+            (codec_state self.new src.now.items (T.held dst.new))) }
         ensures there { OnErr result
             (HasChunk (codec_state self.old src.now.items (T.held dst.old))) }
         ensures id { expected_id self.new ≡ expected_id self.old }
@@ -357,6 +360,40 @@ impl PacketCodec {
     // `decode`, and what it makes of a run whose bytes came under different limits.
     #[inline(always)]
     pub(crate) fn decode_on<T: PacketDst>(
+        &mut self,
+        src: &mut BytesMut<impl Allocator + Copy>,
+        dst: &mut T,
+    ) -> Result<bool, PacketCodecError>
+        ensures decodes { DecodesStanding (codec_state self.old src.old.items (T.held dst.old))
+            result (codec_state self.new src.new.items (T.held dst.new)) }
+        ensures on { Decodes (codec_state self.old src.old.items (T.held dst.old)) result
+            (codec_state self.new src.new.items (T.held dst.new)) }
+        ensures chain { IsChain (codec_state self.old src.old.items (T.held dst.old)) result
+            (codec_state self.new src.new.items (T.held dst.new)) }
+        ensures memory { let before = codec_state self.old src.old.items (T.held dst.old) in
+            result ≡ Err PacketCodecError.OutOfMemory → HasChunk before }
+        ensures shorter { result ≡ Ok true → length src.new.items < length src.old.items }
+        ensures limit { self.new.max_allowed_packet ≡ self.old.max_allowed_packet }
+    {
+        // The common case: a packet of one chunk, of which all is known before it is put.
+        if let Some(packet) = self.front_packet_in(src.as_slice(), dst.as_ref()) {
+            if !packet.is_empty() {
+                self.make_room(src, dst)?;
+                match dst.put_slice(packet) {
+                    Ok(()) => {
+                        self.take_front(src);
+                        return Ok(true);
+                    }
+                    Err(_) => return self.take_chunks(src, dst),
+                }
+            }
+        }
+        self.decode_chunks(src, dst)
+    }
+
+    // The same, chunk by chunk.
+    #[inline(always)]
+    fn decode_chunks<T: PacketDst>(
         &mut self,
         src: &mut BytesMut<impl Allocator + Copy>,
         dst: &mut T,

@@ -92,6 +92,7 @@ impl PacketCodec {
     /// such a packet.
     ///
     /// `encode` then bears the id behind the packet, while its bytes are still read.
+    #[inline(always)]
     pub fn accept_front(&mut self, src: &BytesMut<impl Allocator + Copy>) -> usize
         requires { HasFront (codec_state self.old src.now.items []) }
         ensures chunk { result ≡ 4 + chunk_len src.now.items }
@@ -153,6 +154,7 @@ impl PacketCodec {
     ///
     /// Both together are a `decode` that answers true, with the packet in place of what `dst` would
     /// hold.
+    #[inline(always)]
     pub fn take_front(&mut self, src: &mut BytesMut<impl Allocator + Copy>)
         requires { HasFront (codec_state self.old src.old.items []) }
         ensures decodes { DecodesStanding (codec_state self.old src.old.items []) (Ok true)

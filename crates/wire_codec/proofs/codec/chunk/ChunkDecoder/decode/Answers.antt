@@ -2,9 +2,6 @@
 use Rattle.std.proofs.Common.{rules}
 use Rattle.wire_codec.proofs.codec.chunk.ChunkDecoder.decode.Goals as goal
 
-pub returns-in_default-clause-chunk : goal.returns-in_default-clause-chunk
-returns-in_default-clause-chunk g c = search rules
-
 pub returns-in_default-new-clause-chunk : goal.returns-in_default-new-clause-chunk
 returns-in_default-new-clause-chunk g c = search rules
 
