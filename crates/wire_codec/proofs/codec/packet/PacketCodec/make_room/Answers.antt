@@ -27,10 +27,5 @@ returns-in-Err-clause-decodes g c stands =
 pub returns-in-Err-clause-on : goal.returns-in-Err-clause-on
 returns-in-Err-clause-on g c limits mark place on =
     let held = g.T.PacketDst.held c.args.dst.now in
-    let src = c.args.src.now.items in
-    let limit = c.args.self.now.max_allowed_packet in
-    let header = header_of c.args.self.now in
-    let id = c.args.self.now.seq_id in
-    let at = sym (id_at_open id held (omega arith)) in
-    failed_under OutOfMemory limits mark place limit header (open_id id held) id src held _ src _ on at
-    (outcome_under limits mark place limit header src held (Err OutOfMemory) _ src _ on (returns-in-Err-clause-refused g c))
+    failed_under OutOfMemory (open_id c.args.self.now.seq_id held) _ c.args.src.now.items _ on (sym (id_at_open c.args.self.now.seq_id held (omega arith)))
+    (outcome_under (Err OutOfMemory) _ c.args.src.now.items _ on (returns-in-Err-clause-refused g c))
