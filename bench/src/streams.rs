@@ -13,20 +13,22 @@ const SIZES: [usize; 4] = [16, 4 << 10, 1 << 20, 20 << 20];
 // The forms of reading, by their numbers.
 const READERS: [&str; 2] = ["next_packet", "fill_packet"];
 
-// Packets of a size read from a slice, beside `decode` of the same bytes appended to a buffer.
+// Packets of a size read from a slice, beside `decode` of the same bytes appended to a buffer: into a
+// new vector for each packet where the packet is handed out in one, else into the same.
 fn read_row(rows: &mut Vec<Row>, size: usize, form: u64) {
     let count = count_for(size);
     let (stream, want) = stream_of(size as u64 * 5, size);
     let (copied, plain) = (stream.clone(), stream.clone());
     let limit = size as u64;
+    let fresh = form == 0;
     rows.push(Row {
         name: format!("{} {}, of append and decode", READERS[form as usize], size_name(size)),
         items: count as u64,
         bytes: (size * count) as u64,
         call: Box::new(move |reps| library::read(&stream, limit, form, reps)),
         want,
-        copy: Box::new(move |reps| library::decode(&copied, 0, limit, true, reps)),
-        rust: in_rust!(move |reps| in_rust::decode(&plain, 8 << 10, size, true, reps)),
+        copy: Box::new(move |reps| library::decode(&copied, 0, limit, fresh, reps)),
+        rust: in_rust!(move |reps| in_rust::decode(&plain, 8 << 10, size, fresh, reps)),
     });
 }
 

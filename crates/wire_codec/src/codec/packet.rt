@@ -14,6 +14,7 @@ use crate::codec::room::{bytes_to_take, fits, is_full_chunks, whole_chunk};
 use bytes::{Buf, BytesMut};
 pub use skip::Skipped;
 use std::alloc::Allocator;
+use std::num::NonZeroUsize;
 use wire_const::DEFAULT_MAX_ALLOWED_PACKET;
 
 /// Packets from chunks, and chunks from packets, under one sequence id, as a connection has it.
@@ -253,7 +254,9 @@ enum Progress {
 
 impl PacketCodec {
     ghost use Rattle.wire_codec.specs.Codec.{expected_id, header_of, codec_state, DecodesStanding, HasChunk, IsChain, IsLink, LacksMemory, TakesStanding};
+    ghost use Rattle.std.specs.Int.NonZero.{non_zero_usize_get};
     ghost use Rattle.wire_codec.specs.GoingOn.{Takes, Decodes};
+    ghost use Rattle.wire_codec.specs.OneChunk.{IsTakeable};
 
     // Takes one chunk, the next link of a chain.
     #[inline(always)]
@@ -313,6 +316,47 @@ impl PacketCodec {
         self.link_chunk(src, dst)
     }
 
+    // Takes so much room in `dst`. Where there is none, the chunk in front, with this header, is
+    // remembered.
+    #[inline(always)]
+    fn take_room<T: PacketDst>(
+        &mut self,
+        seq_id: u8,
+        needed: NonZeroUsize,
+        room: usize,
+        src: &BytesMut<impl Allocator + Copy>,
+        dst: &mut T,
+    ) -> Result<(), PacketCodecError>
+        requires takeable { IsTakeable (header_of self.old) src.now.items (length (T.held dst.old))
+            self.old.max_allowed_packet seq_id (non_zero_usize_get needed) }
+        requires small { expected_id self.old < 256 }
+        ensures ok { OnOk result (self.new ≡ self.old) }
+        ensures memory { IfErr result (λ error. error ≡ PacketCodecError.OutOfMemory) }
+        ensures refused { OnErr result (LacksMemory
+            (codec_state self.old src.now.items (T.held dst.old))
+            (codec_state self.new src.now.items (T.held dst.new))) }
+        ensures decodes { OnErr result (DecodesStanding
+            (codec_state self.old src.now.items (T.held dst.old)) (Err PacketCodecError.OutOfMemory)
+            (codec_state self.new src.now.items (T.held dst.new))) }
+        ensures on { OnErr result (Decodes
+            (codec_state self.old src.now.items (T.held dst.old)) (Err PacketCodecError.OutOfMemory)
+            (codec_state self.new src.now.items (T.held dst.new))) }
+        ensures there { OnErr result
+            (HasChunk (codec_state self.old src.now.items (T.held dst.old))) }
+        ensures id { expected_id self.new ≡ expected_id self.old }
+        ensures small { OnErr result (expected_id self.old < 256) }
+        ensures limit { self.new.max_allowed_packet ≡ self.old.max_allowed_packet }
+        ensures held { T.held dst.new ≡ T.held dst.old }
+    {
+        match dst.reserve(room) {
+            Ok(()) => Ok(()),
+            Err(_) => {
+                self.decoder = ChunkDecoder::Chunk { seq_id, needed };
+                Err(PacketCodecError::OutOfMemory)
+            }
+        }
+    }
+
     // Takes room in `dst` for all bytes that one call takes. Where there is none, the chunk in
     // front is remembered.
     #[inline(always)]
@@ -346,13 +390,7 @@ impl PacketCodec {
             None => Ok(()),
             Some((seq_id, needed)) => {
                 let room = bytes_to_take(seq_id, needed, front, held, limit, self.seq_id);
-                match dst.reserve(room) {
-                    Ok(()) => Ok(()),
-                    Err(_) => {
-                        self.decoder = ChunkDecoder::Chunk { seq_id, needed };
-                        Err(PacketCodecError::OutOfMemory)
-                    }
-                }
+                self.take_room(seq_id, needed, room, src, dst)
             }
         }
     }
@@ -377,8 +415,8 @@ impl PacketCodec {
     {
         // The common case: a packet of one chunk, of which all is known before it is put.
         if let Some(packet) = self.front_packet_in(src.as_slice(), dst.as_ref()) {
-            if !packet.is_empty() {
-                self.make_room(src, dst)?;
+            if let Some(needed) = NonZeroUsize::new(packet.len()) {
+                self.take_room(self.seq_id, needed, packet.len(), src, dst)?;
                 match dst.put_slice(packet) {
                     Ok(()) => {
                         self.take_front(src);
