@@ -17,7 +17,7 @@ use Rattle.mysql_wire_dump_lines.specs.declared.source.Next.TheVariants as next
 use Rattle.mysql_wire_dump.specs.Dumped.{AreFields, AreShown, InOrder, Shown, known_after, lines_of, packets_of}
 use Rattle.mysql_wire_dump.specs.GoingOn.{follow, passed, went}
 use Rattle.mysql_wire_dump.specs.Known.{Known, known_of, nothing_known}
-use Rattle.mysql_wire_dump.specs.Readings.{Is, ReadsAs, kind_of, opened_at}
+use Rattle.mysql_wire_dump.specs.Readings.{ReadsAs, kind_of, opened_at}
 use Rattle.mysql_wire_dump_lines.specs.Sources.{AtEnd, Stands, id_of}
 use Rattle.mysql_wire_dump_lines.specs.Turns.{turn}
 

@@ -14,7 +14,7 @@ use Rattle.mysql_wire_dump_lines.specs.declared.side.Side.{Side}
 use Rattle.mysql_wire_dump_lines.specs.declared.side.Side.TheVariants.{Client, Server}
 use Rattle.mysql_wire_dump_fields.specs.Packets.{Packet}
 use Rattle.mysql_wire_dump_fields.specs.Packets as packet
-use Rattle.mysql_wire_packets.specs.Optional.{has, deprecates_eof}
+use Rattle.mysql_wire_packets.specs.Optional.{has}
 use Rattle.mysql_wire_queries.specs.declared.column_count.ColumnCount.{ColumnCount}
 use Rattle.mysql_wire_statements.specs.declared.com_stmt_prepare_ok.ComStmtPrepareOk.{ComStmtPrepareOk}
 use Rattle.mysql_wire_dump.specs.Known.{Known, statement_of}

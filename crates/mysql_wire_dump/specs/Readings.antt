@@ -52,6 +52,7 @@ use Rattle.mysql_wire_dump_lines.specs.Refusals.{refusal_of}
 use Rattle.mysql_wire_dump_fields.specs.Packets.{Packet, PutsFields}
 use Rattle.mysql_wire_dump_fields.specs.Packets as packet
 use Rattle.mysql_wire_dump_lines.specs.Naming.{kind_at}
+use Rattle.mysql_wire_dump.specs.declared.session.Came.{Came}
 use Rattle.mysql_wire_dump.specs.GoingOn.{follow, opened, went}
 use Rattle.mysql_wire_dump.specs.Known.{Known, moment_of, statement_of}
 
@@ -231,6 +232,11 @@ pub record Told (reads : List ℕ → Kind → Packet → Type 0) (side : Side) 
   pub is : reads payload named shown
   pub goes_on : next ≡ follow shown (went side wanted payload known)
   pub puts : PutsFields shown old new
+
+-- the same of what came
+abbrev pub ToldOf : (List ℕ → Kind → Packet → Type 0) → Came → Known → Known → Written → Written
+    → Kind → Type 0
+ToldOf reads came = Told reads came.side came.kind came.payload.now
 
 -- the same by the table
 abbrev pub Tells : Side → Kind → List ℕ → Known → Known → Written → Written → Kind → Type 0

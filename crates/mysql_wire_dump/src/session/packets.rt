@@ -6,7 +6,7 @@ ghost use Rattle.mysql_wire_dump_lines.specs.declared.kind.Kind.TheVariants.{Byt
 ghost use Rattle.mysql_wire_dump_lines.specs.declared.refusal.Refusal.{Refusal};
 ghost use Rattle.mysql_wire_dump.specs.GoingOn.{follow};
 ghost use Rattle.mysql_wire_dump.specs.Known.{Known, known_of};
-ghost use Rattle.mysql_wire_dump.specs.Readings.{IsCommand, IsPlain, IsRead, Tells, Told, error_capabilities, is_ended_by_ok, statement_named};
+ghost use Rattle.mysql_wire_dump.specs.Readings.{IsCommand, IsPlain, IsRead, Tells, ToldOf, error_capabilities, is_ended_by_ok, statement_named};
 
 use super::follow::Follow;
 use super::{Came, Session};
@@ -98,9 +98,8 @@ impl<A: Allocator + Copy> Session<A> {
         fields: &mut Fields<A>,
     ) -> Result<Kind, Stop>
         requires { (packet : T) (known : Known) → follow (T.packet packet) known ≡ known }
-        ensures { IfOk result (Told (IsRead T.packet (T.reads_whole ctx) came.entry.kind) came.entry.side
-            came.entry.kind came.entry.payload.now (known_of self.old) (known_of self.new)
-            fields.old fields.new) }
+        ensures { IfOk result (ToldOf (IsRead T.packet (T.reads_whole ctx) came.entry.kind)
+            came.entry (known_of self.old) (known_of self.new) fields.old fields.new) }
     {
         self.go_on(came);
         let packet = match read_whole::<T>(self.global, ctx, came.payload) {
@@ -118,9 +117,8 @@ impl<A: Allocator + Copy> Session<A> {
         came: Came<'a>,
         fields: &mut Fields<A>,
     ) -> Result<Kind, Stop>
-        ensures { IfOk result (Told (IsRead T.packet (T.reads_whole ctx) came.entry.kind) came.entry.side
-            came.entry.kind came.entry.payload.now (known_of self.old) (known_of self.new)
-            fields.old fields.new) }
+        ensures { IfOk result (ToldOf (IsRead T.packet (T.reads_whole ctx) came.entry.kind)
+            came.entry (known_of self.old) (known_of self.new) fields.old fields.new) }
     {
         self.go_on(came);
         let packet = match read_whole::<T>(self.global, ctx, came.payload) {

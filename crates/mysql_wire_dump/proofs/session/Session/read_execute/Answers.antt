@@ -1,4 +1,4 @@
-use Rattle.std.proofs.Common.{◌∙◌, ℕ, ap, refl, subst, sym, Option, Some}
+use Rattle.std.proofs.Common.{◌∙◌, ℕ, ap, refl, subst, sym, Option}
 use Rattle.std.specs.Prelude.{option_copied}
 use Rattle.mysql_wire_dump_lines.specs.declared.kind.Kind.TheVariants.{Bytes, Execute}
 use Rattle.mysql_wire_dump_lines.specs.declared.refusal.Refusal.TheVariants.{OtherHeader}

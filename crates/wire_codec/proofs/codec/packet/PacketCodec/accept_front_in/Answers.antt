@@ -1,5 +1,4 @@
-use Rattle.std.proofs.Common.{ℕ, ◌+◌, ◌%◌, List, [], drop, sym, ap, ◌∙◌, subst, arith, None, Ok, true}
-use Rattle.wire_codec.specs.Delivery.{chunk_len}
+use Rattle.std.proofs.Common.{ℕ, ◌+◌, ◌%◌, List, [], drop, sym, ap, subst, arith, None, Ok, true}
 use Rattle.wire_codec.specs.Codec.{header_of, DecodesPacket, ChunkChain}
 use Rattle.wire_codec.specs.LimitedRuns.{DecodesAligned}
 use Rattle.wire_codec.specs.GoingOn.{Decodes}

@@ -1,4 +1,4 @@
-use Rattle.std.proofs.Common.{◌≡◌, ℕ, ◌-◌, ◌<◌, ◌≤◌, List, length, slice_index, sym, ap, ◌∙◌, refl, subst, arith, eqb-true, MatchOption}
+use Rattle.std.proofs.Common.{◌≡◌, ℕ, ◌-◌, ◌<◌, ◌≤◌, length, slice_index, sym, ◌∙◌, refl, subst, arith, eqb-true, MatchOption}
 use Rattle.wire_codec.specs.Delivery.{chunk_len}
 use Rattle.wire_codec.specs.Framing.{max_payload, max_payload_is}
 use Rattle.wire_codec.specs.Codec.{header_of, expected_id}
