@@ -102,9 +102,8 @@ error_capabilities place.Greeting capabilities = record { 0 = 0 }
 error_capabilities at capabilities = capabilities
 
 -- an OK ends the rows, and no EOF
-abbrev pub is_ended_by_ok : Place → Bool → ℕ → Bool
-is_ended_by_ok (place.ColumnsEnd after) is_eof_deprecated len = false
-is_ended_by_ok at is_eof_deprecated len = is_eof_deprecated && not (len == 5)
+abbrev pub is_ended_by_ok : Bool → ℕ → Bool
+is_ended_by_ok is_eof_deprecated len = is_eof_deprecated && not (len == 5)
 
 abbrev pub IsEnd : Bool → CapabilityFlags → List ℕ → Kind → Packet → Type 0
 IsEnd true capabilities = IsRead (packet.Done 0xfe)
@@ -158,8 +157,7 @@ ReadsAs known kind.Error = IsRead packet.Failed
     (error.ghosts.reads_whole (error_capabilities known.place known.capabilities)) kind.Error
 ReadsAs known kind.Progress = IsRead packet.Progress (progress.ghosts.reads_whole tt) kind.Progress
 ReadsAs known kind.Eof = λ payload.
-    IsEnd (is_ended_by_ok known.place known.is_eof_deprecated (length payload)) known.capabilities
-    payload
+    IsEnd (is_ended_by_ok known.is_eof_deprecated (length payload)) known.capabilities payload
 ReadsAs known kind.ColumnCount = IsRead packet.Columns
     (columns.ghosts.reads_whole (known.capabilities, known.mariadb)) kind.ColumnCount
 ReadsAs known kind.Column = IsColumn known.place known.mariadb

@@ -79,13 +79,10 @@ fn error_capabilities(place: Place, capabilities: CapabilityFlags) -> Capability
 }
 
 // Whether an OK ends the rows, and no EOF.
-fn is_ended_by_ok(place: Place, is_eof_deprecated: bool, len: usize) -> bool
-    ensures { result ≡ is_ended_by_ok place is_eof_deprecated len }
+fn is_ended_by_ok(is_eof_deprecated: bool, len: usize) -> bool
+    ensures { result ≡ is_ended_by_ok is_eof_deprecated len }
 {
-    match place {
-        Place::ColumnsEnd(_) => false,
-        _ => is_eof_deprecated && len != 5,
-    }
+    is_eof_deprecated && len != 5
 }
 
 impl<A: Allocator + Copy> Session<A> {
@@ -181,7 +178,7 @@ impl<A: Allocator + Copy> Session<A> {
         ensures { IfOk result (Tells came.entry.side Eof came.entry.payload.now (known_of self.old)
             (known_of self.new) fields.old fields.new) }
     {
-        if is_ended_by_ok(self.place, self.is_eof_deprecated, came.payload.len()) {
+        if is_ended_by_ok(self.is_eof_deprecated, came.payload.len()) {
             let form = InfoForm::of(self.capabilities);
             self.read_on::<RowsEnd<'_>>(form, came, fields)
         } else {
