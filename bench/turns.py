@@ -1,0 +1,62 @@
+#!/usr/bin/env python3
+"""Times the jobs of bench/workloads.txt in two built checkouts, by turns: OLD NEW [SEED].
+
+Each line of the file is NAME CRATE WORD..: the program crates/CRATE/out/CRATE is run with these
+words in the folder bench/ of its checkout; SEED stands for the seed, and a last word <FILE for the
+standard input. It stops where two outputs of a job differ, and prints both medians of the seconds,
+and OLD's over NEW's.
+"""
+import os
+import statistics
+import subprocess
+import sys
+import time
+
+TURNS = 7
+
+
+def jobs(path, seed):
+    with open(path, encoding="utf-8") as file:
+        for line in file:
+            if line.strip():
+                name, crate, *words = line.split()
+                yield name, crate, [str(seed) if word == "SEED" else word for word in words]
+
+
+def run(top, crate, words):
+    """The seconds that a job takes, and what it prints."""
+    folder = os.path.join(top, "bench")
+    program = os.path.join(top, "crates", crate, "out", crate)
+    source = subprocess.DEVNULL
+    if words and words[-1].startswith("<"):
+        source = open(os.path.join(folder, words[-1][1:]), "rb")
+        words = words[:-1]
+    begun = time.perf_counter()
+    done = subprocess.run([program, *words], cwd=folder, stdin=source, stdout=subprocess.PIPE,
+                          check=True)
+    return time.perf_counter() - begun, done.stdout
+
+
+def main():
+    if len(sys.argv) not in (3, 4):
+        sys.exit("bench/run OLD NEW [SEED]")
+    tops = [os.path.abspath(top) for top in sys.argv[1:3]]
+    seed = int(sys.argv[3]) if len(sys.argv) == 4 else 1
+    here = os.path.dirname(os.path.abspath(__file__))
+    print(f"{'job':<12} {'old, s':>8} {'new, s':>8} {'old/new':>8}")
+    for name, crate, words in jobs(os.path.join(here, "workloads.txt"), seed):
+        times = ([], [])
+        outputs = set()
+        for _ in range(TURNS):
+            for top, taken in zip(tops, times):
+                seconds, output = run(top, crate, words)
+                taken.append(seconds)
+                outputs.add(output)
+                if len(outputs) > 1:
+                    sys.exit(f"{name}: the outputs differ")
+        old, new = map(statistics.median, times)
+        print(f"{name:<12} {old:8.3f} {new:8.3f} {old / new:8.2f}", flush=True)
+
+
+if __name__ == "__main__":
+    main()

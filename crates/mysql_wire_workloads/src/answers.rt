@@ -1,0 +1,125 @@
+//! Answers to queries: definitions of columns, rows of texts, and what ends them.
+
+use crate::draws::{Draws, Letters, Script};
+use bytes::BytesMut;
+use mysql_wire::io::BufMutExt;
+use mysql_wire::misc::raw::bytes::{LenEnc, RawBytes};
+use mysql_wire::misc::raw::{RawConst, RawFlags};
+use mysql_wire::proto::MySerialize;
+use mysql_wire::proto::codec::PacketCodec;
+use mysql_wire_queries::column_definition::ColumnDefinition41;
+use std::alloc::Global;
+
+/// The largest payload of an answer.
+pub const LIMIT: usize = 1 << 26;
+
+/// An answer, framed from id 0 on.
+#[derive(Drop)]
+pub struct Answer {
+    pub columns: usize,
+    pub stream: BytesMut,
+}
+
+// The script of a column.
+fn script_of(column: usize) -> Script {
+    match column % 8 {
+        5 => Script::Quoted,
+        6 => Script::Wide,
+        _ => Script::Plain,
+    }
+}
+
+// How long a text of a column is: mostly below 40 bytes, and in the first column up to 4,096.
+fn text_len(draws: &mut Draws, column: usize) -> usize {
+    let len = draws.below(40);
+    if column > 0 {
+        return len;
+    }
+    match draws.below(64) {
+        0 => 300 + draws.below(3796),
+        1..=4 => 251 + draws.below(50),
+        _ => len,
+    }
+}
+
+/// Puts a row of so many columns.
+pub fn put_row(
+    draws: &mut Draws,
+    letters: &Letters,
+    columns: usize,
+    payload: &mut Vec<u8>,
+) -> Option<()> {
+    for column in 0..columns {
+        if draws.below(20) == 0 {
+            payload.push(0xfb).ok()?;
+        } else {
+            let len = text_len(draws, column);
+            let text = letters.text(draws, script_of(column), len);
+            payload.put_lenenc_str(text).ok()?;
+        }
+    }
+    Some(())
+}
+
+fn name<'a>(draws: &mut Draws, letters: &'a Letters) -> RawBytes<'a, LenEnc> {
+    let len = 3 + draws.below(9);
+    RawBytes::from(letters.text(draws, Script::Plain, len))
+}
+
+/// A definition of a column.
+pub fn definition<'a>(draws: &mut Draws, letters: &'a Letters) -> ColumnDefinition41<'a> {
+    let table = name(draws, letters);
+    let column = name(draws, letters);
+    ColumnDefinition41 {
+        catalog: RawBytes::from(b"def".as_slice()),
+        schema: name(draws, letters),
+        org_table: RawBytes::from(letters.text(draws, Script::Plain, 8)),
+        table,
+        org_name: RawBytes::from(letters.text(draws, Script::Plain, 8)),
+        name: column,
+        extended_metadata: None,
+        character_set: 45,
+        column_length: 255 + draws.below(1000) as u32,
+        column_type: RawConst::new(0xfd),
+        flags: RawFlags::new(draws.byte() as u16),
+        decimals: 0,
+        reserved: [0, 0],
+    }
+}
+
+// Frames a payload, and empties it.
+fn frame(codec: &mut PacketCodec, payload: &mut Vec<u8>, stream: &mut BytesMut) -> Option<()> {
+    let mut packet = payload.as_slice();
+    codec.encode(&mut packet, stream).ok()?;
+    payload.clear();
+    Some(())
+}
+
+/// An answer of so many rows.
+pub fn make_answer(
+    alloc: Global,
+    draws: &mut Draws,
+    letters: &Letters,
+    columns: usize,
+    rows: usize,
+) -> Option<Answer> {
+    let mut codec = PacketCodec::default();
+    codec.max_allowed_packet = LIMIT;
+    let mut stream = BytesMut::new(alloc);
+    let mut payload = Vec::new(alloc);
+    payload.put_lenenc_int(columns as u64).ok()?;
+    frame(&mut codec, &mut payload, &mut stream)?;
+    for _ in 0..columns {
+        definition(draws, letters).serialize(&mut payload).ok()?;
+        frame(&mut codec, &mut payload, &mut stream)?;
+    }
+    payload.extend_from_slice(&[0xfe, 0, 0, 2, 0]).ok()?;
+    frame(&mut codec, &mut payload, &mut stream)?;
+    for _ in 0..rows {
+        put_row(draws, letters, columns, &mut payload)?;
+        frame(&mut codec, &mut payload, &mut stream)?;
+    }
+    payload.extend_from_slice(&[0xfe, 0, 0, 2, 0]).ok()?;
+    frame(&mut codec, &mut payload, &mut stream)?;
+    Some(Answer { columns, stream })
+}
