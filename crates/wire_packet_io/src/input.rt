@@ -47,6 +47,7 @@ pub struct Input<R: Read, A: Allocator + Copy> {
 
 impl<R: Read, A: Allocator + Copy> Input<R, A> {
     // One read of at most 8192 bytes. The answer is how many came.
+    #[inline(never)]
     fn read_more(&mut self) -> Result<usize, PacketIoError>
         ensures ok { IfOk result (λ n. (came : List ℕ) × (length came ≡ n)
             × (self.new.src.items ≡ self.old.src.items ++ came)
@@ -168,6 +169,8 @@ impl<R: Read, A: Allocator + Copy> Input<R, A> {
 impl<R: Read, A: Allocator + Copy> Input<R, A> {
     /// The next packet, after as many reads as it needs; `None` where the input ends between two
     /// packets. Where `lends` says so, one that lies whole in one chunk is left where it lies.
+    // No call: an answer has room for an `io::Error`, and would be handed on through memory.
+    #[inline(always)]
     pub(crate) fn next(
         &mut self,
         codec: &mut PacketCodec,

@@ -138,6 +138,7 @@ impl<R: Read, A: Allocator + Copy> PacketReader<R, A> {
     /// reader is lost, and each later call answers the same and touches nothing.
     ///
     /// A packet that is lent is the next one. Where memory to copy it is refused it stays lent.
+    #[inline(always)]
     pub fn next_packet(
         &mut self,
         codec: &mut PacketCodec,
@@ -165,6 +166,7 @@ impl<R: Read, A: Allocator + Copy> PacketReader<R, A> {
     }
 
     // Hands out the packet that is lent.
+    #[inline(never)]
     fn hand_out(&mut self) -> Result<Option<Vec<u8, A>>, PacketIoError>
         requires { IsSome self.old.lent }
         ensures { HandsOutLent (answer_of result) self.old self.new }
@@ -190,6 +192,7 @@ impl<R: Read, A: Allocator + Copy> PacketReader<R, A> {
 }
 
 // The packet that was put together, of an answer that lends none in front.
+#[inline(always)]
 fn apart<A: Allocator + Copy>(
     found: Result<Option<Found<A>>, PacketIoError>,
 ) -> Result<Option<Vec<u8, A>>, PacketIoError>
@@ -340,6 +343,7 @@ impl<R: Read, A: Allocator + Copy> PacketReader<R, A> {
     ///
     /// The codec is behind the packet from then on. Where a packet is lent already it answers
     /// true, and nothing is read.
+    #[inline(always)]
     pub fn fill_packet(&mut self, codec: &mut PacketCodec) -> Result<bool, PacketIoError>
         requires { FitsAt self.old.is_lost (reading_state codec.old self.old) }
         ensures fills { IsFalse self.old.is_lost → IsNone self.old.lent
