@@ -42,6 +42,7 @@ impl<'a> BinaryRow<'a> {
     /// The value of the column at this place, from 0 on, which has this type. In `rest` stands what
     /// the values of the columns before it left of `values`; of a column that is NULL nothing is
     /// eaten.
+    #[inline(always)]
     pub fn value(
         &self,
         alloc: Global,

@@ -114,6 +114,7 @@ impl MySerialize for BinaryValue<'_> {
 }
 
 // A number, or the refusal of a form that has no bytes. Where bytes are missing, none is eaten.
+#[inline(always)]
 fn eat_plain<'a>(form: ValueForm, buf: &mut ParseBuf<'a>) -> Result<BinaryValue<'a>, WireError>
     requires { IsPlain form }
     ensures { Reads (ReadsForm form) buf.old.0.now result buf.new.0.now }
@@ -149,6 +150,7 @@ fn eat_plain<'a>(form: ValueForm, buf: &mut ParseBuf<'a>) -> Result<BinaryValue<
 }
 
 // The next text. Its length does not begin with `fb` or `ff`.
+#[inline(always)]
 fn eat_text<'a>(alloc: Global, buf: &mut ParseBuf<'a>) -> Result<&'a [u8], WireError>
     ensures { Reads (λ input. Through (λ text. text.now) (ReadsText input)) buf.old.0.now result
         buf.new.0.now }
@@ -177,6 +179,8 @@ impl<'de> MyDeserialize<'de, Global> for BinaryValue<'de> {
 
     ghost reads = { λ column_type. ReadsForm (form_of column_type) };
 
+    // No call: an answer has room for an `io::Error`, and would be handed on through memory.
+    #[inline(always)]
     fn deserialize(
         alloc: Global,
         column_type: ColumnType,
