@@ -1,7 +1,10 @@
 -- The text of fields.
 use Rattle.std.proofs.Common.{◌≡◌, ℕ, List, [], ◌∷◌, ◌++◌, Bool, true, false, refl, ap, sym, ◌∙◌, append_assoc, arith, ◌+◌, ◌<◌, length, take, get_or}
 use Rattle.std.proofs.lemmas.Grind.{common_steps}
-use Rattle.std.specs.Prelude.{◌==◌}
+use Rattle.std.specs.Prelude.{◌==◌, not}
+use Rattle.std.proofs.lemmas.Bool.{and_parts, eqb-false, leb-true, not-true}
+use Rattle.json.specs.Print.{escape, escape_byte}
+use Rattle.json.proofs.Printed.Strings.{escape_byte_plain}
 use Rattle.std.proofs.lemmas.List.{append-nil, take_more}
 use Rattle.std.specs.List.{flat_map}
 use Rattle.std.specs.Str.{IsUtf8, is_utf8}
@@ -9,7 +12,7 @@ use Rattle.std.proofs.lemmas.Str.{IsUtf8-from_is_utf8}
 use Rattle.mysql_wire_dump_lines.specs.declared.fields.FieldForm.{FieldForm}
 use Rattle.mysql_wire_dump_lines.specs.declared.fields.Field.{Field}
 use Rattle.mysql_wire_dump_lines.specs.declared.fields.FieldForm.TheVariants.{Hidden, Text, Json}
-use Rattle.mysql_wire_dump_lines.specs.Fields.{Member, Puts, Written, ended, fields_text, line, nothing, pair, put, puts}
+use Rattle.mysql_wire_dump_lines.specs.Fields.{Member, Puts, Written, all_stand, ended, fields_text, line, nothing, pair, put, puts, stands}
 use Rattle.mysql_wire_dump_lines.specs.FieldTables.{members_in, members_of}
 
 is_false : (test : Bool) → (test ≡ true → ⊥) → test ≡ false
@@ -83,3 +86,19 @@ members_more fields place other within =
     ap members_of (take_more fields place other within)
     ∙ members_append (take place fields) (get_or fields place other ∷ [])
     ∙ ap (λ (members : List Member). members_of (take place fields) ++ members) (append-nil (members_in (get_or fields place other)))
+
+byte_stands : (byte : ℕ) → stands byte ≡ true → escape_byte byte ≡ byte ∷ []
+byte_stands byte is =
+    let parts = and_parts _ _ is in
+    let marks = and_parts (not (byte == 34)) _ parts.0 in
+    escape_byte_plain byte
+    (eqb-false byte 34 (not-true (byte == 34) marks.0))
+    (eqb-false byte 92 (not-true (byte == 92) marks.1))
+    (leb-true 32 byte parts.1)
+
+-- where no byte needs an escape, JSON quotes them as they are
+pub escape-all_stand : (words : List ℕ) → all_stand words ≡ true → escape words ≡ words
+escape-all_stand [] is = refl
+escape-all_stand (byte ∷ words) is =
+    let parts = and_parts (stands byte) _ is in
+    rw (byte_stands byte parts.0, escape-all_stand words parts.1) refl

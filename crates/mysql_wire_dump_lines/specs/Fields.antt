@@ -1,7 +1,7 @@
 -- The text of fields.
 use Rattle.std.specs.Fmt.{decimal, digits}
-use Rattle.std.specs.List.{flat_map}
-use Rattle.std.specs.Prelude.{◌≡◌, ℕ, false, List, [], ◌∷◌, ◌++◌, codes, if◌then◌else◌}
+use Rattle.std.specs.List.{flat_map, list_all}
+use Rattle.std.specs.Prelude.{◌≡◌, ◌==◌, ◌&&◌, ℕ, nat_le, Bool, false, not, List, [], ◌∷◌, ◌++◌, codes, if◌then◌else◌}
 use Rattle.std.specs.Str.{is_utf8}
 use Rattle.hex.specs.Hex.{encode_lower}
 use Rattle.json.specs.Print.{quoted}
@@ -37,6 +37,13 @@ digits_text Json digits = codes "{\"hex\":\"" ++ digits ++ codes "\"}"
 -- bytes in hex digits
 abbrev pub octets_text : FieldForm → List ℕ → List ℕ
 octets_text form octets = digits_text form (encode_lower octets)
+
+-- a byte that needs no escape where JSON quotes it
+abbrev pub stands : ℕ → Bool
+stands byte = not (byte == 34) && not (byte == 92) && nat_le 32 byte
+
+abbrev pub all_stand : List ℕ → Bool
+all_stand = list_all stands
 
 -- a text as JSON quotes it, where the bytes are one
 abbrev pub words_text : FieldForm → List ℕ → List ℕ

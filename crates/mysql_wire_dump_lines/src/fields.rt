@@ -4,7 +4,7 @@ ghost use Rattle.std.specs.Prelude.{◌≡◌, ◌++◌, ◌∷◌, [], IfOk, On
 ghost use Rattle.std.specs.Fmt.{decimal};
 ghost use Rattle.json.specs.Print.{quoted};
 ghost use Rattle.mysql_wire_dump_lines.specs.FieldTables.{members_in, members_of};
-ghost use Rattle.mysql_wire_dump_lines.specs.Fields.{Puts, digits_text, ended, flags_text, nothing, octets_text, value_of, value_text, with_end, with_member, words_text};
+ghost use Rattle.mysql_wire_dump_lines.specs.Fields.{Puts, all_stand, digits_text, ended, flags_text, in_quotes, nothing, octets_text, value_of, value_text, with_end, with_member, words_text};
 
 use json::Writer;
 use std::alloc::{AllocError, Allocator, Global};
@@ -85,13 +85,44 @@ fn quoted<A: Allocator>(alloc: A, words: &str) -> Result<Vec<u8, A>, AllocError>
     Ok(writer.into_inner())
 }
 
-fn push_quoted<A: Allocator + Copy>(text: &mut String<A>, words: &str) -> Result<(), AllocError>
+// Whether none of these bytes needs an escape.
+fn all_stand(words: &[u8]) -> bool
+    ensures { result ≡ all_stand words.now }
+{
+    let mut all = true;
+    'bytes: for byte in words {
+        all &= (*byte != b'"') & (*byte != b'\\') & (*byte >= 0x20);
+    }
+    all
+}
+
+// A text between quotes, as it is.
+fn push_in_quotes<A: Allocator>(text: &mut String<A>, words: &str) -> Result<(), AllocError>
+    ensures { OnOk result (string_bytes text.new ≡ string_bytes text.old ++ in_quotes words.now) }
+{
+    text.push_str("\"")?;
+    text.push_str(words)?;
+    text.push_str("\"")
+}
+
+// A text of which some bytes may need escapes.
+fn push_escaped<A: Allocator + Copy>(text: &mut String<A>, words: &str) -> Result<(), AllocError>
     ensures { OnOk result (string_bytes text.new ≡ string_bytes text.old ++ quoted words.now) }
 {
     let quoted = quoted(*text.allocator(), words)?;
     match std::str::from_utf8(&quoted) {
         Ok(quoted) => text.push_str(quoted),
         Err(_) => Err(AllocError),
+    }
+}
+
+fn push_quoted<A: Allocator + Copy>(text: &mut String<A>, words: &str) -> Result<(), AllocError>
+    ensures { OnOk result (string_bytes text.new ≡ string_bytes text.old ++ quoted words.now) }
+{
+    if all_stand(words.as_bytes()) {
+        push_in_quotes(text, words)
+    } else {
+        push_escaped(text, words)
     }
 }
 
