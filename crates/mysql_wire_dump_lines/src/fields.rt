@@ -6,6 +6,7 @@ ghost use Rattle.json.specs.Print.{quoted};
 ghost use Rattle.mysql_wire_dump_lines.specs.FieldTables.{members_in, members_of};
 ghost use Rattle.mysql_wire_dump_lines.specs.Fields.{Puts, all_stand, digits_text, ended, flags_text, in_quotes, nothing, octets_text, value_of, value_text, with_end, with_member, words_text};
 
+use crate::put::{push_between, push_number};
 use json::Writer;
 use std::alloc::{AllocError, Allocator, Global};
 use std::marker::Model;
@@ -58,8 +59,8 @@ fn push_octets<A: Allocator>(
         ≡ string_bytes text.old ++ digits_text form digits.now) }
 {
     match form {
-        FieldForm::Json => write!(text, "{{\"hex\":\"{digits}\"}}"),
-        _ => write!(text, "x'{digits}'"),
+        FieldForm::Json => push_between(text, "{\"hex\":\"", digits, "\"}"),
+        _ => push_between(text, "x'", digits, "'"),
     }
 }
 
@@ -100,9 +101,7 @@ fn all_stand(words: &[u8]) -> bool
 fn push_in_quotes<A: Allocator>(text: &mut String<A>, words: &str) -> Result<(), AllocError>
     ensures { OnOk result (string_bytes text.new ≡ string_bytes text.old ++ in_quotes words.now) }
 {
-    text.push_str("\"")?;
-    text.push_str(words)?;
-    text.push_str("\"")
+    push_between(text, "\"", words, "\"")
 }
 
 // A text of which some bytes may need escapes.
@@ -148,7 +147,7 @@ fn push_flags<A: Allocator>(
     ensures { OnOk result (string_bytes text.new ≡ string_bytes text.old ++ flags_text form bits) }
 {
     match form {
-        FieldForm::Json => write!(text, "{bits}"),
+        FieldForm::Json => push_number(text, bits),
         _ => write!(text, "0x{bits:x}"),
     }
 }
@@ -163,12 +162,12 @@ fn push_value<A: Allocator + Copy>(
 {
     match value {
         FieldValue::Null => text.push_str("null"),
-        FieldValue::Number(number) => write!(text, "{number}"),
+        FieldValue::Number(number) => push_number(text, number),
         FieldValue::Flags(bits) => push_flags(text, form, bits),
         FieldValue::Text(bytes) => push_text(text, form, bytes),
         FieldValue::Bytes(bytes) => push_digits(text, form, bytes),
         FieldValue::Printed(number) => text.push_str(number),
-        FieldValue::Word(word) => write!(text, "\"{word}\""),
+        FieldValue::Word(word) => push_in_quotes(text, word),
     }
 }
 
@@ -184,16 +183,16 @@ fn push_member<A: Allocator + Copy>(
     match form {
         FieldForm::Hidden => Ok(()),
         FieldForm::Text => {
-            write!(text, "\n  {name} ")?;
+            push_between(text, "\n  ", name, " ")?;
             push_value(text, form, value)
         }
         FieldForm::Json => {
             let before = if text.is_empty() {
-                ",\"fields\":{"
+                ",\"fields\":{\""
             } else {
-                ","
+                ",\""
             };
-            write!(text, "{before}\"{name}\":")?;
+            push_between(text, before, name, "\":")?;
             push_value(text, form, value)
         }
     }

@@ -9,6 +9,7 @@ pub mod lines;
 pub mod naming;
 pub mod options;
 pub mod place;
+mod put;
 pub mod refusal;
 pub mod side;
 pub mod source;
