@@ -1,10 +1,12 @@
 //! The lines that are written.
 
 ghost use Rattle.std.specs.Prelude.{◌≡◌, ◌++◌, IfOk, OnOk, string_bytes};
+ghost use Rattle.std.specs.Fmt.{decimal};
 ghost use Rattle.mysql_wire_dump_lines.specs.Lines.{bytes_part, ending_line, line_end, packet_front, packet_line, refused_words, shown_bytes};
 ghost use Rattle.mysql_wire_dump_lines.specs.Names.{end_name, refusal_name};
 
 use crate::kind::Kind;
+use crate::put::{push_between, push_number};
 use crate::refusal::Refusal;
 use crate::side::Side;
 use crate::source::End;
@@ -53,8 +55,15 @@ fn push_words<A: Allocator + Copy>(
         ≡ string_bytes text.old ++ refused_words form digits.now name.now) }
 {
     match form {
-        LineForm::Text => write!(text, " {digits} {name}"),
-        LineForm::Json => write!(text, ",\"bytes\":\"{digits}\",\"refusal\":\"{name}\""),
+        LineForm::Text => {
+            push_between(text, " ", digits, " ")?;
+            text.push_str(name)
+        }
+        LineForm::Json => {
+            push_between(text, ",\"bytes\":\"", digits, "\",\"refusal\":\"")?;
+            text.push_str(name)?;
+            text.push_str("\"")
+        }
     }
 }
 
@@ -88,6 +97,23 @@ fn push_bytes<A: Allocator + Copy>(
     }
 }
 
+// Two numbers, each with the words behind it.
+fn push_counted<A: Allocator>(
+    text: &mut String<A>,
+    first: u64,
+    between: &str,
+    second: u64,
+    after: &str,
+) -> Result<(), AllocError>
+    ensures { OnOk result (string_bytes text.new
+        ≡ string_bytes text.old ++ (decimal first ++ between.now ++ decimal second ++ after.now)) }
+{
+    push_number(text, first)?;
+    text.push_str(between)?;
+    push_number(text, second)?;
+    text.push_str(after)
+}
+
 // Who sent a packet, the id of its first chunk, its length, and what it is.
 fn push_front<A: Allocator + Copy>(
     text: &mut String<A>,
@@ -98,15 +124,22 @@ fn push_front<A: Allocator + Copy>(
         ≡ string_bytes text.old ++ packet_front form seen.now) }
 {
     let side = seen.side.name();
-    let id = seen.id;
-    let len = seen.len;
+    let id = seen.id as u64;
+    let len = seen.len as u64;
     let kind = seen.kind.name();
     match form {
-        LineForm::Text => write!(text, "{side} {id} {len} {kind}"),
-        LineForm::Json => write!(
-            text,
-            "{{\"from\":\"{side}\",\"id\":{id},\"length\":{len},\"packet\":\"{kind}\""
-        ),
+        LineForm::Text => {
+            text.push_str(side)?;
+            text.push_str(" ")?;
+            push_counted(text, id, " ", len, " ")?;
+            text.push_str(kind)
+        }
+        LineForm::Json => {
+            push_between(text, "{\"from\":\"", side, "\",\"id\":")?;
+            push_counted(text, id, ",\"length\":", len, ",\"packet\":\"")?;
+            text.push_str(kind)?;
+            text.push_str("\"")
+        }
     }
 }
 
