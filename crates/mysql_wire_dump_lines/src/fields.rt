@@ -171,6 +171,7 @@ fn push_value<A: Allocator + Copy>(
     }
 }
 
+#[inline(never)]
 fn push_member<A: Allocator + Copy>(
     text: &mut String<A>,
     form: FieldForm,
@@ -257,7 +258,10 @@ impl<A: Allocator + Copy> Fields<A> {
     pub fn put(&mut self, name: &str, value: FieldValue<'_>) -> Result<(), AllocError>
         ensures { OnOk result (Puts ((name.now, value_of value.entry) ∷ []) self.old self.new) }
     {
-        push_member(&mut self.text, self.form, name, value)
+        match self.form {
+            FieldForm::Hidden => Ok(()),
+            form => push_member(&mut self.text, form, name, value),
+        }
     }
 
     // Puts a field, where there is one.
@@ -284,10 +288,14 @@ impl<A: Allocator + Copy> Fields<A> {
     }
 
     /// Puts a value that has no name but its place, counted from 0.
+    #[tactic(auto, unfolding(crate::specs::Fields::put))]
     pub fn put_at(&mut self, place: u64, value: FieldValue<'_>) -> Result<(), AllocError>
         ensures { OnOk result (Puts ((decimal place, value_of value.entry) ∷ [])
             self.old self.new) }
     {
+        if let FieldForm::Hidden = self.form {
+            return Ok(());
+        }
         let mut digits = itoa::Buffer::new();
         self.put(digits.format(place), value)
     }

@@ -98,6 +98,7 @@ fn push_bytes<A: Allocator + Copy>(
 }
 
 // Two numbers, each with the words behind it.
+#[inline(always)]
 fn push_counted<A: Allocator>(
     text: &mut String<A>,
     first: u64,

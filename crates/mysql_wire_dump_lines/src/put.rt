@@ -6,7 +6,7 @@ ghost use Rattle.std.specs.Fmt.{decimal};
 use std::alloc::{AllocError, Allocator};
 
 // Words, between two others.
-#[inline]
+#[inline(always)]
 pub(crate) fn push_between<A: Allocator>(
     text: &mut String<A>,
     before: &str,
@@ -22,7 +22,7 @@ pub(crate) fn push_between<A: Allocator>(
 }
 
 // A number in decimal digits.
-#[inline]
+#[inline(always)]
 pub(crate) fn push_number<A: Allocator>(text: &mut String<A>, number: u64) -> Result<(), AllocError>
     ensures { OnOk result (string_bytes text.new ≡ string_bytes text.old ++ decimal number) }
 {
