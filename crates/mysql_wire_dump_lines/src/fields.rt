@@ -98,6 +98,7 @@ fn all_stand(words: &[u8]) -> bool
 }
 
 // A text between quotes, as it is.
+#[inline(always)]
 fn push_in_quotes<A: Allocator>(text: &mut String<A>, words: &str) -> Result<(), AllocError>
     ensures { OnOk result (string_bytes text.new ≡ string_bytes text.old ++ in_quotes words.now) }
 {
@@ -105,6 +106,7 @@ fn push_in_quotes<A: Allocator>(text: &mut String<A>, words: &str) -> Result<(),
 }
 
 // A text of which some bytes may need escapes.
+#[inline(never)]
 fn push_escaped<A: Allocator + Copy>(text: &mut String<A>, words: &str) -> Result<(), AllocError>
     ensures { OnOk result (string_bytes text.new ≡ string_bytes text.old ++ quoted words.now) }
 {
