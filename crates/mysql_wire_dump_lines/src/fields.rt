@@ -76,12 +76,16 @@ fn push_digits<A: Allocator + Copy>(
     push_octets(text, form, digits.as_str())
 }
 
+// Room beside a text's own bytes, for its quotes and its escapes.
+const QUOTED_ROOM: usize = 64;
+
 // A text as JSON quotes it.
 #[tactic(auto, unfolding(json::specs::Print::print_from))]
 fn quoted<A: Allocator>(alloc: A, words: &str) -> Result<Vec<u8, A>, AllocError>
     ensures { IfOk result (λ text. text.items ≡ quoted words.now) }
 {
-    let mut writer = Writer::new(Vec::new(alloc));
+    let room = words.len().saturating_add(QUOTED_ROOM);
+    let mut writer = Writer::new(Vec::with_capacity(alloc, room)?);
     writer.string(words)?;
     Ok(writer.into_inner())
 }
