@@ -10,6 +10,7 @@ The last line is 'N passed, M failed'.
 import contextlib
 import os
 import pathlib
+import select
 import shlex
 import socket
 import subprocess
@@ -194,6 +195,25 @@ def of_reads():
             yield "reads of %d bytes by unframe" % step, joined(found)
 
 
+def is_out(given, text):
+    """What goes otherwise, or None where `reframe` has written this before it reads more."""
+    pipes = {"stdin": subprocess.PIPE, "stdout": subprocess.PIPE}
+    with subprocess.Popen([PROGRAM, "reframe", "10"], **pipes) as ran:
+        ran.stdin.write(given)
+        ran.stdin.flush()
+        is_there = select.select([ran.stdout], [], [], 10)[0]
+        found = os.read(ran.stdout.fileno(), 999) if is_there else b""
+        ran.stdin.close()
+    return None if found == text else "%r" % found
+
+
+def of_waits():
+    """The same where `reframe` waits for more, between two packets and inside one."""
+    for behind in [b"", b"\1\0", b"\1\0\0\2", b"\2\0\0\2c"]:
+        text = b"\1\0\0\0a\1\0\0\1b"
+        yield "reframe waits behind %s" % (behind.hex() or "a packet"), is_out(text + behind, text)
+
+
 def of_other_lines(folder):
     """The same of the lines that ask for no command."""
     for line in OTHER_LINES:
@@ -207,7 +227,8 @@ def main():
         return
     with tempfile.TemporaryDirectory() as name:
         folder = pathlib.Path(name)
-        found = [*of_rows(folder), *of_streams(folder), *of_reads(), *of_other_lines(folder)]
+        found = [*of_rows(folder), *of_streams(folder), *of_reads(), *of_waits()]
+        found += of_other_lines(folder)
     for name, fault in found:
         print("FAILED %s: %s" % (name, fault) if fault else "ok " + name)
     failed = sum(1 for _, fault in found if fault)

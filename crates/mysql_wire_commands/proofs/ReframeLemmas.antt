@@ -1,5 +1,5 @@
 -- One packet after another.
-use Rattle.std.proofs.Common.{◌≡◌, ◌≢◌, ℕ, ◌≤◌, List, [], ◌∷◌, ◌++◌, length, refl, sym, ap, ◌∙◌, subst, arith, append_assoc, append-nil, Option, None, Ok, Err, Bool, true, ne_eqb, if◌then◌else◌, Result, inl, inr, zero-le}
+use Rattle.std.proofs.Common.{◌≡◌, ◌≢◌, ℕ, ◌≤◌, List, [], ◌∷◌, ◌++◌, length, refl, sym, ap, ◌∙◌, subst, arith, append_assoc, append-nil, Option, None, Some, IsSome, Ok, Err, Bool, true, ne_eqb, if◌then◌else◌, Result, inl, inr, zero-le}
 use Rattle.std.proofs.lemmas.List.Elements.{All-nil}
 use Rattle.wire_codec.specs.Framing.{max_payload, framing, front, next_id, id_after, stream}
 use Rattle.wire_codec.specs.Delivery.{Continues, Ending, Waiting, TooLarge, OutOfSync, Delivers, Splits}
@@ -11,7 +11,9 @@ use Rattle.std.specs.Result.{IfOk}
 use Rattle.mysql_wire_commands.specs.declared.status.Stop.{Stop}
 use Rattle.mysql_wire_commands.specs.declared.status.Stop.TheVariants.{Io, Memory}
 use Rattle.mysql_wire_commands.specs.Status.{exit_status_of}
-use Rattle.mysql_wire_commands.specs.Reframe.{Reframing, Reframed, ReframeEnds}
+use Rattle.mysql_wire_commands.specs.Reframe.{Reframing, Reframed, ReframeEnds, Sends}
+use Rattle.std.specs.Io.KnownBytes.{Appends}
+use Rattle.std.proofs.KnownBytes.{Appends-nil, Appends-trans}
 
 -- nothing read yet
 pub reframing_start : NothingRead → (limit : ℕ) (state : CodecState) (encodes : ℕ) → state.id ≡ 0 → state.header ≡ None → state.unread ≡ [] → state.held ≡ [] → state.limit ≡ limit
@@ -163,3 +165,45 @@ reframe_status limit (Err Memory) unread left written now is = record {
   text = λ h. absurd (omega (arith, h));
   all_read = λ h. absurd (omega (arith, h));
 }
+
+-- of what was framed, all but what is pending was written
+abbrev pub SoWritten : List ℕ → List ℕ → Option (List ℕ) → Option (List ℕ) → Type 0
+SoWritten text pending before now = Sends before now text pending
+
+pub none_written : (pending : List ℕ) (now : Option (List ℕ)) → pending ≡ [] → SoWritten [] pending now now
+none_written pending now is = ([], sym is, Appends-nil now)
+
+pub sent_on : (text pending left : List ℕ) (before between after : Option (List ℕ)) → SoWritten text pending before between → Sends between after pending left
+    → SoWritten text left before after
+sent_on text pending left before between after so_far sends = (
+  so_far.0 ++ sends.0,
+  so_far.1 ∙ ap (λ (z : List ℕ). so_far.0 ++ z) sends.1 ∙ sym (append_assoc so_far.0 sends.0 left),
+  Appends-trans _ _ _ so_far.0 sends.0 so_far.2 sends.2,
+)
+
+pub queued_on : (text pending more left : List ℕ) (before now : Option (List ℕ)) → SoWritten text pending before now → left ≡ pending ++ more
+    → SoWritten (text ++ more) left before now
+queued_on text pending more left before now so_far is = (
+  so_far.0,
+  ap (λ (z : List ℕ). z ++ more) so_far.1 ∙ append_assoc so_far.0 pending more ∙ ap (λ (z : List ℕ). so_far.0 ++ z) (sym is),
+  so_far.2,
+)
+
+pub all_sent : (text pending : List ℕ) (before between after : Option (List ℕ)) → SoWritten text pending before between → Appends between after pending → Appends before after text
+all_sent text pending before between after so_far sends =
+    subst (λ (z : List ℕ). Appends before after z) (sym so_far.1) (Appends-trans _ _ _ so_far.0 pending so_far.2 sends)
+
+-- ended with a status, once all is written
+pub ended_with : (answer : Result ℕ Stop) (status limit : ℕ) (unread left written now : Option (List ℕ)) (Sent : Type 0)
+    → IfOk answer (λ ended. (ended ≡ status) × Sent) → (Sent → ReframeEnds limit status unread left written now)
+    → IfOk answer (λ ended. ReframeEnds limit ended unread left written now)
+ended_with (Ok ended) status limit unread left written now Sent is ends = subst (λ (z : ℕ). ReframeEnds limit z unread left written now) (sym is.0) (ends is.1)
+ended_with (Err why) status limit unread left written now Sent is ends = tt
+
+pub some_lent : (lent : Option (List ℕ)) → IsSome lent → (packet : List ℕ) × (lent ≡ Some packet)
+some_lent None is = absurd cc
+some_lent (Some packet) is = (packet, refl)
+
+pub none_lent : (lent : Option (List ℕ)) → (IsSome lent → ⊥) → lent ≡ None
+none_lent None is = refl
+none_lent (Some packet) is = absurd (is refl)

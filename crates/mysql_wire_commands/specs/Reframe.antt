@@ -31,6 +31,11 @@ pub record ReframeEnds (limit status : ℕ) (unread left written now : Option (L
 abbrev pub StartsReading : List ℕ → List ℕ → Bool → Type 0
 StartsReading unread held lost = (unread ≡ []) × (held ≡ []) × IsFalse lost
 
+-- of what was pending a front was written
+abbrev pub Sends : Option (List ℕ) → Option (List ℕ) → List ℕ → List ℕ → Type 0
+Sends written now pending left = (sent : List ℕ) × (pending ≡ sent ++ left)
+    × Appends written now sent
+
 -- so far these bytes were read and this text was written, and what is unread goes on with a packet
 pub record Reframing (limit : ℕ) (state : CodecState) (encodes : ℕ) (input text : List ℕ) : Type 0
   where

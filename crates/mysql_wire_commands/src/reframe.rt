@@ -1,10 +1,11 @@
 //! `reframe LIMIT`: whole packets from input to output.
 
-ghost use Rattle.std.specs.Prelude.{◌≡◌, ◌≤◌, ◌++◌, [], length, None, IsNone, OnOk, IfOk};
+ghost use Rattle.std.specs.Prelude.{◌≡◌, ◌≤◌, ◌++◌, [], length, None, IsNone, IsFalse, OnOk, Err, IfOk, IfErr};
 ghost use Rattle.std.specs.Io.KnownBytes.{Appends};
 ghost use Rattle.wire_codec.specs.Codec.{expected_id, header_of};
 ghost use Rattle.wire_codec.specs.Framing.{framing, next_id};
-ghost use Rattle.mysql_wire_commands.specs.Reframe.{ReframeEnds, StartsReading};
+ghost use Rattle.mysql_wire_commands.specs.declared.status.Stop.{Stop};
+ghost use Rattle.mysql_wire_commands.specs.Reframe.{ReframeEnds, Sends, StartsReading};
 
 use crate::status::{Stop, exit_status};
 use std::alloc::Allocator;
@@ -12,6 +13,9 @@ use std::io::{Read, Write};
 use wire_codec::codec::PacketCodec;
 use wire_codec::laws;
 use wire_packet_io::{PacketIoError, PacketReader, PacketWriter};
+
+// How many bytes wait for the next packet, at most; a larger packet is written at once.
+const MOST_HELD_BACK: usize = 8192;
 
 // A codec at id 0, under a limit.
 fn codec_under(limit: usize) -> PacketCodec
@@ -24,26 +28,18 @@ fn codec_under(limit: usize) -> PacketCodec
     codec
 }
 
-// Sends a packet to a writer with nothing pending.
+// Writes what is pending, but for what is held back.
 fn send<A: Allocator + Copy, W: Write>(
-    encoder: &mut PacketCodec,
     to: &mut PacketWriter<W, A>,
-    packet: &[u8],
+    is_held_back: bool,
 ) -> Result<(), Stop>
-    requires idle { to.old.pending ≡ [] }
-    requires fits { length packet.now ≤ encoder.old.max_allowed_packet }
-    ensures sent { OnOk result (Appends (W.contents to.old.writer) (W.contents to.new.writer)
-        (framing (expected_id encoder.old) packet.now)) }
-    ensures idle { OnOk result (to.new.pending ≡ []) }
-    ensures next { OnOk result
-        (expected_id encoder.new ≡ next_id (expected_id encoder.old) packet.now) }
-    ensures limit { encoder.new.max_allowed_packet ≡ encoder.old.max_allowed_packet }
+    ensures sent { OnOk result (Sends (W.contents to.old.writer) (W.contents to.new.writer)
+        to.old.pending to.new.pending) }
+    ensures idle { OnOk result (IsFalse is_held_back → to.new.pending ≡ []) }
+    ensures errors { IfErr result (λ error. error ≡ Stop.Io) }
 {
-    let mut packet = packet;
-    match to.queue(encoder, &mut packet) {
-        Ok(()) => {}
-        Err(PacketIoError::OutOfMemory) => return Err(Stop::Memory),
-        Err(_) => unreachable!(),
+    if is_held_back || to.pending().is_empty() {
+        return Ok(());
     }
     match to.write_pending() {
         Ok(()) => Ok(()),
@@ -51,7 +47,44 @@ fn send<A: Allocator + Copy, W: Write>(
     }
 }
 
-// Copies whole packets, framed from id 0 on. The answer is the exit status, or why it gave up.
+// Ends with this status, once all is written.
+fn end<A: Allocator + Copy, W: Write>(to: &mut PacketWriter<W, A>, status: u8) -> Result<u8, Stop>
+    ensures { IfOk result (λ ended. (ended ≡ status) × Appends (W.contents to.old.writer)
+        (W.contents to.new.writer) to.old.pending) }
+{
+    send(to, false)?;
+    Ok(status)
+}
+
+// Frames a packet behind what is pending, which is written where memory is refused.
+fn queue<A: Allocator + Copy, W: Write>(
+    encoder: &mut PacketCodec,
+    to: &mut PacketWriter<W, A>,
+    packet: &[u8],
+) -> Result<(), Stop>
+    requires fits { length packet.now ≤ encoder.old.max_allowed_packet }
+    ensures queued { OnOk result (to.new.pending
+        ≡ to.old.pending ++ framing (expected_id encoder.old) packet.now) }
+    ensures writer { OnOk result (to.new.writer ≡ to.old.writer) }
+    ensures next { OnOk result
+        (expected_id encoder.new ≡ next_id (expected_id encoder.old) packet.now) }
+    ensures limit { encoder.new.max_allowed_packet ≡ encoder.old.max_allowed_packet }
+    ensures refused { (result ≡ Err Stop.Memory) → Appends (W.contents to.old.writer)
+        (W.contents to.new.writer) to.old.pending }
+{
+    let mut packet = packet;
+    match to.queue(encoder, &mut packet) {
+        Ok(()) => Ok(()),
+        Err(PacketIoError::OutOfMemory) => {
+            send(to, false)?;
+            Err(Stop::Memory)
+        }
+        Err(_) => unreachable!(),
+    }
+}
+
+// Copies whole packets, framed from id 0 on. What is framed waits while the next packet is there
+// whole, and is written before a read. The answer is the exit status, or why it gave up.
 fn copy_packets<A: Allocator + Copy, R: Read, W: Write>(
     limit: usize,
     from: &mut PacketReader<R, A>,
@@ -73,19 +106,21 @@ fn copy_packets<A: Allocator + Copy, R: Read, W: Write>(
     let mut decoder = codec_under(limit);
     let mut encoder = codec_under(limit);
     'packets: for _ in 0..u64::MAX {
+        let is_more_kept = to.pending().len() < MOST_HELD_BACK && from.reads() < u64::MAX;
+        send(to, is_more_kept && from.is_ready(&decoder))?;
         if from.reads() == u64::MAX {
             return Err(Stop::Io);
         }
-        let packet = match from.next_packet(&mut decoder) {
-            Ok(Some(packet)) => packet,
-            Ok(None) => return Ok(0),
-            Err(PacketIoError::UnexpectedEnd) => return Ok(3),
-            Err(PacketIoError::PacketTooLarge) => return Ok(4),
-            Err(PacketIoError::PacketsOutOfSync) => return Ok(5),
+        match from.fill_packet(&mut decoder) {
+            Ok(true) => queue(&mut encoder, to, from.packet())?,
+            Ok(false) => return end(to, 0),
+            Err(PacketIoError::UnexpectedEnd) => return end(to, 3),
+            Err(PacketIoError::PacketTooLarge) => return end(to, 4),
+            Err(PacketIoError::PacketsOutOfSync) => return end(to, 5),
             Err(PacketIoError::OutOfMemory) => return Err(Stop::Memory),
             Err(_) => return Err(Stop::Io),
-        };
-        send(&mut encoder, to, packet.as_slice())?;
+        }
+        from.take_packet();
     }
     Err(Stop::Io)
 }

@@ -120,7 +120,7 @@ const ROWS: &[Row] = &[
         most: MOST,
         requests: 6,
     },
-    // Each packet is written as soon as it is whole. Room for a read, the packet, and its framing.
+    // Each packet is written before the next read. Room for a read, and for the framing.
     Row {
         words: &["reframe", "3"],
         input: THREE,
@@ -128,7 +128,7 @@ const ROWS: &[Row] = &[
         status: 0,
         text: THREE,
         most: MOST,
-        requests: 3,
+        requests: 2,
     },
     Row {
         words: &["reframe", "3"],
@@ -137,7 +137,7 @@ const ROWS: &[Row] = &[
         status: 5,
         text: b"\x01\0\0\0a",
         most: MOST,
-        requests: 3,
+        requests: 2,
     },
 ];
 

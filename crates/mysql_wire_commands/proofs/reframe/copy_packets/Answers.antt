@@ -1,9 +1,9 @@
-use Rattle.std.proofs.Common.{rules, ◌≡◌, ℕ, List, [], ◌++◌, ◌∙◌}
-use Rattle.std.proofs.KnownBytes.{Appends-nil, Appends-trans, Consumes-nil, Consumes-trans}
+use Rattle.std.proofs.Common.{rules, ◌≡◌, ℕ, List, [], ◌++◌, ◌∙◌, refl, ap}
+use Rattle.std.proofs.KnownBytes.{Consumes-nil, Consumes-trans}
 use Rattle.wire_codec.specs.Codec.{codec_state, expected_id}
 use Rattle.wire_codec.specs.Framing.{framing}
 use Rattle.wire_packet_io.specs.PacketIo.{joined_reads}
-use Rattle.mysql_wire_commands.proofs.ReframeLemmas.{reframing_start, reframing_more, reframed_whole, reframed_short, reframed_too_large, reframed_out_of_sync}
+use Rattle.mysql_wire_commands.proofs.ReframeLemmas.{reframing_start, reframing_more, reframed_whole, reframed_short, reframed_too_large, reframed_out_of_sync, none_written, sent_on, queued_on, all_sent, ended_with, some_lent, none_lent}
 use Rattle.mysql_wire_commands.proofs.reframe.copy_packets.Goals as goal
 
 pub packets-init : goal.packets-init
@@ -14,7 +14,6 @@ packets-init g c =
     record {
       found = reader.2;
       lent = c.requires.lent;
-      idle = c.requires.writer;
       encoder = encoder.limit;
       so_far = (
         [],
@@ -22,7 +21,7 @@ packets-init g c =
         reframing_start c.nothing_read.ensures c.args.limit (codec_state c.codec_under-decoder.result c.args.from.now.unread c.args.from.now.held)
             (expected_id c.codec_under-encoder.result) decoder.id decoder.header reader.0 reader.1 decoder.limit encoder.id,
         Consumes-nil _,
-        Appends-nil _,
+        none_written c.args.to.now.pending _ c.requires.writer,
       );
     }
 
@@ -30,100 +29,109 @@ pub packets-preserved : goal.packets-preserved
 packets-preserved g c =
     let old = c.packets.invariant.so_far in
     let before = codec_state c.packets.decoder c.packets.from.unread c.packets.from.held in
-    let after = codec_state c.next_packet.new.codec c.next_packet.new.self.unread c.next_packet.new.self.held in
-    let came = (rw c.in-Ok-Some.field-0-is at c.in-Ok-Some.ensures.next) c.packets.invariant.found c.packets.invariant.lent in
+    let after = codec_state c.fill_packet.new.codec c.fill_packet.new.self.unread c.fill_packet.new.self.held in
+    let lent = some_lent c.fill_packet.new.self.lent (search rules) in
+    let packet : List ℕ = lent.0 in
+    let came = (rw lent.1 at c.in-Ok-true.ensures.fills) c.packets.invariant.found c.packets.invariant.lent in
     let more : List ℕ = joined_reads came.reads in
-    let packet : List ℕ = c.in-Ok-Some.packet.items in
-    let put = c.in_ok-send.ensures in
-    let shown : c.as_slice.result.now ≡ packet = c.as_slice.ensures.value in
+    let put = c.in_ok-queue-in-Ok-true.ensures in
+    let shown : c.packet.result.now ≡ packet = rw lent.1 at c.packet.ensures in
     let first = expected_id c.packets.encoder in
-    let sent = rw shown at put.sent in
+    let queued = rw shown at put.queued in
     let next = rw shown at put.next in
+    let taken = c.take_packet.ensures in
+    let sent = sent_on old.1 c.packets.to.pending c.send.new.to.pending _ _ _ old.4 c.in_ok-send.ensures.sent in
     record {
-      found = search rules;
-      lent = c.next_packet.ensures.taken c.packets.invariant.lent;
-      idle = put.idle;
+      found = ap (λ z. z.is_lost) taken ∙ c.in-Ok-true.ensures.lends.1;
+      lent = rw (ap (λ z. z.lent) taken) refl;
       encoder = put.limit ∙ c.packets.invariant.encoder;
-      so_far = (
+      so_far = rw (ap (λ z. z.unread) taken, ap (λ z. z.held) taken, ap (λ z. z.reader) taken, put.writer) (
         old.0 ++ more,
         old.1 ++ framing first packet,
-        reframing_more c.joined_splits.ensures c.stream_append.ensures c.id_after_append.ensures c.between_packets.ensures c.args.limit before after first (expected_id c.send.new.encoder)
-            old.0 old.1 more packet old.2 came.answers.0 came.answers.1 c.next_packet.ensures.rest.2 next,
+        reframing_more c.joined_splits.ensures c.stream_append.ensures c.id_after_append.ensures c.between_packets.ensures c.args.limit before after first (expected_id c.queue.new.encoder)
+            old.0 old.1 more packet old.2 came.answers.0 came.answers.1 c.fill_packet.ensures.rest.2 next,
         Consumes-trans _ _ _ old.0 more old.3 came.consumed,
-        Appends-trans _ _ _ old.1 (framing first packet) old.4 sent,
+        queued_on old.1 c.send.new.to.pending (framing first packet) c.queue.new.to.pending _ _ sent queued,
       );
     }
 
-pub returns-in-Ok-None : goal.returns-in-Ok-None
-returns-in-Ok-None g c =
+pub returns-in-Ok-false : goal.returns-in-Ok-false
+returns-in-Ok-false g c =
     let old = c.packets.invariant.so_far in
     let before = codec_state c.packets.decoder c.packets.from.unread c.packets.from.held in
-    let after = codec_state c.next_packet.new.codec c.next_packet.new.self.unread c.next_packet.new.self.held in
-    let came = (rw c.in-Ok-None.field-0-is at c.in-Ok-None.ensures.next) c.packets.invariant.found c.packets.invariant.lent in
+    let after = codec_state c.fill_packet.new.codec c.fill_packet.new.self.unread c.fill_packet.new.self.held in
+    let none = none_lent c.fill_packet.new.self.lent (search rules) in
+    let came = (rw none at c.in-Ok-false.ensures.fills) c.packets.invariant.found c.packets.invariant.lent in
     let more : List ℕ = joined_reads came.reads in
-    record {
+    let sent = sent_on old.1 c.packets.to.pending c.send.new.to.pending _ _ _ old.4 c.in_ok-send.ensures.sent in
+    ended_with c.end.result 0 c.args.limit _ _ _ _ _ c.end.ensures (λ written. record {
       cases = search rules;
       text = λ _. (
         old.0 ++ more,
         old.1,
         Consumes-trans _ _ _ old.0 more old.3 came.consumed,
         reframed_whole c.joined_runs.ensures c.args.limit before after (expected_id c.packets.encoder) old.0 old.1 more old.2 came.answers.0 came.answers.1,
-        old.4,
+        all_sent old.1 c.send.new.to.pending _ _ _ sent written,
       );
       all_read = λ _. came.sees_end;
-    }
+    })
 
 pub returns-in-Err-UnexpectedEnd : goal.returns-in-Err-UnexpectedEnd
 returns-in-Err-UnexpectedEnd g c =
     let old = c.packets.invariant.so_far in
     let before = codec_state c.packets.decoder c.packets.from.unread c.packets.from.held in
-    let after = codec_state c.next_packet.new.codec c.next_packet.new.self.unread c.next_packet.new.self.held in
-    let came = (rw c.in-Err-UnexpectedEnd.field-0-is at c.in-Err-UnexpectedEnd.ensures.next) c.packets.invariant.found c.packets.invariant.lent in
+    let after = codec_state c.fill_packet.new.codec c.fill_packet.new.self.unread c.fill_packet.new.self.held in
+    let came = (rw c.in-Err-UnexpectedEnd.field-0-is at c.in-Err-UnexpectedEnd.ensures.fills) c.packets.invariant.found c.packets.invariant.lent in
     let more : List ℕ = joined_reads came.reads in
-    record {
+    let sent = sent_on old.1 c.packets.to.pending c.send.new.to.pending _ _ _ old.4 c.in_ok-send.ensures.sent in
+    ended_with c.end-in-Err-UnexpectedEnd.result 3 c.args.limit _ _ _ _ _ c.end-in-Err-UnexpectedEnd.ensures (λ written. record {
       cases = search rules;
       text = λ _. (
         old.0 ++ more,
         old.1,
         Consumes-trans _ _ _ old.0 more old.3 came.consumed,
         reframed_short c.joined_runs.ensures c.args.limit before after (expected_id c.packets.encoder) old.0 old.1 more old.2 came.answers.0 came.answers.1,
-        old.4,
+        all_sent old.1 c.send.new.to.pending _ _ _ sent written,
       );
       all_read = λ _. came.sees_end;
-    }
+    })
 
 pub returns-in-Err-PacketTooLarge : goal.returns-in-Err-PacketTooLarge
 returns-in-Err-PacketTooLarge g c =
     let old = c.packets.invariant.so_far in
     let before = codec_state c.packets.decoder c.packets.from.unread c.packets.from.held in
-    let came = (rw c.in-Err-PacketTooLarge.field-0-is at c.in-Err-PacketTooLarge.ensures.next) c.packets.invariant.found c.packets.invariant.lent in
+    let after = codec_state c.fill_packet.new.codec c.fill_packet.new.self.unread c.fill_packet.new.self.held in
+    let came = (rw c.in-Err-PacketTooLarge.field-0-is at c.in-Err-PacketTooLarge.ensures.fills) c.packets.invariant.found c.packets.invariant.lent in
     let more : List ℕ = joined_reads came.reads in
-    record {
+    let sent = sent_on old.1 c.packets.to.pending c.send.new.to.pending _ _ _ old.4 c.in_ok-send.ensures.sent in
+    ended_with c.end-in-Err-PacketTooLarge.result 4 c.args.limit _ _ _ _ _ c.end-in-Err-PacketTooLarge.ensures (λ written. record {
       cases = search rules;
       text = λ _. (
         old.0 ++ more,
         old.1,
         Consumes-trans _ _ _ old.0 more old.3 came.consumed,
         reframed_too_large c.joined_runs.ensures c.args.limit before (expected_id c.packets.encoder) old.0 old.1 more _ _ old.2 came.answers.0,
-        old.4,
+        all_sent old.1 c.send.new.to.pending _ _ _ sent written,
       );
       all_read = search rules;
-    }
+    })
 
 pub returns-in-Err-PacketsOutOfSync : goal.returns-in-Err-PacketsOutOfSync
 returns-in-Err-PacketsOutOfSync g c =
     let old = c.packets.invariant.so_far in
     let before = codec_state c.packets.decoder c.packets.from.unread c.packets.from.held in
-    let came = (rw c.in-Err-PacketsOutOfSync.field-0-is at c.in-Err-PacketsOutOfSync.ensures.next) c.packets.invariant.found c.packets.invariant.lent in
+    let after = codec_state c.fill_packet.new.codec c.fill_packet.new.self.unread c.fill_packet.new.self.held in
+    let came = (rw c.in-Err-PacketsOutOfSync.field-0-is at c.in-Err-PacketsOutOfSync.ensures.fills) c.packets.invariant.found c.packets.invariant.lent in
     let more : List ℕ = joined_reads came.reads in
-    record {
+    let sent = sent_on old.1 c.packets.to.pending c.send.new.to.pending _ _ _ old.4 c.in_ok-send.ensures.sent in
+    ended_with c.end-in-Err-PacketsOutOfSync.result 5 c.args.limit _ _ _ _ _ c.end-in-Err-PacketsOutOfSync.ensures (λ written. record {
       cases = search rules;
       text = λ _. (
         old.0 ++ more,
         old.1,
         Consumes-trans _ _ _ old.0 more old.3 came.consumed,
         reframed_out_of_sync c.joined_runs.ensures c.args.limit before (expected_id c.packets.encoder) old.0 old.1 more came.answers.0 came.answers.1 old.2 came.answers.2,
-        old.4,
+        all_sent old.1 c.send.new.to.pending _ _ _ sent written,
       );
       all_read = search rules;
-    }
+    })
