@@ -15,6 +15,8 @@ use wire_buf::io::ParseBuf;
 use wire_buf::proto::{HasSize, MyDeserialize, MySerialize, Varying};
 use wire_forms::lenenc::LenEnc;
 use wire_list::seq::{Seq, Unknown};
+use wire_put::BufMutExt;
+use wire_repr::append::all_or_nothing;
 use wire_repr::text::RawBytes;
 use wire_repr::wire::Wire;
 
@@ -46,13 +48,18 @@ fn long_value<'a>(buf: &mut ParseBuf<'a>) -> Result<TextValue<'a>, WireError>
 impl MySerialize for TextValue<'_> {
     ghost bytes = { λ value. value_bytes (value_of value) };
 
+    #[inline(always)]
     fn serialize<A: Allocator>(&self, buf: &mut Vec<u8, A>) -> Result<(), WireError> {
         match self {
             TextValue::Null => {
                 buf.push(0xfb)?;
                 Ok(())
             }
-            TextValue::Text(text) => RawBytes::<LenEnc>::from(*text).serialize(buf),
+            TextValue::Text(text) => {
+                let at = buf.len();
+                let put = buf.put_lenenc_str(text).is_ok();
+                all_or_nothing(put, at, buf)
+            }
         }
     }
 }
