@@ -320,3 +320,22 @@ block-read items short reads size count len counted old front rest answer left r
     (whole-block size count len counted (length old) is same there)
     (subst (λ block. ReadsInto items (ReadsEach short reads count) block answer left)
     (eaten ∙ ap (λ m. take m old) is) read))
+
+-- ---- room for the first values, taken before
+
+pub some-asked : (room more count : ℕ) → room < more → more ≤ count → 0 < count
+some-asked room more count full at_most = omega (arith, full, at_most)
+
+none-below : 0 < 0 → ⊥
+none-below less = omega (arith, less)
+
+first-refused : {X : Type 0} (reads : List ℕ → Result X WireError → ℕ → Type 0) (count : ℕ)
+    (input : List ℕ) → 0 < count → ReadsEach (Unit {0}) reads count input (Err OutOfMemory) 0
+first-refused reads zero input some = absurd (none-below some)
+first-refused reads (suc count) input some = inl (tt, refl, refl)
+
+pub eats-nothing : {V X : Type 0} (items : V → List X)
+    (reads : List ℕ → Result X WireError → ℕ → Type 0) (count : ℕ) (old : List ℕ) → 0 < count
+    → ReadsInto {V = V} items (ReadsEach (Unit {0}) reads count) old (Err OutOfMemory) old
+eats-nothing items reads count old some =
+    (0, omega arith, refl, first-refused reads count old some)

@@ -10,6 +10,9 @@ use wire_buf::error::WireError;
 use wire_buf::io::ParseBuf;
 use wire_buf::proto::{MyDeserialize, ReadSize};
 
+// Room for so many values is taken at once: until they are read, a count is only a claim.
+const FIRST_ROOM: usize = 64;
+
 // Values one after another, room being taken before each where it is missing.
 fn read_each<'de, T: MyDeserialize<'de, A, Ctx = ()>, A: Allocator + Copy>(
     alloc: A,
@@ -29,6 +32,22 @@ fn read_each<'de, T: MyDeserialize<'de, A, Ctx = ()>, A: Allocator + Copy>(
         items.push(item)?;
     }
     Ok(items)
+}
+
+// Values one after another, room for the first of them being taken before.
+#[inline(always)]
+fn read_some<'de, T: MyDeserialize<'de, A, Ctx = ()>, A: Allocator + Copy>(
+    alloc: A,
+    count: usize,
+    buf: &mut ParseBuf<'de>,
+) -> Result<Vec<T, A>, WireError>
+    ensures { ReadsInto (λ values. values.items)
+        (ReadsEach (Unit {0}) (Parses T.Size.SIZE (T.reads tt)) count)
+        buf.old.0.now result buf.new.0.now }
+{
+    let mut items = Vec::new(alloc);
+    items.reserve(count.min(FIRST_ROOM))?;
+    read_each(alloc, items, count, buf)
 }
 
 // Values of a size, from a block of their own. Room is taken for all of them, once their bytes are
@@ -67,8 +86,8 @@ pub fn read_all<'de, T: MyDeserialize<'de, A, Ctx = ()>, A: Allocator + Copy>(
         buf.old.0.now result buf.new.0.now }
 {
     match <T::Size as ReadSize>::SIZE {
-        None => read_each(alloc, Vec::new(alloc), count, buf),
-        Some(0) => read_each(alloc, Vec::new(alloc), count, buf),
+        None => read_some(alloc, count, buf),
+        Some(0) => read_some(alloc, count, buf),
         Some(size) => read_block(alloc, size, count, buf),
     }
 }
