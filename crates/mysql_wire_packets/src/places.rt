@@ -23,6 +23,7 @@ pub enum PayloadError {
 }
 
 /// Reads a payload that is one packet.
+#[inline(always)]
 pub fn read_whole<'de, T: MyDeserialize<'de, Global>>(
     alloc: Global,
     ctx: T::Ctx,

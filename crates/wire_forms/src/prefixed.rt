@@ -44,12 +44,14 @@ impl BytesRepr for LenEnc {
 
     ghost kept = { λ text. text };
 
+    #[inline(always)]
     fn serialize<A: Allocator>(text: &[u8], buf: &mut Vec<u8, A>) -> Result<(), WireError> {
         let at = buf.len();
         let put = buf.put_lenenc_str(text).is_ok();
         all_or_nothing(put, at, buf)
     }
 
+    #[inline(always)]
     fn deserialize<'de, A: Allocator>(
         _: (),
         buf: &mut ParseBuf<'de>,
