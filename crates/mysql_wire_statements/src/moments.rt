@@ -99,14 +99,32 @@ impl MySerialize for Span {
 impl MySerialize for BinaryDate {
     ghost bytes = { date_bytes };
 
+    // The usual forms go in one append.
     fn serialize<A: Allocator>(&self, buf: &mut Vec<u8, A>) -> Result<(), WireError> {
         match self {
             BinaryDate::Zero => [0].serialize(buf),
-            BinaryDate::Date(day) => Both([4], *day).serialize(buf),
-            BinaryDate::Seconds(day, clock) => Both([7], Both(*day, *clock)).serialize(buf),
+            BinaryDate::Date(day) => {
+                let [low, high] = day.year.to_le_bytes();
+                [4, low, high, day.month, day.day].serialize(buf)
+            }
+            BinaryDate::Seconds(day, clock) => {
+                let [low, high] = day.year.to_le_bytes();
+                let Clock {
+                    hour,
+                    minute,
+                    second,
+                } = *clock;
+                [7, low, high, day.month, day.day, hour, minute, second].serialize(buf)
+            }
             BinaryDate::Micros(day, clock, micros) => {
-                let micros = *micros;
-                Both([11], Both(*day, Both(*clock, micros))).serialize(buf)
+                let [low, high] = day.year.to_le_bytes();
+                let Clock {
+                    hour,
+                    minute,
+                    second,
+                } = *clock;
+                let seconds = [11, low, high, day.month, day.day, hour, minute, second];
+                Both(seconds, *micros).serialize(buf)
             }
         }
     }
@@ -115,13 +133,31 @@ impl MySerialize for BinaryDate {
 impl MySerialize for BinaryTime {
     ghost bytes = { time_bytes };
 
+    // Each form goes in one append.
     fn serialize<A: Allocator>(&self, buf: &mut Vec<u8, A>) -> Result<(), WireError> {
         match self {
             BinaryTime::Zero => [0].serialize(buf),
-            BinaryTime::Seconds(span) => Both([8], *span).serialize(buf),
+            BinaryTime::Seconds(span) => {
+                let [d0, d1, d2, d3] = span.days.to_le_bytes();
+                let Clock {
+                    hour,
+                    minute,
+                    second,
+                } = span.clock;
+                [8, span.sign, d0, d1, d2, d3, hour, minute, second].serialize(buf)
+            }
             BinaryTime::Micros(span, micros) => {
-                let micros = *micros;
-                Both([12], Both(*span, micros)).serialize(buf)
+                let [d0, d1, d2, d3] = span.days.to_le_bytes();
+                let Clock {
+                    hour,
+                    minute,
+                    second,
+                } = span.clock;
+                let [m0, m1, m2, m3] = micros.to_le_bytes();
+                [
+                    12, span.sign, d0, d1, d2, d3, hour, minute, second, m0, m1, m2, m3,
+                ]
+                .serialize(buf)
             }
         }
     }
@@ -191,6 +227,7 @@ impl<'de, A: Allocator + Copy> MyDeserialize<'de, A> for BinaryDate {
 
     ghost reads = { λ _. ReadsDate };
 
+    #[inline(always)]
     fn deserialize(_: A, _: (), buf: &mut ParseBuf<'de>) -> Result<Self, WireError> {
         match first_byte(buf) {
             None => Err(WireError::UnexpectedEof),
@@ -228,6 +265,7 @@ impl<'de, A: Allocator + Copy> MyDeserialize<'de, A> for BinaryTime {
 
     ghost reads = { λ _. ReadsTime };
 
+    #[inline(always)]
     fn deserialize(_: A, _: (), buf: &mut ParseBuf<'de>) -> Result<Self, WireError> {
         match first_byte(buf) {
             None => Err(WireError::UnexpectedEof),
