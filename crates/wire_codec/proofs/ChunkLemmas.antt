@@ -228,6 +228,30 @@ left_nothing left_bytes payload count is_left all =
     (let above : length payload < length payload / max_payload * max_payload + max_payload = blocks_above (length payload) in
     let e : count * max_payload ≡ length payload / max_payload * max_payload + max_payload = ap (λ (n : ℕ). n * max_payload) all ∙ omega arith in omega arith)
 
+-- a payload shorter than a full chunk is one chunk
+pub no_blocks : (n : ℕ) → n < max_payload → n / max_payload ≡ 0
+unfolding max_payload
+no_blocks n short = omega arith
+
+pub framing_short : (s : ℕ) (p : List ℕ) → length p < max_payload → framing s p ≡ chunk s p
+framing_short s p short =
+    let first : 0 * max_payload ≡ 0 = zero-mul max_payload in
+    ap (λ (n : ℕ). chunks (suc n) s p) (no_blocks (length p) short)
+    ∙ ap₂ (λ (n : ℕ) (z : List ℕ). chunk n (take max_payload z)) (omega arith) (ap (λ (n : ℕ). drop n p) first)
+    ∙ ap (λ (z : List ℕ). chunk s z) (take_all max_payload p (omega arith))
+
+-- a payload that lies in one piece, put behind its header
+pub piece_framed : (old hdr piece new payload : List ℕ) (id len : ℕ) → len ≡ length payload → len < max_payload
+    → length piece ≡ len → take (length piece) payload ≡ piece → hdr ≡ header len id → new ≡ (old ++ hdr) ++ piece
+    → new ≡ old ++ framing id payload
+unfolding chunk
+piece_framed old hdr piece new payload id len is_len short whole front is put =
+    let same : piece ≡ payload = sym front ∙ take_all (length piece) payload (omega (arith, whole, is_len)) in
+    let alone : framing id payload ≡ chunk id payload = framing_short id payload (omega (arith, is_len, short)) in
+    put ∙ append_assoc old hdr piece
+    ∙ ap₂ (λ (u v : List ℕ). old ++ (u ++ v)) (is ∙ ap (λ (n : ℕ). header n id) is_len) same
+    ∙ ap (λ (z : List ℕ). old ++ z) (sym alone)
+
 -- how long chunks are
 length-chunk_alone : (i : ℕ) (c : List ℕ) → length (chunk i c) ≡ 4 + length c
 unfolding chunk

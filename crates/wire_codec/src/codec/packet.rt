@@ -8,8 +8,8 @@ mod skip;
 
 use crate::codec::chunk::{ChunkDecoder, ChunkInfo, PacketDst};
 use crate::codec::error::PacketCodecError;
-use crate::codec::framing::packet_to_chunks;
-use crate::codec::header::Header;
+use crate::codec::framing::put_packet;
+use crate::codec::header::{HEADER_LEN, Header};
 use crate::codec::room::{bytes_to_take, fits, is_full_chunks, whole_chunk};
 use bytes::{Buf, BytesMut};
 pub use skip::Skipped;
@@ -179,7 +179,7 @@ impl PacketCodec {
         if packet.remaining() > self.max_allowed_packet {
             return Err(PacketCodecError::PacketTooLarge);
         }
-        match packet_to_chunks(self.seq_id, packet, dst) {
+        match put_packet(self.seq_id, packet, dst) {
             Ok(id) => {
                 self.seq_id = id;
                 Ok(())
@@ -395,6 +395,19 @@ impl PacketCodec {
         }
     }
 
+    // Whether the chunk in front is seen to lack bytes: its header hasn't come whole, or is
+    // remembered and stands before fewer bytes than it states.
+    #[inline(always)]
+    fn awaits(&self, came: usize) -> bool {
+        if came < HEADER_LEN {
+            return true;
+        }
+        match self.decoder {
+            ChunkDecoder::Idle => false,
+            ChunkDecoder::Chunk { needed, .. } => came - HEADER_LEN < needed.get(),
+        }
+    }
+
     // `decode`, and what it makes of a run whose bytes came under different limits.
     #[inline(always)]
     pub(crate) fn decode_on<T: PacketDst>(
@@ -413,41 +426,21 @@ impl PacketCodec {
         ensures shorter { result ≡ Ok true → length src.new.items < length src.old.items }
         ensures limit { self.new.max_allowed_packet ≡ self.old.max_allowed_packet }
     {
-        // The common case: a packet of one chunk, of which all is known before it is put.
-        if let Some(packet) = self.front_packet_in(src.as_slice(), dst.as_ref()) {
-            if let Some(needed) = NonZeroUsize::new(packet.len()) {
-                self.take_room(self.seq_id, needed, packet.len(), src, dst)?;
-                match dst.put_slice(packet) {
-                    Ok(()) => {
-                        self.take_front(src);
-                        return Ok(true);
+        if !self.awaits(src.len()) {
+            // The common case: a packet of one chunk, of which all is known before it is put.
+            match self.front_packet_in(src.as_slice(), dst.as_ref()) {
+                Some(packet) => {
+                    if let Some(needed) = NonZeroUsize::new(packet.len()) {
+                        self.take_room(self.seq_id, needed, packet.len(), src, dst)?;
+                        if let Ok(()) = dst.put_slice(packet) {
+                            self.take_front(src);
+                            return Ok(true);
+                        }
                     }
-                    Err(_) => return self.take_chunks(src, dst),
                 }
+                None => self.make_room(src, dst)?,
             }
         }
-        self.decode_chunks(src, dst)
-    }
-
-    // The same, chunk by chunk.
-    #[inline(always)]
-    fn decode_chunks<T: PacketDst>(
-        &mut self,
-        src: &mut BytesMut<impl Allocator + Copy>,
-        dst: &mut T,
-    ) -> Result<bool, PacketCodecError>
-        ensures decodes { DecodesStanding (codec_state self.old src.old.items (T.held dst.old))
-            result (codec_state self.new src.new.items (T.held dst.new)) }
-        ensures on { Decodes (codec_state self.old src.old.items (T.held dst.old)) result
-            (codec_state self.new src.new.items (T.held dst.new)) }
-        ensures chain { IsChain (codec_state self.old src.old.items (T.held dst.old)) result
-            (codec_state self.new src.new.items (T.held dst.new)) }
-        ensures memory { let before = codec_state self.old src.old.items (T.held dst.old) in
-            result ≡ Err PacketCodecError.OutOfMemory → HasChunk before }
-        ensures shorter { result ≡ Ok true → length src.new.items < length src.old.items }
-        ensures limit { self.new.max_allowed_packet ≡ self.old.max_allowed_packet }
-    {
-        self.make_room(src, dst)?;
         self.take_chunks(src, dst)
     }
 

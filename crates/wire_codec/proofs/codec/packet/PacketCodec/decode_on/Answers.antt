@@ -1,5 +1,6 @@
-use Rattle.std.proofs.Common.{◌≡◌, ℕ, ◌<◌, List, [], ◌++◌, length, sym, ap, ◌∙◌, subst, refl, arith, rules, Option, Some, None, Ok, true}
+use Rattle.std.proofs.Common.{◌≡◌, ℕ, ◌<◌, List, [], ◌++◌, length, sym, ap, ◌∙◌, subst, refl, arith, rules, Option, Some, None, Ok, Err, true}
 use Rattle.wire_codec.specs.declared.codec.packet.PacketCodec.{PacketCodec}
+use Rattle.wire_codec.specs.declared.codec.error.PacketCodecError.TheVariants.{OutOfMemory}
 use Rattle.std.specs.Int.NonZero.{non_zero_usize_get}
 use Rattle.wire_codec.specs.Codec.{codec_state, header_of, ChunkChain}
 use Rattle.wire_codec.specs.Delivery.{chunk_len}
@@ -31,6 +32,14 @@ take_room-requires-clause-takeable g c =
     (subst (λ (z : List ℕ). IsTakeable header src (length z) limit id needed) c.as_ref.ensures
     (takeable limit id header src c.as_ref.result.now needed there len some))
 
+-- memory refused is a chain of no chunk
+pub returns-in_err-take_room-in-Some-clause-chain : goal.returns-in_err-take_room-in-Some-clause-chain
+returns-in_err-take_room-in-Some-clause-chain g c =
+    let stops : c.from_residual.result ≡ Err OutOfMemory = search rules in (
+      0,
+      record { said = Err OutOfMemory; chunk = c.in_err-take_room-in-Some.ensures.refused; stops = stops; id_stays = c.take_room.ensures.id },
+    )
+
 -- the packet stands behind the empty `dst`
 pub returns-in-Ok-clause-chain : goal.returns-in-Ok-clause-chain
 returns-in-Ok-clause-chain g c =
@@ -42,5 +51,5 @@ returns-in-Ok-clause-chain g c =
       1,
       subst (λ (z : List ℕ). ChunkChain 1 (codec_state c.args.self.now src (held c.args.dst.now)) (Ok true) (codec_state c.take_front.new.self c.take_front.new.src.items z)) filled
           (subst (λ (z : List ℕ). ChunkChain 1 (codec_state c.args.self.now src z) (Ok true) (codec_state c.take_front.new.self c.take_front.new.src.items payload)) (sym empty)
-          (subst (λ (z : PacketCodec). ChunkChain 1 (codec_state z src []) (Ok true) (codec_state c.take_front.new.self c.take_front.new.src.items payload)) c.in_ok-take_room.ensures.ok c.take_front.ensures.chain)),
+          (subst (λ (z : PacketCodec). ChunkChain 1 (codec_state z src []) (Ok true) (codec_state c.take_front.new.self c.take_front.new.src.items payload)) c.in_ok-take_room-in-Some.ensures.ok c.take_front.ensures.chain)),
     )
