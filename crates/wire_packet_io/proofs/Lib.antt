@@ -3,3 +3,4 @@ mod BoundLemmas
 mod SkipLemmas
 pub mod CopyLemmas
 pub mod RelayLemmas
+mod WholeLemmas

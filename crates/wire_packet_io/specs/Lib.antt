@@ -4,3 +4,4 @@ pub mod Bounds
 pub mod Skips
 pub mod Copying
 pub mod Relaying
+pub mod Whole

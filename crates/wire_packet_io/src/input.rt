@@ -12,6 +12,7 @@ ghost use Rattle.wire_packet_io.specs.Lent.{IsThere, IsApart, ReadsPacket, found
 
 mod copy;
 mod relay;
+mod whole;
 
 use crate::error::PacketIoError;
 use bytes::BytesMut;
@@ -47,7 +48,6 @@ pub struct Input<R: Read, A: Allocator + Copy> {
 
 impl<R: Read, A: Allocator + Copy> Input<R, A> {
     // One read of at most 8192 bytes. The answer is how many came.
-    #[inline(never)]
     fn read_more(&mut self) -> Result<usize, PacketIoError>
         ensures ok { IfOk result (λ n. (came : List ℕ) × (length came ≡ n)
             × (self.new.src.items ≡ self.old.src.items ++ came)

@@ -11,6 +11,7 @@ ghost use Rattle.wire_packet_io.specs.Skips.{CanSkip, SkipsNext, SkipsOn, skippe
 
 mod copy;
 mod relay;
+mod whole;
 
 use crate::error::PacketIoError;
 use crate::input::{Found, Input, behind_front, front_payload};

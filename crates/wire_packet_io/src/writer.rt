@@ -1,6 +1,6 @@
 //! Packets to a writer.
 
-ghost use Rattle.std.specs.Prelude.{IsOk, ◌≡◌, ◌<◌, ◌⊎◌, ◌↔◌, ℕ, List, [], ◌++◌, length, Err, IfOk, OnOk, OnErr, IfErr};
+ghost use Rattle.std.specs.Prelude.{IsOk, ◌≡◌, ◌<◌, ◌⊎◌, ◌↔◌, ℕ, List, [], ◌++◌, length, Err, IfOk, OnOk, OnErr, IfErr, IsTrue, IsFalse};
 ghost use Rattle.std.specs.Io.KnownBytes.{Appends, Keeps};
 ghost use Rattle.wire_codec.specs.Codec.{expected_id, header_of};
 ghost use Rattle.wire_codec.specs.Framing.{framing, next_id};
@@ -114,6 +114,23 @@ impl<W: Write, A: Allocator + Copy> PacketWriter<W, A> {
             Ok(()) => Ok(()),
             Err(_) => Err(PacketIoError::OutOfMemory),
         }
+    }
+
+    // Puts both behind what is pending, where there is room for them: no memory is asked for.
+    #[inline(always)]
+    pub(crate) fn put_in_room(&mut self, header: &[u8], payload: &[u8]) -> bool
+        ensures put { IsTrue result
+            → self.new.pending ≡ self.old.pending ++ (header.now ++ payload.now) }
+        ensures full { IsFalse result → self.new.pending ≡ self.old.pending }
+        ensures writer { self.new.writer ≡ self.old.writer }
+    {
+        let spare = self.pending.capacity() - self.pending.len();
+        if spare < header.len() || spare - header.len() < payload.len() {
+            return false;
+        }
+        self.pending.extend_reserved(header);
+        self.pending.extend_reserved(payload);
+        true
     }
 
     /// Writes until nothing is pending, and flushes. After `Io` and `WriteZero` exactly the bytes

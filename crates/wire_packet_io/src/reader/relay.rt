@@ -64,6 +64,9 @@ impl<R: Read, A: Allocator + Copy> PacketReader<R, A> {
         if self.input.lost && self.copied.is_none() {
             return Err(PacketIoError::PacketsOutOfSync);
         }
+        if self.copied.is_none() && self.relay_whole(codec, writer, writer_codec) {
+            return Ok(true);
+        }
         let mut decoder = self.copied_so_far(codec);
         let mut next_id = writer_codec.sequence_id();
         let result = self.go_on_relaying(&mut decoder, writer, &mut next_id);

@@ -1,0 +1,51 @@
+//! A packet that lies whole in one chunk, in front of what was read.
+
+ghost use Rattle.std.specs.Prelude.{◌≡◌, Ok, None, true, IsNone, IsTrue, IsFalse};
+ghost use Rattle.wire_codec.specs.Codec.{header_of};
+ghost use Rattle.wire_packet_io.specs.Relaying.{RelaysPacket};
+
+use super::PacketReader;
+use crate::writer::PacketWriter;
+use std::alloc::Allocator;
+use std::io::{Read, Write};
+use wire_codec::codec::PacketCodec;
+use wire_codec::codec::header::{HEADER_LEN, Header};
+
+impl<R: Read, A: Allocator + Copy> PacketReader<R, A> {
+    // Passes on the packet in front, where it lies whole in one chunk and there is room for it
+    // behind what is pending: whether it has. No memory is asked for. Nothing changes where it
+    // hasn't.
+    #[inline(always)]
+    pub(super) fn relay_whole<W: Write, B: Allocator + Copy>(
+        &mut self,
+        codec: &mut PacketCodec,
+        writer: &mut PacketWriter<W, B>,
+        writer_codec: &mut PacketCodec,
+    ) -> bool
+        requires none { IsNone self.old.lent × IsNone self.old.copied }
+        ensures relays { IsTrue result → RelaysPacket R.remaining W.contents
+            codec.old self.old writer_codec.old writer.old (Ok true)
+            codec.new self.new writer_codec.new writer.new }
+        ensures header { IsTrue result → header_of codec.new ≡ None }
+        ensures rest { self.new ≡ record self.old { unread = self.new.unread } }
+        ensures limit { codec.new.max_allowed_packet ≡ codec.old.max_allowed_packet }
+        ensures other { (header_of writer_codec.new ≡ header_of writer_codec.old)
+            × (writer_codec.new.max_allowed_packet ≡ writer_codec.old.max_allowed_packet) }
+        ensures not { IsFalse result → (self.new ≡ self.old) × (codec.new ≡ codec.old)
+            × (writer.new ≡ writer.old) × (writer_codec.new ≡ writer_codec.old) }
+    {
+        let Some((len, next)) = self.input.whole_front(codec) else {
+            return false;
+        };
+        let seq_id = writer_codec.sequence_id();
+        let header = Header { len, seq_id }.bytes();
+        let payload = &self.input.src.as_slice()[HEADER_LEN..HEADER_LEN + len];
+        if !writer.put_in_room(&header, payload) {
+            return false;
+        }
+        self.input.src.advance(HEADER_LEN + len);
+        codec.begin_at(next);
+        writer_codec.set_sequence_id(seq_id.wrapping_add(1)); // after 255 comes 0
+        true
+    }
+}
