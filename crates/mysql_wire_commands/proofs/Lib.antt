@@ -5,4 +5,3 @@ pub mod NumberLemmas
 pub mod ArgumentLemmas
 pub mod ReframeLemmas
 pub mod PacketLineLemmas
-pub mod DigitLemmas

@@ -9,8 +9,9 @@ use Rattle.mysql_wire_commands.specs.Unframe.{packet_lines}
 use Rattle.std.proofs.KnownBytes.{Appends-nil, Appends-trans}
 use Rattle.std.specs.Io.KnownBytes.{Appends}
 use Rattle.std.specs.Fmt.{decimal}
-use Rattle.std.specs.Prelude.{codes, slice_index, ◌/◌, ◌%◌}
+use Rattle.std.specs.Prelude.{codes}
 use Rattle.hex.specs.Hex.{encode_lower, encode_with, lower_digits}
+use Rattle.wire_digits.proofs.DigitLemmas.{digits_more}
 use Rattle.mysql_wire_commands.specs.PacketLines.{Goes}
 use Rattle.mysql_wire_commands.specs.Texts.{hex_or_dash, payload_line}
 
@@ -27,12 +28,6 @@ goes_on held text middle more left before between after first second = (
 -- a part that is only held
 pub goes_held : (held text left : List ℕ) (written : Option (List ℕ)) → left ≡ held ++ text → Goes held text left written written
 goes_held held text left written is = ([], Appends-nil written, is)
-
--- the digits of one part behind those of another
-pub digits_more : (table first second : List ℕ) → encode_with table (first ++ second) ≡ encode_with table first ++ encode_with table second
-unfolding encode_with
-digits_more table [] second = refl
-digits_more table (b ∷ rest) second = ap (λ (z : List ℕ). slice_index table (b / 16) ∷ slice_index table (b % 16) ∷ z) (digits_more table rest second)
 
 no_digits : encode_lower [] ≡ []
 unfolding encode_with

@@ -1,4 +1,4 @@
-use Rattle.std.proofs.Common.{rules, ◌≡◌, List, [], ℕ, ◌++◌, refl, sym, subst, ap, ap₂, ◌∙◌, append-nil, append_assoc, take-append-drop}
+use Rattle.std.proofs.Common.{rules, List, [], ℕ, ◌++◌, refl, sym, subst, ap, ap₂, ◌∙◌, append-nil, append_assoc, take-append-drop}
 use Rattle.hex.specs.Hex.{encode_lower}
 use Rattle.mysql_wire_commands.specs.PacketLines.{Goes}
 use Rattle.mysql_wire_commands.proofs.PacketLineLemmas.{digits_begin, digits_on, no_bytes}
@@ -15,7 +15,7 @@ loop-rest-preserved g c =
       append_assoc old.0 c.split_at.result.0.now c.split_at.result.1.now
           ∙ ap (λ (z : List ℕ). old.0 ++ z) (ap₂ (λ (a b : List ℕ). a ++ b) split.front split.back ∙ take-append-drop c.min.result c.loop-rest.rest.now)
           ∙ old.1,
-      digits_on _ old.0 c.split_at.result.0.now _ _ _ _ _ _ old.2 c.in_ok-push_digits.ensures c.in_ok-write_long.ensures,
+      digits_on _ old.0 c.split_at.result.0.now _ _ _ _ _ _ old.2 c.in_ok-push_digits.ensures.ok c.in_ok-write_long.ensures,
     )
 
 pub returns : goal.returns

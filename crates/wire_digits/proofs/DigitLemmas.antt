@@ -1,10 +1,14 @@
 -- Digits that are made sixteen bytes at a time.
-use Rattle.std.proofs.Common.{◌≡◌, ℕ, zero, suc, ◌+◌, ◌-◌, ◌*◌, ◌/◌, ◌%◌, ◌<◌, List, [], ◌∷◌, ◌++◌, map, length, take, drop, get_or, refl, sym, ap, ap₂, ◌∙◌, append-nil, append_assoc, take-append-drop, arith, w8, Fits}
-use Rattle.std.proofs.lemmas.List.{length-map, get_or-map, get_or_append_left, get_or-append_right, drop_more, drop_all, ext_get_or, take-append-le, take_all}
+use Rattle.std.proofs.Common.{◌≡◌, ℕ, zero, suc, ◌+◌, ◌-◌, ◌*◌, ◌/◌, ◌%◌, ◌<◌, ◌≤◌, List, [], ◌∷◌, ◌++◌, map, length, take, drop, get_or, Result, Ok, Err, OnErr, refl, sym, ap, ap₂, ◌∙◌, append-nil, append_assoc, take-append-drop, arith, w8, Fits}
+use Rattle.std.proofs.lemmas.List.{length-map, length-take, get_or-map, get_or_append_left, get_or-append_right, drop_more, drop_all, ext_get_or, take-append-le, take_all}
 use Rattle.std.proofs.lemmas.Simd.{Each1-from_get_or, Each1-get_or, swz_l, SwzOk, SwzOk-from_below, length-swz_l, get_or-swz_l_below}
-use Rattle.std.specs.Prelude.{slice_index}
+use Rattle.std.proofs.lemmas.Bool.{and_parts, ltb-true}
+use Rattle.std.specs.Prelude.{◌&&◌, Bool, nat_lt, slice_index, true}
 use Rattle.hex.specs.Hex.{encode_lower, encode_with, lower_digits}
-use Rattle.mysql_wire_commands.proofs.PacketLineLemmas.{digits_more}
+use Rattle.std.proofs.lemmas.Str.{IsUtf8-from_ascii}
+use Rattle.std.proofs.lemmas.Str.Ascii.{IsAscii-cons, IsAscii-nil}
+use Rattle.std.specs.Str.{IsAscii, IsUtf8}
+use Rattle.hex.proofs.HexLemmas.{IsAscii-encode_with}
 use lib.Lanes.{Each1, pick_l}
 
 abbrev pub IsBlock : List ℕ → Type 0
@@ -77,6 +81,12 @@ unfolding encode_with
 length_digits table [] = refl
 length_digits table (b ∷ rest) = omega (arith, length_digits table rest)
 
+-- the digits of one part behind those of another
+pub digits_more : (table first second : List ℕ) → encode_with table (first ++ second) ≡ encode_with table first ++ encode_with table second
+unfolding encode_with
+digits_more table [] second = refl
+digits_more table (b ∷ rest) second = ap (λ (z : List ℕ). slice_index table (b / 16) ∷ slice_index table (b % 16) ∷ z) (digits_more table rest second)
+
 -- what more bytes behind them leave in front
 pub front_digits : (bytes more : List ℕ) → take (2 * length bytes) (encode_lower (bytes ++ more)) ≡ encode_lower bytes
 front_digits bytes more =
@@ -114,3 +124,31 @@ pub last_pushed : (bytes copied more digits held left : List ℕ) → copied ≡
 last_pushed bytes copied more digits held left copied_is digits_is left_is =
     left_is ∙ ap (λ (z : List ℕ). held ++ z)
     (ap (take (2 * length bytes)) (digits_is ∙ ap (λ (z : List ℕ). encode_lower (z ++ more)) copied_is) ∙ front_digits bytes more)
+
+-- how many digits are sixteen bytes'
+pub digits_of_block : (rest block behind digits : List ℕ) → block ≡ take 16 rest → length behind + 16 ≡ length rest → digits ≡ encode_lower block → length digits ≡ 32
+digits_of_block rest block behind digits block_is left digits_is =
+    ap length digits_is ∙ omega (arith, length_digits lower_digits block, ap length block_is, length-take 16 rest, left)
+
+-- no refusal, where there is room
+pub never_full : {T E : Type 0} (result : Result T E) (P : Type 0) (len more room : ℕ) → OnErr result (room < len + more) → len + more ≤ room → OnErr result P
+never_full (Ok _) P len more room full within = tt
+never_full (Err _) P len more room full within = absurd (omega (arith, full, within))
+
+-- digits are of ASCII
+abbrev below : List ℕ → Bool
+below [] = true
+below (b ∷ bs) = nat_lt b 128 && below bs
+
+ascii_if : (bs : List ℕ) → below bs ≡ true → IsAscii bs
+ascii_if [] is = IsAscii-nil
+ascii_if (b ∷ bs) is =
+    let parts = and_parts (nat_lt b 128) _ is in
+    IsAscii-cons b bs (ltb-true b 128 parts.0) (ascii_if bs parts.1)
+
+digits_ascii : IsAscii lower_digits
+digits_ascii = ascii_if lower_digits refl
+
+pub digits_utf8 : (bytes : List ℕ) → IsUtf8 (encode_lower bytes)
+digits_utf8 bytes =
+    IsUtf8-from_ascii _ (IsAscii-encode_with lower_digits bytes digits_ascii)

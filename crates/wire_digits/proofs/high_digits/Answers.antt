@@ -1,8 +1,8 @@
 use Rattle.std.proofs.Common.{ℕ, ◌/◌, ◌^◌, arith}
 use Rattle.std.proofs.lemmas.Simd.{zip2_splat}
 use Rattle.hex.specs.Hex.{lower_digits}
-use Rattle.mysql_wire_commands.proofs.DigitLemmas.{places_fit, looked_up}
-use Rattle.mysql_wire_commands.proofs.packet_lines.high_digits.Goals as goal
+use Rattle.wire_digits.proofs.DigitLemmas.{places_fit, looked_up}
+use Rattle.wire_digits.proofs.high_digits.Goals as goal
 
 abbrev down : ℕ → ℕ → ℕ
 down a b = a / 2 ^ b

@@ -3,8 +3,8 @@ use Rattle.std.proofs.lemmas.Nat.{and_mask}
 use Rattle.std.proofs.lemmas.Simd.{zip2_splat}
 use Rattle.hex.specs.Hex.{lower_digits}
 use lib.Lanes.{zip2}
-use Rattle.mysql_wire_commands.proofs.DigitLemmas.{places_fit, looked_up}
-use Rattle.mysql_wire_commands.proofs.packet_lines.low_digits.Goals as goal
+use Rattle.wire_digits.proofs.DigitLemmas.{places_fit, looked_up}
+use Rattle.wire_digits.proofs.low_digits.Goals as goal
 
 masked : (v : List ℕ) → map (λ x. bit_and x 15) v ≡ map (λ x. x % 16) v
 masked [] = refl
