@@ -1,18 +1,19 @@
 -- The text of fields.
-use Rattle.std.proofs.Common.{◌≡◌, ℕ, List, [], ◌∷◌, ◌++◌, Bool, true, false, refl, ap, sym, ◌∙◌, append_assoc, arith, ◌+◌, ◌<◌, length, take, get_or}
+use Rattle.std.proofs.Common.{◌≡◌, ℕ, zero, suc, ap₂, drop, take-append-drop, List, [], ◌∷◌, ◌++◌, Bool, true, false, refl, ap, sym, ◌∙◌, append_assoc, arith, ◌+◌, ◌<◌, length, take, get_or}
 use Rattle.std.proofs.lemmas.Grind.{common_steps}
-use Rattle.std.specs.Prelude.{◌==◌, not}
-use Rattle.std.proofs.lemmas.Bool.{and_parts, eqb-false, leb-true, not-true}
+use Rattle.std.specs.Prelude.{◌==◌, ◌&&◌, not}
+use Rattle.std.proofs.lemmas.Bool.{and_from, and_left, and_parts, eqb-false, leb-true, ltb-true, not-true}
 use Rattle.json.specs.Print.{escape, escape_byte}
 use Rattle.json.proofs.Printed.Strings.{escape_byte_plain}
 use Rattle.std.proofs.lemmas.List.{append-nil, take_more}
+use Rattle.std.proofs.lemmas.List.Folds.{list_all-append}
 use Rattle.std.specs.List.{flat_map}
-use Rattle.std.specs.Str.{IsUtf8, is_utf8}
-use Rattle.std.proofs.lemmas.Str.{IsUtf8-from_is_utf8}
+use Rattle.std.specs.Str.{IsAscii, IsUtf8, is_utf8}
+use Rattle.std.proofs.lemmas.Str.{IsUtf8-from_ascii, IsUtf8-from_is_utf8}
 use Rattle.mysql_wire_dump_lines.specs.declared.fields.FieldForm.{FieldForm}
 use Rattle.mysql_wire_dump_lines.specs.declared.fields.Field.{Field}
 use Rattle.mysql_wire_dump_lines.specs.declared.fields.FieldForm.TheVariants.{Hidden, Text, Json}
-use Rattle.mysql_wire_dump_lines.specs.Fields.{Member, Puts, Written, all_stand, ended, fields_text, line, nothing, pair, put, puts, stands}
+use Rattle.mysql_wire_dump_lines.specs.Fields.{Member, Puts, Written, all_plain, all_stand, ended, fields_text, line, nothing, pair, plain, put, puts, stands}
 use Rattle.mysql_wire_dump_lines.specs.FieldTables.{members_in, members_of}
 
 is_false : (test : Bool) → (test ≡ true → ⊥) → test ≡ false
@@ -102,3 +103,47 @@ escape-all_stand [] is = refl
 escape-all_stand (byte ∷ words) is =
     let parts = and_parts (stands byte) _ is in
     rw (byte_stands byte parts.0, escape-all_stand words parts.1) refl
+
+-- sixteen bytes, and those behind them
+pub plain_parts : (rest block behind : List ℕ) → block ≡ take 16 rest → behind ≡ drop 16 rest
+    → all_plain rest ≡ (all_plain block && all_plain behind)
+plain_parts rest block behind block_is behind_is =
+    ap all_plain (sym (take-append-drop 16 rest)) ∙ list_all-append plain (take 16 rest) (drop 16 rest)
+    ∙ ap₂ (λ (a b : List ℕ). all_plain a && all_plain b) (sym block_is) (sym behind_is)
+
+-- where the first are not plain, and where they are
+pub plain_fails : (words rest block behind : List ℕ) → all_plain words ≡ all_plain rest
+    → block ≡ take 16 rest → behind ≡ drop 16 rest → all_plain block ≡ false
+    → false ≡ all_plain words
+plain_fails words rest block behind so_far block_is behind_is fails =
+    sym (so_far ∙ plain_parts rest block behind block_is behind_is ∙ and_left _ _ fails)
+
+pub plain_so_far : (words rest block behind : List ℕ) → all_plain words ≡ all_plain rest
+    → block ≡ take 16 rest → behind ≡ drop 16 rest → all_plain block ≡ true
+    → all_plain words ≡ all_plain behind
+plain_so_far words rest block behind so_far block_is behind_is passes =
+    so_far ∙ plain_parts rest block behind block_is behind_is
+    ∙ ap (λ (test : Bool). test && all_plain behind) passes
+
+plain_byte : (byte : ℕ) → plain byte ≡ true → (stands byte ≡ true) × (byte < 128)
+plain_byte byte is = let parts = and_parts (stands byte) _ is in (parts.0, ltb-true byte 128 parts.1)
+
+-- letters of ASCII that JSON quotes as they are
+pub plain_stand : (words : List ℕ) → all_plain words ≡ true → all_stand words ≡ true
+plain_stand [] is = refl
+plain_stand (byte ∷ words) is =
+    let parts = and_parts (plain byte) _ is in
+    and_from _ _ (plain_byte byte parts.0).0 (plain_stand words parts.1)
+
+ascii_at : (byte : ℕ) (words : List ℕ) → byte < 128 → IsAscii words → IsAscii (byte ∷ words)
+ascii_at byte words below others zero = below
+ascii_at byte words below others (suc i) = others i
+
+plain_ascii : (words : List ℕ) → all_plain words ≡ true → IsAscii words
+plain_ascii [] is = λ i. omega arith
+plain_ascii (byte ∷ words) is =
+    let parts = and_parts (plain byte) _ is in
+    λ i. ascii_at byte words (plain_byte byte parts.0).1 (plain_ascii words parts.1) i
+
+pub plain_utf8 : (words : List ℕ) → all_plain words ≡ true → IsUtf8 words
+plain_utf8 words is = IsUtf8-from_ascii words (plain_ascii words is)

@@ -1,7 +1,7 @@
 -- The text of fields.
 use Rattle.std.specs.Fmt.{decimal, digits}
 use Rattle.std.specs.List.{flat_map, list_all}
-use Rattle.std.specs.Prelude.{◌≡◌, ◌==◌, ◌&&◌, ℕ, nat_le, Bool, false, not, List, [], ◌∷◌, ◌++◌, codes, if◌then◌else◌}
+use Rattle.std.specs.Prelude.{◌≡◌, ◌==◌, ◌&&◌, ℕ, nat_le, nat_lt, Bool, false, not, List, [], ◌∷◌, ◌++◌, codes, if◌then◌else◌}
 use Rattle.std.specs.Str.{is_utf8}
 use Rattle.hex.specs.Hex.{encode_lower}
 use Rattle.json.specs.Print.{quoted}
@@ -44,6 +44,13 @@ stands byte = not (byte == 34) && not (byte == 92) && nat_le 32 byte
 
 abbrev pub all_stand : List ℕ → Bool
 all_stand = list_all stands
+
+-- a letter of ASCII that needs none
+abbrev pub plain : ℕ → Bool
+plain byte = stands byte && nat_lt byte 128
+
+abbrev pub all_plain : List ℕ → Bool
+all_plain = list_all plain
 
 -- a text as JSON quotes it, where the bytes are one
 abbrev pub words_text : FieldForm → List ℕ → List ℕ

@@ -4,12 +4,15 @@ ghost use Rattle.std.specs.Prelude.{◌≡◌, ◌++◌, ◌∷◌, [], IfOk, On
 ghost use Rattle.std.specs.Fmt.{decimal};
 ghost use Rattle.json.specs.Print.{quoted};
 ghost use Rattle.mysql_wire_dump_lines.specs.FieldTables.{members_in, members_of};
-ghost use Rattle.mysql_wire_dump_lines.specs.Fields.{Puts, all_stand, digits_text, ended, flags_text, in_quotes, nothing, octets_text, value_of, value_text, with_end, with_member, words_text};
+ghost use Rattle.mysql_wire_dump_lines.specs.Fields.{Puts, all_plain, all_stand, stands, ended, flags_text, in_quotes, nothing, octets_text, value_of, value_text, with_end, with_member, words_text};
 
 use crate::put::{push_between, push_number};
 use json::Writer;
+use simdutf8::compat::from_utf8;
 use std::alloc::{AllocError, Allocator, Global};
 use std::marker::Model;
+use std::mem;
+use wire_digits::push_digits_to;
 
 /// How fields are shown.
 #[derive(Clone, Copy)]
@@ -49,21 +52,7 @@ pub enum Field<'a> {
     Bytes(&'a str, &'a [u8]),
 }
 
-// Bytes, of which these are the digits.
-fn push_octets<A: Allocator>(
-    text: &mut String<A>,
-    form: FieldForm,
-    digits: &str,
-) -> Result<(), AllocError>
-    ensures { OnOk result (string_bytes text.new
-        ≡ string_bytes text.old ++ digits_text form digits.now) }
-{
-    match form {
-        FieldForm::Json => push_between(text, "{\"hex\":\"", digits, "\"}"),
-        _ => push_between(text, "x'", digits, "'"),
-    }
-}
-
+// Bytes in hex digits.
 fn push_digits<A: Allocator + Copy>(
     text: &mut String<A>,
     form: FieldForm,
@@ -72,22 +61,21 @@ fn push_digits<A: Allocator + Copy>(
     ensures { OnOk result (string_bytes text.new
         ≡ string_bytes text.old ++ octets_text form bytes.now) }
 {
-    let digits = hex::encode(*text.allocator(), bytes)?;
-    push_octets(text, form, digits.as_str())
+    let (before, after) = match form {
+        FieldForm::Json => ("{\"hex\":\"", "\"}"),
+        _ => ("x'", "'"),
+    };
+    text.push_str(before)?;
+    push_digits_to(text, bytes)?;
+    text.push_str(after)
 }
 
-// Room beside a text's own bytes, for its quotes and its escapes.
-const QUOTED_ROOM: usize = 64;
-
-// A text as JSON quotes it.
-#[tactic(auto, unfolding(json::specs::Print::print_from))]
-fn quoted<A: Allocator>(alloc: A, words: &str) -> Result<Vec<u8, A>, AllocError>
-    ensures { IfOk result (λ text. text.items ≡ quoted words.now) }
+// Whether a byte needs no escape.
+#[inline(always)]
+fn stands(byte: u8) -> bool
+    ensures { result ≡ stands byte }
 {
-    let room = words.len().saturating_add(QUOTED_ROOM);
-    let mut writer = Writer::new(Vec::with_capacity(alloc, room)?);
-    writer.string(words)?;
-    Ok(writer.into_inner())
+    (byte != b'"') & (byte != b'\\') & (byte >= 0x20)
 }
 
 // Whether none of these bytes needs an escape.
@@ -96,9 +84,42 @@ fn all_stand(words: &[u8]) -> bool
 {
     let mut all = true;
     'bytes: for byte in words {
-        all &= (*byte != b'"') & (*byte != b'\\') & (*byte >= 0x20);
+        all &= stands(*byte);
     }
     all
+}
+
+// Whether these bytes are of ASCII, and none needs an escape.
+#[inline(always)]
+fn all_plain(words: &[u8]) -> bool
+    ensures { result ≡ all_plain words.now }
+{
+    let mut all = true;
+    'bytes: for byte in words {
+        all &= stands(*byte) & (*byte < 0x80);
+    }
+    all
+}
+
+// The same, sixteen bytes at once.
+#[inline(always)]
+fn is_plain(words: &[u8]) -> bool
+    ensures { result ≡ all_plain words.now }
+{
+    let mut rest = words;
+    'rounds: while let Some((block, behind)) = rest.split_first_chunk::<16>() {
+        if !all_plain(block) {
+            return false;
+        }
+        rest = behind;
+    }
+    if let Some((block, behind)) = rest.split_first_chunk::<8>() {
+        if !all_plain(block) {
+            return false;
+        }
+        rest = behind;
+    }
+    all_plain(rest)
 }
 
 // A text between quotes, as it is.
@@ -109,16 +130,22 @@ fn push_in_quotes<A: Allocator>(text: &mut String<A>, words: &str) -> Result<(),
     push_between(text, "\"", words, "\"")
 }
 
+// Room beside a text's own bytes, for its quotes and its escapes.
+const QUOTED_ROOM: usize = 64;
+
 // A text of which some bytes may need escapes.
 #[inline(never)]
+#[tactic(auto, unfolding(json::specs::Print::print_from))]
 fn push_escaped<A: Allocator + Copy>(text: &mut String<A>, words: &str) -> Result<(), AllocError>
     ensures { OnOk result (string_bytes text.new ≡ string_bytes text.old ++ quoted words.now) }
 {
-    let quoted = quoted(*text.allocator(), words)?;
-    match std::str::from_utf8(&quoted) {
-        Ok(quoted) => text.push_str(quoted),
-        Err(_) => Err(AllocError),
-    }
+    text.reserve(words.len().saturating_add(QUOTED_ROOM))?;
+    let alloc = *text.allocator();
+    let held = mem::replace(text, String::new(alloc));
+    let mut writer = Writer::new(held.into_bytes());
+    let put = writer.string(words);
+    *text = unsafe { String::from_utf8_unchecked(writer.into_inner()) };
+    put
 }
 
 fn push_quoted<A: Allocator + Copy>(text: &mut String<A>, words: &str) -> Result<(), AllocError>
@@ -131,6 +158,22 @@ fn push_quoted<A: Allocator + Copy>(text: &mut String<A>, words: &str) -> Result
     }
 }
 
+// A text, or else bytes, of which some are not of ASCII or need escapes.
+#[inline(never)]
+fn push_words<A: Allocator + Copy>(
+    text: &mut String<A>,
+    form: FieldForm,
+    bytes: &[u8],
+) -> Result<(), AllocError>
+    ensures { OnOk result (string_bytes text.new
+        ≡ string_bytes text.old ++ words_text form bytes.now) }
+{
+    match from_utf8(bytes) {
+        Ok(words) => push_quoted(text, words),
+        Err(_) => push_digits(text, form, bytes),
+    }
+}
+
 fn push_text<A: Allocator + Copy>(
     text: &mut String<A>,
     form: FieldForm,
@@ -139,9 +182,12 @@ fn push_text<A: Allocator + Copy>(
     ensures { OnOk result (string_bytes text.new
         ≡ string_bytes text.old ++ words_text form bytes.now) }
 {
-    match std::str::from_utf8(bytes) {
-        Ok(words) => push_quoted(text, words),
-        Err(_) => push_digits(text, form, bytes),
+    if is_plain(bytes) {
+        // What is of ASCII is UTF-8.
+        let words = unsafe { std::str::from_utf8_unchecked(bytes) };
+        push_in_quotes(text, words)
+    } else {
+        push_words(text, form, bytes)
     }
 }
 
@@ -177,7 +223,6 @@ fn push_value<A: Allocator + Copy>(
     }
 }
 
-#[inline(never)]
 fn push_member<A: Allocator + Copy>(
     text: &mut String<A>,
     form: FieldForm,
@@ -260,6 +305,7 @@ impl<A: Allocator + Copy> Fields<A> {
     }
 
     /// Puts a field.
+    #[inline(always)]
     #[tactic(auto, unfolding(crate::specs::Fields::put))]
     pub fn put(&mut self, name: &str, value: FieldValue<'_>) -> Result<(), AllocError>
         ensures { OnOk result (Puts ((name.now, value_of value.entry) ∷ []) self.old self.new) }
@@ -294,6 +340,7 @@ impl<A: Allocator + Copy> Fields<A> {
     }
 
     /// Puts a value that has no name but its place, counted from 0.
+    #[inline(always)]
     #[tactic(auto, unfolding(crate::specs::Fields::put))]
     pub fn put_at(&mut self, place: u64, value: FieldValue<'_>) -> Result<(), AllocError>
         ensures { OnOk result (Puts ((decimal place, value_of value.entry) ∷ [])
