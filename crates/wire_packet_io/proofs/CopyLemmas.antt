@@ -241,3 +241,31 @@ pub read_stops : (error : PacketIoError) (state : SpanState) (src new : List ℕ
 read_stops (Io error) state src new old_reads new_reads left waiting is failed = tt
 read_stops OutOfMemory state src new old_reads new_reads left waiting is failed = subst (λ (z : List ℕ). WaitsHere state z) (sym is) waiting
 read_stops other state src new old_reads new_reads left waiting is failed = absurd failed
+
+-- a call behind bytes that went before its first read
+pub reads_before : (result : Result Bool PacketIoError) (before mid after : SpanState) (old src new : List ℕ) (unread left : Option (List ℕ)) (old_reads new_reads : ℕ) (b c : List ℕ)
+    → mid.limit ≡ before.limit → EatsSpans before old ((b, false) ∷ []) src mid → CopiesNext mid src unread left old_reads new_reads result c after new
+    → CopiesNext before old unread left old_reads new_reads result (b ++ c) after new
+reads_before result before mid after old src new unread left old_reads new_reads b c limit eats s =
+    let J : List ℕ = joined_reads s.reads in
+    record {
+      reads = s.reads;
+      consumed = s.consumed;
+      eats = copied_more before mid after (old ++ J) (src ++ J) new b c (has_ended result) limit (copied_ahead before mid old src J b false eats) s.eats;
+      waits = λ j less.
+          let T : List ℕ = joined_reads (take j s.reads) in
+          let w = s.waits j less in
+          (b ++ w.0, w.1, w.2, copied_more before mid w.2 (old ++ T) (src ++ T) w.1 b w.0 false limit (copied_ahead before mid old src T b false eats) w.3, w.4);
+      counted = s.counted;
+      small = s.small;
+    }
+
+pub copies_before : (result : Result Bool PacketIoError) (before mid after : SpanState) (old src new : List ℕ) (unread again left : Option (List ℕ)) (old_reads reads_again new_reads : ℕ) (held some more : Option (List ℕ))
+    → mid.limit ≡ before.limit → again ≡ unread → reads_again ≡ old_reads → Copies false before old held mid src some
+    → (b : List ℕ) × Appends some more b × CopiesNext mid src again left reads_again new_reads result b after new
+    → (b : List ℕ) × Appends held more b × CopiesNext before old unread left old_reads new_reads result b after new
+copies_before result before mid after old src new unread again left old_reads reads_again new_reads held some more limit same count f s = (
+  f.0 ++ s.0,
+  Appends-trans held some more f.0 s.0 f.2 s.1,
+  reads_before result before mid after old src new unread left old_reads new_reads f.0 s.0 limit f.1 (rw (same, count) at s.2),
+)

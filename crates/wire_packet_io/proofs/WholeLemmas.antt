@@ -1,14 +1,14 @@
 -- A packet that lies whole in one chunk, in front of what was read.
-use Rattle.std.proofs.Common.{◌≡◌, ℕ, ◌+◌, ◌-◌, ◌%◌, ◌<◌, ◌≤◌, List, [], ◌∷◌, ◌++◌, length, take, drop, slice_index, refl, sym, ap, ◌∙◌, subst, arith, length-drop, true, false, Option, Some, None, IsNone, Ok}
+use Rattle.std.proofs.Common.{◌≡◌, ℕ, ◌+◌, ◌-◌, ◌%◌, ◌<◌, ◌≤◌, List, [], ◌∷◌, ◌++◌, length, take, drop, slice_index, refl, sym, ap, ◌∙◌, subst, arith, length-drop, true, false, Option, Some, None, IsNone, Ok, ◌⊎◌, inl, inr, Bool, MatchOption, IsTrue, IsFalse}
 use Rattle.std.proofs.lemmas.List.{length-take-le, drop-drop}
 use Rattle.wire_codec.specs.declared.codec.packet.PacketCodec.{PacketCodec}
 use Rattle.wire_codec.specs.Framing.{max_payload, header}
 use Rattle.wire_codec.specs.Delivery.{chunk_len, IsSpelled}
-use Rattle.wire_span.specs.Spans.{SpanPlace, SpanState, SpansOn, EatsSpans, IsBetween}
+use Rattle.wire_span.specs.Spans.{SpanPlace, SpanState, SpansOn, EatsSpans, IsBetween, span_state}
 use Rattle.wire_span.specs.Renumbering.{sent}
 use Rattle.wire_span.proofs.PassingLemmas.{merged_spans}
 use Rattle.wire_codec.specs.Codec.{expected_id}
-use Rattle.wire_packet_io.specs.Copying.{copied_to, in_front, CopiesNext}
+use Rattle.wire_packet_io.specs.Copying.{copied_to, in_front, Copies, CopiesNext}
 use Rattle.wire_packet_io.specs.Lent.{packet_of, unread_behind}
 use Rattle.wire_packet_io.specs.declared.input.Found.{Found}
 use Rattle.wire_packet_io.specs.declared.input.Found.TheVariants.{InFront, Apart}
@@ -93,3 +93,35 @@ put_is pending more put read src len id same spelled is =
     is ∙ ap (λ (z : List ℕ). pending ++ (z ++ take (4 + len - 4) (drop 4 read))) spelled
     ∙ ap (λ (n : ℕ). pending ++ (header len id ++ take n (drop 4 read))) count
     ∙ ap (λ (z : List ℕ). pending ++ (header len id ++ payload_of len z)) same
+
+-- a reader that copies nothing, and isn't lost, lends nothing
+pub not_lent : (S H : Type 0) (T : SpanDecoder → Type 0) (copied : Option SpanDecoder) (lost : Bool) (lent : Option (List ℕ))
+    → MatchOption copied (IsTrue lost ⊎ (S × H × IsNone lent)) T → (IsNone copied → IsFalse lost) → IsNone copied → IsNone lent
+not_lent S H T None true lent can place none = absurd (let found = place none in cc)
+not_lent S H T None false lent (inl lost) place none = absurd cc
+not_lent S H T None false lent (inr stands) place none = stands.2
+not_lent S H T (Some decoder) lost lent can place none = absurd cc
+
+-- it begins to copy the packet in front
+pub begins_front : {A : Type 0} (lent : Option (Found A)) (copied : Option SpanDecoder) (codec : PacketCodec) (ends : Bool) (start after last : SpanState) (src new unread : List ℕ) (held more : Option (List ℕ))
+    → IsNone (packet_of lent src) → IsNone copied → start ≡ in_front codec → last ≡ after → unread ≡ new
+    → Copies ends start src held after new more → Copies ends (copied_to copied codec) (unread_behind lent src) held last unread more
+begins_front None None codec ends start after last src new unread held more none alone first end is f =
+    subst (λ (s : SpanState). Copies ends s src held last unread more) first (rw (end, is) f)
+begins_front None (Some decoder) codec ends start after last src new unread held more none alone first end is f = absurd cc
+begins_front (Some InFront) copied codec ends start after last src new unread held more none alone first end is f = absurd cc
+begins_front (Some (Apart packet)) copied codec ends start after last src new unread held more none alone first end is f = absurd cc
+
+-- a codec behind a packet that was copied
+pub behind_is : (copied : Option SpanDecoder) (behind : PacketCodec) (after : SpanState) → IsNone copied → IsBetween after
+    → behind.max_allowed_packet ≡ after.limit → expected_id behind ≡ after.id → copied_to copied behind ≡ after
+behind_is None behind after none between limit id = same_state _ after.limit _ after.id 0 after.size _ after.place limit id (sym between.0) (sym between.1)
+behind_is (Some decoder) behind after none between limit id = absurd cc
+
+-- and a decoder in its midst
+pub midst_is : (decoder : SpanDecoder) (codec : PacketCodec) → decoder.max_allowed_packet ≡ codec.max_allowed_packet → copied_to (Some decoder) codec ≡ span_state decoder
+midst_is decoder codec limit = same_state _ _ _ _ _ _ _ _ (sym limit) refl refl refl
+
+pub limit_is : (copied : Option SpanDecoder) (codec : PacketCodec) → (copied_to copied codec).limit ≡ codec.max_allowed_packet
+limit_is None codec = refl
+limit_is (Some decoder) codec = refl

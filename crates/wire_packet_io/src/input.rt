@@ -12,7 +12,7 @@ ghost use Rattle.wire_packet_io.specs.Lent.{IsThere, IsApart, ReadsPacket, found
 
 mod copy;
 mod relay;
-mod whole;
+pub(crate) mod whole;
 
 use crate::error::PacketIoError;
 use bytes::BytesMut;

@@ -1,9 +1,9 @@
 //! The loop that writes a packet's bytes as they come.
 
-ghost use Rattle.std.specs.Prelude.{◌≡◌, ◌+◌, ◌<◌, ◌≤◌, [], length, None, true, false, Ok, IfOk, OnErr, IfErr, IsFalse, Bool};
-ghost use Rattle.wire_span.specs.Spans.{header_came, span_state};
+ghost use Rattle.std.specs.Prelude.{◌≡◌, ◌+◌, ◌<◌, ◌≤◌, [], length, None, true, false, Ok, IfOk, OnErr, IfErr, IsTrue, IsFalse, Bool};
+ghost use Rattle.wire_span.specs.Spans.{header_came, span_state, IsBetween};
 ghost use Rattle.wire_span.specs.Passing.{left_in, most_bytes};
-ghost use Rattle.wire_packet_io.specs.Copying.{has_ended, Copies, CopiesTo, CopyStops, EndsCopy, IsSpanRefusal, StepsCopy, WaitsHere};
+ghost use Rattle.wire_packet_io.specs.Copying.{has_ended, Copies, CopiesTo, CopyStops, EndsCopy, IsSpanRefusal, StepsCopy, StopsHere, WaitsHere};
 ghost use Rattle.wire_packet_io.specs.Lent.{lender};
 
 use super::Input;
@@ -26,6 +26,7 @@ pub(super) fn refusal(error: SpanError) -> PacketIoError
 impl<R: Read, A: Allocator + Copy> Input<R, A> {
     // Writes what came of the open chunk, and drops what the writer took: whether that ended the
     // packet. `None` where nothing of it is there.
+    #[inline(always)]
     fn copy_bytes<W: Write>(
         &mut self,
         decoder: &mut SpanDecoder,
@@ -56,6 +57,7 @@ impl<R: Read, A: Allocator + Copy> Input<R, A> {
 
     // Drops the header in front, or writes the bytes there: whether that ended the packet. `None`
     // where more has to come first.
+    #[inline(always)]
     fn copy_front<W: Write>(
         &mut self,
         decoder: &mut SpanDecoder,
@@ -85,6 +87,7 @@ impl<R: Read, A: Allocator + Copy> Input<R, A> {
     }
 
     // Writes what is there of the packet: whether it has ended.
+    #[inline(always)]
     fn copy_unread<W: Write>(
         &mut self,
         decoder: &mut SpanDecoder,
@@ -123,6 +126,38 @@ impl<R: Read, A: Allocator + Copy> Input<R, A> {
             Ok(false)
         } else {
             Err(PacketIoError::UnexpectedEnd)
+        }
+    }
+
+    /// Two steps of it at most, the header in front and the bytes behind it: whether the packet has
+    /// ended.
+    #[inline(always)]
+    pub(crate) fn copy_begin<W: Write>(
+        &mut self,
+        decoder: &mut SpanDecoder,
+        writer: &mut W,
+    ) -> Result<bool, PacketIoError>
+        requires uncut { header_came (span_state decoder.old).place ≡ [] }
+        ensures goes { Copies (has_ended result) (span_state decoder.old) self.old.src.items
+            (W.contents writer.old) (span_state decoder.new) self.new.src.items
+            (W.contents writer.new) }
+        ensures ends { IfOk result (λ ended. IsTrue ended → IsBetween (span_state decoder.new)) }
+        ensures stops { IfErr result (λ error.
+            StopsHere error (span_state decoder.new) self.new.src.items) }
+        ensures kept { (header_came (span_state decoder.new).place ≡ [])
+            × (decoder.new.max_allowed_packet ≡ decoder.old.max_allowed_packet)
+            × (self.new ≡ record self.old { src = self.new.src }) }
+    {
+        match self.copy_front(decoder, writer) {
+            Ok(Some(true)) => return Ok(true),
+            Ok(Some(false)) => {}
+            Ok(None) => return Ok(false),
+            Err(error) => return Err(error),
+        }
+        match self.copy_front(decoder, writer) {
+            Ok(Some(ended)) => Ok(ended),
+            Ok(None) => Ok(false),
+            Err(error) => Err(error),
         }
     }
 

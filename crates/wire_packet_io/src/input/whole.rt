@@ -12,9 +12,9 @@ use wire_codec::codec::PacketCodec;
 use wire_codec::codec::header::{HEADER_LEN, Header};
 use wire_span::SpanDecoder;
 
-// A decoder in front of a packet, as the codec is.
+/// A decoder in front of a packet, as the codec is.
 #[inline(always)]
-fn in_front_of(codec: &PacketCodec) -> SpanDecoder
+pub(crate) fn in_front_of(codec: &PacketCodec) -> SpanDecoder
     ensures { span_state result ≡ in_front codec.now }
 {
     let mut decoder = SpanDecoder::default();

@@ -72,6 +72,11 @@ impl<R: Read, A: Allocator + Copy> PacketReader<R, A> {
         if self.input.lost && self.copied.is_none() {
             return Err(PacketIoError::PacketsOutOfSync);
         }
+        match self.copy_begin(codec, writer) {
+            Ok(true) => return Ok(true),
+            Ok(false) => {}
+            Err(error) => return Err(error),
+        }
         let mut decoder = self.copied_so_far(codec);
         let result = self.go_on_copying(&mut decoder, writer);
         let is_lost = matches!(&result, Err(PacketIoError::PacketsOutOfSync));

@@ -1,10 +1,13 @@
-//! A packet that lies whole in one chunk, in front of what was read.
+//! A packet that lies in front of what was read.
 
-ghost use Rattle.std.specs.Prelude.{◌≡◌, Ok, None, true, IsNone, IsTrue, IsFalse};
+ghost use Rattle.std.specs.Prelude.{◌≡◌, ◌↔◌, ◌⊎◌, Ok, None, true, false, IfOk, IfErr, IsNone, IsSome, IsTrue, IsFalse};
 ghost use Rattle.wire_codec.specs.Codec.{header_of};
+ghost use Rattle.wire_packet_io.specs.Copying.{copied_to, has_ended, CanCopy, Copies, StopsHere};
 ghost use Rattle.wire_packet_io.specs.Relaying.{RelaysPacket};
 
 use super::PacketReader;
+use crate::error::PacketIoError;
+use crate::input::whole::in_front_of;
 use crate::writer::PacketWriter;
 use std::alloc::Allocator;
 use std::io::{Read, Write};
@@ -47,5 +50,58 @@ impl<R: Read, A: Allocator + Copy> PacketReader<R, A> {
         codec.begin_at(next);
         writer_codec.set_sequence_id(seq_id.wrapping_add(1)); // after 255 comes 0
         true
+    }
+
+    // Copies the packet in front, as far as two steps go: whether it has ended. Where it hasn't,
+    // it is under way from then on, and a call goes on with it.
+    #[inline(always)]
+    pub(super) fn copy_begin<W: Write>(
+        &mut self,
+        codec: &mut PacketCodec,
+        writer: &mut W,
+    ) -> Result<bool, PacketIoError>
+        requires can { CanCopy codec.old self.old }
+        requires place { IsNone self.old.copied → IsFalse self.old.is_lost }
+        ensures goes { Copies (has_ended result) (copied_to self.old.copied codec.old)
+            self.old.unread (W.contents writer.old) (copied_to self.new.copied codec.new)
+            self.new.unread (W.contents writer.new) }
+        ensures ended { IfOk result (λ ended. IsTrue ended
+            → IsNone self.new.copied × IsFalse self.new.is_lost) }
+        ensures going { result ≡ Ok false → IsSome self.new.copied }
+        ensures stops { IfErr result (λ error.
+            StopsHere error (copied_to self.new.copied codec.new) self.new.unread) }
+        ensures loses { IfErr result (λ error. IsTrue self.new.is_lost
+            ↔ (IsSome self.new.copied ⊎ (error ≡ PacketIoError.PacketsOutOfSync))) }
+        ensures header { IsNone self.new.copied → header_of codec.new ≡ None }
+        ensures under_way { IsSome self.new.copied → codec.new ≡ codec.old }
+        ensures can { CanCopy codec.new self.new }
+        ensures rest { (self.new ≡ record self.old {
+          unread = self.new.unread;
+          copied = self.new.copied;
+          is_lost = self.new.is_lost;
+        })
+            × (codec.new.max_allowed_packet ≡ codec.old.max_allowed_packet) }
+    {
+        if self.copied.is_some() {
+            return Ok(false);
+        }
+        self.lent = None;
+        let mut decoder = in_front_of(codec);
+        match self.input.copy_begin(&mut decoder, writer) {
+            Ok(true) => {
+                codec.begin_at(decoder.sequence_id());
+                Ok(true)
+            }
+            Ok(false) => {
+                self.copied = Some(decoder);
+                self.input.lost = true;
+                Ok(false)
+            }
+            Err(error) => {
+                let is_lost = matches!(&error, PacketIoError::PacketsOutOfSync);
+                self.keep_place(codec, decoder, is_lost);
+                Err(error)
+            }
+        }
     }
 }

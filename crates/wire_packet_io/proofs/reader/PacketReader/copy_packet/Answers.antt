@@ -1,6 +1,45 @@
-use Rattle.std.proofs.Common.{◌∙◌, ap, subst, sym, IsNone}
-use Rattle.wire_packet_io.proofs.CopyLemmas.{can_after}
+use Rattle.std.proofs.Common.{◌∙◌, [], ap, refl, subst, sym, IsNone, Ok, Err, true}
+use Rattle.std.proofs.KnownBytes.{Appends-nil}
+use Rattle.wire_span.specs.Spans.{span_state}
+use Rattle.wire_packet_io.specs.Copying.{copied_to}
+use Rattle.wire_packet_io.proofs.CopyLemmas.{can_after, copies_before, copies_go, reads_start}
+use Rattle.wire_packet_io.proofs.WholeLemmas.{limit_is}
 use Rattle.wire_packet_io.proofs.reader.PacketReader.copy_packet.Goals as goal
+
+pub returns-in-Ok-true-clause-copies : goal.returns-in-Ok-true-clause-copies
+returns-in-Ok-true-clause-copies g c place =
+    let old = c.args.self.now in
+    let new = c.copy_begin.new.self in
+    let a = copied_to old.copied c.args.codec.now in
+    let rest = c.copy_begin.ensures.rest.0 in
+    copies_go (Ok true) a a (copied_to new.copied c.copy_begin.new.codec) old.unread old.unread _ _ _ _ _ _ _ _ _ _
+    refl (ap (λ z. g.R.Read.remaining z.reader) rest) (ap (λ z. z.reads) rest)
+    ([], Appends-nil _, reads_start a old.unread (g.R.Read.remaining old.reader) old.reads)
+    (rw c.in-Ok-true.field-0-test at c.in-Ok-true.ensures.goes)
+
+pub returns-in-Err-clause-copies : goal.returns-in-Err-clause-copies
+returns-in-Err-clause-copies g c place =
+    let old = c.args.self.now in
+    let new = c.copy_begin.new.self in
+    let a = copied_to old.copied c.args.codec.now in
+    let rest = c.copy_begin.ensures.rest.0 in
+    copies_go (Err c.in-Err.error) a a (copied_to new.copied c.copy_begin.new.codec) old.unread old.unread _ _ _ _ _ _ _ _ _ _
+    refl (ap (λ z. g.R.Read.remaining z.reader) rest) (ap (λ z. z.reads) rest)
+    ([], Appends-nil _, reads_start a old.unread (g.R.Read.remaining old.reader) old.reads)
+    c.in-Err.ensures.goes
+
+pub returns-clause-copies : goal.returns-clause-copies
+returns-clause-copies g c place =
+    let old = c.args.self.now in
+    let mid = c.copy_begin.new.self in
+    let rest = c.copy_begin.ensures.rest in
+    let went = c.go_on_copying-result in
+    let kept = c.keep_place.ensures in
+    let limit = limit_is mid.copied c.copy_begin.new.codec ∙ rest.1 ∙ sym (limit_is old.copied c.args.codec.now) in
+    rw (kept.place, ap (λ z. z.unread) kept.rest, ap (λ z. z.reader) kept.rest, ap (λ z. z.reads) kept.rest)
+    (copies_before went.result (copied_to old.copied c.args.codec.now) (copied_to mid.copied c.copy_begin.new.codec) (span_state went.new.decoder)
+    old.unread mid.unread _ _ _ _ _ _ _ _ _ _ limit (ap (λ z. g.R.Read.remaining z.reader) rest.0) (ap (λ z. z.reads) rest.0)
+    (rw c.in-Ok-false.field-0-test at c.in-Ok-false.ensures.goes) (rw c.copied_so_far-decoder.ensures at went.ensures.copies))
 
 pub returns-clause-can : goal.returns-clause-can
 returns-clause-can g c =
