@@ -1,6 +1,6 @@
 //! Whole packets.
 
-ghost use Rattle.std.specs.Prelude.{◌≡◌, ◌≢◌, ℕ, ◌+◌, ◌%◌, ◌<◌, ◌≤◌, ◌↔◌, ◌⊎◌, OnOk, OnErr, IfErr, Err, List, [], length, None, true, false, IsTrue, slice_index, ◌++◌};
+ghost use Rattle.std.specs.Prelude.{◌≡◌, ◌≢◌, ℕ, ◌+◌, ◌%◌, ◌<◌, ◌≤◌, ◌↔◌, ◌⊎◌, OnOk, OnErr, IfErr, Err, List, [], length, None, true, false, IsTrue, MatchOption, slice_index, ◌++◌};
 ghost use Rattle.wire_codec.specs.Delivery.{chunk_len, IsBounded, IsSpelled};
 
 mod front;
@@ -398,7 +398,10 @@ impl PacketCodec {
     // Whether the chunk in front is seen to lack bytes: its header hasn't come whole, or is
     // remembered and stands before fewer bytes than it states.
     #[inline(always)]
-    fn awaits(&self, came: usize) -> bool {
+    fn awaits(&self, came: usize) -> bool
+        ensures { IsTrue result
+            → MatchOption (header_of self.now) (came < 4) (λ header. came < 4 + header.1) }
+    {
         if came < HEADER_LEN {
             return true;
         }
