@@ -8,10 +8,8 @@ ghost use Rattle.mysql_wire_dump_lines.specs.Fields.{Puts, all_plain, all_stand,
 
 use crate::put::{push_between, push_number};
 use json::Writer;
-use simdutf8::compat::from_utf8;
 use std::alloc::{AllocError, Allocator, Global};
 use std::marker::Model;
-use std::mem;
 use wire_digits::push_digits_to;
 
 /// How fields are shown.
@@ -133,19 +131,24 @@ fn push_in_quotes<A: Allocator>(text: &mut String<A>, words: &str) -> Result<(),
 // Room beside a text's own bytes, for its quotes and its escapes.
 const QUOTED_ROOM: usize = 64;
 
+// A text as JSON quotes it.
+#[tactic(auto, unfolding(json::specs::Print::print_from))]
+fn quoted<A: Allocator>(alloc: A, words: &str) -> Result<String<A>, AllocError>
+    ensures { IfOk result (λ text. string_bytes text ≡ quoted words.now) }
+{
+    let room = words.len().saturating_add(QUOTED_ROOM);
+    let mut writer = Writer::new(Vec::with_capacity(alloc, room)?);
+    writer.string(words)?;
+    Ok(unsafe { String::from_utf8_unchecked(writer.into_inner()) })
+}
+
 // A text of which some bytes may need escapes.
 #[inline(never)]
-#[tactic(auto, unfolding(json::specs::Print::print_from))]
 fn push_escaped<A: Allocator + Copy>(text: &mut String<A>, words: &str) -> Result<(), AllocError>
     ensures { OnOk result (string_bytes text.new ≡ string_bytes text.old ++ quoted words.now) }
 {
-    text.reserve(words.len().saturating_add(QUOTED_ROOM))?;
-    let alloc = *text.allocator();
-    let held = mem::replace(text, String::new(alloc));
-    let mut writer = Writer::new(held.into_bytes());
-    let put = writer.string(words);
-    *text = unsafe { String::from_utf8_unchecked(writer.into_inner()) };
-    put
+    let quoted = quoted(*text.allocator(), words)?;
+    text.push_str(quoted.as_str())
 }
 
 fn push_quoted<A: Allocator + Copy>(text: &mut String<A>, words: &str) -> Result<(), AllocError>
@@ -168,7 +171,7 @@ fn push_words<A: Allocator + Copy>(
     ensures { OnOk result (string_bytes text.new
         ≡ string_bytes text.old ++ words_text form bytes.now) }
 {
-    match from_utf8(bytes) {
+    match std::str::from_utf8(bytes) {
         Ok(words) => push_quoted(text, words),
         Err(_) => push_digits(text, form, bytes),
     }

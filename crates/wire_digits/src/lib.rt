@@ -29,9 +29,9 @@ fn low_digits(bytes: u8x16) -> u8x16
     u8x16::from_array(DIGITS).swizzle_dyn(bytes & u8x16::splat(15))
 }
 
-/// Both digits of each byte, one byte's behind the other's.
+// Both digits of each byte, one byte's behind the other's.
 #[inline(always)]
-pub fn digits_of(bytes: &[u8; 16]) -> [u8; 32]
+fn digits_of(bytes: &[u8; 16]) -> [u8; 32]
     ensures { result ≡ encode_lower bytes.now }
 {
     let bytes = u8x16::from_slice(bytes);
