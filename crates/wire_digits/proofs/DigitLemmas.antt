@@ -5,6 +5,7 @@ use Rattle.std.proofs.lemmas.Simd.{Each1-from_get_or, Each1-get_or, swz_l, SwzOk
 use Rattle.std.proofs.lemmas.Bool.{and_parts, ltb-true}
 use Rattle.std.specs.Prelude.{◌&&◌, Bool, nat_lt, slice_index, true}
 use Rattle.hex.specs.Hex.{encode_lower, encode_with, lower_digits}
+use Rattle.wire_digits.specs.Digits.{Pushed}
 use Rattle.std.proofs.lemmas.Str.{IsUtf8-from_ascii}
 use Rattle.std.proofs.lemmas.Str.Ascii.{IsAscii-cons, IsAscii-nil}
 use Rattle.std.specs.Str.{IsAscii, IsUtf8}
@@ -99,16 +100,12 @@ pub none_yet : (held text : List ℕ) → text ≡ held → text ≡ held ++ enc
 unfolding encode_with
 none_yet held text is = is ∙ sym (append-nil held)
 
--- what is done of some bytes, and what is left of them
-abbrev pub Pushed : List ℕ → List ℕ → List ℕ → List ℕ → Type 0
-Pushed bytes rest held text = (done : List ℕ) × (done ++ rest ≡ bytes) × (text ≡ held ++ encode_lower done)
-
-pub block_more : (bytes rest block behind held text digits left : List ℕ) → Pushed bytes rest held text → block ≡ take 16 rest → behind ≡ drop 16 rest
+pub block_more : (n : ℕ) (bytes rest block behind held text digits left : List ℕ) → Pushed bytes rest held text → block ≡ take n rest → behind ≡ drop n rest
     → digits ≡ encode_lower block → left ≡ text ++ digits → Pushed bytes behind held left
-block_more bytes rest block behind held text digits left so_far block_is behind_is digits_is left_is = (
+block_more n bytes rest block behind held text digits left so_far block_is behind_is digits_is left_is = (
   so_far.0 ++ block,
   append_assoc so_far.0 block behind
-      ∙ ap (λ (z : List ℕ). so_far.0 ++ z) (ap₂ (λ (a b : List ℕ). a ++ b) block_is behind_is ∙ take-append-drop 16 rest) ∙ so_far.1,
+      ∙ ap (λ (z : List ℕ). so_far.0 ++ z) (ap₂ (λ (a b : List ℕ). a ++ b) block_is behind_is ∙ take-append-drop n rest) ∙ so_far.1,
   left_is ∙ ap₂ (λ (a b : List ℕ). a ++ b) so_far.2 digits_is ∙ append_assoc held (encode_lower so_far.0) (encode_lower block)
       ∙ ap (λ (z : List ℕ). held ++ z) (sym (digits_more lower_digits so_far.0 block)),
 )
@@ -125,10 +122,18 @@ last_pushed bytes copied more digits held left copied_is digits_is left_is =
     left_is ∙ ap (λ (z : List ℕ). held ++ z)
     (ap (take (2 * length bytes)) (digits_is ∙ ap (λ (z : List ℕ). encode_lower (z ++ more)) copied_is) ∙ front_digits bytes more)
 
--- how many digits are sixteen bytes'
-pub digits_of_block : (rest block behind digits : List ℕ) → block ≡ take 16 rest → length behind + 16 ≡ length rest → digits ≡ encode_lower block → length digits ≡ 32
-digits_of_block rest block behind digits block_is left digits_is =
-    ap length digits_is ∙ omega (arith, length_digits lower_digits block, ap length block_is, length-take 16 rest, left)
+-- how many digits a block has
+pub digits_of_block : (n : ℕ) (rest block behind digits : List ℕ) → block ≡ take n rest → length behind + n ≡ length rest → digits ≡ encode_lower block
+    → length digits ≡ 2 * n
+digits_of_block n rest block behind digits block_is left digits_is =
+    ap length digits_is ∙ omega (arith, length_digits lower_digits block, ap length block_is, length-take n rest, left)
+
+-- the digits of a block's two halves
+pub halves : (n : ℕ) (bytes front behind first second place : List ℕ) → front ≡ take n bytes → behind ≡ drop n bytes → first ≡ encode_lower front
+    → second ≡ encode_lower behind → place ≡ first ++ second → place ≡ encode_lower bytes
+halves n bytes front behind first second place front_is behind_is first_is second_is is =
+    is ∙ ap₂ (λ (a b : List ℕ). a ++ b) (first_is ∙ ap encode_lower front_is) (second_is ∙ ap encode_lower behind_is)
+    ∙ sym (digits_more lower_digits (take n bytes) (drop n bytes)) ∙ ap encode_lower (take-append-drop n bytes)
 
 -- no refusal, where there is room
 pub never_full : {T E : Type 0} (result : Result T E) (P : Type 0) (len more room : ℕ) → OnErr result (room < len + more) → len + more ≤ room → OnErr result P

@@ -1,8 +1,9 @@
-//! Two digits a byte, in lower case, sixteen bytes at a time.
+//! Two digits a byte, in lower case, sixteen and 64 bytes at a time.
 #![tactic(auto)]
 
-ghost use Rattle.std.specs.Prelude.{◌≡◌, ◌≤◌, ◌+◌, ◌*◌, ◌<◌, ◌/◌, ◌%◌, ◌++◌, length, map, slice_index, string_bytes, vec_len, vec_capacity, OnErr, OnOk};
+ghost use Rattle.std.specs.Prelude.{◌≡◌, ◌≤◌, ◌+◌, ◌*◌, ◌<◌, ◌/◌, ◌%◌, ◌++◌, length, map, slice_index, string_bytes, vec_len, vec_capacity, IfOk, IsOk, OnErr, OnOk};
 ghost use Rattle.hex.specs.Hex.{encode_lower, lower_digits};
+ghost use Rattle.wire_digits.specs.Digits.{Pushed};
 
 use std::alloc::{AllocError, Allocator};
 use std::mem;
@@ -29,9 +30,10 @@ fn low_digits(bytes: u8x16) -> u8x16
     u8x16::from_array(DIGITS).swizzle_dyn(bytes & u8x16::splat(15))
 }
 
-// Both digits of each byte, one byte's behind the other's.
+// Both digits of each of sixteen bytes, one byte's behind the other's.
 #[inline(always)]
-fn digits_of(bytes: &[u8; 16]) -> [u8; 32]
+fn digits_of(bytes: &[u8]) -> [u8; 32]
+    requires { length bytes.now ≡ 16 }
     ensures { result ≡ encode_lower bytes.now }
 {
     let bytes = u8x16::from_slice(bytes);
@@ -43,6 +45,60 @@ fn digits_of(bytes: &[u8; 16]) -> [u8; 32]
         ],
     );
     digits.to_array()
+}
+
+// Fills a place with two parts, one behind the other.
+#[inline(always)]
+fn fill(place: &mut [u8], front: &[u8], behind: &[u8])
+    requires { length front.now + length behind.now ≡ length place.old }
+    ensures { place.new ≡ front.now ++ behind.now }
+{
+    place[..front.len()].copy_from_slice(front);
+    place[front.len()..].copy_from_slice(behind);
+}
+
+// The digits of 32 bytes.
+#[inline(always)]
+fn digits_of_32(bytes: &[u8]) -> [u8; 64]
+    requires { length bytes.now ≡ 32 }
+    ensures { result ≡ encode_lower bytes.now }
+{
+    let mut digits = [0; 64];
+    let (front, behind) = bytes.split_at(16);
+    fill(&mut digits, &digits_of(front), &digits_of(behind));
+    digits
+}
+
+// The digits of 64 bytes.
+#[inline(always)]
+fn digits_of_64(bytes: &[u8]) -> [u8; 128]
+    requires { length bytes.now ≡ 64 }
+    ensures { result ≡ encode_lower bytes.now }
+{
+    let mut digits = [0; 128];
+    let (front, behind) = bytes.split_at(32);
+    fill(&mut digits, &digits_of_32(front), &digits_of_32(behind));
+    digits
+}
+
+// Appends the digits of the bytes in front, 64 at a time. The answer is what is left of them.
+#[inline(always)]
+fn push_front_digits<'a, A: Allocator>(
+    text: &mut Vec<u8, A>,
+    bytes: &'a [u8],
+) -> Result<&'a [u8], AllocError>
+    requires { vec_len text.old + 2 * length bytes.now ≤ vec_capacity text.old }
+    ensures pushed { IfOk result (λ rest. Pushed bytes.now rest.now text.old.items text.new.items) }
+    ensures room { IfOk result
+        (λ rest. vec_len text.new + 2 * length rest.now ≤ vec_capacity text.new) }
+    ensures ok { IsOk result }
+{
+    let mut rest = bytes;
+    while let Some((block, behind)) = rest.split_first_chunk::<64>() {
+        text.extend_from_slice(&digits_of_64(block))?;
+        rest = behind;
+    }
+    Ok(rest)
 }
 
 // Appends the digits of fewer bytes than are done at once.
@@ -63,7 +119,7 @@ pub fn push_digits<A: Allocator>(text: &mut Vec<u8, A>, bytes: &[u8]) -> Result<
     ensures err { OnErr result (text.new.items ≡ text.old.items) }
 {
     text.reserve(2 * bytes.len())?;
-    let mut rest = bytes;
+    let mut rest = push_front_digits(text, bytes)?;
     while let Some((block, behind)) = rest.split_first_chunk::<16>() {
         text.extend_from_slice(&digits_of(block))?;
         rest = behind;

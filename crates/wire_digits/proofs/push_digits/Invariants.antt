@@ -1,5 +1,5 @@
 use Rattle.std.proofs.Common.{◌+◌, ◌*◌, ◌≤◌, length, vec_len, vec_capacity}
-use Rattle.wire_digits.proofs.DigitLemmas.{Pushed}
+use Rattle.wire_digits.specs.Digits.{Pushed}
 use Rattle.wire_digits.proofs.push_digits.Given as goal
 
 abbrev pub invariant-loop-block : goal.invariant-loop-block
