@@ -1,19 +1,19 @@
 -- The text of fields.
-use Rattle.std.proofs.Common.{◌≡◌, ℕ, zero, suc, ap₂, drop, take-append-drop, List, [], ◌∷◌, ◌++◌, Bool, true, false, refl, ap, sym, ◌∙◌, append_assoc, arith, ◌+◌, ◌<◌, length, take, get_or}
+use Rattle.std.proofs.Common.{rules, ◌≡◌, ℕ, zero, suc, ap₂, drop, take-append-drop, List, [], ◌∷◌, ◌++◌, Bool, true, false, refl, ap, sym, ◌∙◌, append_assoc, arith, ◌+◌, ◌<◌, length, take, get_or}
 use Rattle.std.proofs.lemmas.Grind.{common_steps}
-use Rattle.std.specs.Prelude.{◌==◌, ◌&&◌, not}
+use Rattle.std.specs.Prelude.{◌==◌, ◌&&◌, ◌⊎◌, codes, nat_lt, not, slice_index_or, ◌≤◌}
 use Rattle.std.proofs.lemmas.Bool.{and_from, and_left, and_parts, eqb-false, leb-true, ltb-true, not-true}
 use Rattle.json.specs.Print.{escape, escape_byte}
 use Rattle.json.proofs.Printed.Strings.{escape_byte_plain}
 use Rattle.std.proofs.lemmas.List.{append-nil, take_more}
 use Rattle.std.proofs.lemmas.List.Folds.{list_all-append}
-use Rattle.std.specs.List.{flat_map}
+use Rattle.std.specs.List.{flat_map, list_all}
 use Rattle.std.specs.Str.{IsAscii, IsUtf8, is_utf8}
-use Rattle.std.proofs.lemmas.Str.{IsUtf8-from_ascii, IsUtf8-from_is_utf8}
+use Rattle.std.proofs.lemmas.Str.{IsUtf8-append, IsUtf8-from_ascii, IsUtf8-from_is_utf8, is_utf8-from_IsUtf8}
 use Rattle.mysql_wire_dump_lines.specs.declared.fields.FieldForm.{FieldForm}
 use Rattle.mysql_wire_dump_lines.specs.declared.fields.Field.{Field}
 use Rattle.mysql_wire_dump_lines.specs.declared.fields.FieldForm.TheVariants.{Hidden, Text, Json}
-use Rattle.mysql_wire_dump_lines.specs.Fields.{Member, Puts, Written, all_plain, all_stand, ended, fields_text, line, nothing, pair, plain, put, puts, stands}
+use Rattle.mysql_wire_dump_lines.specs.Fields.{Member, Puts, Written, all_plain, all_stand, ended, fields_text, line, nothing, pair, plain, put, puts, stands, value_text, with_member, with_name, Value, Word, Words}
 use Rattle.mysql_wire_dump_lines.specs.FieldTables.{members_in, members_of}
 
 is_false : (test : Bool) → (test ≡ true → ⊥) → test ≡ false
@@ -118,13 +118,6 @@ pub plain_fails : (words rest block behind : List ℕ) → all_plain words ≡ a
 plain_fails words rest block behind so_far block_is behind_is fails =
     sym (so_far ∙ plain_parts rest block behind block_is behind_is ∙ and_left _ _ fails)
 
-pub plain_so_far : (words rest block behind : List ℕ) → all_plain words ≡ all_plain rest
-    → block ≡ take 16 rest → behind ≡ drop 16 rest → all_plain block ≡ true
-    → all_plain words ≡ all_plain behind
-plain_so_far words rest block behind so_far block_is behind_is passes =
-    so_far ∙ plain_parts rest block behind block_is behind_is
-    ∙ ap (λ (test : Bool). test && all_plain behind) passes
-
 plain_byte : (byte : ℕ) → plain byte ≡ true → (stands byte ≡ true) × (byte < 128)
 plain_byte byte is = let parts = and_parts (stands byte) _ is in (parts.0, ltb-true byte 128 parts.1)
 
@@ -147,3 +140,57 @@ plain_ascii (byte ∷ words) is =
 
 pub plain_utf8 : (words : List ℕ) → all_plain words ≡ true → IsUtf8 words
 plain_utf8 words is = IsUtf8-from_ascii words (plain_ascii words is)
+
+-- letters of ASCII
+abbrev pub all_ascii : List ℕ → Bool
+all_ascii = list_all (λ byte. nat_lt byte 128)
+
+ascii_if : (words : List ℕ) → all_ascii words ≡ true → IsAscii words
+ascii_if [] is = λ i. omega arith
+ascii_if (byte ∷ words) is =
+    let parts = and_parts (nat_lt byte 128) _ is in
+    λ i. ascii_at byte words (ltb-true byte 128 parts.0) (ascii_if words parts.1) i
+
+utf8_if : (words : List ℕ) → all_ascii words ≡ true → IsUtf8 words
+utf8_if words is = IsUtf8-from_ascii words (ascii_if words is)
+
+utf8_between : (front back name : List ℕ) → all_ascii front ≡ true → all_ascii back ≡ true → IsUtf8 name → IsUtf8 (front ++ (name ++ back))
+utf8_between front back name front_is back_is name_is =
+    IsUtf8-append front (name ++ back) (utf8_if front front_is) (IsUtf8-append name back name_is (utf8_if back back_is))
+
+-- a name of one byte, or two, between words
+pub one_between : (front back name : List ℕ) → all_ascii front ≡ true → all_ascii back ≡ true → IsUtf8 name → 1 ≤ length name → length name < 2
+    → IsUtf8 (front ++ (slice_index_or name 0 0 ∷ back))
+one_between front back [] front_is back_is name_is some few = absurd (omega (arith, some))
+one_between front back (one ∷ []) front_is back_is name_is some few = utf8_between front back (one ∷ []) front_is back_is name_is
+one_between front back (one ∷ two ∷ more) front_is back_is name_is some few = absurd (omega (arith, few))
+
+pub two_between : (front back name : List ℕ) → all_ascii front ≡ true → all_ascii back ≡ true → IsUtf8 name → 2 ≤ length name → length name < 3
+    → IsUtf8 (front ++ (slice_index_or name 0 0 ∷ slice_index_or name 1 0 ∷ back))
+two_between front back [] front_is back_is name_is some few = absurd (omega (arith, some))
+two_between front back (one ∷ []) front_is back_is name_is some few = absurd (omega (arith, some))
+two_between front back (one ∷ two ∷ []) front_is back_is name_is some few = utf8_between front back (one ∷ two ∷ []) front_is back_is name_is
+two_between front back (one ∷ two ∷ three ∷ more) front_is back_is name_is some few = absurd (omega (arith, few))
+
+plain_words : (form : FieldForm) (words : List ℕ) → all_plain words ≡ true → value_text form (Words words) ≡ value_text form (Word words)
+plain_words form words is = rw (is_utf8-from_IsUtf8 words (plain_utf8 words is), escape-all_stand words (plain_stand words is)) refl
+
+with_value : (form : FieldForm) (text name : List ℕ) (one other : Value) → value_text Text one ≡ value_text Text other → value_text Json one ≡ value_text Json other
+    → with_member form text (name, one) ≡ with_member form text (name, other)
+with_value Hidden text name one other lines pairs = refl
+with_value Text text name one other lines pairs = ap (λ (z : List ℕ). text ++ (codes "\n  " ++ name ++ codes " " ++ z)) lines
+with_value Json [] name one other lines pairs = ap (λ (z : List ℕ). codes ",\"fields\":{" ++ (codes "\"" ++ name ++ codes "\":" ++ z)) pairs
+with_value Json (byte ∷ text) name one other lines pairs = ap (λ (z : List ℕ). (byte ∷ text) ++ (codes "," ++ (codes "\"" ++ name ++ codes "\":" ++ z))) pairs
+
+-- plain letters are a text as they are
+pub plain_member : (form : FieldForm) (text name words : List ℕ) → all_plain words ≡ true
+    → with_member form text (name, Words words) ≡ with_member form text (name, Word words)
+plain_member form text name words is = with_value form text name (Words words) (Word words) (plain_words Text words is) (plain_words Json words is)
+
+-- a name, and the value behind it
+pub member_named : (form : FieldForm) (text name : List ℕ) (value : Value) → (form ≡ Text) ⊎ (form ≡ Json)
+    → with_member form text (name, value) ≡ with_name form text name ++ value_text form value
+member_named Hidden text name value shown = absurd (search rules)
+member_named Text text name value shown = simp append_assoc
+member_named Json [] name value shown = simp append_assoc
+member_named Json (byte ∷ text) name value shown = simp append_assoc

@@ -99,6 +99,13 @@ with_member Text text member = text ++ line member
 with_member Json [] member = codes ",\"fields\":{" ++ pair member
 with_member Json (byte ∷ text) member = (byte ∷ text) ++ (codes "," ++ pair member)
 
+-- a name behind this text, and what stands between it and its value
+abbrev pub with_name : FieldForm → List ℕ → List ℕ → List ℕ
+with_name Hidden text name = text
+with_name Text text name = text ++ codes "\n  " ++ name ++ codes " "
+with_name Json [] name = codes ",\"fields\":{\"" ++ name ++ codes "\":"
+with_name Json (byte ∷ text) name = (byte ∷ text) ++ codes ",\"" ++ name ++ codes "\":"
+
 unfoldable pub put : Written → Member → Written
 put written member =
     record { form = written.form; text = with_member written.form written.text member }

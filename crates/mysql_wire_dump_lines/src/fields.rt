@@ -1,15 +1,17 @@
 //! The fields of a packet, as text or as members of a JSON object.
 
-ghost use Rattle.std.specs.Prelude.{◌≡◌, ◌++◌, ◌∷◌, [], IfOk, OnOk, string_bytes};
+ghost use Rattle.std.specs.Prelude.{◌≡◌, ◌≤◌, ◌+◌, ◌++◌, ◌∷◌, [], codes, length, IfOk, OnOk, string_bytes};
+ghost use Rattle.std.specs.Str.{IsUtf8};
 ghost use Rattle.std.specs.Fmt.{decimal};
 ghost use Rattle.json.specs.Print.{quoted};
 ghost use Rattle.mysql_wire_dump_lines.specs.FieldTables.{members_in, members_of};
-ghost use Rattle.mysql_wire_dump_lines.specs.Fields.{Puts, all_plain, all_stand, stands, ended, flags_text, in_quotes, nothing, octets_text, value_of, value_text, with_end, with_member, words_text};
+ghost use Rattle.mysql_wire_dump_lines.specs.Fields.{Puts, all_plain, all_stand, stands, ended, flags_text, in_quotes, nothing, octets_text, value_of, value_text, with_end, with_member, with_name, words_text, Word, Words};
 
 use crate::put::{push_between, push_number};
 use json::Writer;
 use std::alloc::{AllocError, Allocator, Global};
 use std::marker::Model;
+use std::simd::prelude::*;
 use wire_digits::push_digits_to;
 
 /// How fields are shown.
@@ -99,25 +101,67 @@ fn all_plain(words: &[u8]) -> bool
     all
 }
 
-// The same, sixteen bytes at once.
+// The same of sixteen bytes at once.
+#[inline(always)]
+fn is_plain_block(block: &[u8]) -> bool
+    requires { length block.now ≡ 16 }
+    ensures { result ≡ all_plain block.now }
+{
+    let bytes = u8x16::from_slice(block);
+    let other = bytes.simd_lt(u8x16::splat(0x20))
+        | bytes.simd_ge(u8x16::splat(0x80))
+        | bytes.simd_eq(u8x16::splat(b'"'))
+        | bytes.simd_eq(u8x16::splat(b'\\'));
+    other.to_bitmask() == 0
+}
+
+// Fills a place with two parts, one behind the other.
+#[inline(always)]
+fn fill(place: &mut [u8], front: &[u8], behind: &[u8])
+    requires { length front.now + length behind.now ≡ length place.old }
+    ensures { place.new ≡ front.now ++ behind.now }
+{
+    place[..front.len()].copy_from_slice(front);
+    place[front.len()..].copy_from_slice(behind);
+}
+
+// The same of fewer bytes: of eight and more, and of four and more, the first and the last.
+#[inline(always)]
+fn is_short_plain(words: &[u8]) -> bool
+    requires { length words.now ≤ 16 }
+    ensures { result ≡ all_plain words.now }
+{
+    let mut block = [b' '; 16];
+    let len = words.len();
+    if len >= 8 {
+        fill(&mut block, &words[..8], &words[len - 8..]);
+        return is_plain_block(&block);
+    }
+    if len >= 4 {
+        let mut half = [b' '; 8];
+        fill(&mut half, &words[..4], &words[len - 4..]);
+        fill(&mut block, &half, &[b' '; 8]);
+        return is_plain_block(&block);
+    }
+    all_plain(words)
+}
+
+// The same, sixteen bytes at once; the last sixteen with some of those in front of them.
 #[inline(always)]
 fn is_plain(words: &[u8]) -> bool
     ensures { result ≡ all_plain words.now }
 {
+    if words.len() < 16 {
+        return is_short_plain(words);
+    }
     let mut rest = words;
     'rounds: while let Some((block, behind)) = rest.split_first_chunk::<16>() {
-        if !all_plain(block) {
+        if !is_plain_block(block) {
             return false;
         }
         rest = behind;
     }
-    if let Some((block, behind)) = rest.split_first_chunk::<8>() {
-        if !all_plain(block) {
-            return false;
-        }
-        rest = behind;
-    }
-    all_plain(rest)
+    is_plain_block(&words[words.len() - 16..])
 }
 
 // A text between quotes, as it is.
@@ -226,6 +270,130 @@ fn push_value<A: Allocator + Copy>(
     }
 }
 
+// Appends a few bytes at once.
+#[inline(always)]
+fn push_few<A: Allocator>(text: &mut String<A>, bytes: &[u8]) -> Result<(), AllocError>
+    requires { IsUtf8 bytes.now }
+    ensures { OnOk result (string_bytes text.new ≡ string_bytes text.old ++ bytes.now) }
+{
+    text.push_str(unsafe { std::str::from_utf8_unchecked(bytes) })
+}
+
+// A name and the quote behind it, on a line of its own. A name of one or two bytes goes in one
+// append with what stands around it.
+#[inline(always)]
+fn push_line_front<A: Allocator>(text: &mut String<A>, name: &str) -> Result<(), AllocError>
+    ensures { OnOk result (string_bytes text.new
+        ≡ string_bytes text.old ++ (codes "\n  " ++ name.now ++ codes " \"")) }
+{
+    match name.as_bytes() {
+        [one] => push_few(text, &[b'\n', b' ', b' ', *one, b' ', b'"']),
+        [one, two] => push_few(text, &[b'\n', b' ', b' ', *one, *two, b' ', b'"']),
+        _ => push_between(text, "\n  ", name, " \""),
+    }
+}
+
+// The same behind another member of an object.
+#[inline(always)]
+fn push_pair_front<A: Allocator>(text: &mut String<A>, name: &str) -> Result<(), AllocError>
+    ensures { OnOk result (string_bytes text.new
+        ≡ string_bytes text.old ++ (codes ",\"" ++ name.now ++ codes "\":\"")) }
+{
+    match name.as_bytes() {
+        [one] => push_few(text, &[b',', b'"', *one, b'"', b':', b'"']),
+        [one, two] => push_few(text, &[b',', b'"', *one, *two, b'"', b':', b'"']),
+        _ => push_between(text, ",\"", name, "\":\""),
+    }
+}
+
+// A field of plain letters, whose name is short.
+#[inline(always)]
+fn push_plain<A: Allocator>(
+    text: &mut String<A>,
+    form: FieldForm,
+    name: &str,
+    words: &str,
+) -> Result<(), AllocError>
+    ensures { OnOk result (string_bytes text.new
+        ≡ with_member form (string_bytes text.old) (name.now, Word words.now)) }
+{
+    match form {
+        FieldForm::Hidden => return Ok(()),
+        FieldForm::Text => push_line_front(text, name)?,
+        FieldForm::Json => {
+            if text.is_empty() {
+                push_between(text, ",\"fields\":{\"", name, "\":\"")?;
+            } else {
+                push_pair_front(text, name)?;
+            }
+        }
+    }
+    text.push_str(words)?;
+    text.push_str("\"")
+}
+
+// A text whose name is its place.
+#[inline(never)]
+fn push_text_at<A: Allocator + Copy>(
+    text: &mut String<A>,
+    form: FieldForm,
+    place: u64,
+    bytes: &[u8],
+) -> Result<(), AllocError>
+    ensures { OnOk result (string_bytes text.new
+        ≡ with_member form (string_bytes text.old) (decimal place, Words bytes.now)) }
+{
+    let mut digits = itoa::Buffer::new();
+    let name = digits.format(place);
+    if is_plain(bytes) {
+        // What is of ASCII is UTF-8.
+        let words = unsafe { std::str::from_utf8_unchecked(bytes) };
+        push_plain(text, form, name, words)
+    } else {
+        push_other_text(text, form, name, bytes)
+    }
+}
+
+// The name of a field, with what stands around it.
+fn push_name<A: Allocator>(
+    text: &mut String<A>,
+    form: FieldForm,
+    name: &str,
+) -> Result<(), AllocError>
+    ensures { OnOk result (string_bytes text.new ≡ with_name form (string_bytes text.old) name.now) }
+{
+    match form {
+        FieldForm::Hidden => Ok(()),
+        FieldForm::Text => push_between(text, "\n  ", name, " "),
+        FieldForm::Json => {
+            let before = if text.is_empty() {
+                ",\"fields\":{\""
+            } else {
+                ",\""
+            };
+            push_between(text, before, name, "\":")
+        }
+    }
+}
+
+// A text that is not plain letters.
+#[inline(never)]
+fn push_other_text<A: Allocator + Copy>(
+    text: &mut String<A>,
+    form: FieldForm,
+    name: &str,
+    bytes: &[u8],
+) -> Result<(), AllocError>
+    ensures { OnOk result (string_bytes text.new
+        ≡ with_member form (string_bytes text.old) (name.now, Words bytes.now)) }
+{
+    push_name(text, form, name)?;
+    match form {
+        FieldForm::Hidden => Ok(()),
+        FieldForm::Text | FieldForm::Json => push_words(text, form, bytes),
+    }
+}
+
 fn push_member<A: Allocator + Copy>(
     text: &mut String<A>,
     form: FieldForm,
@@ -235,21 +403,10 @@ fn push_member<A: Allocator + Copy>(
     ensures { OnOk result (string_bytes text.new
         ≡ with_member form (string_bytes text.old) (name.now, value_of value.entry)) }
 {
+    push_name(text, form, name)?;
     match form {
         FieldForm::Hidden => Ok(()),
-        FieldForm::Text => {
-            push_between(text, "\n  ", name, " ")?;
-            push_value(text, form, value)
-        }
-        FieldForm::Json => {
-            let before = if text.is_empty() {
-                ",\"fields\":{\""
-            } else {
-                ",\""
-            };
-            push_between(text, before, name, "\":")?;
-            push_value(text, form, value)
-        }
+        FieldForm::Text | FieldForm::Json => push_value(text, form, value),
     }
 }
 
@@ -351,6 +508,9 @@ impl<A: Allocator + Copy> Fields<A> {
     {
         if let FieldForm::Hidden = self.form {
             return Ok(());
+        }
+        if let FieldValue::Text(bytes) = value {
+            return push_text_at(&mut self.text, self.form, place, bytes);
         }
         let mut digits = itoa::Buffer::new();
         self.put(digits.format(place), value)
