@@ -16,7 +16,7 @@ use Rattle.mysql_wire_dump_lines.specs.declared.fields.FieldForm.TheVariants.{Hi
 use Rattle.mysql_wire_dump_lines.specs.Fields.{Member, Puts, Written, all_plain, all_stand, ended, fields_text, line, nothing, pair, plain, put, puts, stands, value_text, with_member, with_name, Value, Word, Words}
 use Rattle.mysql_wire_dump_lines.specs.FieldTables.{members_in, members_of}
 
-is_false : (test : Bool) → (test ≡ true → ⊥) → test ≡ false
+pub is_false : (test : Bool) → (test ≡ true → ⊥) → test ≡ false
 is_false true never = absurd (never refl)
 is_false false never = refl
 

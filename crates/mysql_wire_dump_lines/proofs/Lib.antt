@@ -1,4 +1,5 @@
 pub mod SourceLemmas
+pub mod EscapeLemmas
 pub mod FieldLemmas
 pub mod NumberLemmas
 pub mod PlainLemmas

@@ -4,7 +4,7 @@ use Rattle.std.specs.List.{flat_map, list_all}
 use Rattle.std.specs.Prelude.{◌≡◌, ◌==◌, ◌&&◌, ℕ, nat_le, nat_lt, Bool, false, not, List, [], ◌∷◌, ◌++◌, codes, if◌then◌else◌}
 use Rattle.std.specs.Str.{is_utf8}
 use Rattle.hex.specs.Hex.{encode_lower}
-use Rattle.json.specs.Print.{quoted}
+use Rattle.json.specs.Print.{escape_letter, quoted}
 use Rattle.mysql_wire_dump_lines.specs.declared.fields.FieldForm.{FieldForm}
 use Rattle.mysql_wire_dump_lines.specs.declared.fields.FieldForm.TheVariants.{Hidden, Text, Json}
 use Rattle.mysql_wire_dump_lines.specs.declared.fields.FieldValue.{FieldValue}
@@ -37,6 +37,11 @@ digits_text Json digits = codes "{\"hex\":\"" ++ digits ++ codes "\"}"
 -- bytes in hex digits
 abbrev pub octets_text : FieldForm → List ℕ → List ℕ
 octets_text form octets = digits_text form (encode_lower octets)
+
+-- the letter of a byte's escape: `u` where that is in hex digits, 0 where there is none
+abbrev pub escape_mark : ℕ → ℕ
+escape_mark byte =
+    if nat_lt 0 (escape_letter byte) then escape_letter byte else if nat_lt byte 32 then 117 else 0
 
 -- a byte that needs no escape where JSON quotes it
 abbrev pub stands : ℕ → Bool

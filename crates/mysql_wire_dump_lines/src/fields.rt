@@ -1,11 +1,11 @@
 //! The fields of a packet, as text or as members of a JSON object.
 
-ghost use Rattle.std.specs.Prelude.{◌≡◌, ◌≤◌, ◌+◌, ◌++◌, ◌∷◌, [], codes, length, IfOk, OnOk, string_bytes};
+ghost use Rattle.std.specs.Prelude.{◌≡◌, ◌≤◌, ◌+◌, ◌++◌, ◌∷◌, [], codes, length, take, drop, IfOk, OnOk, string_bytes};
 ghost use Rattle.std.specs.Str.{IsUtf8};
 ghost use Rattle.std.specs.Fmt.{decimal};
-ghost use Rattle.json.specs.Print.{quoted};
+ghost use Rattle.json.specs.Print.{escape_byte, quoted};
 ghost use Rattle.mysql_wire_dump_lines.specs.FieldTables.{members_in, members_of};
-ghost use Rattle.mysql_wire_dump_lines.specs.Fields.{Puts, all_plain, all_stand, stands, ended, flags_text, in_quotes, nothing, octets_text, value_of, value_text, with_end, with_member, with_name, words_text, Word, Words};
+ghost use Rattle.mysql_wire_dump_lines.specs.Fields.{Puts, escape_mark, all_plain, all_stand, stands, ended, flags_text, in_quotes, nothing, octets_text, value_of, value_text, with_end, with_member, with_name, words_text, Word, Words};
 
 use crate::put::{push_between, push_number};
 use json::Writer;
@@ -186,11 +186,99 @@ fn quoted<A: Allocator>(alloc: A, words: &str) -> Result<String<A>, AllocError>
     Ok(unsafe { String::from_utf8_unchecked(writer.into_inner()) })
 }
 
+// The letter of each byte's escape: `u` where that is in hex digits, 0 where there is none.
+const ESCAPE_LETTERS: [u8; 256] = [
+    b'u', b'u', b'u', b'u', b'u', b'u', b'u', b'u', b'b', b't', b'n', b'u', b'f', b'r', b'u', b'u',
+    b'u', b'u', b'u', b'u', b'u', b'u', b'u', b'u', b'u', b'u', b'u', b'u', b'u', b'u', b'u', b'u',
+    0, 0, b'"', 0, 0, 0, 0, 0, 0, 0, 0, 0, 0, 0, 0, 0, 0, 0, 0, 0, 0, 0, 0, 0, 0, 0, 0, 0, 0, 0, 0,
+    0, 0, 0, 0, 0, 0, 0, 0, 0, 0, 0, 0, 0, 0, 0, 0, 0, 0, 0, 0, 0, 0, 0, 0, 0, 0, 0, 0, 0, b'\\',
+    0, 0, 0, 0, 0, 0, 0, 0, 0, 0, 0, 0, 0, 0, 0, 0, 0, 0, 0, 0, 0, 0, 0, 0, 0, 0, 0, 0, 0, 0, 0, 0,
+    0, 0, 0, 0, 0, 0, 0, 0, 0, 0, 0, 0, 0, 0, 0, 0, 0, 0, 0, 0, 0, 0, 0, 0, 0, 0, 0, 0, 0, 0, 0, 0,
+    0, 0, 0, 0, 0, 0, 0, 0, 0, 0, 0, 0, 0, 0, 0, 0, 0, 0, 0, 0, 0, 0, 0, 0, 0, 0, 0, 0, 0, 0, 0, 0,
+    0, 0, 0, 0, 0, 0, 0, 0, 0, 0, 0, 0, 0, 0, 0, 0, 0, 0, 0, 0, 0, 0, 0, 0, 0, 0, 0, 0, 0, 0, 0, 0,
+    0, 0, 0, 0, 0, 0, 0, 0, 0, 0, 0, 0, 0, 0, 0, 0, 0, 0, 0, 0, 0, 0, 0, 0, 0, 0, 0, 0, 0, 0, 0, 0,
+    0, 0, 0,
+];
+
+// The digits, in the order of their values.
+const DIGITS: [u8; 16] = [
+    b'0', b'1', b'2', b'3', b'4', b'5', b'6', b'7', b'8', b'9', b'a', b'b', b'c', b'd', b'e', b'f',
+];
+
+#[inline(always)]
+fn escape_letter_of(byte: u8) -> u8
+    ensures { result ≡ escape_mark byte }
+{
+    ESCAPE_LETTERS[byte as usize]
+}
+
+// What stands for a byte where JSON quotes it: so many bytes of these.
+#[inline(always)]
+fn escape_of(byte: u8) -> ([u8; 8], usize)
+    ensures { (length result.0 ≡ 8) × (result.1 ≤ 6)
+        × (take result.1 result.0 ≡ escape_byte byte) }
+{
+    let letter = escape_letter_of(byte);
+    if letter == 0 {
+        return ([byte, 0, 0, 0, 0, 0, 0, 0], 1);
+    }
+    if letter != b'u' {
+        return ([b'\\', letter, 0, 0, 0, 0, 0, 0], 2);
+    }
+    let high = DIGITS[(byte / 16) as usize];
+    let low = DIGITS[(byte % 16) as usize];
+    ([b'\\', letter, b'0', b'0', high, low, 0, 0], 6)
+}
+
+// The most bytes of a text that is quoted in a room of its own, and that room: six bytes for each,
+// the quotes, and what is written behind the last.
+const FEW: usize = 64;
+
+const ROOM: usize = 400;
+
+#[inline(always)]
+fn put_block(room: &mut [u8; 400], at: usize, block: &[u8; 8])
+    requires { at + 8 ≤ 400 }
+    ensures { room.new ≡ take at room.old ++ block.now ++ drop (at + 8) room.old }
+{
+    room[at..at + 8].copy_from_slice(block);
+}
+
+// Quotes a few bytes at the front of the room. The answer is how many bytes they take.
+fn quote_few(room: &mut [u8; 400], words: &[u8]) -> usize
+    requires { length words.now ≤ 64 }
+    ensures { (result ≤ 400) × (take result room.new ≡ quoted words.now) }
+{
+    room[0] = b'"';
+    let mut at = 1;
+    'bytes: for byte in words {
+        let (block, len) = escape_of(*byte);
+        put_block(room, at, &block);
+        at += len;
+    }
+    room[at] = b'"';
+    at + 1
+}
+
+// A text of a few bytes, of which some need escapes.
+#[inline(never)]
+fn push_few_escaped<A: Allocator>(text: &mut String<A>, words: &str) -> Result<(), AllocError>
+    requires { length words.now ≤ 64 }
+    ensures { OnOk result (string_bytes text.new ≡ string_bytes text.old ++ quoted words.now) }
+{
+    let mut room = [0; ROOM];
+    let len = quote_few(&mut room, words.as_bytes());
+    push_few(text, &room[..len])
+}
+
 // A text of which some bytes may need escapes.
 #[inline(never)]
 fn push_escaped<A: Allocator + Copy>(text: &mut String<A>, words: &str) -> Result<(), AllocError>
     ensures { OnOk result (string_bytes text.new ≡ string_bytes text.old ++ quoted words.now) }
 {
+    if words.len() <= FEW {
+        return push_few_escaped(text, words);
+    }
     let quoted = quoted(*text.allocator(), words)?;
     text.push_str(quoted.as_str())
 }
