@@ -101,6 +101,17 @@ LENGTHS = [
     (b"\xff\xff\xff\1", 16777215, b"middle 1 16777215 "),
 ]
 
+# The lengths of packets of `D`, of which one read brings many. Lines are held up to 32768 bytes;
+# where one would pass that, its packet and those behind it are.
+MANY = [
+    [1] * 9000,
+    [0, 1, 9, 10, 99, 100, 255] * 200,
+    [3000] * 15,
+    [5] * 100 + [20000] + [5] * 100 + [70000] + [0, 5] * 2000,
+    [16370, 1, 16371, 1, 16372, 1, 32768, 1],
+    [16356] + [0] * 20,
+]
+
 # The limit, the input, what is written, the steps, and places in the input and behind it: what each
 # read asks for shows in what the program gets.
 READS = [
@@ -178,6 +189,22 @@ def of_streams(folder):
         yield "unframe STEP %s of %s: status %d" % (limits, data.hex(), status), joined(found)
 
 
+def of_many(folder):
+    """The same of many packets, also where the last one has another id."""
+    for lengths in MANY:
+        data, text = b"", b""
+        for index, length in enumerate(lengths):
+            data += length.to_bytes(3, "little") + bytes([index % 256]) + b"D" * length
+            text += b"%d %s\n" % (length, b"44" * length or b"-")
+        behind = b"\0\0\0" + bytes([(len(lengths) + 1) % 256])
+        found = []
+        for step in [100, 8192, 16384, 65536]:
+            line = "unframe %d 70000" % step
+            found.append((line, goes(line, data, 0, text + b"rest 0\n", folder)))
+            found.append((line, goes(line, data + behind, 5, text + b"out of sync\n", folder)))
+        yield "unframe STEP 70000 of %d packets" % len(lengths), joined(found)
+
+
 def asks_right(line, data, text, step, at):
     """What goes otherwise, or None where each read asks for a step, and none from before this place
     for bytes behind it."""
@@ -227,7 +254,7 @@ def main():
         return
     with tempfile.TemporaryDirectory() as name:
         folder = pathlib.Path(name)
-        found = [*of_rows(folder), *of_streams(folder), *of_reads(), *of_waits()]
+        found = [*of_rows(folder), *of_streams(folder), *of_many(folder), *of_reads(), *of_waits()]
         found += of_other_lines(folder)
     for name, fault in found:
         print("FAILED %s: %s" % (name, fault) if fault else "ok " + name)

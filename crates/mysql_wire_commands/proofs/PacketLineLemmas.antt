@@ -1,5 +1,5 @@
 -- Lines that are written in parts.
-use Rattle.std.proofs.Common.{arith, ◌≡◌, ◌+◌, ◌<◌, ℕ, List, [], ◌∷◌, ◌++◌, length, take, get_or, Option, Vec, refl, sym, ap, subst, ◌∙◌, append-nil, append_assoc}
+use Rattle.std.proofs.Common.{arith, ◌≡◌, ◌+◌, ◌<◌, ℕ, List, [], ◌∷◌, ◌++◌, length, take, get_or, Option, Vec, if◌then◌else◌, Result, Ok, Err, OnOk, refl, sym, ap, subst, ◌∙◌, append-nil, append_assoc}
 use Rattle.std.proofs.Math.Numerals.{add-one}
 use Rattle.std.proofs.Math.Seq.{take-suc}
 use Rattle.std.proofs.lemmas.Grind.{flat_map-append}
@@ -8,7 +8,7 @@ use Rattle.wire_codec.specs.Runs.{payloads}
 use Rattle.mysql_wire_commands.specs.Unframe.{packet_lines}
 use Rattle.std.proofs.KnownBytes.{Appends-nil, Appends-trans}
 use Rattle.std.specs.Io.KnownBytes.{Appends}
-use Rattle.std.specs.Fmt.{decimal}
+use Rattle.std.specs.Result.{is_ok}
 use Rattle.std.specs.Prelude.{codes}
 use Rattle.hex.specs.Hex.{encode_lower, encode_with, lower_digits}
 use Rattle.wire_digits.proofs.DigitLemmas.{digits_more}
@@ -53,29 +53,27 @@ digits_on held done bytes text pushed left before between after so_far is goes =
     (append-nil (encode_lower done ++ encode_lower bytes) ∙ sym (digits_more lower_digits done bytes))
     (goes_on held (encode_lower done ++ encode_lower bytes) pushed [] left before between after more goes)
 
--- the line of a packet, part by part
-pub line_goes : (held count mark payload one two three four : List ℕ) (before after : Option (List ℕ)) → one ≡ held ++ count → two ≡ one ++ mark
-    → Goes two (encode_lower payload) three before after → four ≡ three ++ codes "\n" → count ≡ decimal (length payload)
-    → mark ++ encode_lower payload ≡ codes " " ++ hex_or_dash payload → Goes held (payload_line payload) four before after
-line_goes held count mark payload one two three four before after one_is two_is goes four_is count_is mark_is =
-    let digits : List ℕ = encode_lower payload in (
-      goes.0,
-      goes.1,
-      ap (λ (z : List ℕ). goes.0 ++ z) four_is ∙ sym (append_assoc goes.0 three (codes "\n")) ∙ ap (λ (z : List ℕ). z ++ codes "\n") goes.2
-          ∙ ap (λ (z : List ℕ). (z ++ digits) ++ codes "\n") (two_is ∙ ap (λ (z : List ℕ). z ++ mark) one_is)
-          ∙ ap (λ (z : List ℕ). z ++ codes "\n") (append_assoc (held ++ count) mark digits)
-          ∙ ap (λ (z : List ℕ). ((held ++ count) ++ z) ++ codes "\n") mark_is
-          ∙ ap (λ (z : List ℕ). z ++ codes "\n") (append_assoc held count (codes " " ++ hex_or_dash payload))
-          ∙ ap (λ (z : List ℕ). (held ++ z) ++ codes "\n") (sym (append_assoc count (codes " ") (hex_or_dash payload)))
-          ∙ append_assoc held ((count ++ codes " ") ++ hex_or_dash payload) (codes "\n")
-          ∙ ap (λ (z : List ℕ). held ++ (((z ++ codes " ") ++ hex_or_dash payload) ++ codes "\n")) count_is,
-    )
+-- the line of a packet: what stands in front of its digits, and these
+pub line_goes : (held payload front digits line : List ℕ) (before after : Option (List ℕ)) → (front ++ encode_lower payload) ++ codes "\n" ≡ held ++ payload_line payload
+    → Goes front (encode_lower payload) digits before after → line ≡ digits ++ codes "\n" → Goes held (payload_line payload) line before after
+line_goes held payload front digits line before after front_is goes line_is = (
+  goes.0,
+  goes.1,
+  ap (λ (z : List ℕ). goes.0 ++ z) line_is ∙ sym (append_assoc goes.0 digits (codes "\n")) ∙ ap (λ (z : List ℕ). z ++ codes "\n") goes.2 ∙ front_is,
+)
 
 -- a dash, where there are no digits
-pub dash_alone : (payload : List ℕ) → length payload ≡ 0 → codes " -" ++ encode_lower payload ≡ codes " " ++ hex_or_dash payload
+dash_alone : (payload : List ℕ) → length payload ≡ 0 → codes " -" ++ encode_lower payload ≡ codes " " ++ hex_or_dash payload
 unfolding encode_with
 dash_alone [] is = refl
 dash_alone (b ∷ rest) is = absurd (omega (arith, is))
+
+pub dash_behind : {E : Type 0} (answer : Result (Unit {0}) E) (held payload text : List ℕ) → length payload ≡ 0 → text ≡ (if is_ok answer then held ++ codes " -" else held)
+    → OnOk answer (text ++ encode_lower payload ≡ held ++ (codes " " ++ hex_or_dash payload))
+dash_behind (Ok done) held payload text none is =
+    ap (λ (z : List ℕ). z ++ encode_lower payload) is ∙ append_assoc held (codes " -") (encode_lower payload)
+    ∙ ap (λ (z : List ℕ). held ++ z) (dash_alone payload none)
+dash_behind (Err error) held payload text none is = tt
 
 -- the lines of one packet more
 lines_more : {A : Type 0} (packets : List (Vec ℕ A)) (i : ℕ) (packet : Vec ℕ A) → packet ≡ get_or packets i packet → i < length packets
@@ -95,10 +93,10 @@ packets_on packets i packet held shown text left before between after is inside 
     (ap (λ (z : List ℕ). lines ++ payload_line z) same ∙ sym (lines_more packets i packet is inside))
     (goes_on held lines text (payload_line shown) left before between after so_far goes)
 
--- nothing was held, and all of it is written
-pub all_written : (held text left line shown : List ℕ) (before between after : Option (List ℕ)) → held ≡ [] → Goes held text left before between → shown ≡ left ++ line
-    → Appends between after shown → Appends before after (text ++ line)
-all_written held text left line shown before between after empty goes is written =
+-- all of it is written
+pub all_written : (held text left line shown : List ℕ) (before between after : Option (List ℕ)) → Goes held text left before between → shown ≡ left ++ line
+    → Appends between after shown → Appends before after (held ++ text ++ line)
+all_written held text left line shown before between after goes is written =
     subst (λ (z : List ℕ). Appends before after z)
-    (ap (λ (z : List ℕ). goes.0 ++ z) is ∙ sym (append_assoc goes.0 left line) ∙ ap (λ (z : List ℕ). z ++ line) (goes.2 ∙ ap (λ (z : List ℕ). z ++ text) empty))
+    (ap (λ (z : List ℕ). goes.0 ++ z) is ∙ sym (append_assoc goes.0 left line) ∙ ap (λ (z : List ℕ). z ++ line) goes.2)
     (Appends-trans _ _ _ goes.0 shown goes.1 written)

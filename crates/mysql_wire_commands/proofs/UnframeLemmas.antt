@@ -1,5 +1,5 @@
 -- One piece after another.
-use Rattle.std.proofs.Common.{◌≡◌, ℕ, ◌+◌, ◌*◌, ◌/◌, ◌%◌, ◌<◌, ◌≤◌, ◌-◌, ◌⊎◌, List, [], ◌∷◌, ◌++◌, length, take, drop, refl, sym, ap, ◌∙◌, subst, arith, inl, inr, append_assoc, append-nil, length-append, drop_of_length-le, take_all, Option, Some, None, Ok, Err, OnOk, Result, Bool, true, false, if◌then◌else◌, ◌==◌, nat_lt, Bor}
+use Rattle.std.proofs.Common.{◌≡◌, ℕ, ◌+◌, ◌*◌, ◌/◌, ◌%◌, ◌<◌, ◌≤◌, ◌-◌, ◌⊎◌, List, [], ◌∷◌, ◌++◌, length, take, drop, refl, sym, ap, ◌∙◌, subst, arith, inl, inr, append_assoc, append-nil, length-append, drop_of_length-le, take_all, Option, Some, None, Ok, Err, OnOk, Result, Bool, true, false, if◌then◌else◌, ◌==◌, nat_lt, Bor, ap₂, IsFalse}
 use Rattle.std.proofs.Math.Seq.{take-nil}
 use Rattle.std.proofs.lemmas.Bool.{cases_lt, lt-ltb, le-ltb}
 use Rattle.std.proofs.lemmas.Grind.{flat_map-append}
@@ -13,7 +13,7 @@ use Rattle.wire_codec.specs.Codec.{CodecState, open_id, first_id, input_of}
 use Rattle.wire_codec.specs.Limited.{Limits, framed_size, place_after, DeliversUnder}
 use Rattle.wire_codec.specs.LimitedRuns.{run_limits, limited_bytes, WaitsUnder}
 use Rattle.wire_codec.specs.GoingOn.{GoesOn, RunsOn}
-use Rattle.wire_codec.specs.Runs.{RunsTo, WaitsFrom}
+use Rattle.wire_codec.specs.Runs.{RunsTo, WaitsFrom, payloads}
 use Rattle.wire_codec.specs.Laws.{JoinedLimitedRuns, EmptyGoesOn, EqualLimits, FramedLength, NothingRead, empty_state}
 use Rattle.mysql_wire_commands.specs.Texts.{payload_line}
 use Rattle.std.specs.Result.{IfOk}
@@ -21,59 +21,106 @@ use Rattle.mysql_wire_commands.specs.declared.status.Stop.{Stop}
 use Rattle.mysql_wire_commands.specs.declared.status.Stop.TheVariants.{Io, Memory}
 use Rattle.mysql_wire_commands.specs.Status.{exit_status_of}
 use Rattle.mysql_wire_commands.specs.declared.unframe.Verdict.TheVariants as verdict
-use Rattle.mysql_wire_commands.specs.Unframe.{packet_lines, ending_line, ending_status, place_limits, StopsAt, TakesUnder, Unframing, Unframed, UnframedUnder, UnframeEnds, UnframeEndsOver, UnframeLimitedEnds, UnframeUnderEnds}
+use Rattle.std.specs.List.{FoldsTo}
+use Rattle.mysql_wire_commands.specs.declared.piece_lines.PieceLines.{PieceLines}
+use Rattle.mysql_wire_commands.specs.PieceLines.{Gains, Shows, said}
+use Rattle.mysql_wire_commands.specs.Unframe.{packet_lines, ending_line, ending_status, place_limits, StopsAt, TakesLines, Unframing, Unframed, UnframedUnder, UnframeEnds, UnframeEndsOver, UnframeLimitedEnds, UnframeUnderEnds}
 
--- what one call of `deliver_limited` makes of one piece
-abbrev pub CallRuns : Limits → ℕ → CodecState → ℕ → Bor (List ℕ) → ℕ → Result (Unit {0}) PacketCodecError → List (List ℕ) → List (List ℕ) → CodecState → Type 0
-CallRuns limits place before limit piece count answer old packets after =
-    (gained : List (List ℕ)) × (packets ≡ old ++ gained) × RunsOn limits place before ((limit, piece) ∷ []) count answer gained after
+-- what one call makes of one piece
+abbrev pub CallRuns : {A : Type 0} → Limits → ℕ → CodecState → ℕ → Bor (List ℕ) → ℕ → Result (Unit {0}) PacketCodecError → PieceLines A → CodecState → Type 0
+CallRuns limits place before limit piece count answer lines after =
+    (gained : List (List ℕ)) × Shows lines gained × RunsOn limits place before ((limit, piece) ∷ []) count answer gained after
 
--- the packets are those of this piece alone
-call_alone : (limits : Limits) (place : ℕ) (before : CodecState) (limit : ℕ) (piece : Bor (List ℕ)) (count : ℕ) (answer known : Result (Unit {0}) PacketCodecError) (old packets : List (List ℕ)) (after : CodecState)
-    → old ≡ [] → answer ≡ known → CallRuns limits place before limit piece count answer old packets after → RunsOn limits place before ((limit, piece) ∷ []) count known packets after
-call_alone limits place before limit piece count answer known old packets after none is (gained, all, run) =
-    subst (λ (z : List (List ℕ)). RunsOn limits place before ((limit, piece) ∷ []) count known z after) (sym (all ∙ ap (λ (z : List (List ℕ)). z ++ gained) none))
-    (subst (λ (z : Result (Unit {0}) PacketCodecError). RunsOn limits place before ((limit, piece) ∷ []) count z gained after) is run)
+-- packets that are visited one after another, where no memory was refused
+lines_gained : {A : Type 0} (old : PieceLines A) (gained : List (List ℕ)) (new : PieceLines A) → FoldsTo Gains old gained new → IsFalse new.is_refused
+    → IsFalse old.is_refused × (said new ≡ said old ++ packet_lines gained)
+lines_gained old [] new same fine = (
+  subst (λ z. IsFalse z.is_refused) (sym same) fine,
+  ap (λ z. said z) (sym same) ∙ sym (append-nil (said old)),
+)
+lines_gained old (packet ∷ packets) new (next, step, steps) fine =
+    let more = lines_gained next packets new steps fine in
+    let one = step more.0 in (
+      one.0,
+      more.1 ∙ ap (λ (z : List ℕ). z ++ packet_lines packets) one.1 ∙ append_assoc (said old) (payload_line packet) (packet_lines packets),
+    )
+
+pub visited_lines : {A : Type 0} (old : PieceLines A) (gained : List (List ℕ)) (new : PieceLines A) → said old ≡ [] → FoldsTo Gains old gained new → Shows new gained
+visited_lines old gained new none steps fine = (lines_gained old gained new steps fine).1 ∙ ap (λ (z : List ℕ). z ++ packet_lines gained) none
+
+-- packets that are moved
+pub moved_lines : {A : Type 0} (old new : PieceLines A) (gained : List (List ℕ)) → said old ≡ [] → new.text.items ≡ old.text.items → payloads new.packets.items ≡ payloads old.packets.items ++ gained → Shows new gained
+moved_lines old new gained none same moved fine =
+    let before : List (List ℕ) = payloads old.packets.items in
+    ap₂ (λ (a : List ℕ) (b : List (List ℕ)). a ++ packet_lines b) same moved
+    ∙ ap (λ (z : List ℕ). old.text.items ++ z) (flat_map-append payload_line before gained)
+    ∙ sym (append_assoc old.text.items (packet_lines before) (packet_lines gained))
+    ∙ ap (λ (z : List ℕ). z ++ packet_lines gained) none
+
+-- the answer is known
+call_known : {A : Type 0} (limits : Limits) (place : ℕ) (before : CodecState) (limit : ℕ) (piece : Bor (List ℕ)) (count : ℕ) (answer known : Result (Unit {0}) PacketCodecError) (lines : PieceLines A) (after : CodecState)
+    → IsFalse lines.is_refused → answer ≡ known → CallRuns limits place before limit piece count answer lines after
+    → (gained : List (List ℕ)) × (said lines ≡ packet_lines gained) × RunsOn limits place before ((limit, piece) ∷ []) count known gained after
+call_known limits place before limit piece count answer known lines after fine is (gained, shows, run) = (
+  gained,
+  shows fine,
+  subst (λ (z : Result (Unit {0}) PacketCodecError). RunsOn limits place before ((limit, piece) ∷ []) count z gained after) is run,
+)
 
 -- it waits
-pub piece_waits : (limits : Limits) (place : ℕ) (before : CodecState) (limit : ℕ) (piece : Bor (List ℕ)) (count : ℕ) (answer : Result (Unit {0}) PacketCodecError) (old packets : List (List ℕ)) (after : CodecState)
-    → old ≡ [] → answer ≡ Ok tt → OnOk answer (count ≡ 1) → CallRuns limits place before limit piece count answer old packets after
-    → TakesUnder limits place before piece.now verdict.Waits packets after
-piece_waits limits place before limit piece count answer old packets after none is all call =
+pub piece_waits : {A : Type 0} (limits : Limits) (place : ℕ) (before : CodecState) (limit : ℕ) (piece : Bor (List ℕ)) (count : ℕ) (answer : Result (Unit {0}) PacketCodecError) (lines : PieceLines A) (after : CodecState)
+    → IsFalse lines.is_refused → answer ≡ Ok tt → OnOk answer (count ≡ 1) → CallRuns limits place before limit piece count answer lines after
+    → TakesLines limits place before piece.now verdict.Waits (said lines) after
+piece_waits limits place before limit piece count answer lines after fine is all call =
     let one : count ≡ 1 = subst (λ (z : Result (Unit {0}) PacketCodecError). OnOk z (count ≡ 1)) is all in
-    let run : RunsOn limits place before ((limit, piece) ∷ []) 1 (Ok tt) packets after =
-    subst (λ (n : ℕ). RunsOn limits place before ((limit, piece) ∷ []) n (Ok tt) packets after) one
-    (call_alone limits place before limit piece count answer (Ok tt) old packets after none is call) in
+    let known = call_known limits place before limit piece count answer (Ok tt) lines after fine is call in
+    let run : RunsOn limits place before ((limit, piece) ∷ []) 1 (Ok tt) known.0 after =
+    subst (λ (n : ℕ). RunsOn limits place before ((limit, piece) ∷ []) n (Ok tt) known.0 after) one known.2 in
     let on = run.2 (inl refl) in (
-      subst (λ (z : List ℕ). DeliversUnder limits place before.held (input_of before ++ z) (first_id before) packets Waiting after.held after.unread) (append-nil piece.now) run.0.0,
-      run.0.1,
-      on.0,
-      on.1,
+      known.0,
+      known.1,
+      (
+        subst (λ (z : List ℕ). DeliversUnder limits place before.held (input_of before ++ z) (first_id before) known.0 Waiting after.held after.unread) (append-nil piece.now) run.0.0,
+        run.0.1,
+        on.0,
+        on.1,
+      ),
     )
 
 pub not_lost : (answer : Result (Unit {0}) PacketCodecError) → answer ≡ Ok tt → answer ≡ Err PacketsOutOfSync → ⊥
 not_lost answer is lost = (let e = sym is ∙ lost in cc)
 
 -- it ends at a packet past the limit
-pub piece_too_large : (limits : Limits) (place : ℕ) (before : CodecState) (limit : ℕ) (piece : Bor (List ℕ)) (count : ℕ) (answer : Result (Unit {0}) PacketCodecError) (old packets : List (List ℕ)) (after : CodecState)
-    → old ≡ [] → answer ≡ Err PacketTooLarge → CallRuns limits place before limit piece count answer old packets after
-    → TakesUnder limits place before piece.now verdict.TooLarge packets after
-piece_too_large limits place before limit piece count answer old packets after none is call =
-    let run = call_alone limits place before limit piece count answer (Err PacketTooLarge) old packets after none is call in
+pub piece_too_large : {A : Type 0} (limits : Limits) (place : ℕ) (before : CodecState) (limit : ℕ) (piece : Bor (List ℕ)) (count : ℕ) (answer : Result (Unit {0}) PacketCodecError) (lines : PieceLines A) (after : CodecState)
+    → IsFalse lines.is_refused → answer ≡ Err PacketTooLarge → CallRuns limits place before limit piece count answer lines after
+    → TakesLines limits place before piece.now verdict.TooLarge (said lines) after
+piece_too_large limits place before limit piece count answer lines after fine is call =
+    let known = call_known limits place before limit piece count answer (Err PacketTooLarge) lines after fine is call in
     let left : List ℕ = after.unread ++ limited_bytes (drop count ((limit, piece) ∷ [])) in (
-      after.held,
-      left,
-      subst (λ (z : List ℕ). DeliversUnder limits place before.held (input_of before ++ z) (first_id before) packets TooLarge after.held left) (append-nil piece.now) run.1,
+      known.0,
+      known.1,
+      (
+        after.held,
+        left,
+        subst (λ (z : List ℕ). DeliversUnder limits place before.held (input_of before ++ z) (first_id before) known.0 TooLarge after.held left) (append-nil piece.now) known.2.1,
+      ),
     )
 
 -- it ends at a chunk of another id
-pub piece_out_of_sync : (limits : Limits) (place : ℕ) (before : CodecState) (limit : ℕ) (piece : Bor (List ℕ)) (count : ℕ) (answer : Result (Unit {0}) PacketCodecError) (old packets : List (List ℕ)) (after : CodecState)
-    → old ≡ [] → answer ≡ Err PacketsOutOfSync → CallRuns limits place before limit piece count answer old packets after
-    → TakesUnder limits place before piece.now verdict.OutOfSync packets after
-piece_out_of_sync limits place before limit piece count answer old packets after none is call =
-    let run = call_alone limits place before limit piece count answer (Err PacketsOutOfSync) old packets after none is call in
-    let left = run.1 in
-    (left.0, left.1, subst (λ (z : List ℕ). DeliversUnder limits place before.held (input_of before ++ z) (first_id before) packets OutOfSync left.0 left.1) (append-nil piece.now) left.2)
+pub piece_out_of_sync : {A : Type 0} (limits : Limits) (place : ℕ) (before : CodecState) (limit : ℕ) (piece : Bor (List ℕ)) (count : ℕ) (answer : Result (Unit {0}) PacketCodecError) (lines : PieceLines A) (after : CodecState)
+    → IsFalse lines.is_refused → answer ≡ Err PacketsOutOfSync → CallRuns limits place before limit piece count answer lines after
+    → TakesLines limits place before piece.now verdict.OutOfSync (said lines) after
+piece_out_of_sync limits place before limit piece count answer lines after fine is call =
+    let known = call_known limits place before limit piece count answer (Err PacketsOutOfSync) lines after fine is call in
+    let left = known.2.1 in (
+      known.0,
+      known.1,
+      (
+        left.0,
+        left.1,
+        subst (λ (z : List ℕ). DeliversUnder limits place before.held (input_of before ++ z) (first_id before) known.0 OutOfSync left.0 left.1) (append-nil piece.now) left.2,
+      ),
+    )
 
 -- nothing read yet
 empty_delivers : (limits : Limits) → DeliversUnder limits 0 [] [] 0 [] Waiting [] []
@@ -183,11 +230,10 @@ joined_delivery joined limits at before input text piece u gained ending unfinis
     (subst (λ (z : List ℕ). DeliversUnder limits p before.held z s gained ending unfinished rest) (append_assoc (front s before.held) before.unread piece) here)
 
 -- a piece after which more bytes are needed
-pub unframing_more : JoinedLimitedRuns → (limits : Limits) (at ahead : ℕ) (before after : CodecState) (input text piece : List ℕ) (gained : List (List ℕ))
+pub unframing_more : JoinedLimitedRuns → (limits : Limits) (at ahead : ℕ) (before after : CodecState) (input text piece lines : List ℕ)
     (u : Unframing limits at before input text) → ahead ≡ at - length input → (0 < ahead → length piece ≤ ahead)
-    → TakesUnder limits (place_after 0 u.payloads) before piece verdict.Waits gained after
-    → Unframing limits at after (input ++ piece) (text ++ packet_lines gained)
-unframing_more joined limits at ahead before after input text piece gained u is apart run =
+    → TakesLines limits (place_after 0 u.payloads) before piece verdict.Waits lines after → Unframing limits at after (input ++ piece) (text ++ lines)
+unframing_more joined limits at ahead before after input text piece lines u is apart (gained, said_is, run) =
     let s : ℕ = id_after (first_id before) gained in
     let small : first_id before < 256 = omega arith in
     record {
@@ -199,7 +245,7 @@ unframing_more joined limits at ahead before after input text piece gained u is 
       mark = run.2;
       goes_on = subst (λ (n : ℕ). GoesOn limits run.2 n after) (sym (place_after-append 0 u.payloads gained)) run.3;
       apart = stops_more limits at ahead before input text piece u is apart;
-      is = ap (λ (z : List ℕ). z ++ packet_lines gained) u.is ∙ sym (flat_map-append payload_line u.payloads gained);
+      is = ap₂ (λ (a b : List ℕ). a ++ b) u.is said_is ∙ sym (flat_map-append payload_line u.payloads gained);
     }
 
 blocks : (n : ℕ) → n % max_payload ≡ 0 → n ≤ n / max_payload * max_payload
@@ -238,42 +284,42 @@ unframing_ended framed limits at state input text u =
       ends = rw count refl;
     }
 
-text_joins : (ps gained : List (List ℕ)) (text line : List ℕ) → text ≡ packet_lines ps → text ++ (packet_lines gained ++ line) ≡ packet_lines (ps ++ gained) ++ line
-text_joins ps gained text line is =
-    sym (append_assoc text (packet_lines gained) line)
-    ∙ ap (λ (z : List ℕ). z ++ line) (ap (λ (z : List ℕ). z ++ packet_lines gained) is ∙ sym (flat_map-append payload_line ps gained))
+text_joins : (ps gained : List (List ℕ)) (text lines line : List ℕ) → text ≡ packet_lines ps → lines ≡ packet_lines gained → text ++ (lines ++ line) ≡ packet_lines (ps ++ gained) ++ line
+text_joins ps gained text lines line is more =
+    sym (append_assoc text lines line)
+    ∙ ap (λ (z : List ℕ). z ++ line) (ap₂ (λ (a b : List ℕ). a ++ b) is more ∙ sym (flat_map-append payload_line ps gained))
 
 -- a packet past the limit
-pub unframing_too_large : JoinedLimitedRuns → (limits : Limits) (at ahead : ℕ) (before after : CodecState) (input text piece : List ℕ) (gained : List (List ℕ))
+pub unframing_too_large : JoinedLimitedRuns → (limits : Limits) (at ahead : ℕ) (before after : CodecState) (input text piece lines : List ℕ)
     (u : Unframing limits at before input text) → ahead ≡ at - length input → (0 < ahead → length piece ≤ ahead)
-    → TakesUnder limits (place_after 0 u.payloads) before piece verdict.TooLarge gained after
-    → UnframedUnder limits (input ++ piece) 4 (text ++ (packet_lines gained ++ ending_line TooLarge 0)) × StopsAt limits at (input ++ piece)
-unframing_too_large joined limits at ahead before after input text piece gained u is apart run = (
+    → TakesLines limits (place_after 0 u.payloads) before piece verdict.TooLarge lines after
+    → UnframedUnder limits (input ++ piece) 4 (text ++ (lines ++ ending_line TooLarge 0)) × StopsAt limits at (input ++ piece)
+unframing_too_large joined limits at ahead before after input text piece lines u is apart (gained, said_is, run) = (
   record {
     payloads = u.payloads ++ gained;
     ending = TooLarge;
     unfinished = run.0;
     rest = run.1;
     delivered = joined_delivery joined limits at before input text piece u gained TooLarge run.0 run.1 run.2;
-    is = text_joins u.payloads gained text (ending_line TooLarge 0) u.is;
+    is = text_joins u.payloads gained text lines (ending_line TooLarge 0) u.is said_is;
     ends = refl;
   },
   stops_more limits at ahead before input text piece u is apart,
 )
 
 -- a chunk of another id
-pub unframing_out_of_sync : JoinedLimitedRuns → (limits : Limits) (at ahead : ℕ) (before after : CodecState) (input text piece : List ℕ) (gained : List (List ℕ))
+pub unframing_out_of_sync : JoinedLimitedRuns → (limits : Limits) (at ahead : ℕ) (before after : CodecState) (input text piece lines : List ℕ)
     (u : Unframing limits at before input text) → ahead ≡ at - length input → (0 < ahead → length piece ≤ ahead)
-    → TakesUnder limits (place_after 0 u.payloads) before piece verdict.OutOfSync gained after
-    → UnframedUnder limits (input ++ piece) 5 (text ++ (packet_lines gained ++ ending_line OutOfSync 0)) × StopsAt limits at (input ++ piece)
-unframing_out_of_sync joined limits at ahead before after input text piece gained u is apart run = (
+    → TakesLines limits (place_after 0 u.payloads) before piece verdict.OutOfSync lines after
+    → UnframedUnder limits (input ++ piece) 5 (text ++ (lines ++ ending_line OutOfSync 0)) × StopsAt limits at (input ++ piece)
+unframing_out_of_sync joined limits at ahead before after input text piece lines u is apart (gained, said_is, run) = (
   record {
     payloads = u.payloads ++ gained;
     ending = OutOfSync;
     unfinished = run.0;
     rest = run.1;
     delivered = joined_delivery joined limits at before input text piece u gained OutOfSync run.0 run.1 run.2;
-    is = text_joins u.payloads gained text (ending_line OutOfSync 0) u.is;
+    is = text_joins u.payloads gained text lines (ending_line OutOfSync 0) u.is said_is;
     ends = refl;
   },
   stops_more limits at ahead before input text piece u is apart,

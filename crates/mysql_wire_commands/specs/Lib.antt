@@ -6,3 +6,4 @@ pub mod Texts
 pub mod Unframe
 pub mod Arguments
 pub mod PacketLines
+pub mod PieceLines

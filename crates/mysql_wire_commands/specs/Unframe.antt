@@ -132,12 +132,17 @@ TakesUnder limits place before piece verdict.OutOfSync gained after =
     (unfinished : List ℕ) × (rest : List ℕ) × DeliversUnder limits place before.held
     (input_of before ++ piece) (first_id before) gained OutOfSync unfinished rest
 
+-- and the lines of the packets that it brings
+abbrev pub TakesLines : Limits → ℕ → CodecState → List ℕ → Verdict → List ℕ → CodecState → Type 0
+TakesLines limits place before piece verdict text after = (gained : List (List ℕ))
+    × (text ≡ packet_lines gained) × TakesUnder limits place before piece verdict gained after
+
 -- what a piece under this limit makes of it, in every place of a stream
-abbrev pub TakesPiece : CodecState → ℕ → List ℕ → Verdict → List (List ℕ) → CodecState → Type 0
-TakesPiece before limit piece verdict gained after =
+abbrev pub TakesPiece : CodecState → ℕ → List ℕ → Verdict → List ℕ → CodecState → Type 0
+TakesPiece before limit piece verdict text after =
     (limits : Limits) (mark place : ℕ) → GoesOn limits mark place before
     → ((i : ℕ) → i < length piece → limits (place + length (input_of before) + i) ≡ Some limit)
-    → TakesUnder limits place before piece verdict gained after
+    → TakesLines limits place before piece verdict text after
 
 -- the lines for it
 abbrev pub verdict_line : Verdict → List ℕ
@@ -162,9 +167,9 @@ next_limit run = if nat_lt 0 run.ahead then run.limit else run.later
 -- a run takes one piece, and the lines of what it makes of it are written
 abbrev pub WritesPiece : {A : Type 0} → Run A → Run A → List ℕ → Verdict → Option (List ℕ)
     → Option (List ℕ) → Type 0
-WritesPiece old new piece verdict written now = (gained : List (List ℕ))
-    × TakesPiece (run_state old) (next_limit old) piece verdict gained (run_state new)
-    × Appends written now (packet_lines gained ++ verdict_line verdict)
+WritesPiece old new piece verdict written now = (text : List ℕ)
+    × TakesPiece (run_state old) (next_limit old) piece verdict text (run_state new)
+    × Appends written now (text ++ verdict_line verdict)
 
 -- `unframe` ended so from where this run starts
 abbrev pub RunEnds : {A : Type 0} → Run A → ℕ → Option (List ℕ) → Option (List ℕ)

@@ -9,6 +9,7 @@ mod lines;
 pub mod noted_read;
 mod output;
 mod packet_lines;
+mod piece_lines;
 pub mod reframe;
 pub mod status;
 mod std_readers;

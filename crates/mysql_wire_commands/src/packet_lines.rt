@@ -10,7 +10,7 @@ ghost use Rattle.wire_codec.specs.Runs.{payloads};
 
 use crate::status::Stop;
 use itoa::Buffer;
-use std::alloc::Allocator;
+use std::alloc::{AllocError, Allocator};
 use std::io;
 use std::io::Write;
 use wire_digits::push_digits;
@@ -18,8 +18,8 @@ use wire_digits::push_digits;
 // How many bytes become digits at once.
 const BYTES_AT_ONCE: usize = 4096;
 
-// How many bytes of text are written at once, at least.
-const TEXT_AT_ONCE: usize = 32768;
+/// How many bytes of text are written at once, at least.
+pub const TEXT_AT_ONCE: usize = 32768;
 
 // Writes the text, where it is long.
 fn write_long<A: Allocator, W: Write>(text: &mut Vec<u8, A>, output: &mut W) -> io::Result<()>
@@ -53,13 +53,39 @@ fn write_digits<A: Allocator, W: Write>(
 }
 
 // What stands between the count and the digits: where there are none, a dash does in their place.
-fn separator(payload: &[u8]) -> &'static [u8]
-    ensures { result.now ++ encode_lower payload.now ≡ codes " " ++ hex_or_dash payload.now }
+#[inline(always)]
+fn push_separator<A: Allocator>(text: &mut Vec<u8, A>, payload: &[u8]) -> Result<(), AllocError>
+    ensures { OnOk result (text.new.items ++ encode_lower payload.now
+        ≡ text.old.items ++ (codes " " ++ hex_or_dash payload.now)) }
 {
-    if payload.is_empty() { b" -" } else { b" " }
+    if payload.is_empty() {
+        text.extend_from_slice(b" -")
+    } else {
+        text.extend_from_slice(b" ")
+    }
 }
 
-// The line of a packet.
+// What stands in front of the digits.
+#[inline(always)]
+fn push_front<A: Allocator>(text: &mut Vec<u8, A>, payload: &[u8]) -> Result<(), AllocError>
+    ensures { OnOk result (text.new.items ++ encode_lower payload.now ++ codes "\n"
+        ≡ text.old.items ++ payload_line payload.now) }
+{
+    let mut buffer = Buffer::new();
+    text.extend_from_slice(buffer.format(payload.len()).as_bytes())?;
+    push_separator(text, payload)
+}
+
+/// Appends the line of a packet.
+pub fn push_line<A: Allocator>(text: &mut Vec<u8, A>, payload: &[u8]) -> Result<(), AllocError>
+    ensures { OnOk result (text.new.items ≡ text.old.items ++ payload_line payload.now) }
+{
+    push_front(text, payload)?;
+    push_digits(text, payload)?;
+    text.extend_from_slice(b"\n")
+}
+
+// The line of a packet, of which what is long is written.
 fn write_packet<A: Allocator, W: Write>(
     text: &mut Vec<u8, A>,
     payload: &[u8],
@@ -68,9 +94,7 @@ fn write_packet<A: Allocator, W: Write>(
     ensures { OnOk result (Goes text.old.items (payload_line payload.now) text.new.items
         (W.contents output.old) (W.contents output.new)) }
 {
-    let mut buffer = Buffer::new();
-    text.extend_from_slice(buffer.format(payload.len()).as_bytes())?;
-    text.extend_from_slice(separator(payload))?;
+    push_front(text, payload)?;
     write_digits(text, payload, output)?;
     text.extend_from_slice(b"\n")?;
     Ok(())

@@ -1,20 +1,20 @@
 //! `unframe STEP LIMIT [LATER AT]`: the packets of the input, as they come.
 
-ghost use Rattle.std.specs.Prelude.{◌≡◌, ◌<◌, ◌≤◌, ◌⊎◌, ◌-◌, [], length, OnOk, IfOk, string_bytes, vec_len};
+ghost use Rattle.std.specs.Prelude.{◌≡◌, ◌≢◌, ◌<◌, ◌≤◌, ◌⊎◌, ◌-◌, [], length, Err, OnOk, IfOk, string_bytes, vec_len};
 ghost use Rattle.mysql_wire_commands.specs.declared.unframe.Verdict.TheVariants.{Waits};
-ghost use Rattle.wire_codec.specs.Runs.{payloads};
 
 use crate::input::read_piece;
 use crate::lines::push_rest;
 use crate::noted_read::NotedRead;
 use crate::output::write_whole;
-use crate::packet_lines::write_packets;
+use crate::packet_lines::{TEXT_AT_ONCE, write_packets};
+use crate::piece_lines::PieceLines;
 use crate::status::{Stop, exit_status};
 use bytes::BytesMut;
 use std::alloc::{AllocError, Allocator};
 use std::io::Write;
 use wire_codec::codec::error::PacketCodecError;
-use wire_codec::codec::{PacketCodec, deliver_limited};
+use wire_codec::codec::{PacketCodec, deliver_each_limited, deliver_limited};
 use wire_codec::laws;
 use wire_const::MAX_PAYLOAD_LEN;
 
@@ -35,9 +35,8 @@ struct Run<A: Allocator + Copy> {
     codec: PacketCodec,
     src: BytesMut<A>,
     dst: Vec<u8, A>,
-    packets: Vec<Vec<u8, A>, A>,
-    // Lines that are not yet written.
-    text: Vec<u8, A>,
+    // What is not yet written.
+    lines: PieceLines<A>,
     // The limit of so many bytes more, and that of those behind them.
     limit: usize,
     ahead: usize,
@@ -45,8 +44,10 @@ struct Run<A: Allocator + Copy> {
 }
 
 impl<A: Allocator + Copy> Run<A> {
+    ghost use Rattle.mysql_wire_commands.specs.PieceLines.{Shows, said};
+    ghost use Rattle.wire_codec.specs.GoingOn.{TakesGoingOn};
     ghost use Rattle.mysql_wire_commands.specs.Unframe.{StartsRun, TakesPiece, bytes_left, next_limit, run_state};
-    ghost use Rattle.wire_codec.specs.LimitedRuns.{Aligned};
+    ghost use Rattle.wire_codec.specs.LimitedRuns.{Aligned, TakesLimited};
 
     fn new(alloc: A, limit: usize, later: usize, at: usize) -> Self
         ensures { StartsRun limit later at result }
@@ -55,8 +56,7 @@ impl<A: Allocator + Copy> Run<A> {
             codec: PacketCodec::default(),
             src: BytesMut::new(alloc),
             dst: Vec::new(alloc),
-            packets: Vec::new(alloc),
-            text: Vec::new(alloc),
+            lines: PieceLines::new(alloc),
             limit,
             ahead: at,
             later,
@@ -90,26 +90,45 @@ impl<A: Allocator + Copy> Run<A> {
         }
     }
 
+    // Delivers packets. Where one is under way that is too large for its line to be held, they are
+    // moved out of the buffers, and else each is visited where it lies.
+    fn deliver(&mut self, pieces: &[(usize, &[u8])]) -> (usize, Result<(), PacketCodecError>)
+        requires { Aligned (run_state self.old) }
+        ensures runs { TakesLimited (run_state self.old) pieces.now result.0 result.1
+            (run_state self.new) (Shows self.new.lines) }
+        ensures on { TakesGoingOn (run_state self.old) pieces.now result.0 result.1
+            (run_state self.new) (Shows self.new.lines) }
+        ensures all { OnOk result.1 (result.0 ≡ length pieces.now) }
+        ensures aligned { result.1 ≢ Err PacketCodecError.PacketsOutOfSync
+            → Aligned (run_state self.new) }
+        ensures limits { (self.new.limit ≡ self.old.limit) × (self.new.later ≡ self.old.later)
+            × (self.new.ahead ≡ self.old.ahead) }
+    {
+        self.lines.clear();
+        let (codec, src, dst) = (&mut self.codec, &mut self.src, &mut self.dst);
+        if dst.is_empty() && src.len() < TEXT_AT_ONCE / 2 {
+            deliver_each_limited(codec, src, dst, pieces, &mut self.lines)
+        } else {
+            deliver_limited(codec, src, dst, pieces, &mut self.lines.packets)
+        }
+    }
+
     // Takes the packets of one more piece, which comes under one limit.
     fn take(&mut self, piece: &[u8]) -> Result<Verdict, Stop>
         requires { Aligned (run_state self.old) }
         ensures takes { IfOk result
             (λ verdict. TakesPiece (run_state self.old) (next_limit self.old) piece.now verdict
-            (payloads self.new.packets.items) (run_state self.new)) }
+            (said self.new.lines) (run_state self.new)) }
         ensures aligned { IfOk result (λ verdict. verdict ≡ Waits → Aligned (run_state self.new)) }
         ensures limits { (self.new.limit ≡ self.old.limit) × (self.new.later ≡ self.old.later)
             × (self.new.ahead ≡ self.old.ahead - length piece.now) }
     {
         let pieces = [(self.next_limit(), piece)];
         self.ahead = self.ahead.saturating_sub(piece.len());
-        self.packets.clear();
-        let (_, result) = deliver_limited(
-            &mut self.codec,
-            &mut self.src,
-            &mut self.dst,
-            &pieces,
-            &mut self.packets,
-        );
+        let (_, result) = self.deliver(&pieces);
+        if self.lines.is_refused {
+            return Err(Stop::Memory);
+        }
         match result {
             Ok(()) => Ok(Verdict::Waits),
             Err(PacketCodecError::PacketTooLarge) => Ok(Verdict::TooLarge),
@@ -164,11 +183,12 @@ fn take_piece<A: Allocator + Copy, W: Write>(
         × (run.new.ahead ≡ run.old.ahead - length piece.now) }
 {
     let verdict = run.take(piece)?;
-    run.text.clear();
-    write_packets(&mut run.text, run.packets.as_slice(), output)?;
-    run.text
+    let lines = &mut run.lines;
+    write_packets(&mut lines.text, lines.packets.as_slice(), output)?;
+    lines
+        .text
         .extend_from_slice(verdict_text(verdict).as_bytes())?;
-    write_whole(output, run.text.as_slice())?;
+    write_whole(output, lines.text.as_slice())?;
     Ok(verdict)
 }
 

@@ -64,7 +64,7 @@ const ROWS: &[Row] = &[
         most: 0,
         requests: 3,
     },
-    // The pieces, what is unread, each packet, the list of packets, and each text.
+    // The piece, what is unread, room for a packet that has come in part, and each text, as it grows.
     Row {
         words: &["unframe", "2", "3"],
         input: THREE,
@@ -100,7 +100,7 @@ const ROWS: &[Row] = &[
         status: 4,
         text: b"1 61\ntoo large\n",
         most: MOST,
-        requests: 6,
+        requests: 5,
     },
     Row {
         words: &["unframe", "1", "1", "5", "9"],
@@ -109,7 +109,7 @@ const ROWS: &[Row] = &[
         status: 4,
         text: b"1 61\ntoo large\n",
         most: MOST,
-        requests: 6,
+        requests: 5,
     },
     Row {
         words: &["unframe", "9", "1", "5", "8"],
@@ -118,7 +118,7 @@ const ROWS: &[Row] = &[
         status: 0,
         text: b"1 61\n2 6263\nrest 0\n",
         most: MOST,
-        requests: 6,
+        requests: 5,
     },
     // Each packet is written before the next read. Room for a read, and for the framing.
     Row {

@@ -8,7 +8,7 @@ use Rattle.std.specs.Io.KnownBytes.{Appends}
 use Rattle.mysql_wire_commands.specs.declared.status.Stop.{Stop}
 use Rattle.mysql_wire_commands.specs.declared.noted_read.OneRead.{OneRead}
 use Rattle.mysql_wire_commands.specs.Reads.{AsksUpTo}
-use Rattle.mysql_wire_commands.specs.Unframe.{ending_status, StopsOver, UnframeEndsOver, place_limits, run_state, next_limit, packet_lines, bytes_left, ending_line, UnframedUnder}
+use Rattle.mysql_wire_commands.specs.Unframe.{ending_status, StopsOver, UnframeEndsOver, place_limits, run_state, next_limit, bytes_left, ending_line, UnframedUnder}
 use Rattle.mysql_wire_commands.proofs.ReadLemmas.{Asking, asking_start, asking_more, asked_more, Waited, waited_start, waited_more, waited}
 use Rattle.mysql_wire_commands.proofs.UnframeLemmas.{unframing_start, limits_here, unframing_more, unframing_ended, unframing_too_large, unframing_out_of_sync, rest_cases}
 use Rattle.mysql_wire_commands.proofs.unframe.take_pieces.Given as given
@@ -47,7 +47,7 @@ reads-preserved g c =
     let takes = rw c.in-Waits.is at c.in_ok-take_piece.ensures.takes in
     let here : next_limit c.reads.run ≡ (if nat_lt 0 ahead then c.args.run.now.limit else c.args.run.now.later) =
     ap₂ (λ (a b : ℕ). if nat_lt 0 ahead then a else b) c.reads.invariant.limit c.reads.invariant.later in
-    let lines = rw (append-nil (packet_lines takes.0)) at takes.2 in
+    let lines = rw (append-nil takes.0) at takes.2 in
     let asks = c.next_read.ensures in
     let asking = asking_more c.args.step c.args.run.now.ahead (length old.0) ahead _ _ (g.R.NotedRead.reads c.read_piece.new.input) (record { asked = c.next_read.result; came = c.in_ok-count.count })
     old.6 old.3 asks.some asks.step asks.apart asks.no_less c.in_ok-count.ensures.noted in
@@ -60,7 +60,7 @@ reads-preserved g c =
       aligned = c.in_ok-take_piece.ensures.aligned c.in-Waits.is;
       so_far = (
         old.0 ++ piece,
-        old.1 ++ packet_lines takes.0,
+        old.1 ++ takes.0,
         λ limits known.
             let u = old.2 limits known in
             let took = takes.1 limits u.mark (place_after 0 u.payloads) u.goes_on
@@ -68,7 +68,7 @@ reads-preserved g c =
             unframing_more c.joined_limited_runs.ensures limits c.args.run.now.ahead ahead before (run_state c.take_piece.new.run) old.0 old.1 piece takes.0 u old.3 apart took,
         (let len = length-append old.0 piece in omega (arith, len, c.take_piece.ensures.limits.2, old.3)),
         Consumes-trans _ _ _ old.0 piece old.4 read,
-        Appends-trans _ _ _ old.1 (packet_lines takes.0) old.5 lines,
+        Appends-trans _ _ _ old.1 takes.0 old.5 lines,
         subst (λ (n : ℕ). Asking c.args.step c.args.run.now.ahead n (g.R.NotedRead.reads c.args.input.now) (g.R.NotedRead.reads c.read_piece.new.input)) came asking,
         λ limits known.
             let u = old.2 limits known in
