@@ -1,5 +1,5 @@
-//! The lines of packets, written as they are made: a text holds no more than some bytes of a packet
-//! at a time.
+//! The lines of packets. Those that are written as they are made hold no more than some bytes of a
+//! packet at a time.
 
 ghost use Rattle.std.specs.Prelude.{◌≡◌, ◌++◌, [], codes, OnOk};
 ghost use Rattle.hex.specs.Hex.{encode_lower};
@@ -76,10 +76,14 @@ fn push_front<A: Allocator>(text: &mut Vec<u8, A>, payload: &[u8]) -> Result<(),
     push_separator(text, payload)
 }
 
-/// Appends the line of a packet.
+// The most bytes of a line beside its digits: a count in up to 20, a space and a dash, the line's end.
+const BESIDE_DIGITS: usize = 23;
+
+/// Appends the line of a packet, for which room is asked for once.
 pub fn push_line<A: Allocator>(text: &mut Vec<u8, A>, payload: &[u8]) -> Result<(), AllocError>
     ensures { OnOk result (text.new.items ≡ text.old.items ++ payload_line payload.now) }
 {
+    text.reserve((2 * payload.len()).saturating_add(BESIDE_DIGITS))?;
     push_front(text, payload)?;
     push_digits(text, payload)?;
     text.extend_from_slice(b"\n")

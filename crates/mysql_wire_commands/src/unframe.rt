@@ -18,6 +18,12 @@ use wire_codec::codec::{PacketCodec, deliver_each_limited, deliver_limited};
 use wire_codec::laws;
 use wire_const::MAX_PAYLOAD_LEN;
 
+// Packets are visited where they lie where fewer bytes than these are unread, and fewer than those
+// come: together they hold no full chunk.
+const MOST_UNREAD: usize = TEXT_AT_ONCE / 2;
+
+const MOST_AT_ONCE: usize = MAX_PAYLOAD_LEN - MOST_UNREAD;
+
 /// Why no more packets come from the bytes read so far.
 #[derive(Clone, Copy)]
 pub enum Verdict {
@@ -90,9 +96,14 @@ impl<A: Allocator + Copy> Run<A> {
         }
     }
 
-    // Delivers packets. Where one is under way that is too large for its line to be held, they are
-    // moved out of the buffers, and else each is visited where it lies.
-    fn deliver(&mut self, pieces: &[(usize, &[u8])]) -> (usize, Result<(), PacketCodecError>)
+    // Delivers the packets of pieces with so many bytes. Where one is under way that is too large for
+    // its line to be held, or one of several chunks may come whole, they are moved out of the
+    // buffers, and else each is visited where it lies.
+    fn deliver(
+        &mut self,
+        len: usize,
+        pieces: &[(usize, &[u8])],
+    ) -> (usize, Result<(), PacketCodecError>)
         requires { Aligned (run_state self.old) }
         ensures runs { TakesLimited (run_state self.old) pieces.now result.0 result.1
             (run_state self.new) (Shows self.new.lines) }
@@ -105,8 +116,9 @@ impl<A: Allocator + Copy> Run<A> {
             × (self.new.ahead ≡ self.old.ahead) }
     {
         self.lines.clear();
+        let is_small = self.dst.is_empty() && self.src.len() < MOST_UNREAD && len < MOST_AT_ONCE;
         let (codec, src, dst) = (&mut self.codec, &mut self.src, &mut self.dst);
-        if dst.is_empty() && src.len() < TEXT_AT_ONCE / 2 {
+        if is_small {
             deliver_each_limited(codec, src, dst, pieces, &mut self.lines)
         } else {
             deliver_limited(codec, src, dst, pieces, &mut self.lines.packets)
@@ -125,7 +137,7 @@ impl<A: Allocator + Copy> Run<A> {
     {
         let pieces = [(self.next_limit(), piece)];
         self.ahead = self.ahead.saturating_sub(piece.len());
-        let (_, result) = self.deliver(&pieces);
+        let (_, result) = self.deliver(piece.len(), &pieces);
         if self.lines.is_refused {
             return Err(Stop::Memory);
         }

@@ -394,7 +394,7 @@ fn push_pair_front<A: Allocator>(text: &mut String<A>, name: &str) -> Result<(),
     }
 }
 
-// A field of plain letters, whose name is short.
+// A field of plain letters.
 #[inline(always)]
 fn push_plain<A: Allocator>(
     text: &mut String<A>,

@@ -64,7 +64,7 @@ const ROWS: &[Row] = &[
         most: 0,
         requests: 3,
     },
-    // The piece, what is unread, room for a packet that has come in part, and each text, as it grows.
+    // The piece, what is unread, as it grows, and the lines' texts.
     Row {
         words: &["unframe", "2", "3"],
         input: THREE,
