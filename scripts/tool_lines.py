@@ -112,6 +112,9 @@ MANY = [
     [16356] + [0] * 20,
 ]
 
+# The most bytes of a write: lines that are shorter than 32768 bytes, and the digits of 4096 more.
+MOST_AT_ONCE = 40960
+
 # The limit, the input, what is written, the steps, and places in the input and behind it: what each
 # read asks for shows in what the program gets.
 READS = [
@@ -189,13 +192,19 @@ def of_streams(folder):
         yield "unframe STEP %s of %s: status %d" % (limits, data.hex(), status), joined(found)
 
 
+def many(lengths):
+    """Packets of these lengths, and their lines."""
+    data, text = b"", b""
+    for index, length in enumerate(lengths):
+        data += length.to_bytes(3, "little") + bytes([index % 256]) + b"D" * length
+        text += b"%d %s\n" % (length, b"44" * length or b"-")
+    return data, text
+
+
 def of_many(folder):
     """The same of many packets, also where the last one has another id."""
     for lengths in MANY:
-        data, text = b"", b""
-        for index, length in enumerate(lengths):
-            data += length.to_bytes(3, "little") + bytes([index % 256]) + b"D" * length
-            text += b"%d %s\n" % (length, b"44" * length or b"-")
+        data, text = many(lengths)
         behind = b"\0\0\0" + bytes([(len(lengths) + 1) % 256])
         found = []
         for step in [100, 8192, 16384, 65536]:
@@ -220,6 +229,29 @@ def of_reads():
             lines += [("unframe %d %d %d %d" % (step, limit, limit, at), at) for at in places]
             found = [(line, asks_right(line, data, text, step, at)) for line, at in lines]
             yield "reads of %d bytes by unframe" % step, joined(found)
+
+
+def writes(line, data, folder):
+    """What a program writes, write by write: each is a message."""
+    file = folder / "input"
+    file.write_bytes(data)
+    ours, theirs = socket.socketpair(socket.AF_UNIX, socket.SOCK_SEQPACKET)
+    with ours, open(file, "rb") as given:
+        with theirs:
+            ran = subprocess.Popen([PROGRAM, *shlex.split(line)], stdin=given, stdout=theirs)
+        found = list(iter(lambda: ours.recv(1 << 20), b""))
+        ran.wait()
+    return found
+
+
+def of_writes(folder):
+    """The same of what one write of `unframe` has at most, where a read brings many packets."""
+    for lengths in MANY:
+        data, text = many(lengths)
+        found = writes("unframe 65536 70000", data, folder)
+        most = max(map(len, found))
+        fault = None if b"".join(found) == text + b"rest 0\n" and most <= MOST_AT_ONCE else most
+        yield "writes of unframe of %d packets" % len(lengths), fault
 
 
 def is_out(given, text):
@@ -254,7 +286,8 @@ def main():
         return
     with tempfile.TemporaryDirectory() as name:
         folder = pathlib.Path(name)
-        found = [*of_rows(folder), *of_streams(folder), *of_many(folder), *of_reads(), *of_waits()]
+        found = [*of_rows(folder), *of_streams(folder), *of_many(folder), *of_writes(folder)]
+        found += [*of_reads(), *of_waits()]
         found += of_other_lines(folder)
     for name, fault in found:
         print("FAILED %s: %s" % (name, fault) if fault else "ok " + name)
