@@ -72,7 +72,7 @@ const ROWS: &[Row] = &[
         status: 0,
         text: b"3 313233\nrest 0\n",
         most: MOST,
-        requests: 6,
+        requests: 5,
     },
     Row {
         words: &["unframe", "2", "0", "3", "3"],
@@ -81,7 +81,7 @@ const ROWS: &[Row] = &[
         status: 0,
         text: b"3 313233\nrest 0\n",
         most: MOST,
-        requests: 6,
+        requests: 5,
     },
     // The fault is known with the last of these bytes; one read more would fail.
     Row {
@@ -91,7 +91,7 @@ const ROWS: &[Row] = &[
         status: 5,
         text: b"1 61\nout of sync\n",
         most: MOST,
-        requests: 6,
+        requests: 5,
     },
     Row {
         words: &["unframe", "1", "1"],
@@ -100,7 +100,7 @@ const ROWS: &[Row] = &[
         status: 4,
         text: b"1 61\ntoo large\n",
         most: MOST,
-        requests: 5,
+        requests: 4,
     },
     Row {
         words: &["unframe", "1", "1", "5", "9"],
@@ -109,7 +109,7 @@ const ROWS: &[Row] = &[
         status: 4,
         text: b"1 61\ntoo large\n",
         most: MOST,
-        requests: 5,
+        requests: 4,
     },
     Row {
         words: &["unframe", "9", "1", "5", "8"],
@@ -118,7 +118,7 @@ const ROWS: &[Row] = &[
         status: 0,
         text: b"1 61\n2 6263\nrest 0\n",
         most: MOST,
-        requests: 5,
+        requests: 6,
     },
     // Each packet is written before the next read. Room for a read, and for the framing.
     Row {
