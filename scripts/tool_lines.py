@@ -112,8 +112,9 @@ MANY = [
     [16356] + [0] * 20,
 ]
 
-# The most bytes of a write: lines that are shorter than 32768 bytes, and the digits of 4096 more.
-MOST_AT_ONCE = 40960
+# The most bytes of a write of these: lines that are shorter than 32768 bytes, and 8192 digits with
+# what stands in front of them and behind.
+MOST_AT_ONCE = 41000
 
 # The limit, the input, what is written, the steps, and places in the input and behind it: what each
 # read asks for shows in what the program gets.
