@@ -1,6 +1,9 @@
-/* Where the library's memory comes from: the names that its requests go to. */
+/* Where the library's memory comes from: the names that its requests go to; and its version. */
 #include "mysql_wire.h"
 #include <stdlib.h>
+
+/* The version, for who looks into the file: `what` prints it. */
+static const char version[] __attribute__((used)) = "@(#)mysql_wire " MYSQL_WIRE_VERSION;
 
 void *mysql_wire_allocate(size_t size);
 void *mysql_wire_reallocate(void *block, size_t size);

@@ -9,8 +9,8 @@
 set -u
 PATH=$PATH:/usr/sbin
 top=$(cd "$(dirname "$0")/../.." && pwd)
+source "$top/scripts/checks.sh" || exit 1
 work=$(mktemp -d)
-source "$top/scripts/checks.sh"
 started=()
 
 # Stops what was started, and ends.

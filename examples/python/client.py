@@ -19,12 +19,22 @@ FAILED, QUERY, END = b"\xff", b"\x03", b"\xfe"
 
 
 class Refused(Exception):
-    """The server answered an error."""
+    """The server answered an error: its number, its SQL state or "", and its text."""
+
+    def __init__(self, number, state, text):
+        super().__init__(f"ERROR {number}{state and f' ({state})'}: {text}")
+        self.number, self.state, self.text = number, state, text
+
+
+def refusal_of(packet):
+    fields = Fields(packet[1:])
+    number, text = fields.fixed_int(2), fields.rest().decode(errors="replace")
+    return Refused(number, text[1:6], text[6:]) if text[:1] == "#" else Refused(number, "", text)
 
 
 def unless_refused(packet):
     if packet[:1] == FAILED:
-        raise Refused(packet[3:].decode(errors="replace"))
+        raise refusal_of(packet)
     return packet
 
 

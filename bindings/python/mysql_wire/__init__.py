@@ -4,10 +4,14 @@ The work is done by a proved library; this module calls it. It does no input and
 `Connection` what one read of a socket gave, take the packets that are whole, and send what `encode`
 answers.
 
-    with Connection() as connection:
-        for packet in connection.receive(data):
-            ...
-        sock.sendall(connection.encode(b"\\x03SELECT 1"))
+>>> came = bytes.fromhex("05000000ff15046e6f 0100")  # what one read gave
+>>> with Connection() as connection:
+...     for packet in connection.receive(came):
+...         fields = Fields(packet)
+...         print(fields.fixed_int(1), fields.fixed_int(2), fields.rest())
+...     print(connection.encode(b"\\x01"))
+255 1045 b'no'
+b'\\x01\\x00\\x00\\x01\\x01'
 
 https://dev.mysql.com/doc/dev/mysql-server/latest/page_protocol_basic_packets.html
 """
@@ -17,17 +21,22 @@ from __future__ import annotations
 import ctypes
 import ctypes.util
 import os
+import warnings
 import weakref
+from array import array
 from ctypes import (
     POINTER, byref, c_char_p, c_int32, c_size_t, c_uint8, c_uint32, c_uint64, c_void_p,
 )
-from typing import Iterator, Optional, Union
+from itertools import chain
+from operator import index, length_hint
+from typing import Any, Callable, Iterable, Iterator, List, Optional, Tuple, Type, Union
 
 __all__ = [
     "Closed", "Connection", "Error", "Fields", "MissingBytes", "NotANumber", "OutOfMemory",
     "PacketTooLarge", "PacketWaits", "PacketsOutOfSync", "Spans", "int_bytes", "lenenc_bytes",
     "lenenc_int_bytes", "null_bytes", "version",
 ]
+__version__ = "0.2.0"
 
 Bytes = Union[bytes, bytearray, memoryview]
 
@@ -73,19 +82,28 @@ _REFUSALS = {
     -9: MissingBytes,
     -10: NotANumber,
 }
+_OUT_OF_SYNC = -2
+_CHUNK_HEADER = 4
+_JUDGED = 1024  # how many packets are judged by one call of the library
 
 
 class _View(ctypes.Structure):
     # Bytes that the library lends.
     _fields_ = [("at", c_void_p), ("len", c_size_t)]
 
+    at: Optional[int]
+    len: int
+
     def copied(self) -> bytes:
-        return ctypes.string_at(self.at, self.len)
+        return ctypes.string_at(self.at or 0, self.len)
 
 
 class _Span(ctypes.Structure):
     # Where a text stands in the bytes that were read.
     _fields_ = [("at", c_size_t), ("len", c_size_t)]
+
+    at: int
+    len: int
 
 
 class _Spans(ctypes.Structure):
@@ -96,39 +114,11 @@ class _Spans(ctypes.Structure):
         ("reserved", c_uint8 * 34),
     ]
 
-
-_HANDLE = POINTER(c_void_p)
-_PLACE = [c_char_p, c_size_t, POINTER(c_size_t)]
-
-# Each call, with what it answers and takes.
-_CALLS = {
-    "version": (c_uint32, []),
-    "open": (c_int32, [c_size_t, _HANDLE]),
-    "close": (None, [_HANDLE]),
-    "feed": (c_int32, [_HANDLE, c_char_p, c_size_t]),
-    "peek": (c_int32, [_HANDLE, POINTER(_View)]),
-    "take": (c_int32, [_HANDLE]),
-    "set_limit": (c_int32, [_HANDLE, c_size_t]),
-    "unread": (c_size_t, [_HANDLE]),
-    "encode": (c_int32, [_HANDLE, c_char_p, c_size_t]),
-    "pending": (None, [_HANDLE, POINTER(_View)]),
-    "sent": (c_size_t, [_HANDLE, c_size_t]),
-    "reset": (c_int32, [_HANDLE]),
-    "sequence_id": (c_int32, [_HANDLE]),
-    "set_sequence_id": (c_int32, [_HANDLE, c_uint8]),
-    "spans_init": (None, [POINTER(_Spans), c_size_t, c_uint8]),
-    "spans_next": (c_int32, [
-        POINTER(_Spans), c_void_p, c_size_t, POINTER(c_size_t), POINTER(_View), POINTER(c_uint8),
-    ]),
-    "spans_renumber": (c_int32, [POINTER(_Spans), c_void_p, c_size_t, POINTER(c_size_t)]),
-    "message": (None, [c_int32, POINTER(_View)]),
-    "read_int": (c_int32, [*_PLACE, c_size_t, POINTER(c_uint64)]),
-    "read_lenenc_int": (c_int32, [*_PLACE, POINTER(c_uint64)]),
-    "read_lenenc_bytes": (c_int32, [*_PLACE, POINTER(_Span)]),
-    "read_null_bytes": (c_int32, [*_PLACE, POINTER(_Span)]),
-    "write_int": (c_int32, [*_PLACE, c_size_t, c_uint64]),
-    "write_lenenc_int": (c_int32, [*_PLACE, c_uint64]),
-}
+    limit: int
+    size: int
+    header_len: int
+    id: int
+    next_id: int
 
 
 def _library_path() -> str:
@@ -142,41 +132,145 @@ def _library_path() -> str:
     return found
 
 
-class _Library:
-    def __init__(self, path: str) -> None:
-        shared = ctypes.CDLL(path)
-        for name, (answers, takes) in _CALLS.items():
-            call = getattr(shared, "mysql_wire_" + name)
-            call.restype, call.argtypes = answers, takes
-            setattr(self, name, call)
+def _checked_version(shared: ctypes.CDLL, path: str) -> str:
+    # The library's version. Its calls are these where the first two numbers are this module's.
+    call = shared.mysql_wire_version
+    call.restype, call.argtypes = c_uint32, []
+    number = call()
+    found = f"{number // 10000}.{number // 100 % 100}.{number % 100}"
+    if found.rpartition(".")[0] != __version__.rpartition(".")[0]:
+        raise ImportError(f"{path} is of version {found}, and this module for {__version__}")
+    return found
 
 
-_library = _Library(_library_path())
+_path = _library_path()
+_shared = ctypes.CDLL(_path)
+_version = _checked_version(_shared, _path)
+
+
+def _call(name: str, answers: Any, *takes: Any) -> Callable[..., int]:
+    call = getattr(_shared, "mysql_wire_" + name)
+    call.restype, call.argtypes = answers, takes
+    return call  # type: ignore[no-any-return]
+
+
+_HANDLE = POINTER(c_void_p)
+_COUNT = POINTER(c_size_t)
+_PLACE = (c_char_p, c_size_t, _COUNT)
+
+_open = _call("open", c_int32, c_size_t, _HANDLE)
+_close = _call("close", None, _HANDLE)
+_feed = _call("feed", c_int32, _HANDLE, c_void_p, c_size_t)
+_peek = _call("peek", c_int32, _HANDLE, POINTER(_View))
+_take = _call("take", c_int32, _HANDLE)
+_decode = _call("decode", c_int32, _HANDLE, c_void_p, c_size_t, _COUNT, POINTER(_View))
+_decode_many = _call(
+    "decode_many", c_int32, _HANDLE, c_void_p, c_size_t, c_void_p, c_size_t, _COUNT, _COUNT
+)
+_set_limit = _call("set_limit", c_int32, _HANDLE, c_size_t)
+_unread = _call("unread", c_size_t, _HANDLE)
+_encode = _call("encode", c_int32, _HANDLE, c_char_p, c_size_t)
+_pending = _call("pending", None, _HANDLE, POINTER(_View))
+_sent = _call("sent", c_size_t, _HANDLE, c_size_t)
+_reset = _call("reset", c_int32, _HANDLE)
+_sequence_id = _call("sequence_id", c_int32, _HANDLE)
+_set_sequence_id = _call("set_sequence_id", c_int32, _HANDLE, c_uint8)
+_spans_init = _call("spans_init", None, POINTER(_Spans), c_size_t, c_uint8)
+_spans_next = _call(
+    "spans_next", c_int32, POINTER(_Spans), c_void_p, c_size_t, _COUNT, POINTER(_View),
+    POINTER(c_uint8),
+)
+_spans_renumber = _call(
+    "spans_renumber", c_int32, POINTER(_Spans), c_void_p, c_size_t, _COUNT
+)
+_message = _call("message", None, c_int32, POINTER(_View))
+_read_int = _call("read_int", c_int32, *_PLACE, c_size_t, POINTER(c_uint64))
+_read_lenenc_int = _call("read_lenenc_int", c_int32, *_PLACE, POINTER(c_uint64))
+_read_lenenc_bytes = _call("read_lenenc_bytes", c_int32, *_PLACE, POINTER(_Span))
+_read_null_bytes = _call("read_null_bytes", c_int32, *_PLACE, POINTER(_Span))
+_write_int = _call("write_int", c_int32, *_PLACE, c_size_t, c_uint64)
+_write_lenenc_int = _call("write_lenenc_int", c_int32, *_PLACE, c_uint64)
 
 
 def _checked(code: int) -> int:
     if code >= 0:
         return code
     text = _View()
-    _library.message(code, byref(text))
-    raise _REFUSALS.get(code, Error)(text.copied().decode())
+    _message(code, byref(text))
+    refusal: Type[Error] = _REFUSALS.get(code, Error)
+    raise refusal(text.copied().decode())
+
+
+def _bytes_of(data: Bytes) -> bytes:
+    # The bytes of what has them; a TypeError where it has none, as of a number.
+    return data if type(data) is bytes else memoryview(data).tobytes()
+
+
+def _within(number: int, bits: int) -> int:
+    # A number that so many bits hold.
+    number = index(number)
+    if not 0 <= number < 1 << bits:
+        raise OverflowError(f"{number} is not between 0 and 2**{bits} - 1")
+    return number
+
+
+def _packet_id(number: int) -> int:
+    # A number that a packet can bear.
+    number = index(number)
+    if not 0 <= number <= 255:
+        raise ValueError(f"{number} is no packet's number, which is 0 to 255")
+    return number
+
+
+def _count_of(number: int) -> int:
+    number = index(number)
+    if number < 0:
+        raise ValueError(f"{number} is less than no bytes")
+    return number
+
+
+def _width(number: int) -> int:
+    number = index(number)
+    if not 1 <= number <= 8:
+        raise NotANumber(f"no number has {number} bytes, but 1 to 8")
+    return number
+
+
+def _address(data: bytes) -> int:
+    return ctypes.cast(c_char_p(data), c_void_p).value or 0
 
 
 def version() -> str:
     """The version of the library."""
-    number = _library.version()
-    return f"{number // 10000}.{number // 100 % 100}.{number % 100}"
+    return _version
 
 
 class Connection:
     """One side of a connection, of packets of at most `limit` payload bytes. It is used by one
     thread at a time, and closed in the end: by `close`, by `with`, or when nothing holds it.
+
+    >>> with Connection(limit=3) as server:
+    ...     server.feed(b"\\x03\\0\\0\\0abc\\x01\\0")
+    ...     print(server.next_packet(), server.next_packet(), server.unread, server.sequence_id)
+    b'abc' None 2 1
     """
 
+    # What `receive` takes stays here until it is asked for: `_data`, of which `_at` bytes are behind
+    # what the library has seen. The packets of `_judged` are accepted, and the library stands behind
+    # all of them; `_ahead` hands them out. Where another call comes before all are handed out, the
+    # library is set back to the next of them, and gets what is left of `_data`.
+
     def __init__(self, limit: int = 4194304) -> None:
+        limit = _within(limit, 64)
         self._handle = c_void_p()
-        _checked(_library.open(limit, byref(self._handle)))
-        self._closed = weakref.finalize(self, _library.close, byref(self._handle))
+        self._data = b""
+        self._at = 0
+        self._judged: List[bytes] = []
+        self._ahead: Iterator[bytes] = iter(())
+        self._places = array("Q")
+        self._counts = (c_size_t(), c_size_t())
+        _checked(_open(limit, byref(self._handle)))
+        self._closed = weakref.finalize(self, _close, byref(self._handle))
 
     def __enter__(self) -> Connection:
         return self
@@ -187,61 +281,154 @@ class Connection:
     def close(self) -> None:
         """Frees what it holds. Each later call raises `Closed`."""
         self._closed()
+        self._judged.clear()
+        self._data, self._at = b"", 0
 
     def feed(self, data: Bytes) -> None:
         """Takes bytes that came."""
-        data = bytes(data)
-        _checked(_library.feed(byref(self._handle), data, len(data)))
+        data = _bytes_of(data)
+        self._settle()
+        _checked(_feed(byref(self._handle), data, len(data)))
 
     def next_packet(self) -> Optional[bytes]:
         """The payload of the next packet, or None where none is whole."""
-        packet = _View()
-        if not _checked(_library.peek(byref(self._handle), byref(packet))):
-            return None
-        payload = packet.copied()
-        _checked(_library.take(byref(self._handle)))
-        return payload
+        return next(self.packets(), None)
 
     def packets(self) -> Iterator[bytes]:
         """The payloads of all packets that are whole."""
-        while (payload := self.next_packet()) is not None:
-            yield payload
+        self._settle()
+        return iter(self._fed_packet, None)
 
     def receive(self, data: Bytes) -> Iterator[bytes]:
-        """Takes bytes that came, and answers the packets that are whole with them."""
-        self.feed(data)
-        return self.packets()
+        """Takes bytes that came, and answers the packets that are whole with them. What isn't asked
+        for now is there for a later call.
+        """
+        data = _bytes_of(data)
+        self._settle()
+        _checked(_sequence_id(byref(self._handle)))
+        self._data, self._at = data, 0
+        return chain.from_iterable(self._received())
+
+    def _received(self) -> Iterator[Iterable[bytes]]:
+        # The packets that came, by as many as are accepted at once.
+        while True:
+            if self._at < len(self._data):
+                if self._judge():
+                    yield self._ahead
+                    continue
+                packet = self._cut_packet()
+            else:
+                packet = self._fed_packet()
+            if packet is None:
+                return
+            yield (packet,)
+
+    def _judge(self) -> int:
+        # Has the library accept the packets that stand whole in front of `_data`. How many.
+        places, (count, used) = self._places, self._counts
+        if not places:
+            places.frombytes(bytes(16 * _JUDGED))
+        data, front = self._data, self._at
+        _decode_many(
+            byref(self._handle), _address(data) + front if front else data, len(data) - front,
+            places.buffer_info()[0], _JUDGED, byref(count), byref(used),
+        )
+        numbers = iter(places[: 2 * count.value].tolist())
+        if front:
+            packets = [data[front + at : front + at + size] for at, size in zip(numbers, numbers)]
+        else:
+            packets = [data[at : at + size] for at, size in zip(numbers, numbers)]
+        self._judged, self._ahead = packets, iter(packets)
+        self._at = front + used.value
+        return count.value
+
+    def _cut_packet(self) -> Optional[bytes]:
+        # The next packet, which doesn't lie whole in `_data`, or None where more is needed.
+        used, packet = self._counts[1], _View()
+        front = _address(self._data) + self._at
+        code = _decode(
+            byref(self._handle), front, len(self._data) - self._at, byref(used), byref(packet)
+        )
+        self._at += used.value
+        if not _checked(code):
+            return None
+        payload = packet.copied()
+        _take(byref(self._handle))
+        return payload
+
+    def _fed_packet(self) -> Optional[bytes]:
+        # The next packet of what the library has.
+        self._settle()
+        packet = _View()
+        if not _checked(_peek(byref(self._handle), byref(packet))):
+            return None
+        payload = packet.copied()
+        _checked(_take(byref(self._handle)))
+        return payload
+
+    def _settle(self) -> None:
+        # Sets the library behind the last packet that was handed out, and gives it all that came.
+        if self._at < len(self._data) or self._judged:
+            self._set_back()
+
+    def _set_back(self) -> None:
+        kept = length_hint(self._ahead)
+        front = self._at
+        if kept:
+            left = self._judged[-kept:]
+            front -= sum(map(len, left)) + _CHUNK_HEADER * kept
+        rest = self._data[front:]
+        if rest:
+            _checked(_feed(byref(self._handle), rest, len(rest)))
+        if kept:
+            number = _sequence_id(byref(self._handle)) - kept
+            _checked(_set_sequence_id(byref(self._handle), number % 256))
+            del self._judged[-kept:]
+        self._judged, self._ahead = [], iter(())
+        self._data, self._at = b"", 0
 
     def set_limit(self, limit: int) -> None:
         """Sets the most payload bytes of a packet, for what comes from now on and what is sent."""
-        _checked(_library.set_limit(byref(self._handle), limit))
+        limit = _within(limit, 64)
+        self._settle()
+        _checked(_set_limit(byref(self._handle), limit))
 
     @property
     def unread(self) -> int:
         """How many bytes came of which no packet was made: 0 between two packets."""
-        return _library.unread(byref(self._handle))
+        self._settle()
+        return _unread(byref(self._handle))
 
     @property
     def sequence_id(self) -> int:
         """The number of the next packet: 0 to 255."""
-        return _checked(_library.sequence_id(byref(self._handle)))
+        number = _checked(_sequence_id(byref(self._handle)))
+        return (number - length_hint(self._ahead)) % 256
 
     @sequence_id.setter
     def sequence_id(self, number: int) -> None:
-        _checked(_library.set_sequence_id(byref(self._handle), number))
+        number = _packet_id(number)
+        self._settle()
+        _checked(_set_sequence_id(byref(self._handle), number))
 
     def reset(self) -> None:
         """Numbers the next packet 0, as at the start of a command."""
-        _checked(_library.reset(byref(self._handle)))
+        self._settle()
+        _checked(_reset(byref(self._handle)))
 
     def encode(self, payload: Bytes) -> bytes:
-        """The bytes of a packet, to be sent. Its number follows that of the last packet."""
-        payload = bytes(payload)
-        _checked(_library.encode(byref(self._handle), payload, len(payload)))
+        """The bytes of a packet, to be sent. Its number follows that of the last packet.
+
+        >>> Connection().encode(b"\\x03DO 1")
+        b'\\x05\\x00\\x00\\x00\\x03DO 1'
+        """
+        payload = _bytes_of(payload)
+        self._settle()
+        _checked(_encode(byref(self._handle), payload, len(payload)))
         pending = _View()
-        _library.pending(byref(self._handle), byref(pending))
+        _pending(byref(self._handle), byref(pending))
         framed = pending.copied()
-        _library.sent(byref(self._handle), len(framed))
+        _sent(byref(self._handle), len(framed))
         return framed
 
 
@@ -251,27 +438,34 @@ class Spans:
     nothing is kept of them. `limit`, `id` (the number that the next chunk is to bear) and `next_id`
     (the one that `renumber` gives it) may be set at any time.
 
-        for part, ends in spans.parts(data):
-            ...
+    >>> spans = Spans(limit=1 << 30)
+    >>> for data in (b"\\x03\\0\\0\\0ab", b"c\\0\\0\\0\\x01"):
+    ...     for part, ends in spans.parts(data):
+    ...         print(part, ends)
+    b'ab' False
+    b'c' True
+    b'' True
     """
 
     def __init__(self, limit: int = 4194304, id: int = 0) -> None:
         self._spans = _Spans()
         self.taken = 0  # how many bytes of the last data `parts` took
-        _library.spans_init(byref(self._spans), limit, id)
+        _spans_init(byref(self._spans), _within(limit, 64), _packet_id(id))
 
-    def parts(self, data: Bytes) -> Iterator[tuple[bytes, bool]]:
+    def parts(self, data: Bytes) -> Iterator[Tuple[bytes, bool]]:
         """The parts of packets in the next bytes of the stream, each with whether it ends its
         packet. Where a packet is refused, those before it come first; `taken` bytes were taken,
         and the others may be given again, under a larger limit or with another `id`.
         """
-        data = bytes(data)
+        return self._parts(_bytes_of(data))
+
+    def _parts(self, data: bytes) -> Iterator[Tuple[bytes, bool]]:
         self.taken = 0
         used, ends, view = c_size_t(), c_uint8(), _View()
-        start = ctypes.cast(c_char_p(data), c_void_p).value
+        start = _address(data)
         while True:
             front, left = c_void_p(start + self.taken), len(data) - self.taken
-            code = _checked(_library.spans_next(
+            code = _checked(_spans_next(
                 byref(self._spans), front, left, byref(used), byref(view), byref(ends)
             ))
             self.taken += used.value
@@ -279,15 +473,16 @@ class Spans:
                 return
             yield data[self.taken - view.len : self.taken], ends.value == 1
 
-    def renumber(self, data: bytearray) -> int:
+    def renumber(self, data: Union[bytearray, memoryview]) -> int:
         """Writes `next_id` and the numbers after it over those of the packets, and nothing else.
         Answers how many bytes may go: all, or those before a packet that is refused. Of what is
         left, the next call says why.
         """
         used = c_size_t()
-        room = (c_uint8 * len(data)).from_buffer(data)
-        code = _library.spans_renumber(byref(self._spans), room, len(data), byref(used))
-        if used.value == 0 and len(data) > 0:
+        count = memoryview(data).nbytes
+        room = (c_uint8 * count).from_buffer(data)
+        code = _spans_renumber(byref(self._spans), room, count, byref(used))
+        if used.value == 0 and count > 0:
             _checked(code)
         return used.value
 
@@ -302,7 +497,7 @@ class Spans:
 
     @limit.setter
     def limit(self, limit: int) -> None:
-        self._spans.limit = limit
+        self._spans.limit = _within(limit, 64)
 
     @property
     def id(self) -> int:
@@ -310,7 +505,7 @@ class Spans:
 
     @id.setter
     def id(self, id: int) -> None:
-        self._spans.id = id
+        self._spans.id = _packet_id(id)
 
     @property
     def next_id(self) -> int:
@@ -318,40 +513,42 @@ class Spans:
 
     @next_id.setter
     def next_id(self, id: int) -> None:
-        self._spans.next_id = id
+        self._spans.next_id = _packet_id(id)
 
 
 class Fields:
-    """The fields of a payload, one after another. A refusal reads nothing."""
+    """The fields of a payload, one after another. A refusal reads nothing.
+
+    >>> fields = Fields(b"\\x2a\\0\\x03one\\xfbtwo\\0rest")
+    >>> fields.fixed_int(2), fields.lenenc_bytes_or_none(), fields.lenenc_bytes_or_none()
+    (42, b'one', None)
+    >>> fields.null_bytes(), fields.take(1), fields.rest(), len(fields)
+    (b'two', b'r', b'est', 0)
+    """
 
     def __init__(self, payload: Bytes) -> None:
-        self._bytes = bytes(payload)
+        self._bytes = _bytes_of(payload)
         self._at = c_size_t(0)
-
-    def _place(self) -> tuple:
-        return self._bytes, len(self._bytes), byref(self._at)
 
     def __len__(self) -> int:
         """How many bytes are left."""
         return len(self._bytes) - self._at.value
 
-    def int(self, width: int) -> int:
+    def fixed_int(self, width: int) -> int:
         """A number of so many bytes, 1 to 8, the least significant first."""
-        value = c_uint64()
-        _checked(_library.read_int(*self._place(), width, byref(value)))
+        width, value = _width(width), c_uint64()
+        _checked(_read_int(self._bytes, len(self._bytes), byref(self._at), width, byref(value)))
         return value.value
 
     def lenenc_int(self) -> int:
         """A length-encoded integer."""
         value = c_uint64()
-        _checked(_library.read_lenenc_int(*self._place(), byref(value)))
+        _checked(_read_lenenc_int(self._bytes, len(self._bytes), byref(self._at), byref(value)))
         return value.value
 
     def lenenc_bytes(self) -> bytes:
         """A text behind its length."""
-        text = _Span()
-        _checked(_library.read_lenenc_bytes(*self._place(), byref(text)))
-        return self._bytes[text.at : text.at + text.len]
+        return self._text(_read_lenenc_bytes)
 
     def lenenc_bytes_or_none(self) -> Optional[bytes]:
         """A value of a text row: a text behind its length, or None where `fb` stands for NULL."""
@@ -362,13 +559,11 @@ class Fields:
 
     def null_bytes(self) -> bytes:
         """The text before the next zero, which is read with it."""
-        text = _Span()
-        _checked(_library.read_null_bytes(*self._place(), byref(text)))
-        return self._bytes[text.at : text.at + text.len]
+        return self._text(_read_null_bytes)
 
-    def bytes(self, count: int) -> bytes:
+    def take(self, count: int) -> bytes:
         """So many bytes."""
-        if count > len(self):
+        if _count_of(count) > len(self):
             raise MissingBytes("the bytes end inside a field")
         return self._taken(count)
 
@@ -376,35 +571,73 @@ class Fields:
         """All that is left."""
         return self._taken(len(self))
 
+    def _text(self, read: Callable[..., int]) -> bytes:
+        text = _Span()
+        _checked(read(self._bytes, len(self._bytes), byref(self._at), byref(text)))
+        return self._bytes[text.at : text.at + text.len]
+
     def _taken(self, count: int) -> bytes:
         front = self._bytes[self._at.value : self._at.value + count]
         self._at.value += len(front)
         return front
 
 
-def _written(call, *field: int) -> bytes:
+def _old_name(old: str, new: str) -> None:
+    # The name that a method of `Fields` had in 0.1, till 0.3.
+    def call(self: Fields, count: int) -> Any:
+        warnings.warn(f"Fields.{old} is Fields.{new} now", DeprecationWarning, stacklevel=2)
+        return getattr(self, new)(count)
+
+    call.__name__, call.__doc__ = old, f"The old name of `{new}`."
+    setattr(Fields, old, call)
+
+
+_old_name("int", "fixed_int")
+_old_name("bytes", "take")
+
+
+def _written(call: Callable[..., int], *field: int) -> bytes:
     room, at = ctypes.create_string_buffer(9), c_size_t(0)
     _checked(call(ctypes.cast(room, c_char_p), len(room), byref(at), *field))
     return room.raw[: at.value]
 
 
 def int_bytes(value: int, width: int) -> bytes:
-    """The low bytes of a number, so many, 1 to 8, the least significant first."""
-    return _written(_library.write_int, width, value)
+    """A number in so many bytes, 1 to 8, the least significant first.
+
+    >>> int_bytes(1045, 2)
+    b'\\x15\\x04'
+    """
+    width = _width(width)
+    return _written(_write_int, width, _within(value, 8 * width))
 
 
 def lenenc_int_bytes(value: int) -> bytes:
-    """A length-encoded integer, in as few bytes as hold the number."""
-    return _written(_library.write_lenenc_int, value)
+    """A length-encoded integer, in as few bytes as hold the number.
+
+    >>> lenenc_int_bytes(250), lenenc_int_bytes(251)
+    (b'\\xfa', b'\\xfc\\xfb\\x00')
+    """
+    return _written(_write_lenenc_int, _within(value, 64))
 
 
 def lenenc_bytes(text: Bytes) -> bytes:
-    """A text behind its length."""
-    return lenenc_int_bytes(len(text)) + bytes(text)
+    """A text behind its length.
+
+    >>> lenenc_bytes(b"one")
+    b'\\x03one'
+    """
+    text = _bytes_of(text)
+    return lenenc_int_bytes(len(text)) + text
 
 
 def null_bytes(text: Bytes) -> bytes:
-    """A text, which must have no zero, and a zero."""
-    if 0 in bytes(text):
+    """A text, which must have no zero, and a zero.
+
+    >>> null_bytes(b"root")
+    b'root\\x00'
+    """
+    text = _bytes_of(text)
+    if 0 in text:
         raise ValueError("the text has a zero")
-    return bytes(text) + b"\0"
+    return text + b"\0"

@@ -9,11 +9,16 @@ import unittest
 
 from mysql_wire import Connection, lenenc_bytes, null_bytes
 
-sys.path.append(str(pathlib.Path(__file__).resolve().parents[3] / "examples" / "python"))
+examples = [each / "examples" / "python" for each in pathlib.Path(__file__).resolve().parents]
+examples = [str(each) for each in examples if (each / "client.py").exists()]
+if not examples:
+    raise unittest.SkipTest("examples/python isn't above these tests")
+sys.path.append(examples[0])
 import client  # noqa: E402
 
 OK, EOF = b"\0\0\0\2\0\0\0", b"\xfe\0\0\2\0"
 GREETING = b"\x0a" + null_bytes(b"8.0.1") + b"\1\0\0\0" + b"12345678\0" + b"\0\xa2\xff"
+REFUSALS = {"SELEC": "ERROR 1064 (42000): no such statement", "?": "ERROR 1064: no such statement"}
 ROWS = [[b"one", None], [b"", b"\xff" * 300], [None, None]]
 
 
@@ -22,7 +27,10 @@ def answers_to(command):
     if command == b"\x03SELECT":
         values = [[b"\xfb" if each is None else lenenc_bytes(each) for each in row] for row in ROWS]
         return [b"\2", b"a", b"b", EOF, *map(b"".join, values), EOF]
-    return [OK] if command == b"\x03DO 1" else [b"\xff\x28\x04no such statement"]
+    if command == b"\x03DO 1":
+        return [OK]
+    state = b"#42000" if command == b"\x03SELEC" else b""
+    return [b"\xff\x28\x04" + state + b"no such statement"]
 
 
 async def serve(reader, writer):
@@ -56,8 +64,10 @@ class Clients(unittest.TestCase):
                 for statement in ("SELECT", "DO 1", "SELECT"):
                     asked = client.query(wire, statement)
                     got.append(await client.converse(asked, wire, reader, writer))
-                with self.assertRaises(client.Refused):
-                    await client.converse(client.query(wire, "?"), wire, reader, writer)
+                for statement, wanted in REFUSALS.items():
+                    with self.assertRaises(client.Refused) as refused:
+                        await client.converse(client.query(wire, statement), wire, reader, writer)
+                    self.assertEqual(str(refused.exception), wanted)
             writer.close()
             server.close()
             return got

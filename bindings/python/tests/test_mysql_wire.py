@@ -1,6 +1,8 @@
 """Tests of the package: `python3 -m unittest discover tests`."""
 
+import doctest
 import unittest
+from array import array
 
 import mysql_wire
 from mysql_wire import Connection, Fields, Spans
@@ -83,6 +85,77 @@ class Packets(unittest.TestCase):
             self.assertRaises(mysql_wire.Closed, call)
 
 
+    def test_what_is_not_asked_for_comes_later(self):
+        stream = b"".join(framed(number, each) for number, each in enumerate(self.payloads))
+        others = {
+            "next_packet": lambda connection: self.assertEqual(connection.next_packet(), b"a"),
+            "packets": lambda connection: self.assertEqual(
+                list(connection.packets()), self.payloads[1:]
+            ),
+            "receive": lambda connection: self.assertEqual(
+                list(connection.receive(framed(4, b"z"))), [*self.payloads[1:], b"z"]
+            ),
+            "feed": lambda connection: connection.feed(framed(4, b"z")),
+            "unread": lambda connection: self.assertEqual(connection.unread, len(stream) - 4),
+            "sequence_id": lambda connection: self.assertEqual(connection.sequence_id, 1),
+        }
+        for name, call in others.items():
+            with self.subTest(name), Connection() as connection:
+                packets = connection.receive(stream)
+                self.assertEqual(next(packets), b"")
+                call(connection)
+                # (the same iterator goes on with what is left)
+                left = [*packets, *connection.packets()]
+                rest = {"packets": [], "receive": [], "next_packet": self.payloads[2:]}
+                rest["feed"] = [*self.payloads[1:], b"z"]
+                self.assertEqual(left, rest.get(name, self.payloads[1:]))
+                self.assertEqual(connection.unread, 0)
+
+    def test_numbers_are_those_of_what_was_handed_out(self):
+        stream = framed(0, b"a") + framed(0, b"b") + framed(1, b"c") + framed(2, b"d")
+        with Connection() as connection:
+            got = []
+            for packet in connection.receive(stream):
+                got.append((packet, connection.sequence_id))
+                if packet == b"a":
+                    connection.reset()
+            self.assertEqual(got, [(b"a", 1), (b"b", 1), (b"c", 2), (b"d", 3)])
+        with Connection() as connection:
+            packets = connection.receive(framed(0, b"a") + framed(1, b"b") + framed(2, b"c"))
+            self.assertEqual(next(packets), b"a")
+            self.assertEqual(connection.encode(b"x"), framed(1, b"x"))
+            with self.assertRaises(mysql_wire.PacketsOutOfSync):
+                next(packets)
+
+    def test_more_packets_than_are_judged_at_once(self):
+        payloads = [bytes([number % 256]) * (number % 7) for number in range(5000)]
+        stream = b"".join(framed(number, each) for number, each in enumerate(payloads))
+        for step in (len(stream), 4096, 4099):
+            with Connection() as connection:
+                packets = []
+                for at in range(0, len(stream), step):
+                    packets += connection.receive(memoryview(stream)[at : at + step])
+                self.assertEqual(packets, payloads)
+                self.assertEqual((connection.unread, connection.sequence_id), (0, 5000 % 256))
+
+    def test_a_refusal_comes_behind_the_packets_before_it(self):
+        stream = framed(0, b"a") + framed(1, b"bcd") + framed(2, b"e")
+        with Connection(2) as connection:
+            packets = connection.receive(stream)
+            self.assertEqual(next(packets), b"a")
+            with self.assertRaises(mysql_wire.PacketTooLarge):
+                next(packets)
+            connection.set_limit(3)
+            self.assertEqual(list(connection.packets()), [b"bcd", b"e"])
+        with Connection() as connection:
+            packets = connection.receive(framed(0, b"a") + framed(2, b"b"))
+            self.assertEqual(next(packets), b"a")
+            with self.assertRaises(mysql_wire.PacketsOutOfSync):
+                next(packets)
+            with self.assertRaises(mysql_wire.PacketsOutOfSync):
+                connection.receive(framed(1, b"b"))
+
+
 class PacketsInSpans(unittest.TestCase):
     payloads = [b"", b"a", b"x" * 300, b"bc"]
 
@@ -151,8 +224,8 @@ class OfPayloads(unittest.TestCase):
         )
         fields = Fields(payload)
         read = [
-            fields.int(3), fields.lenenc_int(), fields.lenenc_bytes_or_none(),
-            fields.lenenc_bytes_or_none(), fields.null_bytes(), fields.bytes(2), fields.rest(),
+            fields.fixed_int(3), fields.lenenc_int(), fields.lenenc_bytes_or_none(),
+            fields.lenenc_bytes_or_none(), fields.null_bytes(), fields.take(2), fields.rest(),
         ]
         self.assertEqual(read, [0x0A0B0C, 251, b"text", None, b"name", b"12", b"rest"])
         self.assertEqual(len(fields), 0)
@@ -167,9 +240,9 @@ class OfPayloads(unittest.TestCase):
             (b"\x05abc", Fields.lenenc_bytes, mysql_wire.MissingBytes),
             (b"\xff", Fields.lenenc_bytes_or_none, mysql_wire.NotANumber),
             (b"abc", Fields.null_bytes, mysql_wire.MissingBytes),
-            (b"a", lambda fields: fields.int(2), mysql_wire.MissingBytes),
-            (b"a", lambda fields: fields.int(9), mysql_wire.NotANumber),
-            (b"a", lambda fields: fields.bytes(2), EOFError),
+            (b"a", lambda fields: fields.fixed_int(2), mysql_wire.MissingBytes),
+            (b"a", lambda fields: fields.fixed_int(9), mysql_wire.NotANumber),
+            (b"a", lambda fields: fields.take(2), EOFError),
         ]
         for payload, read, refusal in rows:
             fields = Fields(payload)
@@ -177,8 +250,145 @@ class OfPayloads(unittest.TestCase):
                 read(fields)
             self.assertEqual(fields.rest(), payload)
 
-    def test_the_version_is_a_text(self):
-        self.assertRegex(mysql_wire.version(), r"^0\.1\.\d+$")
+    def test_the_old_names_are_there(self):
+        fields = Fields(b"\x01\0ab")
+        for name, wanted in (("int", 1), ("bytes", b"ab")):
+            with self.assertWarns(DeprecationWarning):
+                self.assertEqual(getattr(fields, name)(2), wanted)
+
+
+# What is no number for a count of bytes, and what has no bytes.
+NO_NUMBERS = None, 1.0, "1", b"1"
+NO_BYTES = None, 5, -1, 2**64, "text", [1, 2], 1.0
+
+
+class OfArguments(unittest.TestCase):
+    """What Python itself would refuse is refused, and nothing changes; what has bytes is taken."""
+
+    def refused(self, call, arguments, refusal=TypeError):
+        for argument in arguments:
+            with self.subTest(argument=argument), self.assertRaises(refusal):
+                call(argument)
+
+    def test_numbers_of_bytes(self):
+        def new_spans(limit):
+            return Spans(limit=limit)
+
+        with Connection(2**64 - 1) as connection:
+            spans = Spans(2**64 - 1)
+
+            def set_spans(limit):
+                spans.limit = limit
+
+            for call in (Connection, connection.set_limit, new_spans, set_spans):
+                self.refused(call, (-1, 2**64, -(2**64)), OverflowError)
+                self.refused(call, NO_NUMBERS)
+                for limit in (0, 2**8, 2**32, 2**64 - 1, True):
+                    call(limit)
+            set_spans(7)
+            self.refused(set_spans, (-1, 2**64), OverflowError)
+            self.assertEqual(spans.limit, 7)
+
+    def test_numbers_of_packets(self):
+        spans = Spans()
+        with Connection() as connection:
+
+            def set_connection(number):
+                connection.sequence_id = number
+
+            def set_id(number):
+                spans.id = number
+
+            def set_next_id(number):
+                spans.next_id = number
+
+            for call in (set_connection, set_id, set_next_id, lambda number: Spans(id=number)):
+                call(255)
+                self.refused(call, (-1, 2**8, 300, 2**32, 2**64), ValueError)
+                self.refused(call, NO_NUMBERS)
+            self.assertEqual((connection.sequence_id, spans.id, spans.next_id), (255, 255, 255))
+
+    def test_numbers_of_fields(self):
+        fields = Fields(b"abc")
+        fields.take(1)
+        self.refused(fields.take, (-1, -(2**64)), ValueError)
+        self.refused(fields.take, (2**8, 2**32, 2**64), EOFError)
+        self.refused(fields.fixed_int, (-1, 0, 9, 2**8, 2**32 + 1, 2**64 + 1), ValueError)
+        for call in (fields.take, fields.fixed_int):
+            self.refused(call, NO_NUMBERS)
+        self.assertEqual(fields.rest(), b"bc")
+
+    def test_numbers_that_are_written(self):
+        self.refused(mysql_wire.lenenc_int_bytes, (-1, 2**64, 2**64 + 1), OverflowError)
+        self.refused(mysql_wire.lenenc_int_bytes, NO_NUMBERS)
+        self.assertEqual(mysql_wire.lenenc_int_bytes(2**8).hex(), "fc0001")
+        self.assertEqual(mysql_wire.lenenc_int_bytes(2**64 - 1).hex(), "fe" + "ff" * 8)
+        for width in range(1, 9):
+            most = 256**width - 1
+
+            def write(value, width=width):
+                return mysql_wire.int_bytes(value, width)
+
+            self.assertEqual(write(most), b"\xff" * width)
+            self.refused(write, (-1, most + 1, 2**64), OverflowError)
+            self.refused(write, NO_NUMBERS)
+        self.refused(lambda width: mysql_wire.int_bytes(1, width), (-1, 0, 9, 2**8, 2**64), ValueError)
+        self.refused(lambda width: mysql_wire.int_bytes(1, width), NO_NUMBERS)
+
+    def test_bytes(self):
+        with Connection() as connection:
+            calls = (
+                connection.feed, connection.receive, connection.encode, Spans().parts, Fields,
+                mysql_wire.lenenc_bytes, mysql_wire.null_bytes, Spans().renumber,
+            )
+            for call in calls:
+                with self.subTest(call=call):
+                    self.refused(call, NO_BYTES)
+            self.refused(Spans().renumber, (b"\0\0\0\0", memoryview(b"\0\0\0\0")))
+            self.assertEqual((connection.sequence_id, connection.unread), (0, 0))
+
+    def test_what_has_bytes_is_taken(self):
+        text = b"12345678"
+        kinds = bytearray(text), memoryview(text), array("l", text), memoryview(b"1_2_3_4_5_6_7_8")[::2]
+        for kind in kinds:
+            with self.subTest(kind=kind), Connection() as connection:
+                self.assertEqual(connection.encode(kind), framed(0, text))
+                self.assertEqual(mysql_wire.lenenc_bytes(kind), b"\x08" + text)
+                self.assertEqual(mysql_wire.null_bytes(kind), text + b"\0")
+                self.assertEqual((len(Fields(kind)), Fields(kind).rest()), (8, text))
+        stream = framed(0, b"12") + framed(1, b"345678")
+        stream += framed(2, b"") + framed(3, bytes(8 - len(stream) % 8))
+        wanted = [b"12", b"345678", b""]
+        for kind in (bytearray(stream), memoryview(stream), array("l", stream[: len(stream) // 8 * 8])):
+            with self.subTest(kind=kind), Connection() as connection:
+                self.assertEqual(list(connection.receive(kind))[:3], wanted)
+            with self.subTest(kind=kind), Connection() as connection:
+                connection.feed(kind)
+                self.assertEqual(list(connection.packets())[:3], wanted)
+            parts = [part for part, _ in Spans().parts(kind)]
+            self.assertEqual(parts[:3], wanted)
+        room = array("l", framed(0, bytes(4)) + framed(1, bytes(4)))
+        spans = Spans()
+        spans.next_id = 7
+        self.assertEqual((spans.renumber(room), spans.next_id), (16, 9))
+        self.assertEqual(room.tobytes(), framed(7, bytes(4)) + framed(8, bytes(4)))
+
+
+class OfTheModule(unittest.TestCase):
+    def test_the_version_is_the_library_s(self):
+        self.assertRegex(mysql_wire.version(), r"^0\.2\.\d+$")
+        self.assertEqual(mysql_wire.version(), mysql_wire.__version__)
+
+    def test_another_version_is_refused(self):
+        with open(mysql_wire.__file__, encoding="utf-8") as file:
+            other = file.read().replace('__version__ = "0.2', '__version__ = "0.1')
+        names = {"__file__": mysql_wire.__file__, "__name__": "other"}
+        with self.assertRaisesRegex(ImportError, r"is of version 0\.2\.0, and this module for 0\.1\.0"):
+            exec(compile(other, "other", "exec"), names)
+
+    def test_the_examples_of_the_documentation(self):
+        self.assertEqual(doctest.testmod(mysql_wire).failed, 0)
+        self.assertGreater(doctest.testmod(mysql_wire).attempted, 10)
 
 
 if __name__ == "__main__":

@@ -53,9 +53,9 @@
 #include <stdint.h>
 
 /* The version of this header, as a text, in its parts, and as `mysql_wire_version` answers it. */
-#define MYSQL_WIRE_VERSION "0.1.0"
+#define MYSQL_WIRE_VERSION "0.2.0"
 #define MYSQL_WIRE_VERSION_MAJOR 0
-#define MYSQL_WIRE_VERSION_MINOR 1
+#define MYSQL_WIRE_VERSION_MINOR 2
 #define MYSQL_WIRE_VERSION_PATCH 0
 #define MYSQL_WIRE_VERSION_NUMBER                                          \
     (MYSQL_WIRE_VERSION_MAJOR * 10000u + MYSQL_WIRE_VERSION_MINOR * 100u + \

@@ -39,13 +39,13 @@ use wire_codec::codec::framed_len;
 use wire_codec::codec::header::HEADER_LEN;
 use wire_codec::laws;
 
-// 0.1.0: 10000 times the first number, 100 times the second, and the third.
-const VERSION: u32 = 100;
+// 0.2.0: 10000 times the first number, 100 times the second, and the third.
+const VERSION: u32 = 200;
 
 /// The version of the library, as one number.
 #[unsafe(no_mangle)]
 pub extern "C" fn mysql_wire_version() -> u32
-    ensures { result ≡ 100 }
+    ensures { result ≡ 200 }
 {
     VERSION
 }
