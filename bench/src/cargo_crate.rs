@@ -7,7 +7,7 @@ use crate::library;
 use crate::packets::{count_for, stream_of};
 use crate::timing::Row;
 use bytes::BytesMut;
-use mysql_wire_bytes::{Error, PacketCodec};
+use mysql_wire_bytes::{PacketCodec, PacketCodecError};
 use std::hint::black_box;
 
 const SIZES: [usize; 4] = [16, 256, 4 << 10, 1 << 20];
@@ -38,7 +38,7 @@ fn frame(payload: &[u8], count: usize, reps: u64) -> u64 {
     sum
 }
 
-fn drain(codec: &mut PacketCodec, src: &mut BytesMut, dst: &mut Vec<u8>) -> Result<u64, Error> {
+fn drain(codec: &mut PacketCodec, src: &mut BytesMut, dst: &mut Vec<u8>) -> Result<u64, PacketCodecError> {
     let mut sum = 0u64;
     while codec.decode(src, dst)? {
         sum = sum.wrapping_add(summary(dst));

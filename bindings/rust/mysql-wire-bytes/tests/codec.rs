@@ -7,13 +7,33 @@ mod plain;
 
 use alone::Alone;
 use bytes::{Buf, BytesMut};
-use mysql_wire_bytes::{Error, PacketCodec};
+use mysql_wire::Error;
+use mysql_wire_bytes::proto::codec::error::PacketCodecError;
+use mysql_wire_bytes::proto::codec::PacketCodec;
+use std::io;
 use plain::{framed, read, Numbers, FULL};
 
 fn with_limit(limit: usize) -> PacketCodec {
     let mut codec = PacketCodec::default();
     codec.max_allowed_packet = limit;
     codec
+}
+
+// An error as one that can be compared.
+fn plain_error(error: PacketCodecError) -> Error {
+    match error {
+        PacketCodecError::PacketTooLarge => Error::PacketTooLarge,
+        PacketCodecError::PacketsOutOfSync => Error::PacketsOutOfSync,
+        PacketCodecError::Io(_) => Error::OutOfMemory,
+    }
+}
+
+fn decode(codec: &mut PacketCodec, src: &mut BytesMut, dst: &mut Vec<u8>) -> Result<bool, Error> {
+    codec.decode(src, dst).map_err(plain_error)
+}
+
+fn encode(codec: &mut PacketCodec, mut packet: impl Buf, dst: &mut BytesMut) -> Result<(), Error> {
+    codec.encode(&mut packet, dst).map_err(plain_error)
 }
 
 fn decoded(codec: &mut PacketCodec, bytes: &[u8]) -> (Vec<Vec<u8>>, Result<(), Error>) {
@@ -23,7 +43,7 @@ fn decoded(codec: &mut PacketCodec, bytes: &[u8]) -> (Vec<Vec<u8>>, Result<(), E
 fn drained(codec: &mut PacketCodec, src: &mut BytesMut) -> (Vec<Vec<u8>>, Result<(), Error>) {
     let (mut packets, mut dst) = (Vec::new(), Vec::new());
     loop {
-        match codec.decode(src, &mut dst) {
+        match decode(codec, src, &mut dst) {
             Ok(true) => packets.push(std::mem::take(&mut dst)),
             Ok(false) => return (packets, Ok(())),
             Err(error) => return (packets, Err(error)),
@@ -87,7 +107,8 @@ fn packet_too_large() {
     assert_eq!(drained(&mut codec, &mut src), (vec![], Err(Error::PacketTooLarge)));
     let mut wire = BytesMut::new();
     let mut packet = b"abc".as_slice();
-    assert_eq!(codec.encode(&mut packet, &mut wire), Err(Error::PacketTooLarge));
+    let answer = codec.encode(&mut packet, &mut wire).map_err(plain_error);
+    assert_eq!(answer, Err(Error::PacketTooLarge));
     assert!(packet.len() == 3 && wire.is_empty());
     codec.max_allowed_packet = 3;
     assert_eq!(drained(&mut codec, &mut src), (vec![b"abc".to_vec()], Ok(())));
@@ -143,7 +164,7 @@ fn each_stream_is_read_as_the_whole() {
 fn after_the_first(codec: &mut PacketCodec) -> BytesMut {
     let mut src = BytesMut::from(b"\x01\0\0\0a\x02\0\0\x01bc\x01\0\0\x02d".as_slice());
     let mut dst = Vec::new();
-    assert_eq!((codec.decode(&mut src, &mut dst), dst), (Ok(true), b"a".to_vec()));
+    assert_eq!((decode(codec, &mut src, &mut dst), dst), (Ok(true), b"a".to_vec()));
     src
 }
 
@@ -197,7 +218,7 @@ fn other_calls_between_two_packets() {
     // (none is, where it is refused)
     let mut codec = with_limit(2);
     let mut src = after_the_first(&mut codec);
-    assert_eq!(codec.encode(&mut [0; 3].as_slice(), &mut wire), Err(Error::PacketTooLarge));
+    assert_eq!(encode(&mut codec, [0; 3].as_slice(), &mut wire), Err(Error::PacketTooLarge));
     assert_eq!(drained(&mut codec, &mut src), (vec![b"bc".to_vec(), b"d".to_vec()], Ok(())));
     // a reset
     let mut codec = PacketCodec::default();
@@ -239,7 +260,7 @@ fn whatever_stands_between_the_calls() {
                 2 => {
                     let payload = vec![b'x'; numbers.below(50)];
                     let (front, back) = payload.split_at(numbers.below(payload.len() + 1));
-                    let answer = codec.encode(&mut front.chain(back), &mut wire);
+                    let answer = encode(&mut codec, front.chain(back), &mut wire);
                     assert_eq!(answer, alone.encode(&payload, &mut other_wire), "{at}");
                     if answer.is_ok() && numbers.below(2) == 0 {
                         number = number.wrapping_add(1);
@@ -271,7 +292,7 @@ fn whatever_stands_between_the_calls() {
                 _ => {
                     for _ in 0..numbers.below(40) {
                         let (mut dst, mut other_dst) = (Vec::new(), Vec::new());
-                        let answer = codec.decode(&mut src, &mut dst);
+                        let answer = decode(&mut codec, &mut src, &mut dst);
                         assert_eq!(answer, alone.decode(&mut other_src, &mut other_dst), "{at}");
                         assert_eq!((&dst, &src), (&other_dst, &other_src), "{at}");
                         if answer != Ok(true) {
@@ -283,4 +304,14 @@ fn whatever_stands_between_the_calls() {
         }
         assert_eq!(wire, other_wire, "seed {seed}");
     }
+}
+
+#[test]
+fn errors_are_of_streams_too() {
+    let error = PacketCodecError::from(io::Error::from(io::ErrorKind::BrokenPipe));
+    assert!(matches!(&error, PacketCodecError::Io(io) if io.kind() == io::ErrorKind::BrokenPipe));
+    assert_eq!(error.to_string(), "IO error: `broken pipe'");
+    assert!(std::error::Error::source(&error).is_some());
+    let error = PacketCodecError::from(Error::OutOfMemory);
+    assert!(matches!(&error, PacketCodecError::Io(io) if io.kind() == io::ErrorKind::OutOfMemory));
 }

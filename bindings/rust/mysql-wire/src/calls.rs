@@ -3,9 +3,11 @@
 //!
 //! What the library asks of a caller holds of all of them: a slice is valid for its length, a place
 //! is borrowed for the call alone, and a handle is one that `mysql_wire_open` made, on which one call
-//! is made at a time.
+//! is made at a time: it isn't `Sync`. What a call lends is borrowed from the handle, and the calls
+//! that take `&Handle` leave it.
 
 use mysql_wire_sys as c;
+use std::cell::UnsafeCell;
 use std::mem::MaybeUninit;
 use std::ops::Range;
 use std::ptr;
@@ -14,31 +16,36 @@ use std::slice;
 const NOTHING: c::View = c::View { at: ptr::null(), len: 0 };
 
 /// A connection's handle. It is closed where it is dropped.
-pub struct Handle(c::Handle);
+pub struct Handle(UnsafeCell<c::Handle>);
 
-// SAFETY: a connection has no state beside its own memory, so it may move to another thread; each
-// call takes `&mut Handle`, so that one thread makes them at a time.
+// SAFETY: a connection has no state beside its own memory, so it may move to another thread; it isn't
+// `Sync`, so that one thread makes calls at a time.
 unsafe impl Send for Handle {}
 
 impl Drop for Handle {
     fn drop(&mut self) {
         // SAFETY: the handle is open. NULL is left.
-        unsafe { c::mysql_wire_close(&mut self.0) }
+        unsafe { c::mysql_wire_close(self.0.get()) }
     }
+}
+
+pub fn version() -> u32 {
+    // SAFETY: it takes nothing.
+    unsafe { c::mysql_wire_version() }
 }
 
 pub fn open(limit: usize) -> Result<Handle, i32> {
     let mut handle = ptr::null_mut();
     // SAFETY: the handle is NULL, as it has to be.
     match unsafe { c::mysql_wire_open(limit, &mut handle) } {
-        0 => Ok(Handle(handle)),
+        0 => Ok(Handle(UnsafeCell::new(handle))),
         code => Err(code),
     }
 }
 
 pub fn feed(handle: &mut Handle, bytes: &[u8]) -> i32 {
     // SAFETY: the handle is open, and the slice valid for its length.
-    unsafe { c::mysql_wire_feed(&mut handle.0, bytes.as_ptr(), bytes.len()) }
+    unsafe { c::mysql_wire_feed(handle.0.get(), bytes.as_ptr(), bytes.len()) }
 }
 
 /// The code, and the packet where the code is above 0. It borrows from the connection.
@@ -47,54 +54,54 @@ pub fn peek(handle: &mut Handle) -> (i32, &[u8]) {
     // SAFETY: the handle is open, and the view a local. Where the code is above 0 the view is set, to
     // bytes that stay until the next call on the handle, which is borrowed as long as they are.
     unsafe {
-        let code = c::mysql_wire_peek(&mut handle.0, &mut packet);
+        let code = c::mysql_wire_peek(handle.0.get(), &mut packet);
         (code, if code > 0 { slice::from_raw_parts(packet.at, packet.len) } else { &[] })
     }
 }
 
 pub fn take(handle: &mut Handle) -> i32 {
     // SAFETY: the handle is open.
-    unsafe { c::mysql_wire_take(&mut handle.0) }
+    unsafe { c::mysql_wire_take(handle.0.get()) }
 }
 
 pub fn set_limit(handle: &mut Handle, limit: usize) -> i32 {
     // SAFETY: the handle is open.
-    unsafe { c::mysql_wire_set_limit(&mut handle.0, limit) }
+    unsafe { c::mysql_wire_set_limit(handle.0.get(), limit) }
 }
 
-pub fn unread(handle: &mut Handle) -> usize {
+pub fn unread(handle: &Handle) -> usize {
     // SAFETY: the handle is open.
-    unsafe { c::mysql_wire_unread(&mut handle.0) }
+    unsafe { c::mysql_wire_unread(handle.0.get()) }
 }
 
 pub fn encode(handle: &mut Handle, payload: &[u8]) -> i32 {
     // SAFETY: the handle is open, and the slice valid for its length.
-    unsafe { c::mysql_wire_encode(&mut handle.0, payload.as_ptr(), payload.len()) }
+    unsafe { c::mysql_wire_encode(handle.0.get(), payload.as_ptr(), payload.len()) }
 }
 
-pub fn pending(handle: &mut Handle) -> &[u8] {
+pub fn pending(handle: &Handle) -> &[u8] {
     let mut bytes = NOTHING;
     // SAFETY: the handle is open, and the view a local, which the call sets, to bytes that stay until
     // the next call on the handle.
     unsafe {
-        c::mysql_wire_pending(&mut handle.0, &mut bytes);
+        c::mysql_wire_pending(handle.0.get(), &mut bytes);
         slice::from_raw_parts(bytes.at, bytes.len)
     }
 }
 
 pub fn sent(handle: &mut Handle, count: usize) {
     // SAFETY: the handle is open.
-    unsafe { c::mysql_wire_sent(&mut handle.0, count) };
+    unsafe { c::mysql_wire_sent(handle.0.get(), count) };
 }
 
 pub fn reset(handle: &mut Handle) -> i32 {
     // SAFETY: the handle is open.
-    unsafe { c::mysql_wire_reset(&mut handle.0) }
+    unsafe { c::mysql_wire_reset(handle.0.get()) }
 }
 
-pub fn sequence_id(handle: &mut Handle) -> i32 {
+pub fn sequence_id(handle: &Handle) -> i32 {
     // SAFETY: the handle is open.
-    unsafe { c::mysql_wire_sequence_id(&mut handle.0) }
+    unsafe { c::mysql_wire_sequence_id(handle.0.get()) }
 }
 
 pub fn new_spans(limit: usize, id: u8) -> c::Spans {
@@ -174,7 +181,7 @@ pub fn decode<'a>(handle: &'a mut Handle, bytes: &'a [u8]) -> (i32, usize, &'a [
     // handle and as long as the slice, which are borrowed as long as they are.
     unsafe {
         let (at, len) = (bytes.as_ptr(), bytes.len());
-        let code = c::mysql_wire_decode(&mut handle.0, at, len, &mut used, &mut packet);
+        let code = c::mysql_wire_decode(handle.0.get(), at, len, &mut used, &mut packet);
         (code, used, if code > 0 { slice::from_raw_parts(packet.at, packet.len) } else { &[] })
     }
 }
@@ -211,7 +218,7 @@ pub fn decode_many(handle: &mut Handle, bytes: &[u8], places: &mut [Place]) -> (
     unsafe {
         let (at, len) = (bytes.as_ptr(), bytes.len());
         let (spans, room) = (places.as_mut_ptr().cast(), places.len());
-        c::mysql_wire_decode_many(&mut handle.0, at, len, spans, room, &mut count, &mut used);
+        c::mysql_wire_decode_many(handle.0.get(), at, len, spans, room, &mut count, &mut used);
     }
     (count, used)
 }
@@ -237,7 +244,7 @@ pub fn encode_to(
     let code = unsafe {
         let (at, len) = (payload.as_ptr(), payload.len());
         let (room, room_len) = (room.as_mut_ptr().cast(), room.len());
-        c::mysql_wire_encode_to(&mut handle.0, at, len, room, room_len, &mut written)
+        c::mysql_wire_encode_to(handle.0.get(), at, len, room, room_len, &mut written)
     };
     (code, written)
 }
@@ -247,11 +254,11 @@ pub fn encode_to(
 pub fn encode_header(handle: &mut Handle, len: usize) -> (i32, [u8; 4]) {
     let mut header = [0; 4];
     // SAFETY: the handle is open, and the header a local of 4 bytes.
-    let code = unsafe { c::mysql_wire_encode_header(&mut handle.0, len, header.as_mut_ptr()) };
+    let code = unsafe { c::mysql_wire_encode_header(handle.0.get(), len, header.as_mut_ptr()) };
     (code, header)
 }
 
 pub fn set_sequence_id(handle: &mut Handle, id: u8) -> i32 {
     // SAFETY: the handle is open.
-    unsafe { c::mysql_wire_set_sequence_id(&mut handle.0, id) }
+    unsafe { c::mysql_wire_set_sequence_id(handle.0.get(), id) }
 }

@@ -94,8 +94,8 @@ impl Connection {
     }
 
     /// How many bytes came of which no packet was made: 0 between two packets.
-    pub fn unread(&mut self) -> usize {
-        calls::unread(&mut self.0)
+    pub fn unread(&self) -> usize {
+        calls::unread(&self.0)
     }
 
     /// Frames a payload behind the bytes that wait to be sent. Its number follows that of the last
@@ -127,8 +127,8 @@ impl Connection {
     }
 
     /// The bytes that wait to be sent.
-    pub fn pending(&mut self) -> &[u8] {
-        calls::pending(&mut self.0)
+    pub fn pending(&self) -> &[u8] {
+        calls::pending(&self.0)
     }
 
     /// Drops the first `count` of the bytes that wait, or all where there are fewer.
@@ -147,8 +147,8 @@ impl Connection {
     }
 
     /// The number of the next packet. `PacketsOutOfSync`: the stream is lost.
-    pub fn sequence_id(&mut self) -> Result<u8, Error> {
-        Ok(checked(calls::sequence_id(&mut self.0))? as u8)
+    pub fn sequence_id(&self) -> Result<u8, Error> {
+        Ok(checked(calls::sequence_id(&self.0))? as u8)
     }
 }
 

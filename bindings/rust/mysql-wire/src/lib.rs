@@ -39,3 +39,9 @@ pub use connection::{framed_len, Connection};
 pub use error::Error;
 pub use fields::{put_int, put_lenenc_bytes, put_lenenc_int, put_null_bytes, Fields};
 pub use spans::{Span, Spans};
+
+/// The version of the library: 10000 times its first number, 100 times its second, and its third. The
+/// first two are this crate's.
+pub fn version() -> u32 {
+    calls::version()
+}

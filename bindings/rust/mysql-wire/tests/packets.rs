@@ -112,3 +112,20 @@ fn refusals_read_nothing() {
     assert_eq!((fields.at(), fields.rest()), (0, &b"\x05abc"[..]));
     assert_eq!(Fields::starting_at(b"a", usize::MAX).int(1), Err(Error::MissingBytes));
 }
+
+#[test]
+fn what_only_reads_takes_a_shared_reference() {
+    let mut connection = Connection::new(9).unwrap();
+    connection.encode(b"a").unwrap();
+    let shared = &connection;
+    let pending = shared.pending();
+    assert_eq!((shared.unread(), shared.sequence_id()), (0, Ok(1)));
+    assert_eq!(pending, framed(0, b"a"));
+}
+
+#[test]
+fn the_version_is_the_crate_s() {
+    let numbers: Vec<u32> =
+        env!("CARGO_PKG_VERSION").split('.').map(|number| number.parse().unwrap()).collect();
+    assert_eq!(mysql_wire::version(), 10_000 * numbers[0] + 100 * numbers[1] + numbers[2]);
+}

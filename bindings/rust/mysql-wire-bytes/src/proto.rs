@@ -1,0 +1,3 @@
+//! `mysql_common`'s paths.
+
+pub mod codec;
