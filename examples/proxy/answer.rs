@@ -28,6 +28,8 @@ pub enum Next {
     ColumnsEnd,
     /// A row, or what ends them; so many came.
     Rows(u64),
+    /// An event of the binary log, or what ends them; so many came.
+    Events(u64),
     /// The first packet of an answer to `COM_STMT_PREPARE`.
     Prepared,
     /// A definition or an EOF of a prepared statement; so many are to come.
@@ -65,6 +67,11 @@ pub fn hear(next: Next, packet: &Front, ends_by_ok: bool, log: &ClientLog) -> Re
         Next::ColumnsEnd if status(packet, false)? & CURSOR_EXISTS != 0 => Ok(After::Done),
         Next::ColumnsEnd => Ok(After::Comes(Next::Rows(0))),
         Next::Rows(rows) => hear_row(rows, packet, ends_by_ok, log),
+        Next::Events(events) if ends_rows(packet, ends_by_ok) => {
+            log.say(format_args!("  {}", count(events, "event")));
+            Ok(After::Done)
+        }
+        Next::Events(events) => Ok(After::Comes(Next::Events(events + 1))),
         Next::Prepared => hear_prepared(packet, ends_by_ok, log),
         Next::Definitions(left) => Ok(definitions(left - 1)),
         Next::FieldList(fields) if first == Some(EOF) => {
@@ -107,14 +114,18 @@ fn hear_first(packet: &Front, log: &ClientLog) -> Result<After, Error> {
     }
 }
 
-/// A row may begin with the byte of an EOF, but is then longer than one.
 fn hear_row(rows: u64, packet: &Front, ends_by_ok: bool, log: &ClientLog) -> Result<After, Error> {
-    let end_below = if ends_by_ok { 0xff_ffff } else { 9 };
-    if packet.first() != Some(EOF) || packet.len >= end_below {
+    if !ends_rows(packet, ends_by_ok) {
         return Ok(After::Comes(Next::Rows(rows + 1)));
     }
     log.say(format_args!("  {}", count(rows, "row")));
     Ok(behind_result(status(packet, ends_by_ok)?))
+}
+
+/// A row may begin with the byte of an EOF, but is then longer than one.
+fn ends_rows(packet: &Front, ends_by_ok: bool) -> bool {
+    let end_below = if ends_by_ok { 0xff_ffff } else { 9 };
+    packet.first() == Some(EOF) && packet.len < end_below
 }
 
 /// An OK, EOF or rows' end may announce another result of the same command.

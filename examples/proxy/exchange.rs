@@ -39,8 +39,10 @@ const LOGIN_USER: usize = 32;
 enum Phase {
     /// The server speaks first.
     Greeting,
-    /// Both speak, until the server says OK.
+    /// The client's turn.
     Login,
+    /// Both speak, until the server says OK.
+    Authentication,
     /// The client's turn.
     Command,
     /// The server's turn.
@@ -64,8 +66,8 @@ const COMMANDS: [(u8, &str, Phase); 26] = [
     (0x0c, "COM_PROCESS_KILL", Phase::Answer(Next::Only)),
     (0x0d, "COM_DEBUG", Phase::Answer(Next::Only)),
     (0x0e, "COM_PING", Phase::Answer(Next::Only)),
-    (0x11, "COM_CHANGE_USER", Phase::Login),
-    (0x12, "COM_BINLOG_DUMP", Phase::Answer(Next::Rows(0))),
+    (0x11, "COM_CHANGE_USER", Phase::Authentication),
+    (0x12, "COM_BINLOG_DUMP", Phase::Answer(Next::Events(0))),
     (0x15, "COM_REGISTER_SLAVE", Phase::Answer(Next::Only)),
     (0x16, "COM_STMT_PREPARE", Phase::Answer(Next::Prepared)),
     (0x17, "COM_STMT_EXECUTE", Phase::Answer(Next::ResultSet)),
@@ -74,7 +76,7 @@ const COMMANDS: [(u8, &str, Phase); 26] = [
     (0x1a, "COM_STMT_RESET", Phase::Answer(Next::Only)),
     (0x1b, "COM_SET_OPTION", Phase::Answer(Next::Only)),
     (0x1c, "COM_STMT_FETCH", Phase::Answer(Next::Rows(0))),
-    (0x1e, "COM_BINLOG_DUMP_GTID", Phase::Answer(Next::Rows(0))),
+    (0x1e, "COM_BINLOG_DUMP_GTID", Phase::Answer(Next::Events(0))),
     (0x1f, "COM_RESET_CONNECTION", Phase::Answer(Next::Only)),
     (0xfa, "COM_STMT_BULK_EXECUTE", Phase::Answer(Next::ResultSet)),
 ];
@@ -124,13 +126,34 @@ impl Exchange {
     /// Whether the next packet of the client may be looked at. What a client sends before that
     /// waits, such as a command behind another one that isn't answered yet.
     pub fn client_speaks(&self) -> bool {
-        matches!(self.phase, Phase::Login | Phase::Command | Phase::File)
+        !self.server_owes() || self.is_authenticating() || self.is_dumping()
     }
 
     /// Whether the next packet of the server may be looked at. Between two commands it may have a
     /// last word, such as that the client was idle for too long.
     pub fn server_speaks(&self) -> bool {
         !matches!(self.phase, Phase::File)
+    }
+
+    /// Whether the client waits for the server.
+    pub fn server_owes(&self) -> bool {
+        matches!(self.phase, Phase::Greeting | Phase::Authentication | Phase::Answer(_))
+    }
+
+    /// Whether a login is checked.
+    pub fn is_authenticating(&self) -> bool {
+        matches!(self.phase, Phase::Authentication)
+    }
+
+    /// Whether a command is answered.
+    pub fn is_answering(&self) -> bool {
+        matches!(self.phase, Phase::Answer(_))
+    }
+
+    /// Whether a replica gets the binary log. Meanwhile it acknowledges what came, where it was asked
+    /// to, and both sides begin to count anew there.
+    pub fn is_dumping(&self) -> bool {
+        matches!(self.phase, Phase::Answer(Next::Events(_)))
     }
 
     /// Whether the next packet is a command.
@@ -148,7 +171,7 @@ impl Exchange {
         match self.phase {
             Phase::Command => self.hear_command(packet.bytes),
             Phase::File if packet.len == 0 => self.phase = Phase::Answer(Next::ResultSet),
-            Phase::Login if self.agreed == 0 => self.hear_login(packet.bytes)?,
+            Phase::Login => self.hear_login(packet.bytes)?,
             _ => {}
         }
         Ok(())
@@ -171,6 +194,7 @@ impl Exchange {
         overwrite(packet, LOGIN_MARIADB, 4, kept >> 32);
         let user = packet[LOGIN_USER..].split(|&byte| byte == 0).next().unwrap_or_default();
         self.log.say(format_args!("login of {}", front(user)));
+        self.phase = Phase::Authentication;
         Ok(())
     }
 
@@ -215,12 +239,12 @@ impl Exchange {
                 self.hear_greeting(packet.bytes)?;
                 self.phase = Phase::Login;
             }
-            Phase::Login if first == Some(OK) => {
+            Phase::Authentication if first == Some(OK) => {
                 self.logged_in = true;
                 self.phase = Phase::Command;
                 self.log.say(format_args!("  logged in"));
             }
-            Phase::Login if first == Some(ERR) && self.logged_in => {
+            Phase::Authentication if first == Some(ERR) && self.logged_in => {
                 answer::hear_error(packet, &self.log)?;
                 self.phase = Phase::Command;
             }

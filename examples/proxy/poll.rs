@@ -44,21 +44,32 @@ impl Interest {
     }
 }
 
-/// Waits until one of them has what it was asked for, or this instant has come. The answer is
-/// whether to read from each: its bytes came, or its end or an error did.
+/// What came of a file.
+#[derive(Clone, Copy, Default)]
+pub struct Ready {
+    /// A read has an answer: bytes, their end, or an error.
+    pub read: bool,
+    /// The other side sends no more than what waits to be read.
+    pub hung_up: bool,
+}
+
+/// Waits until one of them has what it was asked for, or this instant has come.
 pub fn wait<const N: usize>(
     files: [(&dyn AsRawFd, Interest); N],
     until: Option<Instant>,
-) -> io::Result<[bool; N]> {
+) -> io::Result<[Ready; N]> {
     let mut entries = files.map(|(file, interest)| interest.entry(file));
     // SAFETY: the pointer is to as many entries as are said.
     let answer =
         unsafe { poll(entries.as_mut_ptr(), entries.len() as c_ulong, until.map_or(-1, millis)) };
     if answer < 0 {
         let error = io::Error::last_os_error();
-        return if error.kind() == ErrorKind::Interrupted { Ok([false; N]) } else { Err(error) };
+        return if error.kind() == ErrorKind::Interrupted { Ok([Ready::default(); N]) } else { Err(error) };
     }
-    Ok(entries.map(|entry| entry.returned & !WRITABLE != 0))
+    Ok(entries.map(|entry| Ready {
+        read: entry.returned & !WRITABLE != 0,
+        hung_up: entry.returned & !(WRITABLE | READABLE) != 0,
+    }))
 }
 
 /// The milliseconds up to an instant, and one more so that it has come then.

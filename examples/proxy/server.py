@@ -3,12 +3,17 @@
     python3 server.py    serves until its standard input ends; the first line says its port
 
 - `wait N`: OK after so many seconds
+- `watch N`: the same, but where its client sends no more the connection is closed
+- `set ..`: OK
 - `row N`: one row, of a text of so many zeros
 - `nulls`: a row of NULL and one of an empty text
 - `half N`: a row of so many zeros, cut in the middle; `leave`: nothing; then the connection is
   closed
 - `another`: an OK of another number
 - any other: one row, of the statement
+
+To `COM_BINLOG_DUMP` it sends as many events as the place says, and waits for a replica's
+acknowledgement behind each. Both begin to count anew there.
 """
 
 import contextlib
@@ -28,6 +33,7 @@ PIECE = bytes(1 << 16)
 OK = bytes([0, 0, 0, 2, 0, 0, 0])
 EOF = bytes([0xFE, 0, 0, 2, 0])
 PING, QUIT = b"\x0e", b"\x01"
+DUMP, ACKNOWLEDGED = b"\x12", b"\xef" + bytes(8) + b"log.1"
 
 
 def greeting():
@@ -84,9 +90,12 @@ class Peer:
                 return
 
     def bytes(self, count):
-        came = self.stream.recv(count, socket.MSG_WAITALL) if count else b""
-        if len(came) < count:
-            raise EOFError
+        came = b""
+        while len(came) < count:
+            read = self.stream.recv(count - len(came))
+            if not read:
+                raise EOFError
+            came += read
         return came
 
     def receive(self):
@@ -120,7 +129,7 @@ class Server:
     """A server that answers statements by their words."""
 
     def __init__(self):
-        self.listener = socket.create_server(("127.0.0.1", 0))
+        self.listener = socket.create_server(("127.0.0.1", 0), backlog=4096)
         self.port = self.listener.getsockname()[1]
         self.logins = []
         self.left = 0
@@ -150,10 +159,16 @@ class Server:
 
     def answer(self, peer, command):
         word, _, value = command[1:].partition(b" ")
-        if command == PING:
+        if command == PING or word.lower() == b"set":
             peer.send(OK)
+        elif command[:1] == DUMP:
+            self.dump(peer, int.from_bytes(command[1:5], "little"))
         elif word == b"wait":
             time.sleep(float(value))
+            peer.send(OK)
+        elif word == b"watch":
+            if ends(peer.stream, float(value)):
+                return False
             peer.send(OK)
         elif word == b"row":
             peer.send(b"\x01", column(), EOF)
@@ -173,6 +188,35 @@ class Server:
         else:
             peer.send(b"\x01", column(), EOF, text(command[1:]), EOF)
         return True
+
+
+    def dump(self, peer, count):
+        for event in range(count):
+            peer.send(b"\0\xef\x01" + bytes([event]))
+            if peer.receive() != ACKNOWLEDGED or peer.number != 1:
+                raise EOFError
+        peer.send(EOF)
+
+
+class Greeter(Server):
+    """A server that says no more than its greeting, and so to many clients at once."""
+
+    def serve(self):
+        with contextlib.suppress(OSError), contextlib.ExitStack() as streams:
+            while True:
+                stream, _ = self.listener.accept()
+                Peer(streams.enter_context(stream)).send(greeting())
+
+
+def ends(stream, patience):
+    """Whether a stream's other end sends no more within so many seconds."""
+    stream.settimeout(patience)
+    try:
+        return stream.recv(1, socket.MSG_PEEK) == b""
+    except TimeoutError:
+        return False
+    finally:
+        stream.settimeout(None)
 
 
 def main():

@@ -73,9 +73,19 @@ impl Stream {
         self.spans.is_between_packets()
     }
 
-    /// Whether a part of a packet came, or more that may not go yet.
-    pub fn is_cut(&self) -> bool {
-        !self.is_between_packets() || self.passed < self.came
+    /// Whether more came than may go.
+    pub fn is_held(&self) -> bool {
+        self.passed < self.came
+    }
+
+    /// Whether all that came has gone.
+    pub fn is_empty(&self) -> bool {
+        self.came == 0
+    }
+
+    /// The number in the header that comes next, where it came.
+    pub fn coming_number(&self) -> Option<u8> {
+        self.room[self.passed..self.came].get(LENGTH).copied()
     }
 
     /// The number of the next chunk.
@@ -86,6 +96,13 @@ impl Stream {
     /// Sets the number of the next packet.
     pub fn set_number(&mut self, number: u8) {
         self.spans.set_sequence_id(number);
+    }
+
+    /// Sets it to the one that the next packet bears, whatever that is.
+    pub fn take_coming_number(&mut self) {
+        if let (true, Some(number)) = (self.is_between_packets(), self.coming_number()) {
+            self.set_number(number);
+        }
     }
 
     /// Sets the most bytes of a packet.
@@ -105,15 +122,22 @@ impl Stream {
         Ok(bytes.map(|bytes| Front { bytes, len }))
     }
 
-    /// Lets go what came of the packet in front. Whether that was its end.
+    /// Lets go what came of the packet in front. Whether that was its end. Where a chunk is refused,
+    /// those before it go all the same.
     pub fn pass(&mut self) -> Result<bool, Error> {
         let mut piece = &self.room[self.passed..self.came];
-        let mut ended = false;
-        while !ended {
-            let Some(span) = self.spans.next_span(&mut piece)? else { break };
-            ended = span.ends_packet;
-        }
+        let ended = next_end(&mut self.spans, &mut piece);
         self.passed = self.came - piece.len();
-        Ok(ended)
+        ended
     }
+}
+
+/// Eats a piece up to the end of the packet in front. Whether that came.
+fn next_end(spans: &mut Spans, piece: &mut &[u8]) -> Result<bool, Error> {
+    while let Some(span) = spans.next_span(piece)? {
+        if span.ends_packet {
+            return Ok(true);
+        }
+    }
+    Ok(false)
 }

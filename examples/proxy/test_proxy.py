@@ -6,9 +6,11 @@ Clients and server speak by sockets: a packet is sent as bytes, and what comes i
 has what takes a real server.
 """
 
+import contextlib
 import os
 import re
 import resource
+import selectors
 import signal
 import socket
 import struct
@@ -18,7 +20,8 @@ import time
 import unittest
 
 from server import CACHE_METADATA, COMPRESS, OPTIONAL_METADATA, PLAIN, SSL, ZSTD
-from server import EOF, OK, PING, QUIT, Peer, Server, column, login, text
+from server import ACKNOWLEDGED, DUMP, EOF, OK, PING, QUIT
+from server import Greeter, Peer, Server, column, login, text
 
 PROXY = os.environ.get("PROXY", "target/release/proxy")
 PATIENCE = 20
@@ -59,14 +62,26 @@ class Proxy:
             return int(re.search(rf"^{field}:\s*(\d+) kB", status.read(), re.M)[1])
 
 
-def within(holds):
+    def threads(self):
+        return len(os.listdir(f"/proc/{self.process.pid}/task"))
+
+
+def within(holds, seconds=PATIENCE):
     """Whether this holds soon."""
-    ends = time.monotonic() + PATIENCE
+    ends = time.monotonic() + seconds
     while not holds():
         if time.monotonic() > ends:
             return False
         time.sleep(0.02)
     return True
+
+
+def burst():
+    """How many clients come at once: 2000, or as many as there may be files for."""
+    _, most = resource.getrlimit(resource.RLIMIT_NOFILE)
+    files = min(most, 1 << 16) if most != resource.RLIM_INFINITY else 1 << 16
+    resource.setrlimit(resource.RLIMIT_NOFILE, (files, most))
+    return min(2000, (files - 100) // 3)
 
 
 class ProxyTests(unittest.TestCase):
@@ -100,8 +115,11 @@ class ProxyTests(unittest.TestCase):
         packet = client.receive()
         self.assertEqual((packet[0], *struct.unpack("<H", packet[1:3])), (0xFF, code))
         if is_last:
-            with self.assertRaises(EOFError):
-                client.receive()
+            self.assert_end(client)
+
+    def assert_end(self, client):
+        with self.assertRaises(EOFError):
+            client.receive()
 
     def assert_row(self, client, value):
         came = [client.receive() for _ in range(5)]
@@ -163,6 +181,111 @@ class Packets(ProxyTests):
         self.assertLess(proxy.memory("VmHWM"), before + 1024)
 
 
+class HalfClosed(ProxyTests):
+    """Clients that send no more."""
+
+    def test_commands_before_the_end_are_answered(self):
+        client = self.logged_in(self.proxy())
+        count = 5000
+        client.stream.sendall(count * (b"\x01\0\0\0" + PING))
+        client.stream.shutdown(socket.SHUT_WR)
+        for _ in range(count):
+            self.assertEqual(client.receive(), OK)
+        self.assert_end(client)
+
+    def test_a_login_with_its_commands_behind_it(self):
+        client = self.connect(self.proxy())
+        packet = login()
+        client.stream.sendall(len(packet).to_bytes(3, "little") + b"\x01" + packet)
+        client.stream.sendall(3 * b"\x09\0\0\0\x03select 1")
+        client.stream.shutdown(socket.SHUT_WR)
+        client.receive()
+        self.assertEqual(client.receive(), OK)
+        for _ in range(3):
+            self.assert_row(client, b"select 1")
+        self.assert_end(client)
+
+    def test_an_end_inside_a_command(self):
+        proxy = self.proxy()
+        clients = [self.logged_in(proxy) for _ in range(40)]
+        threads = proxy.threads()
+        for client in clients:
+            client.stream.sendall((1000).to_bytes(3, "little") + b"\0\x03" + bytes(600))
+        for client in clients:
+            client.stream.close()
+        self.assertTrue(within(lambda: self.server.left == 40, 3))
+        self.assertTrue(within(lambda: proxy.threads() == threads - 40, 3))
+        self.assertTrue(proxy.logged("client went away inside a packet"))
+
+    def test_an_end_inside_a_command_that_waits(self):
+        client = self.logged_in(self.proxy())
+        client.stream.sendall(b"\x09\0\0\0\x03wait 0.5" + b"\x09\0\0\0\x03sel")
+        client.stream.shutdown(socket.SHUT_WR)
+        self.assertEqual(client.receive(), OK)
+        self.assert_end(client)
+
+    def test_the_end_reaches_a_server_at_work(self):
+        proxy = self.proxy()
+        client = self.logged_in(proxy)
+        client.command(b"\x03watch 15")
+        self.assertTrue(proxy.logged("COM_QUERY watch"))
+        client.stream.close()
+        self.assertTrue(within(lambda: self.server.left == 1, 3))
+        self.assertTrue(proxy.logged("the client hung up before its answer"))
+
+
+class Crowds(ProxyTests):
+    """More clients than there is room for."""
+
+    def test_two_thousand_clients_at_once(self):
+        count = burst()
+        server = Greeter()
+        self.addCleanup(server.close)
+        proxy = self.proxy("--clients", count, port=server.port, reads_log=False)
+        began = time.monotonic()
+        with contextlib.ExitStack() as stack, selectors.DefaultSelector() as ready:
+            for _ in range(count):
+                client = stack.enter_context(socket.socket())
+                client.setblocking(False)
+                client.connect_ex(("127.0.0.1", proxy.port))
+                ready.register(client, selectors.EVENT_READ)
+            left = count
+            while left and time.monotonic() < began + 5:
+                for key, _ in ready.select(1):
+                    self.assertEqual(key.fileobj.recv(5)[4:], b"\x0a")
+                    ready.unregister(key.fileobj)
+                    left -= 1
+        self.assertEqual(left, 0)
+
+    def test_no_descriptor_for_a_client(self):
+        proxy = self.proxy(descriptors=64)
+        served = []
+        while (client := self.connect(proxy)).receive()[0] != 0xFF:
+            served.append(client)
+        self.assertIn(len(served), range(25, 30))
+        for _ in range(3):
+            client = self.connect(proxy)
+            client.stream.settimeout(3)
+            self.assert_error(client, 1040)
+        self.assertTrue(proxy.logged("isn't served: Too many open files"))
+        for client in served:
+            client.stream.close()
+        self.assertTrue(within(lambda: self.is_served(proxy)))
+
+    def test_no_thread_for_a_client(self):
+        proxy = self.proxy()
+        first = self.logged_in(proxy)
+        # Of memory for stacks there is less than two threads take.
+        size = proxy.memory("VmSize") * 1024 + (3 << 20)
+        resource.prlimit(proxy.process.pid, resource.RLIMIT_AS, (size, size))
+        clients = [self.connect(proxy) for _ in range(4)]
+        self.assertIn(0xFF, [client.receive()[0] for client in clients])
+        self.assertTrue(proxy.logged("isn't served: Resource temporarily unavailable"))
+        self.assert_error(self.connect(proxy), 1040)
+        first.command(PING)
+        self.assertEqual(first.receive(), OK)
+
+
 class Logins(ProxyTests):
     def test_what_is_not_offered_is_taken_back(self):
         proxy = self.proxy()
@@ -209,7 +332,7 @@ class Logins(ProxyTests):
     def test_a_server_that_is_away(self):
         with socket.create_server(("127.0.0.1", 0)) as away:
             port = away.getsockname()[1]
-        self.assert_error(self.connect(self.proxy(port=port)), 2003)
+        self.assert_error(self.connect(self.proxy(port=port)), 1105)
 
     def test_no_descriptors(self):
         proxy = self.proxy(descriptors=12)
@@ -241,16 +364,31 @@ class Faults(ProxyTests):
         client.command(b"\x03another")
         self.assert_error(client, 1156)
 
+    def test_an_answer_above_the_limit(self):
+        client = self.logged_in(self.proxy("--limit", 1 << 20))
+        client.command(b"\x03row 2000000")
+        self.assertEqual([client.receive() for _ in range(3)], [b"\x01", column(), EOF])
+        self.assert_error(client, 1153)
+
+    def test_an_answer_above_the_limit_in_its_second_chunk(self):
+        client = self.logged_in(self.proxy("--limit", 17000000))
+        client.command(b"\x03row 20000000")
+        self.assertEqual([client.receive() for _ in range(3)], [b"\x01", column(), EOF])
+        self.assertEqual(client.bytes(4), b"\xff\xff\xff\x04")
+        for _ in range(255):
+            client.bytes(0xFFFFFF // 255)
+        self.assert_end(client)
+
     def test_a_server_that_leaves_before_its_answer(self):
         client = self.logged_in(self.proxy())
         client.command(b"\x03leave")
-        self.assert_error(client, 2013)
+        self.assert_error(client, 1053)
 
     def test_what_came_before_a_fault_goes_out(self):
         client = self.logged_in(self.proxy())
         client.command(b"\x03half 16")
         self.assertEqual([client.receive() for _ in range(3)], [b"\x01", column(), EOF])
-        self.assert_error(client, 2013)
+        self.assert_end(client)
 
     def test_no_error_stands_inside_a_packet(self):
         client = self.logged_in(self.proxy())
@@ -279,6 +417,13 @@ class Deadlines(ProxyTests):
     def test_an_idle_client(self):
         client = self.logged_in(self.proxy("--idle", 1))
         self.assert_error(client, 4031)
+
+    def test_a_client_that_stops_inside_a_command(self):
+        proxy = self.proxy("--stalled", 1)
+        client = self.logged_in(proxy)
+        client.stream.sendall((1000).to_bytes(3, "little") + b"\0\x03" + bytes(600))
+        self.assert_error(client, 1159)
+        self.assertTrue(proxy.logged("the client stopped inside a packet"))
 
     def test_a_server_may_work_for_longer(self):
         client = self.logged_in(self.proxy("--idle", 1, "--stalled", 1))
@@ -322,6 +467,15 @@ class Ends(ProxyTests):
         self.assertEqual(proxy.process.wait(PATIENCE), 0)
         self.assertTrue(proxy.logged("ends with 0 clients"))
 
+    def test_idle_clients_that_do_not_read(self):
+        proxy = self.proxy()
+        idle = [self.logged_in(proxy) for _ in range(3)]
+        proxy.process.send_signal(signal.SIGTERM)
+        self.assertEqual(proxy.process.wait(4), 0)
+        self.assertTrue(proxy.logged("ends with 0 clients"))
+        for client in idle:
+            self.assert_error(client, 1053)
+
     def test_a_command_that_takes_too_long_is_left(self):
         proxy = self.proxy("--drain", 1)
         self.logged_in(proxy).command(b"\x03wait 9")
@@ -337,6 +491,20 @@ class Ends(ProxyTests):
         self.logged_in(proxy)
         proxy.process.send_signal(signal.SIGINT)
         self.assertEqual(proxy.process.wait(PATIENCE), -signal.SIGINT)
+
+
+class Replicas(ProxyTests):
+    def test_acknowledgements_pass_while_the_log_is_sent(self):
+        client = self.logged_in(self.proxy())
+        client.stream.settimeout(5)
+        client.command(DUMP + struct.pack("<IHI", 5, 0, 1))
+        for event in range(5):
+            self.assertEqual(client.receive(), b"\0\xef\x01" + bytes([event]))
+            self.assertEqual(client.number, 2)
+            client.command(ACKNOWLEDGED)
+        self.assertEqual(client.receive(), EOF)
+        client.command(PING)
+        self.assertEqual(client.receive(), OK)
 
 
 class Logs(ProxyTests):
