@@ -1,12 +1,13 @@
 #!/usr/bin/env bash
-# Makes the package of the C library, installs it into a folder of its own and out of the packed
-# archive without the kit, and builds and runs programs against both: with pkg-config, with CMake
-# where it is there, against the archive and the shared library. It prints a line for each check.
-# The last line is 'N passed, M failed'.
+# Makes the package of the C library, installs it into a folder of its own and out of the unpacked
+# release without the kit, and builds and runs programs against both: with pkg-config, with CMake
+# where it is there, against the archive and the shared library; and looks at what the release has and
+# says. It prints a line for each check. The last line is 'N passed, M failed'.
 set -u
 top=$(cd "$(dirname "$0")/.." && pwd)
 source "$top/scripts/start.sh"
 source "$top/scripts/checks.sh"
+source "$top/scripts/release.sh"
 package=$top/bindings/c
 tests=$top/crates/mysql_wire_c/tests
 work=$(mktemp -d)
@@ -41,7 +42,7 @@ cmake_finds() {
     mkdir -p "$work/project" && cat > "$work/project/CMakeLists.txt" << EOF
 cmake_minimum_required(VERSION 3.13)
 project(dump C)
-find_package(mysql_wire 0.1 REQUIRED)
+find_package(mysql_wire ${version%.*} REQUIRED)
 add_executable(dump $top/examples/c/dump.c)
 target_link_libraries(dump mysql_wire::mysql_wire)
 add_executable(static_dump $top/examples/c/dump.c)
@@ -52,16 +53,80 @@ EOF
         dumps "$work/built/static_dump"
 }
 
-# Unpacks what is packed, and installs it where neither the kit nor the repository is in sight.
-unpacked() {
-    mkdir -p "$work/empty" && tar -C "$work/empty" -xzf "$package"/out/mysql_wire-*.tar.gz &&
-        quiet env -i PATH=/usr/bin:/bin make -C "$work/empty"/mysql_wire-* install \
-            PREFIX="$work/other"
+# The release is installed, also after what was made there was removed.
+installed() {
+    quiet without_kit make check && quiet without_kit make clean &&
+        quiet without_kit make install PREFIX="$work/other" && sums_agree
+}
+
+# Each file of the release, and the release itself, has the sum that is told.
+sums_agree() {
+    quiet without_kit sha256sum --strict -c SHA256SUMS &&
+        (cd "$package/out" && quiet sha256sum --strict -c SHA256SUMS) &&
+        [ -z "$(cd "$release" && find . -type f ! -name SHA256SUMS | sed 's|^\./||' | sort |
+            comm -3 - <(sed 's/^[^ ]* *//' SHA256SUMS | sort))" ]
+}
+
+# A library and its files in a folder of another name, below DESTDIR.
+other_folders() {
+    local lib=/usr/lib/x86_64-linux-gnu root=$work/destination
+    quiet without_kit make install DESTDIR="$root" PREFIX=/usr LIBDIR="$lib" &&
+        [ -f "$root$lib/libmysql_wire.a" ] && [ -f "$root/usr/share/man/man3/mysql_wire.3" ] &&
+        grep -qx "libdir=$lib" "$root$lib/pkgconfig/mysql_wire.pc" &&
+        { ! command -v cmake > "$work/which" || cmake_finds "$root/usr"; } &&
+        quiet without_kit make uninstall DESTDIR="$root" PREFIX=/usr LIBDIR="$lib" &&
+        [ -z "$(find "$root" ! -type d)" ]
 }
 
 nothing_left() {
     quiet make -C "$package" uninstall PREFIX="$work/root" &&
         [ -z "$(find "$work/root" ! -type d)" ]
+}
+
+# names_are_there: what the release's pages name is in it: each target of a link, and each path of
+# the repository.
+names_are_there() {
+    local page name missing=0
+    while read -r page; do
+        while read -r name; do
+            if [ ! -e "$(dirname "$page")/$name" ] && [ ! -e "$release/$name" ]; then
+                echo "$(basename "$(dirname "$page")")/$(basename "$page") names $name"
+                missing=1
+            fi
+        done < <({ grep -oE '\]\([^)#:]+' "$page" | sed 's/^](//'
+            grep -oP '(?<![/\w.-])(bindings|crates|docs|examples|scripts)/[\w./-]*\w' "$page"
+            } | grep -v '/out\b' | sort -u)
+    done < <(find "$release" -name '*.md')
+    return "$missing"
+}
+
+# The examples by their own Makefile.
+examples_run() {
+    quiet without_kit make -C examples/c &&
+        dumps "$release/examples/c/out/dump" && quiet without_kit make -C examples/c check &&
+        quiet without_kit make -C examples/c clean
+}
+
+# The man page names each call.
+man_page_is_whole() {
+    grep -oE 'mysql_wire_[a-z_]+' "$package/mysql_wire.3" | sort -u |
+        comm -13 - "$package/out/calls" | diff - <(:) &&
+        { ! command -v man > "$work/which" ||
+            [ -z "$(man -l --warnings=mac,syntax "$package/mysql_wire.3" 2>&1 > "$work/page")" ]; }
+}
+
+# The shared library asks for no newer C library than 2.14, and for nothing else.
+runs_with_old_libraries() {
+    local shared=$package/out/libmysql_wire.so.$version
+    objdump -T "$shared" | grep -oE 'GLIBC_[0-9.]+' | sed 's/GLIBC_//' | sort -V | tail -n 1 |
+        diff <(echo 2.14) - &&
+        objdump -p "$shared" | sed -n 's/^ *NEEDED *//p' | diff <(echo libc.so.6) -
+}
+
+# The archive with musl's C library.
+musl_links() {
+    quiet musl-gcc -static -std=c11 -I"$release/include" -o "$work/dump" "$release/examples/c/dump.c" \
+        "$release/lib/libmysql_wire.a" && dumps "$work/dump"
 }
 
 # A program in C and one in C++ with the constants.
@@ -108,6 +173,9 @@ memory_is_set() {
 }
 
 check 'the constants are those of wire_const' "$top/scripts/c_constants.py" --check
+check 'all packages have one version' "$top/scripts/versions.py" --check
+version=$(sed -n 's/^.define MYSQL_WIRE_VERSION "\(.*\)"/\1/p' \
+    "$top/crates/mysql_wire_c/include/mysql_wire.h")
 check 'the libraries are made' quiet make -C "$package" || finish
 check 'their symbols are the calls of the header' quiet make -C "$package" check
 check 'it is installed' quiet make -C "$package" install PREFIX="$work/root"
@@ -123,8 +191,21 @@ fi
 if command -v cmake > /dev/null; then
     check 'CMake finds both libraries' cmake_finds "$work/root"
 fi
-check 'it is packed' quiet make -C "$package" dist
-check 'it is installed without the kit' unpacked
+check 'the man page has the calls' man_page_is_whole
+if command -v objdump > "$work/which"; then
+    check 'the shared library is for glibc 2.14 and later' runs_with_old_libraries
+fi
+check 'the release is packed' unpack_release || finish
+check 'the release has the sums that it tells' sums_agree
+check 'its pages name what is in it' names_are_there
+check 'it is installed without the kit, and its libraries stay' installed
 check 'the tests pass with what was packed' tested "$work/other"
+check 'it is installed into other folders' other_folders
+check 'its examples are built and run' examples_run
+if command -v musl-gcc > "$work/which"; then
+    check 'its archive is linked with musl' musl_links
+else
+    echo 'there is no musl-gcc here'
+fi
 check 'it is uninstalled' nothing_left
 finish

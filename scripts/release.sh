@@ -11,10 +11,14 @@ unpack_release() {
     release=$work/empty/$(basename "$packed" .tar.gz)
 }
 
-# without_kit [NAME=VALUE..] COMMAND..: runs a command in the unpacked release, with no variable set
-# but these, and on a PATH of the system's programs and of cargo alone.
+# without_kit [-C FOLDER] [NAME=VALUE..] COMMAND..: runs a command in the unpacked release, or in this
+# folder, with no variable set but these, and on a PATH of the system's programs and of cargo alone.
 without_kit() {
-    local path=/usr/bin:/bin
+    local path=/usr/bin:/bin folder=$release
     command -v cargo > "$work/which" && path=$(dirname "$(command -v cargo)"):$path
-    env -i -C "$release" PATH="$path" HOME="$HOME" LC_ALL=C.UTF-8 PYTHONDONTWRITEBYTECODE=1 "$@"
+    if [ "$1" = -C ]; then
+        folder=$2
+        shift 2
+    fi
+    env -i -C "$folder" PATH="$path" HOME="$HOME" LC_ALL=C.UTF-8 PYTHONDONTWRITEBYTECODE=1 "$@"
 }

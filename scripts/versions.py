@@ -39,6 +39,8 @@ def places(version):
     yield "bindings/c/mysql_wire.3", r'"mysql_wire ', version, NUMBER, '"'
     yield "bindings/c/release.md", r"^# mysql_wire ", version, NUMBER, " "
     yield "bindings/c/INSTALL.md", r"MYSQL_WIRE_", series, r"\d+\.\d+", "`"
+    for page in ("bindings/c/README.md", "bindings/rust/README.md"):
+        yield page, r"mysql_wire-", version, NUMBER, "-linux"
     yield "bindings/c/README.md", r"find_package\(mysql_wire ", series, r"\d+\.\d+", " "
 
 

@@ -3,9 +3,7 @@
  * first bytes in hexadecimal and as text. The packets are numbered on from 0, as those of one
  * command are.
  *
- *     K=$(dirname "$(rt doc)")
- *     gcc -std=c11 -Wall -Wextra -Werror -Icrates/mysql_wire_c/include -o examples/out/dump \
- *         examples/c/dump.c -Lcrates/mysql_wire_c/out -lmysql_wire_c -L"$K/c" -llibc_c
+ *     make -C examples/c && examples/c/out/dump < STREAM
  *
  * The status is 0 where the stream ends between two packets, and 1 otherwise.
  */

@@ -30,7 +30,7 @@ repository `make -C bindings/c` makes it, for which Rattle's kit is needed."""
 def project(key):
     """What pyproject.toml says of the project: a text, or a list of texts."""
     text = (HERE / "pyproject.toml").read_text(encoding="utf-8")
-    return ast.literal_eval(re.search(rf"^{key} = (\[.*?^\]|[^\n]*)", text, re.M | re.S)[1])
+    return ast.literal_eval(re.search(rf"^{key} = (\[\n.*?^\]|[^\n]*)", text, re.M | re.S)[1])
 
 
 VERSION = project("version")
