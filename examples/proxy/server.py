@@ -12,7 +12,8 @@
 - `another`: an OK of another number
 - any other: one row, of the statement
 
-To `COM_BINLOG_DUMP` it sends as many events as the place says, and waits for a replica's
+A command above a million bytes is refused before it came whole, and the connection is closed. To
+`COM_BINLOG_DUMP` it sends as many events as the place says, and waits for a replica's
 acknowledgement behind each. Both begin to count anew there.
 """
 
@@ -32,6 +33,7 @@ FULL = 0xFFFFFF
 PIECE = bytes(1 << 16)
 OK = bytes([0, 0, 0, 2, 0, 0, 0])
 EOF = bytes([0xFE, 0, 0, 2, 0])
+TOO_LONG, REFUSED = 1 << 20, b"\xff\x81\x04#08S01Refused"
 PING, QUIT = b"\x0e", b"\x01"
 DUMP, ACKNOWLEDGED = b"\x12", b"\xef" + bytes(8) + b"log.1"
 
@@ -100,17 +102,19 @@ class Peer:
 
     def receive(self):
         """The next packet. It has one chunk."""
+        return self.bytes(self.receive_header())
+
+    def receive_header(self):
+        """The length of the next chunk."""
         header = self.bytes(4)
         self.number = header[3] + 1 & 255
-        return self.bytes(int.from_bytes(header[:3], "little"))
+        return int.from_bytes(header[:3], "little")
 
     def receive_long(self):
         """The length of the next packet."""
         total, room = 0, bytearray(1 << 16)
         while True:
-            header = self.bytes(4)
-            length = left = int.from_bytes(header[:3], "little")
-            self.number = header[3] + 1 & 255
+            length = left = self.receive_header()
             while left:
                 came = self.stream.recv_into(room, min(left, len(room)))
                 if not came:
@@ -153,8 +157,11 @@ class Server:
             peer.send(greeting())
             self.logins.append(peer.receive())
             peer.send(OK)
-            while self.answer(peer, peer.receive()):
-                pass
+            while (length := peer.receive_header()) < TOO_LONG:
+                if not self.answer(peer, peer.bytes(length)):
+                    break
+            else:
+                peer.send(REFUSED)
         self.left += 1
 
     def answer(self, peer, command):

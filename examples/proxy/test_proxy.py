@@ -20,7 +20,8 @@ import time
 import unittest
 
 from server import CACHE_METADATA, COMPRESS, OPTIONAL_METADATA, PLAIN, SSL, ZSTD
-from server import ACKNOWLEDGED, DUMP, EOF, OK, PING, QUIT
+import debian_clients
+from server import ACKNOWLEDGED, DUMP, EOF, OK, PING, QUIT, REFUSED
 from server import Greeter, Peer, Server, column, login, text
 
 PROXY = os.environ.get("PROXY", "target/release/proxy")
@@ -74,6 +75,11 @@ def within(holds, seconds=PATIENCE):
             return False
         time.sleep(0.02)
     return True
+
+
+def unused_port():
+    with socket.create_server(("127.0.0.1", 0)) as away:
+        return away.getsockname()[1]
 
 
 def burst():
@@ -330,9 +336,7 @@ class Logins(ProxyTests):
         self.assert_serves(proxy)
 
     def test_a_server_that_is_away(self):
-        with socket.create_server(("127.0.0.1", 0)) as away:
-            port = away.getsockname()[1]
-        self.assert_error(self.connect(self.proxy(port=port)), 1105)
+        self.assert_error(self.connect(self.proxy(port=unused_port())), 1105)
 
     def test_no_descriptors(self):
         proxy = self.proxy(descriptors=12)
@@ -363,6 +367,13 @@ class Faults(ProxyTests):
         client = self.logged_in(self.proxy())
         client.command(b"\x03another")
         self.assert_error(client, 1156)
+
+    def test_a_server_that_refuses_a_command_before_its_end(self):
+        client = self.logged_in(self.proxy())
+        client.number = 0
+        client.send_long(b"\x03", 8 << 20)
+        self.assertEqual(client.receive(), REFUSED)
+        self.assert_end(client)
 
     def test_an_answer_above_the_limit(self):
         client = self.logged_in(self.proxy("--limit", 1 << 20))
@@ -406,6 +417,40 @@ class Faults(ProxyTests):
         client.stream.close()
         self.assertTrue(proxy.logged("client went away inside a packet"))
         self.assertTrue(within(lambda: self.server.left == 1))
+
+
+class ShownErrors(ProxyTests):
+    """What a user of Debian's clients is shown."""
+
+    def assert_shown(self, proxy, statement, number, words):
+        clients = debian_clients.installed()
+        if not clients:
+            self.skipTest("there is none of Debian's clients here")
+        for client in clients:
+            with self.subTest(client=client):
+                shown, text = debian_clients.error_of(client, proxy.port, statement)
+                self.assertEqual(shown, number)
+                self.assertRegex(text, words)
+
+    def test_a_client_too_many(self):
+        self.assert_shown(self.proxy("--clients", 0), "select 1", 1040, "^Too many connections$")
+
+    def test_a_server_that_is_away(self):
+        proxy = self.proxy(port=unused_port())
+        self.assert_shown(proxy, "select 1", 1105, "^Can't connect to the server$")
+
+    def test_a_server_that_leaves_before_its_answer(self):
+        words = "^The server hung up before its answer$"
+        self.assert_shown(self.proxy(), "leave", 1053, words)
+
+    def test_a_server_that_leaves_inside_its_answer(self):
+        proxy = self.proxy()
+        for statement in ["half 16", "half 2000"]:
+            self.assert_shown(proxy, statement, 2013, "^Lost connection to .*server during query")
+
+    def test_an_answer_above_the_limit(self):
+        words = "^Got a packet bigger than 'max_allowed_packet' bytes$"
+        self.assert_shown(self.proxy("--limit", 1 << 20), "row 2000000", 1153, words)
 
 
 class Deadlines(ProxyTests):
