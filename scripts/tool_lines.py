@@ -8,6 +8,7 @@ The last line is 'N passed, M failed'.
 """
 
 import contextlib
+import fcntl
 import os
 import pathlib
 import select
@@ -255,6 +256,48 @@ def of_writes(folder):
         yield "writes of unframe of %d packets" % len(lengths), fault
 
 
+def packets(count):
+    """So many packets of 300 bytes, framed."""
+    return b"".join(b"\x2c\1\0" + bytes([index]) + b"P" * 300 for index in range(count))
+
+
+def into_full_pipe(data, file, held, room):
+    """What goes otherwise, or None where `reframe` fills the room that is left in a pipe which takes
+    a write whole or not at all, and says that no more went out."""
+    reads, writes = os.pipe()
+    with open(reads, "rb", buffering=0) as ours, open(writes, "wb", buffering=0) as theirs:
+        fcntl.fcntl(theirs, fcntl.F_SETPIPE_SZ, held + room)
+        os.set_blocking(writes, False)
+        theirs.write(b"L" * held)
+        with open(file, "rb") as given:
+            ran = subprocess.run([PROGRAM, "reframe", "300"], stdin=given, stdout=theirs)
+        found = ours.read(held + room)[held:]
+    text = data[:room // 304 * 304]
+    return None if (ran.returncode, found) == (2, text) else "%d, %d bytes" % (ran.returncode, len(found))
+
+
+def into_small_messages(data, file):
+    """The same where messages have room for some of the packets that wait for one write."""
+    ours, theirs = socket.socketpair(socket.AF_UNIX, socket.SOCK_SEQPACKET)
+    with ours, open(file, "rb") as given:
+        with theirs:
+            theirs.setsockopt(socket.SOL_SOCKET, socket.SO_SNDBUF, 2304)
+            ran = subprocess.Popen([PROGRAM, "reframe", "300"], stdin=given, stdout=theirs)
+        found = list(iter(lambda: ours.recv(1 << 20), b""))
+        ran.wait()
+    is_right = (ran.returncode, b"".join(found)) == (0, data)
+    return None if is_right else "%d, messages of %s" % (ran.returncode, list(map(len, found)))
+
+
+def of_refused_writes(folder):
+    """The same where `reframe` is refused a write of all that waits."""
+    file = folder / "input"
+    file.write_bytes(packets(5))
+    yield "reframe into a pipe that is full", into_full_pipe(packets(5), file, 3000, 1096)
+    file.write_bytes(packets(27))
+    yield "reframe into small messages", into_small_messages(packets(27), file)
+
+
 def is_out(given, text):
     """What goes otherwise, or None where `reframe` has written this before it reads more."""
     pipes = {"stdin": subprocess.PIPE, "stdout": subprocess.PIPE}
@@ -288,7 +331,7 @@ def main():
     with tempfile.TemporaryDirectory() as name:
         folder = pathlib.Path(name)
         found = [*of_rows(folder), *of_streams(folder), *of_many(folder), *of_writes(folder)]
-        found += [*of_reads(), *of_waits()]
+        found += [*of_reads(), *of_waits(), *of_refused_writes(folder)]
         found += of_other_lines(folder)
     for name, fault in found:
         print("FAILED %s: %s" % (name, fault) if fault else "ok " + name)

@@ -3,6 +3,7 @@
 
 pub mod arguments;
 pub mod chunk;
+mod chunk_writer;
 pub mod frame;
 mod input;
 mod lines;

@@ -7,6 +7,7 @@ ghost use Rattle.wire_codec.specs.Framing.{framing, next_id};
 ghost use Rattle.mysql_wire_commands.specs.declared.status.Stop.{Stop};
 ghost use Rattle.mysql_wire_commands.specs.Reframe.{ReframeEnds, Sends, StartsReading};
 
+use crate::chunk_writer::ChunkWriter;
 use crate::status::{Stop, exit_status};
 use std::alloc::Allocator;
 use std::io::{Read, Write};
@@ -142,9 +143,9 @@ pub fn run_reframe<A: Allocator + Copy, R: Read, W: Write>(
     let Ok(mut from) = PacketReader::new(alloc, input) else {
         unreachable!();
     };
-    let Ok(mut to) = PacketWriter::new(alloc, output) else {
+    let Ok(mut to) = PacketWriter::new(alloc, ChunkWriter::new(output)) else {
         unreachable!();
     };
     let status = exit_status(copy_packets(limit, &mut from, &mut to));
-    (status, from.into_inner(), to.into_inner())
+    (status, from.into_inner(), to.into_inner().into_inner())
 }

@@ -3,3 +3,4 @@
 mod faults;
 mod reads;
 mod run;
+mod sends;

@@ -1,8 +1,14 @@
-use Rattle.std.proofs.Common.{ap, sym}
+use Rattle.std.proofs.Common.{ap, sym, ◌∙◌}
 use Rattle.mysql_wire_commands.proofs.ReframeLemmas.{reframe_status}
 use Rattle.mysql_wire_commands.proofs.reframe.run_reframe.Goals as goal
 
 pub returns : goal.returns
 returns g c =
     let ended = reframe_status c.args.limit c.copy_packets.result _ _ _ _ c.copy_packets.ensures in
-    rw (ap (λ z. z.reader) c.in-Ok.ensures.new, ap (λ z. z.writer) c.in-Ok-new.ensures.new, sym c.into_inner.ensures, sym c.into_inner-2.ensures, sym c.exit_status-status.ensures) at ended
+    rw (
+      ap (λ z. z.reader) c.in-Ok.ensures.new,
+      ap (λ z. z.writer.writer) c.in-Ok-new.ensures.new ∙ c.new-2.ensures,
+      sym c.into_inner.ensures,
+      ap (λ z. z.writer) (sym c.into_inner-2.ensures) ∙ sym c.into_inner-3.ensures,
+      sym c.exit_status-status.ensures,
+    ) at ended
