@@ -1,10 +1,12 @@
 //! Lines about clients, on standard output.
 //!
 //! A thread of its own writes them, out of a queue of bounded length: who doesn't read the log stops
-//! no traffic. Lines for which there is no room are dropped, and counted in the next one.
+//! no traffic. Lines for which there is no room are dropped, and counted in the next one. The thread
+//! sleeps for a moment behind each write, so that no line of many wakes it.
 
 use std::fmt::{self, Write as _};
 use std::io::{self, Write as _};
+use std::iter;
 use std::net::SocketAddr;
 use std::sync::atomic::{AtomicU64, Ordering};
 use std::sync::mpsc::{sync_channel, Receiver, SyncSender};
@@ -13,16 +15,26 @@ use std::thread;
 use std::time::{Duration, SystemTime, UNIX_EPOCH};
 
 // The most lines that wait to be written.
-const QUEUE: usize = 1024;
+const QUEUE: usize = 4096;
+// How long lines are gathered.
+const GATHER: Duration = Duration::from_millis(5);
 // How long the last lines may take.
 const LAST_LINES: Duration = Duration::from_secs(1);
+// As many bytes as most lines have.
+const ROOM: usize = 120;
 // The most characters of a text in a line.
 const FRONT: usize = 60;
+
+/// A line, and when it was said.
+struct Line {
+    at: SystemTime,
+    text: String,
+}
 
 /// Where lines go.
 #[derive(Clone)]
 pub struct Log {
-    lines: SyncSender<String>,
+    lines: SyncSender<Line>,
     dropped: Arc<AtomicU64>,
     logs_statements: bool,
 }
@@ -54,30 +66,41 @@ impl Log {
 
     /// Writes a line about the proxy.
     pub fn say(&self, line: fmt::Arguments<'_>) {
-        self.put(format!("{} - - {line}\n", Now));
+        self.put("- - ", line);
     }
 
     /// The lines about a client.
     pub fn of_client(&self, number: u64, address: SocketAddr) -> ClientLog {
-        ClientLog { log: self.clone(), number, address }
+        ClientLog { log: self.clone(), client: format!("{number} {address} ") }
     }
 
-    fn put(&self, line: String) {
-        if self.lines.try_send(line).is_err() {
+    fn put(&self, who: &str, line: fmt::Arguments<'_>) {
+        let mut text = String::with_capacity(ROOM);
+        text.push_str(who);
+        let _ = text.write_fmt(line);
+        text.push('\n');
+        if self.lines.try_send(Line { at: SystemTime::now(), text }).is_err() {
             self.dropped.fetch_add(1, Ordering::Relaxed);
         }
     }
 }
 
-/// Writes each line as it comes. That nobody reads them is no reason to stop.
-fn write_all(queue: &Receiver<String>, dropped: &AtomicU64) {
-    for line in queue {
+/// Writes the lines that came together by one write. That nobody reads them is no reason to stop.
+fn write_all(queue: &Receiver<Line>, dropped: &AtomicU64) {
+    let mut clock = Clock::default();
+    while let Ok(first) = queue.recv() {
+        let mut written = String::new();
         let count = dropped.swap(0, Ordering::Relaxed);
         if count > 0 {
-            let _ =
-                writeln!(io::stdout().lock(), "{Now} - - {} dropped", self::count(count, "line"));
+            clock.write(first.at, &mut written);
+            let _ = writeln!(written, "- - {} dropped", self::count(count, "line"));
         }
-        let _ = io::stdout().lock().write_all(line.as_bytes());
+        for line in iter::once(first).chain(queue.try_iter().take(QUEUE)) {
+            clock.write(line.at, &mut written);
+            written.push_str(&line.text);
+        }
+        let _ = io::stdout().lock().write_all(written.as_bytes());
+        thread::sleep(GATHER);
     }
 }
 
@@ -85,13 +108,12 @@ fn write_all(queue: &Receiver<String>, dropped: &AtomicU64) {
 #[derive(Clone)]
 pub struct ClientLog {
     log: Log,
-    number: u64,
-    address: SocketAddr,
+    client: String,
 }
 
 impl ClientLog {
     pub fn say(&self, line: fmt::Arguments<'_>) {
-        self.log.put(format!("{Now} {} {} {line}\n", self.number, self.address));
+        self.log.put(&self.client, line);
     }
 
     /// The front of a statement behind a space, where statements are asked for.
@@ -104,18 +126,29 @@ impl ClientLog {
     }
 }
 
-/// The time, as it is written in front of a line: of Greenwich, to the millisecond.
-struct Now;
+/// Writes times: of Greenwich, to the millisecond. Many lines are of the same second.
+#[derive(Default)]
+struct Clock {
+    second: u64,
+    text: String,
+}
 
-impl fmt::Display for Now {
-    fn fmt(&self, f: &mut fmt::Formatter<'_>) -> fmt::Result {
-        let since = SystemTime::now().duration_since(UNIX_EPOCH).unwrap_or_default();
-        let (day, second) = (since.as_secs() / 86400, since.as_secs() % 86400);
-        let (year, month, day) = date(day);
-        let (hour, minute, second) = (second / 3600, second / 60 % 60, second % 60);
-        let millis = since.subsec_millis();
-        write!(f, "{year}-{month:02}-{day:02}T{hour:02}:{minute:02}:{second:02}.{millis:03}Z")
+impl Clock {
+    fn write(&mut self, at: SystemTime, line: &mut String) {
+        let since = at.duration_since(UNIX_EPOCH).unwrap_or_default();
+        if since.as_secs() != self.second || self.text.is_empty() {
+            self.second = since.as_secs();
+            self.text = second_text(self.second);
+        }
+        let _ = write!(line, "{}.{:03}Z ", self.text, since.subsec_millis());
     }
+}
+
+/// A second counted from the first of 1970, as date and time.
+fn second_text(second: u64) -> String {
+    let (year, month, day) = date(second / 86400);
+    let (hour, minute, second) = (second / 3600 % 24, second / 60 % 60, second % 60);
+    format!("{year}-{month:02}-{day:02}T{hour:02}:{minute:02}:{second:02}")
 }
 
 /// Year, month and day of a day counted from the first of 1970.

@@ -222,16 +222,28 @@ same_load() {
         > "$work/slap.log" 2>&1
 }
 
-# leaves_early: a client that is killed while it waits for its rows. The server's side is closed.
-leaves_early() {
-    "$client" --no-defaults --protocol=tcp --host=127.0.0.1 --port="$narrow_port" --user=probe \
-        --password=sesame --execute="SELECT SLEEP(8)" > "$work/killed" 2>&1 &
-    local waits=$! number
-    logged narrow 'COM_QUERY SELECT SLEEP'
-    number=$(sed -n 's/^[^ ]* \([0-9]*\) .* COM_QUERY SELECT SLEEP.*/\1/p' "$work/narrow.log")
+# killed_asleep PORT LOG SECONDS: a client that is killed while it waits for its rows.
+killed_asleep() {
+    "$client" --no-defaults --protocol=tcp --host=127.0.0.1 --port="$1" --user=probe \
+        --password=sesame --execute="SELECT SLEEP($3)" > "$work/killed" 2>&1 &
+    local waits=$!
+    logged "$2" "COM_QUERY SELECT SLEEP($3)"
     kill -9 "$waits"
     wait "$waits" 2> "$work/errors"
+}
+
+# leaves_early: a client that is killed while it waits for its rows. The server's side is closed.
+leaves_early() {
+    local number
+    killed_asleep "$narrow_port" narrow 8
+    number=$(sed -n 's/^[^ ]* \([0-9]*\) .* COM_QUERY SELECT SLEEP.*/\1/p' "$work/narrow.log")
     logged narrow "^[^ ]* $number .* the client hung up before its answer"
+}
+
+# stops_work: the server gives up a statement whose client was killed.
+stops_work() {
+    killed_asleep "$proxy_port" proxy 40
+    until_it alone
 }
 
 # one_too_many: a second client at a proxy for one, and the next one behind the first.
@@ -243,16 +255,16 @@ one_too_many() {
         logged lone 'the client hung up' && says "$lone_port" '^7$' <<< 'SELECT 7'
 }
 
-# no_descriptor: a proxy without a free descriptor goes on once it may have more.
+# no_descriptor: a proxy without a free descriptor says so, and goes on once it may have more.
 no_descriptor() {
-    : < "/dev/tcp/127.0.0.1/$scarce_port"
-    logged scarce "isn't served: Too many open files" &&
+    says "$scarce_port" '1040.*Too many connections' <<< 'SELECT 7' &&
+        logged scarce "isn't served: Too many open files" &&
         prlimit --pid="$scarce_id" --nofile=64 && says "$scarce_port" '^7$' <<< 'SELECT 7'
 }
 
-# no_thread: a proxy without a free thread hangs up, and goes on once it may have more.
+# no_thread: a proxy without a free thread says so, and goes on once it may have more.
 no_thread() {
-    says "$threadless_port" 'ERROR 2013' <<< 'SELECT 7' &&
+    says "$threadless_port" '1040.*Too many connections' <<< 'SELECT 7' &&
         logged threadless "isn't served: Resource temporarily unavailable" &&
         "${as_other[@]}" prlimit --pid="$threadless_id" --nproc=64 && says "$threadless_port" '^7$' <<< 'SELECT 7'
 }
@@ -381,10 +393,11 @@ check 'a result above the limit in its second chunk' says "$middle_port" 'ERROR 
     "SELECT REPEAT('a', 30000000)"
 check 'the next client after these' says "$narrow_port" '^7$' <<< 'SELECT 7'
 check 'a client that goes away while it waits' leaves_early
+check 'what it waited for ends too' stops_work
 start_proxy lone '--clients 1'
 check 'one client too many' one_too_many
 if command -v prlimit > "$work/errors"; then
-    start_proxy scarce '' prlimit --nofile=6:
+    start_proxy scarce '' prlimit --nofile=8:
     check 'no descriptor for a client' no_descriptor
 fi
 # Root has all the threads that it wants, so a user runs it who runs nothing else.
