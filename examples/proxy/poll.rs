@@ -3,7 +3,7 @@
 use std::ffi::{c_int, c_short, c_ulong};
 use std::io::{self, ErrorKind};
 use std::os::fd::{AsRawFd, RawFd};
-use std::time::{Duration, Instant};
+use std::time::Duration;
 
 const READABLE: c_short = 0x001;
 const WRITABLE: c_short = 0x004;
@@ -53,15 +53,15 @@ pub struct Ready {
     pub hung_up: bool,
 }
 
-/// Waits until one of them has what it was asked for, or this instant has come.
+/// Waits until one of them has what it was asked for, or this time is over.
 pub fn wait<const N: usize>(
     files: [(&dyn AsRawFd, Interest); N],
-    until: Option<Instant>,
+    patience: Option<Duration>,
 ) -> io::Result<[Ready; N]> {
     let mut entries = files.map(|(file, interest)| interest.entry(file));
     // SAFETY: the pointer is to as many entries as are said.
     let answer =
-        unsafe { poll(entries.as_mut_ptr(), entries.len() as c_ulong, until.map_or(-1, millis)) };
+        unsafe { poll(entries.as_mut_ptr(), entries.len() as c_ulong, patience.map_or(-1, millis)) };
     if answer < 0 {
         let error = io::Error::last_os_error();
         return if error.kind() == ErrorKind::Interrupted { Ok([Ready::default(); N]) } else { Err(error) };
@@ -72,8 +72,8 @@ pub fn wait<const N: usize>(
     }))
 }
 
-/// The milliseconds up to an instant, and one more so that it has come then.
-fn millis(until: Instant) -> c_int {
-    let left = until.saturating_duration_since(Instant::now()) + Duration::from_millis(1);
-    c_int::try_from(left.as_millis()).unwrap_or(c_int::MAX)
+/// The milliseconds of a time, and one more so that it is over then.
+fn millis(patience: Duration) -> c_int {
+    let millis = (patience + Duration::from_millis(1)).as_millis();
+    c_int::try_from(millis).unwrap_or(c_int::MAX)
 }

@@ -37,6 +37,8 @@ pub struct Relay {
     began: Instant,
     /// When bytes last came.
     heard: Instant,
+    /// When it last waited. Nothing between two waits takes long.
+    now: Instant,
     /// Whether the server has spoken since the client did.
     answer_began: bool,
 }
@@ -63,6 +65,7 @@ impl Relay {
             stopped: false,
             began: now,
             heard: now,
+            now,
             answer_began: false,
         })
     }
@@ -224,10 +227,8 @@ impl Relay {
     /// Until when it waits, and what is late then. How long a server works is its own affair.
     fn deadline(&self) -> Option<(Instant, Late)> {
         let Relay { client, server, exchange, patience, heard, .. } = self;
-        let stalled = |side: &Side, other: &Side| {
-            let deadline = (side.took + patience.stalled, Late::Stalled(side.name));
-            side.is_awaited_by(&other.stream).then_some(deadline)
-        };
+        let stalled =
+            |side: &Side| Some((side.stalled? + patience.stalled, Late::Stalled(side.name)));
         let own = if !exchange.is_logged_in() {
             Some((self.began + patience.login, Late::Login))
         } else if self.client_is_inside() {
@@ -240,7 +241,7 @@ impl Relay {
         } else {
             None
         };
-        let all = [stalled(client, server), stalled(server, client), own];
+        let all = [stalled(client), stalled(server), own];
         all.into_iter().flatten().min_by_key(|&(until, _)| until)
     }
 
@@ -250,19 +251,21 @@ impl Relay {
         let Relay { client, server, exchange, stop, stopped, .. } = self;
         let to_client = client.interest(exchange.client_speaks(), &server.stream);
         let to_server = server.interest(exchange.server_speaks(), &client.stream);
-        let to_stop = Interest { read: !*stopped, ..Interest::READ };
+        let may_stop = !*stopped && !exchange.is_answering();
+        let to_stop = Interest { read: may_stop, ..Interest::READ };
         let files: [(&dyn AsRawFd, _); 3] =
             [(&client.socket, to_client), (&server.socket, to_server), (&**stop, to_stop)];
-        let ready = poll::wait(files, deadline.map(|(until, _)| until))
-            .map_err(|error| Fault::Io("poll", error))?;
+        let left = deadline.map(|(until, _)| until.saturating_duration_since(self.now));
+        let ready = poll::wait(files, left).map_err(|error| Fault::Io("poll", error))?;
+        self.now = Instant::now();
         *stopped |= ready[2].read;
         for (side, ready) in [client, server].into_iter().zip(ready) {
             if side.hear(ready)? {
-                self.heard = Instant::now();
+                self.heard = self.now;
             }
         }
         match deadline {
-            Some((until, late)) if until <= Instant::now() && self.deadline() == deadline => {
+            Some((until, late)) if until <= self.now && self.deadline() == deadline => {
                 Err(Fault::Late(late))
             }
             _ => Ok(()),

@@ -22,8 +22,10 @@ pub struct Side {
     pub ended: bool,
     /// It takes no more.
     pub closed: bool,
-    /// When it last took bytes, or none waited for it.
+    /// When it last took bytes behind others that it didn't take at once.
     pub took: Instant,
+    /// Since when it takes none of the bytes that wait for it.
+    pub stalled: Option<Instant>,
     /// It sends no more than what waits in its socket, for which there was no room.
     hung_up: bool,
     /// It was told that no more comes.
@@ -41,6 +43,7 @@ impl Side {
             ended: false,
             closed: false,
             took: Instant::now(),
+            stalled: None,
             hung_up: false,
             told_end: false,
         })
@@ -62,7 +65,7 @@ impl Side {
             Ok(None) => {}
             Err(error) if is_closed(&error) => {
                 self.ended = true;
-                self.closed = true;
+                self.close();
             }
             Err(error) => return Err(Fault::Io(self.name, error)),
         }
@@ -72,19 +75,23 @@ impl Side {
     /// Writes as much of what waits for this side as one write takes. Whether any went.
     pub fn write(&mut self, other: &mut Stream) -> Result<bool, Fault> {
         if !self.is_awaited_by(other) {
-            self.took = Instant::now();
             return Ok(false);
         }
         match at_once(self.socket.write(other.pending())) {
             Ok(Some(count)) => {
                 other.sent(count);
-                self.took = Instant::now();
+                if self.stalled.take().is_some() {
+                    self.took = Instant::now();
+                }
                 Ok(count > 0)
             }
-            Ok(None) => Ok(false),
+            Ok(None) => {
+                self.stalled.get_or_insert_with(Instant::now);
+                Ok(false)
+            }
             // (what it sent before that may still be read)
             Err(error) if is_closed(&error) => {
-                self.closed = true;
+                self.close();
                 Ok(false)
             }
             Err(error) => Err(Fault::Io(self.name, error)),
@@ -99,11 +106,16 @@ impl Side {
         self.told_end = true;
         match self.socket.shutdown(Shutdown::Write) {
             Err(error) if error.kind() == ErrorKind::NotConnected => {
-                self.closed = true;
+                self.close();
                 Ok(())
             }
             told => told,
         }
+    }
+
+    fn close(&mut self) {
+        self.closed = true;
+        self.stalled = None;
     }
 
     /// Whether something of the other side can be written here. A side that sends no more may
@@ -112,8 +124,8 @@ impl Side {
         !self.closed && !other.pending().is_empty()
     }
 
-    /// Passes what came of one packet: of the open one, or of the next, which is heard first, and
-    /// begins only where it may. Whether its end passed.
+    /// Passes what came of one packet: of the open one, or of the next, which begins only where it
+    /// may, and is heard before it goes. Whether its end passed.
     pub fn pass(
         &mut self,
         may_begin: bool,
@@ -121,14 +133,19 @@ impl Side {
     ) -> Result<bool, Fault> {
         let name = self.name;
         let refused = |refusal| Fault::Wire(name, refusal);
-        if self.stream.is_between_packets() {
-            if !may_begin {
-                return Ok(false);
-            }
-            let Some(mut front) = self.stream.front().map_err(refused)? else { return Ok(false) };
-            hear(&mut front).map_err(|misread| Fault::Malformed(name, misread))?;
+        if !self.stream.is_between_packets() {
+            return self.stream.pass().map_err(refused);
         }
-        self.stream.pass().map_err(refused)
+        if !may_begin {
+            return Ok(false);
+        }
+        let Some(coming) = self.stream.coming().map_err(refused)? else { return Ok(false) };
+        let ended = self.stream.pass().map_err(refused)?;
+        if let Err(misread) = hear(&mut self.stream.front(&coming)) {
+            self.stream.hold(coming);
+            return Err(Fault::Malformed(name, misread));
+        }
+        Ok(ended)
     }
 
     /// What to wait for here. While it isn't this side's turn it may only hang up.
@@ -159,8 +176,9 @@ impl Side {
             let to_client =
                 Interest { read: !self.ended, write: !bytes.is_empty(), hang_up: false };
             let to_stop = Interest { read: !stopped, ..Interest::READ };
+            let left = until.saturating_duration_since(Instant::now());
             let [came, stops] =
-                poll::wait([(&self.socket, to_client), (stop, to_stop)], Some(until))?;
+                poll::wait([(&self.socket, to_client), (stop, to_stop)], Some(left))?;
             if stops.read {
                 stopped = true;
                 until = until.min(Instant::now() + LAST_MOMENT);

@@ -1,6 +1,6 @@
 //! What one side sends, on its way to the other.
 
-use mysql_wire::{Error, Fields, Spans};
+use mysql_wire::{Error, Spans};
 
 // The bytes of a chunk's header, of which the first three are its length.
 const HEADER: usize = 4;
@@ -16,6 +16,14 @@ pub struct Front<'a> {
     pub bytes: &'a mut [u8],
     /// How many bytes the packet's first chunk has.
     pub len: usize,
+}
+
+/// A packet that comes next.
+pub struct Coming {
+    at: usize,
+    len: usize,
+    front: usize,
+    spans: Spans,
 }
 
 impl Front<'_> {
@@ -110,16 +118,30 @@ impl Stream {
         self.spans.set_limit(limit);
     }
 
-    /// The front of the packet that begins with the next bytes, where it came. A header that is
-    /// refused is so at once, whatever came behind it.
-    pub fn front(&mut self) -> Result<Option<Front<'_>>, Error> {
-        let waiting = &mut self.room[self.passed..self.came];
-        let Some((header, payload)) = waiting.split_at_mut_checked(HEADER) else { return Ok(None) };
-        // A copy looks at it, so that these spans stay between packets until the front came.
-        self.spans.clone().next_span(&mut &*header)?;
-        let len = Fields::new(header).int(LENGTH)? as usize;
-        let bytes = payload.get_mut(..len.min(FRONT));
-        Ok(bytes.map(|bytes| Front { bytes, len }))
+    /// Where the packet begins that comes next, once its front came. A header that is refused is so
+    /// at once, whatever came behind it.
+    pub fn coming(&self) -> Result<Option<Coming>, Error> {
+        let waiting = &self.room[self.passed..self.came];
+        let Some((header, payload)) = waiting.split_at_checked(HEADER) else { return Ok(None) };
+        let len = header[..LENGTH].iter().rev().fold(0, |len, &byte| len << 8 | usize::from(byte));
+        let front = len.min(FRONT);
+        if payload.len() < front {
+            self.spans.clone().next_span(&mut &*header)?;
+            return Ok(None);
+        }
+        Ok(Some(Coming { at: self.passed, len, front, spans: self.spans.clone() }))
+    }
+
+    /// The front of a packet of which nothing has gone yet.
+    pub fn front(&mut self, coming: &Coming) -> Front<'_> {
+        let at = coming.at + HEADER;
+        Front { bytes: &mut self.room[at..at + coming.front], len: coming.len }
+    }
+
+    /// Holds it back, though it was passed.
+    pub fn hold(&mut self, coming: Coming) {
+        self.passed = coming.at;
+        self.spans = coming.spans;
     }
 
     /// Lets go what came of the packet in front. Whether that was its end. Where a chunk is refused,
