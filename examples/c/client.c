@@ -55,6 +55,7 @@ static int receive(client *c, mysql_wire_view *packet) {
     static uint8_t room[1 << 16];
     int32_t code;
     while ((code = mysql_wire_peek(&c->wire, packet)) == MYSQL_WIRE_WAITS) {
+        if ((code = mysql_wire_judge_front(&c->wire)) != MYSQL_WIRE_OK) return complain_of(code);
         ssize_t count = read(c->socket, room, sizeof room);
         if (count <= 0) return complain("the server is gone");
         code = mysql_wire_feed(&c->wire, room, (size_t)count);

@@ -45,11 +45,6 @@ def log_in(wire, user):
     unless_refused((yield wire.encode(front + null_bytes(user.encode()) + b"\0" + method)))
 
 
-def row_of(packet, columns):
-    fields = Fields(packet)
-    return [fields.lenenc_bytes_or_none() for _ in range(columns)]
-
-
 def query(wire, statement):
     """The rows of an answer: texts, or None for NULL. An answer without rows has none."""
     wire.reset()
@@ -61,7 +56,7 @@ def query(wire, statement):
         yield b""
     rows = []
     while (packet := unless_refused((yield b"")))[:1] != END or len(packet) >= 9:
-        rows.append(row_of(packet, columns))
+        rows.append(Fields(packet).row(columns))
     return rows
 
 
@@ -75,6 +70,7 @@ async def converse(exchange, wire, reader, writer):
             return end.value
         await writer.drain()
         while (packet := wire.next_packet()) is None:
+            wire.judge_front()
             if not (piece := await reader.read(STEP)):
                 raise ConnectionResetError("the server hung up")
             wire.feed(piece)
@@ -89,6 +85,7 @@ def talk(exchange, wire, sock):
         except StopIteration as end:
             return end.value
         while (packet := wire.next_packet()) is None:
+            wire.judge_front()
             if not (piece := sock.recv(STEP)):
                 raise ConnectionResetError("the server hung up")
             wire.feed(piece)

@@ -82,7 +82,7 @@ _REFUSALS = {
     -9: MissingBytes,
     -10: NotANumber,
 }
-_OUT_OF_SYNC = -2
+_NOWHERE = (1 << 64) - 1  # where a text is that is NULL
 _CHUNK_HEADER = 4
 _JUDGED = 1024  # how many packets are judged by one call of the library
 
@@ -175,6 +175,8 @@ _sent = _call("sent", c_size_t, _HANDLE, c_size_t)
 _reset = _call("reset", c_int32, _HANDLE)
 _sequence_id = _call("sequence_id", c_int32, _HANDLE)
 _set_sequence_id = _call("set_sequence_id", c_int32, _HANDLE, c_uint8)
+_packet_id_of = _call("packet_id", c_int32, _HANDLE)
+_judge_front = _call("judge_front", c_int32, _HANDLE)
 _spans_init = _call("spans_init", None, POINTER(_Spans), c_size_t, c_uint8)
 _spans_next = _call(
     "spans_next", c_int32, POINTER(_Spans), c_void_p, c_size_t, _COUNT, POINTER(_View),
@@ -188,6 +190,7 @@ _read_int = _call("read_int", c_int32, *_PLACE, c_size_t, POINTER(c_uint64))
 _read_lenenc_int = _call("read_lenenc_int", c_int32, *_PLACE, POINTER(c_uint64))
 _read_lenenc_bytes = _call("read_lenenc_bytes", c_int32, *_PLACE, POINTER(_Span))
 _read_null_bytes = _call("read_null_bytes", c_int32, *_PLACE, POINTER(_Span))
+_read_row = _call("read_row", c_int32, *_PLACE, c_void_p, c_size_t)
 _write_int = _call("write_int", c_int32, *_PLACE, c_size_t, c_uint64)
 _write_lenenc_int = _call("write_lenenc_int", c_int32, *_PLACE, c_uint64)
 
@@ -411,6 +414,28 @@ class Connection:
         self._settle()
         _checked(_set_sequence_id(byref(self._handle), number))
 
+    @property
+    def packet_id(self) -> int:
+        """The number of the packet that came or went last, and of its last chunk where it has more;
+        255 where none did.
+        """
+        number = _checked(_packet_id_of(byref(self._handle)))
+        return (number - length_hint(self._ahead)) % 256
+
+    def judge_front(self) -> None:
+        """Raises `PacketsOutOfSync` where the header in front bears another number than the expected
+        one, as soon as it has come: ask it where no packet is whole. The other calls refuse such a
+        packet only once its chunk has come, of up to 16777215 bytes. A client wants to be told here.
+
+        >>> with Connection(limit=1 << 24) as connection:
+        ...     print(list(connection.receive(b"\\0\\0\\x80\\x05")))
+        ...     connection.judge_front()
+        Traceback (most recent call last):
+        mysql_wire.PacketsOutOfSync: a packet bears another number than the expected one
+        """
+        self._settle()
+        _checked(_judge_front(byref(self._handle)))
+
     def reset(self) -> None:
         """Numbers the next packet 0, as at the start of a command."""
         self._settle()
@@ -556,6 +581,23 @@ class Fields:
             self._at.value += 1
             return None
         return self.lenenc_bytes()
+
+    def row(self, columns: int) -> List[Optional[bytes]]:
+        """The values of a text row, so many, by one call of the library: texts, or None for NULL.
+
+        >>> Fields(b"\\x03one\\xfb\\0").row(3)
+        [b'one', None, b'']
+        """
+        # (each value has a byte, so that a number which is too large takes no memory)
+        if _count_of(columns) > len(self):
+            raise MissingBytes("the bytes end inside a field")
+        data, places = self._bytes, array("Q", bytes(16 * columns))
+        address = places.buffer_info()[0]
+        _checked(_read_row(data, len(data), byref(self._at), address, columns))
+        numbers = iter(places.tolist())
+        return [
+            None if at == _NOWHERE else data[at : at + size] for at, size in zip(numbers, numbers)
+        ]
 
     def null_bytes(self) -> bytes:
         """The text before the next zero, which is read with it."""

@@ -156,6 +156,28 @@ class Packets(unittest.TestCase):
                 connection.receive(framed(1, b"b"))
 
 
+    def test_another_number_is_told_with_its_header(self):
+        with Connection(1 << 24) as connection:
+            for piece in (b"\x01\0\0", b"\0", b"a\0\0\x80"):
+                self.assertLessEqual(len(list(connection.receive(piece))), 1)
+                connection.judge_front()
+            for piece in (b"\x07", b"b"):
+                self.assertEqual(list(connection.receive(piece)), [])
+                with self.assertRaises(mysql_wire.PacketsOutOfSync):
+                    connection.judge_front()
+            connection.sequence_id = 7
+            connection.judge_front()
+
+    def test_a_packet_has_its_number(self):
+        with Connection() as connection:
+            self.assertEqual(connection.packet_id, 255)
+            stream = framed(0, b"a") + framed(1, b"b") + framed(2, b"c")
+            numbers = [connection.packet_id for _ in connection.receive(stream)]
+            self.assertEqual(numbers, [0, 1, 2])
+            connection.encode(b"")
+            self.assertEqual((connection.packet_id, connection.sequence_id), (3, 4))
+
+
 class PacketsInSpans(unittest.TestCase):
     payloads = [b"", b"a", b"x" * 300, b"bc"]
 
@@ -250,6 +272,16 @@ class OfPayloads(unittest.TestCase):
                 read(fields)
             self.assertEqual(fields.rest(), payload)
 
+    def test_a_row_is_read_at_once(self):
+        fields = Fields(b"\x02ab\xfb\0\xfc\x01\0c\xff")
+        self.assertRaises(mysql_wire.NotANumber, fields.row, 5)
+        self.assertEqual(fields.row(4), [b"ab", None, b"", b"c"])
+        self.assertEqual((fields.row(0), len(fields)), ([], 1))
+        for columns in (2, 2**64):
+            self.assertRaises(mysql_wire.MissingBytes, fields.row, columns)
+        self.assertRaises(mysql_wire.MissingBytes, Fields(b"\x02a").row, 1)
+        self.assertEqual(fields.rest(), b"\xff")
+
     def test_the_old_names_are_there(self):
         fields = Fields(b"\x01\0ab")
         for name, wanted in (("int", 1), ("bytes", b"ab")):
@@ -311,10 +343,11 @@ class OfArguments(unittest.TestCase):
     def test_numbers_of_fields(self):
         fields = Fields(b"abc")
         fields.take(1)
-        self.refused(fields.take, (-1, -(2**64)), ValueError)
-        self.refused(fields.take, (2**8, 2**32, 2**64), EOFError)
+        for call in (fields.take, fields.row):
+            self.refused(call, (-1, -(2**64)), ValueError)
+            self.refused(call, (2**8, 2**32, 2**64), EOFError)
         self.refused(fields.fixed_int, (-1, 0, 9, 2**8, 2**32 + 1, 2**64 + 1), ValueError)
-        for call in (fields.take, fields.fixed_int):
+        for call in (fields.take, fields.row, fields.fixed_int):
             self.refused(call, NO_NUMBERS)
         self.assertEqual(fields.rest(), b"bc")
 

@@ -10,6 +10,7 @@ ghost use Rattle.mysql_wire.specs.PayloadsBack.{DeliversFirst, LeavesBehind, Rea
 use std::alloc::Allocator;
 use wire_buf::error::WireError;
 use wire_buf::io::ParseBuf;
+pub use wire_codec::codec::early_judgement;
 pub use wire_codec::laws::{
     aligned_goes_on, appended_run, between_packets, bounded_delivery, bounded_limited_delivery,
     chunks_counted, empty_goes_on, encoded_first, equal_limits, framed_length, id_after_append,

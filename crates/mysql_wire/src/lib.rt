@@ -104,7 +104,7 @@ pub mod proto {
     pub mod codec {
         pub use wire_codec::codec::{
             ChunkDecoder, ChunkInfo, PacketCodec, PacketDst, Skipped, Visit, deliver, deliver_each,
-            deliver_each_limited, deliver_limited, encode_value, error, framed_len,
+            deliver_each_limited, deliver_limited, encode_value, error, framed_len, is_out_of_step,
             packet_to_chunks, packet_to_slice,
         };
         pub use wire_span::{

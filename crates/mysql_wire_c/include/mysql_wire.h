@@ -224,6 +224,19 @@ int32_t mysql_wire_set_limit(mysql_wire_connection *connection, size_t limit);
  */
 size_t mysql_wire_unread(mysql_wire_connection *connection);
 
+/*
+ * Judges the number of the header in front as soon as its four bytes have come. `mysql_wire_peek` and
+ * the other calls that read do so once the whole chunk has come, of up to 16777215 bytes; so where one
+ * of them answers WAITS, a client, which has one server, asks this:
+ *
+ *     if (code == MYSQL_WIRE_WAITS) code = mysql_wire_judge_front(&connection);
+ *
+ * OK: it bears the expected number, or hasn't come, or a packet is lent. OUT_OF_SYNC: it bears another,
+ * and no later call lends that packet; or the stream is lost. Nothing changes: the stream is lost only
+ * by a call that reads.
+ */
+int32_t mysql_wire_judge_front(mysql_wire_connection *connection);
+
 /* --- what goes --- */
 
 /*
@@ -286,6 +299,12 @@ int32_t mysql_wire_set_sequence_id(mysql_wire_connection *connection, uint8_t id
 
 /* The number of the next packet: 0 to 255. CLOSED; OUT_OF_SYNC: the stream is lost. */
 int32_t mysql_wire_sequence_id(mysql_wire_connection *connection);
+
+/*
+ * The number before it: that of the packet which was lent, taken or sent last, and of its last chunk
+ * where it has more. CLOSED; OUT_OF_SYNC: the stream is lost.
+ */
+int32_t mysql_wire_packet_id(mysql_wire_connection *connection);
 
 /*
  * --- packets in spans ---
@@ -396,6 +415,15 @@ int32_t mysql_wire_read_rest(const uint8_t *bytes, size_t len, size_t *at, mysql
  */
 int32_t mysql_wire_read_nullable_bytes(const uint8_t *bytes, size_t len, size_t *at,
                                        mysql_wire_span *text);
+
+/*
+ * The values of a row of a text result, `count` of them, in one call: where the text of each stands.
+ * The `at` of one that is NULL is SIZE_MAX, and its `len` 0.
+ * OK. NOT_A_NUMBER, MISSING_BYTES: as `mysql_wire_read_nullable_bytes` of the first value that is
+ * refused; `at` stays, and only the places in `texts` before that one's were written.
+ */
+int32_t mysql_wire_read_row(const uint8_t *bytes, size_t len, size_t *at, mysql_wire_span *texts,
+                            size_t count);
 
 /* The low `width` bytes of a number, 1 to 8. OK, ROOM_TOO_SMALL, NOT_A_NUMBER. */
 int32_t mysql_wire_write_int(uint8_t *room, size_t len, size_t *at, size_t width, uint64_t value);

@@ -3,3 +3,4 @@ pub mod SideLemmas
 pub mod FieldLemmas
 pub mod SpanLemmas
 pub mod DecodingLemmas
+pub mod RowLemmas

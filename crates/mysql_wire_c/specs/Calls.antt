@@ -1,7 +1,8 @@
 -- What each other call of a connection does, by its answer. Each answer but these is none that it
 -- gives.
-use Rattle.std.specs.Prelude.{◌≡◌, ℕ, ℤ, pos, ◌+◌, ◌%◌, ◌^◌, ◌-◌, ◌<◌, ◌≤◌, ◌⊎◌, List, ◌++◌, length, take, drop, min, Option, IsSome, IfSome, true, false}
+use Rattle.std.specs.Prelude.{◌≡◌, ℕ, ℤ, pos, ◌+◌, ◌%◌, ◌^◌, ◌-◌, ◌<◌, ◌≤◌, ◌⊎◌, ◌↔◌, List, ◌++◌, length, take, drop, min, Option, None, IsSome, IfSome, true, false}
 use Rattle.wire_codec.specs.declared.codec.error.PacketCodecError.TheVariants.{OutOfMemory, PacketTooLarge}
+use Rattle.wire_codec.specs.Early.{IsOutOfStep}
 use Rattle.wire_codec.specs.Framing.{max_payload, framing, next_id}
 use Rattle.mysql_wire_side.specs.declared.codes.TheConstants.{OK, TOO_LARGE, OUT_OF_SYNC, NO_MEMORY, ROOM_TOO_SMALL, PACKET_WAITS}
 use Rattle.mysql_wire_side.specs.Side.{Side, ConnectionState}
@@ -111,3 +112,17 @@ abbrev pub Numbers : ℤ → Side → Type 0
 Numbers answer side =
     (side.is_lost ≡ false → answer ≡ pos side.state.id)
     × (side.is_lost ≡ true → answer ≡ OUT_OF_SYNC)
+
+-- the number before it: that of the chunk which was lent, taken or sent last
+abbrev pub LastNumbers : ℤ → Side → Type 0
+LastNumbers answer side =
+    (side.is_lost ≡ false → answer ≡ pos ((side.state.id + 255) % 256))
+    × (side.is_lost ≡ true → answer ≡ OUT_OF_SYNC)
+
+-- the stream is lost, or no packet is lent, and the header in front bears another number than the
+-- expected one
+abbrev pub JudgesFront : ℤ → Side → Type 0
+JudgesFront answer side =
+    ((answer ≡ OUT_OF_SYNC) ↔ ((side.is_lost ≡ true) ⊎ ((side.is_lost ≡ false)
+    × (side.lent ≡ None) × IsOutOfStep side.state.id side.state.unread)))
+    × ((answer ≡ OK) ⊎ (answer ≡ OUT_OF_SYNC))

@@ -1,5 +1,6 @@
 pub mod Calls
 pub mod Fields
+pub mod Rows
 pub mod Spans
 pub mod Messages
 pub mod Owned

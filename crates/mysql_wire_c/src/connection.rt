@@ -8,7 +8,7 @@ ghost use Rattle.wire_codec.specs.InPlace.{HasFront, behind_front};
 ghost use Rattle.mysql_wire_side.specs.Side.{IsReady, is_lost_at, lent_at, behind_lent};
 ghost use Rattle.mysql_wire_side.specs.Answers.{new_connection};
 ghost use Rattle.mysql_wire_c.specs.Decoding.{Decodes, DecodesMany, FeedsFront, HasPacketIn, LendsFrom, LendsInTurn, codec_at};
-ghost use Rattle.mysql_wire_c.specs.Calls.{SetsLimit, unread_count, Encodes, EncodesTo, EncodesHeader, Sends, Resets, SetsId, Numbers};
+ghost use Rattle.mysql_wire_c.specs.Calls.{SetsLimit, unread_count, Encodes, EncodesTo, EncodesHeader, Sends, Resets, SetsId, Numbers, LastNumbers, JudgesFront};
 
 use crate::fields::Span;
 use crate::view::View;
@@ -21,7 +21,7 @@ use std::alloc::{AllocError, Global};
 use wire_buf::io::ParseBuf;
 use wire_codec::codec::error::PacketCodecError;
 use wire_codec::codec::header::{HEADER_LEN, Header};
-use wire_codec::codec::{PacketCodec, framed_len, packet_to_slice};
+use wire_codec::codec::{PacketCodec, framed_len, is_out_of_step, packet_to_slice};
 use wire_codec::laws;
 use wire_const::MAX_PAYLOAD_LEN;
 
@@ -406,6 +406,42 @@ pub fn sequence_id(connection: &Connection) -> i32
         Front::InPlace => connection.codec.sequence_id().wrapping_add(1) as i32,
         Front::Unfinished | Front::Copied => connection.codec.sequence_id() as i32,
         Front::Lost => OUT_OF_SYNC,
+    }
+}
+
+/// The number before it: that of the chunk which was lent, taken or sent last. `OUT_OF_SYNC` where
+/// the connection is lost.
+pub fn packet_id(connection: &Connection) -> i32
+    ensures { LastNumbers result connection.now.side }
+{
+    match connection.front {
+        Front::InPlace => connection
+            .codec
+            .sequence_id()
+            .wrapping_add(1)
+            .wrapping_add(255) as i32,
+        Front::Unfinished | Front::Copied => {
+            connection.codec.sequence_id().wrapping_add(255) as i32
+        }
+        Front::Lost => OUT_OF_SYNC,
+    }
+}
+
+/// Whether the header in front, as soon as it has come, bears the expected number. `OK`: it does, or
+/// hasn't come, or a packet is lent. `OUT_OF_SYNC`: it bears another, or the connection is lost.
+pub fn judge_front(connection: &Connection) -> i32
+    ensures { JudgesFront result connection.now.side }
+{
+    match connection.front {
+        Front::Lost => OUT_OF_SYNC,
+        Front::InPlace | Front::Copied => OK,
+        Front::Unfinished => {
+            if is_out_of_step(&connection.codec, connection.src.as_slice()) {
+                OUT_OF_SYNC
+            } else {
+                OK
+            }
+        }
     }
 }
 

@@ -12,17 +12,19 @@ ghost use Rattle.wire_buf.specs.Lenenc.{IsLenenc, IsLenencOrMark, lenenc_bytes};
 ghost use Rattle.mysql_wire_side.specs.declared.codes.TheConstants.{MISSING_BYTES, NOT_A_NUMBER, NULL, ROOM_TOO_SMALL};
 ghost use Rattle.mysql_wire_side.specs.Answers.{new_connection};
 ghost use Rattle.mysql_wire_side.specs.Calls.{Feeds, Peeks, LendsInPlace, Takes, CopiesNext};
-ghost use Rattle.mysql_wire_c.specs.Calls.{Both, BothStates, SetsLimit, unread_count, Encodes, EncodesTo, EncodesHeader, MovesPending, Sends, Resets, SetsId, Numbers};
+ghost use Rattle.mysql_wire_c.specs.Calls.{Both, BothStates, SetsLimit, unread_count, Encodes, EncodesTo, EncodesHeader, MovesPending, Sends, Resets, SetsId, Numbers, LastNumbers, JudgesFront};
 ghost use Rattle.mysql_wire_c.specs.Decoding.{Decodes, DecodesMany};
 ghost use Rattle.wire_codec.specs.Framing.{framing};
 ghost use Rattle.mysql_wire_c.specs.Messages.{message};
 ghost use Rattle.wire_span.specs.Spans.{IsBetween};
 ghost use Rattle.mysql_wire_c.specs.Spans.{state_of, IsValid, NextSpan, Renumbers};
+ghost use Rattle.mysql_wire_c.specs.Rows.{ReadsRow, StopsRow};
 ghost use Rattle.mysql_wire_c.specs.Fields.{IsCutShort, IsMark, ReadsAt, WritesAt, text_at};
 
 pub mod connection;
 pub mod fields;
 pub mod handle;
+pub mod rows;
 pub mod spans;
 pub mod texts;
 pub mod view;
@@ -389,6 +391,32 @@ pub extern "C" fn mysql_wire_sequence_id(handle: &mut Handle) -> i32
     connection::sequence_id(handle.connection())
 }
 
+/// The number of the packet that was lent, taken or sent last.
+#[unsafe(no_mangle)]
+pub extern "C" fn mysql_wire_packet_id(handle: &mut Handle) -> i32
+    ensures same { handle.new.connection ≡ handle.old.connection }
+    ensures number { MatchOption handle.old.connection (result ≡ CLOSED)
+        (λ state. LastNumbers result state.side) }
+{
+    if handle.is_closed() {
+        return CLOSED;
+    }
+    connection::packet_id(handle.connection())
+}
+
+/// Judges the number of the header in front, as soon as it has come.
+#[unsafe(no_mangle)]
+pub extern "C" fn mysql_wire_judge_front(handle: &mut Handle) -> i32
+    ensures same { handle.new.connection ≡ handle.old.connection }
+    ensures judges { MatchOption handle.old.connection (result ≡ CLOSED)
+        (λ state. JudgesFront result state.side) }
+{
+    if handle.is_closed() {
+        return CLOSED;
+    }
+    connection::judge_front(handle.connection())
+}
+
 /// Begins a stream of packets, between two of them.
 #[unsafe(no_mangle)]
 pub extern "C" fn mysql_wire_spans_init(spans: &mut Spans, limit: usize, id: u8)
@@ -574,6 +602,19 @@ pub extern "C" fn mysql_wire_read_nullable_bytes(
         ⊎ (result ≡ NOT_A_NUMBER) }
 {
     fields::read_nullable_bytes(bytes, at, text)
+}
+
+/// Reads the values of a row of a text result, as many as there are places for: where each stands.
+/// A value that is NULL has no bytes, and stands behind all places.
+///
+/// <https://dev.mysql.com/doc/dev/mysql-server/latest/page_protocol_com_query_response_text_resultset_row.html>
+#[unsafe(no_mangle)]
+pub extern "C" fn mysql_wire_read_row(bytes: &[u8], at: &mut usize, texts: &mut [Span]) -> i32
+    ensures read { result ≡ OK → ReadsRow bytes.now at.old texts.new at.new }
+    ensures stops { (result ≡ OK)
+        ⊎ ((at.new ≡ at.old) × StopsRow result bytes.now at.old texts.new) }
+{
+    rows::read_row(bytes, at, texts)
 }
 
 /// Writes the low `width` bytes of a number, 1 to 8, the least significant first. `NOT_A_NUMBER`:

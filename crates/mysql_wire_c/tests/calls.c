@@ -49,6 +49,8 @@ static bool a_closed_connection_answers_so(void) {
     CHECK(mysql_wire_reset(&none) == MYSQL_WIRE_CLOSED);
     CHECK(mysql_wire_set_sequence_id(&none, 3) == MYSQL_WIRE_CLOSED);
     CHECK(mysql_wire_sequence_id(&none) == MYSQL_WIRE_CLOSED);
+    CHECK(mysql_wire_packet_id(&none) == MYSQL_WIRE_CLOSED);
+    CHECK(mysql_wire_judge_front(&none) == MYSQL_WIRE_CLOSED);
     mysql_wire_close(&none);
     CHECK(none == NULL);
     return true;
@@ -315,6 +317,74 @@ static bool numbers_go_on_behind_a_packet_that_is_lent(void) {
     CHECK(mysql_wire_peek(&one, &view) == MYSQL_WIRE_PACKET && shows(view, "123", 3));
     CHECK(mysql_wire_take(&one) == MYSQL_WIRE_OK && mysql_wire_sequence_id(&one) == 0);
     CHECK(mysql_wire_unread(&one) == 0);
+    mysql_wire_close(&one);
+    return true;
+}
+
+static bool the_number_of_a_packet_is_the_one_before(void) {
+    static const uint8_t two[] = {1, 0, 0, 5, 'b', 0, 0, 0, 6};
+    mysql_wire_connection one = opened(3);
+    mysql_wire_view view;
+    size_t used;
+    CHECK(mysql_wire_packet_id(&one) == 255);
+    CHECK(mysql_wire_encode(&one, (const uint8_t *)"", 0) == MYSQL_WIRE_OK);
+    CHECK(mysql_wire_packet_id(&one) == 0);
+    CHECK(mysql_wire_set_sequence_id(&one, 5) == MYSQL_WIRE_OK);
+    CHECK(mysql_wire_feed(&one, two, 7) == MYSQL_WIRE_OK);
+    CHECK(mysql_wire_peek(&one, &view) == MYSQL_WIRE_PACKET && mysql_wire_packet_id(&one) == 5);
+    CHECK(mysql_wire_sequence_id(&one) == 6);
+    CHECK(mysql_wire_take(&one) == MYSQL_WIRE_OK && mysql_wire_packet_id(&one) == 5);
+    CHECK(mysql_wire_decode(&one, two + 7, 2, &used, &view) == MYSQL_WIRE_PACKET);
+    CHECK(used == 2 && mysql_wire_packet_id(&one) == 6);
+    mysql_wire_close(&one);
+    return true;
+}
+
+/* Feeds these bytes one by one. The answer is how many had come when the front was refused, and 99
+   where it never was. */
+static int refused_after(const uint8_t *bytes, int len) {
+    mysql_wire_connection one = opened(1 << 24);
+    mysql_wire_view view;
+    int came = 0, refused = 99;
+    while (came < len && refused == 99) {
+        int32_t code;
+        if (mysql_wire_feed(&one, bytes + came++, 1) != MYSQL_WIRE_OK) abort();
+        while ((code = mysql_wire_peek(&one, &view)) == MYSQL_WIRE_PACKET) mysql_wire_take(&one);
+        if (code == MYSQL_WIRE_WAITS) code = mysql_wire_judge_front(&one);
+        if (code == MYSQL_WIRE_OUT_OF_SYNC) refused = came;
+    }
+    mysql_wire_close(&one);
+    return refused;
+}
+
+static bool another_number_is_told_at_the_fourth_byte(void) {
+    static const uint8_t long_other[] = {0, 0, 0x80, 1, 'a', 'b'};
+    static const uint8_t long_expected[] = {0, 0, 0x80, 0, 'a', 'b'};
+    static const uint8_t second_other[] = {1, 0, 0, 0, 'a', 2, 0, 0, 2, 'b', 'c'};
+    static const uint8_t second_expected[] = {1, 0, 0, 0, 'a', 2, 0, 0, 1, 'b', 'c'};
+    static const uint8_t full[] = {0xff, 0xff, 0xff, 9};
+    mysql_wire_connection one = opened(1 << 24);
+    mysql_wire_view view;
+    CHECK(refused_after(long_other, 6) == 4 && refused_after(long_expected, 6) == 99);
+    CHECK(refused_after(second_other, 11) == 9 && refused_after(second_expected, 11) == 99);
+    CHECK(refused_after(full, 4) == 4);
+    /* (nothing changes, and a packet that is lent isn't behind the front) */
+    CHECK(mysql_wire_judge_front(&one) == MYSQL_WIRE_OK);
+    CHECK(mysql_wire_feed(&one, second_other, 10) == MYSQL_WIRE_OK);
+    CHECK(mysql_wire_judge_front(&one) == MYSQL_WIRE_OK);
+    CHECK(mysql_wire_peek(&one, &view) == MYSQL_WIRE_PACKET && shows(view, "a", 1));
+    CHECK(mysql_wire_judge_front(&one) == MYSQL_WIRE_OK);
+    CHECK(mysql_wire_take(&one) == MYSQL_WIRE_OK);
+    CHECK(mysql_wire_judge_front(&one) == MYSQL_WIRE_OUT_OF_SYNC);
+    CHECK(mysql_wire_peek(&one, &view) == MYSQL_WIRE_WAITS && mysql_wire_unread(&one) == 5);
+    CHECK(mysql_wire_judge_front(&one) == MYSQL_WIRE_OUT_OF_SYNC);
+    CHECK(mysql_wire_set_sequence_id(&one, 2) == MYSQL_WIRE_OK);
+    CHECK(mysql_wire_judge_front(&one) == MYSQL_WIRE_OK);
+    CHECK(mysql_wire_set_sequence_id(&one, 3) == MYSQL_WIRE_OK);
+    CHECK(mysql_wire_feed(&one, second_other + 10, 1) == MYSQL_WIRE_OK);
+    CHECK(mysql_wire_peek(&one, &view) == MYSQL_WIRE_OUT_OF_SYNC);
+    CHECK(mysql_wire_judge_front(&one) == MYSQL_WIRE_OUT_OF_SYNC);
+    CHECK(mysql_wire_packet_id(&one) == MYSQL_WIRE_OUT_OF_SYNC);
     mysql_wire_close(&one);
     return true;
 }
@@ -629,6 +699,8 @@ const test call_tests[] = {
     {"an address of nothing may be NULL", an_address_of_nothing_may_be_null},
     {"what is encoded goes out in parts", what_is_encoded_goes_out_in_parts},
     {"numbers go on behind a packet that is lent", numbers_go_on_behind_a_packet_that_is_lent},
+    {"the number of a packet is the one before", the_number_of_a_packet_is_the_one_before},
+    {"another number is told at the fourth byte", another_number_is_told_at_the_fourth_byte},
     {"the numbers are those of the chunks", the_numbers_are_those_of_the_chunks},
     {"the number that is set is the next", the_number_that_is_set_is_the_next},
     {"framed lengths are counted", framed_lengths_are_counted},

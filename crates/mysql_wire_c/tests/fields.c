@@ -196,6 +196,28 @@ static bool other_texts_are_read(void) {
     return true;
 }
 
+static bool a_row_is_read_at_once(void) {
+    static const uint8_t row[] = {7, 2, 'a', 'b', 0xfb, 0, 0xfc, 1, 0, 'c', 0xff};
+    mysql_wire_span texts[5] = {{7, 7}, {7, 7}, {7, 7}, {7, 7}, {7, 7}};
+    size_t at = 1;
+    CHECK(mysql_wire_read_row(row, 11, &at, texts, 4) == MYSQL_WIRE_OK && at == 10);
+    CHECK(texts[0].at == 2 && texts[0].len == 2);
+    CHECK(texts[1].at == SIZE_MAX && texts[1].len == 0);
+    CHECK(texts[2].at == 6 && texts[2].len == 0 && texts[3].at == 9 && texts[3].len == 1);
+    CHECK(texts[4].at == 7);
+    at = 1;
+    CHECK(mysql_wire_read_row(row, 11, &at, texts, 5) == MYSQL_WIRE_NOT_A_NUMBER && at == 1);
+    CHECK(mysql_wire_read_row(row, 10, &at, texts, 5) == MYSQL_WIRE_MISSING_BYTES && at == 1);
+    CHECK(mysql_wire_read_row(row, 3, &at, texts, 1) == MYSQL_WIRE_MISSING_BYTES && at == 1);
+    CHECK(texts[4].at == 7);
+    at = 12;
+    CHECK(mysql_wire_read_row(row, 11, &at, texts, 0) == MYSQL_WIRE_OK && at == 12);
+    CHECK(mysql_wire_read_row(row, 11, &at, texts, 1) == MYSQL_WIRE_MISSING_BYTES && at == 12);
+    at = 0;
+    CHECK(mysql_wire_read_row(NULL, 0, &at, NULL, 0) == MYSQL_WIRE_OK && at == 0);
+    return true;
+}
+
 static bool hostile_lengths_and_places_are_refused(void) {
     static const uint8_t huge[] = {0xfe, 0xff, 0xff, 0xff, 0xff, 0xff, 0xff, 0xff, 0xff, 'a'};
     static const size_t places[] = {11, SIZE_MAX - 1, SIZE_MAX};
@@ -229,6 +251,7 @@ const test field_tests[] = {
     {"marks are no numbers", marks_are_no_numbers},
     {"texts come back", texts_come_back},
     {"other texts are read", other_texts_are_read},
+    {"a row is read at once", a_row_is_read_at_once},
     {"hostile lengths and places are refused", hostile_lengths_and_places_are_refused},
     {NULL, NULL},
 };

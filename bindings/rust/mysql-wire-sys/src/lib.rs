@@ -78,6 +78,7 @@ extern "C" {
         count: *mut usize,
         used: *mut usize,
     ) -> i32;
+    pub fn mysql_wire_judge_front(connection: *mut Handle) -> i32;
     pub fn mysql_wire_set_limit(connection: *mut Handle, limit: usize) -> i32;
     pub fn mysql_wire_unread(connection: *mut Handle) -> usize;
     pub fn mysql_wire_encode(connection: *mut Handle, payload: *const u8, len: usize) -> i32;
@@ -97,6 +98,7 @@ extern "C" {
     pub fn mysql_wire_reset(connection: *mut Handle) -> i32;
     pub fn mysql_wire_set_sequence_id(connection: *mut Handle, id: u8) -> i32;
     pub fn mysql_wire_sequence_id(connection: *mut Handle) -> i32;
+    pub fn mysql_wire_packet_id(connection: *mut Handle) -> i32;
     pub fn mysql_wire_spans_init(spans: *mut Spans, limit: usize, id: u8);
     pub fn mysql_wire_spans_next(
         spans: *mut Spans,
@@ -157,6 +159,13 @@ extern "C" {
         len: usize,
         at: *mut usize,
         text: *mut Span,
+    ) -> i32;
+    pub fn mysql_wire_read_row(
+        bytes: *const u8,
+        len: usize,
+        at: *mut usize,
+        texts: *mut Span,
+        count: usize,
     ) -> i32;
     pub fn mysql_wire_write_int(
         room: *mut u8,

@@ -104,6 +104,16 @@ pub fn sequence_id(handle: &Handle) -> i32 {
     unsafe { c::mysql_wire_sequence_id(handle.0.get()) }
 }
 
+pub fn packet_id(handle: &Handle) -> i32 {
+    // SAFETY: the handle is open.
+    unsafe { c::mysql_wire_packet_id(handle.0.get()) }
+}
+
+pub fn judge_front(handle: &Handle) -> i32 {
+    // SAFETY: the handle is open.
+    unsafe { c::mysql_wire_judge_front(handle.0.get()) }
+}
+
 pub fn new_spans(limit: usize, id: u8) -> c::Spans {
     let mut spans = c::Spans {
         limit: 0,
@@ -159,6 +169,12 @@ pub fn read_lenenc_bytes(bytes: &[u8], at: &mut usize, text: &mut c::Span) -> i3
 pub fn read_null_bytes(bytes: &[u8], at: &mut usize, text: &mut c::Span) -> i32 {
     // SAFETY: as of `read_int`.
     unsafe { c::mysql_wire_read_null_bytes(bytes.as_ptr(), bytes.len(), at, text) }
+}
+
+pub fn read_row(bytes: &[u8], at: &mut usize, texts: &mut [c::Span]) -> i32 {
+    let (places, count) = (texts.as_mut_ptr(), texts.len());
+    // SAFETY: the slices are valid for their lengths, and `at` is a place.
+    unsafe { c::mysql_wire_read_row(bytes.as_ptr(), bytes.len(), at, places, count) }
 }
 
 pub fn write_int(room: &mut [u8], at: &mut usize, width: usize, value: u64) -> i32 {

@@ -86,6 +86,24 @@ impl Connection {
         (used, places.get(..count).unwrap_or_default())
     }
 
+    /// Whether the header in front bears the expected number, as soon as it has come: ask it where
+    /// `peek` or `decode` answers `None`, which refuse a packet of another number only once its chunk
+    /// has come whole, of up to 16777215 bytes. A client wants to be told here. It changes nothing, and
+    /// no later call lends a packet that it refuses.
+    ///
+    /// ```
+    /// # fn main() -> Result<(), mysql_wire::Error> {
+    /// let mut connection = mysql_wire::Connection::new(1 << 24)?;
+    /// connection.feed(b"\0\0\x80\x05")?; // a header of 8 MiB, numbered 5
+    /// assert_eq!(connection.peek(), Ok(None));
+    /// assert_eq!(connection.judge_front(), Err(mysql_wire::Error::PacketsOutOfSync));
+    /// # Ok(())
+    /// # }
+    /// ```
+    pub fn judge_front(&self) -> Result<(), Error> {
+        checked(calls::judge_front(&self.0)).map(drop)
+    }
+
     /// Sets the most payload bytes of a packet, for what is fed, and encoded, from now on. Where the
     /// packet in front is too large, it holds for that one too. `PacketWaits`: a packet stands
     /// whole, and has to be taken first.
@@ -149,6 +167,12 @@ impl Connection {
     /// The number of the next packet. `PacketsOutOfSync`: the stream is lost.
     pub fn sequence_id(&self) -> Result<u8, Error> {
         Ok(checked(calls::sequence_id(&self.0))? as u8)
+    }
+
+    /// The number of the packet that was lent, taken or sent last, and of its last chunk where it has
+    /// more; 255 where none was. `PacketsOutOfSync`: the stream is lost.
+    pub fn packet_id(&self) -> Result<u8, Error> {
+        Ok(checked(calls::packet_id(&self.0))? as u8)
     }
 }
 

@@ -68,6 +68,26 @@ impl<'a> Fields<'a> {
         self.lenenc_bytes().map(Some)
     }
 
+    /// The values of a text row, so many, by one call of the library: each a text, or `None` for NULL.
+    ///
+    /// ```
+    /// # fn main() -> Result<(), mysql_wire::Error> {
+    /// let mut fields = mysql_wire::Fields::new(b"\x03one\xfb\0");
+    /// assert_eq!(fields.row(3)?, [Some(&b"one"[..]), None, Some(b"")]);
+    /// # Ok(())
+    /// # }
+    /// ```
+    pub fn row(&mut self, columns: usize) -> Result<Vec<Option<&'a [u8]>>, Error> {
+        // (each value has a byte, so that a number which is too large takes no memory)
+        if columns > self.rest().len() {
+            return Err(Error::MissingBytes);
+        }
+        let mut texts = vec![c::Span { at: 0, len: 0 }; columns];
+        checked(calls::read_row(self.bytes, &mut self.at, &mut texts))?;
+        let value = |text: c::Span| (text.at != usize::MAX).then(|| self.text(text));
+        Ok(texts.into_iter().map(value).collect())
+    }
+
     /// The text before the next zero, which is read with it.
     pub fn null_bytes(&mut self) -> Result<&'a [u8], Error> {
         let mut text = c::Span { at: 0, len: 0 };

@@ -129,3 +129,44 @@ fn the_version_is_the_crate_s() {
         env!("CARGO_PKG_VERSION").split('.').map(|number| number.parse().unwrap()).collect();
     assert_eq!(mysql_wire::version(), 10_000 * numbers[0] + 100 * numbers[1] + numbers[2]);
 }
+
+#[test]
+fn another_number_is_told_with_its_header() {
+    let mut connection = Connection::new(1 << 24).unwrap();
+    for (piece, wanted) in [
+        (&b"\x01\0\0"[..], Ok(())),
+        (b"\0", Ok(())),
+        (b"a\0\0\x80", Ok(())),
+        (b"\x07", Err(Error::PacketsOutOfSync)),
+        (b"b", Err(Error::PacketsOutOfSync)),
+    ] {
+        connection.feed(piece).unwrap();
+        while connection.next_packet().unwrap().is_some() {}
+        assert_eq!(connection.judge_front(), wanted);
+    }
+    connection.set_sequence_id(7).unwrap();
+    assert_eq!(connection.judge_front(), Ok(()));
+}
+
+#[test]
+fn a_packet_has_its_number() {
+    let mut connection = Connection::new(9).unwrap();
+    assert_eq!(connection.packet_id(), Ok(255));
+    connection.set_sequence_id(255).unwrap();
+    connection.feed(&framed(255, b"a")).unwrap();
+    assert_eq!(connection.next_packet(), Ok(Some(b"a".to_vec())));
+    assert_eq!((connection.packet_id(), connection.sequence_id()), (Ok(255), Ok(0)));
+}
+
+#[test]
+fn a_row_is_read_at_once() {
+    let row = b"\x02ab\xfb\0\xfc\x01\0c\xff";
+    let mut fields = Fields::new(row);
+    assert_eq!(fields.row(5), Err(Error::NotANumber));
+    assert_eq!(fields.row(4), Ok(vec![Some(&b"ab"[..]), None, Some(b""), Some(b"c")]));
+    assert_eq!((fields.at(), fields.row(0)), (9, Ok(vec![])));
+    for columns in [2, usize::MAX] {
+        assert_eq!((fields.row(columns), fields.at()), (Err(Error::MissingBytes), 9));
+    }
+    assert_eq!(Fields::new(b"\x02a").row(1), Err(Error::MissingBytes));
+}
