@@ -5,3 +5,4 @@ pub mod NumberLemmas
 pub mod ArgumentLemmas
 pub mod ReframeLemmas
 pub mod PacketLineLemmas
+pub mod PartLemmas

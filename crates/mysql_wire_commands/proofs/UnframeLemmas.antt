@@ -148,22 +148,22 @@ unframing_start empty limits at state id header unread held = record {
 }
 
 -- ids and places behind two lists of payloads
-id_after-append : (s : ℕ) (ps qs : List (List ℕ)) → id_after s (ps ++ qs) ≡ id_after (id_after s ps) qs
+pub id_after-append : (s : ℕ) (ps qs : List (List ℕ)) → id_after s (ps ++ qs) ≡ id_after (id_after s ps) qs
 id_after-append s [] qs = refl
 id_after-append s (p ∷ ps) qs = id_after-append (next_id s p) ps qs
 
-id_after_small : (s : ℕ) (ps : List (List ℕ)) → s < 256 → id_after s ps < 256
+pub id_after_small : (s : ℕ) (ps : List (List ℕ)) → s < 256 → id_after s ps < 256
 id_after_small s [] h = h
 id_after_small s (p ∷ ps) h = id_after_small (next_id s p) ps (omega arith)
 
-open_at_id : (s : ℕ) (held : List ℕ) → s < 256 → open_id (id_at s held) held ≡ s
+pub open_at_id : (s : ℕ) (held : List ℕ) → s < 256 → open_id (id_at s held) held ≡ s
 open_at_id s held h = omega arith
 
-place_after-append : (place : ℕ) (ps qs : List (List ℕ)) → place_after place (ps ++ qs) ≡ place_after (place_after place ps) qs
+pub place_after-append : (place : ℕ) (ps qs : List (List ℕ)) → place_after place (ps ++ qs) ≡ place_after (place_after place ps) qs
 place_after-append place [] qs = refl
 place_after-append place (p ∷ ps) qs = place_after-append (place + framed_size p) ps qs
 
-length-stream : FramedLength → (s place : ℕ) (ps : List (List ℕ)) → place + length (stream s ps) ≡ place_after place ps
+pub length-stream : FramedLength → (s place : ℕ) (ps : List (List ℕ)) → place + length (stream s ps) ≡ place_after place ps
 length-stream framed s place [] = omega arith
 length-stream framed s place (p ∷ ps) =
     let e = length-append (framing s p) (stream (next_id s p) ps) in

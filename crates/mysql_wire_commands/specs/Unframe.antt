@@ -164,12 +164,18 @@ bytes_left state =
 abbrev pub next_limit : {A : Type 0} → Run A → ℕ
 next_limit run = if nat_lt 0 run.ahead then run.limit else run.later
 
--- a run takes one piece, and the lines of what it makes of it are written
+-- a run takes a part of a piece under this limit, and the lines of what it makes of it are written
+abbrev pub WritesPart : {A : Type 0} → ℕ → Run A → Run A → List ℕ → Verdict → Option (List ℕ)
+    → Option (List ℕ) → Type 0
+WritesPart limit old new part verdict written now = (text : List ℕ)
+    × TakesPiece (run_state old) limit part verdict text (run_state new)
+    × Appends written now (text ++ verdict_line verdict)
+
+-- the same of one piece, under the limit of the next bytes
 abbrev pub WritesPiece : {A : Type 0} → Run A → Run A → List ℕ → Verdict → Option (List ℕ)
     → Option (List ℕ) → Type 0
-WritesPiece old new piece verdict written now = (text : List ℕ)
-    × TakesPiece (run_state old) (next_limit old) piece verdict text (run_state new)
-    × Appends written now (text ++ verdict_line verdict)
+WritesPiece old new piece verdict written now =
+    WritesPart (next_limit old) old new piece verdict written now
 
 -- `unframe` ended so from where this run starts
 abbrev pub RunEnds : {A : Type 0} → Run A → ℕ → Option (List ℕ) → Option (List ℕ)

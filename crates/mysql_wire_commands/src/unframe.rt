@@ -19,7 +19,7 @@ use wire_codec::laws;
 use wire_const::MAX_PAYLOAD_LEN;
 
 // Packets are visited where they lie where fewer bytes than these are unread, and fewer than those
-// come: together they hold no full chunk.
+// come: together they hold no full chunk. So many bytes take lines that are held, but for one.
 const MOST_UNREAD: usize = TEXT_AT_ONCE / 2;
 
 const MOST_AT_ONCE: usize = MAX_PAYLOAD_LEN - MOST_UNREAD;
@@ -96,6 +96,29 @@ impl<A: Allocator + Copy> Run<A> {
         }
     }
 
+    // The limit of a piece of so many bytes, which are now no more ahead.
+    fn begin_piece(&mut self, len: usize) -> usize
+        ensures limit { result ≡ next_limit self.old }
+        ensures rest { self.new ≡ record self.old { ahead = self.old.ahead - len } }
+    {
+        let limit = self.next_limit();
+        self.ahead = self.ahead.saturating_sub(len);
+        limit
+    }
+
+    // How many of so many bytes are taken at once: with the unread ones as many as take lines that
+    // are held, or all where a packet is under way that is too large for that.
+    fn part_len(&self, len: usize) -> usize
+        ensures within { result ≤ len }
+        ensures some { 0 < len → 0 < result }
+    {
+        if self.src.len() < MOST_UNREAD {
+            len.min(MOST_UNREAD - self.src.len())
+        } else {
+            len
+        }
+    }
+
     // Delivers the packets of pieces with so many bytes. Where one is under way that is too large for
     // its line to be held, or one of several chunks may come whole, they are moved out of the
     // buffers, and else each is visited where it lies.
@@ -125,19 +148,18 @@ impl<A: Allocator + Copy> Run<A> {
         }
     }
 
-    // Takes the packets of one more piece, which comes under one limit.
-    fn take(&mut self, piece: &[u8]) -> Result<Verdict, Stop>
+    // Takes the packets of one part more of a piece, under the piece's limit.
+    fn take(&mut self, limit: usize, part: &[u8]) -> Result<Verdict, Stop>
         requires { Aligned (run_state self.old) }
         ensures takes { IfOk result
-            (λ verdict. TakesPiece (run_state self.old) (next_limit self.old) piece.now verdict
+            (λ verdict. TakesPiece (run_state self.old) limit part.now verdict
             (said self.new.lines) (run_state self.new)) }
         ensures aligned { IfOk result (λ verdict. verdict ≡ Waits → Aligned (run_state self.new)) }
         ensures limits { (self.new.limit ≡ self.old.limit) × (self.new.later ≡ self.old.later)
-            × (self.new.ahead ≡ self.old.ahead - length piece.now) }
+            × (self.new.ahead ≡ self.old.ahead) }
     {
-        let pieces = [(self.next_limit(), piece)];
-        self.ahead = self.ahead.saturating_sub(piece.len());
-        let (_, result) = self.deliver(piece.len(), &pieces);
+        let pieces = [(limit, part)];
+        let (_, result) = self.deliver(part.len(), &pieces);
         if self.lines.is_refused {
             return Err(Stop::Memory);
         }
@@ -174,14 +196,39 @@ fn verdict_text(verdict: Verdict) -> &'static str
     }
 }
 
-ghost use Rattle.mysql_wire_commands.specs.Unframe.{RunEnds, RunStops, StartsRun, StopsOver, UnframeEnds, UnframeEndsOver, UnframeLimitedEnds, WritesPiece, bytes_left, ending_line, ending_status, next_limit, place_limits, run_state};
+ghost use Rattle.mysql_wire_commands.specs.Unframe.{RunEnds, RunStops, StartsRun, StopsOver, UnframeEnds, UnframeEndsOver, UnframeLimitedEnds, WritesPart, WritesPiece, bytes_left, ending_line, ending_status, next_limit, place_limits, run_state};
 ghost use Rattle.mysql_wire_commands.specs.Reads.{AsksStep, AsksUpTo, ReadsWhile};
 ghost use Rattle.std.specs.Io.KnownBytes.{Appends};
 ghost use Rattle.wire_codec.specs.Delivery.{Waiting};
 ghost use Rattle.wire_codec.specs.LimitedRuns.{Aligned, WaitsUnder};
 ghost use Rattle.wire_codec.specs.Runs.{WaitsFrom};
 
-// Takes the packets of one more piece, which comes under one limit, and writes their lines.
+// Takes the packets of one part more of a piece, under the piece's limit, and writes their lines.
+fn take_part<A: Allocator + Copy, W: Write>(
+    run: &mut Run<A>,
+    limit: usize,
+    part: &[u8],
+    output: &mut W,
+) -> Result<Verdict, Stop>
+    requires { Aligned (run_state run.old) }
+    ensures takes { IfOk result (λ verdict. WritesPart limit run.old run.new part.now verdict
+        (W.contents output.old) (W.contents output.new)) }
+    ensures aligned { IfOk result (λ verdict. verdict ≡ Waits → Aligned (run_state run.new)) }
+    ensures limits { (run.new.limit ≡ run.old.limit) × (run.new.later ≡ run.old.later)
+        × (run.new.ahead ≡ run.old.ahead) }
+{
+    let verdict = run.take(limit, part)?;
+    let lines = &mut run.lines;
+    write_packets(&mut lines.text, lines.packets.as_slice(), output)?;
+    lines
+        .text
+        .extend_from_slice(verdict_text(verdict).as_bytes())?;
+    write_whole(output, lines.text.as_slice())?;
+    Ok(verdict)
+}
+
+// Takes the packets of one more piece, which comes under one limit, part by part, and writes the
+// lines of each part behind it.
 fn take_piece<A: Allocator + Copy, W: Write>(
     run: &mut Run<A>,
     piece: &[u8],
@@ -194,14 +241,22 @@ fn take_piece<A: Allocator + Copy, W: Write>(
     ensures limits { (run.new.limit ≡ run.old.limit) × (run.new.later ≡ run.old.later)
         × (run.new.ahead ≡ run.old.ahead - length piece.now) }
 {
-    let verdict = run.take(piece)?;
-    let lines = &mut run.lines;
-    write_packets(&mut lines.text, lines.packets.as_slice(), output)?;
-    lines
-        .text
-        .extend_from_slice(verdict_text(verdict).as_bytes())?;
-    write_whole(output, lines.text.as_slice())?;
-    Ok(verdict)
+    laws::joined_limited_runs();
+    laws::framed_length();
+    let limit = run.begin_piece(piece.len());
+    let mut rest = piece;
+    'parts: loop {
+        let (part, behind) = rest.split_at(run.part_len(rest.len()));
+        match take_part(run, limit, part, output)? {
+            Verdict::Waits => {}
+            Verdict::TooLarge => return Ok(Verdict::TooLarge),
+            Verdict::OutOfSync => return Ok(Verdict::OutOfSync),
+        }
+        if behind.is_empty() {
+            return Ok(Verdict::Waits);
+        }
+        rest = behind;
+    }
 }
 
 // Writes how many bytes are left at the end of the input. The answer is the exit status.
