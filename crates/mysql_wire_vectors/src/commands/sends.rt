@@ -1,11 +1,50 @@
-// What `reframe` sends to a writer that takes a write whole or not at all.
+// What `reframe` has sent before each read, and to a writer that takes a write whole or not at all.
 
 use mysql_wire_commands::reframe::run_reframe;
 use std::alloc::{AllocError, Global};
 use std::io;
 use std::io::{ErrorKind, Write};
 use std::test::Fail;
-use test_support::facts::{no_row, same, wrong_row};
+use test_support::facts::{ensure, no_row, same, wrong_row};
+use test_support::readers::Parts;
+
+// Three packets, and where each ends.
+const INPUT: &[u8] = b"\x01\0\0\0a\x01\0\0\x01b\x02\0\0\x02cd";
+
+const ENDS: [usize; 3] = [5, 10, 16];
+
+// The packets that are whole where so many bytes have come.
+fn whole_packets(came: usize) -> &'static [u8] {
+    let mut whole = 0;
+    for end in ENDS {
+        if end <= came {
+            whole = end;
+        }
+    }
+    &INPUT[..whole.min(INPUT.len())]
+}
+
+// Whether these are sent, and nothing else, where reads bring so many bytes and that of this number
+// fails.
+fn is_sent(alloc: Global, at_once: usize, read: usize) -> bool {
+    let parts = [(INPUT, 0)];
+    let input = Parts::new(&parts, at_once, read, ErrorKind::Other);
+    let output: Vec<u8> = Vec::new(alloc);
+    let (status, _, output) = run_reframe(alloc, 9, input, output);
+    let came = at_once.saturating_mul(read).min(INPUT.len());
+    (status == 2) & same(output.as_slice(), whole_packets(came))
+}
+
+#[test]
+fn each_packet_is_sent_before_the_next_read(rt: HostRuntime) -> Result<(), Fail> {
+    let mut all = true;
+    for at_once in [1, 4, 7, 11, 15, 16] {
+        for read in 0..=16 / at_once {
+            all &= is_sent(rt.alloc(), at_once, read);
+        }
+    }
+    ensure(all, "a packet is kept back")
+}
 
 // Takes a part of the first write, and then each whole or not at all.
 #[derive(Drop)]
