@@ -13,8 +13,8 @@ pub const USAGE: &str = "usage: proxy [OPTIONS] LISTEN SERVER
   --clients COUNT      the most clients at once; 1000
   --login SECONDS      how long a login may take; 10
   --idle SECONDS       how long a client that is logged in may send nothing; 28800
-  --stalled SECONDS    how long a side may take none of the bytes that wait for it, and how long
-                       an answer is waited for whose client sends no more; 60
+  --stalled SECONDS    how long a side may take none of the bytes that wait for it, the rest of a
+                       command may take, and an answer whose client sends no more; 60
   --drain SECONDS      how long clients may take to end their commands after SIGTERM; 30
   --statements         logs the fronts of statements, and not only which commands they are
   --help               prints this";

@@ -89,7 +89,8 @@ impl Relay {
             Err(Fault::Io(..) | Fault::Late(Late::Stalled(_))) => false,
             _ => !client.closed,
         };
-        let is_writing = !client.ended && !client.stream.is_between_packets();
+        let sends = client.stream.is_held() || !client.stream.is_between_packets();
+        let is_writing = sends && !client.ended;
         if listens && (is_writing || !last.is_empty()) {
             if let Err(error) = client.say_last(&last, &stop) {
                 log.say(format_args!("client: {error}"));
@@ -193,13 +194,18 @@ impl Relay {
         if server.ended && is_sent {
             return self.server_left().map(Some);
         }
-        let is_asked = !server.is_awaited_by(&client.stream);
-        let rests =
-            is_sent && is_asked && (!exchange.is_logged_in() || exchange.is_between_commands());
-        if self.stopped && rests && client.stream.is_between_packets() {
+        if self.stopped && self.rests() {
             return Err(Fault::Stopped);
         }
         Ok(None)
+    }
+
+    /// Whether nothing but a login or a command can come next.
+    fn rests(&self) -> bool {
+        let Relay { client, server, exchange, .. } = self;
+        let is_asked = !server.is_awaited_by(&client.stream);
+        let is_between = [client, server].iter().all(|side| side.stream.is_between_packets());
+        is_asked && is_between && (!exchange.is_logged_in() || exchange.is_between_commands())
     }
 
     /// Whether a part of a packet of the client came, and its rest has not.

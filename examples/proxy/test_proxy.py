@@ -7,6 +7,7 @@ has what takes a real server.
 """
 
 import contextlib
+import glob
 import os
 import re
 import resource
@@ -62,9 +63,17 @@ class Proxy:
         with open(f"/proc/{self.process.pid}/status", encoding="ascii") as status:
             return int(re.search(rf"^{field}:\s*(\d+) kB", status.read(), re.M)[1])
 
-
     def threads(self):
         return len(os.listdir(f"/proc/{self.process.pid}/task"))
+
+    def waits(self, name):
+        """How often the thread of this name has waited for something."""
+        for status in glob.glob(f"/proc/{self.process.pid}/task/*/status"):
+            with open(status, encoding="ascii") as lines:
+                fields = dict(line.split(":", 1) for line in lines)
+            if fields["Name"].strip() == name:
+                return int(fields["voluntary_ctxt_switches"])
+        raise LookupError(name)
 
 
 def within(holds, seconds=PATIENCE):
@@ -238,6 +247,14 @@ class HalfClosed(ProxyTests):
         client.stream.close()
         self.assertTrue(within(lambda: self.server.left == 1, 3))
         self.assertTrue(proxy.logged("the client hung up before its answer"))
+
+
+    def test_a_reset_reaches_a_server_at_work(self):
+        client = self.logged_in(self.proxy())
+        client.command(b"\x03watch 15")
+        client.stream.setsockopt(socket.SOL_SOCKET, socket.SO_LINGER, struct.pack("ii", 1, 0))
+        client.stream.close()
+        self.assertTrue(within(lambda: self.server.left == 1, 3))
 
 
 class Crowds(ProxyTests):
@@ -564,6 +581,16 @@ class Logs(ProxyTests):
         client.command(PING)
         self.assertEqual(client.receive(), OK)
         self.assertTrue(proxy.logged(r" \d+ lines dropped"))
+
+    def test_lines_are_written_together(self):
+        proxy = self.proxy()
+        client = self.logged_in(proxy)
+        before = proxy.waits("log")
+        for _ in range(2000):
+            client.command(PING)
+            self.assertEqual(client.receive(), OK)
+        self.assertLess(proxy.waits("log") - before, 1000)
+        self.assertTrue(within(lambda: sum("COM_PING" in line for line in proxy.lines) == 2000))
 
     def test_lines_have_time_number_and_address(self):
         proxy = self.proxy()
