@@ -485,6 +485,7 @@ class Deadlines(ProxyTests):
         client = self.logged_in(proxy)
         client.stream.sendall((1000).to_bytes(3, "little") + b"\0\x03" + bytes(600))
         self.assert_error(client, 1159)
+        client.stream.close()
         self.assertTrue(proxy.logged("the client stopped inside a packet"))
 
     def test_a_server_may_work_for_longer(self):
