@@ -336,7 +336,7 @@ class Connection:
             byref(self._handle), _address(data) + front if front else data, len(data) - front,
             places.buffer_info()[0], _JUDGED, byref(count), byref(used),
         )
-        numbers = iter(places[: 2 * count.value].tolist())
+        numbers = iter(places[: 2 * count.value])
         if front:
             packets = [data[front + at : front + at + size] for at, size in zip(numbers, numbers)]
         else:
@@ -552,8 +552,8 @@ class Fields:
     """
 
     def __init__(self, payload: Bytes) -> None:
-        self._bytes = _bytes_of(payload)
-        self._at = c_size_t(0)
+        self._bytes = payload if type(payload) is bytes else _bytes_of(payload)
+        self._at = c_size_t()
 
     def __len__(self) -> int:
         """How many bytes are left."""
@@ -588,15 +588,19 @@ class Fields:
         >>> Fields(b"\\x03one\\xfb\\0").row(3)
         [b'one', None, b'']
         """
+        data, at = self._bytes, self._at
         # (each value has a byte, so that a number which is too large takes no memory)
-        if _count_of(columns) > len(self):
+        if not 0 <= columns <= len(data) - at.value:
+            _count_of(columns)
             raise MissingBytes("the bytes end inside a field")
-        data, places = self._bytes, array("Q", bytes(16 * columns))
-        address = places.buffer_info()[0]
-        _checked(_read_row(data, len(data), byref(self._at), address, columns))
-        numbers = iter(places.tolist())
+        places = array("Q", bytes(16 * columns))
+        code = _read_row(data, len(data), byref(at), places.buffer_info()[0], columns)
+        if code:
+            _checked(code)
+        numbers = iter(places)
         return [
-            None if at == _NOWHERE else data[at : at + size] for at, size in zip(numbers, numbers)
+            data[front : front + size] if size or front != _NOWHERE else None
+            for front, size in zip(numbers, numbers)
         ]
 
     def null_bytes(self) -> bytes:

@@ -2,11 +2,10 @@
 use Rattle.std.proofs.Common.{◌≡◌, ◌≢◌, ℕ, ◌+◌, ◌<◌, ◌≤◌, List, length, sym, ap, ◌∙◌, arith, inl, inr, ◌⊎◌, slice_index, zero, suc, if◌then◌else◌, Option, Some, None, Result, Ok, Err, Bool, true, false, refl}
 use Rattle.std.proofs.lemmas.Bool.{cases_lt}
 use Rattle.wire_codec.proofs.Declared.{ChunkInfo, Middle, Last, PacketCodecError, PacketTooLarge, OutOfMemory, PacketsOutOfSync}
-use Rattle.wire_codec.specs.Framing.{max_payload}
 use Rattle.wire_codec.specs.Delivery.{chunk_len}
 use Rattle.wire_codec.specs.OneChunk.{Answer, DecodesChunk, FinishesChunk, info_of}
 use Rattle.wire_codec.specs.Chain.{ChainFrom, StopsBy, id_of}
-use Rattle.wire_codec.specs.Codec.{CodecState, HasChunkAt}
+use Rattle.wire_codec.specs.Codec.{HasChunkAt}
 use Rattle.wire_codec.specs.LimitedRuns.{AlignedAt}
 use Rattle.wire_codec.specs.Early.{EarlyJudgement, IsOutOfStep}
 
