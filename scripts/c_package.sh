@@ -147,6 +147,12 @@ client_compiles() {
         quiet gcc -x c++ -std=c++17 "${warnings[@]}" -fsyntax-only "$top/examples/c/client.c"
 }
 
+# ended ID: ends a process of this script, and waits for it.
+ended() {
+    kill "$1"
+    wait "$1" 2> "$work/log"
+}
+
 # The client prints what it must, beside the server of the proxy's tests.
 client_asks() {
     local port
@@ -159,9 +165,26 @@ client_asks() {
         "$work/client" "$port" user 'half 16' 2>&1
         echo "status $?"
     } > "$work/printed"
-    kill "$server_PID"
+    ended "$server_PID"
     printf '%s\n' 'select 1' NULL '' 'client: the server is gone' 'status 1' |
         diff - "$work/printed"
+}
+
+# The client tells the errors of the server of the tests of bindings/python.
+client_tells_errors() {
+    local port
+    coproc refuser { exec env PYTHONPATH="$top/bindings/python:$top/bindings/python/tests" \
+        MYSQL_WIRE_LIBRARY="$package/out/libmysql_wire.so.$version" python3 -B -c '
+import asyncio, test_client
+async def run():
+    server = await asyncio.start_server(test_client.serve, "127.0.0.1", 0)
+    print(server.sockets[0].getsockname()[1], flush=True)
+    await server.serve_forever()
+asyncio.run(run())'; }
+    read -r port <&"${refuser[0]}"
+    { "$work/client" "$port" user SELEC; "$work/client" "$port" user '?'; } > "$work/printed" 2>&1
+    ended "$refuser_PID"
+    printf 'client: ERROR 1064%s: no such statement\n' ' (42000)' '' | diff - "$work/printed"
 }
 
 # A program whose own functions are asked for all memory, with the archive: malloc, realloc and free
@@ -182,7 +205,10 @@ check 'it is installed' quiet make -C "$package" install PREFIX="$work/root"
 check 'the tests pass with the archive' tested "$work/root"
 check 'the constants are compiled' constants_compile "$work/root"
 check 'the client is compiled' client_compiles "$work/root"
-command -v python3 > /dev/null && check 'the client asks a server' client_asks
+if command -v python3 > "$work/which"; then
+    check 'the client asks a server' client_asks
+    check 'the client tells errors' client_tells_errors
+fi
 check 'memory comes from where a program says' memory_is_set "$work/root"
 if command -v pkg-config > /dev/null; then
     check 'a program is built by pkg-config' built "$work/root" "-Wl,-rpath,$work/root/lib"

@@ -103,6 +103,8 @@ debian=(--config 'source.crates-io.replace-with="debian"'
 if ls -d "$registry"/bytes-1.* > "$work/log" 2>&1; then
     check 'the crate over bytes passes its tests' quiet in_release cargo test "${debian[@]}" \
         --manifest-path bindings/rust/mysql-wire-bytes/Cargo.toml
+    check 'its documentation is made' quiet in_release cargo doc --no-deps "${debian[@]}" \
+        --manifest-path bindings/rust/mysql-wire-bytes/Cargo.toml
 else
     echo 'there is no crate bytes here'
 fi

@@ -50,6 +50,21 @@ static int send_pending(client *c) {
     return 1;
 }
 
+/* Tells the error of a packet: its number, its SQL state where it has one, and its text. */
+static int complain_as(mysql_wire_view packet) {
+    const char *text = (const char *)packet.at;
+    uint64_t number = 0;
+    size_t at = 1;
+    mysql_wire_read_int(packet.at, packet.len, &at, 2, &number);
+    fprintf(stderr, "client: ERROR %d", (int)number);
+    if (packet.len - at >= 6 && text[at] == '#') {
+        fprintf(stderr, " (%.5s)", text + at + 1);
+        at += 6;
+    }
+    fprintf(stderr, ": %.*s\n", (int)(packet.len - at), text + at);
+    return 0;
+}
+
 /* The next packet, which is lent until it is taken. */
 static int receive(client *c, mysql_wire_view *packet) {
     static uint8_t room[1 << 16];
@@ -62,11 +77,7 @@ static int receive(client *c, mysql_wire_view *packet) {
         if (code != MYSQL_WIRE_OK) return complain_of(code);
     }
     if (code != MYSQL_WIRE_PACKET) return complain_of(code);
-    if (packet->len > 0 && packet->at[0] == FAILED) {
-        fprintf(stderr, "client: %.*s\n", (int)(packet->len - 1), (const char *)packet->at + 1);
-        return 0;
-    }
-    return 1;
+    return packet->len > 0 && packet->at[0] == FAILED ? complain_as(*packet) : 1;
 }
 
 static int skip(client *c) {
