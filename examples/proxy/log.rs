@@ -1,16 +1,14 @@
 //! Lines about clients, on standard output.
 //!
-//! A thread of its own writes them, out of a queue of bounded length: who doesn't read the log stops
-//! no traffic. Lines for which there is no room are dropped, and counted in the next one. The thread
-//! sleeps for a moment behind each write, so that no line of many wakes it.
+//! They are gathered in a text of bounded length, which a thread of its own writes: who doesn't read
+//! the log stops no traffic. Lines for which there is no room are dropped, and counted in the next one.
+//! The thread sleeps for a moment behind each write, so that no line of many wakes it.
 
 use std::fmt::{self, Write as _};
 use std::io::{self, Write as _};
-use std::iter;
+use std::mem;
 use std::net::SocketAddr;
-use std::sync::atomic::{AtomicU64, Ordering};
-use std::sync::mpsc::{sync_channel, Receiver, SyncSender};
-use std::sync::Arc;
+use std::sync::{Arc, Condvar, Mutex, MutexGuard, PoisonError};
 use std::thread;
 use std::time::{Duration, SystemTime, UNIX_EPOCH};
 
@@ -20,53 +18,52 @@ const QUEUE: usize = 4096;
 const GATHER: Duration = Duration::from_millis(5);
 // How long the last lines may take.
 const LAST_LINES: Duration = Duration::from_secs(1);
-// As many bytes as most lines have.
-const ROOM: usize = 120;
 // The most characters of a text in a line.
 const FRONT: usize = 60;
-
-/// A line, and when it was said.
-struct Line {
-    at: SystemTime,
-    text: String,
-}
 
 /// Where lines go.
 #[derive(Clone)]
 pub struct Log {
-    lines: SyncSender<Line>,
-    dropped: Arc<AtomicU64>,
+    queue: Arc<Queue>,
     logs_statements: bool,
 }
 
-/// Tells when all lines are written.
-pub struct Written(Receiver<()>);
+#[derive(Default)]
+struct Queue {
+    waiting: Mutex<Waiting>,
+    /// The thread that writes has something to do.
+    more: Condvar,
+    /// It has written all.
+    done: Condvar,
+}
 
-impl Written {
-    /// Waits until they are, for a second at most.
-    pub fn wait(self) {
-        // (the thread sends nothing, and lets its end go)
-        let _ = self.0.recv_timeout(LAST_LINES);
-    }
+/// What waits to be written.
+#[derive(Default)]
+struct Waiting {
+    text: String,
+    lines: usize,
+    dropped: u64,
+    clock: Clock,
+    /// The thread that writes has nothing to do.
+    is_awaited: bool,
+    /// No more is said.
+    ends: bool,
+    /// All is written.
+    ended: bool,
 }
 
 impl Log {
-    /// Starts the thread that writes. It ends once each `Log` is let go.
-    pub fn start(logs_statements: bool) -> io::Result<(Log, Written)> {
-        let (lines, queue) = sync_channel(QUEUE);
-        let (writes, written) = sync_channel(0);
-        let dropped = Arc::new(AtomicU64::new(0));
-        let counted = Arc::clone(&dropped);
-        thread::Builder::new().name(String::from("log")).spawn(move || {
-            write_all(&queue, &counted);
-            drop(writes);
-        })?;
-        Ok((Log { lines, dropped, logs_statements }, Written(written)))
+    /// Starts the thread that writes.
+    pub fn start(logs_statements: bool) -> io::Result<Log> {
+        let log = Log { queue: Arc::default(), logs_statements };
+        let queue = Arc::clone(&log.queue);
+        thread::Builder::new().name(String::from("log")).spawn(move || queue.write_all())?;
+        Ok(log)
     }
 
     /// Writes a line about the proxy.
     pub fn say(&self, line: fmt::Arguments<'_>) {
-        self.put("- - ", line);
+        self.queue.put("- - ", line);
     }
 
     /// The lines about a client.
@@ -74,33 +71,69 @@ impl Log {
         ClientLog { log: self.clone(), client: format!("{number} {address} ") }
     }
 
+    /// Waits until all lines are written, for a second at most.
+    pub fn finish(&self) {
+        let mut waiting = self.queue.lock();
+        waiting.ends = true;
+        self.queue.more.notify_one();
+        let ended = |waiting: &mut Waiting| !waiting.ended;
+        drop(self.queue.done.wait_timeout_while(waiting, LAST_LINES, ended));
+    }
+}
+
+impl Queue {
+    fn lock(&self) -> MutexGuard<'_, Waiting> {
+        self.waiting.lock().unwrap_or_else(PoisonError::into_inner)
+    }
+
     fn put(&self, who: &str, line: fmt::Arguments<'_>) {
-        let mut text = String::with_capacity(ROOM);
-        text.push_str(who);
-        let _ = text.write_fmt(line);
-        text.push('\n');
-        if self.lines.try_send(Line { at: SystemTime::now(), text }).is_err() {
-            self.dropped.fetch_add(1, Ordering::Relaxed);
+        let mut waiting = self.lock();
+        if waiting.lines == QUEUE {
+            waiting.dropped += 1;
+            return;
+        }
+        let dropped = mem::take(&mut waiting.dropped);
+        if dropped > 0 {
+            waiting.add("- - ", format_args!("{} dropped", count(dropped, "line")));
+        }
+        waiting.add(who, line);
+        if mem::take(&mut waiting.is_awaited) {
+            drop(waiting);
+            self.more.notify_one();
+        }
+    }
+
+    /// Writes the lines that came together by one write. That nobody reads them is no reason to stop.
+    fn write_all(&self) {
+        let mut text = String::new();
+        loop {
+            let idle = |waiting: &mut Waiting| {
+                waiting.is_awaited = waiting.text.is_empty() && !waiting.ends;
+                waiting.is_awaited
+            };
+            let waited = self.more.wait_while(self.lock(), idle);
+            let mut waiting = waited.unwrap_or_else(PoisonError::into_inner);
+            if waiting.text.is_empty() {
+                waiting.ended = true;
+                return self.done.notify_all();
+            }
+            mem::swap(&mut text, &mut waiting.text);
+            waiting.lines = 0;
+            drop(waiting);
+            let _ = io::stdout().lock().write_all(text.as_bytes());
+            text.clear();
+            thread::sleep(GATHER);
         }
     }
 }
 
-/// Writes the lines that came together by one write. That nobody reads them is no reason to stop.
-fn write_all(queue: &Receiver<Line>, dropped: &AtomicU64) {
-    let mut clock = Clock::default();
-    while let Ok(first) = queue.recv() {
-        let mut written = String::new();
-        let count = dropped.swap(0, Ordering::Relaxed);
-        if count > 0 {
-            clock.write(first.at, &mut written);
-            let _ = writeln!(written, "- - {} dropped", self::count(count, "line"));
-        }
-        for line in iter::once(first).chain(queue.try_iter().take(QUEUE)) {
-            clock.write(line.at, &mut written);
-            written.push_str(&line.text);
-        }
-        let _ = io::stdout().lock().write_all(written.as_bytes());
-        thread::sleep(GATHER);
+impl Waiting {
+    fn add(&mut self, who: &str, line: fmt::Arguments<'_>) {
+        self.clock.write(SystemTime::now(), &mut self.text);
+        self.text.push_str(who);
+        let _ = self.text.write_fmt(line);
+        self.text.push('\n');
+        self.lines += 1;
     }
 }
 
@@ -113,7 +146,7 @@ pub struct ClientLog {
 
 impl ClientLog {
     pub fn say(&self, line: fmt::Arguments<'_>) {
-        self.log.put(&self.client, line);
+        self.log.queue.put(&self.client, line);
     }
 
     /// The front of a statement behind a space, where statements are asked for.

@@ -55,13 +55,13 @@ fn main() -> ExitCode {
 
 /// Takes clients until SIGTERM comes, and lets those that it has end their commands.
 fn serve(arguments: Arguments) -> io::Result<()> {
-    let (log, written) = Log::start(arguments.logs_statements)?;
+    let log = Log::start(arguments.logs_statements)?;
     let stop = Arc::new(Stop::catch()?);
     let listener = Listener::bind(arguments.listen)?;
     log.say(format_args!("listens on {}", listener.address()?));
-    let mut clients = Clients::new(arguments, stop, log);
+    let mut clients = Clients::new(arguments, stop, log.clone());
     clients.take_all(listener)?;
     clients.drain();
-    written.wait();
+    log.finish();
     Ok(())
 }
