@@ -60,11 +60,16 @@ pub fn wait<const N: usize>(
 ) -> io::Result<[Ready; N]> {
     let mut entries = files.map(|(file, interest)| interest.entry(file));
     // SAFETY: the pointer is to as many entries as are said.
-    let answer =
-        unsafe { poll(entries.as_mut_ptr(), entries.len() as c_ulong, patience.map_or(-1, millis)) };
+    let answer = unsafe {
+        poll(entries.as_mut_ptr(), entries.len() as c_ulong, patience.map_or(-1, millis))
+    };
     if answer < 0 {
         let error = io::Error::last_os_error();
-        return if error.kind() == ErrorKind::Interrupted { Ok([Ready::default(); N]) } else { Err(error) };
+        return if error.kind() == ErrorKind::Interrupted {
+            Ok([Ready::default(); N])
+        } else {
+            Err(error)
+        };
     }
     Ok(entries.map(|entry| Ready {
         read: entry.returned & !WRITABLE != 0,

@@ -119,13 +119,15 @@ impl Relay {
     /// Passes what came of a packet of the client. Whether it ended.
     fn pass_from_client(&mut self) -> Result<bool, Fault> {
         let may_begin = self.client_may_begin();
-        let Relay { client, exchange, .. } = self;
+        let Relay { client, exchange, answer_began, .. } = self;
         if exchange.is_dumping() {
             client.stream.take_coming_number();
         }
-        let ended = client.pass(may_begin, |front| exchange.hear_client(front))?;
+        let ended = client.pass(may_begin, |front| {
+            *answer_began &= exchange.is_dumping();
+            exchange.hear_client(front)
+        })?;
         if ended {
-            self.answer_began &= exchange.is_dumping();
             self.go_on_with(self.client.stream.number());
         }
         Ok(ended)

@@ -12,9 +12,9 @@
 - `another`: an OK of another number
 - any other: one row, of the statement
 
-A command above a million bytes is refused before it came whole, and the connection is closed. To
-`COM_BINLOG_DUMP` it sends as many events as the place says, and waits for a replica's
-acknowledgement behind each. Both begin to count anew there.
+A command above a million bytes is refused before it came whole, and the connection is closed; above
+twelve millions it is so without a word. To `COM_BINLOG_DUMP` it sends as many events as the place
+says, and waits for a replica's acknowledgement behind each. Both begin to count anew there.
 """
 
 import contextlib
@@ -33,7 +33,8 @@ FULL = 0xFFFFFF
 PIECE = bytes(1 << 16)
 OK = bytes([0, 0, 0, 2, 0, 0, 0])
 EOF = bytes([0xFE, 0, 0, 2, 0])
-TOO_LONG, REFUSED = 1 << 20, b"\xff\x81\x04#08S01Refused"
+TOO_LONG, MUCH_TOO_LONG = 1 << 20, 12 << 20
+REFUSED = b"\xff\x81\x04#08S01Refused"
 PING, QUIT = b"\x0e", b"\x01"
 DUMP, ACKNOWLEDGED = b"\x12", b"\xef" + bytes(8) + b"log.1"
 
@@ -160,7 +161,7 @@ class Server:
             while (length := peer.receive_header()) < TOO_LONG:
                 if not self.answer(peer, peer.bytes(length)):
                     break
-            else:
+            if TOO_LONG <= length < MUCH_TOO_LONG:
                 peer.send(REFUSED)
         self.left += 1
 

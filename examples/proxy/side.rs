@@ -152,10 +152,11 @@ impl Side {
     pub fn interest(&self, speaks: bool, other: &Stream) -> Interest {
         let reads = speaks || !self.stream.is_between_packets();
         let is_full = self.stream.is_full();
+        let is_known = self.ended || is_full && self.hung_up;
         Interest {
             read: !self.ended && reads && !is_full,
             write: self.is_awaited_by(other),
-            hang_up: !self.ended && !reads && !(is_full && self.hung_up),
+            hang_up: !reads && !is_known,
         }
     }
 

@@ -16,6 +16,7 @@ import signal
 import socket
 import struct
 import subprocess
+import sys
 import threading
 import time
 import unittest
@@ -91,12 +92,21 @@ def unused_port():
         return away.getsockname()[1]
 
 
+def number_in(path):
+    """The number in a file of the system's, or the greatest where it has none."""
+    with contextlib.suppress(OSError, ValueError), open(path, encoding="ascii") as file:
+        return int(file.read())
+    return sys.maxsize
+
+
 def burst():
-    """How many clients come at once: 2000, or as many as there may be files for."""
+    """How many clients come at once: 2000, or as many as the system has room for."""
     _, most = resource.getrlimit(resource.RLIMIT_NOFILE)
     files = min(most, 1 << 16) if most != resource.RLIM_INFINITY else 1 << 16
     resource.setrlimit(resource.RLIMIT_NOFILE, (files, most))
-    return min(2000, (files - 100) // 3)
+    waiting = number_in("/proc/sys/net/core/somaxconn")
+    threads = number_in("/sys/fs/cgroup/pids.max")
+    return min(2000, (files - 100) // 3, waiting, threads // 2)
 
 
 class ProxyTests(unittest.TestCase):
@@ -391,6 +401,14 @@ class Faults(ProxyTests):
         client.send_long(b"\x03", 8 << 20)
         self.assertEqual(client.receive(), REFUSED)
         self.assert_end(client)
+
+    def test_a_server_that_leaves_inside_a_command(self):
+        client = self.logged_in(self.proxy())
+        client.command(PING)
+        self.assertEqual(client.receive(), OK)
+        client.number = 0
+        client.send_long(b"\x03", 16 << 20)
+        self.assert_error(client, 1053)
 
     def test_an_answer_above_the_limit(self):
         client = self.logged_in(self.proxy("--limit", 1 << 20))
