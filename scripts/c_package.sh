@@ -100,6 +100,14 @@ names_are_there() {
     return "$missing"
 }
 
+# The release's page says in ten lines what is proved, how to check it, and for which systems it is.
+page_begins_well() {
+    local word
+    for word in '# mysql_wire' Proved .ci/run kit SHA256SUMS x86-64 'glibc 2.14' musl ARM macOS Windows; do
+        head -n 10 "$release/README.md" | grep -qF "$word" || { echo "no word of $word"; return 1; }
+    done
+}
+
 # The examples by their own Makefile.
 examples_run() {
     quiet without_kit make -C examples/c &&
@@ -223,6 +231,7 @@ if command -v objdump > "$work/which"; then
 fi
 check 'the release is packed' unpack_release || finish
 check 'the release has the sums that it tells' sums_agree
+check 'its page begins with what one wants to know' page_begins_well
 check 'its pages name what is in it' names_are_there
 check 'it is installed without the kit, and its libraries stay' installed
 check 'the tests pass with what was packed' tested "$work/other"

@@ -26,13 +26,20 @@ in_release() {
         RUSTFLAGS='-D warnings' RUSTDOCFLAGS='-D warnings' "$@"
 }
 
-# packages CRATE: the files that cargo would publish have what a reader wants of it.
+# packages CRATE [OPTION..]: the files that cargo would publish, and what it would say of them, have
+# what a reader wants.
 packages() {
-    local file listed
-    listed=$(in_release cargo package --list --allow-dirty --manifest-path \
-        "bindings/rust/$1/Cargo.toml" 2> "$work/log") || return
-    for file in Cargo.toml LICENSE README.md src/lib.rs; do
-        grep -qx "$file" <<< "$listed" || return
+    local manifest=bindings/rust/$1/Cargo.toml word listed
+    shift
+    listed=$(in_release cargo package --list --allow-dirty "$@" --manifest-path "$manifest" \
+        2> "$work/log") || return
+    for word in Cargo.toml LICENSE README.md src/lib.rs; do
+        grep -qx "$word" <<< "$listed" || return
+    done
+    listed=$(in_release cargo read-manifest --manifest-path "$manifest" 2> "$work/log") || return
+    for word in '"rust_version":"1' '"license":"MIT"' '"keywords":\["' '"categories":\["' \
+        '"description":"'; do
+        grep -q "$word" <<< "$listed" || return
     done
 }
 
@@ -103,6 +110,7 @@ debian=(--config 'source.crates-io.replace-with="debian"'
 if ls -d "$registry"/bytes-1.* > "$work/log" 2>&1; then
     check 'the crate over bytes passes its tests' quiet in_release cargo test "${debian[@]}" \
         --manifest-path bindings/rust/mysql-wire-bytes/Cargo.toml
+    check 'it has what is to be published' packages mysql-wire-bytes "${debian[@]}"
     check 'its documentation is made' quiet in_release cargo doc --no-deps "${debian[@]}" \
         --manifest-path bindings/rust/mysql-wire-bytes/Cargo.toml
 else
