@@ -82,6 +82,8 @@ _REFUSALS = {
     -9: MissingBytes,
     -10: NotANumber,
 }
+_OUT_OF_SYNC = -2
+_PACKET_WAITS = -7
 _NOWHERE = (1 << 64) - 1  # where a text is that is NULL
 _CHUNK_HEADER = 4
 _JUDGED = 1024  # how many packets are judged by one call of the library
@@ -261,13 +263,15 @@ class Connection:
     # What `receive` takes stays here until it is asked for: `_data`, of which `_at` bytes are behind
     # what the library has seen. The packets of `_judged` are accepted, and the library stands behind
     # all of them; `_ahead` hands them out. Where another call comes before all are handed out, the
-    # library is set back to the next of them, and gets what is left of `_data`.
+    # library is set back to the next of them, and gets what is left of `_data`. `_is_lent`: the library
+    # found a whole packet where the limit was to be set, and lends it.
 
     def __init__(self, limit: int = 4194304) -> None:
         limit = _within(limit, 64)
         self._handle = c_void_p()
         self._data = b""
         self._at = 0
+        self._is_lent = False
         self._judged: List[bytes] = []
         self._ahead: Iterator[bytes] = iter(())
         self._places = array("Q")
@@ -309,6 +313,10 @@ class Connection:
         data = _bytes_of(data)
         self._settle()
         _checked(_sequence_id(byref(self._handle)))
+        if self._is_lent:
+            # (`_decode_many` and `_decode` would take it)
+            self.feed(data)
+            return self.packets()
         self._data, self._at = data, 0
         return chain.from_iterable(self._received())
 
@@ -367,6 +375,7 @@ class Connection:
             return None
         payload = packet.copied()
         _checked(_take(byref(self._handle)))
+        self._is_lent = False
         return payload
 
     def _settle(self) -> None:
@@ -382,7 +391,10 @@ class Connection:
             front -= sum(map(len, left)) + _CHUNK_HEADER * kept
         rest = self._data[front:]
         if rest:
-            _checked(_feed(byref(self._handle), rest, len(rest)))
+            code = _feed(byref(self._handle), rest, len(rest))
+            # (of a stream that is lost, what is left is lost too)
+            if code != _OUT_OF_SYNC:
+                _checked(code)
         if kept:
             number = _sequence_id(byref(self._handle)) - kept
             _checked(_set_sequence_id(byref(self._handle), number % 256))
@@ -394,7 +406,9 @@ class Connection:
         """Sets the most payload bytes of a packet, for what comes from now on and what is sent."""
         limit = _within(limit, 64)
         self._settle()
-        _checked(_set_limit(byref(self._handle), limit))
+        code = _set_limit(byref(self._handle), limit)
+        self._is_lent = code == _PACKET_WAITS
+        _checked(code)
 
     @property
     def unread(self) -> int:

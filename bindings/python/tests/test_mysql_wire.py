@@ -1,6 +1,7 @@
 """Tests of the package: `python3 -m unittest discover tests`."""
 
 import doctest
+import random
 import unittest
 from array import array
 
@@ -126,6 +127,67 @@ class Packets(unittest.TestCase):
             self.assertEqual(connection.encode(b"x"), framed(1, b"x"))
             with self.assertRaises(mysql_wire.PacketsOutOfSync):
                 next(packets)
+
+    def test_whatever_stands_between_the_calls(self):
+        def outcome(call):
+            try:
+                return call()
+            except mysql_wire.Error as refusal:
+                return type(refusal)
+
+        def after(connection, call, *arguments):
+            answer = outcome(lambda: call(connection, *arguments))
+            return answer, outcome(lambda: connection.sequence_id)
+
+        def set_id(connection, number):
+            connection.sequence_id = number
+
+        def unread(connection):
+            # (of a stream that is lost it says nothing)
+            return connection.sequence_id and connection.unread
+
+        calls = [
+            (Connection.reset, lambda draw: ()),
+            (set_id, lambda draw: (draw.randrange(8),)),
+            (Connection.set_limit, lambda draw: (draw.randrange(60),)),
+            (Connection.encode, lambda draw: (bytes(draw.randrange(50)),)),
+            (unread, lambda draw: ()),
+            (lambda connection: connection.packet_id, lambda draw: ()),
+            (Connection.judge_front, lambda draw: ()),
+            (Connection.next_packet, lambda draw: ()),
+        ]
+        for seed in range(300):
+            draw = random.Random(seed)
+            # (one takes packets by `receive`, the other by `feed` and one after another)
+            with Connection(60) as at_once, Connection(60) as each:
+                number = 0
+                for step in range(30):
+                    with self.subTest(seed=seed, step=step):
+                        if draw.randrange(2):
+                            call, arguments = draw.choice(calls)
+                            given = arguments(draw)
+                            self.assertEqual(
+                                after(at_once, call, *given), after(each, call, *given)
+                            )
+                            continue
+                        if draw.randrange(3) == 0:
+                            number = outcome(lambda: each.sequence_id)
+                            number = number if isinstance(number, int) else 0
+                        data = b""
+                        for _ in range(draw.randrange(6)):
+                            data += framed(number, bytes([number]) * draw.randrange(20))
+                            number = (number + 1) % 256
+                        data = data[: len(data) - draw.randrange(len(data) // 4 + 1)]
+                        fed = outcome(lambda: each.feed(data))
+                        if fed is not None:
+                            self.assertEqual(outcome(lambda: at_once.receive(data)), fed)
+                            continue
+                        packets = at_once.receive(data)
+                        for _ in range(draw.randrange(8)):
+                            answer = after(each, Connection.next_packet)
+                            self.assertEqual(after(at_once, lambda _: next(packets, None)), answer)
+                            if not isinstance(answer[0], bytes):
+                                break
 
     def test_more_packets_than_are_judged_at_once(self):
         payloads = [bytes([number % 256]) * (number % 7) for number in range(5000)]
