@@ -1,7 +1,7 @@
 #!/usr/bin/env python3
 """Measures bindings/python beside a plain loop, and beside PyMySQL where it is there (Debian's
 python3-pymysql): how fast packets of 100 bytes are taken out of reads of 64 KiB, and the values out of
-rows of ten texts. Each is the best of seven runs, in a process of one thread; it takes ten seconds.
+rows of ten texts, by the processor's time. Each is the best of seven runs; it takes ten seconds.
 
     PYTHONPATH=bindings/python python3 scripts/python_speed.py
 """
@@ -87,12 +87,12 @@ def rows_by_pymysql(rows):
 
 
 def best(call, argument, wanted):
-    """The least seconds of a call, whose answer is looked at."""
+    """The least processor seconds of a call, whose answer is looked at."""
     least = float("inf")
     for _ in range(RUNS):
-        start = time.perf_counter()
+        start = time.process_time()
         answer = call(argument)
-        least = min(least, time.perf_counter() - start)
+        least = min(least, time.process_time() - start)
         if answer != wanted:
             sys.exit(f"{call.__name__} answers something else")
     return least
