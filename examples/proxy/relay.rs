@@ -1,13 +1,13 @@
 //! Passes the packets of one connection from side to side.
 //!
 //! One thread serves both sides: it waits until a socket can be read or written, and no call on a
-//! socket blocks. So each `Connection` is used by one thread, and it doesn't matter who speaks first, or
-//! who hangs up when.
+//! socket blocks. So it doesn't matter who speaks first, or who hangs up when.
 //!
 //! How packets are numbered. The two sides of a MySQL connection share one number, which runs on
 //! over the packets of both until the next command. What comes of one side goes to the other as it
 //! is, number and all: both count the same packets. So the relay has one number too, and each packet
-//! is held to it. It is 0 where an answer is complete and a command comes next.
+//! is held to it. It is 0 where an answer is complete and a command comes next. A master and its
+//! replica begin anew at each acknowledgement, so while the binary log is sent no packet is held to it.
 
 use crate::arguments::Patience;
 use crate::exchange::Exchange;
