@@ -31,6 +31,22 @@ ROWS = (
 )
 FULL = 0xFFFFFF
 
+
+def file_session(count):
+    """A file of so many pieces, which look like queries, as a row: their ids go on behind 255."""
+    pieces = [(2 + number) % 256 for number in range(count)]
+    end, done = (2 + count) % 256, (3 + count) % 256
+    client = b"\5\0\0\0\3LOAD"
+    client += b"".join(b"\x08\0\0" + bytes([number]) + b"\3SELECT " for number in pieces)
+    client += b"\0\0\0" + bytes([end])
+    server = b"\2\0\0\1\xfbf" + b"\7\0\0" + bytes([done]) + b"\0\0\0\2\0\0\0"
+    lines = ["client 0 5 query", "server 1 2 local infile"]
+    lines += ["client %d 8 file" % number for number in pieces]
+    lines += ["client %d 0 file" % end, "server %d 7 ok" % done]
+    lines += ["client end at %d" % len(client), "server end at %d" % len(server)]
+    return "a file of %d pieces" % count, "", client, server, 0, lines
+
+
 # A session, the words before its files, what both sides sent (None where a side has no file), the
 # status, and the lines.
 SESSIONS = [
@@ -105,6 +121,9 @@ SESSIONS = [
     ("a text that is not UTF-8", "--json --fields", b"\3\0\0\0\2\xff\xfe", None, 0,
      ['{"from":"client","id":0,"length":3,"packet":"init db","fields":{"schema":{"hex":"fffe"}}}',
       '{"from":"client","end":"end","at":7}']),
+    # the piece behind the one numbered 255 is numbered 0, and so is the end of the other file
+    file_session(300),
+    file_session(254),
     # it is written in two parts, and the first is written where the last packet takes memory
     ("a long text", "", PING * 5000 + b"\xe8\3\0\0\3" + b" " * 999, None, 0,
      ["client 0 1 ping"] * 5000 + ["client 0 1000 query", "client end at 26004"]),

@@ -21,7 +21,7 @@ use Rattle.mysql_wire_dump_lines.specs.declared.source.End.TheVariants.{Encrypte
 use Rattle.mysql_wire_dump_lines.specs.declared.source.Next.{Next}
 use Rattle.mysql_wire_dump_lines.specs.declared.source.Next.TheVariants.{Unread, Packet, Ended}
 use Rattle.mysql_wire_dump_lines.specs.declared.source.Source.{Source}
-use Rattle.mysql_wire_dump.specs.Dumped.{AreShown, field_form, Dumps, InOrder, IsShown, Shown, SideEnds, ending_lines, first_of, is_of, known_after, known_behind, lines_of, packets_of, status_of}
+use Rattle.mysql_wire_dump.specs.Dumped.{AreShown, field_form, Dumps, InOrder, IsShown, Shown, SideEnds, ending_lines, first_of, is_of, known_after, known_behind, known_but_id, lines_of, packets_of, status_of}
 use Rattle.mysql_wire_dump.specs.Dumping.{Dumping, Goes, IsLooked, IsTurn, NamesOne, PassesOver, Pends, Shows, ShowsAll, SoFar, StartsDump, id_behind}
 use Rattle.mysql_wire_dump.specs.Known.{Known, known_of, nothing_known}
 use Rattle.mysql_wire_dump_fields.specs.Packets as packet
@@ -120,7 +120,7 @@ one_told : (options : Options) (seen : Seen) (payload held fields : List ℕ) (k
     → (limit < seen.len → PassesOver (field_form options) seen.side seen.id known next fields seen.kind)
     → (seen.len ≤ limit → NamesOne (field_form options) seen.side seen.id held known next fields seen.kind)
     → (one : packet.Packet) × IsShown options (shown_as seen payload fields known one)
-    × (next ≡ known_behind options (shown_as seen payload fields known one))
+    × (next ≡ known_but_id options (shown_as seen payload fields known one))
 one_told options seen payload held fields known next limit limit_is len_is held_is large named =
     elim (cases_lt limit seen.len) [
       | inl above ↦ (let over = large above in (
@@ -147,25 +147,25 @@ one_told options seen payload held fields known next limit limit_is len_is held_
     ]
 
 -- the client's next packet is shown
-pub client_shown : {A : Type 0} (old new : Dump A) (id : ℕ) (kind : Kind) (bytes fields : List ℕ) → old.client.next ≡ Packet id
-    → (old.client.limit < old.client.len → PassesOver (field_form old.options) Client id (known_of old.session) (known_of new.session) fields kind)
+pub client_shown : {A : Type 0} (old new : Dump A) (middle : Known) (id : ℕ) (kind : Kind) (bytes fields : List ℕ) → old.client.next ≡ Packet id
+    → (old.client.limit < old.client.len → PassesOver (field_form old.options) Client id (known_of old.session) middle fields kind)
     → (old.client.len ≤ old.client.limit
-    → NamesOne (field_form old.options) Client id old.client.held.items (known_of old.session) (known_of new.session) fields kind)
+    → NamesOne (field_form old.options) Client id old.client.held.items (known_of old.session) middle fields kind)
     → (old.client.len ≤ old.client.limit → bytes ≡ old.client.held.items)
     → string_bytes new.text ≡ string_bytes old.text ++ packet_line old.options.form (record { side = Client; id = id; len = old.client.len; kind = kind }) bytes fields
-    → new.next_id ≡ (span_state old.client.decoder).id → new.options ≡ old.options → new.server ≡ old.server
+    → known_of new.session ≡ record middle { next_id = (span_state old.client.decoder).id } → new.options ≡ old.options → new.server ≡ old.server
     → new.client.limit ≡ old.client.limit
     → ((packets : List (ℕ × List ℕ)) (came : List ℕ) (number : ℕ) → old.client.next ≡ Packet number → (stands : Stands packets came old.client)
     → (payload : List ℕ) × HasPacket number payload stands.begun (collected old.client) × Stands (packets ++ (number, payload) ∷ []) came new.client)
     → (shown : List Shown) (client server written : List ℕ) → Dumping shown client server written old → IsTurn Client old → IsLooked old
     → (one : Shown) × Dumping (shown ++ one ∷ []) client server written new
-client_shown {A = A} old new id kind bytes fields is large named same text next_id_is options other_same limit passes shown client server written dumping is_turn looked =
+client_shown {A = A} old new middle id kind bytes fields is large named same text known_is options other_same limit passes shown client server written dumping is_turn looked =
     let pass = passes (packets_of Client shown) client id is dumping.clients in
     let payload : List ℕ = pass.0 in
     let has = pass.1 in
     let seen : Seen = record { side = Client; id = id; len = old.client.len; kind = kind } in
     let limit_is : old.client.limit ≡ old.options.limit = dumping.client_limit in
-    let it = one_told old.options seen payload old.client.held.items fields (known_of old.session) (known_of new.session) old.client.limit limit_is has.len has.held large named in
+    let it = one_told old.options seen payload old.client.held.items fields (known_of old.session) middle old.client.limit limit_is has.len has.held large named in
     let one : Shown = shown_as seen payload fields (known_of old.session) it.0 in
     let here : Pends old.client.next (Some id) = subst (λ (n : Next). Pends n (Some id)) (sym is) refl in
     let turn_is : turn old.session.place (id_behind 0 shown) (Some id) (id_of old.server.next) ≡ Some Client =
@@ -177,13 +177,13 @@ client_shown {A = A} old new id kind bytes fields is large named same text next_
         are_shown = subst (λ (o : Options). AreShown o nothing_known (shown ++ one ∷ [])) (sym options)
             (shown_more old.options nothing_known shown one dumping.are_shown dumping.known it.1);
         known = subst (λ (o : Options). known_of new.session ≡ known_after o nothing_known (shown ++ one ∷ [])) (sym options)
-            (it.2 ∙ sym (known_after_more old.options nothing_known shown one));
+            (known_is ∙ ap₂ (λ (k : Known) (n : ℕ). record k { next_id = n }) it.2 has.behind ∙ sym (known_after_more old.options nothing_known shown one));
         clients = subst (λ (z : List (ℕ × List ℕ)). Stands z client new.client) (sym (packets_of_more Client shown one)) pass.2;
         servers = subst (λ (source : Source A). Stands (packets_of Server (shown ++ one ∷ [])) server source) (sym other_same)
             (subst (λ (z : List (ℕ × List ℕ)). Stands z server old.server) (sym (packets_of_more Server shown one ∙ append-nil (packets_of Server shown))) dumping.servers);
         client_limit = limit ∙ limit_is ∙ ap (λ (o : Options). o.limit) (sym options);
         server_limit = ap (λ (source : Source A). source.limit) other_same ∙ dumping.server_limit ∙ ap (λ (o : Options). o.limit) (sym options);
-        behind = next_id_is ∙ has.behind ∙ sym (id_behind_more 0 shown one);
+        behind = ap (λ (k : Known). k.next_id) known_is ∙ has.behind ∙ sym (id_behind_more 0 shown one);
         ordered = λ client_next server_next client_pends server_pends.
             in_order_more 0 shown one (Some id) (id_of old.server.next) client_next server_next (dumping.ordered (Some id) (id_of old.server.next) here (pends_so old.server.next)) turn_is refl (other_is server_next server_pends);
         lines = ap (λ (z : List ℕ). written ++ z) text ∙ sym (append_assoc written (string_bytes old.text) (packet_line old.options.form seen bytes fields))
@@ -195,25 +195,25 @@ client_shown {A = A} old new id kind bytes fields is large named same text next_
     )
 
 -- the server's next packet is shown
-pub server_shown : {A : Type 0} (old new : Dump A) (id : ℕ) (kind : Kind) (bytes fields : List ℕ) → old.server.next ≡ Packet id
-    → (old.server.limit < old.server.len → PassesOver (field_form old.options) Server id (known_of old.session) (known_of new.session) fields kind)
+pub server_shown : {A : Type 0} (old new : Dump A) (middle : Known) (id : ℕ) (kind : Kind) (bytes fields : List ℕ) → old.server.next ≡ Packet id
+    → (old.server.limit < old.server.len → PassesOver (field_form old.options) Server id (known_of old.session) middle fields kind)
     → (old.server.len ≤ old.server.limit
-    → NamesOne (field_form old.options) Server id old.server.held.items (known_of old.session) (known_of new.session) fields kind)
+    → NamesOne (field_form old.options) Server id old.server.held.items (known_of old.session) middle fields kind)
     → (old.server.len ≤ old.server.limit → bytes ≡ old.server.held.items)
     → string_bytes new.text ≡ string_bytes old.text ++ packet_line old.options.form (record { side = Server; id = id; len = old.server.len; kind = kind }) bytes fields
-    → new.next_id ≡ (span_state old.server.decoder).id → new.options ≡ old.options → new.client ≡ old.client
+    → known_of new.session ≡ record middle { next_id = (span_state old.server.decoder).id } → new.options ≡ old.options → new.client ≡ old.client
     → new.server.limit ≡ old.server.limit
     → ((packets : List (ℕ × List ℕ)) (came : List ℕ) (number : ℕ) → old.server.next ≡ Packet number → (stands : Stands packets came old.server)
     → (payload : List ℕ) × HasPacket number payload stands.begun (collected old.server) × Stands (packets ++ (number, payload) ∷ []) came new.server)
     → (shown : List Shown) (client server written : List ℕ) → Dumping shown client server written old → IsTurn Server old → IsLooked old
     → (one : Shown) × Dumping (shown ++ one ∷ []) client server written new
-server_shown {A = A} old new id kind bytes fields is large named same text next_id_is options other_same limit passes shown client server written dumping is_turn looked =
+server_shown {A = A} old new middle id kind bytes fields is large named same text known_is options other_same limit passes shown client server written dumping is_turn looked =
     let pass = passes (packets_of Server shown) server id is dumping.servers in
     let payload : List ℕ = pass.0 in
     let has = pass.1 in
     let seen : Seen = record { side = Server; id = id; len = old.server.len; kind = kind } in
     let limit_is : old.server.limit ≡ old.options.limit = dumping.server_limit in
-    let it = one_told old.options seen payload old.server.held.items fields (known_of old.session) (known_of new.session) old.server.limit limit_is has.len has.held large named in
+    let it = one_told old.options seen payload old.server.held.items fields (known_of old.session) middle old.server.limit limit_is has.len has.held large named in
     let one : Shown = shown_as seen payload fields (known_of old.session) it.0 in
     let here : Pends old.server.next (Some id) = subst (λ (n : Next). Pends n (Some id)) (sym is) refl in
     let turn_is : turn old.session.place (id_behind 0 shown) (id_of old.client.next) (Some id) ≡ Some Server =
@@ -225,13 +225,13 @@ server_shown {A = A} old new id kind bytes fields is large named same text next_
         are_shown = subst (λ (o : Options). AreShown o nothing_known (shown ++ one ∷ [])) (sym options)
             (shown_more old.options nothing_known shown one dumping.are_shown dumping.known it.1);
         known = subst (λ (o : Options). known_of new.session ≡ known_after o nothing_known (shown ++ one ∷ [])) (sym options)
-            (it.2 ∙ sym (known_after_more old.options nothing_known shown one));
+            (known_is ∙ ap₂ (λ (k : Known) (n : ℕ). record k { next_id = n }) it.2 has.behind ∙ sym (known_after_more old.options nothing_known shown one));
         servers = subst (λ (z : List (ℕ × List ℕ)). Stands z server new.server) (sym (packets_of_more Server shown one)) pass.2;
         clients = subst (λ (source : Source A). Stands (packets_of Client (shown ++ one ∷ [])) client source) (sym other_same)
             (subst (λ (z : List (ℕ × List ℕ)). Stands z client old.client) (sym (packets_of_more Client shown one ∙ append-nil (packets_of Client shown))) dumping.clients);
         server_limit = limit ∙ limit_is ∙ ap (λ (o : Options). o.limit) (sym options);
         client_limit = ap (λ (source : Source A). source.limit) other_same ∙ dumping.client_limit ∙ ap (λ (o : Options). o.limit) (sym options);
-        behind = next_id_is ∙ has.behind ∙ sym (id_behind_more 0 shown one);
+        behind = ap (λ (k : Known). k.next_id) known_is ∙ has.behind ∙ sym (id_behind_more 0 shown one);
         ordered = λ client_next server_next client_pends server_pends.
             in_order_more 0 shown one (id_of old.client.next) (Some id) client_next server_next (dumping.ordered (id_of old.client.next) (Some id) (pends_so old.client.next) here) turn_is (other_is client_next client_pends) refl;
         lines = ap (λ (z : List ℕ). written ++ z) text ∙ sym (append_assoc written (string_bytes old.text) (packet_line old.options.form seen bytes fields))

@@ -68,13 +68,17 @@ pub record IsShown (options : Options) (shown : Shown) : Type 0 where
       → ReadsAs (known_at shown) (wanted_of shown) shown.payload shown.seen.kind shown.packet
   pub fields : AreFields (field_form options) shown.packet shown.fields
 
--- what is known behind it
-abbrev pub known_behind : Options → Shown → Known
-known_behind options shown =
+-- what is known behind it, but for the id that follows
+abbrev pub known_but_id : Options → Shown → Known
+known_but_id options shown =
     if nat_lt options.limit (length shown.payload)
     then passed shown.seen.side shown.seen.id shown.at
     else follow shown.packet
     (went shown.seen.side (wanted_of shown) shown.payload (known_at shown))
+
+abbrev pub known_behind : Options → Shown → Known
+known_behind options shown =
+    record (known_but_id options shown) { next_id = next_id shown.seen.id shown.payload }
 
 abbrev pub known_after : Options → Known → List Shown → Known
 known_after options known [] = known

@@ -41,7 +41,7 @@ pub record Dumping {A : Type 0} (shown : List Shown) (client server written : Li
     pub servers : Stands (packets_of Server shown) server dump.server
     pub client_limit : dump.client.limit ≡ dump.options.limit
     pub server_limit : dump.server.limit ≡ dump.options.limit
-    pub behind : dump.next_id ≡ id_behind 0 shown
+    pub behind : dump.session.next_id ≡ id_behind 0 shown
     pub ordered : (client_next server_next : Option ℕ) → Pends dump.client.next client_next
         → Pends dump.server.next server_next → InOrder 0 shown client_next server_next
     pub lines : written ++ string_bytes dump.text ≡ lines_of dump.options.form shown
@@ -71,7 +71,7 @@ pub record NamesOne (form : FieldForm) (side : Side) (id : ℕ) (payload : List 
 -- it is this side's turn
 abbrev pub IsTurn : {A : Type 0} → Side → Dump A → Type 0
 IsTurn side dump =
-    turn dump.session.place dump.next_id (id_of dump.client.next) (id_of dump.server.next)
+    turn dump.session.place dump.session.next_id (id_of dump.client.next) (id_of dump.server.next)
     ≡ Some side
 
 -- both sides were looked at

@@ -12,6 +12,7 @@ use Rattle.mysql_wire_dump_lines.specs.declared.place.RowForm.{RowForm}
 use Rattle.mysql_wire_dump_lines.specs.declared.place.RowForm.TheVariants as form
 use Rattle.mysql_wire_dump_lines.specs.declared.side.Side.{Side}
 use Rattle.mysql_wire_dump_lines.specs.declared.side.Side.TheVariants.{Client, Server}
+use Rattle.mysql_wire_dump_lines.specs.Naming.{is_command}
 use Rattle.mysql_wire_dump_fields.specs.Packets.{Packet}
 use Rattle.mysql_wire_dump_fields.specs.Packets as packet
 use Rattle.mysql_wire_packets.specs.Optional.{has}
@@ -130,7 +131,8 @@ went Server named payload known =
 -- behind a packet that was passed over
 abbrev pub passed : Side → ℕ → Known → Known
 passed Client id known =
-    if id == 0 then record known { place = place.Answer; row_form = form.Unknown } else known
+    if is_command known.place known.next_id id
+    then record known { place = place.Answer; row_form = form.Unknown } else known
 passed Server id known =
     record known { place = past_column known.is_eof_deprecated known.place }
 

@@ -11,12 +11,13 @@ use Rattle.mysql_wire_dump_lines.specs.declared.place.RowForm.{RowForm}
 use Rattle.mysql_wire_dump_lines.specs.declared.place.RowForm.TheVariants.{Unknown}
 use Rattle.mysql_wire_dump.specs.declared.session.Session.{Session}
 
--- what is waited for; whether rows begin with no EOF behind the definitions of columns, and how
+-- what is waited for; the id that follows the last packet's; whether rows begin with no EOF behind the definitions of columns, and how
 -- their values are written; the capabilities, and MariaDB's; how many columns the last answer has,
 -- and the types of those that were defined since; and the statements that were prepared, the newest
 -- first
 pub record Known : Type 0 where
   pub place : Place
+  pub next_id : ℕ
   pub is_eof_deprecated : Bool
   pub row_form : RowForm
   pub capabilities : CapabilityFlags
@@ -29,6 +30,7 @@ abbrev pub known_of : {A : Type 0} → Session A → Known
 known_of session =
     record {
       place = session.place;
+      next_id = session.next_id;
       is_eof_deprecated = session.is_eof_deprecated;
       row_form = session.row_form;
       capabilities = session.capabilities;
@@ -43,6 +45,7 @@ abbrev pub moment_of : Known → Moment
 moment_of known =
     record {
       place = known.place;
+      next_id = known.next_id;
       is_eof_deprecated = known.is_eof_deprecated;
       row_form = known.row_form;
     }
@@ -52,6 +55,7 @@ abbrev pub nothing_known : Known
 nothing_known =
     record {
       place = Greeting;
+      next_id = 0;
       is_eof_deprecated = false;
       row_form = Unknown;
       capabilities = record { 0 = 0x200 };

@@ -31,8 +31,6 @@ struct Dump<A: Allocator + Copy> {
     server: Source<A>,
     session: Session<A>,
     fields: Fields<A>,
-    // The id behind the last packet.
-    next_id: u8,
     text: String<A>,
 }
 
@@ -98,19 +96,18 @@ impl<A: Allocator + Copy> Dump<A> {
             server: Source::new(alloc, options.limit),
             session: Session::new(alloc, global),
             fields: Fields::new(alloc),
-            next_id: 0,
             text: String::new(alloc),
         }
     }
 
     // Whose packet is next.
     fn turn(&self) -> Option<Side>
-        ensures { result ≡ turn self.now.session.place self.now.next_id
+        ensures { result ≡ turn self.now.session.place self.now.session.next_id
             (id_of self.now.client.next) (id_of self.now.server.next) }
     {
         turn(
             self.session.place(),
-            self.next_id,
+            self.session.next_id(),
             self.client.next_id(),
             self.server.next_id(),
         )
@@ -142,7 +139,7 @@ impl<A: Allocator + Copy> Dump<A> {
         let fields = self.fields.text();
         let payload = shown_payload(source);
         push_packet(&mut self.text, self.options.form, &seen, payload, fields)?;
-        self.next_id = self.client.id_behind();
+        self.session.set_next_id(self.client.id_behind());
         self.client.pass()?;
         Ok(())
     }
@@ -173,7 +170,7 @@ impl<A: Allocator + Copy> Dump<A> {
         let fields = self.fields.text();
         let payload = shown_payload(source);
         push_packet(&mut self.text, self.options.form, &seen, payload, fields)?;
-        self.next_id = self.server.id_behind();
+        self.session.set_next_id(self.server.id_behind());
         self.server.pass()?;
         Ok(())
     }

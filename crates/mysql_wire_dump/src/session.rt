@@ -13,7 +13,7 @@ ghost use Rattle.mysql_wire_dump.specs.Readings.{Names};
 use crate::statements::Statements;
 use mysql_wire_dump_lines::fields::Fields;
 use mysql_wire_dump_lines::kind::Kind;
-use mysql_wire_dump_lines::naming::{Moment, kind_at};
+use mysql_wire_dump_lines::naming::{Moment, is_command, kind_at};
 use mysql_wire_dump_lines::place::{Place, RowForm};
 use mysql_wire_dump_lines::side::Side;
 use mysql_wire_dump_lines::status::Stop;
@@ -27,6 +27,8 @@ pub struct Session<A: Allocator + Copy = Global> {
     // Packets are read with it, which takes no memory.
     global: Global,
     place: Place,
+    // The id that follows the last packet's.
+    next_id: u8,
     is_eof_deprecated: bool,
     row_form: RowForm,
     capabilities: CapabilityFlags,
@@ -53,6 +55,7 @@ impl<A: Allocator + Copy> Session<A> {
         Session {
             global,
             place: Place::Greeting,
+            next_id: 0,
             is_eof_deprecated: false,
             row_form: RowForm::Unknown,
             capabilities: CapabilityFlags::CLIENT_PROTOCOL_41,
@@ -70,12 +73,27 @@ impl<A: Allocator + Copy> Session<A> {
         self.place
     }
 
+    /// The id that follows the last packet's.
+    pub fn next_id(&self) -> u8
+        ensures { result ≡ self.now.next_id }
+    {
+        self.next_id
+    }
+
+    /// This id follows the last packet's.
+    pub fn set_next_id(&mut self, next_id: u8)
+        ensures { known_of self.new ≡ record (known_of self.old) { next_id = next_id } }
+    {
+        self.next_id = next_id;
+    }
+
     // What is known of the next packet.
     fn moment(&self) -> Moment
         ensures { result ≡ moment_of (known_of self.now) }
     {
         Moment {
             place: self.place,
+            next_id: self.next_id,
             is_eof_deprecated: self.is_eof_deprecated,
             row_form: self.row_form,
         }
@@ -162,7 +180,7 @@ impl<A: Allocator + Copy> Session<A> {
         ensures { known_of self.new ≡ passed side id (known_of self.old) }
     {
         match side {
-            Side::Client if id == 0 => {
+            Side::Client if is_command(self.place, self.next_id, id) => {
                 self.row_form = RowForm::Unknown;
                 self.place = Place::Answer;
             }

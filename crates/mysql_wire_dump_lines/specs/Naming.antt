@@ -1,6 +1,6 @@
 -- What a packet is, by its place, its first byte and its length.
 use Rattle.std.specs.List.{starts_with}
-use Rattle.std.specs.Prelude.{◌≡◌, ◌⊎◌, ℕ, ◌==◌, eqb, ◌&&◌, nat_lt, ⊤, Bool, true, false, if◌then◌else◌, List, [], ◌∷◌, length, Option, Some, None}
+use Rattle.std.specs.Prelude.{◌≡◌, ◌⊎◌, ℕ, ◌==◌, eqb, ◌&&◌, not, nat_lt, ⊤, Bool, true, false, if◌then◌else◌, List, [], ◌∷◌, length, Option, Some, None}
 use Rattle.mysql_wire_dump_lines.specs.declared.kind.Kind.{Kind}
 use Rattle.mysql_wire_dump_lines.specs.declared.kind.Kind.TheVariants as kind
 use Rattle.mysql_wire_dump_lines.specs.declared.naming.Moment.{Moment}
@@ -75,9 +75,17 @@ later_kind place.File len = kind.File
 later_kind place.Closed len = kind.File
 later_kind place.Encrypted len = kind.File
 
--- a client's packet: numbered 0, a command
-abbrev pub client_kind : Place → ℕ → Option ℕ → ℕ → Kind
-client_kind at id first len = if id == 0 then first_command first else later_kind at len
+-- a client's packet of this id begins a command, where this id follows the last packet's: it is
+-- numbered 0, and is none of the pieces of a file, whose ids go on behind 255
+abbrev pub is_command : Place → ℕ → ℕ → Bool
+is_command place.File next_id id = (id == 0) && not (next_id == 0)
+is_command at next_id id = id == 0
+
+-- a client's packet
+abbrev pub client_kind : Moment → ℕ → Option ℕ → ℕ → Kind
+client_kind moment id first len =
+    if is_command moment.place moment.next_id id then first_command first
+    else later_kind moment.place len
 
 -- what a server says first
 abbrev pub greeting_kind : ℕ → Kind
@@ -213,7 +221,7 @@ any_server_kind moment id (Some first) len = server_kind moment id first len
 -- what a packet is, whose first chunk bears this id, where the type of its kind reads it
 abbrev pub kind_at : Moment → Side → ℕ → List ℕ → Kind
 kind_at moment Client id payload =
-    client_kind moment.place id (first_byte payload) (length payload)
+    client_kind moment id (first_byte payload) (length payload)
 kind_at moment Server id payload =
     if is_report payload then kind.Progress
     else any_server_kind moment id (first_byte payload) (length payload)

@@ -1,18 +1,19 @@
 //! What a packet is, by its place, its first byte and its length.
 
 ghost use Rattle.std.specs.Prelude.{◌≡◌};
-ghost use Rattle.mysql_wire_dump_lines.specs.Naming.{answer_kind, client_kind, column_kind, columns_end_kind, command_kind, empty_kind, event_kind, field_kind, first_byte, greeting_kind, is_report, is_short, kind_at, option_kind, outcome_kind, prepare_kind, row_kind, server_kind, statistics_kind, values_kind};
+ghost use Rattle.mysql_wire_dump_lines.specs.Naming.{answer_kind, client_kind, column_kind, columns_end_kind, command_kind, empty_kind, event_kind, field_kind, first_byte, greeting_kind, is_command, is_report, is_short, kind_at, option_kind, outcome_kind, prepare_kind, row_kind, server_kind, statistics_kind, values_kind};
 
 use crate::kind::Kind;
 use crate::place::{Behind, Place, RowForm};
 use crate::refusal::Refusal;
 use crate::side::Side;
 
-/// What a session knows of the next packet: its place, whether rows end without an EOF behind the
-/// definitions of columns, and how their values are written.
+/// What a session knows of the next packet: its place, the id that follows the last packet's, whether
+/// rows end without an EOF behind the definitions of columns, and how their values are written.
 #[derive(Clone, Copy)]
 pub struct Moment {
     pub place: Place,
+    pub next_id: u8,
     pub is_eof_deprecated: bool,
     pub row_form: RowForm,
 }
@@ -71,17 +72,28 @@ fn command_kind(number: u8) -> Kind
     }
 }
 
-// A client's packet.
-fn client_kind(place: Place, id: u8, first: Option<u8>, len: usize) -> Kind
-    ensures { result ≡ client_kind place id first len }
+/// Whether a client's packet of this id begins a command: it is numbered 0, and is none of the pieces
+/// of a file, of which the ids go on behind 255.
+pub fn is_command(place: Place, next_id: u8, id: u8) -> bool
+    ensures { result ≡ is_command place next_id id }
 {
-    if id == 0 {
+    match place {
+        Place::File => id == 0 && next_id != 0,
+        _ => id == 0,
+    }
+}
+
+// A client's packet.
+fn client_kind(moment: Moment, id: u8, first: Option<u8>, len: usize) -> Kind
+    ensures { result ≡ client_kind moment id first len }
+{
+    if is_command(moment.place, moment.next_id, id) {
         return match first {
             Some(number) => command_kind(number),
             None => Kind::Bytes(Refusal::UnexpectedEnd),
         };
     }
-    match place {
+    match moment.place {
         Place::Greeting | Place::Login => {
             if len == 32 {
                 Kind::TlsRequest
@@ -311,7 +323,7 @@ pub fn kind_at(moment: Moment, side: Side, id: u8, payload: &[u8]) -> Kind
 {
     let first = first_byte(payload);
     match side {
-        Side::Client => client_kind(moment.place, id, first, payload.len()),
+        Side::Client => client_kind(moment, id, first, payload.len()),
         Side::Server => {
             if is_report(payload) {
                 return Kind::Progress;

@@ -8,7 +8,7 @@ returns-in_default-clause-goes g c all_client all_server before so_far =
     all_server (g.S.Read.remaining c.args.server.now) (g.S.Read.remaining c.look-2.new.input) before (g.W.Write.contents c.args.output.now) so_far
     c.in_ok-look.ensures.looks c.in_ok-look.ensures.kept c.in_ok-look.ensures.end c.in_ok-look.ensures.limit
     c.in_ok-look-2.ensures.looks c.in_ok-look-2.ensures.kept c.in_ok-look-2.ensures.end c.in_ok-look-2.ensures.limit in
-    let none = no_turn c.args.dump.now.session.place c.args.dump.now.next_id c.look.new.self.next c.look-2.new.self.next (sym c.turn.ensures ∙ c.in_default.is)
+    let none = no_turn c.args.dump.now.session.place c.args.dump.now.session.next_id c.look.new.self.next c.look-2.new.self.next (sym c.turn.ensures ∙ c.in_default.is)
     c.in_ok-look.ensures.next c.in_ok-look-2.ensures.next in
     none_left _ all_client (g.R.Read.remaining c.look.new.input) all_server (g.S.Read.remaining c.look-2.new.input) before (g.W.Write.contents c.args.output.now) both none.0 none.1
 
