@@ -9,6 +9,7 @@ The last line is 'N passed, M failed'.
 """
 
 import itertools
+import json
 import os
 import pathlib
 import shutil
@@ -45,6 +46,55 @@ def file_session(count):
     lines += ["client %d 0 file" % end, "server %d 7 ok" % done]
     lines += ["client end at %d" % len(client), "server end at %d" % len(server)]
     return "a file of %d pieces" % count, "", client, server, 0, lines
+
+
+def framed(packets):
+    """Packets, framed from 0."""
+    return b"".join(len(packet).to_bytes(3, "little") + bytes([index]) + packet
+                    for index, packet in enumerate(packets))
+
+
+def text_session(name, text):
+    """A database of this name, as a row: Python's own `json` tells how it is quoted."""
+    client = framed([b"\2" + text.encode()])
+    quoted = json.dumps(text, ensure_ascii=False)
+    lines = ['{"from":"client","id":0,"length":%d,"packet":"init db","fields":{"schema":%s}}'
+             % (len(client) - 4, quoted), '{"from":"client","end":"end","at":%d}' % len(client)]
+    return name, "--json --fields", client, None, 0, lines
+
+
+# A definition of a column, its fields, and an EOF.
+COLUMN = ROWS[9:32]
+COLUMN_FIELDS = [("catalog", "def"), ("schema", ""), ("table", ""), ("org_table", ""), ("name", "1"),
+                 ("org_name", ""), ("character_set", 63), ("column_length", 1), ("type", 8),
+                 ("flags", 0x81), ("decimals", 0)]
+EOF = b"\xfe\0\0\2\0"
+EOF_FIELDS = [("warnings", 0), ("status_flags", 2)]
+
+
+def wide_session(has_json):
+    """A row of 101 values, whose names are their places, as a row."""
+    values = [(str(place), str(place % 10)) for place in range(101)]
+    row = b"".join(b"\1" + value.encode() for _, value in values)
+    shown = [("column count", [("column_count", 101)]), *[("column", COLUMN_FIELDS)] * 101,
+             ("eof", EOF_FIELDS), ("row", values), ("eof", EOF_FIELDS)]
+    packets = [b"\x65", *[COLUMN] * 101, EOF, row, EOF]
+    lines = ["client 0 9 query", '  query "SELECT 1"']
+    if has_json:
+        lines = ['{"from":"client","id":0,"length":9,"packet":"query","fields":{"query":"SELECT 1"}}']
+    for index, ((name, fields), packet) in enumerate(zip(shown, packets)):
+        if has_json:
+            lines.append(json.dumps({"from": "server", "id": index + 1, "length": len(packet),
+                                     "packet": name, "fields": dict(fields)},
+                                    separators=(",", ":")))
+            continue
+        lines.append("server %d %d %s" % (index + 1, len(packet), name))
+        lines += ["  %s %s" % (field, hex(value) if field.endswith("flags") else json.dumps(value))
+                  for field, value in fields]
+    server = framed([b"", *packets])[4:]
+    end = '{"from":"%s","end":"end","at":%d}' if has_json else "%s end at %d"
+    lines += [end % ("client", len(SELECT)), end % ("server", len(server))]
+    return "a row of 101 values", "--json --fields" if has_json else "--fields", SELECT, server, 0, lines
 
 
 # A session, the words before its files, what both sides sent (None where a side has no file), the
@@ -121,6 +171,15 @@ SESSIONS = [
     ("a text that is not UTF-8", "--json --fields", b"\3\0\0\0\2\xff\xfe", None, 0,
      ['{"from":"client","id":0,"length":3,"packet":"init db","fields":{"schema":{"hex":"fffe"}}}',
       '{"from":"client","end":"end","at":7}']),
+    text_session("escapes of one letter", '"\\/\b\f\n\r\t'),
+    text_session("escapes of four digits", "\0\1\x0b\x1f \x7f"),
+    text_session("escapes in a text above 64 bytes", 'say "x\\y"\n\t' * 20),
+    text_session("escapes of four digits in one", "".join(map(chr, range(33))) * 4),
+    text_session("a long text that is not ASCII", "\u00dcn\u00efcode \u6f22\u5b57 \U0001f600 " * 30),
+    text_session("a long text with an escape at its end", "\u6f22\u5b57" * 40 + '"'),
+    text_session("a long text with an escape in front", "\1" + "\u00e9" * 100),
+    wide_session(False),
+    wide_session(True),
     # the piece behind the one numbered 255 is numbered 0, and so is the end of the other file
     file_session(300),
     file_session(254),
