@@ -30,8 +30,8 @@ impl Clients {
         Clients { arguments, stop, log, place: Arc::new(()), taken: 0 }
     }
 
-    /// Takes clients until SIGTERM comes. That the system has no room for a client is logged, and ends
-    /// nothing.
+    /// Takes clients until SIGTERM comes. That the system has no room for a client is logged, and
+    /// ends nothing.
     pub fn take_all(&mut self, mut listener: Listener) -> io::Result<()> {
         loop {
             let (socket, address, lack) = match listener.next(&self.stop)? {

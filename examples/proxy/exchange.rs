@@ -12,8 +12,8 @@ use std::fmt;
 // The first byte of a greeting.
 const HANDSHAKE_V10: u8 = 0x0a;
 
-// Capabilities, as both sides announce them: four bytes, and above them four of MariaDB's own, which
-// MySQL leaves 0.
+// Capabilities, as both sides announce them: four bytes, and above them four of MariaDB's own,
+// which MySQL leaves 0.
 const CLIENT_MYSQL: u64 = 1;
 const COMPRESS: u64 = 1 << 5;
 const PROTOCOL_41: u64 = 1 << 9;
@@ -150,8 +150,8 @@ impl Exchange {
         matches!(self.phase, Phase::Answer(_))
     }
 
-    /// Whether a replica gets the binary log. Meanwhile it acknowledges what came, where it was asked
-    /// to, and both sides begin to count anew there.
+    /// Whether a replica gets the binary log. Meanwhile it acknowledges what came, where it was
+    /// asked to, and both sides begin to count anew there.
     pub fn is_dumping(&self) -> bool {
         matches!(self.phase, Phase::Answer(Next::Events(_)))
     }
@@ -219,7 +219,8 @@ impl Exchange {
         self.phase = phase;
     }
 
-    /// The front of a `COM_QUERY`'s statement, where it is asked for. Attributes of a query stand in front of it.
+    /// The front of a `COM_QUERY`'s statement, where it is asked for. Attributes of a query stand
+    /// in front of it.
     fn statement(&self, packet: &[u8]) -> String {
         let mut fields = Fields::starting_at(packet, 1);
         if self.agreed & QUERY_ATTRIBUTES != 0 {

@@ -1,7 +1,7 @@
 //! Why a connection isn't relayed any more, and the error packet by which its client is told.
 //!
-//! The numbers are those of servers. One of a client, such as 2013, isn't taken from the network: many
-//! clients show it as a malformed packet.
+//! The numbers are those of servers. One of a client, such as 2013, isn't taken from the network:
+//! many clients show it as a malformed packet.
 
 use crate::exchange::Misread;
 use mysql_wire::Error;

@@ -10,7 +10,8 @@ use std::os::fd::{AsRawFd, RawFd};
 use std::thread;
 use std::time::Duration;
 
-// The most clients that wait to be taken; the system cuts it to its own most. std's listener has 128.
+// The most clients that wait to be taken; the system cuts it to its own most. std's listener has
+// 128.
 const QUEUE: c_int = 4096;
 // How many descriptors are kept for clients that can't be served.
 const RESERVE: usize = 2;

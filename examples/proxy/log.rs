@@ -1,8 +1,8 @@
 //! Lines about clients, on standard output.
 //!
-//! They are gathered in a text of bounded length, which a thread of its own writes: who doesn't read
-//! the log stops no traffic. Lines for which there is no room are dropped, and counted in the next one.
-//! The thread sleeps for a moment behind each write, so that no line of many wakes it.
+//! They are gathered in a text of bounded length, which a thread of its own writes: who doesn't
+//! read the log stops no traffic. Lines for which there is no room are dropped, and counted in the
+//! next one. The thread sleeps for a moment behind each write, so that no line of many wakes it.
 
 use std::fmt::{self, Write as _};
 use std::io::{self, Write as _};
@@ -103,7 +103,8 @@ impl Queue {
         }
     }
 
-    /// Writes the lines that came together by one write. That nobody reads them is no reason to stop.
+    /// Writes the lines that came together by one write. That nobody reads them is no reason to
+    /// stop.
     fn write_all(&self) {
         let mut text = String::new();
         loop {
@@ -224,7 +225,8 @@ pub fn front(text: &[u8]) -> String {
     line
 }
 
-/// Whether a character is neither a control nor one that sets the direction of a text or ends a line.
+/// Whether a character is neither a control nor one that sets the direction of a text or ends a
+/// line.
 fn is_plain(c: char) -> bool {
     !c.is_control()
         && !matches!(c, '\u{61c}' | '\u{200e}' | '\u{200f}' | '\u{2028}'..='\u{202e}' | '\u{2066}'..='\u{2069}')
