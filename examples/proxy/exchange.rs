@@ -161,6 +161,11 @@ impl Exchange {
         matches!(self.phase, Phase::Command)
     }
 
+    /// Whether no command runs, or none that has an end of its own.
+    pub fn rests(&self) -> bool {
+        !self.logged_in || self.is_between_commands() || self.is_dumping()
+    }
+
     /// Whether the server said OK to a login.
     pub fn is_logged_in(&self) -> bool {
         self.logged_in

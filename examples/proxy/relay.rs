@@ -202,12 +202,12 @@ impl Relay {
         Ok(None)
     }
 
-    /// Whether nothing but a login or a command can come next.
+    /// Whether the proxy may end here.
     fn rests(&self) -> bool {
         let Relay { client, server, exchange, .. } = self;
         let is_asked = !server.is_awaited_by(&client.stream);
         let is_between = [client, server].iter().all(|side| side.stream.is_between_packets());
-        is_asked && is_between && (!exchange.is_logged_in() || exchange.is_between_commands())
+        is_asked && is_between && exchange.rests()
     }
 
     /// Whether a part of a packet of the client came, and its rest has not.
@@ -259,7 +259,7 @@ impl Relay {
         let Relay { client, server, exchange, stop, stopped, .. } = self;
         let to_client = client.interest(exchange.client_speaks(), &server.stream);
         let to_server = server.interest(exchange.server_speaks(), &client.stream);
-        let may_stop = !*stopped && !exchange.is_answering();
+        let may_stop = !*stopped && exchange.rests();
         let to_stop = Interest { read: may_stop, ..Interest::READ };
         let files: [(&dyn AsRawFd, _); 3] =
             [(&client.socket, to_client), (&server.socket, to_server), (&**stop, to_stop)];

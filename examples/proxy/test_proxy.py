@@ -548,6 +548,16 @@ class Ends(ProxyTests):
         self.assertEqual(proxy.process.wait(PATIENCE), 0)
         self.assertTrue(proxy.logged("ends with 0 clients"))
 
+    def test_a_replica(self):
+        proxy = self.proxy()
+        replica = self.logged_in(proxy)
+        replica.command(DUMP + struct.pack("<IHI", 1, 0, 1))
+        replica.receive()
+        proxy.process.send_signal(signal.SIGTERM)
+        self.assert_error(replica, 1053)
+        replica.stream.close()
+        self.assertEqual(proxy.process.wait(4), 0)
+
     def test_idle_clients_that_do_not_read(self):
         proxy = self.proxy()
         idle = [self.logged_in(proxy) for _ in range(3)]
