@@ -1,9 +1,10 @@
 -- How a dump goes from packet to packet.
-use Rattle.std.proofs.Common.{◌≡◌, ◌≢◌, ℕ, ◌≤◌, ◌<◌, Bool, true, false, if◌then◌else◌, List, [], ◌∷◌, ◌++◌, length, refl, sym, ap, ap₂, ◌∙◌, subst, append-nil, append_assoc, inl, inr, arith, Option, Some, None, string_bytes, rules}
+use Rattle.std.proofs.Common.{◌≡◌, ◌≢◌, ◌↔◌, ℕ, ◌≤◌, ◌<◌, Bool, true, false, if◌then◌else◌, List, [], ◌∷◌, ◌++◌, length, refl, sym, ap, ap₂, ◌∙◌, subst, append-nil, append_assoc, inl, inr, arith, Option, Some, None, string_bytes, rules}
 use Rattle.std.proofs.KnownBytes.{Consumes-trans, Appends-trans}
 use Rattle.std.proofs.lemmas.Bool.{cases_lt, cond_above, cond_below}
 use Rattle.std.specs.Io.KnownBytes.{Appends, Consumes}
 use Rattle.std.proofs.lemmas.Grind.{flat_map-append}
+use Rattle.std.proofs.lemmas.List.Elements.{All-append, All-cons, All-nil}
 use Rattle.wire_codec.specs.Framing.{next_id}
 use Rattle.wire_span.specs.Spans.{span_state}
 use Rattle.mysql_wire_dump.specs.declared.dump.Dump.{Dump}
@@ -14,6 +15,7 @@ use Rattle.mysql_wire_dump_lines.specs.declared.kind.Kind.TheVariants.{TooLarge}
 use Rattle.mysql_wire_dump_lines.specs.declared.lines.LineForm.{LineForm}
 use Rattle.mysql_wire_dump_lines.specs.declared.lines.Seen.{Seen}
 use Rattle.mysql_wire_dump_lines.specs.declared.place.Place.{Place}
+use Rattle.mysql_wire_dump_lines.specs.declared.place.Place.TheVariants as place
 use Rattle.mysql_wire_dump_lines.specs.declared.side.Side.{Side}
 use Rattle.mysql_wire_dump_lines.specs.declared.side.Side.TheVariants.{Client, Server}
 use Rattle.mysql_wire_dump_lines.specs.declared.source.End.{End}
@@ -21,8 +23,8 @@ use Rattle.mysql_wire_dump_lines.specs.declared.source.End.TheVariants.{Encrypte
 use Rattle.mysql_wire_dump_lines.specs.declared.source.Next.{Next}
 use Rattle.mysql_wire_dump_lines.specs.declared.source.Next.TheVariants.{Unread, Packet, Ended}
 use Rattle.mysql_wire_dump_lines.specs.declared.source.Source.{Source}
-use Rattle.mysql_wire_dump.specs.Dumped.{AreShown, field_form, Dumps, InOrder, IsShown, Shown, SideEnds, ending_lines, first_of, is_of, known_after, known_behind, known_but_id, lines_of, packets_of, status_of}
-use Rattle.mysql_wire_dump.specs.Dumping.{Dumping, Goes, IsLooked, IsTurn, NamesOne, PassesOver, Pends, Shows, ShowsAll, SoFar, StartsDump, id_behind}
+use Rattle.mysql_wire_dump.specs.Dumped.{AreShown, AreVisible, HidesAt, field_form, Dumps, InOrder, IsShown, Shown, SideEnds, ending_lines, first_of, is_of, known_after, known_behind, known_but_id, lines_of, packets_of, status_of}
+use Rattle.mysql_wire_dump.specs.Dumping.{Dumping, Goes, Going, IsLooked, IsTurn, NamesOne, PassesOver, Pends, Shows, ShowsAll, SoFar, StartsDump, id_behind}
 use Rattle.mysql_wire_dump.specs.Known.{Known, known_of, nothing_known}
 use Rattle.mysql_wire_dump_fields.specs.Packets as packet
 use Rattle.mysql_wire_dump_lines.specs.Lines.{bytes_part, line_end, packet_front, packet_line}
@@ -247,19 +249,32 @@ pub appends_none : (known : Option (List ℕ)) → Appends known known []
 appends_none None = tt
 appends_none (Some bytes) = sym (append-nil bytes)
 
+-- what was not looked at is not hidden
+pub unread_seen : (next : Next) → next ≡ Unread → next ≡ Ended Encrypted → ⊥
+unread_seen next is hidden = (let e = sym is ∙ hidden in cc)
+
+greeting_open : place.Greeting ≡ place.Encrypted → ⊥
+greeting_open same = cc
+
 pub begins_so : {A : Type 0} (options : Options) (dump : Dump A) (client server written : Option (List ℕ)) → StartsDump options dump
-    → SoFar dump client client server server written written
+    → Going dump client client server server written written
 begins_so options dump client server written starts = record {
-  shown = [];
-  of_client = [];
-  of_server = [];
-  text = [];
-  client_consumed = consumes_none client;
-  server_consumed = consumes_none server;
-  appended = appends_none written;
-  dumping = starts.dumps;
-  client_end = subst (λ (n : Next). AtEnd n client) (sym starts.client_next) tt;
-  server_end = subst (λ (n : Next). AtEnd n server) (sym starts.server_next) tt;
+  so_far = record {
+    shown = [];
+    of_client = [];
+    of_server = [];
+    text = [];
+    client_consumed = consumes_none client;
+    server_consumed = consumes_none server;
+    appended = appends_none written;
+    dumping = starts.dumps;
+    visible = All-nil (λ (one : Shown). one.at.place ≢ place.Encrypted);
+    client_seen = λ is. unread_seen _ starts.client_next is;
+    server_seen = λ is. unread_seen _ starts.server_next is;
+    client_end = subst (λ (n : Next). AtEnd n client) (sym starts.client_next) tt;
+    server_end = subst (λ (n : Next). AtEnd n server) (sym starts.server_next) tt;
+  };
+  is_open = λ is. greeting_open (sym (ap (λ (k : Known). k.place) starts.dumps.known) ∙ is);
 }
 
 -- what was looked at stays
@@ -273,9 +288,9 @@ client_looked : {A : Type 0} (dump : Dump A) (source : Source A) (client client_
     → SoFar dump client client_left server server_left written now
     → ((packets : List (ℕ × List ℕ)) (came : List ℕ) → Stands packets came dump.client → (more : List ℕ) × Consumes client_left left more × Stands packets (came ++ more) source)
     → (dump.client.next ≢ Unread → source.next ≡ dump.client.next) → (AtEnd dump.client.next client_left → AtEnd source.next left)
-    → source.limit ≡ dump.client.limit
+    → (dump.client.next ≢ Ended Encrypted → source.next ≢ Ended Encrypted) → source.limit ≡ dump.client.limit
     → SoFar (record dump { client = source }) client left server server_left written now
-client_looked dump source client client_left left server server_left written now so_far looks kept ended limit =
+client_looked dump source client client_left left server server_left written now so_far looks kept ended seen limit =
     let was = so_far.dumping in
     let look = looks (packets_of Client so_far.shown) so_far.of_client was.clients in
     record {
@@ -298,6 +313,9 @@ client_looked dump source client client_left left server server_left written now
             was.ordered client_next server_next (still_pends dump.client.next source.next client_next kept client_pends) server_pends;
         lines = was.lines;
       };
+      visible = so_far.visible;
+      client_seen = seen so_far.client_seen;
+      server_seen = so_far.server_seen;
       client_end = ended so_far.client_end;
       server_end = so_far.server_end;
     }
@@ -306,9 +324,9 @@ server_looked : {A : Type 0} (dump : Dump A) (source : Source A) (client client_
     → SoFar dump client client_left server server_left written now
     → ((packets : List (ℕ × List ℕ)) (came : List ℕ) → Stands packets came dump.server → (more : List ℕ) × Consumes server_left left more × Stands packets (came ++ more) source)
     → (dump.server.next ≢ Unread → source.next ≡ dump.server.next) → (AtEnd dump.server.next server_left → AtEnd source.next left)
-    → source.limit ≡ dump.server.limit
+    → (dump.server.next ≢ Ended Encrypted → source.next ≢ Ended Encrypted) → source.limit ≡ dump.server.limit
     → SoFar (record dump { server = source }) client client_left server left written now
-server_looked dump source client client_left server server_left left written now so_far looks kept ended limit =
+server_looked dump source client client_left server server_left left written now so_far looks kept ended seen limit =
     let was = so_far.dumping in
     let look = looks (packets_of Server so_far.shown) so_far.of_server was.servers in
     record {
@@ -331,6 +349,9 @@ server_looked dump source client client_left server server_left left written now
             was.ordered client_next server_next client_pends (still_pends dump.server.next source.next server_next kept server_pends);
         lines = was.lines;
       };
+      visible = so_far.visible;
+      client_seen = so_far.client_seen;
+      server_seen = seen so_far.server_seen;
       client_end = so_far.client_end;
       server_end = ended so_far.server_end;
     }
@@ -341,23 +362,36 @@ pub both_looked : {A : Type 0} (dump : Dump A) (client_source server_source : So
     → SoFar dump client client_left server server_left written now
     → ((packets : List (ℕ × List ℕ)) (came : List ℕ) → Stands packets came dump.client → (more : List ℕ) × Consumes client_left client_now more × Stands packets (came ++ more) client_source)
     → (dump.client.next ≢ Unread → client_source.next ≡ dump.client.next) → (AtEnd dump.client.next client_left → AtEnd client_source.next client_now)
-    → client_source.limit ≡ dump.client.limit
+    → (dump.client.next ≢ Ended Encrypted → client_source.next ≢ Ended Encrypted) → client_source.limit ≡ dump.client.limit
     → ((packets : List (ℕ × List ℕ)) (came : List ℕ) → Stands packets came dump.server → (more : List ℕ) × Consumes server_left server_now more × Stands packets (came ++ more) server_source)
     → (dump.server.next ≢ Unread → server_source.next ≡ dump.server.next) → (AtEnd dump.server.next server_left → AtEnd server_source.next server_now)
-    → server_source.limit ≡ dump.server.limit
+    → (dump.server.next ≢ Ended Encrypted → server_source.next ≢ Ended Encrypted) → server_source.limit ≡ dump.server.limit
     → SoFar (record dump { client = client_source; server = server_source }) client client_now server server_now written now
-both_looked dump client_source server_source client client_left client_now server server_left server_now written now so_far client_looks client_kept client_ended client_limit
-    server_looks server_kept server_ended server_limit =
+both_looked dump client_source server_source client client_left client_now server server_left server_now written now so_far client_looks client_kept client_ended client_seen client_limit
+    server_looks server_kept server_ended server_seen server_limit =
     server_looked (record dump { client = client_source }) server_source client client_now server server_left server_now written now
-    (client_looked dump client_source client client_left client_now server server_left written now so_far client_looks client_kept client_ended client_limit)
-    server_looks server_kept server_ended server_limit
+    (client_looked dump client_source client client_left client_now server server_left written now so_far client_looks client_kept client_ended client_seen client_limit)
+    server_looks server_kept server_ended server_seen server_limit
+
+-- what was known at the last of these
+last_at : (options : Options) (known : Known) (shown : List Shown) (one : Shown) → AreShown options known (shown ++ one ∷ []) → one.at ≡ known_after options known shown
+last_at options known [] one are = are.0
+last_at options known (first ∷ shown) one are = last_at options (known_behind options first) shown one are.2
+
+visible_more : (shown : List Shown) (one : Shown) → AreVisible shown → one.at.place ≢ place.Encrypted → AreVisible (shown ++ one ∷ [])
+visible_more shown one are is =
+    let P : Shown → Type 0 = λ any. any.at.place ≢ place.Encrypted in
+    All-append P shown (one ∷ []) are (All-cons P one [] is (All-nil P))
 
 -- a packet was shown
 pub one_shown : {A : Type 0} (side : Side) (old new : Dump A) (client client_left server server_left written now : Option (List ℕ))
-    → SoFar old client client_left server server_left written now → Shows side old new → IsTurn side old → IsLooked old
+    → SoFar old client client_left server server_left written now → old.session.place ≢ place.Encrypted → Shows side old new → IsTurn side old → IsLooked old
     → SoFar new client client_left server server_left written now
-one_shown side old new client client_left server server_left written now so_far shows is_turn looked =
+one_shown side old new client client_left server server_left written now so_far is_open shows is_turn looked =
     let more = shows.more so_far.shown so_far.of_client so_far.of_server so_far.text so_far.dumping is_turn looked in
+    let here : more.0.at ≡ known_of old.session =
+    last_at new.options nothing_known so_far.shown more.0 more.1.are_shown
+    ∙ ap (λ (o : Options). known_after o nothing_known so_far.shown) shows.options_are ∙ sym so_far.dumping.known in
     record {
       shown = so_far.shown ++ more.0 ∷ [];
       of_client = so_far.of_client;
@@ -367,6 +401,9 @@ one_shown side old new client client_left server server_left written now so_far 
       server_consumed = so_far.server_consumed;
       appended = so_far.appended;
       dumping = more.1;
+      visible = visible_more so_far.shown more.0 so_far.visible (λ is. is_open (sym (ap (λ (k : Known). k.place) here) ∙ is));
+      client_seen = shows.client_seen so_far.client_seen;
+      server_seen = shows.server_seen so_far.server_seen;
       client_end = shows.client_end client_left so_far.client_end;
       server_end = shows.server_end server_left so_far.server_end;
     }
@@ -397,15 +434,18 @@ much_written {A = A} old new part client client_left server server_left written 
         ordered = was.ordered;
         lines = append_assoc so_far.text part (string_bytes new.text) ∙ ap (λ (z : List ℕ). so_far.text ++ z) (sym text) ∙ was.lines;
       };
+      visible = so_far.visible;
+      client_seen = so_far.client_seen;
+      server_seen = so_far.server_seen;
       client_end = so_far.client_end;
       server_end = so_far.server_end;
     })
 
 -- no packet is left
 pub none_left : {A : Type 0} (dump : Dump A) (client client_left server server_left written now : Option (List ℕ))
-    → SoFar dump client client_left server server_left written now → Pends dump.client.next None → Pends dump.server.next None
+    → SoFar dump client client_left server server_left written now → dump.session.place ≢ place.Encrypted → Pends dump.client.next None → Pends dump.server.next None
     → ShowsAll dump client client_left server server_left written now
-none_left dump client client_left server server_left written now so_far client_none server_none =
+none_left dump client client_left server server_left written now so_far is_open client_none server_none =
     let was = so_far.dumping in
     record {
       shown = so_far.shown;
@@ -416,6 +456,10 @@ none_left dump client client_left server server_left written now so_far client_n
       server_consumed = so_far.server_consumed;
       appended = so_far.appended;
       are_shown = was.are_shown;
+      visible = so_far.visible;
+      known = was.known;
+      client_hides = ((λ hidden. absurd (so_far.client_seen hidden)), (λ is. absurd (is_open is)));
+      server_hides = ((λ hidden. absurd (so_far.server_seen hidden)), (λ is. absurd (is_open is)));
       clients = was.clients;
       servers = was.servers;
       client_next = None;
@@ -429,12 +473,12 @@ none_left dump client client_left server server_left written now so_far client_n
 
 -- what is left is hidden
 pub rest_hidden : {A : Type 0} (dump : Dump A) (client_source server_source : Source A) (client client_left server server_left written now : Option (List ℕ))
-    → SoFar dump client client_left server server_left written now
+    → SoFar dump client client_left server server_left written now → dump.session.place ≡ place.Encrypted
     → ((packets : List (ℕ × List ℕ)) (came : List ℕ) → Stands packets came dump.client → Stands packets came client_source)
     → ((packets : List (ℕ × List ℕ)) (came : List ℕ) → Stands packets came dump.server → Stands packets came server_source)
     → client_source.next ≡ Ended Encrypted → server_source.next ≡ Ended Encrypted
     → ShowsAll (record dump { client = client_source; server = server_source }) client client_left server server_left written now
-rest_hidden dump client_source server_source client client_left server server_left written now so_far hides_client hides_server client_is server_is =
+rest_hidden dump client_source server_source client client_left server server_left written now so_far at_tls hides_client hides_server client_is server_is =
     let was = so_far.dumping in
     record {
       shown = so_far.shown;
@@ -445,6 +489,10 @@ rest_hidden dump client_source server_source client client_left server server_le
       server_consumed = so_far.server_consumed;
       appended = so_far.appended;
       are_shown = was.are_shown;
+      visible = so_far.visible;
+      known = was.known;
+      client_hides = ((λ hidden. at_tls), (λ is. client_is));
+      server_hides = ((λ hidden. at_tls), (λ is. server_is));
       clients = hides_client (packets_of Client so_far.shown) so_far.of_client was.clients;
       servers = hides_server (packets_of Server so_far.shown) so_far.of_server was.servers;
       client_next = id_of dump.client.next;
@@ -497,6 +545,11 @@ side_ends source packets bytes end stands is = record {
 ended_so : (end other : End) → Ended end ≡ Ended other → end ≡ other
 ended_so end other is = search (rules, is)
 
+-- a side that is hidden says so
+hides_at : (next : Next) (end : End) (at known : Place) → next ≡ Ended end → at ≡ known → (next ≡ Ended Encrypted) ↔ (at ≡ place.Encrypted) → HidesAt known end
+hides_at next end at known is same hides =
+    ((λ hidden. sym same ∙ hides.0 (is ∙ ap (λ (e : End). Ended e) hidden)), (λ tls. ended_so end Encrypted (sym is ∙ hides.1 (same ∙ tls))))
+
 -- all is shown, and how the sides end is written behind it
 pub dumps_all : {A : Type 0} (options : Options) (sides : Sides) (dump : Dump A) (client_end server_end : End) (last : List ℕ) (status : ℕ)
     (client client_left server server_left written now later : Option (List ℕ))
@@ -506,6 +559,8 @@ pub dumps_all : {A : Type 0} (options : Options) (sides : Sides) (dump : Dump A)
     → Appends now later last → status ≡ status_of sides client_end server_end
     → Dumps options sides client client_left server server_left written later status
 dumps_all options sides dump client_end server_end last status client client_left server server_left written now later all options_are client_is server_is last_is appended status_is =
+    let known_is : known_of dump.session ≡ known_after options nothing_known all.shown =
+    all.known ∙ ap (λ (o : Options). known_after o nothing_known all.shown) options_are in
     let endings : ℕ → ℕ → List ℕ = λ client_at server_at. ending_lines options.form sides client_end client_at server_end server_at in
     record {
       of_client = all.of_client;
@@ -524,6 +579,9 @@ dumps_all options sides dump client_end server_end last status client client_lef
         client_next = all.client_next;
         server_next = all.server_next;
         ordered = all.ordered;
+        visible = all.visible;
+        client_hides = hides_at dump.client.next client_end _ _ client_is (ap (λ (k : Known). k.place) known_is) all.client_hides;
+        server_hides = hides_at dump.server.next server_end _ _ server_is (ap (λ (k : Known). k.place) known_is) all.server_hides;
         none_left = elim all.none_left [
           | inl hidden ↦ inl (ended_so client_end Encrypted (sym client_is ∙ hidden))
           | inr none ↦ inr none

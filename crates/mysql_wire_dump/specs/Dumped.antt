@@ -1,7 +1,7 @@
 -- What the dump writes, from the bytes that it reads.
 use Rattle.std.specs.Io.KnownBytes.{Appends, Consumes}
 use Rattle.std.specs.List.{flat_map}
-use Rattle.std.specs.Prelude.{◌≡◌, ℕ, ◌<◌, ◌≤◌, ◌⊎◌, List, [], ◌∷◌, ◌++◌, length, nat_lt, ⊤, Bool, true, false, if◌then◌else◌, max, Option, Some, None}
+use Rattle.std.specs.Prelude.{◌≡◌, ℕ, ◌<◌, ◌≤◌, ◌⊎◌, List, [], ◌∷◌, ◌++◌, length, nat_lt, ⊤, Bool, true, false, if◌then◌else◌, max, Option, Some, None, ◌≢◌, ◌↔◌, All}
 use Rattle.wire_codec.specs.Framing.{next_id}
 use Rattle.mysql_wire_dump_lines.specs.declared.options.Options.{Options}
 use Rattle.mysql_wire_dump_lines.specs.declared.options.Sides.{Sides}
@@ -13,6 +13,8 @@ use Rattle.mysql_wire_dump_lines.specs.declared.fields.FieldForm.TheVariants.{Hi
 use Rattle.mysql_wire_dump_lines.specs.declared.lines.LineForm.{LineForm}
 use Rattle.mysql_wire_dump_lines.specs.declared.lines.LineForm.TheVariants as line
 use Rattle.mysql_wire_dump_lines.specs.declared.lines.Seen.{Seen}
+use Rattle.mysql_wire_dump_lines.specs.declared.place.Place.{Place}
+use Rattle.mysql_wire_dump_lines.specs.declared.place.Place.TheVariants as place
 use Rattle.mysql_wire_dump_lines.specs.declared.side.Side.{Side}
 use Rattle.mysql_wire_dump_lines.specs.declared.side.Side.TheVariants.{Client, Server}
 use Rattle.mysql_wire_dump_lines.specs.declared.source.End.{End}
@@ -92,6 +94,14 @@ AreShown options known [] = ⊤
 AreShown options known (shown ∷ others) = (shown.at ≡ known) × IsShown options shown
     × AreShown options (known_behind options shown) others
 
+-- behind TLS no packet is shown
+abbrev pub AreVisible : List Shown → Type 0
+AreVisible shown = All (λ one. one.at.place ≢ place.Encrypted) shown
+
+-- a side's packets are hidden exactly where the session has gone on to TLS
+abbrev pub HidesAt : Place → End → Type 0
+HidesAt at end = (end ≡ Encrypted) ↔ (at ≡ place.Encrypted)
+
 abbrev pub is_of : Side → Side → Bool
 is_of Client Client = true
 is_of Client Server = false
@@ -157,6 +167,9 @@ pub record Dumped (options : Options) (sides : Sides) (client server : List ℕ)
   pub server_next : Option ℕ
   pub ordered : InOrder 0 shown client_next server_next
   pub none_left : (client_end ≡ Encrypted) ⊎ ((client_next ≡ None) × (server_next ≡ None))
+  pub visible : AreVisible shown
+  pub client_hides : HidesAt (known_after options nothing_known shown).place client_end
+  pub server_hides : HidesAt (known_after options nothing_known shown).place server_end
   pub is : text ≡ lines_of options.form shown ++ ending_lines options.form sides client_end
       (length (framed (packets_of Client shown))) server_end
       (length (framed (packets_of Server shown)))

@@ -1,5 +1,5 @@
 -- How the dump goes from packet to packet.
-use Rattle.std.specs.Prelude.{◌≡◌, ◌≢◌, ◌⊎◌, ℕ, List, [], ◌∷◌, ◌++◌, ⊤, string_bytes, Option, Some, None, Bool, true, false}
+use Rattle.std.specs.Prelude.{◌≡◌, ◌≢◌, ◌⊎◌, ℕ, List, [], ◌∷◌, ◌++◌, ⊤, string_bytes, Option, Some, None, Bool, true, false, ◌↔◌}
 use Rattle.std.specs.Io.KnownBytes.{Appends, Consumes}
 use Rattle.wire_codec.specs.Framing.{next_id}
 use Rattle.mysql_wire_dump.specs.declared.dump.Dump.{Dump}
@@ -8,13 +8,14 @@ use Rattle.mysql_wire_dump_lines.specs.declared.fields.FieldForm.{FieldForm}
 use Rattle.mysql_wire_dump_lines.specs.declared.kind.Kind.{Kind}
 use Rattle.mysql_wire_dump_lines.specs.declared.kind.Kind.TheVariants.{TooLarge}
 use Rattle.mysql_wire_dump_lines.specs.declared.options.Options.{Options}
+use Rattle.mysql_wire_dump_lines.specs.declared.place.Place.TheVariants as place
 use Rattle.mysql_wire_dump_lines.specs.declared.side.Side.{Side}
 use Rattle.mysql_wire_dump_lines.specs.declared.side.Side.TheVariants.{Client, Server}
 use Rattle.mysql_wire_dump_lines.specs.declared.source.End.TheVariants.{Encrypted}
 use Rattle.mysql_wire_dump_lines.specs.declared.source.Next.{Next}
 use Rattle.mysql_wire_dump_lines.specs.declared.source.Next.TheVariants.{Unread, Ended}
 use Rattle.mysql_wire_dump_lines.specs.declared.source.Next.TheVariants as next
-use Rattle.mysql_wire_dump.specs.Dumped.{AreFields, AreShown, InOrder, Shown, known_after, lines_of, packets_of}
+use Rattle.mysql_wire_dump.specs.Dumped.{AreFields, AreShown, AreVisible, InOrder, Shown, known_after, lines_of, packets_of}
 use Rattle.mysql_wire_dump.specs.GoingOn.{follow, passed, went}
 use Rattle.mysql_wire_dump.specs.Known.{Known, known_of, nothing_known}
 use Rattle.mysql_wire_dump.specs.Readings.{ReadsAs, kind_of, opened_at}
@@ -84,6 +85,8 @@ pub record Shows {A : Type 0} (side : Side) (old new : Dump A) : Type 0 where
       → Dumping shown client server written old → IsTurn side old → IsLooked old
       → (one : Shown) × Dumping (shown ++ one ∷ []) client server written new
   pub options_are : new.options ≡ old.options
+  pub client_seen : old.client.next ≢ Ended Encrypted → new.client.next ≢ Ended Encrypted
+  pub server_seen : old.server.next ≢ Ended Encrypted → new.server.next ≢ Ended Encrypted
   pub client_end : (left : Option (List ℕ)) → AtEnd old.client.next left
       → AtEnd new.client.next left
   pub server_end : (left : Option (List ℕ)) → AtEnd old.server.next left
@@ -100,8 +103,17 @@ pub record SoFar {A : Type 0} (dump : Dump A)
   pub server_consumed : Consumes server server_left of_server
   pub appended : Appends written now text
   pub dumping : Dumping shown of_client of_server text dump
+  pub visible : AreVisible shown
+  pub client_seen : dump.client.next ≢ Ended Encrypted
+  pub server_seen : dump.server.next ≢ Ended Encrypted
   pub client_end : AtEnd dump.client.next client_left
   pub server_end : AtEnd dump.server.next server_left
+
+-- and it goes on from there: the session has not gone on to TLS
+pub record Going {A : Type 0} (dump : Dump A)
+    (client client_left server server_left written now : Option (List ℕ)) : Type 0 where
+  pub so_far : SoFar dump client client_left server server_left written now
+  pub is_open : dump.session.place ≢ place.Encrypted
 
 -- what a dump that began showed of the bytes of both sides, and wrote
 pub record ShowsAll {A : Type 0} (dump : Dump A)
@@ -114,6 +126,10 @@ pub record ShowsAll {A : Type 0} (dump : Dump A)
   pub server_consumed : Consumes server server_left of_server
   pub appended : Appends written now text
   pub are_shown : AreShown dump.options nothing_known shown
+  pub visible : AreVisible shown
+  pub known : known_of dump.session ≡ known_after dump.options nothing_known shown
+  pub client_hides : (dump.client.next ≡ Ended Encrypted) ↔ (dump.session.place ≡ place.Encrypted)
+  pub server_hides : (dump.server.next ≡ Ended Encrypted) ↔ (dump.session.place ≡ place.Encrypted)
   pub clients : Stands (packets_of Client shown) of_client dump.client
   pub servers : Stands (packets_of Server shown) of_server dump.server
   pub client_next : Option ℕ
@@ -128,14 +144,14 @@ pub record ShowsAll {A : Type 0} (dump : Dump A)
 -- from what was shown so far a dump came here, and there may be more, or all is shown
 abbrev pub GoesTo : {A : Type 0} → Bool → Dump A → (client client_left server server_left written now : Option (List ℕ))
     → Type 0
-GoesTo true = SoFar
+GoesTo true = Going
 GoesTo false = ShowsAll
 
 abbrev pub Goes : {A : Type 0} → (old new : Dump A)
     (client client_left server server_left written now : Option (List ℕ)) → Bool → Type 0
 Goes old new client client_left server server_left written now more =
     (all_client all_server before : Option (List ℕ))
-    → SoFar old all_client client all_server server before written
+    → Going old all_client client all_server server before written
     → GoesTo more new all_client client_left all_server server_left before now
 
 -- the same over two readers and a writer

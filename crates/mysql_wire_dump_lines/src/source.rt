@@ -272,6 +272,7 @@ impl<A: Allocator + Copy> Source<A> {
     fn take_packet<R: Read>(&mut self, id: u8, input: &mut R) -> Result<Next, Stop>
         ensures found { IfOk result (λ next. IsReady id self.old → Found next self.old self.new
             (R.remaining input.old) (R.remaining input.new)) }
+        ensures seen { IfOk result (λ next. next ≢ Ended Encrypted) }
         ensures kept { IfOk result (λ next. (self.new.next ≡ self.old.next)
             × (self.new.limit ≡ self.old.limit) × (next ≢ Unread)
             × AtEnd next (R.remaining input.new)) }
@@ -293,6 +294,7 @@ impl<A: Allocator + Copy> Source<A> {
     fn find<R: Read>(&mut self, input: &mut R) -> Result<Next, Stop>
         ensures found { IfOk result (λ next. IsIdle self.old → Found next self.old self.new
             (R.remaining input.old) (R.remaining input.new)) }
+        ensures seen { IfOk result (λ next. next ≢ Ended Encrypted) }
         ensures kept { IfOk result (λ next. (self.new.next ≡ self.old.next)
             × (self.new.limit ≡ self.old.limit) × (next ≢ Unread)
             × AtEnd next (R.remaining input.new)) }
@@ -313,6 +315,8 @@ impl<A: Allocator + Copy> Source<A> {
         ensures looks { OnOk result
             (LooksOn (R.remaining input.old) (R.remaining input.new) self.old self.new) }
         ensures next { OnOk result (self.new.next ≢ Unread) }
+        ensures seen { OnOk result
+            (self.old.next ≢ Ended Encrypted → self.new.next ≢ Ended Encrypted) }
         ensures kept { OnOk result (self.old.next ≢ Unread → self.new.next ≡ self.old.next) }
         ensures end { OnOk result (AtEnd self.old.next (R.remaining input.old)
             → AtEnd self.new.next (R.remaining input.new)) }

@@ -4,7 +4,7 @@ use Rattle.mysql_wire_dump_lines.specs.declared.source.Next.{Next}
 use Rattle.mysql_wire_dump_lines.specs.Lines.{packet_line}
 use Rattle.mysql_wire_dump_lines.specs.Sources.{AtEnd}
 use Rattle.mysql_wire_dump.specs.Known.{known_of}
-use Rattle.mysql_wire_dump.proofs.DumpLemmas.{packet_of, client_shown}
+use Rattle.mysql_wire_dump.proofs.DumpLemmas.{unread_seen, packet_of, client_shown}
 use Rattle.mysql_wire_dump.proofs.dump.Dump.show_client.Goals as goal
 
 pub returns : goal.returns
@@ -22,6 +22,8 @@ returns g c =
           c.shown_payload-payload.ensures text (rw c.id_behind.ensures at c.set_next_id.ensures) refl refl
           c.in_ok-pass.ensures.limit c.in_ok-pass.ensures.passes shown client server written dumping is_turn looked;
       options_are = refl;
+      client_seen = λ _. unread_seen _ c.in_ok-pass.ensures.next;
+      server_seen = λ seen. seen;
       client_end = λ left ended. subst (λ (n : Next). AtEnd n left) (sym c.in_ok-pass.ensures.next) tt;
       server_end = λ left ended. ended;
     }
