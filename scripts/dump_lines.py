@@ -263,6 +263,24 @@ def of_requests(session, folder, environment):
             return "request %d: %s" % (number, found)
 
 
+def of_memory(folder):
+    """The same of a packet of more than 1 GiB, which is above the limit: its bytes come by a pipe, and
+    the program's memory stays below 8 MiB."""
+    os.mkfifo(folder / "large")
+    words = ["--limit", "1000", "client", "large"]
+    with subprocess.Popen([PROGRAM, *words], cwd=folder, stdout=subprocess.PIPE) as ran:
+        with open(folder / "large", "wb", buffering=0) as pipe:
+            for number in range(65):
+                pipe.write(b"\xff\xff\xff" + bytes([number]) + bytes(FULL))
+            status = pathlib.Path("/proc/%d/status" % ran.pid).read_text()
+            pipe.write(b"\0\0\0\x41")
+        text = ran.stdout.read().decode()
+    lines = "client 0 %d too large\nclient end at %d\n" % (65 * FULL, 65 * (FULL + 4) + 4)
+    most = next(int(line.split()[1]) for line in status.splitlines() if line.startswith("VmHWM"))
+    is_right = (ran.returncode, text) == (0, lines) and most < 8192
+    yield None if is_right else "a large packet: %d KiB, %d, %s" % (most, ran.returncode, text)
+
+
 def of_faults(folder):
     """The same of reads and writes that fail."""
     (folder / "client").write_bytes(PING)
@@ -297,7 +315,8 @@ def main():
         return
     with tempfile.TemporaryDirectory() as name:
         folder = pathlib.Path(name)
-        found = [*of_sessions(folder), *of_refusals(folder), *of_faults(folder), *of_words(folder)]
+        found = [*of_sessions(folder), *of_refusals(folder), *of_memory(folder)]
+        found += [*of_faults(folder), *of_words(folder)]
     wrong = [fault for fault in found if fault]
     for fault in wrong:
         print("FAILED", fault)
