@@ -29,7 +29,22 @@ fn codec_under(limit: usize) -> PacketCodec
     codec
 }
 
-// Writes what is pending, but for what is held back.
+// Writes what is pending.
+#[inline(never)]
+fn write_out<A: Allocator + Copy, W: Write>(to: &mut PacketWriter<W, A>) -> Result<(), Stop>
+    ensures sent { OnOk result (Sends (W.contents to.old.writer) (W.contents to.new.writer)
+        to.old.pending to.new.pending) }
+    ensures idle { OnOk result (to.new.pending ≡ []) }
+    ensures errors { IfErr result (λ error. error ≡ Stop.Io) }
+{
+    match to.write_pending() {
+        Ok(()) => Ok(()),
+        Err(_) => Err(Stop::Io),
+    }
+}
+
+// The same, but for what is held back. No call: each packet asks for it.
+#[inline(always)]
 fn send<A: Allocator + Copy, W: Write>(
     to: &mut PacketWriter<W, A>,
     is_held_back: bool,
@@ -42,10 +57,7 @@ fn send<A: Allocator + Copy, W: Write>(
     if is_held_back || to.pending().is_empty() {
         return Ok(());
     }
-    match to.write_pending() {
-        Ok(()) => Ok(()),
-        Err(_) => Err(Stop::Io),
-    }
+    write_out(to)
 }
 
 // Ends with this status, once all is written.
