@@ -1,6 +1,6 @@
 //! Whole packets.
 
-ghost use Rattle.std.specs.Prelude.{◌≡◌, ◌≢◌, ℕ, ◌+◌, ◌%◌, ◌<◌, ◌≤◌, ◌↔◌, ◌⊎◌, OnOk, OnErr, IfErr, Err, List, [], length, None, true, false, IsTrue, MatchOption, slice_index, ◌++◌};
+ghost use Rattle.std.specs.Prelude.{◌≡◌, ◌≢◌, ℕ, ◌+◌, ◌%◌, ◌<◌, ◌≤◌, ◌↔◌, ◌⊎◌, OnOk, OnErr, IfErr, Err, List, [], length, None, true, false, IsTrue, IsFalse, MatchOption, slice_index, ◌++◌};
 ghost use Rattle.wire_codec.specs.Delivery.{chunk_len, IsBounded, IsSpelled};
 
 mod front;
@@ -176,16 +176,14 @@ impl PacketCodec {
         ensures limit { self.new.max_allowed_packet ≡ self.old.max_allowed_packet }
         ensures kept { T.kept packet.new ≡ T.kept packet.old }
     {
-        if packet.remaining() > self.max_allowed_packet {
-            return Err(PacketCodecError::PacketTooLarge);
-        }
-        match put_packet(self.seq_id, packet, dst) {
-            Ok(id) => {
+        let is_large = packet.remaining() > self.max_allowed_packet;
+        if !is_large {
+            if let Ok(id) = put_packet(self.seq_id, packet, dst) {
                 self.seq_id = id;
-                Ok(())
+                return Ok(());
             }
-            Err(_) => Err(PacketCodecError::OutOfMemory),
         }
+        refuse(is_large)
     }
 
     /// The sequence id that the next chunk is to bear: one that `decode` accepts, or the first that
@@ -474,6 +472,21 @@ impl PacketCodec {
             }
         }
     }
+}
+
+// Why a packet isn't framed. It is a function of its own, so that the bytes of an error are zeroed
+// only where one is answered.
+#[inline(always)]
+fn refuse(is_large: bool) -> Result<(), PacketCodecError>
+    ensures large { IsTrue is_large → result ≡ Err PacketCodecError.PacketTooLarge }
+    ensures memory { IsFalse is_large → result ≡ Err PacketCodecError.OutOfMemory }
+{
+    let error = if is_large {
+        PacketCodecError::PacketTooLarge
+    } else {
+        PacketCodecError::OutOfMemory
+    };
+    Err(error)
 }
 
 // Whether this header stands in front.
