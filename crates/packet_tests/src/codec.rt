@@ -552,9 +552,62 @@ const PUTS: &[Script] = &[
     },
 ];
 
+// The same of a packet of one chunk.
+const SHORT_PUTS: &[Script] = &[
+    Script {
+        name: "the put of a short packet is refused",
+        steps: &[
+            Step::Counting,
+            Step::Src(b"\x02\0\0\0ab\x01\0\0\x01c"),
+            Step::RefusePut(0),
+            Step::Decode(Answer::OutOfMemory),
+            Step::Held(b""),
+            Step::Left(b"\x02\0\0\0ab\x01\0\0\x01c"),
+            Step::Stands(true),
+            // The header is remembered.
+            Step::Limit(0),
+            Step::Stands(false),
+            Step::Decode(Answer::Packet),
+            Step::Held(b"ab"),
+            Step::Left(b"\x01\0\0\x01c"),
+        ],
+    },
+    Script {
+        name: "the put of a short packet whose header is remembered is refused",
+        steps: &[
+            Step::Counting,
+            Step::Src(b"\x02\0\0\0a"),
+            Step::Decode(Answer::Waits),
+            Step::Comes(b"b"),
+            Step::RefusePut(0),
+            Step::Decode(Answer::OutOfMemory),
+            Step::Held(b""),
+            Step::Left(b"\x02\0\0\0ab"),
+            Step::Decode(Answer::Packet),
+            Step::Held(b"ab"),
+        ],
+    },
+    Script {
+        name: "an empty packet is not put",
+        steps: &[
+            Step::Counting,
+            Step::Src(b"\0\0\0\0"),
+            Step::RefusePut(0),
+            Step::Decode(Answer::Packet),
+            Step::Held(b""),
+            Step::Left(b""),
+        ],
+    },
+];
+
 #[test]
 fn what_was_put_before_a_refusal_is_held(rt: HostRuntime) -> Result<(), Fail> {
     play(rt.alloc(), PUTS)
+}
+
+#[test]
+fn a_put_of_a_short_packet_may_be_refused(rt: HostRuntime) -> Result<(), Fail> {
+    play(rt.alloc(), SHORT_PUTS)
 }
 
 // A packet of so many bytes at this limit, which is not below.

@@ -314,45 +314,34 @@ impl PacketCodec {
         self.link_chunk(src, dst)
     }
 
-    // Takes so much room in `dst`. Where there is none, the chunk in front, with this header, is
-    // remembered.
+    // Remembers the chunk in front, with this header, for which `dst` could not grow.
     #[inline(always)]
-    fn take_room<T: PacketDst>(
+    fn lack_room<T: PacketDst>(
         &mut self,
         seq_id: u8,
         needed: NonZeroUsize,
-        room: usize,
         src: &BytesMut<impl Allocator + Copy>,
-        dst: &mut T,
-    ) -> Result<(), PacketCodecError>
-        requires takeable { IsTakeable (header_of self.old) src.now.items (length (T.held dst.old))
+        dst: &T,
+    ) -> PacketCodecError
+        requires takeable { IsTakeable (header_of self.old) src.now.items (length (T.held dst.now))
             self.old.max_allowed_packet seq_id (non_zero_usize_get needed) }
         requires small { expected_id self.old < 256 }
-        ensures ok { OnOk result (self.new ≡ self.old) }
-        ensures memory { IfErr result (λ error. error ≡ PacketCodecError.OutOfMemory) }
-        ensures refused { OnErr result (LacksMemory
-            (codec_state self.old src.now.items (T.held dst.old))
-            (codec_state self.new src.now.items (T.held dst.new))) }
-        ensures decodes { OnErr result (DecodesStanding
-            (codec_state self.old src.now.items (T.held dst.old)) (Err PacketCodecError.OutOfMemory)
-            (codec_state self.new src.now.items (T.held dst.new))) }
-        ensures on { OnErr result (Decodes
-            (codec_state self.old src.now.items (T.held dst.old)) (Err PacketCodecError.OutOfMemory)
-            (codec_state self.new src.now.items (T.held dst.new))) }
-        ensures there { OnErr result
-            (HasChunk (codec_state self.old src.now.items (T.held dst.old))) }
+        ensures memory { result ≡ PacketCodecError.OutOfMemory }
+        ensures refused { LacksMemory
+            (codec_state self.old src.now.items (T.held dst.now))
+            (codec_state self.new src.now.items (T.held dst.now)) }
+        ensures decodes { DecodesStanding
+            (codec_state self.old src.now.items (T.held dst.now)) (Err PacketCodecError.OutOfMemory)
+            (codec_state self.new src.now.items (T.held dst.now)) }
+        ensures on { Decodes
+            (codec_state self.old src.now.items (T.held dst.now)) (Err PacketCodecError.OutOfMemory)
+            (codec_state self.new src.now.items (T.held dst.now)) }
+        ensures there { HasChunk (codec_state self.old src.now.items (T.held dst.now)) }
         ensures id { expected_id self.new ≡ expected_id self.old }
-        ensures small { OnErr result (expected_id self.old < 256) }
         ensures limit { self.new.max_allowed_packet ≡ self.old.max_allowed_packet }
-        ensures held { T.held dst.new ≡ T.held dst.old }
     {
-        match dst.reserve(room) {
-            Ok(()) => Ok(()),
-            Err(_) => {
-                self.decoder = ChunkDecoder::Chunk { seq_id, needed };
-                Err(PacketCodecError::OutOfMemory)
-            }
-        }
+        self.decoder = ChunkDecoder::Chunk { seq_id, needed };
+        PacketCodecError::OutOfMemory
     }
 
     // Takes room in `dst` for all bytes that one call takes. Where there is none, the chunk in
@@ -388,7 +377,10 @@ impl PacketCodec {
             None => Ok(()),
             Some((seq_id, needed)) => {
                 let room = bytes_to_take(seq_id, needed, front, held, limit, self.seq_id);
-                self.take_room(seq_id, needed, room, src, dst)
+                match dst.reserve(room) {
+                    Ok(()) => Ok(()),
+                    Err(_) => Err(self.lack_room(seq_id, needed, src, dst)),
+                }
             }
         }
     }
@@ -432,11 +424,11 @@ impl PacketCodec {
             match self.front_packet_in(src.as_slice(), dst.as_ref()) {
                 Some(packet) => {
                     if let Some(needed) = NonZeroUsize::new(packet.len()) {
-                        self.take_room(self.seq_id, needed, packet.len(), src, dst)?;
-                        if let Ok(()) = dst.put_slice(packet) {
-                            self.take_front(src);
-                            return Ok(true);
+                        if !put_whole(packet, dst) {
+                            return Err(self.lack_room(self.seq_id, needed, src, dst));
                         }
+                        self.take_front(src);
+                        return Ok(true);
                     }
                 }
                 None => self.make_room(src, dst)?,
@@ -487,6 +479,18 @@ fn refuse(is_large: bool) -> Result<(), PacketCodecError>
         PacketCodecError::OutOfMemory
     };
     Err(error)
+}
+
+// Takes room for a packet, and puts it there: whether neither was refused.
+#[inline(always)]
+fn put_whole<T: PacketDst>(packet: &[u8], dst: &mut T) -> bool
+    ensures put { IsTrue result → T.held dst.new ≡ T.held dst.old ++ packet.now }
+    ensures refused { IsFalse result → T.held dst.new ≡ T.held dst.old }
+{
+    match dst.reserve(packet.len()) {
+        Ok(()) => dst.put_slice(packet).is_ok(),
+        Err(_) => false,
+    }
 }
 
 // Whether this header stands in front.

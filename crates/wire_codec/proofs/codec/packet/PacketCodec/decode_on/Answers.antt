@@ -18,8 +18,9 @@ takeable limit id (Some h) src held needed (aligned, empty, long, whole, small, 
     let s = aligned.1 in
     (sym is ∙ s.1, len ∙ s.2, some, omega (arith, len, whole))
 
-pub take_room-requires-clause-takeable : goal.take_room-requires-clause-takeable
-take_room-requires-clause-takeable g c =
+pub lack_room-requires-clause-takeable : goal.lack_room-requires-clause-takeable
+lack_room-requires-clause-takeable g c =
+    let held = g.T.PacketDst.held in
     let there = c.in-Some.ensures.there.0 refl in
     let src = c.as_slice.result.now in
     let limit = c.args.self.now.max_allowed_packet in
@@ -28,28 +29,20 @@ take_room-requires-clause-takeable g c =
     let needed = non_zero_usize_get c.in-Some-new.needed in
     let len : needed ≡ chunk_len src = c.in-Some-new.ensures ∙ ap length c.in-Some.ensures.packet ∙ front_len src there.3 in
     let some : 0 < needed = search rules in
-    subst (λ (z : List ℕ). IsTakeable header z (length (g.T.PacketDst.held c.args.dst.now)) limit id needed) c.as_slice.ensures
-    (subst (λ (z : List ℕ). IsTakeable header src (length z) limit id needed) c.as_ref.ensures
+    let stays : c.as_ref.result.now ≡ held c.put_whole.new.dst = c.as_ref.ensures ∙ sym (c.if-not-put_whole.ensures.refused refl) in
+    subst (λ (z : List ℕ). IsTakeable header z (length (held c.put_whole.new.dst)) limit id needed) c.as_slice.ensures
+    (subst (λ (z : List ℕ). IsTakeable header src (length z) limit id needed) stays
     (takeable limit id header src c.as_ref.result.now needed there len some))
 
--- memory refused is a chain of no chunk
-pub returns-in_err-take_room-in-Some-clause-chain : goal.returns-in_err-take_room-in-Some-clause-chain
-returns-in_err-take_room-in-Some-clause-chain g c =
-    let stops : c.from_residual.result ≡ Err OutOfMemory = search rules in (
-      0,
-      record { said = Err OutOfMemory; chunk = c.in_err-take_room-in-Some.ensures.refused; stops = stops; id_stays = c.take_room.ensures.id },
-    )
-
 -- the packet stands behind the empty `dst`
-pub returns-in-Ok-clause-chain : goal.returns-in-Ok-clause-chain
-returns-in-Ok-clause-chain g c =
+pub returns-in-Some-new-clause-chain : goal.returns-in-Some-new-clause-chain
+returns-in-Some-new-clause-chain g c =
     let held = g.T.PacketDst.held in
     let src = c.args.src.now.items in
     let payload = front_payload src in
     let empty = sym c.as_ref.ensures ∙ (c.in-Some.ensures.there.0 refl).1 in
-    let filled = sym (c.in-Ok.ensures.ok ∙ ap (λ (z : List ℕ). z ++ c.in-Some.packet.now) (c.take_room.ensures.held ∙ empty) ∙ c.in-Some.ensures.packet ∙ ap front_payload c.as_slice.ensures) in (
+    let filled = sym (c.if-not-put_whole.ensures.put refl ∙ ap (λ (z : List ℕ). z ++ c.in-Some.packet.now) empty ∙ c.in-Some.ensures.packet ∙ ap front_payload c.as_slice.ensures) in (
       1,
       subst (λ (z : List ℕ). ChunkChain 1 (codec_state c.args.self.now src (held c.args.dst.now)) (Ok true) (codec_state c.take_front.new.self c.take_front.new.src.items z)) filled
-          (subst (λ (z : List ℕ). ChunkChain 1 (codec_state c.args.self.now src z) (Ok true) (codec_state c.take_front.new.self c.take_front.new.src.items payload)) (sym empty)
-          (subst (λ (z : PacketCodec). ChunkChain 1 (codec_state z src []) (Ok true) (codec_state c.take_front.new.self c.take_front.new.src.items payload)) c.in_ok-take_room-in-Some.ensures.ok c.take_front.ensures.chain)),
+          (subst (λ (z : List ℕ). ChunkChain 1 (codec_state c.args.self.now src z) (Ok true) (codec_state c.take_front.new.self c.take_front.new.src.items payload)) (sym empty) c.take_front.ensures.chain),
     )
