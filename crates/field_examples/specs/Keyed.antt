@@ -19,8 +19,8 @@ abbrev pub at_text : {K X : Type 0} → (K → List ℕ) → BTreeMap K X → Li
 at_text text_of map text = tree.get_by (λ key. slice_cmp nat_cmp text (text_of key)) map
 
 -- the same where the keys are numbers, or texts, of the wire
-abbrev pub at_int : {R W X S : Type 0} → HashMap (RawInt R ℕ W) X S → ℕ → Option X
+abbrev pub at_int : {R X S : Type 0} → HashMap (RawInt R ℕ) X S → ℕ → Option X
 at_int map number = at_number (λ key. key.0) map number
 
-abbrev pub at_bytes : {R A W C X : Type 0} → BTreeMap (RawBytes R A W C) X → List ℕ → Option X
+abbrev pub at_bytes : {R A C X : Type 0} → BTreeMap (RawBytes R A C) X → List ℕ → Option X
 at_bytes map text = at_text (λ key. cow_slice_items key.0) map text

@@ -12,7 +12,6 @@ use mysql_wire::io::{ParseBuf, WireError};
 use mysql_wire::misc::raw::bytes::{BytesRepr, RawBytes};
 use mysql_wire::misc::raw::field_laws::{number_back, parse_back};
 use mysql_wire::misc::raw::int::{IntRepr, RawInt};
-use mysql_wire::proto::{Fixed, Varying};
 use std::alloc::{Allocator, Global};
 use std::borrow::CowSlice;
 use std::cmp::min;
@@ -22,9 +21,11 @@ use std::cmp::min;
 pub struct BeU16;
 
 impl IntRepr for BeU16 {
-    type Size = Fixed<2>;
+    const SIZE: Option<usize> = Some(2);
 
     type Primitive = u16;
+
+    ghost SIZE = { Some 2 };
 
     ghost is_value = { λ val. val < 2 ^ 16 };
 
@@ -67,11 +68,13 @@ fn first_bytes(text: &[u8], most: usize) -> &[u8]
 impl BytesRepr for U16Bytes {
     const MAX_LEN: usize = 65535;
 
-    type Size = Varying;
+    const SIZE: Option<usize> = None;
 
     type Ctx = ();
 
     ghost MAX_LEN = { 65535 };
+
+    ghost SIZE = { None };
 
     ghost bytes = { u16_text_bytes };
 

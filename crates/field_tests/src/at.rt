@@ -1,7 +1,7 @@
 // What is tried of one type, in rows: each call at a type has its price in the proof, and a row
 // more has none.
 
-use mysql_wire::proto::{MyDeserialize, MySerialize};
+use mysql_wire::proto::{MyDeserialize, MySerialize, StatedSize};
 use std::alloc::Allocator;
 use test_support::answers::Answer;
 use test_support::fields::{Eaten, Short, gives, is_read, is_written, stops};

@@ -62,7 +62,9 @@ pub mod misc {
             pub use wire_forms::lenenc::LenEnc;
             pub use wire_forms::truncated::{LeI24, LeI56, LeU24, LeU48, LeU56};
             pub use wire_forms::varlen::VarLen;
-            pub use wire_repr::int::{IntRepr, LeI16, LeI32, LeI64, LeU16, LeU32, LeU64, RawInt};
+            pub use wire_repr::int::{
+                IntRepr, LeI16, LeI32, LeI64, LeU16, LeU32, LeU64, RawInt, SizeOfInt,
+            };
         }
 
         /// Texts, by their representations.
@@ -74,7 +76,7 @@ pub mod misc {
             pub use wire_forms::undelimited::{
                 BareBytes, BareU8Bytes, BareU16Bytes, EofBytes, FixedLengthText,
             };
-            pub use wire_repr::text::{BytesRepr, RawBytes};
+            pub use wire_repr::text::{BytesRepr, RawBytes, SizeOfText};
         }
     }
 }
@@ -96,7 +98,7 @@ pub mod constants {
 
 pub mod proto {
     pub use wire_buf::proto::{
-        Binary, Fixed, HasSize, MyDeserialize, MySerialize, ReadSize, Text, Varying,
+        Binary, Fixed, HasSize, MyDeserialize, MySerialize, ReadSize, StatedSize, Text, Varying,
     };
     pub use wire_repr::wire::Wire;
 

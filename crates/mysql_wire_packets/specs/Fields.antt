@@ -1,7 +1,6 @@
 -- The types of fields.
 use Rattle.std.specs.Prelude.{ℕ}
 use Rattle.std.specs.Global.{Global}
-use Rattle.wire_buf.specs.declared.proto.Varying.{Varying}
 use Rattle.wire_field.specs.declared.row.Either.{Either}
 use Rattle.wire_forms.specs.declared.constant.ConstU8.{ConstU8}
 use Rattle.wire_forms.specs.declared.constant.Skip.{Skip}
@@ -9,7 +8,7 @@ use Rattle.wire_repr.specs.declared.text.RawBytes.{RawBytes}
 
 -- a text by this representation
 abbrev pub Text : Type 0 → Type 0
-Text repr = RawBytes repr Global (Varying (Unit {0})) (Unit {0})
+Text repr = RawBytes repr Global (Unit {0})
 
 -- one that may be missing, and then has no bytes
 abbrev pub Optional : Type 0 → Type 0

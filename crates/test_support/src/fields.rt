@@ -8,7 +8,7 @@ use crate::reference::between;
 use refusing_allocator::NEVER;
 use std::alloc::{Allocator, Global};
 use wire_buf::io::ParseBuf;
-use wire_buf::proto::{MyDeserialize, MySerialize};
+use wire_buf::proto::{MyDeserialize, MySerialize, StatedSize};
 use wire_values::payload::parse_packet_in;
 
 /// What follows a value in most inputs.

@@ -64,9 +64,20 @@ impl<const LEN: usize> ReadSize for Fixed<LEN> {
 pub trait HasSize {
     /// How many bytes they ask for, where that is always the same: `Fixed` or `Varying`.
     type Size: ReadSize;
+}
 
-    /// The same as a number. It follows from `Size`, so an `impl` leaves it out.
-    const SIZE: Option<usize> = <Self::Size as ReadSize>::SIZE;
+/// The size that a type's readers ask for, as a number: `T::SIZE`. It is that of `HasSize`, and no
+/// `impl` can give another.
+pub trait StatedSize {
+    const SIZE: Option<usize>;
+
+    ghost SIZE: { Option ℕ };
+}
+
+impl<T: HasSize> StatedSize for T {
+    const SIZE: Option<usize> = <T::Size as ReadSize>::SIZE;
+
+    ghost SIZE = { T.Size.SIZE };
 }
 
 /// A value that can be read, whose memory, if it owns any, comes from an `A`. What it borrows lives
@@ -111,9 +122,6 @@ impl<const LEN: usize> MySerialize for [u8; LEN] {
 
 impl<const LEN: usize> HasSize for [u8; LEN] {
     type Size = Fixed<LEN>;
-
-    // The trait's own constant asks that an array has room, which not each `LEN` has.
-    const SIZE: Option<usize> = <Self::Size as ReadSize>::SIZE;
 }
 
 impl<'de, A: Allocator + Copy, const LEN: usize> MyDeserialize<'de, A> for [u8; LEN] {

@@ -10,7 +10,7 @@ use std::marker::PhantomData;
 use wire_buf::error::{InvalidReason, WireError};
 use wire_buf::io::ParseBuf;
 use wire_buf::proto::{HasSize, MyDeserialize, MySerialize};
-use wire_repr::int::IntRepr;
+use wire_repr::int::{IntRepr, SizeOfInt};
 use wire_repr::wire::Wire;
 
 /// A number as it was read, which may stand for no value of `U`, as the type of a column:
@@ -49,7 +49,7 @@ impl<T: IntRepr, U> MySerialize for RawConst<T, U> {
 }
 
 impl<T: IntRepr, U> HasSize for RawConst<T, U> {
-    type Size = T::Size;
+    type Size = SizeOfInt<T>;
 }
 
 impl<'de, A: Allocator + Copy, T: IntRepr, U> MyDeserialize<'de, A> for RawConst<T, U> {
@@ -131,7 +131,7 @@ impl<U: IntRepr, T: IntoNumber<U::Primitive>> MySerialize for Const<T, U> {
 }
 
 impl<T, U: IntRepr> HasSize for Const<T, U> {
-    type Size = U::Size;
+    type Size = SizeOfInt<U>;
 }
 
 impl<'de, A: Allocator + Copy, U: IntRepr, T: TryFrom<U::Primitive> + Drop> MyDeserialize<'de, A>

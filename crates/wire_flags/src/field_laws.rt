@@ -18,7 +18,7 @@ pub fn raw_flags<T: Flags, U: IntRepr<Primitive = T::Bits>>(
     alloc: Global,
     buf: &mut ParseBuf<'_>,
 ) -> Result<RawFlags<T, U>, WireError>
-    ensures reads { Reads (Parses U.Size.SIZE (λ input. Through (λ flags. flags.0) (U.reads input)))
+    ensures reads { Reads (Parses U.SIZE (λ input. Through (λ flags. flags.0) (U.reads input)))
         buf.old.0.now result buf.new.0.now }
     ensures back { (bits : T.Bits) → U.is_value bits
         → ComesBackFrom (U.bytes bits) (λ back. back.0 ≡ U.kept bits) ⊥ buf.old.0.now result

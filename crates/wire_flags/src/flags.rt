@@ -12,7 +12,7 @@ use std::marker::PhantomData;
 use wire_buf::error::WireError;
 use wire_buf::io::ParseBuf;
 use wire_buf::proto::{HasSize, MyDeserialize, MySerialize};
-use wire_repr::int::IntRepr;
+use wire_repr::int::{IntRepr, SizeOfInt};
 use wire_repr::wire::Wire;
 
 /// A set of flags of `T` as it was read, with the bits that no flag names. Its bits are written as
@@ -48,7 +48,7 @@ impl<T: Flags, U: IntRepr<Primitive = T::Bits>> MySerialize for RawFlags<T, U> {
 }
 
 impl<T: Flags, U: IntRepr<Primitive = T::Bits>> HasSize for RawFlags<T, U> {
-    type Size = U::Size;
+    type Size = SizeOfInt<U>;
 }
 
 impl<'de, A: Allocator + Copy, T: Flags, U: IntRepr<Primitive = T::Bits>> MyDeserialize<'de, A>

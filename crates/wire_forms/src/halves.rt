@@ -2,7 +2,7 @@
 //!
 //! <https://dev.mysql.com/doc/dev/mysql-server/latest/page_protocol_connection_phase_packets_protocol_handshake_v10.html>
 
-ghost use Rattle.std.specs.Prelude.{◌<◌, ◌^◌, ◌%◌, ◌/◌, ◌-◌, ◌*◌, length};
+ghost use Rattle.std.specs.Prelude.{◌<◌, ◌^◌, ◌%◌, ◌/◌, ◌-◌, ◌*◌, length, Some};
 ghost use Rattle.wire_buf.specs.Numbers.{le_number, le_bytes};
 ghost use Rattle.wire_buf.specs.NumberLemmas.{length-le_bytes};
 ghost use Rattle.wire_repr.specs.Law.{ReadsFixed, size-is};
@@ -11,7 +11,6 @@ ghost use Rattle.wire_repr.specs.Numbers.{le_bytes-back_cut, upper_half-back};
 use std::alloc::Allocator;
 use wire_buf::error::WireError;
 use wire_buf::io::ParseBuf;
-use wire_buf::proto::Fixed;
 use wire_repr::append::append_le;
 use wire_repr::int::IntRepr;
 
@@ -23,9 +22,11 @@ use wire_repr::int::IntRepr;
 pub struct LeU32LowerHalf;
 
 impl IntRepr for LeU32LowerHalf {
-    type Size = Fixed<2>;
+    const SIZE: Option<usize> = Some(2);
 
     type Primitive = u32;
+
+    ghost SIZE = { Some 2 };
 
     ghost is_value = { λ val. val < 2 ^ 32 };
 
@@ -59,9 +60,11 @@ impl IntRepr for LeU32LowerHalf {
 pub struct LeU32UpperHalf;
 
 impl IntRepr for LeU32UpperHalf {
-    type Size = Fixed<2>;
+    const SIZE: Option<usize> = Some(2);
 
     type Primitive = u32;
+
+    ghost SIZE = { Some 2 };
 
     ghost is_value = { λ val. val < 2 ^ 32 };
 

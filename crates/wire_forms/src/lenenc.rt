@@ -1,6 +1,6 @@
 //! Length-encoded integers.
 
-ghost use Rattle.std.specs.Prelude.{◌≡◌, ◌<◌, ◌^◌, ◌++◌, OnOk, IfErr};
+ghost use Rattle.std.specs.Prelude.{◌≡◌, ◌<◌, ◌^◌, ◌++◌, OnOk, IfErr, None};
 ghost use Rattle.wire_buf.specs.declared.error.WireError.TheVariants.{OutOfMemory};
 ghost use Rattle.wire_buf.specs.Spelling.{IsShortest};
 ghost use Rattle.wire_buf.specs.Lenenc.{IsLenencOrMark, lenenc_bytes};
@@ -10,7 +10,6 @@ ghost use Rattle.wire_forms.specs.Spelled.{Leaves, NumberOrEof};
 use std::alloc::Allocator;
 use wire_buf::error::WireError;
 use wire_buf::io::ParseBuf;
-use wire_buf::proto::Varying;
 use wire_put::BufMutExt;
 use wire_repr::int::IntRepr;
 
@@ -33,9 +32,11 @@ pub(crate) fn eat_lenenc(buf: &mut ParseBuf<'_>) -> Result<u64, WireError>
 }
 
 impl IntRepr for LenEnc {
-    type Size = Varying;
+    const SIZE: Option<usize> = None;
 
     type Primitive = u64;
+
+    ghost SIZE = { None };
 
     ghost is_value = { λ val. val < 2 ^ 64 };
 

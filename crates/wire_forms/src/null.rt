@@ -1,6 +1,6 @@
 //! Texts that a zero ends.
 
-ghost use Rattle.std.specs.Prelude.{◌≡◌, ◌++◌, ◌∷◌, [], MatchOption};
+ghost use Rattle.std.specs.Prelude.{◌≡◌, ◌++◌, ◌∷◌, [], MatchOption, None};
 ghost use Rattle.std.specs.List.{before_first};
 ghost use Rattle.wire_buf.specs.NullText.{is_zero};
 ghost use Rattle.wire_forms.specs.NullTexts.{HasNoZero, ReadsNull};
@@ -12,7 +12,6 @@ use std::alloc::Allocator;
 use std::borrow::CowSlice;
 use wire_buf::error::{InvalidReason, WireError};
 use wire_buf::io::ParseBuf;
-use wire_buf::proto::Varying;
 use wire_repr::append::all_or_nothing;
 use wire_repr::text::BytesRepr;
 
@@ -52,11 +51,13 @@ fn eat_null<'a>(buf: &mut ParseBuf<'a>) -> Option<&'a [u8]>
 impl BytesRepr for NullBytes {
     const MAX_LEN: usize = usize::MAX;
 
-    type Size = Varying;
+    const SIZE: Option<usize> = None;
 
     type Ctx = ();
 
     ghost MAX_LEN = { 0xffff_ffff_ffff_ffff };
+
+    ghost SIZE = { None };
 
     ghost bytes = { λ text. before_first is_zero text ++ 0 ∷ [] };
 

@@ -2,7 +2,7 @@
 //!
 //! <https://dev.mysql.com/doc/dev/mysql-server/latest/page_protocol_basic_dt_strings.html>
 
-ghost use Rattle.std.specs.Prelude.{◌++◌, length, take};
+ghost use Rattle.std.specs.Prelude.{◌++◌, length, take, None};
 ghost use Rattle.wire_buf.specs.Lenenc.{IsLenencOrMark, lenenc_bytes};
 ghost use Rattle.wire_buf.specs.Numbers.{le_bytes};
 ghost use Rattle.wire_buf.specs.Reading.{Reads};
@@ -19,7 +19,6 @@ use std::alloc::Allocator;
 use std::borrow::CowSlice;
 use wire_buf::error::WireError;
 use wire_buf::io::ParseBuf;
-use wire_buf::proto::Varying;
 use wire_put::BufMutExt;
 use wire_put::text::{first_bytes, longest_u32_str};
 use wire_repr::append::{all_or_nothing, append};
@@ -30,11 +29,13 @@ use wire_repr::text::BytesRepr;
 impl BytesRepr for LenEnc {
     const MAX_LEN: usize = usize::MAX;
 
-    type Size = Varying;
+    const SIZE: Option<usize> = None;
 
     type Ctx = ();
 
     ghost MAX_LEN = { 0xffff_ffff_ffff_ffff };
+
+    ghost SIZE = { None };
 
     ghost bytes = { λ text. lenenc_bytes (length text) ++ text };
 
@@ -86,11 +87,13 @@ fn eat_u8_len(buf: &mut ParseBuf<'_>) -> Result<usize, WireError>
 impl BytesRepr for U8Bytes {
     const MAX_LEN: usize = 255;
 
-    type Size = Varying;
+    const SIZE: Option<usize> = None;
 
     type Ctx = ();
 
     ghost MAX_LEN = { 255 };
+
+    ghost SIZE = { None };
 
     ghost bytes = { λ text. le_bytes 1 (length (take u8_max text)) ++ take u8_max text };
 
@@ -140,11 +143,13 @@ fn eat_u32_len(buf: &mut ParseBuf<'_>) -> Result<usize, WireError>
 impl BytesRepr for U32Bytes {
     const MAX_LEN: usize = 4294967295;
 
-    type Size = Varying;
+    const SIZE: Option<usize> = None;
 
     type Ctx = ();
 
     ghost MAX_LEN = { 4294967295 };
+
+    ghost SIZE = { None };
 
     ghost bytes = { λ text. le_bytes 4 (length (take u32_max text)) ++ take u32_max text };
 
@@ -178,11 +183,13 @@ impl BytesRepr for U32Bytes {
 impl BytesRepr for VarLen {
     const MAX_LEN: usize = 4294967295;
 
-    type Size = Varying;
+    const SIZE: Option<usize> = None;
 
     type Ctx = ();
 
     ghost MAX_LEN = { 4294967295 };
+
+    ghost SIZE = { None };
 
     ghost bytes = { λ text. groups_bytes (length (take u32_max text)) ++ take u32_max text };
 

@@ -2,7 +2,7 @@
 //!
 //! <https://dev.mysql.com/doc/dev/mysql-server/latest/page_protocol_basic_dt_integers.html>
 
-ghost use Rattle.std.specs.Prelude.{◌<◌, ◌^◌, ◌%◌, length};
+ghost use Rattle.std.specs.Prelude.{◌<◌, ◌^◌, ◌%◌, length, Some};
 ghost use Rattle.std.specs.Int.{cast_unsigned, w32, w64};
 ghost use Rattle.std.specs.Int.RustNames.{FitsSigned};
 ghost use Rattle.wire_buf.specs.Numbers.{le_number, le_bytes, signed_number, signed_le_number};
@@ -13,7 +13,6 @@ ghost use Rattle.wire_repr.specs.Numbers.{le_bytes-back_cut, signed_bytes-back_c
 use std::alloc::Allocator;
 use wire_buf::error::WireError;
 use wire_buf::io::ParseBuf;
-use wire_buf::proto::Fixed;
 use wire_repr::append::append_le;
 use wire_repr::int::IntRepr;
 
@@ -24,9 +23,11 @@ use wire_repr::int::IntRepr;
 pub struct LeU24;
 
 impl IntRepr for LeU24 {
-    type Size = Fixed<3>;
+    const SIZE: Option<usize> = Some(3);
 
     type Primitive = u32;
+
+    ghost SIZE = { Some 3 };
 
     ghost is_value = { λ val. val < 2 ^ 32 };
 
@@ -59,9 +60,11 @@ impl IntRepr for LeU24 {
 pub struct LeU48;
 
 impl IntRepr for LeU48 {
-    type Size = Fixed<6>;
+    const SIZE: Option<usize> = Some(6);
 
     type Primitive = u64;
+
+    ghost SIZE = { Some 6 };
 
     ghost is_value = { λ val. val < 2 ^ 64 };
 
@@ -95,9 +98,11 @@ impl IntRepr for LeU48 {
 pub struct LeU56;
 
 impl IntRepr for LeU56 {
-    type Size = Fixed<7>;
+    const SIZE: Option<usize> = Some(7);
 
     type Primitive = u64;
+
+    ghost SIZE = { Some 7 };
 
     ghost is_value = { λ val. val < 2 ^ 64 };
 
@@ -130,9 +135,11 @@ impl IntRepr for LeU56 {
 pub struct LeI24;
 
 impl IntRepr for LeI24 {
-    type Size = Fixed<3>;
+    const SIZE: Option<usize> = Some(3);
 
     type Primitive = i32;
+
+    ghost SIZE = { Some 3 };
 
     ghost is_value = { λ val. FitsSigned w32 val };
 
@@ -164,9 +171,11 @@ impl IntRepr for LeI24 {
 pub struct LeI56;
 
 impl IntRepr for LeI56 {
-    type Size = Fixed<7>;
+    const SIZE: Option<usize> = Some(7);
 
     type Primitive = i64;
+
+    ghost SIZE = { Some 7 };
 
     ghost is_value = { λ val. FitsSigned w64 val };
 

@@ -2,7 +2,7 @@
 //!
 //! <https://dev.mysql.com/doc/dev/mysql-server/latest/page_protocol_basic_dt_strings.html>
 
-ghost use Rattle.std.specs.Prelude.{◌≡◌, ◌≤◌, ◌<◌, length, min, take, drop, [], Ok, IfOk, IfErr};
+ghost use Rattle.std.specs.Prelude.{◌≡◌, ◌≤◌, ◌<◌, length, min, take, drop, [], Ok, IfOk, IfErr, None, Some};
 ghost use Rattle.wire_buf.specs.Reading.{Answers, front_at};
 ghost use Rattle.wire_forms.specs.BareTexts.{padded, all-back, front-back, padded-back, length-padded};
 ghost use Rattle.wire_buf.specs.declared.error.WireError.TheVariants.{UnexpectedEof};
@@ -14,7 +14,6 @@ use std::alloc::Allocator;
 use std::borrow::CowSlice;
 use wire_buf::error::WireError;
 use wire_buf::io::ParseBuf;
-use wire_buf::proto::{Fixed, Varying};
 use wire_put::text::first_bytes;
 use wire_repr::append::{all_or_nothing, append};
 use wire_repr::text::BytesRepr;
@@ -45,11 +44,13 @@ pub struct EofBytes;
 impl BytesRepr for EofBytes {
     const MAX_LEN: usize = usize::MAX;
 
-    type Size = Varying;
+    const SIZE: Option<usize> = None;
 
     type Ctx = ();
 
     ghost MAX_LEN = { 0xffff_ffff_ffff_ffff };
+
+    ghost SIZE = { None };
 
     ghost bytes = { λ text. text };
 
@@ -95,11 +96,13 @@ pub type BareU16Bytes = BareBytes<65535>;
 impl<const N: usize> BytesRepr for BareBytes<N> {
     const MAX_LEN: usize = N;
 
-    type Size = Varying;
+    const SIZE: Option<usize> = None;
 
     type Ctx = usize;
 
     ghost MAX_LEN = { N };
+
+    ghost SIZE = { None };
 
     ghost bytes = { λ text. take N text };
 
@@ -134,11 +137,13 @@ pub struct FixedLengthText<const N: usize>;
 impl<const N: usize> BytesRepr for FixedLengthText<N> {
     const MAX_LEN: usize = N;
 
-    type Size = Fixed<N>;
+    const SIZE: Option<usize> = Some(N);
 
     type Ctx = ();
 
     ghost MAX_LEN = { N };
+
+    ghost SIZE = { Some N };
 
     ghost bytes = { padded N };
 

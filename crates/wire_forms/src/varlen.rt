@@ -1,6 +1,6 @@
 //! Numbers in groups of seven bits: base-128 varints.
 
-ghost use Rattle.std.specs.Prelude.{◌≡◌, ◌<◌, ◌^◌, ◌++◌, ◌+◌, ◌%◌, OnOk, IfErr};
+ghost use Rattle.std.specs.Prelude.{◌≡◌, ◌<◌, ◌^◌, ◌++◌, ◌+◌, ◌%◌, OnOk, IfErr, None};
 ghost use Rattle.wire_buf.specs.declared.error.WireError.TheVariants.{OutOfMemory};
 ghost use Rattle.wire_buf.specs.Spelling.{IsShortest};
 ghost use Rattle.wire_forms.specs.Groups.{IsGroups, ReadsGroups, groups_bytes};
@@ -10,7 +10,6 @@ ghost use Rattle.wire_forms.specs.Spelled.{Leaves};
 use std::alloc::Allocator;
 use wire_buf::error::{InvalidReason, WireError};
 use wire_buf::io::ParseBuf;
-use wire_buf::proto::Varying;
 use wire_repr::append::{append, append_byte};
 use wire_repr::int::IntRepr;
 
@@ -81,9 +80,11 @@ pub(crate) fn put_groups<A: Allocator>(number: u32, buf: &mut Vec<u8, A>) -> Res
 }
 
 impl IntRepr for VarLen {
-    type Size = Varying;
+    const SIZE: Option<usize> = None;
 
     type Primitive = u32;
+
+    ghost SIZE = { None };
 
     ghost is_value = { λ val. val < 2 ^ 32 };
 

@@ -38,7 +38,7 @@ pub fn number_back<T: IntRepr>(
     alloc: Global,
     buf: &mut ParseBuf<'_>,
 ) -> Result<RawInt<T>, WireError>
-    ensures reads { Reads (Parses T.Size.SIZE (λ input. Through (λ int. int.0) (T.reads input)))
+    ensures reads { Reads (Parses T.SIZE (λ input. Through (λ int. int.0) (T.reads input)))
         buf.old.0.now result buf.new.0.now }
     ensures back { (val : T.Primitive) → T.is_value val
         → ComesBackFrom (T.bytes val) (λ back. back.0 ≡ T.kept val) ⊥ buf.old.0.now result

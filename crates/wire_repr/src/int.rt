@@ -1,6 +1,6 @@
 //! Numbers.
 
-ghost use Rattle.std.specs.Prelude.{◌≡◌, ℕ, List, ◌++◌, length, Some, Result, Ok, OnOk, IfErr};
+ghost use Rattle.std.specs.Prelude.{◌≡◌, ℕ, List, ◌++◌, length, Option, Some, Result, Ok, OnOk, IfErr};
 ghost use Rattle.wire_buf.specs.declared.error.WireError.{WireError};
 ghost use Rattle.wire_buf.specs.declared.error.WireError.TheVariants.{OutOfMemory};
 ghost use Rattle.wire_buf.specs.Reading.{HasBytes, Reads, Answers, Through};
@@ -23,14 +23,13 @@ use wire_buf::proto::{HasSize, MyDeserialize, MySerialize, ReadSize};
 ///
 /// <https://dev.mysql.com/doc/dev/mysql-server/latest/page_protocol_basic_dt_integers.html>
 pub trait IntRepr {
-    /// How many bytes it has, where that is always the same: `Fixed` or `Varying`.
-    type Size: ReadSize;
-
-    /// The same as a number. It follows from `Size`, so an `impl` leaves it out.
-    const SIZE: Option<usize> = <Self::Size as ReadSize>::SIZE;
+    /// How many bytes it has, where that is always the same.
+    const SIZE: Option<usize>;
 
     /// The number's type.
     type Primitive: Debug + Default + Copy + Eq + Ord + Hash;
+
+    ghost SIZE: { Option ℕ };
 
     /// It is a value of its type.
     ghost is_value: { Self.Primitive → Type 0 };
@@ -52,7 +51,7 @@ pub trait IntRepr {
 
     /// Reads a number from the front of a buffer, which has the bytes that the size asks for.
     fn deserialize(buf: &mut ParseBuf<'_>) -> Result<Self::Primitive, WireError>
-        requires { HasBytes Self.Size.SIZE buf.old.0.now }
+        requires { HasBytes SIZE buf.old.0.now }
         ensures { Reads reads buf.old.0.now result buf.new.0.now };
 
     /// Does nothing, and tells a proof that the number is a value of its type.
@@ -64,8 +63,18 @@ pub trait IntRepr {
         → reads (bytes val ++ rest) answer eaten
         → Answers (Ok (kept val), length (bytes val)) answer eaten };
 
-    ghost of_size: { (val : Self.Primitive) (size : ℕ) → Self.Size.SIZE ≡ Some size
+    ghost of_size: { (val : Self.Primitive) (size : ℕ) → SIZE ≡ Some size
         → length (bytes val) ≡ size };
+}
+
+/// The size of a type whose values are numbers that are written as `T` says.
+#[derive(Debug)]
+pub struct SizeOfInt<T>(PhantomData<T>);
+
+impl<T: IntRepr> ReadSize for SizeOfInt<T> {
+    const SIZE: Option<usize> = T::SIZE;
+
+    ghost SIZE = { T.IntRepr.SIZE };
 }
 
 /// A number that is written as `T` says.
@@ -91,7 +100,7 @@ impl<T: IntRepr> MySerialize for RawInt<T> {
 }
 
 impl<T: IntRepr> HasSize for RawInt<T> {
-    type Size = T::Size;
+    type Size = SizeOfInt<T>;
 }
 
 impl<'de, A: Allocator + Copy, T: IntRepr> MyDeserialize<'de, A> for RawInt<T> {

@@ -1,6 +1,6 @@
 //! Texts, which are byte strings.
 
-ghost use Rattle.std.specs.Prelude.{◌≡◌, ℕ, ◌↔◌, List, [], ◌++◌, length, take, min, Some, Result, Ok, Err, OnOk, IfOk, IfErr, IsTrue, IsFalse};
+ghost use Rattle.std.specs.Prelude.{◌≡◌, ℕ, ◌↔◌, List, [], ◌++◌, length, take, min, Option, Some, Result, Ok, Err, OnOk, IfOk, IfErr, IsTrue, IsFalse};
 ghost use Rattle.std.specs.Cow.{cow_slice_items};
 ghost use Rattle.wire_buf.specs.declared.error.WireError.{WireError};
 ghost use Rattle.wire_buf.specs.declared.error.WireError.TheVariants.{OutOfMemory};
@@ -24,16 +24,15 @@ pub trait BytesRepr {
     /// How many bytes of a text are written at most.
     const MAX_LEN: usize;
 
-    /// How many bytes it has, where that is always the same: `Fixed` or `Varying`.
-    type Size: ReadSize;
-
-    /// The same as a number. It follows from `Size`, so an `impl` leaves it out.
-    const SIZE: Option<usize> = <Self::Size as ReadSize>::SIZE;
+    /// How many bytes it has, where that is always the same.
+    const SIZE: Option<usize>;
 
     /// What a reader has to know beforehand.
     type Ctx: Drop;
 
     ghost MAX_LEN: { ℕ };
+
+    ghost SIZE: { Option ℕ };
 
     /// What is written of a text.
     ghost bytes: { List ℕ → List ℕ };
@@ -59,7 +58,7 @@ pub trait BytesRepr {
         ctx: Self::Ctx,
         buf: &mut ParseBuf<'de>,
     ) -> Result<CowSlice<'de, u8, A>, WireError>
-        requires { HasBytes Self.Size.SIZE buf.old.0.now }
+        requires { HasBytes SIZE buf.old.0.now }
         ensures { Reads (λ input. Borrows (λ text. text) (reads ctx input)) buf.old.0.now result
             buf.new.0.now };
 
@@ -68,8 +67,18 @@ pub trait BytesRepr {
         → reads ctx (bytes text ++ rest) answer eaten
         → Answers (Ok (kept text), length (bytes text)) answer eaten };
 
-    ghost of_size: { (text : List ℕ) (size : ℕ) → Self.Size.SIZE ≡ Some size
+    ghost of_size: { (text : List ℕ) (size : ℕ) → SIZE ≡ Some size
         → length (bytes text) ≡ size };
+}
+
+/// The size of a type whose values are texts that are written as `T` says.
+#[derive(Debug)]
+pub struct SizeOfText<T>(PhantomData<T>);
+
+impl<T: BytesRepr> ReadSize for SizeOfText<T> {
+    const SIZE: Option<usize> = T::SIZE;
+
+    ghost SIZE = { T.BytesRepr.SIZE };
 }
 
 // A text in hand is one.
@@ -178,7 +187,7 @@ impl<'a, T: BytesRepr, A: Allocator> MySerialize for RawBytes<'a, T, A> {
 }
 
 impl<T: BytesRepr, A: Allocator> HasSize for RawBytes<'_, T, A> {
-    type Size = T::Size;
+    type Size = SizeOfText<T>;
 }
 
 impl<'de, A: Allocator + Copy, T: BytesRepr> MyDeserialize<'de, A> for RawBytes<'de, T, A> {

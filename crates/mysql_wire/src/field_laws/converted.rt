@@ -19,7 +19,7 @@ pub fn raw_const<T: IntRepr, U>(
     alloc: Global,
     buf: &mut ParseBuf<'_>,
 ) -> Result<RawConst<T, U>, WireError>
-    ensures reads { Reads (Parses T.Size.SIZE (λ input. Through (λ raw. raw.0) (T.reads input)))
+    ensures reads { Reads (Parses T.SIZE (λ input. Through (λ raw. raw.0) (T.reads input)))
         buf.old.0.now result buf.new.0.now }
     ensures back { (val : T.Primitive) → T.is_value val
         → ComesBackFrom (T.bytes val) (λ back. back.0 ≡ T.kept val) ⊥ buf.old.0.now result
@@ -64,7 +64,7 @@ pub fn constant<U: IntRepr, T: IntoNumber<U::Primitive> + TryFrom<U::Primitive>>
 ) -> Result<Const<T, U>, WireError>
 where
     T::Error: Drop,
-    ensures reads { Reads (Parses U.Size.SIZE (λ input.
+    ensures reads { Reads (Parses U.SIZE (λ input.
         ReadsConverted (λ constant. constant.0) T.try_from_gives (U.reads input)))
         buf.old.0.now result buf.new.0.now }
     ensures back { (val : T) → KeepsValue U.is_value U.kept T.try_from_gives (T.number val) val

@@ -24,7 +24,7 @@ pub fn seq_u32<'de, T: IntRepr>(
     buf: &mut ParseBuf<'de>,
 ) -> Result<Seq<'de, RawInt<T>, LeU32>, WireError>
     ensures reads { Reads
-        (λ input. ReadsCounted (λ seq. seq.0) (count_at 4 input) (ReadsNumbers T.Size.SIZE T.reads) input)
+        (λ input. ReadsCounted (λ seq. seq.0) (count_at 4 input) (ReadsNumbers T.SIZE T.reads) input)
         buf.old.0.now result buf.new.0.now }
     ensures back { (ints : List _) → length ints ≤ 4294967295 → AreNumbers T.is_value ints
         → NumbersFrom (counted_bytes 4 T.bytes ints) T.kept ints buf.old.0.now result
@@ -53,7 +53,7 @@ pub fn seq_u64<'de, T: IntRepr>(
     buf: &mut ParseBuf<'de>,
 ) -> Result<Seq<'de, RawInt<T>, LeU64>, WireError>
     ensures reads { Reads
-        (λ input. ReadsCounted (λ seq. seq.0) (count_at 8 input) (ReadsNumbers T.Size.SIZE T.reads) input)
+        (λ input. ReadsCounted (λ seq. seq.0) (count_at 8 input) (ReadsNumbers T.SIZE T.reads) input)
         buf.old.0.now result buf.new.0.now }
     ensures back { (ints : List _) → length ints < 2 ^ 64 → AreNumbers T.is_value ints
         → NumbersFrom (counted_bytes 8 T.bytes ints) T.kept ints buf.old.0.now result
@@ -82,7 +82,7 @@ pub fn seq_unknown<'de, T: IntRepr>(
     buf: &mut ParseBuf<'de>,
 ) -> Result<Seq<'de, RawInt<T>, Unknown>, WireError>
     ensures reads { Reads
-        (λ input. ReadsCounted (λ seq. seq.0) (Ok count, 0) (ReadsNumbers T.Size.SIZE T.reads) input)
+        (λ input. ReadsCounted (λ seq. seq.0) (Ok count, 0) (ReadsNumbers T.SIZE T.reads) input)
         buf.old.0.now result buf.new.0.now }
     ensures back { (ints : List _) → count ≡ length ints → length ints < 2 ^ 64
         → AreNumbers T.is_value ints

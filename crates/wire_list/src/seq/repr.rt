@@ -1,6 +1,6 @@
 //! How it is written how many values a list has.
 
-ghost use Rattle.std.specs.Prelude.{◌≡◌, ℕ, List, [], ◌++◌, length, take, min, Result, Ok, OnOk, IfErr};
+ghost use Rattle.std.specs.Prelude.{◌≡◌, ℕ, List, [], ◌++◌, length, take, min, Option, None, Result, Ok, OnOk, IfErr, refl};
 ghost use Rattle.std.specs.List.{flat_map};
 ghost use Rattle.wire_buf.specs.declared.error.WireError.{WireError};
 ghost use Rattle.wire_buf.specs.declared.error.WireError.TheVariants.{OutOfMemory};
@@ -26,10 +26,15 @@ pub trait SeqRepr {
     /// How many values are written at most. The others are left out.
     const MAX_LEN: usize;
 
+    /// How many bytes a list has, which is never always the same.
+    const SIZE: Option<usize>;
+
     /// What a reader has to know beforehand.
     type Ctx: Drop;
 
     ghost MAX_LEN: { ℕ };
+
+    ghost SIZE: { Option ℕ };
 
     /// The bytes of a count.
     ghost front: { ℕ → List ℕ };
@@ -70,6 +75,8 @@ pub trait SeqRepr {
         let items = read_all(alloc, count, buf)?;
         Ok(CowSlice::Owned(items))
     }
+
+    ghost no_size: { SIZE ≡ None };
 }
 
 /// The count stands elsewhere, and is the context.
@@ -82,9 +89,13 @@ pub struct Unknown;
 impl SeqRepr for Unknown {
     const MAX_LEN: usize = usize::MAX;
 
+    const SIZE: Option<usize> = None;
+
     type Ctx = usize;
 
     ghost MAX_LEN = { 0xffff_ffff_ffff_ffff };
+
+    ghost SIZE = { None };
 
     ghost front = { λ _. [] };
 
@@ -100,15 +111,21 @@ impl SeqRepr for Unknown {
     fn read_count(ctx: usize, _: &mut ParseBuf<'_>) -> Result<usize, WireError> {
         Ok(ctx)
     }
+
+    ghost no_size = { refl };
 }
 
 /// The count is four bytes, the least significant first, and stands before the values.
 impl SeqRepr for LeU32 {
     const MAX_LEN: usize = 4_294_967_295;
 
+    const SIZE: Option<usize> = None;
+
     type Ctx = ();
 
     ghost MAX_LEN = { 4294967295 };
+
+    ghost SIZE = { None };
 
     ghost front = { le_bytes 4 };
 
@@ -128,15 +145,21 @@ impl SeqRepr for LeU32 {
             None => Err(WireError::UnexpectedEof),
         }
     }
+
+    ghost no_size = { refl };
 }
 
 /// The count is eight bytes, the least significant first, and stands before the values.
 impl SeqRepr for LeU64 {
     const MAX_LEN: usize = usize::MAX;
 
+    const SIZE: Option<usize> = None;
+
     type Ctx = ();
 
     ghost MAX_LEN = { 0xffff_ffff_ffff_ffff };
+
+    ghost SIZE = { None };
 
     ghost front = { le_bytes 8 };
 
@@ -155,4 +178,6 @@ impl SeqRepr for LeU64 {
             None => Err(WireError::UnexpectedEof),
         }
     }
+
+    ghost no_size = { refl };
 }

@@ -2,7 +2,7 @@
 //!
 //! <https://dev.mysql.com/doc/dev/mysql-server/latest/page_protocol_basic_dt_integers.html>
 
-ghost use Rattle.std.specs.Prelude.{◌<◌, ◌^◌, ◌∷◌, [], length, refl};
+ghost use Rattle.std.specs.Prelude.{◌<◌, ◌^◌, ◌∷◌, [], length, refl, Some};
 ghost use Rattle.std.specs.Int.{cast_unsigned, w8, w16, w32, w64};
 ghost use Rattle.std.specs.Int.RustNames.{FitsSigned};
 ghost use Rattle.wire_buf.specs.Numbers.{le_number, le_bytes, signed_le_number};
@@ -16,13 +16,14 @@ use crate::append::{append_byte, append_le};
 use std::alloc::Allocator;
 use wire_buf::error::WireError;
 use wire_buf::io::ParseBuf;
-use wire_buf::proto::Fixed;
 
 /// An `int<1>`.
 impl IntRepr for u8 {
-    type Size = Fixed<1>;
+    const SIZE: Option<usize> = Some(1);
 
     type Primitive = u8;
+
+    ghost SIZE = { Some 1 };
 
     ghost is_value = { λ val. val < 2 ^ 8 };
 
@@ -49,9 +50,11 @@ impl IntRepr for u8 {
 
 /// An `int<1>` with a sign.
 impl IntRepr for i8 {
-    type Size = Fixed<1>;
+    const SIZE: Option<usize> = Some(1);
 
     type Primitive = i8;
+
+    ghost SIZE = { Some 1 };
 
     ghost is_value = { λ val. FitsSigned w8 val };
 
@@ -87,9 +90,11 @@ impl IntRepr for i8 {
 pub struct LeU16;
 
 impl IntRepr for LeU16 {
-    type Size = Fixed<2>;
+    const SIZE: Option<usize> = Some(2);
 
     type Primitive = u16;
+
+    ghost SIZE = { Some 2 };
 
     ghost is_value = { λ val. val < 2 ^ 16 };
 
@@ -122,9 +127,11 @@ impl IntRepr for LeU16 {
 pub struct LeU32;
 
 impl IntRepr for LeU32 {
-    type Size = Fixed<4>;
+    const SIZE: Option<usize> = Some(4);
 
     type Primitive = u32;
+
+    ghost SIZE = { Some 4 };
 
     ghost is_value = { λ val. val < 2 ^ 32 };
 
@@ -157,9 +164,11 @@ impl IntRepr for LeU32 {
 pub struct LeU64;
 
 impl IntRepr for LeU64 {
-    type Size = Fixed<8>;
+    const SIZE: Option<usize> = Some(8);
 
     type Primitive = u64;
+
+    ghost SIZE = { Some 8 };
 
     ghost is_value = { λ val. val < 2 ^ 64 };
 
@@ -192,9 +201,11 @@ impl IntRepr for LeU64 {
 pub struct LeI16;
 
 impl IntRepr for LeI16 {
-    type Size = Fixed<2>;
+    const SIZE: Option<usize> = Some(2);
 
     type Primitive = i16;
+
+    ghost SIZE = { Some 2 };
 
     ghost is_value = { λ val. FitsSigned w16 val };
 
@@ -230,9 +241,11 @@ impl IntRepr for LeI16 {
 pub struct LeI32;
 
 impl IntRepr for LeI32 {
-    type Size = Fixed<4>;
+    const SIZE: Option<usize> = Some(4);
 
     type Primitive = i32;
+
+    ghost SIZE = { Some 4 };
 
     ghost is_value = { λ val. FitsSigned w32 val };
 
@@ -268,9 +281,11 @@ impl IntRepr for LeI32 {
 pub struct LeI64;
 
 impl IntRepr for LeI64 {
-    type Size = Fixed<8>;
+    const SIZE: Option<usize> = Some(8);
 
     type Primitive = i64;
+
+    ghost SIZE = { Some 8 };
 
     ghost is_value = { λ val. FitsSigned w64 val };
 
