@@ -10,7 +10,7 @@ use wire_buf::error::WireError;
 use wire_buf::io::ParseBuf;
 use wire_buf::proto::{MyDeserialize, ReadSize};
 
-// Room for so many values is taken at once: until they are read, a count is only a claim.
+// Room for so many values is asked for at once: until they are read, a count is only a claim.
 const FIRST_ROOM: usize = 64;
 
 // Values one after another, room being taken before each where it is missing.
@@ -34,7 +34,8 @@ fn read_each<'de, T: MyDeserialize<'de, A, Ctx = ()>, A: Allocator + Copy>(
     Ok(items)
 }
 
-// Values one after another, room for the first of them being taken before.
+// Values one after another. Room for the first of them is asked for before, for no more than bytes
+// are left; a refusal is passed over, since room for one is taken then.
 #[inline(always)]
 fn read_some<'de, T: MyDeserialize<'de, A, Ctx = ()>, A: Allocator + Copy>(
     alloc: A,
@@ -46,7 +47,7 @@ fn read_some<'de, T: MyDeserialize<'de, A, Ctx = ()>, A: Allocator + Copy>(
         buf.old.0.now result buf.new.0.now }
 {
     let mut items = Vec::new(alloc);
-    items.reserve(count.min(FIRST_ROOM))?;
+    let _ = items.reserve(count.min(FIRST_ROOM).min(buf.len()));
     read_each(alloc, items, count, buf)
 }
 
