@@ -23,6 +23,8 @@ mod ids;
 #[cfg(test)]
 mod limits;
 #[cfg(test)]
+mod order;
+#[cfg(test)]
 mod reader;
 #[cfg(test)]
 mod relays;

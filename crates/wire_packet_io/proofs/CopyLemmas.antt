@@ -21,9 +21,9 @@ use Rattle.wire_span.proofs.MixLemmas.{spans_end_is}
 use Rattle.wire_span.proofs.PassingLemmas.{merged_spans}
 use Rattle.wire_packet_io.specs.declared.error.PacketIoError.{PacketIoError}
 use Rattle.wire_packet_io.specs.declared.error.PacketIoError.TheVariants.{Io, UnexpectedEnd, OutOfMemory}
-use Rattle.wire_packet_io.specs.PacketIo.{joined_reads, read_size, ReadFails}
-use Rattle.wire_packet_io.specs.Copying.{has_ended, Copies, CopiedPacket, CopiesNext, CopyStops, IsSpanRefusal, StepsCopy, StopsHere, WaitsBehind, WaitsHere}
-use Rattle.wire_packet_io.proofs.PacketIoLemmas.{reads_more, each_more, counted_more, length-push}
+use Rattle.wire_packet_io.specs.PacketIo.{joined_reads, read_size, EndsEmpty, ReadFails}
+use Rattle.wire_packet_io.specs.Copying.{has_ended, Copies, CopiedPacket, CopiesNext, CopyStops, EndsRead, IsSpanRefusal, StepsCopy, StopsHere, WaitsBehind, WaitsHere}
+use Rattle.wire_packet_io.proofs.PacketIoLemmas.{reads_more, each_more, counted_more, last_empty, length-push}
 
 -- nothing came, in a span of no bytes
 pub copied_none : (a : SpanState) (P : List ℕ) → EatsSpans a P (([], false) ∷ []) P a
@@ -122,13 +122,18 @@ stops_by UnexpectedEnd state unread left h = absurd h
 stops_by OutOfMemory state unread left h = absurd h
 stops_by other state unread left h = h
 
+-- a call so far, as if it stopped there for want of memory
+abbrev pub so_far : Result Bool PacketIoError
+so_far = Err OutOfMemory
+
 -- the reads of a call so far, and what came
 pub reads_start : (before : SpanState) (old : List ℕ) (unread : Option (List ℕ)) (reads : ℕ)
-    → CopiesNext before old unread unread reads reads (Ok false) [] before old
+    → CopiesNext before old unread unread reads reads so_far [] before old
 reads_start before old unread reads = record {
   reads = [];
   consumed = Consumes-nil unread;
   eats = subst (λ (z : List ℕ). EatsSpans before z (([], false) ∷ []) old before) (sym (append-nil old)) (copied_none before old);
+  ended = tt;
   waits = λ j less. absurd (omega arith);
   counted = (λ none. refl, λ some. absurd (omega arith));
   small = All-nil (λ (read : List ℕ). length read ≤ read_size);
@@ -136,17 +141,17 @@ reads_start before old unread reads = record {
 
 -- and more of what is unread
 pub reads_go : (result : Result Bool PacketIoError) (before mid after : SpanState) (old src new : List ℕ) (unread left last : Option (List ℕ)) (old_reads new_reads all : ℕ) (b c : List ℕ)
-    → CopiesNext before old unread left old_reads new_reads (Ok false) b mid src → mid.limit ≡ before.limit → last ≡ left → all ≡ new_reads
-    → EatsSpans mid src ((c, has_ended result) ∷ []) new after → CopiesNext before old unread last old_reads all result (b ++ c) after new
-reads_go result before mid after old src new unread left last old_reads new_reads all b c s limit same count eats =
+    → (s : CopiesNext before old unread left old_reads new_reads so_far b mid src) → mid.limit ≡ before.limit → last ≡ left → all ≡ new_reads
+    → EatsSpans mid src ((c, has_ended result) ∷ []) new after → EndsRead result s.reads → CopiesNext before old unread last old_reads all result (b ++ c) after new
+reads_go result before mid after old src new unread left last old_reads new_reads all b c s limit same count eats ended =
     let more = copied_more before mid after (old ++ joined_reads s.reads) src new b c (has_ended result) limit s.eats eats in
-    rw (same, count) (record { reads = s.reads; consumed = s.consumed; eats = more; waits = s.waits; counted = s.counted; small = s.small })
+    rw (same, count) (record { reads = s.reads; consumed = s.consumed; eats = more; ended = ended; waits = s.waits; counted = s.counted; small = s.small })
 
 -- and one read more
-pub reads_read : (before after : SpanState) (old src new : List ℕ) (unread left last : Option (List ℕ)) (old_reads new_reads all : ℕ) (b : List ℕ) (n : ℕ)
-    → CopiesNext before old unread left old_reads new_reads (Ok false) b after src → WaitsHere after src
+abbrev pub reads_read : (before after : SpanState) (old src new : List ℕ) (unread left last : Option (List ℕ)) (old_reads new_reads all : ℕ) (b : List ℕ) (n : ℕ)
+    → CopiesNext before old unread left old_reads new_reads so_far b after src → WaitsHere after src
     → (came : List ℕ) × (length came ≡ n) × (new ≡ src ++ came) × Consumes left last came → n ≤ read_size → all ≡ min (new_reads + 1) (2 ^ 64 - 1)
-    → CopiesNext before old unread last old_reads all (Ok false) b after new
+    → CopiesNext before old unread last old_reads all so_far b after new
 reads_read before after old src new unread left last old_reads new_reads all b n s waiting (piece, size, is, took) most count =
     let joined = reads_more s.reads piece in
     let all_in : (old ++ joined_reads s.reads) ++ piece ≡ old ++ joined_reads (s.reads ++ piece ∷ []) =
@@ -157,6 +162,7 @@ reads_read before after old src new unread left last old_reads new_reads all b n
       eats = subst (λ (z : List ℕ). EatsSpans before z ((b, false) ∷ []) new after) all_in
           (subst (λ (z : List ℕ). EatsSpans before ((old ++ joined_reads s.reads) ++ piece) ((b, false) ∷ []) z after) (sym is)
           (copied_ahead before after (old ++ joined_reads s.reads) src piece b false s.eats));
+      ended = tt;
       waits = each_more (λ (z : List (List ℕ)). WaitsBehind before (old ++ joined_reads z)) s.reads piece s.waits (b, src, after, s.eats, waiting);
       counted = counted_more old_reads new_reads all (length s.reads) _ s.counted count (length-push s.reads piece);
       small = All-push (λ (read : List ℕ). length read ≤ read_size) s.reads piece s.small (omega (arith, size, most));
@@ -164,23 +170,43 @@ reads_read before after old src new unread left last old_reads new_reads all b n
 
 -- a call of these reads that ends otherwise, but not with the packet
 pub reads_end : (result : Result Bool PacketIoError) (before after : SpanState) (old new : List ℕ) (unread left : Option (List ℕ)) (old_reads new_reads : ℕ) (b : List ℕ)
-    → CopiesNext before old unread left old_reads new_reads (Ok false) b after new → has_ended result ≡ false
+    → (s : CopiesNext before old unread left old_reads new_reads so_far b after new) → has_ended result ≡ false → EndsRead result s.reads
     → CopiesNext before old unread left old_reads new_reads result b after new
-reads_end result before after old new unread left old_reads new_reads b s going =
+reads_end result before after old new unread left old_reads new_reads b s going ended =
     let eats = subst (λ (e : Bool). EatsSpans before (old ++ joined_reads s.reads) ((b, e) ∷ []) new after) (sym going) s.eats in
-    record { reads = s.reads; consumed = s.consumed; eats = eats; waits = s.waits; counted = s.counted; small = s.small }
+    record { reads = s.reads; consumed = s.consumed; eats = eats; ended = ended; waits = s.waits; counted = s.counted; small = s.small }
+
+ends_read : (result : Result Bool PacketIoError) (reads : List (List ℕ)) → EndsEmpty reads → EndsRead result reads
+ends_read (Ok false) reads empty = empty
+ends_read (Err UnexpectedEnd) reads empty = empty
+ends_read other reads empty = tt
+
+-- the last read gave nothing
+pub reads_ended : (result : Result Bool PacketIoError) (before after : SpanState) (old src new : List ℕ) (unread left last : Option (List ℕ)) (old_reads new_reads all : ℕ) (b : List ℕ) (n : ℕ)
+    → CopiesNext before old unread left old_reads new_reads so_far b after src → WaitsHere after src
+    → (came : List ℕ) × (length came ≡ n) × (new ≡ src ++ came) × Consumes left last came → n ≤ read_size → all ≡ min (new_reads + 1) (2 ^ 64 - 1)
+    → n ≡ 0 → has_ended result ≡ false → CopiesNext before old unread last old_reads all result b after new
+reads_ended result before after old src new unread left last old_reads new_reads all b n s waiting came most count none going =
+    reads_end result before after old new unread last old_reads all b
+    (reads_read before after old src new unread left last old_reads new_reads all b n s waiting came most count) going
+    (ends_read result (s.reads ++ came.0 ∷ []) (last_empty s.reads came.0 (came.1 ∙ none)))
+
+-- a step that stopped there saw no end
+pub stops_unended : (error : PacketIoError) (state : SpanState) (unread : List ℕ) (reads : List (List ℕ)) → StopsHere error state unread → EndsRead (Err error) reads
+stops_unended UnexpectedEnd state unread reads h = absurd h
+stops_unended other state unread reads h = tt
 
 -- a read failed, or memory for it was refused
 pub reads_fail : (error : PacketIoError) (before after : SpanState) (old src new : List ℕ) (unread left last : Option (List ℕ)) (old_reads new_reads all : ℕ) (b : List ℕ)
-    → CopiesNext before old unread left old_reads new_reads (Ok false) b after src → WaitsHere after src → new ≡ src → Keeps left last → ReadFails error new_reads all
+    → CopiesNext before old unread left old_reads new_reads so_far b after src → WaitsHere after src → new ≡ src → Keeps left last → ReadFails error new_reads all
     → CopiesNext before old unread last old_reads all (Err error) b after new
 reads_fail (Io error) before after old src new unread left last old_reads new_reads all b s waiting is kept count =
     reads_end (Err (Io error)) before after old new unread last old_reads all b
     (reads_read before after old src new unread left last old_reads new_reads all b 0 s waiting
-    ([], refl, is ∙ sym (append-nil src), Consumes-kept left left last [] (Consumes-nil left) kept) (omega arith) count) refl
+    ([], refl, is ∙ sym (append-nil src), Consumes-kept left left last [] (Consumes-nil left) kept) (omega arith) count) refl tt
 reads_fail OutOfMemory before after old src new unread left last old_reads new_reads all b s waiting is kept count =
     let consumed = Consumes-kept unread left last (joined_reads s.reads) s.consumed kept in
-    rw (is, count) (record { reads = s.reads; consumed = consumed; eats = s.eats; waits = s.waits; counted = s.counted; small = s.small })
+    rw (is, count) (record { reads = s.reads; consumed = consumed; eats = s.eats; ended = tt; waits = s.waits; counted = s.counted; small = s.small })
 reads_fail other before after old src new unread left last old_reads new_reads all b s waiting is kept count = absurd count
 
 -- the input ended
@@ -199,13 +225,13 @@ copies_more ends a m z P Q T held some more same f g =
 -- in a call, behind its reads so far
 pub copies_go : (result : Result Bool PacketIoError) (before mid after : SpanState) (old src new : List ℕ) (unread left last : Option (List ℕ)) (old_reads new_reads all : ℕ) (held some more : Option (List ℕ))
     → mid.limit ≡ before.limit → last ≡ left → all ≡ new_reads
-    → (b : List ℕ) × Appends held some b × CopiesNext before old unread left old_reads new_reads (Ok false) b mid src
-    → Copies (has_ended result) mid src some after new more
+    → (s : (b : List ℕ) × Appends held some b × CopiesNext before old unread left old_reads new_reads so_far b mid src)
+    → Copies (has_ended result) mid src some after new more → EndsRead result s.2.reads
     → (b : List ℕ) × Appends held more b × CopiesNext before old unread last old_reads all result b after new
-copies_go result before mid after old src new unread left last old_reads new_reads all held some more limit same count s f = (
+copies_go result before mid after old src new unread left last old_reads new_reads all held some more limit same count s f ended = (
   s.0 ++ f.0,
   Appends-trans held some more s.0 f.0 s.1 f.2,
-  reads_go result before mid after old src new unread left last old_reads new_reads all s.0 f.0 s.2 limit same count f.1,
+  reads_go result before mid after old src new unread left last old_reads new_reads all s.0 f.0 s.2 limit same count f.1 ended,
 )
 
 -- a step at which nothing went
@@ -252,6 +278,7 @@ reads_before result before mid after old src new unread left old_reads new_reads
       reads = s.reads;
       consumed = s.consumed;
       eats = copied_more before mid after (old ++ J) (src ++ J) new b c (has_ended result) limit (copied_ahead before mid old src J b false eats) s.eats;
+      ended = s.ended;
       waits = λ j less.
           let T : List ℕ = joined_reads (take j s.reads) in
           let w = s.waits j less in

@@ -15,7 +15,7 @@ use Rattle.std.proofs.KnownBytes.{Consumes-nil, Consumes-trans, Consumes-kept}
 use Rattle.std.specs.Io.KnownBytes.{Consumes, IsAtEnd, Keeps}
 use Rattle.wire_codec.specs.Codec.{CodecState, first_id, input_of, open_id, StandsAt, Stands, DecodesFrom}
 use Rattle.wire_codec.specs.Runs.{RunsTo}
-use Rattle.wire_packet_io.specs.PacketIo.{Answer, joined_reads, read_size, WaitsAlone, most_reads, CountsUp, ReadsTo, SeesEnd, NextPacket, ReadFails, TakesPacket, EndsAt, FitsAt}
+use Rattle.wire_packet_io.specs.PacketIo.{Answer, joined_reads, read_size, WaitsAlone, most_reads, CountsUp, ReadsTo, EndsEmpty, SeesEnd, NextPacket, ReadFails, TakesPacket, EndsAt, FitsAt}
 use Rattle.wire_packet_io.specs.Lent.{IsApart, answer_over, unread_behind}
 use Rattle.wire_packet_io.specs.declared.input.Found.{Found}
 use Rattle.wire_packet_io.specs.declared.input.Found.TheVariants.{InFront, Apart}
@@ -146,14 +146,14 @@ answers_by (Err OutOfMemory) lost before mid after more s l f some t =
     (r.0, ap (λ (n : ℕ). open_id n after.held) r.1 ∙ open_at_id (first_id before) after.held (open_small before.id before.held), r.2)
 answers_by other lost before mid after more s l f some t = absurd t
 
-no_end_seen : (answer : Answer) (lost : Bool) (mid after : CodecState) (left : Option (List ℕ)) → answer ≢ Ok None → TakesPacket mid answer lost after → SeesEnd answer left
-no_end_seen (Ok None) lost mid after left some t = absurd (some refl)
-no_end_seen (Err UnexpectedEnd) lost mid after left some t = absurd t
-no_end_seen other lost mid after left some t = tt
+no_end_seen : (answer : Answer) (lost : Bool) (mid after : CodecState) (reads : List (List ℕ)) (left : Option (List ℕ)) → answer ≢ Ok None → TakesPacket mid answer lost after → SeesEnd answer reads left
+no_end_seen (Ok None) lost mid after reads left some t = absurd (some refl)
+no_end_seen (Err UnexpectedEnd) lost mid after reads left some t = absurd t
+no_end_seen other lost mid after reads left some t = tt
 
 -- a call of these reads
 next_packet : (answer : Answer) (before after : CodecState) (unread left : Option (List ℕ)) (old_reads new_reads : ℕ) (m : Made before unread left old_reads new_reads)
-    → ReadsTo before (joined_reads m.reads) answer after → SeesEnd answer left → NextPacket before unread left old_reads new_reads answer after
+    → ReadsTo before (joined_reads m.reads) answer after → SeesEnd answer m.reads left → NextPacket before unread left old_reads new_reads answer after
 next_packet answer before after unread left old_reads new_reads m t seen =
     record { reads = m.reads; consumed = m.consumed; answers = t; sees_end = seen; waits = m.waits; counted = m.counted; few = m.few; small = m.small }
 
@@ -162,7 +162,7 @@ pub ends_by : (answer : Answer) (lost : Bool) (before mid after : CodecState) (u
     → NextPacket before unread last old_reads all answer after
 ends_by answer lost before mid after unread left last old_reads new_reads all s same count some t =
     rw (same, count) (next_packet answer before after unread left old_reads new_reads s.made
-    (answers_by answer lost before mid after (joined_reads s.made.reads) s.splits s.limit s.first some t) (no_end_seen answer lost mid after left some t))
+    (answers_by answer lost before mid after (joined_reads s.made.reads) s.splits s.limit s.first some t) (no_end_seen answer lost mid after s.made.reads left some t))
 
 -- what was found is no end
 pub found_ends : {A : Type 0} (found : Found A) (src : List ℕ) → answer_over (Ok (Some found)) src ≢ Ok None
@@ -190,10 +190,10 @@ end_answers (Err UnexpectedEnd) before after more run ends =
     (run, λ e. let none = ap (λ (z : List ℕ). length z) e in absurd (omega (arith, ends)))
 end_answers other before after more run ends = absurd ends
 
-end_seen : (answer : Answer) (left : Option (List ℕ)) → IsAtEnd left → SeesEnd answer left
-end_seen (Ok None) left h = h
-end_seen (Err UnexpectedEnd) left h = h
-end_seen other left h = tt
+end_seen : (answer : Answer) (reads : List (List ℕ)) (left : Option (List ℕ)) → EndsEmpty reads → IsAtEnd left → SeesEnd answer reads left
+end_seen (Ok None) reads left empty h = (empty, h)
+end_seen (Err UnexpectedEnd) reads left empty h = (empty, h)
+end_seen other reads left empty h = tt
 
 -- where a call waits, with so many reads made
 pub record Waited (before after : CodecState) (unread left : Option (List ℕ)) (old_reads new_reads : ℕ) : Type 0 where
@@ -252,6 +252,9 @@ made_more before after unread left last old_reads new_reads all piece w took cou
 }
 
 -- that gave nothing
+pub last_empty : (reads : List (List ℕ)) (piece : List ℕ) → length piece ≡ 0 → EndsEmpty (reads ++ piece ∷ [])
+last_empty reads piece none = (reads, ap (λ (z : List ℕ). reads ++ z ∷ []) (length-zero piece none))
+
 run_kept : (before after : CodecState) (reads : List (List ℕ)) (src piece : List ℕ) → RunsTo before (joined_reads reads) (Ok tt) [] after → length piece ≡ 0 → src ≡ after.unread ++ piece
     → RunsTo before (joined_reads (reads ++ piece ∷ [])) (Ok tt) [] (record after { unread = src })
 run_kept before after reads src piece run none is =
@@ -271,7 +274,7 @@ ended answer before after unread left last old_reads new_reads all src dst n w s
     let run = run_kept before after w.made.reads src piece w.run (size ∙ none) is in
     subst (λ (z : List ℕ). NextPacket before unread last old_reads all answer (record after { unread = src; held = z })) (sym same)
     (next_packet answer before (record after { unread = src }) unread last old_reads all m
-    (end_answers answer before (record after { unread = src }) (joined_reads m.reads) run (subst (λ (z : List ℕ). EndsAt answer (length src) (length z)) same ends)) (end_seen answer last at_end))
+    (end_answers answer before (record after { unread = src }) (joined_reads m.reads) run (subst (λ (z : List ℕ). EndsAt answer (length src) (length z)) same ends)) (end_seen answer m.reads last (last_empty w.made.reads piece (size ∙ none)) at_end))
 
 -- a read that failed, or that memory was refused for
 pub failed : (error : PacketIoError) (before after : CodecState) (unread left last : Option (List ℕ)) (old_reads new_reads all : ℕ) (src dst : List ℕ)

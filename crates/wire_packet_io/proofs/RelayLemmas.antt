@@ -16,9 +16,9 @@ use Rattle.wire_span.proofs.PassingLemmas.{merged_spans}
 use Rattle.wire_packet_io.specs.declared.error.PacketIoError.{PacketIoError}
 use Rattle.wire_packet_io.specs.declared.error.PacketIoError.TheVariants.{Io, UnexpectedEnd, WriteZero, PacketTooLarge, PacketsOutOfSync, OutOfMemory}
 use Rattle.wire_packet_io.specs.PacketIo.{ReadFails, WriteFails}
-use Rattle.wire_packet_io.specs.Copying.{has_ended, CopiesNext, CopyStops, IsSpanRefusal, WaitsHere}
+use Rattle.wire_packet_io.specs.Copying.{has_ended, CopiesNext, CopyStops, EndsRead, IsSpanRefusal, WaitsHere}
 use Rattle.wire_packet_io.specs.Relaying.{PassesOn, Relays, RelayedFront, RelayedPacket, RelayStops, StepsRelay, StopsRelay}
-use Rattle.wire_packet_io.proofs.CopyLemmas.{copied_none, copied_more, copied_packet_is, front_eaten, header_eaten, nearer, reads_go}
+use Rattle.wire_packet_io.proofs.CopyLemmas.{copied_none, copied_more, copied_packet_is, front_eaten, header_eaten, nearer, reads_go, so_far}
 
 -- no bytes, in a span of none
 pub nothing_on : (a : SpanState) → SpansOn a [] (([], false) ∷ []) a
@@ -105,12 +105,12 @@ gone_more ended before mid after id number next b c out old some new held more l
 -- in a call, behind its reads so far
 pub relays_go : (result : Result Bool PacketIoError) (before mid after : SpanState) (id number next : ℕ) (old src new : List ℕ) (unread left last : Option (List ℕ)) (old_reads new_reads all : ℕ) (pending some now : List ℕ) (held more then : Option (List ℕ))
     → mid.limit ≡ before.limit → last ≡ left → all ≡ new_reads → then ≡ more
-    → (b : List ℕ) × CopiesNext before old unread left old_reads new_reads (Ok false) b mid src × PassesOn before id b false mid number pending some held more
-    → Relays (has_ended result) mid number src some after next new now
+    → (s : (b : List ℕ) × CopiesNext before old unread left old_reads new_reads so_far b mid src × PassesOn before id b false mid number pending some held more)
+    → Relays (has_ended result) mid number src some after next new now → EndsRead result s.1.reads
     → (b : List ℕ) × CopiesNext before old unread last old_reads all result b after new × PassesOn before id b (has_ended result) after next pending now held then
-relays_go result before mid after id number next old src new unread left last old_reads new_reads all pending some now held more then limit same count kept s f = (
+relays_go result before mid after id number next old src new unread left last old_reads new_reads all pending some now held more then limit same count kept s f ended = (
   s.0 ++ f.0,
-  reads_go result before mid after old src new unread left last old_reads new_reads all s.0 f.0 s.1 limit same count f.2,
+  reads_go result before mid after old src new unread left last old_reads new_reads all s.0 f.0 s.1 limit same count f.2 ended,
   gone_more (has_ended result) before mid after id number next s.0 f.0 f.1 pending some now held more then s.2 limit f.3 f.4 kept,
 )
 
@@ -130,6 +130,15 @@ relay_stops_by PacketTooLarge state unread left pending h = h
 relay_stops_by PacketsOutOfSync state unread left pending h = h
 relay_stops_by OutOfMemory state unread left pending h = tt
 relay_stops_by other state unread left pending h = absurd h
+
+-- it saw no end
+pub relay_unended : (error : PacketIoError) (state : SpanState) (unread : List ℕ) (reads : List (List ℕ)) → StopsRelay error state unread → EndsRead (Err error) reads
+relay_unended UnexpectedEnd state unread reads h = absurd h
+relay_unended other state unread reads h = tt
+
+pub write_unended : (error : PacketIoError) (pending : List ℕ) (reads : List (List ℕ)) → WriteFails error pending → EndsRead (Err error) reads
+write_unended UnexpectedEnd pending reads h = absurd h
+write_unended other pending reads h = tt
 
 -- a write failed
 pub relay_write_stops : (error : PacketIoError) (state : SpanState) (unread : List ℕ) (left : Option (List ℕ)) (pending : List ℕ)

@@ -70,7 +70,7 @@ relays_whole codec behind src rest unread reads len here id next pending more he
     rw (rest_is, next_is, end)
     (relays_go (Ok true) a a (in_front_with codec here) id id ((id + 1) % 256) src src (drop (4 + len) src) unread unread unread reads reads reads pending pending more held held held
     refl refl refl refl ([], reads_start a src unread reads, gone_none a id pending held)
-    (x, header len id ++ x, whole.eats, whole.goes id low, put))
+    (x, header len id ++ x, whole.eats, whole.goes id low, put) tt)
 
 -- at a reader that lends nothing and copies nothing
 pub relays_front : {A : Type 0} (lent : Option (Found A)) (copied : Option SpanDecoder) (codec behind : PacketCodec) (src rest : List ℕ) (unread : Option (List ℕ)) (reads len here id next : ℕ) (pending more : List ℕ) (held : Option (List ℕ))

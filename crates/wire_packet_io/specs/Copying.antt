@@ -11,7 +11,7 @@ use Rattle.wire_span.specs.Spans.{SpanState, span_state, AtHeader, IsBetween, Ea
 use Rattle.wire_span.specs.Passing.{left_in, most_bytes}
 use Rattle.wire_packet_io.specs.declared.error.PacketIoError.{PacketIoError}
 use Rattle.wire_packet_io.specs.declared.error.PacketIoError.TheVariants.{Io, UnexpectedEnd, WriteZero, PacketTooLarge, PacketsOutOfSync, OutOfMemory}
-use Rattle.wire_packet_io.specs.PacketIo.{joined_reads, read_size, CountsUp}
+use Rattle.wire_packet_io.specs.PacketIo.{joined_reads, read_size, CountsUp, EndsEmpty}
 use Rattle.wire_packet_io.specs.Lent.{Reading, reading_state}
 
 -- in front of a packet: the first chunk is to bear the codec's id
@@ -77,14 +77,21 @@ CopyStops (Err OutOfMemory) state unread left = WaitsHere state unread
 -- a read failed, or it stopped before
 CopyStops (Err error) state unread left = StopsHere error state unread
 
--- a call of `copy_packet` from this place, where this was unread: its reads one by one, of which a
--- last one may have given nothing, and the bytes that were written, which came in one span
+-- the last read gave nothing, where the call says that the input ended
+abbrev pub EndsRead : Result Bool PacketIoError → List (List ℕ) → Type 0
+EndsRead (Ok false) reads = EndsEmpty reads
+EndsRead (Err UnexpectedEnd) reads = EndsEmpty reads
+EndsRead other reads = ⊤
+
+-- a call of `copy_packet` from this place, where this was unread: its reads one by one, and
+-- the bytes that were written, which came in one span
 pub record CopiesNext (before : SpanState) (old : List ℕ) (unread left : Option (List ℕ))
     (old_reads new_reads : ℕ) (result : Result Bool PacketIoError) (written : List ℕ)
     (after : SpanState) (new : List ℕ) : Type 0 where
   pub reads : List (List ℕ)
   pub consumed : Consumes unread left (joined_reads reads)
   pub eats : EatsSpans before (old ++ joined_reads reads) ((written, has_ended result) ∷ []) new after
+  pub ended : EndsRead result reads
   -- each read is made where nothing can go before more has come
   pub waits : (j : ℕ) → j < length reads → WaitsBehind before (old ++ joined_reads (take j reads))
   pub counted : CountsUp old_reads new_reads (length reads)

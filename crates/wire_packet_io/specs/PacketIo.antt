@@ -1,5 +1,5 @@
 -- Packets from a reader, and to a writer.
-use Rattle.std.specs.Prelude.{◌≡◌, ◌≢◌, ℕ, ◌+◌, ◌*◌, ◌/◌, ◌-◌, ◌^◌, ◌<◌, ◌≤◌, ◌⊎◌, List, [], ◌++◌, length, take, min, All, Option, Some, None, Result, Ok, Err, Bool, true, false, IsTrue, IsFalse, ⊤}
+use Rattle.std.specs.Prelude.{◌≡◌, ◌≢◌, ℕ, ◌+◌, ◌*◌, ◌/◌, ◌-◌, ◌^◌, ◌<◌, ◌≤◌, ◌⊎◌, List, [], ◌∷◌, ◌++◌, length, take, min, All, Option, Some, None, Result, Ok, Err, Bool, true, false, IsTrue, IsFalse, ⊤}
 use Rattle.std.specs.List.{flat_map}
 use Rattle.std.specs.Io.KnownBytes.{Consumes, IsAtEnd}
 use Rattle.wire_codec.specs.declared.codec.error.PacketCodecError.TheVariants as codec
@@ -45,11 +45,15 @@ ReadsTo before more (Err PacketsOutOfSync) after = RunsTo before more (Err codec
 ReadsTo before more (Err OutOfMemory) after = RunsTo before more (Err codec.OutOfMemory) [] after
 ReadsTo before more (Err WriteZero) after = ⊥
 
+-- the last of these reads gave nothing
+abbrev pub EndsEmpty : List (List ℕ) → Type 0
+EndsEmpty reads = (before : List (List ℕ)) × (reads ≡ before ++ [] ∷ [])
+
 -- the last read gave nothing, where the call says that the input ended
-abbrev pub SeesEnd : Answer → Option (List ℕ) → Type 0
-SeesEnd (Ok None) left = IsAtEnd left
-SeesEnd (Err UnexpectedEnd) left = IsAtEnd left
-SeesEnd other left = ⊤
+abbrev pub SeesEnd : Answer → List (List ℕ) → Option (List ℕ) → Type 0
+SeesEnd (Ok None) reads left = EndsEmpty reads × IsAtEnd left
+SeesEnd (Err UnexpectedEnd) reads left = EndsEmpty reads × IsAtEnd left
+SeesEnd other reads left = ⊤
 
 -- over these bytes no packet is whole, and more are needed
 abbrev pub WaitsAlone : CodecState → List ℕ → Type 0
@@ -64,14 +68,13 @@ abbrev pub CountsUp : ℕ → ℕ → ℕ → Type 0
 CountsUp old new count = (count ≡ 0 → new ≡ old)
     × (0 < count → new ≡ min (old + count) (2 ^ 64 - 1))
 
--- a call of `next_packet` by a reader that isn't lost: its reads one by one, of which a last one
--- may have given nothing
+-- a call of `next_packet` by a reader that isn't lost: its reads one by one
 pub record NextPacket (before : CodecState) (unread left : Option (List ℕ))
     (old_reads new_reads : ℕ) (answer : Answer) (after : CodecState) : Type 0 where
   pub reads : List (List ℕ)
   pub consumed : Consumes unread left (joined_reads reads)
   pub answers : ReadsTo before (joined_reads reads) answer after
-  pub sees_end : SeesEnd answer left
+  pub sees_end : SeesEnd answer reads left
   -- each read is made where no packet is whole, and more bytes are needed
   pub waits : (j : ℕ) → j < length reads → WaitsAlone before (joined_reads (take j reads))
   pub counted : CountsUp old_reads new_reads (length reads)

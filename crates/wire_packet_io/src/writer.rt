@@ -148,6 +148,7 @@ impl<W: Write, A: Allocator + Copy> PacketWriter<W, A> {
                 Err(error) => return Err(PacketIoError::Io(error)),
             }
         }
+        self.pending.clear(); // what comes next begins at the front of the block
         match self.writer.flush() {
             Ok(()) => Ok(()),
             Err(error) => Err(PacketIoError::Io(error)),

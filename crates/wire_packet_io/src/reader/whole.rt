@@ -94,7 +94,6 @@ impl<R: Read, A: Allocator + Copy> PacketReader<R, A> {
             }
             Ok(false) => {
                 self.copied = Some(decoder);
-                self.input.lost = true;
                 Ok(false)
             }
             Err(error) => {

@@ -73,7 +73,7 @@ returns-in-Ok-false g c =
         reframed_whole c.joined_runs.ensures c.args.limit before after (expected_id c.packets.encoder) old.0 old.1 more old.2 came.answers.0 came.answers.1,
         all_sent old.1 c.send.new.to.pending _ _ _ sent written,
       );
-      all_read = λ _. came.sees_end;
+      all_read = λ _. came.sees_end.1;
     })
 
 pub returns-in-Err-UnexpectedEnd : goal.returns-in-Err-UnexpectedEnd
@@ -93,7 +93,7 @@ returns-in-Err-UnexpectedEnd g c =
         reframed_short c.joined_runs.ensures c.args.limit before after (expected_id c.packets.encoder) old.0 old.1 more old.2 came.answers.0 came.answers.1,
         all_sent old.1 c.send.new.to.pending _ _ _ sent written,
       );
-      all_read = λ _. came.sees_end;
+      all_read = λ _. came.sees_end.1;
     })
 
 pub returns-in-Err-PacketTooLarge : goal.returns-in-Err-PacketTooLarge

@@ -3,7 +3,7 @@ use Rattle.std.proofs.KnownBytes.{Appends-nil}
 use Rattle.wire_span.specs.Spans.{span_state}
 use Rattle.wire_packet_io.specs.Lent.{lender}
 use Rattle.wire_packet_io.specs.Copying.{CopiesTo}
-use Rattle.wire_packet_io.proofs.CopyLemmas.{copies_go, stops_by, reads_start, reads_read, reads_end, reads_fail, at_end, read_stops}
+use Rattle.wire_packet_io.proofs.CopyLemmas.{copies_go, stops_by, stops_unended, reads_start, reads_read, reads_ended, reads_fail, at_end, read_stops, so_far}
 use Rattle.wire_packet_io.proofs.input.Input.copy.Given as given
 use Rattle.wire_packet_io.proofs.input.Input.copy.Goals as goal
 use Rattle.wire_packet_io.proofs.input.Input.copy.Goals.{In-Ok-false}
@@ -21,21 +21,22 @@ pub returns-in-Ok-true-clause-copies : goal.returns-in-Ok-true-clause-copies
 returns-in-Ok-true-clause-copies g c =
     copies_go (Ok true) (span_state c.args.decoder.now) (span_state c.reads.decoder) (span_state c.copy_unread.new.decoder) c.args.self.now.src.items _ _ _ _ _ _ _ _ _ _ _
     c.reads.invariant.limit (ap (λ z. g.R.Read.remaining z.reader) c.copy_unread.ensures.kept.2) (ap (λ z. z.reads) c.copy_unread.ensures.kept.2) c.reads.invariant.so_far
-    (rw c.in-Ok-true.field-0-test at c.in-Ok-true.ensures.goes)
+    (rw c.in-Ok-true.field-0-test at c.in-Ok-true.ensures.goes) tt
 
 pub returns-in-Err-clause-copies : goal.returns-in-Err-clause-copies
 returns-in-Err-clause-copies g c =
     copies_go (Err c.in-Err.error) (span_state c.args.decoder.now) (span_state c.reads.decoder) (span_state c.copy_unread.new.decoder) c.args.self.now.src.items _ _ _ _ _ _ _ _ _ _ _
     c.reads.invariant.limit (ap (λ z. g.R.Read.remaining z.reader) c.copy_unread.ensures.kept.2) (ap (λ z. z.reads) c.copy_unread.ensures.kept.2) c.reads.invariant.so_far c.in-Err.ensures.goes
+    (stops_unended c.in-Err.error _ _ c.reads.invariant.so_far.2.reads c.in-Err.ensures.ends)
 
 -- what was there went, and the packet goes on
 went : (g : given.Over) (c : In-Ok-false g)
-    → CopiesTo g.R.Read.remaining g.W.Write.contents (span_state c.args.decoder.now) (lender None c.args.self.now) c.args.writer.now (Ok false)
+    → CopiesTo g.R.Read.remaining g.W.Write.contents (span_state c.args.decoder.now) (lender None c.args.self.now) c.args.writer.now so_far
     (span_state c.copy_unread.new.decoder) (lender None c.copy_unread.new.self) c.copy_unread.new.writer
 went g c =
-    copies_go (Ok false) (span_state c.args.decoder.now) (span_state c.reads.decoder) (span_state c.copy_unread.new.decoder) c.args.self.now.src.items _ _ _ _ _ _ _ _ _ _ _
+    copies_go so_far (span_state c.args.decoder.now) (span_state c.reads.decoder) (span_state c.copy_unread.new.decoder) c.args.self.now.src.items _ _ _ _ _ _ _ _ _ _ _
     c.reads.invariant.limit (ap (λ z. g.R.Read.remaining z.reader) c.copy_unread.ensures.kept.2) (ap (λ z. z.reads) c.copy_unread.ensures.kept.2) c.reads.invariant.so_far
-    (rw c.in-Ok-false.field-0-test at c.in-Ok-false.ensures.goes)
+    (rw c.in-Ok-false.field-0-test at c.in-Ok-false.ensures.goes) tt
 
 pub returns-in-Ok-eq0-clause-copies : goal.returns-in-Ok-eq0-clause-copies
 returns-in-Ok-eq0-clause-copies g c =
@@ -43,8 +44,8 @@ returns-in-Ok-eq0-clause-copies g c =
     let waits = rw c.in-Ok-false.field-0-test at c.in-Ok-false.ensures.ends in (
       s.0,
       s.1,
-      reads_end c.at_copys_end.result _ _ _ _ _ _ _ _ s.0
-          (reads_read _ _ _ _ _ _ _ _ _ _ _ s.0 _ s.2 waits c.in-Ok-eq0.ensures.ok c.in-Ok-eq0.ensures.small c.in-Ok-eq0.ensures.read) c.at_copys_end.ensures.going,
+      reads_ended c.at_copys_end.result _ _ _ _ _ _ _ _ _ _ _ s.0 _ s.2 waits c.in-Ok-eq0.ensures.ok c.in-Ok-eq0.ensures.small c.in-Ok-eq0.ensures.read
+          c.in-Ok-eq0.field-0-test c.at_copys_end.ensures.going,
     )
 
 pub reads-preserved : goal.reads-preserved

@@ -2,8 +2,8 @@ use Rattle.std.proofs.Common.{◌∙◌, [], ap, refl, None, Ok, Err, true, fals
 use Rattle.wire_span.specs.Spans.{span_state}
 use Rattle.wire_packet_io.specs.Lent.{lender}
 use Rattle.wire_packet_io.specs.Relaying.{RelaysTo}
-use Rattle.wire_packet_io.proofs.CopyLemmas.{reads_start, reads_read, reads_end, reads_fail}
-use Rattle.wire_packet_io.proofs.RelayLemmas.{relays_go, gone_none, gone_out, relay_stops_by, relay_write_stops, relay_read_stops, relay_at_end}
+use Rattle.wire_packet_io.proofs.CopyLemmas.{reads_start, reads_read, reads_end, reads_ended, reads_fail, so_far}
+use Rattle.wire_packet_io.proofs.RelayLemmas.{relays_go, gone_none, gone_out, relay_stops_by, relay_unended, write_unended, relay_write_stops, relay_read_stops, relay_at_end}
 use Rattle.wire_packet_io.proofs.input.Input.relay.Given as given
 use Rattle.wire_packet_io.proofs.input.Input.relay.Goals as goal
 use Rattle.wire_packet_io.proofs.input.Input.relay.Goals.{After-write_pending}
@@ -25,37 +25,38 @@ pub returns-in-Ok-true-clause-relays : goal.returns-in-Ok-true-clause-relays
 returns-in-Ok-true-clause-relays g c =
     relays_go (Ok true) (span_state c.args.decoder.now) (span_state c.reads.decoder) (span_state c.relay_unread.new.decoder) _ _ _ c.args.self.now.src.items _ _ _ _ _ _ _ _ _ _ _ _ _ _
     c.reads.invariant.limit (ap (λ z. g.R.Read.remaining z.reader) c.relay_unread.ensures.kept.2) (ap (λ z. z.reads) c.relay_unread.ensures.kept.2)
-    (ap (λ z. g.W.Write.contents z) c.relay_unread.ensures.kept.3) c.reads.invariant.so_far (rw c.in-Ok-true.field-0-test at c.in-Ok-true.ensures.goes)
+    (ap (λ z. g.W.Write.contents z) c.relay_unread.ensures.kept.3) c.reads.invariant.so_far (rw c.in-Ok-true.field-0-test at c.in-Ok-true.ensures.goes) tt
 
 pub returns-in-Err-clause-relays : goal.returns-in-Err-clause-relays
 returns-in-Err-clause-relays g c =
     relays_go (Err c.in-Err.error) (span_state c.args.decoder.now) (span_state c.reads.decoder) (span_state c.relay_unread.new.decoder) _ _ _ c.args.self.now.src.items _ _ _ _ _ _ _ _ _ _ _ _ _ _
     c.reads.invariant.limit (ap (λ z. g.R.Read.remaining z.reader) c.relay_unread.ensures.kept.2) (ap (λ z. z.reads) c.relay_unread.ensures.kept.2)
     (ap (λ z. g.W.Write.contents z) c.relay_unread.ensures.kept.3) c.reads.invariant.so_far c.in-Err.ensures.goes
+    (relay_unended c.in-Err.error _ _ c.reads.invariant.so_far.1.reads c.in-Err.ensures.ends)
 
 -- what was there went behind what is pending, a front of that was written, and the packet goes on
 went : (g : given.Over) (c : After-write_pending g)
-    → RelaysTo g.R.Read.remaining g.W.Write.contents (span_state c.args.decoder.now) (lender None c.args.self.now) c.args.next_id.now c.args.writer.now (Ok false)
+    → RelaysTo g.R.Read.remaining g.W.Write.contents (span_state c.args.decoder.now) (lender None c.args.self.now) c.args.next_id.now c.args.writer.now so_far
     (span_state c.relay_unread.new.decoder) (lender None c.relay_unread.new.self) c.relay_unread.new.next_id c.write_pending.new.self
 went g c =
     let wrote = c.write_pending.ensures.sent in
-    let s = relays_go (Ok false) (span_state c.args.decoder.now) (span_state c.reads.decoder) (span_state c.relay_unread.new.decoder) _ _ _ c.args.self.now.src.items _ _ _ _ _ _ _ _ _ _ _ _ _ _
+    let s = relays_go so_far (span_state c.args.decoder.now) (span_state c.reads.decoder) (span_state c.relay_unread.new.decoder) _ _ _ c.args.self.now.src.items _ _ _ _ _ _ _ _ _ _ _ _ _ _
     c.reads.invariant.limit (ap (λ z. g.R.Read.remaining z.reader) c.relay_unread.ensures.kept.2) (ap (λ z. z.reads) c.relay_unread.ensures.kept.2)
-    (ap (λ z. g.W.Write.contents z) c.relay_unread.ensures.kept.3) c.reads.invariant.so_far (rw c.in-Ok-false.field-0-test at c.in-Ok-false.ensures.goes) in
+    (ap (λ z. g.W.Write.contents z) c.relay_unread.ensures.kept.3) c.reads.invariant.so_far (rw c.in-Ok-false.field-0-test at c.in-Ok-false.ensures.goes) tt in
     (s.0, s.1, gone_out _ _ _ _ s.0 wrote.0 _ _ _ _ _ _ s.2 wrote.1 wrote.2)
 
 pub returns-in-Err-write_pending-clause-relays : goal.returns-in-Err-write_pending-clause-relays
 returns-in-Err-write_pending-clause-relays g c =
     let s = went g (goal.at.returns-in-Err-write_pending-clause-relays g c).After-write_pending in
-    (s.0, reads_end (Err c.in-Err-write_pending.error) _ _ _ _ _ _ _ _ s.0 s.1 refl, s.2)
+    (s.0, reads_end (Err c.in-Err-write_pending.error) _ _ _ _ _ _ _ _ s.0 s.1 refl (write_unended c.in-Err-write_pending.error _ s.1.reads c.in-Err-write_pending.ensures.errors), s.2)
 
 pub returns-in-Ok-eq0-clause-relays : goal.returns-in-Ok-eq0-clause-relays
 returns-in-Ok-eq0-clause-relays g c =
     let s = went g (goal.at.returns-in-Ok-eq0-clause-relays g c).After-write_pending in
     let waits = rw c.in-Ok-false.field-0-test at c.in-Ok-false.ensures.ends in (
       s.0,
-      reads_end c.at_copys_end.result _ _ _ _ _ _ _ _ s.0
-          (reads_read _ _ _ _ _ _ _ _ _ _ _ s.0 _ s.1 waits c.in-Ok-eq0.ensures.ok c.in-Ok-eq0.ensures.small c.in-Ok-eq0.ensures.read) c.at_copys_end.ensures.going,
+      reads_ended c.at_copys_end.result _ _ _ _ _ _ _ _ _ _ _ s.0 _ s.1 waits c.in-Ok-eq0.ensures.ok c.in-Ok-eq0.ensures.small c.in-Ok-eq0.ensures.read
+          c.in-Ok-eq0.field-0-test c.at_copys_end.ensures.going,
       rw c.at_copys_end.ensures.going s.2,
     )
 

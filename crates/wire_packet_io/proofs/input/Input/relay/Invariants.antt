@@ -1,8 +1,9 @@
-use Rattle.std.proofs.Common.{◌≡◌, ◌-◌, [], length, None, Ok, false}
+use Rattle.std.proofs.Common.{◌≡◌, ◌-◌, [], length, None}
 use Rattle.wire_span.specs.Spans.{header_came, span_state}
 use Rattle.wire_span.specs.Passing.{most_bytes}
 use Rattle.wire_packet_io.specs.Lent.{lender}
 use Rattle.wire_packet_io.specs.Relaying.{RelaysTo}
+use Rattle.wire_packet_io.proofs.CopyLemmas.{so_far as stopped}
 use Rattle.wire_packet_io.proofs.input.Input.relay.Given as goal
 
 abbrev pub invariant-reads : goal.invariant-reads
@@ -11,7 +12,7 @@ invariant-reads g l = record {
   limit : l.decoder.max_allowed_packet ≡ l.fn.decoder.max_allowed_packet;
   held : l.self.dst ≡ l.fn.self.dst;
   lost : l.self.lost ≡ l.fn.self.lost;
-  so_far : RelaysTo g.R.Read.remaining g.W.Write.contents (span_state l.fn.decoder) (lender None l.fn.self) l.fn.next_id l.fn.writer (Ok false)
+  so_far : RelaysTo g.R.Read.remaining g.W.Write.contents (span_state l.fn.decoder) (lender None l.fn.self) l.fn.next_id l.fn.writer stopped
       (span_state l.decoder) (lender None l.self) l.next_id l.writer;
 }
 

@@ -2,7 +2,7 @@ use Rattle.std.proofs.Common.{◌∙◌, [], ap, refl, subst, sym, IsNone, Ok, E
 use Rattle.std.proofs.KnownBytes.{Appends-nil}
 use Rattle.wire_span.specs.Spans.{span_state}
 use Rattle.wire_packet_io.specs.Copying.{copied_to}
-use Rattle.wire_packet_io.proofs.CopyLemmas.{can_after, copies_before, copies_go, reads_start}
+use Rattle.wire_packet_io.proofs.CopyLemmas.{can_after, copies_before, copies_go, reads_start, stops_unended}
 use Rattle.wire_packet_io.proofs.WholeLemmas.{limit_is}
 use Rattle.wire_packet_io.proofs.reader.PacketReader.copy_packet.Goals as goal
 
@@ -15,7 +15,7 @@ returns-in-Ok-true-clause-copies g c place =
     copies_go (Ok true) a a (copied_to new.copied c.copy_begin.new.codec) old.unread old.unread _ _ _ _ _ _ _ _ _ _
     refl (ap (λ z. g.R.Read.remaining z.reader) rest) (ap (λ z. z.reads) rest)
     ([], Appends-nil _, reads_start a old.unread (g.R.Read.remaining old.reader) old.reads)
-    (rw c.in-Ok-true.field-0-test at c.in-Ok-true.ensures.goes)
+    (rw c.in-Ok-true.field-0-test at c.in-Ok-true.ensures.goes) tt
 
 pub returns-in-Err-clause-copies : goal.returns-in-Err-clause-copies
 returns-in-Err-clause-copies g c place =
@@ -26,7 +26,7 @@ returns-in-Err-clause-copies g c place =
     copies_go (Err c.in-Err.error) a a (copied_to new.copied c.copy_begin.new.codec) old.unread old.unread _ _ _ _ _ _ _ _ _ _
     refl (ap (λ z. g.R.Read.remaining z.reader) rest) (ap (λ z. z.reads) rest)
     ([], Appends-nil _, reads_start a old.unread (g.R.Read.remaining old.reader) old.reads)
-    c.in-Err.ensures.goes
+    c.in-Err.ensures.goes (stops_unended c.in-Err.error _ _ _ c.in-Err.ensures.stops)
 
 pub returns-clause-copies : goal.returns-clause-copies
 returns-clause-copies g c place =
