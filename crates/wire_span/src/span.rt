@@ -164,6 +164,8 @@ impl Default for SpanDecoder {
 }
 
 impl SpanDecoder {
+    ghost use Rattle.wire_span.specs.Passing.{left_in};
+
     /// The sequence id that the next chunk is to bear.
     pub fn sequence_id(&self) -> u8
         ensures { result ≡ (span_state self.now).id }
@@ -246,6 +248,8 @@ impl SpanDecoder {
         ensures longer { IfSome result (λ span.
             length piece.new.now + length span.bytes.now ≡ length piece.old.now) }
         ensures bytes { IfSome result (λ span. (span.bytes.now ≢ []) ⊎ (left ≡ 0)) }
+        ensures longest { IfSome result (λ _. (piece.new.now ≡ [])
+            ⊎ (left_in (span_state self.new).place ≡ 0)) }
         ensures some { IfSome result (λ span. (0 < length span.bytes.now)
             ⊎ (span.ends_packet ≡ true) ⊎ ((left ≡ 0) × (is_full ≡ true))) }
         ensures limit { self.new.max_allowed_packet ≡ self.old.max_allowed_packet }
@@ -301,6 +305,9 @@ impl SpanDecoder {
         // A span of no bytes is the end of a packet.
         ensures some { IfOk result (λ span. IfSome span (λ span. (0 < length span.bytes.now)
             ⊎ (span.ends_packet ≡ true))) }
+        // It goes to the end of its chunk, or of the piece.
+        ensures longest { IfOk result (λ span. IfSome span (λ _. (piece.new.now ≡ [])
+            ⊎ (left_in (span_state self.new).place ≡ 0))) }
         ensures err { OnErr result ((span_state self.new ≡ span_state self.old)
             × (piece.new.now ≡ piece.old.now)) }
         ensures refused { IfErr result (λ error.
