@@ -6,6 +6,7 @@ pub mod auth_more_data;
 pub mod auth_switch;
 pub mod auth_switch_response;
 pub mod first_packet;
+pub mod good;
 pub mod handshake;
 pub mod handshake_response;
 pub mod laws;

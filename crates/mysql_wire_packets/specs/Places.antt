@@ -1,9 +1,9 @@
 -- A payload at a place of a connection.
-use Rattle.std.specs.Prelude.{ℕ, ◌≡◌, ◌<◌, ◌≤◌, ◌-◌, Bool, true, false, if◌then◌else◌, nat_lt, nat_eq, List, [], ◌∷◌, length, take, Result, Ok, Err}
+use Rattle.std.specs.Prelude.{ℕ, ◌≡◌, ◌≢◌, ◌⊎◌, ◌<◌, ◌≤◌, ◌-◌, Bool, true, false, if◌then◌else◌, nat_lt, nat_eq, List, [], ◌∷◌, length, take, Result, Ok, Err}
 use Rattle.wire_const.specs.FlagSets.{capability_flags_bits}
 use Rattle.wire_const.specs.declared.flag_sets.capability.CapabilityFlags.{CapabilityFlags}
 use Rattle.wire_buf.specs.declared.error.WireError.{WireError}
-use Rattle.wire_buf.specs.declared.error.WireError.TheVariants.{UnexpectedEof}
+use Rattle.wire_buf.specs.declared.error.WireError.TheVariants.{UnexpectedEof, OutOfMemory}
 use Rattle.mysql_wire_packets.specs.declared.places.PayloadError.{PayloadError}
 use Rattle.mysql_wire_packets.specs.declared.places.PayloadError.TheVariants.{Refused, Trailing, OtherHeader, OtherSpelling}
 
@@ -17,6 +17,19 @@ ReadsWhole {X = X} reads payload (Err (Trailing count)) = (packet : X) × (0 < c
     × (count ≤ length payload) × reads payload (Ok packet) (length payload - count)
 ReadsWhole reads payload (Err (OtherHeader byte)) = ⊥
 ReadsWhole reads payload (Err OtherSpelling) = ⊥
+
+-- the payload is one packet, and the bytes that this is written as; or it is one that is written as
+-- others; or memory for these is refused; or it is refused as no packet
+abbrev pub ReadsExact : {X : Type 0} → (List ℕ → Result X WireError → ℕ → Type 0) → (X → List ℕ)
+    → List ℕ → Result X PayloadError → Type 0
+ReadsExact reads bytes payload (Ok packet) =
+    ReadsWhole reads payload (Ok packet) × (bytes packet ≡ payload)
+ReadsExact {X = X} reads bytes payload (Err OtherSpelling) = (packet : X)
+    × ReadsWhole reads payload (Ok packet) × (bytes packet ≢ payload)
+ReadsExact {X = X} reads bytes payload (Err (Refused OutOfMemory)) =
+    ((packet : X) × ReadsWhole reads payload (Ok packet))
+    ⊎ ReadsWhole reads payload (Err (Refused OutOfMemory))
+ReadsExact reads bytes payload (Err error) = ReadsWhole reads payload (Err error)
 
 -- what is answered is made of such a packet
 abbrev pub WrapsBy : {X Y : Type 0} → (X → Y → Type 0) → (Result X PayloadError → Type 0)

@@ -3,6 +3,7 @@
 
 pub mod eof_packet;
 pub mod err_packet;
+pub mod good;
 pub mod laws;
 pub mod lent;
 pub mod ok_packet;

@@ -1,8 +1,7 @@
 //! A payload that is one packet, at a place where one of several may stand.
 
-ghost use Rattle.std.specs.Prelude.{◌≡◌, Ok, length, IfOk};
 ghost use Rattle.wire_buf.specs.Reading.{Parses};
-ghost use Rattle.mysql_wire_packets.specs.Places.{ReadsWhole, WrapsBy};
+ghost use Rattle.mysql_wire_packets.specs.Places.{ReadsExact, ReadsWhole, WrapsBy};
 
 use std::alloc::Global;
 use wire_buf::error::WireError;
@@ -60,15 +59,14 @@ pub fn read_as<'de, T: MyDeserialize<'de, Global>, U, F: FnOnce(T) -> U>(
 
 /// Reads a payload that is one packet, and just the bytes that this packet is written as. Where the
 /// packet is written as others, since a length in it is not in its shortest spelling, or begins with
-/// a byte that begins none, that is `OtherSpelling`.
+/// a byte that begins none, that is `OtherSpelling`; where memory for these is refused,
+/// `Refused(OutOfMemory)`. The other refusals are those of `read_whole`.
 pub fn read_exact<'de, T: MySerialize + MyDeserialize<'de, Global>>(
     alloc: Global,
     ctx: T::Ctx,
     payload: &'de [u8],
 ) -> Result<T, PayloadError>
-    ensures read { IfOk result (λ packet. Parses T.Size.SIZE (T.reads ctx) payload.entry.now
-        (Ok packet) (length payload.entry.now)) }
-    ensures written { IfOk result (λ packet. T.bytes packet ≡ payload.entry.now) }
+    ensures { ReadsExact (Parses T.Size.SIZE (T.reads ctx)) T.bytes payload.entry.now result }
 {
     let packet = match read_whole::<T>(alloc, ctx, payload) {
         Ok(packet) => packet,

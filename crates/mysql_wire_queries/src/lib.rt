@@ -10,6 +10,7 @@ pub mod com_ping;
 pub mod com_query;
 pub mod com_query_attributes;
 pub mod com_quit;
+pub mod good;
 pub mod laws;
 pub mod local_infile;
 pub mod query_answer;
