@@ -1,7 +1,8 @@
-//! Of the program's commands what its built program can't show.
+//! The program's commands: command lines, and what the built program can't show.
 
 mod faults;
 mod pieces;
 mod reads;
+mod rows;
 mod run;
 mod sends;
