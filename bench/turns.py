@@ -2,9 +2,9 @@
 """Times the jobs of bench/workloads.txt in two built checkouts, by turns: OLD NEW [SEED].
 
 Each line of the file is NAME CRATE WORD..: the program crates/CRATE/out/CRATE is run with these
-words in the folder bench/ of its checkout; SEED stands for the seed, and a last word <FILE for the
-standard input. It stops where two outputs of a job differ, and prints both medians of the seconds,
-and OLD's over NEW's.
+words in the folder bench/ of its checkout, and OLD and NEW begin by turns; SEED stands for the
+seed, and a last word <FILE for the standard input. It stops where two outputs of a job differ, and
+prints both medians of the seconds, and OLD's over NEW's.
 """
 import os
 import statistics
@@ -47,8 +47,10 @@ def main():
     for name, crate, words in jobs(os.path.join(here, "workloads.txt"), seed):
         times = ([], [])
         outputs = set()
-        for _ in range(TURNS):
-            for top, taken in zip(tops, times):
+        for turn in range(TURNS):
+            # The one that begins has the caches as the other left them.
+            pairs = list(zip(tops, times))
+            for top, taken in pairs if turn % 2 == 0 else reversed(pairs):
                 seconds, output = run(top, crate, words)
                 taken.append(seconds)
                 outputs.add(output)

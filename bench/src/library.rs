@@ -12,6 +12,7 @@ unsafe extern "C" {
     fn mw_relay(ptr: *const u8, len: usize, piece: u64, limit: u64, form: u64, reps: u64) -> u64;
     fn mw_place_row(ptr: *const u8, len: usize, cols: u64, row: u64, form: u64, reps: u64) -> u64;
     fn mw_read(ptr: *const u8, len: usize, limit: u64, form: u64, reps: u64) -> u64;
+    fn mw_relay_each(ptr: *const u8, len: usize, limit: u64, form: u64, reps: u64) -> u64;
     fn mw_write(ptr: *const u8, len: usize, count: u64, reps: u64) -> u64;
     fn mw_row(ptr: *const u8, len: usize, cols: u64, form: u64, reps: u64) -> u64;
     fn mw_row_copy(ptr: *const u8, len: usize, form: u64, reps: u64) -> u64;
@@ -75,6 +76,12 @@ pub fn place_row(bytes: &[u8], cols: u64, row: usize, form: u64, reps: u64) -> u
 /// A stream of whole packets read by `PacketReader`: form 0 by `next_packet`, form 1 lent.
 pub fn read(bytes: &[u8], limit: u64, form: u64, reps: u64) -> u64 {
     unsafe { mw_read(bytes.as_ptr(), bytes.len(), limit, form, reps) }
+}
+
+/// A stream of whole packets, each passed on and written: form 0 by `relay_packet`, form 1 lent and
+/// queued.
+pub fn relay_each(bytes: &[u8], limit: u64, form: u64, reps: u64) -> u64 {
+    unsafe { mw_relay_each(bytes.as_ptr(), bytes.len(), limit, form, reps) }
 }
 
 /// A payload queued `count` times by a `PacketWriter`, and written at once.

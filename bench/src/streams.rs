@@ -10,6 +10,8 @@ use crate::timing::Row;
 
 const SIZES: [usize; 4] = [16, 4 << 10, 1 << 20, 20 << 20];
 
+const RELAYED: [usize; 4] = [0, 16, 100, 4 << 10];
+
 // The forms of reading, by their numbers.
 const READERS: [&str; 2] = ["next_packet", "fill_packet"];
 
@@ -53,6 +55,25 @@ fn write_row(rows: &mut Vec<Row>, size: usize) {
     });
 }
 
+// Packets of a size passed on from a slice to a vector, each written by itself, beside the same with
+// each packet lent and queued.
+fn relay_row(rows: &mut Vec<Row>, size: usize) {
+    let count = count_for(size);
+    let (stream, _) = stream_of(size as u64 * 11 + 3, size);
+    let want = stream.chunks(4 + size).fold(0u64, |sum, packet| sum.wrapping_add(summary(packet)));
+    let copied = stream.clone();
+    let limit = size as u64;
+    rows.push(Row {
+        name: format!("relay and write {}, of lend and queue", size_name(size)),
+        items: count as u64,
+        bytes: (size * count) as u64,
+        call: Box::new(move |reps| library::relay_each(&stream, limit, 0, reps)),
+        want,
+        copy: Box::new(move |reps| library::relay_each(&copied, limit, 1, reps)),
+        rust: None,
+    });
+}
+
 pub fn rows(rows: &mut Vec<Row>) {
     for size in SIZES {
         for form in 0..2 {
@@ -61,5 +82,8 @@ pub fn rows(rows: &mut Vec<Row>) {
     }
     for size in SIZES {
         write_row(rows, size);
+    }
+    for size in RELAYED {
+        relay_row(rows, size);
     }
 }

@@ -143,3 +143,95 @@ pub extern "C" fn mw_write(alloc: Global, bytes: &[u8], count: u64, reps: u64) -
     }
     writer.into_inner().sum
 }
+
+// The two sides of a connection that is passed on.
+#[derive(Drop)]
+struct Passed<'a> {
+    reader: PacketReader<Again<'a>>,
+    codec: PacketCodec,
+    writer: PacketWriter<Last>,
+    writer_codec: PacketCodec,
+}
+
+impl Passed<'_> {
+    // Each packet up to the next end of the input, written by itself.
+    fn relay(&mut self) -> Result<(), PacketIoError> {
+        'packets: for _ in 0..u64::MAX {
+            if !self.reader.can_copy(&self.codec) {
+                return Err(PacketIoError::PacketsOutOfSync);
+            }
+            if !self
+                .reader
+                .relay_packet(&mut self.codec, &mut self.writer, &mut self.writer_codec)?
+            {
+                return Ok(());
+            }
+            self.writer.write_pending()?;
+        }
+        Ok(())
+    }
+
+    // The same by a packet that is lent and queued.
+    fn queue(&mut self) -> Result<(), PacketIoError> {
+        'packets: for _ in 0..u64::MAX {
+            if !self.reader.fits(&self.codec) {
+                return Err(PacketIoError::PacketsOutOfSync);
+            }
+            if !self.reader.fill_packet(&mut self.codec)? {
+                return Ok(());
+            }
+            let mut packet = self.reader.packet();
+            self.writer.queue(&mut self.writer_codec, &mut packet)?;
+            self.reader.take_packet();
+            self.writer.write_pending()?;
+        }
+        Ok(())
+    }
+}
+
+// Both sides, in front of the stream.
+fn both_sides(alloc: Global, bytes: &[u8], limit: u64) -> Result<Passed<'_>, PacketIoError> {
+    let input = Again { bytes, left: bytes };
+    let output = Last {
+        bytes: Vec::new(alloc),
+        sum: 0,
+    };
+    let mut codec = PacketCodec::default();
+    codec.max_allowed_packet = limit as usize;
+    let mut writer_codec = PacketCodec::default();
+    writer_codec.max_allowed_packet = limit as usize;
+    Ok(Passed {
+        reader: PacketReader::new(alloc, input)?,
+        codec,
+        writer: PacketWriter::new(alloc, output)?,
+        writer_codec,
+    })
+}
+
+/// A stream of whole packets, whose ids begin with 0, of which each is passed on and written: form 0
+/// by `relay_packet`, form 1 lent by `fill_packet` and queued.
+#[unsafe(no_mangle)]
+pub extern "C" fn mw_relay_each(
+    alloc: Global,
+    bytes: &[u8],
+    limit: u64,
+    form: u64,
+    reps: u64,
+) -> u64 {
+    let Ok(mut passed) = both_sides(alloc, bytes, limit) else {
+        return REFUSED;
+    };
+    for _ in 0..reps {
+        passed.codec.reset_seq_id();
+        passed.writer_codec.reset_seq_id();
+        let went = if form == 0 {
+            passed.relay()
+        } else {
+            passed.queue()
+        };
+        if went.is_err() {
+            return REFUSED;
+        }
+    }
+    passed.writer.into_inner().sum
+}
