@@ -60,7 +60,7 @@ fn write_row(rows: &mut Vec<Row>, size: usize) {
 fn relay_row(rows: &mut Vec<Row>, size: usize) {
     let count = count_for(size);
     let (stream, _) = stream_of(size as u64 * 11 + 3, size);
-    let want = stream.chunks(4 + size).fold(0u64, |sum, packet| sum.wrapping_add(summary(packet)));
+    let want = stream.len() as u64;
     let copied = stream.clone();
     let limit = size as u64;
     rows.push(Row {

@@ -144,12 +144,35 @@ pub extern "C" fn mw_write(alloc: Global, bytes: &[u8], count: u64, reps: u64) -
     writer.into_inner().sum
 }
 
+// Keeps the bytes of the last write, and counts those of all: a packet that a read cuts is written in
+// two parts.
+#[derive(Drop)]
+struct Counted {
+    bytes: Vec<u8>,
+    count: u64,
+}
+
+impl Write for Counted {
+    fn write(&mut self, buf: &[u8]) -> io::Result<usize> {
+        self.bytes.clear();
+        if self.bytes.extend_from_slice(buf).is_err() {
+            return Err(io::Error::from(ErrorKind::OutOfMemory));
+        }
+        self.count = self.count.wrapping_add(buf.len() as u64);
+        Ok(buf.len())
+    }
+
+    fn flush(&mut self) -> io::Result<()> {
+        Ok(())
+    }
+}
+
 // The two sides of a connection that is passed on.
 #[derive(Drop)]
 struct Passed<'a> {
     reader: PacketReader<Again<'a>>,
     codec: PacketCodec,
-    writer: PacketWriter<Last>,
+    writer: PacketWriter<Counted>,
     writer_codec: PacketCodec,
 }
 
@@ -192,9 +215,9 @@ impl Passed<'_> {
 // Both sides, in front of the stream.
 fn both_sides(alloc: Global, bytes: &[u8], limit: u64) -> Result<Passed<'_>, PacketIoError> {
     let input = Again { bytes, left: bytes };
-    let output = Last {
+    let output = Counted {
         bytes: Vec::new(alloc),
-        sum: 0,
+        count: 0,
     };
     let mut codec = PacketCodec::default();
     codec.max_allowed_packet = limit as usize;
@@ -209,7 +232,8 @@ fn both_sides(alloc: Global, bytes: &[u8], limit: u64) -> Result<Passed<'_>, Pac
 }
 
 /// A stream of whole packets, whose ids begin with 0, of which each is passed on and written: form 0
-/// by `relay_packet`, form 1 lent by `fill_packet` and queued.
+/// by `relay_packet`, form 1 lent by `fill_packet` and queued. The answer is how many bytes were
+/// written.
 #[unsafe(no_mangle)]
 pub extern "C" fn mw_relay_each(
     alloc: Global,
@@ -233,5 +257,5 @@ pub extern "C" fn mw_relay_each(
             return REFUSED;
         }
     }
-    passed.writer.into_inner().sum
+    passed.writer.into_inner().count
 }
