@@ -1,0 +1,2 @@
+pub mod LongTexts
+pub mod Replicas

@@ -1,0 +1,70 @@
+//! `COM_DEBUG`.
+
+ghost use Rattle.std.specs.Prelude.{◌∷◌, [], refl};
+ghost use Rattle.wire_repr.specs.Law.{size-is};
+ghost use Rattle.wire_forms.specs.Constants.{ReadsConst, ReadsConst-back};
+ghost use Rattle.mysql_wire_packets.specs.Again.{const_again};
+
+use mysql_wire_statements::written_back::WrittenBack;
+use std::alloc::Allocator;
+use wire_buf::error::{InvalidReason, WireError};
+use wire_buf::io::ParseBuf;
+use wire_buf::proto::{Fixed, HasSize, MyDeserialize, MySerialize};
+use wire_forms::constant::ConstU8;
+use wire_repr::wire::Wire;
+
+/// The server writes what it knows for debugging into its log. The answer is an `EofPacket`, or an
+/// error.
+///
+/// <https://dev.mysql.com/doc/dev/mysql-server/latest/page_protocol_com_debug.html>
+#[derive(Clone, Copy, Debug, PartialEq, Eq)]
+pub struct ComDebug;
+
+impl MySerialize for ComDebug {
+    ghost bytes = { λ _. 0x0d ∷ [] };
+
+    fn serialize<A: Allocator>(&self, buf: &mut Vec<u8, A>) -> Result<(), WireError> {
+        ConstU8::<(), 0x0d>::new().serialize(buf)
+    }
+}
+
+impl HasSize for ComDebug {
+    type Size = Fixed<1>;
+}
+
+impl<'de, A: Allocator + Copy> MyDeserialize<'de, A> for ComDebug {
+    type Ctx = ();
+
+    ghost reads = { λ _. ReadsConst 1 (0x0d ∷ []) };
+
+    fn deserialize(_: A, _: (), buf: &mut ParseBuf<'de>) -> Result<Self, WireError> {
+        match buf.eat_u8() {
+            0x0d => Ok(ComDebug),
+            _ => Err(WireError::InvalidData(InvalidReason::ConstMismatch)),
+        }
+    }
+}
+
+impl<'de, A: Allocator + Copy> Wire<'de, A> for ComDebug {
+    ghost is_value = { λ _. Unit {0} };
+
+    ghost good = { λ _ _ _. Unit {0} };
+
+    ghost kept = { λ _ _. Unit {0} };
+
+    ghost takes_memory = { ⊥ };
+
+    fn known(&self) {}
+
+    ghost comes_back = { λ ctx command rest answer eaten value good read.
+        ReadsConst-back 1 (0x0d ∷ []) rest refl answer eaten read };
+
+    ghost of_size = { λ command size value stated. size-is 1 size 1 stated refl };
+}
+
+impl<'de, A: Allocator + Copy> WrittenBack<'de, A> for ComDebug {
+    ghost shortest = { λ _ _. Unit {0} };
+
+    ghost again = { λ ctx input command eaten are shortest read.
+        (const_again 0x0d).law input are command eaten read };
+}
