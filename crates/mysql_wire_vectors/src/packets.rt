@@ -1,7 +1,8 @@
-//! Of packets what the rows of `recording_tests` can't show.
+//! Of packets what no row of `recording_tests` shows.
 
 mod forms;
 mod rows;
+mod utility;
 mod values;
 
 use forms::{is_count_alone, is_ok_to_the_end};
@@ -13,6 +14,7 @@ use std::test::Fail;
 use test_support::facts::all_hold;
 use test_support::fields::{gives, is_written};
 use test_support::fixture::Heap;
+use utility::are_commands;
 use values::{are_refused, are_values};
 
 /// Whether a packet is written as a payload, whichever request for memory is refused, and read from
@@ -31,7 +33,7 @@ where
     is_written & gives::<T, C, Global>(alloc, ctx, payload, &packet, 0)
 }
 
-fn are_packets(heap: &Heap, alloc: Global) -> [bool; 7] {
+fn are_packets(heap: &Heap, alloc: Global) -> [bool; 8] {
     [
         is_ok_to_the_end(heap, alloc),
         is_count_alone(heap, alloc),
@@ -40,6 +42,7 @@ fn are_packets(heap: &Heap, alloc: Global) -> [bool; 7] {
         is_read_through(alloc),
         are_values(heap, alloc),
         are_refused(alloc),
+        are_commands(heap, alloc),
     ]
 }
 
