@@ -7,6 +7,8 @@ use mysql_wire_queries::com_ping::ComPing;
 use mysql_wire_queries::com_query::ComQuery;
 use mysql_wire_queries::com_query_attributes::ComQueryWithAttributes;
 use mysql_wire_queries::com_quit::ComQuit;
+use mysql_wire_utility::com_set_option::ComSetOption;
+use mysql_wire_utility::com_statistics::{ComStatistics, StatisticsText};
 
 impl Shown for ComQuit {
     fn show(&self, fields: &mut Fields) {
@@ -58,5 +60,23 @@ impl Shown for ComChangeUser<'_> {
             text_if(&self.auth_plugin_name),
             texts_if(&self.connect_attrs),
         ]);
+    }
+}
+
+impl Shown for ComSetOption {
+    fn show(&self, fields: &mut Fields) {
+        fields.put_all(&[Field::Number(0x1b), Field::Number(self.operation as u64)]);
+    }
+}
+
+impl Shown for ComStatistics {
+    fn show(&self, fields: &mut Fields) {
+        fields.put(Field::Number(0x09));
+    }
+}
+
+impl Shown for StatisticsText<'_> {
+    fn show(&self, fields: &mut Fields) {
+        fields.put(Field::Text(self.text.as_bytes()));
     }
 }

@@ -18,6 +18,8 @@ use mysql_wire_statements::binary_row::BinaryRow;
 use mysql_wire_statements::com_stmt_fetch::ComStmtFetch;
 use mysql_wire_statements::com_stmt_prepare::ComStmtPrepare;
 use mysql_wire_statements::prepare_answer::PrepareAnswer;
+use mysql_wire_utility::com_set_option::ComSetOption;
+use mysql_wire_utility::com_statistics::{ComStatistics, StatisticsText};
 use std::alloc::Global;
 use wire_const::{CapabilityFlags, ColumnType, Flags, MariadbCapabilities, StatusFlags};
 use wire_field::converted::RawConst;
@@ -94,7 +96,7 @@ impl Session {
             }
             Place::Statistics => {
                 self.place = Place::Command;
-                Found::passed_over(Kind::Statistics, payload)
+                Found::exact::<StatisticsText<'_>>(alloc, Kind::Statistics, (), payload)
             }
             Place::Rows if self.is_binary => self.binary_row(alloc, payload),
             Place::Rows => self.row(alloc, payload),
@@ -175,7 +177,7 @@ impl Session {
         }
     }
 
-    // The commands of prepared statements, and those for which there is no type.
+    // The commands of prepared statements, and those of the server.
     fn other_command(&mut self, alloc: Global, header: u8, payload: Payload<'_>) -> Found {
         match header {
             0x16 => {
@@ -202,11 +204,11 @@ impl Session {
             }
             0x1b => {
                 self.place = Place::Option;
-                Found::passed_over(Kind::SetOption, payload)
+                Found::exact::<ComSetOption>(alloc, Kind::SetOption, (), payload)
             }
             0x09 => {
                 self.place = Place::Statistics;
-                Found::passed_over(Kind::Statistics, payload)
+                Found::exact::<ComStatistics>(alloc, Kind::Statistics, (), payload)
             }
             _ => Found::refused(Kind::Unexpected, payload),
         }
