@@ -5,28 +5,30 @@ use Rattle.std.proofs.lemmas.Bool.{cases_lt, cond_above, cond_below}
 use Rattle.std.specs.Io.KnownBytes.{Appends, Consumes}
 use Rattle.std.proofs.lemmas.Grind.{flat_map-append}
 use Rattle.std.proofs.lemmas.List.Elements.{All-append, All-cons, All-nil}
-use Rattle.wire_codec.specs.Framing.{next_id}
 use Rattle.wire_span.specs.Spans.{span_state}
 use Rattle.mysql_wire_dump.specs.declared.dump.Dump.{Dump}
 use Rattle.mysql_wire_dump_lines.specs.declared.options.Options.{Options}
 use Rattle.mysql_wire_dump_lines.specs.declared.options.Sides.{Sides}
-use Rattle.mysql_wire_dump_lines.specs.declared.kind.Kind.{Kind}
-use Rattle.mysql_wire_dump_lines.specs.declared.kind.Kind.TheVariants.{TooLarge}
+use Rattle.mysql_wire_session.specs.declared.packet_kind.PacketKind.{PacketKind}
+use Rattle.mysql_wire_session.specs.declared.packet_kind.PacketKind.TheVariants.{TooLarge}
 use Rattle.mysql_wire_dump_lines.specs.declared.lines.LineForm.{LineForm}
 use Rattle.mysql_wire_dump_lines.specs.declared.lines.Seen.{Seen}
-use Rattle.mysql_wire_dump_lines.specs.declared.place.Place.{Place}
-use Rattle.mysql_wire_dump_lines.specs.declared.place.Place.TheVariants as place
-use Rattle.mysql_wire_dump_lines.specs.declared.side.Side.{Side}
-use Rattle.mysql_wire_dump_lines.specs.declared.side.Side.TheVariants.{Client, Server}
+use Rattle.mysql_wire_session.specs.declared.phase.Phase.{Phase}
+use Rattle.mysql_wire_session.specs.declared.phase.Phase.TheVariants as phase
+use Rattle.mysql_wire_session.specs.declared.side.Side.{Side}
+use Rattle.mysql_wire_session.specs.declared.side.Side.TheVariants.{Client, Server}
 use Rattle.mysql_wire_dump_lines.specs.declared.source.End.{End}
 use Rattle.mysql_wire_dump_lines.specs.declared.source.End.TheVariants.{Encrypted}
 use Rattle.mysql_wire_dump_lines.specs.declared.source.Next.{Next}
 use Rattle.mysql_wire_dump_lines.specs.declared.source.Next.TheVariants.{Unread, Packet, Ended}
 use Rattle.mysql_wire_dump_lines.specs.declared.source.Source.{Source}
-use Rattle.mysql_wire_dump.specs.Dumped.{AreShown, AreVisible, HidesAt, field_form, Dumps, InOrder, IsShown, Shown, SideEnds, ending_lines, first_of, is_of, known_after, known_behind, known_but_id, lines_of, packets_of, status_of}
+use Rattle.mysql_wire_dump.specs.Dumped.{AreShown, AreVisible, HidesAt, field_form, Dumps, InOrder, IsShown, Shown, SideEnds, ending_lines, first_of, is_of, known_after, known_behind, lines_of, packets_of, status_of}
 use Rattle.mysql_wire_dump.specs.Dumping.{Dumping, Goes, Going, IsLooked, IsTurn, NamesOne, PassesOver, Pends, Shows, ShowsAll, SoFar, StartsDump, id_behind}
-use Rattle.mysql_wire_dump.specs.Known.{Known, known_of, nothing_known}
-use Rattle.mysql_wire_dump_fields.specs.Packets as packet
+use Rattle.mysql_wire_session.specs.State.{SessionState, state_of, initial_state}
+use Rattle.mysql_wire_session.specs.Advance.{id_after}
+use Rattle.mysql_wire_session.specs.Readings.{passed}
+use Rattle.mysql_wire_session.specs.declared.packet.Packet.{Packet as AnyPacket}
+use Rattle.mysql_wire_session.specs.declared.packet.Packet.TheVariants as packet
 use Rattle.mysql_wire_dump_lines.specs.Lines.{bytes_part, line_end, packet_front, packet_line}
 use Rattle.mysql_wire_dump_lines.specs.Sources.{AtEnd, HasPacket, Stands, StandsNext, collected, id_of}
 use Rattle.mysql_wire_dump_lines.proofs.SourceLemmas.{consumes_none}
@@ -53,17 +55,17 @@ first_of_more side (first ∷ shown) others behind =
       | false ↦ rest
     ]
 
-pub id_behind_more : (next : ℕ) (shown : List Shown) (one : Shown) → id_behind next (shown ++ one ∷ []) ≡ next_id one.seen.id one.payload
+pub id_behind_more : (next : ℕ) (shown : List Shown) (one : Shown) → id_behind next (shown ++ one ∷ []) ≡ id_after one.seen.id (length one.payload)
 id_behind_more next [] one = refl
-id_behind_more next (first ∷ shown) one = id_behind_more (next_id first.seen.id first.payload) shown one
+id_behind_more next (first ∷ shown) one = id_behind_more (id_after first.seen.id (length first.payload)) shown one
 
-pub known_after_more : (options : Options) (known : Known) (shown : List Shown) (one : Shown)
+pub known_after_more : (options : Options) (known : SessionState) (shown : List Shown) (one : Shown)
     → known_after options known (shown ++ one ∷ []) ≡ known_behind options one
 known_after_more options known [] one = refl
 known_after_more options known (first ∷ shown) one = known_after_more options (known_behind options first) shown one
 
 -- one packet more is shown, where this is known behind those before it
-pub shown_more : (options : Options) (known : Known) (shown : List Shown) (one : Shown) → AreShown options known shown
+pub shown_more : (options : Options) (known : SessionState) (shown : List Shown) (one : Shown) → AreShown options known shown
     → one.at ≡ known_after options known shown → IsShown options one → AreShown options known (shown ++ one ∷ [])
 shown_more options known [] one are at is = (at, is, tt)
 shown_more options known (first ∷ shown) one are at is =
@@ -71,17 +73,17 @@ shown_more options known (first ∷ shown) one are at is =
 
 -- one packet more, whose turn it is
 pub in_order_more : (next : ℕ) (shown : List Shown) (one : Shown) (client server client_next server_next : Option ℕ)
-    → InOrder next shown client server → turn one.at.place (id_behind next shown) client server ≡ Some one.seen.side
+    → InOrder next shown client server → turn one.at.phase (id_behind next shown) client server ≡ Some one.seen.side
     → first_of Client (one ∷ []) client_next ≡ client → first_of Server (one ∷ []) server_next ≡ server
     → InOrder next (shown ++ one ∷ []) client_next server_next
 in_order_more next [] one client server client_next server_next ordered is_turn client_is server_is =
-    (ap₂ (λ (c s : Option ℕ). turn one.at.place next c s) client_is server_is ∙ is_turn, tt)
+    (ap₂ (λ (c s : Option ℕ). turn one.at.phase next c s) client_is server_is ∙ is_turn, tt)
 in_order_more next (first ∷ shown) one client server client_next server_next ordered is_turn client_is server_is = (
-  ap₂ (λ (c s : Option ℕ). turn first.at.place next c s)
+  ap₂ (λ (c s : Option ℕ). turn first.at.phase next c s)
       (first_of_more Client (first ∷ shown) (one ∷ []) client_next ∙ ap (λ (c : Option ℕ). first_of Client (first ∷ shown) c) client_is)
       (first_of_more Server (first ∷ shown) (one ∷ []) server_next ∙ ap (λ (s : Option ℕ). first_of Server (first ∷ shown) s) server_is)
       ∙ ordered.0,
-  in_order_more (next_id first.seen.id first.payload) shown one client server client_next server_next ordered.1 is_turn client_is server_is,
+  in_order_more (id_after first.seen.id (length first.payload)) shown one client server client_next server_next ordered.1 is_turn client_is server_is,
 )
 
 -- what stands next, where it was looked at
@@ -108,32 +110,33 @@ pub same_line : (form : LineForm) (seen : Seen) (shown payload fields : List ℕ
 same_line form seen shown payload fields limit same large =
     elim (cases_lt limit seen.len) [
       | inl above ↦ ap (λ (z : List ℕ). packet_front form seen ++ z ++ fields ++ line_end form)
-          (ap (λ (k : Kind). bytes_part form k shown) (large above) ∙ sym (ap (λ (k : Kind). bytes_part form k payload) (large above)))
+          (ap (λ (k : PacketKind). bytes_part form k shown) (large above) ∙ sym (ap (λ (k : PacketKind). bytes_part form k payload) (large above)))
       | inr within ↦ ap (λ (z : List ℕ). packet_line form seen z fields) (same within)
     ]
 
 -- a packet that was named and read, or passed over, as it is shown, and what is known behind it
-abbrev shown_as : Seen → List ℕ → List ℕ → Known → packet.Packet → Shown
+abbrev shown_as : Seen → List ℕ → List ℕ → SessionState → AnyPacket → Shown
 shown_as seen payload fields known one =
     record { seen = seen; payload = payload; packet = one; fields = fields; at = known }
 
-one_told : (options : Options) (seen : Seen) (payload held fields : List ℕ) (known next : Known) (limit : ℕ) → limit ≡ options.limit
+one_told : (options : Options) (seen : Seen) (payload held fields : List ℕ) (known next : SessionState) (limit : ℕ) → limit ≡ options.limit
     → seen.len ≡ length payload → (seen.len ≤ limit → held ≡ payload)
-    → (limit < seen.len → PassesOver (field_form options) seen.side seen.id known next fields seen.kind)
+    → (limit < seen.len → PassesOver (field_form options) seen.side seen.id seen.len known next fields seen.kind)
     → (seen.len ≤ limit → NamesOne (field_form options) seen.side seen.id held known next fields seen.kind)
-    → (one : packet.Packet) × IsShown options (shown_as seen payload fields known one)
-    × (next ≡ known_but_id options (shown_as seen payload fields known one))
+    → (one : AnyPacket) × IsShown options (shown_as seen payload fields known one)
+    × (next ≡ known_behind options (shown_as seen payload fields known one))
+    × (next.next_id ≡ id_after seen.id (length payload))
 one_told options seen payload held fields known next limit limit_is len_is held_is large named =
     elim (cases_lt limit seen.len) [
       | inl above ↦ (let over = large above in (
-        packet.Nothing,
+        packet.TooLarge,
         record {
           len = len_is;
-          large = λ is. (over.0, refl);
+          large = λ is. (refl, over.1);
           reads = λ within. absurd (omega (arith, len_is, limit_is, above, within));
-          fields = over.2;
         },
-        over.1 ∙ cond_below options.limit (length payload) _ _ (omega (arith, len_is, limit_is, above)),
+        over.0 ∙ ap (λ (n : ℕ). passed seen.side seen.id n known) len_is ∙ cond_below options.limit (length payload) _ _ (omega (arith, len_is, limit_is, above)),
+        ap (λ (k : SessionState). k.next_id) over.0 ∙ ap (λ (n : ℕ). id_after seen.id n) len_is,
       ))
       | inr within ↦ (let one : NamesOne (field_form options) seen.side seen.id payload known next fields seen.kind =
           subst (λ (bytes : List ℕ). NamesOne (field_form options) seen.side seen.id bytes known next fields seen.kind) (held_is within) (named within) in (
@@ -141,21 +144,21 @@ one_told options seen payload held fields known next limit limit_is len_is held_
             record {
               len = len_is;
               large = λ above. absurd (omega (arith, len_is, limit_is, above, within));
-              reads = λ below. one.reads;
-              fields = one.fields_are;
+              reads = λ below. (one.reads, one.fields_are);
             },
             cond_above options.limit (length payload) _ _ next (omega (arith, len_is, limit_is, within)) one.goes_on,
+            ap (λ (k : SessionState). k.next_id) one.goes_on,
           ))
     ]
 
 -- the client's next packet is shown
-pub client_shown : {A : Type 0} (old new : Dump A) (middle : Known) (id : ℕ) (kind : Kind) (bytes fields : List ℕ) → old.client.next ≡ Packet id
-    → (old.client.limit < old.client.len → PassesOver (field_form old.options) Client id (known_of old.session) middle fields kind)
+pub client_shown : {A : Type 0} (old new : Dump A) (middle : SessionState) (id : ℕ) (kind : PacketKind) (bytes fields : List ℕ) → old.client.next ≡ Packet id
+    → (old.client.limit < old.client.len → PassesOver (field_form old.options) Client id old.client.len (state_of old.session) middle fields kind)
     → (old.client.len ≤ old.client.limit
-    → NamesOne (field_form old.options) Client id old.client.held.items (known_of old.session) middle fields kind)
+    → NamesOne (field_form old.options) Client id old.client.held.items (state_of old.session) middle fields kind)
     → (old.client.len ≤ old.client.limit → bytes ≡ old.client.held.items)
     → string_bytes new.text ≡ string_bytes old.text ++ packet_line old.options.form (record { side = Client; id = id; len = old.client.len; kind = kind }) bytes fields
-    → known_of new.session ≡ record middle { next_id = (span_state old.client.decoder).id } → new.options ≡ old.options → new.server ≡ old.server
+    → state_of new.session ≡ middle → new.options ≡ old.options → new.server ≡ old.server
     → new.client.limit ≡ old.client.limit
     → ((packets : List (ℕ × List ℕ)) (came : List ℕ) (number : ℕ) → old.client.next ≡ Packet number → (stands : Stands packets came old.client)
     → (payload : List ℕ) × HasPacket number payload stands.begun (collected old.client) × Stands (packets ++ (number, payload) ∷ []) came new.client)
@@ -167,43 +170,43 @@ client_shown {A = A} old new middle id kind bytes fields is large named same tex
     let has = pass.1 in
     let seen : Seen = record { side = Client; id = id; len = old.client.len; kind = kind } in
     let limit_is : old.client.limit ≡ old.options.limit = dumping.client_limit in
-    let it = one_told old.options seen payload old.client.held.items fields (known_of old.session) middle old.client.limit limit_is has.len has.held large named in
-    let one : Shown = shown_as seen payload fields (known_of old.session) it.0 in
+    let it = one_told old.options seen payload old.client.held.items fields (state_of old.session) middle old.client.limit limit_is has.len has.held large named in
+    let one : Shown = shown_as seen payload fields (state_of old.session) it.0 in
     let here : Pends old.client.next (Some id) = subst (λ (n : Next). Pends n (Some id)) (sym is) refl in
-    let turn_is : turn old.session.place (id_behind 0 shown) (Some id) (id_of old.server.next) ≡ Some Client =
-    ap₂ (λ (n : ℕ) (c : Option ℕ). turn old.session.place n c (id_of old.server.next)) (sym dumping.behind) (sym (ap id_of is)) ∙ is_turn in
+    let turn_is : turn old.session.phase (id_behind 0 shown) (Some id) (id_of old.server.next) ≡ Some Client =
+    ap₂ (λ (n : ℕ) (c : Option ℕ). turn old.session.phase n c (id_of old.server.next)) (sym dumping.behind) (sym (ap id_of is)) ∙ is_turn in
     let other_is : (number : Option ℕ) → Pends new.server.next number → number ≡ id_of old.server.next =
     λ number pends. pends_is old.server.next number looked.1 (subst (λ (source : Source A). Pends source.next number) other_same pends) in (
       one,
       record {
-        are_shown = subst (λ (o : Options). AreShown o nothing_known (shown ++ one ∷ [])) (sym options)
-            (shown_more old.options nothing_known shown one dumping.are_shown dumping.known it.1);
-        known = subst (λ (o : Options). known_of new.session ≡ known_after o nothing_known (shown ++ one ∷ [])) (sym options)
-            (known_is ∙ ap₂ (λ (k : Known) (n : ℕ). record k { next_id = n }) it.2 has.behind ∙ sym (known_after_more old.options nothing_known shown one));
+        are_shown = subst (λ (o : Options). AreShown o initial_state (shown ++ one ∷ [])) (sym options)
+            (shown_more old.options initial_state shown one dumping.are_shown dumping.known it.1);
+        known = subst (λ (o : Options). state_of new.session ≡ known_after o initial_state (shown ++ one ∷ [])) (sym options)
+            (known_is ∙ it.2 ∙ sym (known_after_more old.options initial_state shown one));
         clients = subst (λ (z : List (ℕ × List ℕ)). Stands z client new.client) (sym (packets_of_more Client shown one)) pass.2;
         servers = subst (λ (source : Source A). Stands (packets_of Server (shown ++ one ∷ [])) server source) (sym other_same)
             (subst (λ (z : List (ℕ × List ℕ)). Stands z server old.server) (sym (packets_of_more Server shown one ∙ append-nil (packets_of Server shown))) dumping.servers);
         client_limit = limit ∙ limit_is ∙ ap (λ (o : Options). o.limit) (sym options);
         server_limit = ap (λ (source : Source A). source.limit) other_same ∙ dumping.server_limit ∙ ap (λ (o : Options). o.limit) (sym options);
-        behind = ap (λ (k : Known). k.next_id) known_is ∙ has.behind ∙ sym (id_behind_more 0 shown one);
+        behind = ap (λ (k : SessionState). k.next_id) known_is ∙ it.3 ∙ sym (id_behind_more 0 shown one);
         ordered = λ client_next server_next client_pends server_pends.
             in_order_more 0 shown one (Some id) (id_of old.server.next) client_next server_next (dumping.ordered (Some id) (id_of old.server.next) here (pends_so old.server.next)) turn_is refl (other_is server_next server_pends);
         lines = ap (λ (z : List ℕ). written ++ z) text ∙ sym (append_assoc written (string_bytes old.text) (packet_line old.options.form seen bytes fields))
             ∙ ap (λ (z : List ℕ). z ++ packet_line old.options.form seen bytes fields) dumping.lines
             ∙ ap (λ (z : List ℕ). lines_of old.options.form shown ++ z)
-            (same_line old.options.form seen bytes payload fields old.client.limit (λ within. same within ∙ has.held within) (λ above. (large above).0))
+            (same_line old.options.form seen bytes payload fields old.client.limit (λ within. same within ∙ has.held within) (λ above. (large above).1.has.0))
             ∙ sym (lines_of_more old.options.form shown one) ∙ ap (λ (o : Options). lines_of o.form (shown ++ one ∷ [])) (sym options);
       },
     )
 
 -- the server's next packet is shown
-pub server_shown : {A : Type 0} (old new : Dump A) (middle : Known) (id : ℕ) (kind : Kind) (bytes fields : List ℕ) → old.server.next ≡ Packet id
-    → (old.server.limit < old.server.len → PassesOver (field_form old.options) Server id (known_of old.session) middle fields kind)
+pub server_shown : {A : Type 0} (old new : Dump A) (middle : SessionState) (id : ℕ) (kind : PacketKind) (bytes fields : List ℕ) → old.server.next ≡ Packet id
+    → (old.server.limit < old.server.len → PassesOver (field_form old.options) Server id old.server.len (state_of old.session) middle fields kind)
     → (old.server.len ≤ old.server.limit
-    → NamesOne (field_form old.options) Server id old.server.held.items (known_of old.session) middle fields kind)
+    → NamesOne (field_form old.options) Server id old.server.held.items (state_of old.session) middle fields kind)
     → (old.server.len ≤ old.server.limit → bytes ≡ old.server.held.items)
     → string_bytes new.text ≡ string_bytes old.text ++ packet_line old.options.form (record { side = Server; id = id; len = old.server.len; kind = kind }) bytes fields
-    → known_of new.session ≡ record middle { next_id = (span_state old.server.decoder).id } → new.options ≡ old.options → new.client ≡ old.client
+    → state_of new.session ≡ middle → new.options ≡ old.options → new.client ≡ old.client
     → new.server.limit ≡ old.server.limit
     → ((packets : List (ℕ × List ℕ)) (came : List ℕ) (number : ℕ) → old.server.next ≡ Packet number → (stands : Stands packets came old.server)
     → (payload : List ℕ) × HasPacket number payload stands.begun (collected old.server) × Stands (packets ++ (number, payload) ∷ []) came new.server)
@@ -215,31 +218,31 @@ server_shown {A = A} old new middle id kind bytes fields is large named same tex
     let has = pass.1 in
     let seen : Seen = record { side = Server; id = id; len = old.server.len; kind = kind } in
     let limit_is : old.server.limit ≡ old.options.limit = dumping.server_limit in
-    let it = one_told old.options seen payload old.server.held.items fields (known_of old.session) middle old.server.limit limit_is has.len has.held large named in
-    let one : Shown = shown_as seen payload fields (known_of old.session) it.0 in
+    let it = one_told old.options seen payload old.server.held.items fields (state_of old.session) middle old.server.limit limit_is has.len has.held large named in
+    let one : Shown = shown_as seen payload fields (state_of old.session) it.0 in
     let here : Pends old.server.next (Some id) = subst (λ (n : Next). Pends n (Some id)) (sym is) refl in
-    let turn_is : turn old.session.place (id_behind 0 shown) (id_of old.client.next) (Some id) ≡ Some Server =
-    ap₂ (λ (n : ℕ) (c : Option ℕ). turn old.session.place n (id_of old.client.next) c) (sym dumping.behind) (sym (ap id_of is)) ∙ is_turn in
+    let turn_is : turn old.session.phase (id_behind 0 shown) (id_of old.client.next) (Some id) ≡ Some Server =
+    ap₂ (λ (n : ℕ) (c : Option ℕ). turn old.session.phase n (id_of old.client.next) c) (sym dumping.behind) (sym (ap id_of is)) ∙ is_turn in
     let other_is : (number : Option ℕ) → Pends new.client.next number → number ≡ id_of old.client.next =
     λ number pends. pends_is old.client.next number looked.0 (subst (λ (source : Source A). Pends source.next number) other_same pends) in (
       one,
       record {
-        are_shown = subst (λ (o : Options). AreShown o nothing_known (shown ++ one ∷ [])) (sym options)
-            (shown_more old.options nothing_known shown one dumping.are_shown dumping.known it.1);
-        known = subst (λ (o : Options). known_of new.session ≡ known_after o nothing_known (shown ++ one ∷ [])) (sym options)
-            (known_is ∙ ap₂ (λ (k : Known) (n : ℕ). record k { next_id = n }) it.2 has.behind ∙ sym (known_after_more old.options nothing_known shown one));
+        are_shown = subst (λ (o : Options). AreShown o initial_state (shown ++ one ∷ [])) (sym options)
+            (shown_more old.options initial_state shown one dumping.are_shown dumping.known it.1);
+        known = subst (λ (o : Options). state_of new.session ≡ known_after o initial_state (shown ++ one ∷ [])) (sym options)
+            (known_is ∙ it.2 ∙ sym (known_after_more old.options initial_state shown one));
         servers = subst (λ (z : List (ℕ × List ℕ)). Stands z server new.server) (sym (packets_of_more Server shown one)) pass.2;
         clients = subst (λ (source : Source A). Stands (packets_of Client (shown ++ one ∷ [])) client source) (sym other_same)
             (subst (λ (z : List (ℕ × List ℕ)). Stands z client old.client) (sym (packets_of_more Client shown one ∙ append-nil (packets_of Client shown))) dumping.clients);
         server_limit = limit ∙ limit_is ∙ ap (λ (o : Options). o.limit) (sym options);
         client_limit = ap (λ (source : Source A). source.limit) other_same ∙ dumping.client_limit ∙ ap (λ (o : Options). o.limit) (sym options);
-        behind = ap (λ (k : Known). k.next_id) known_is ∙ has.behind ∙ sym (id_behind_more 0 shown one);
+        behind = ap (λ (k : SessionState). k.next_id) known_is ∙ it.3 ∙ sym (id_behind_more 0 shown one);
         ordered = λ client_next server_next client_pends server_pends.
             in_order_more 0 shown one (id_of old.client.next) (Some id) client_next server_next (dumping.ordered (id_of old.client.next) (Some id) (pends_so old.client.next) here) turn_is (other_is client_next client_pends) refl;
         lines = ap (λ (z : List ℕ). written ++ z) text ∙ sym (append_assoc written (string_bytes old.text) (packet_line old.options.form seen bytes fields))
             ∙ ap (λ (z : List ℕ). z ++ packet_line old.options.form seen bytes fields) dumping.lines
             ∙ ap (λ (z : List ℕ). lines_of old.options.form shown ++ z)
-            (same_line old.options.form seen bytes payload fields old.server.limit (λ within. same within ∙ has.held within) (λ above. (large above).0))
+            (same_line old.options.form seen bytes payload fields old.server.limit (λ within. same within ∙ has.held within) (λ above. (large above).1.has.0))
             ∙ sym (lines_of_more old.options.form shown one) ∙ ap (λ (o : Options). lines_of o.form (shown ++ one ∷ [])) (sym options);
       },
     )
@@ -253,7 +256,7 @@ appends_none (Some bytes) = sym (append-nil bytes)
 pub unread_seen : (next : Next) → next ≡ Unread → next ≡ Ended Encrypted → ⊥
 unread_seen next is hidden = (let e = sym is ∙ hidden in cc)
 
-greeting_open : place.Greeting ≡ place.Encrypted → ⊥
+greeting_open : phase.Greeting ≡ phase.Encrypted → ⊥
 greeting_open same = cc
 
 pub begins_so : {A : Type 0} (options : Options) (dump : Dump A) (client server written : Option (List ℕ)) → StartsDump options dump
@@ -268,13 +271,13 @@ begins_so options dump client server written starts = record {
     server_consumed = consumes_none server;
     appended = appends_none written;
     dumping = starts.dumps;
-    visible = All-nil (λ (one : Shown). one.at.place ≢ place.Encrypted);
+    visible = All-nil (λ (one : Shown). one.at.phase ≢ phase.Encrypted);
     client_seen = λ is. unread_seen _ starts.client_next is;
     server_seen = λ is. unread_seen _ starts.server_next is;
     client_end = subst (λ (n : Next). AtEnd n client) (sym starts.client_next) tt;
     server_end = subst (λ (n : Next). AtEnd n server) (sym starts.server_next) tt;
   };
-  is_open = λ is. greeting_open (sym (ap (λ (k : Known). k.place) starts.dumps.known) ∙ is);
+  is_open = λ is. greeting_open (sym (ap (λ (k : SessionState). k.phase) starts.dumps.known) ∙ is);
 }
 
 -- what was looked at stays
@@ -374,24 +377,24 @@ both_looked dump client_source server_source client client_left client_now serve
     server_looks server_kept server_ended server_seen server_limit
 
 -- what was known at the last of these
-last_at : (options : Options) (known : Known) (shown : List Shown) (one : Shown) → AreShown options known (shown ++ one ∷ []) → one.at ≡ known_after options known shown
+last_at : (options : Options) (known : SessionState) (shown : List Shown) (one : Shown) → AreShown options known (shown ++ one ∷ []) → one.at ≡ known_after options known shown
 last_at options known [] one are = are.0
 last_at options known (first ∷ shown) one are = last_at options (known_behind options first) shown one are.2
 
-visible_more : (shown : List Shown) (one : Shown) → AreVisible shown → one.at.place ≢ place.Encrypted → AreVisible (shown ++ one ∷ [])
+visible_more : (shown : List Shown) (one : Shown) → AreVisible shown → one.at.phase ≢ phase.Encrypted → AreVisible (shown ++ one ∷ [])
 visible_more shown one are is =
-    let P : Shown → Type 0 = λ any. any.at.place ≢ place.Encrypted in
+    let P : Shown → Type 0 = λ any. any.at.phase ≢ phase.Encrypted in
     All-append P shown (one ∷ []) are (All-cons P one [] is (All-nil P))
 
 -- a packet was shown
 pub one_shown : {A : Type 0} (side : Side) (old new : Dump A) (client client_left server server_left written now : Option (List ℕ))
-    → SoFar old client client_left server server_left written now → old.session.place ≢ place.Encrypted → Shows side old new → IsTurn side old → IsLooked old
+    → SoFar old client client_left server server_left written now → old.session.phase ≢ phase.Encrypted → Shows side old new → IsTurn side old → IsLooked old
     → SoFar new client client_left server server_left written now
 one_shown side old new client client_left server server_left written now so_far is_open shows is_turn looked =
     let more = shows.more so_far.shown so_far.of_client so_far.of_server so_far.text so_far.dumping is_turn looked in
-    let here : more.0.at ≡ known_of old.session =
-    last_at new.options nothing_known so_far.shown more.0 more.1.are_shown
-    ∙ ap (λ (o : Options). known_after o nothing_known so_far.shown) shows.options_are ∙ sym so_far.dumping.known in
+    let here : more.0.at ≡ state_of old.session =
+    last_at new.options initial_state so_far.shown more.0 more.1.are_shown
+    ∙ ap (λ (o : Options). known_after o initial_state so_far.shown) shows.options_are ∙ sym so_far.dumping.known in
     record {
       shown = so_far.shown ++ more.0 ∷ [];
       of_client = so_far.of_client;
@@ -401,7 +404,7 @@ one_shown side old new client client_left server server_left written now so_far 
       server_consumed = so_far.server_consumed;
       appended = so_far.appended;
       dumping = more.1;
-      visible = visible_more so_far.shown more.0 so_far.visible (λ is. is_open (sym (ap (λ (k : Known). k.place) here) ∙ is));
+      visible = visible_more so_far.shown more.0 so_far.visible (λ is. is_open (sym (ap (λ (k : SessionState). k.phase) here) ∙ is));
       client_seen = shows.client_seen so_far.client_seen;
       server_seen = shows.server_seen so_far.server_seen;
       client_end = shows.client_end client_left so_far.client_end;
@@ -443,7 +446,7 @@ much_written {A = A} old new part client client_left server server_left written 
 
 -- no packet is left
 pub none_left : {A : Type 0} (dump : Dump A) (client client_left server server_left written now : Option (List ℕ))
-    → SoFar dump client client_left server server_left written now → dump.session.place ≢ place.Encrypted → Pends dump.client.next None → Pends dump.server.next None
+    → SoFar dump client client_left server server_left written now → dump.session.phase ≢ phase.Encrypted → Pends dump.client.next None → Pends dump.server.next None
     → ShowsAll dump client client_left server server_left written now
 none_left dump client client_left server server_left written now so_far is_open client_none server_none =
     let was = so_far.dumping in
@@ -473,7 +476,7 @@ none_left dump client client_left server server_left written now so_far is_open 
 
 -- what is left is hidden
 pub rest_hidden : {A : Type 0} (dump : Dump A) (client_source server_source : Source A) (client client_left server server_left written now : Option (List ℕ))
-    → SoFar dump client client_left server server_left written now → dump.session.place ≡ place.Encrypted
+    → SoFar dump client client_left server server_left written now → dump.session.phase ≡ phase.Encrypted
     → ((packets : List (ℕ × List ℕ)) (came : List ℕ) → Stands packets came dump.client → Stands packets came client_source)
     → ((packets : List (ℕ × List ℕ)) (came : List ℕ) → Stands packets came dump.server → Stands packets came server_source)
     → client_source.next ≡ Ended Encrypted → server_source.next ≡ Ended Encrypted
@@ -508,7 +511,7 @@ some_none : (side : Side) → Some side ≡ None → ⊥
 some_none side same = cc
 
 -- where it is no side's turn, no packet stands next
-pub no_turn : (at : Place) (next : ℕ) (client server : Next) → turn at next (id_of client) (id_of server) ≡ None → client ≢ Unread → server ≢ Unread
+pub no_turn : (at : Phase) (next : ℕ) (client server : Next) → turn at next (id_of client) (id_of server) ≡ None → client ≢ Unread → server ≢ Unread
     → Pends client None × Pends server None
 no_turn at next Unread server none looked other_looked = absurd (looked refl)
 no_turn at next (Packet id) Unread none looked other_looked = absurd (other_looked refl)
@@ -546,7 +549,7 @@ ended_so : (end other : End) → Ended end ≡ Ended other → end ≡ other
 ended_so end other is = search (rules, is)
 
 -- a side that is hidden says so
-hides_at : (next : Next) (end : End) (at known : Place) → next ≡ Ended end → at ≡ known → (next ≡ Ended Encrypted) ↔ (at ≡ place.Encrypted) → HidesAt known end
+hides_at : (next : Next) (end : End) (at known : Phase) → next ≡ Ended end → at ≡ known → (next ≡ Ended Encrypted) ↔ (at ≡ phase.Encrypted) → HidesAt known end
 hides_at next end at known is same hides =
     ((λ hidden. sym same ∙ hides.0 (is ∙ ap (λ (e : End). Ended e) hidden)), (λ tls. ended_so end Encrypted (sym is ∙ hides.1 (same ∙ tls))))
 
@@ -559,8 +562,8 @@ pub dumps_all : {A : Type 0} (options : Options) (sides : Sides) (dump : Dump A)
     → Appends now later last → status ≡ status_of sides client_end server_end
     → Dumps options sides client client_left server server_left written later status
 dumps_all options sides dump client_end server_end last status client client_left server server_left written now later all options_are client_is server_is last_is appended status_is =
-    let known_is : known_of dump.session ≡ known_after options nothing_known all.shown =
-    all.known ∙ ap (λ (o : Options). known_after o nothing_known all.shown) options_are in
+    let known_is : state_of dump.session ≡ known_after options initial_state all.shown =
+    all.known ∙ ap (λ (o : Options). known_after o initial_state all.shown) options_are in
     let endings : ℕ → ℕ → List ℕ = λ client_at server_at. ending_lines options.form sides client_end client_at server_end server_at in
     record {
       of_client = all.of_client;
@@ -573,15 +576,15 @@ dumps_all options sides dump client_end server_end last status client client_lef
       appended = Appends-trans written now later all.text last all.appended appended;
       dumped = record {
         shown = all.shown;
-        are_shown = subst (λ (o : Options). AreShown o nothing_known all.shown) options_are all.are_shown;
+        are_shown = subst (λ (o : Options). AreShown o initial_state all.shown) options_are all.are_shown;
         clients = side_ends dump.client (packets_of Client all.shown) all.of_client client_end all.clients client_is;
         servers = side_ends dump.server (packets_of Server all.shown) all.of_server server_end all.servers server_is;
         client_next = all.client_next;
         server_next = all.server_next;
         ordered = all.ordered;
         visible = all.visible;
-        client_hides = hides_at dump.client.next client_end _ _ client_is (ap (λ (k : Known). k.place) known_is) all.client_hides;
-        server_hides = hides_at dump.server.next server_end _ _ server_is (ap (λ (k : Known). k.place) known_is) all.server_hides;
+        client_hides = hides_at dump.client.next client_end _ _ client_is (ap (λ (k : SessionState). k.phase) known_is) all.client_hides;
+        server_hides = hides_at dump.server.next server_end _ _ server_is (ap (λ (k : SessionState). k.phase) known_is) all.server_hides;
         none_left = elim all.none_left [
           | inl hidden ↦ inl (ended_so client_end Encrypted (sym client_is ∙ hidden))
           | inr none ↦ inr none

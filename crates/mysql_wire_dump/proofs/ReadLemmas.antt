@@ -1,42 +1,165 @@
 -- The fields of a packet as text.
-use Rattle.std.proofs.Common.{◌≡◌, ◌⊎◌, ◌∙◌, ℕ, inl, inr, List, [], refl, ap, Result, Ok, Err}
-use Rattle.std.specs.Prelude.{IfOk}
-use Rattle.mysql_wire_dump_lines.specs.declared.kind.Kind.{Kind}
-use Rattle.mysql_wire_dump_lines.specs.declared.kind.Kind.TheVariants.{Bytes, File, TooLarge}
-use Rattle.mysql_wire_dump_lines.specs.declared.fields.FieldForm.{FieldForm}
-use Rattle.mysql_wire_dump_lines.specs.declared.fields.FieldForm.TheVariants.{Hidden, Text, Json}
-use Rattle.mysql_wire_dump_lines.specs.declared.refusal.Refusal.{Refusal}
-use Rattle.mysql_wire_dump_lines.specs.declared.side.Side.{Side}
-use Rattle.mysql_wire_dump_lines.specs.declared.status.Stop.{Stop}
-use Rattle.mysql_wire_dump_lines.specs.Refusals.{refusal_of}
-use Rattle.mysql_wire_packets.specs.declared.places.PayloadError.{PayloadError}
-use Rattle.mysql_wire_dump_lines.specs.Fields.{Written, ended, nothing, puts}
-use Rattle.mysql_wire_dump_lines.proofs.FieldLemmas.{fields_text-is}
-use Rattle.mysql_wire_dump_fields.specs.Packets.{Nothing, Packet, PutsFields}
+use Rattle.std.proofs.Common.{◌≡◌, ◌∙◌, ℕ, List, [], length, refl, sym, ap, subst, inl, inr, ◌⊎◌, Result, Ok, Err}
+use Rattle.std.specs.Prelude.{IfOk, OnOk}
 use Rattle.mysql_wire_dump.specs.Dumped.{AreFields}
-use Rattle.mysql_wire_dump.specs.Dumping.{NamesOne, PassesOver}
-use Rattle.mysql_wire_dump.specs.GoingOn.{passed, went}
-use Rattle.mysql_wire_dump.specs.Known.{Known}
-use Rattle.mysql_wire_dump.specs.Readings.{IsRefused, Names, ReadsAs, Told}
+use Rattle.mysql_wire_dump.specs.Dumping.{NamesOne, PassesOver, Tells, TellsRow}
+use Rattle.mysql_wire_dump_fields.specs.Packets.{PutsPacket}
+use Rattle.mysql_wire_session.specs.Readings.{IsRowKind, ReadsAs, Receives, RowReads, advanced, after_kind, after_packet, kind_of, passed}
+use Rattle.mysql_wire_session.specs.Advance.{opened, without_eof}
+use Rattle.mysql_wire_session.specs.declared.packet.Row.{Row}
+use Rattle.mysql_wire_session.specs.declared.phase.Phase.{Phase}
+use Rattle.mysql_wire_session.specs.declared.phase.Phase.TheVariants as phase
+use Rattle.mysql_wire_dump_lines.specs.declared.status.Stop.{Stop}
+use Rattle.mysql_wire_session.specs.State.{SessionState}
+use Rattle.mysql_wire_session.specs.declared.packet.Packet.TheVariants as packet
+use Rattle.mysql_wire_session.specs.declared.packet.Received.{Received}
+use Rattle.mysql_wire_session.specs.declared.packet_kind.PacketKind.{PacketKind}
+use Rattle.mysql_wire_session.specs.declared.packet_kind.PacketKind.TheVariants.{TooLarge}
+use Rattle.mysql_wire_session.specs.declared.packet_kind.PacketKind.TheVariants as kind
+use Rattle.mysql_wire_session.specs.declared.side.Side.{Side}
+use Rattle.wire_text.proofs.FieldLemmas.{fields_text-is}
+use Rattle.wire_text.specs.Fields.{Written, ended, nothing, puts}
+use Rattle.wire_text.specs.declared.fields.FieldForm.{FieldForm}
+use Rattle.wire_text.specs.declared.fields.FieldForm.TheVariants.{Hidden, Text, Json}
 
 -- no fields were put
-no_fields : (form : FieldForm) (begun : Written) → begun ≡ nothing form → AreFields form Nothing begun.text
-no_fields Hidden begun is = record { members = []; has = refl; is = ap (λ (written : Written). written.text) is }
-no_fields Text begun is = record { members = []; has = refl; is = ap (λ (written : Written). written.text) is }
-no_fields Json begun is = record { members = []; has = refl; is = ap (λ (written : Written). written.text) is }
+no_fields : (form : FieldForm) (types : List ℕ) (begun : Written) → begun ≡ nothing form
+    → AreFields form types TooLarge packet.TooLarge TooLarge begun.text
+no_fields Hidden types begun is = record { members = []; has = (refl, refl); is = ap (λ (written : Written). written.text) is }
+no_fields Text types begun is = record { members = []; has = (refl, refl); is = ap (λ (written : Written). written.text) is }
+no_fields Json types begun is = record { members = []; has = (refl, refl); is = ap (λ (written : Written). written.text) is }
 
 -- a packet was passed over
-pub passed_over : (form : FieldForm) (side : Side) (id : ℕ) (known next : Known) (begun : Written) → begun ≡ nothing form
-    → next ≡ passed side id known → PassesOver form side id known next begun.text TooLarge
-passed_over form side id known next begun is goes_on = (refl, goes_on, no_fields form begun is)
+pub passed_over : (form : FieldForm) (side : Side) (id len : ℕ) (known next : SessionState) (begun : Written) → begun ≡ nothing form
+    → next ≡ passed side id len known → PassesOver form side id len known next begun.text TooLarge
+passed_over form side id len known next begun is goes_on = (goes_on, no_fields form known.types begun is)
+
+-- what is known after what came
+came_so : (side : Side) (id : ℕ) (payload : List ℕ) (known : SessionState) (received : Received) → Receives side id payload known received
+    → advanced received known ≡ after_packet side id (kind_of side id payload known) payload received.packet known
+came_so side id payload known received came =
+    ap (λ (s : Side). after_packet s received.id received.kind received.payload.now received.packet known) came.side_is
+    ∙ ap (λ (i : ℕ). after_packet side i received.kind received.payload.now received.packet known) came.id_is
+    ∙ ap (λ (k : PacketKind). after_packet side id k received.payload.now received.packet known) came.kind_is
+    ∙ ap (λ (p : List ℕ). after_packet side id (kind_of side id payload known) p received.packet known) came.payload_is
+
+-- a packet that came was read and shown
+pub came_and_shown : (side : Side) (id : ℕ) (payload : List ℕ) (known next : SessionState) (received : Received) (old new : Written) (result : Result PacketKind Stop)
+    → Receives side id payload known received → IfOk result (PutsPacket known.types received.kind received.packet old new) → OnOk result (next ≡ advanced received known)
+    → IfOk result (Tells side id payload known next old new)
+came_and_shown side id payload known next received old new (Ok named) came put goes_on = record {
+  packet = received.packet;
+  reads = came.reads;
+  puts = subst (λ (k : PacketKind). PutsPacket known.types k received.packet old new named) came.kind_is put;
+  goes_on = goes_on ∙ came_so side id payload known received came;
+}
+came_and_shown side id payload known next received old new (Err stop) came put goes_on = tt
+
+-- a row is read where no EOF stood before it as where one did
+text_opens : (at : Phase) (payload : List ℕ) (known : SessionState) (read : Row) → RowReads known kind.Row payload read
+    → RowReads (without_eof at known) kind.Row payload read
+text_opens phase.Greeting payload known read reads = reads
+text_opens phase.Login payload known read reads = reads
+text_opens phase.Authentication payload known read reads = reads
+text_opens phase.Command payload known read reads = reads
+text_opens phase.Answer payload known read reads = reads
+text_opens phase.PrepareAnswer payload known read reads = reads
+text_opens phase.OptionAnswer payload known read reads = reads
+text_opens phase.Statistics payload known read reads = reads
+text_opens phase.FieldList payload known read reads = reads
+text_opens phase.BinaryLog payload known read reads = reads
+text_opens (phase.Columns left following) payload known read reads = reads
+text_opens (phase.ColumnsEnd following) payload known read reads = reads
+text_opens phase.Rows payload known read reads = reads
+text_opens phase.File payload known read reads = reads
+text_opens phase.Closed payload known read reads = reads
+text_opens phase.Encrypted payload known read reads = reads
+
+binary_opens : (at : Phase) (payload : List ℕ) (known : SessionState) (read : Row) → RowReads known kind.BinaryRow payload read
+    → RowReads (without_eof at known) kind.BinaryRow payload read
+binary_opens phase.Greeting payload known read reads = reads
+binary_opens phase.Login payload known read reads = reads
+binary_opens phase.Authentication payload known read reads = reads
+binary_opens phase.Command payload known read reads = reads
+binary_opens phase.Answer payload known read reads = reads
+binary_opens phase.PrepareAnswer payload known read reads = reads
+binary_opens phase.OptionAnswer payload known read reads = reads
+binary_opens phase.Statistics payload known read reads = reads
+binary_opens phase.FieldList payload known read reads = reads
+binary_opens phase.BinaryLog payload known read reads = reads
+binary_opens (phase.Columns left following) payload known read reads = reads
+binary_opens (phase.ColumnsEnd following) payload known read reads = reads
+binary_opens phase.Rows payload known read reads = reads
+binary_opens phase.File payload known read reads = reads
+binary_opens phase.Closed payload known read reads = reads
+binary_opens phase.Encrypted payload known read reads = reads
+
+row_reads : (called : PacketKind) (payload : List ℕ) (known : SessionState) (read : Row) → IsRowKind called → RowReads known called payload read
+    → ReadsAs (opened called (length payload) known) called payload (packet.Row read)
+row_reads kind.Row payload known read is reads = (read, text_opens known.phase payload known read reads, refl)
+row_reads kind.BinaryRow payload known read is reads = (read, binary_opens known.phase payload known read reads, refl)
+row_reads kind.Greeting payload known read is reads = absurd is
+row_reads kind.TlsRequest payload known read is reads = absurd is
+row_reads kind.Login payload known read is reads = absurd is
+row_reads kind.AuthSwitch payload known read is reads = absurd is
+row_reads kind.AuthMoreData payload known read is reads = absurd is
+row_reads kind.AuthAnswer payload known read is reads = absurd is
+row_reads kind.Ok payload known read is reads = absurd is
+row_reads kind.Error payload known read is reads = absurd is
+row_reads kind.Progress payload known read is reads = absurd is
+row_reads kind.Eof payload known read is reads = absurd is
+row_reads kind.ColumnCount payload known read is reads = absurd is
+row_reads kind.Column payload known read is reads = absurd is
+row_reads kind.LocalInfile payload known read is reads = absurd is
+row_reads kind.File payload known read is reads = absurd is
+row_reads kind.Prepared payload known read is reads = absurd is
+row_reads kind.Statistics payload known read is reads = absurd is
+row_reads kind.BinaryLogEvent payload known read is reads = absurd is
+row_reads kind.Query payload known read is reads = absurd is
+row_reads kind.InitDatabase payload known read is reads = absurd is
+row_reads kind.Ping payload known read is reads = absurd is
+row_reads kind.Quit payload known read is reads = absurd is
+row_reads kind.ChangeUser payload known read is reads = absurd is
+row_reads kind.Prepare payload known read is reads = absurd is
+row_reads kind.Execute payload known read is reads = absurd is
+row_reads kind.LongData payload known read is reads = absurd is
+row_reads kind.CloseStatement payload known read is reads = absurd is
+row_reads kind.ResetStatement payload known read is reads = absurd is
+row_reads kind.Fetch payload known read is reads = absurd is
+row_reads kind.FieldList payload known read is reads = absurd is
+row_reads kind.SetOption payload known read is reads = absurd is
+row_reads kind.StatisticsRequest payload known read is reads = absurd is
+row_reads kind.ResetConnection payload known read is reads = absurd is
+row_reads kind.BinaryLogRequest payload known read is reads = absurd is
+row_reads kind.OtherCommand payload known read is reads = absurd is
+row_reads kind.TooLarge payload known read is reads = absurd is
+row_reads (kind.Refused refusal) payload known read is reads = absurd is
+
+-- one of both kinds of rows
+pub is_row : (called named : PacketKind) → called ≡ named → (called ≡ kind.Row) ⊎ (called ≡ kind.BinaryRow) → IsRowKind named
+is_row called named same (inl row) = subst (λ (k : PacketKind). IsRowKind k) (sym row ∙ same) tt
+is_row called named same (inr row) = subst (λ (k : PacketKind). IsRowKind k) (sym row ∙ same) tt
+
+-- a row that came was read and shown
+pub row_shown : (side : Side) (id : ℕ) (payload : List ℕ) (called : PacketKind) (known next : SessionState) (old new : Written) (result : Result PacketKind Stop)
+    → called ≡ kind_of side id payload known → IsRowKind called → IfOk result (TellsRow side id called payload known next old new)
+    → IfOk result (Tells side id payload known next old new)
+row_shown side id payload called known next old new (Err stop) called_so is told = tt
+row_shown side id payload called known next old new (Ok named) called_so is told = record {
+  packet = packet.Row told.row;
+  reads = subst (λ (k : PacketKind). ReadsAs (opened k (length payload) known) k payload (packet.Row told.row)) called_so
+      (row_reads called payload known told.row is told.reads);
+  puts = subst (λ (k : PacketKind). PutsPacket known.types k (packet.Row told.row) old new named) called_so
+      (record { members = told.puts.members; has = told.puts.has; puts = told.puts.puts });
+  goes_on = told.goes_on ∙ ap (λ (k : PacketKind). after_kind side id k (length payload) known) called_so;
+}
 
 -- one was read: its fields were begun, put and ended
-pub names_one : (form : FieldForm) (side : Side) (id : ℕ) (payload : List ℕ) (known next : Known) (named : Kind) (begun all new : Written)
-    → begun ≡ nothing form → Names side id payload known next begun all named → new ≡ ended all
-    → NamesOne form side id payload known next new.text named
+pub names_one : (form : FieldForm) (side : Side) (id : ℕ) (payload : List ℕ) (known next : SessionState) (named : PacketKind) (begun all new : Written)
+    → begun ≡ nothing form → Tells side id payload known next begun all named → new ≡ ended all → NamesOne form side id payload known next new.text named
 names_one form side id payload known next named begun all new begins told ends = record {
-  packet = told.shown;
-  reads = told.is;
+  packet = told.packet;
+  reads = told.reads;
   goes_on = told.goes_on;
   fields_are = record {
     members = told.puts.members;
@@ -46,37 +169,3 @@ names_one form side id payload known next named begun all new begins told ends =
         ∙ fields_text-is form told.puts.members);
   };
 }
-
--- nothing is put
-pub puts_none : (written : Written) → PutsFields Nothing written written
-puts_none written = record { members = []; has = refl; puts = record { are = refl } }
-
--- of what has no fields nothing is shown
-pub shows_nothing : (known : Known) (kind : Kind) (payload : List ℕ) → (kind ≡ File) ⊎ (kind ≡ TooLarge) ⊎ ((refusal : Refusal) × (kind ≡ Bytes refusal))
-    → ReadsAs known kind payload kind Nothing
-shows_nothing known kind payload (inl file) = rw file (refl, refl)
-shows_nothing known kind payload (inr (inl large)) = rw large (refl, refl)
-shows_nothing known kind payload (inr (inr (refusal, bytes))) = rw bytes (refl, refl)
-
--- its type refuses a payload, and nothing is put
-pub told_refused : {X : Type 0} (says : List ℕ → Kind → Packet → Type 0) (reads : List ℕ → Result X PayloadError → Type 0) (side : Side) (wanted : Kind)
-    (payload : List ℕ) (known next : Known) (written : Written) (error : PayloadError) (result : Result Kind Stop)
-    → ((named : Kind) (shown : Packet) → IsRefused (reads payload) named shown → says payload named shown)
-    → reads payload (Err error) → next ≡ went side wanted payload known
-    → IfOk result (λ named. (refusal : Refusal) × (refusal_of error ≡ Ok refusal) × (named ≡ Bytes refusal))
-    → IfOk result (Told says side wanted payload known next written written)
-told_refused says reads side wanted payload known next written error (Ok named) is read goes_on refused = record {
-  shown = Nothing;
-  is = is named Nothing (error, refused.0, read, refused.1, (refused.2, refl));
-  goes_on = goes_on;
-  puts = puts_none written;
-}
-told_refused says reads side wanted payload known next written error (Err stop) is read goes_on refused = tt
-
--- what is told by one reading is told by another
-pub told_by : (says other : List ℕ → Kind → Packet → Type 0) (side : Side) (wanted : Kind) (payload : List ℕ) (known next : Known) (old new : Written)
-    (result : Result Kind Stop) → ((named : Kind) (shown : Packet) → says payload named shown → other payload named shown)
-    → IfOk result (Told says side wanted payload known next old new) → IfOk result (Told other side wanted payload known next old new)
-told_by says other side wanted payload known next old new (Ok named) is told =
-    record { shown = told.shown; is = is named told.shown told.is; goes_on = told.goes_on; puts = told.puts }
-told_by says other side wanted payload known next old new (Err stop) is told = tt

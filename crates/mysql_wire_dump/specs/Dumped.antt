@@ -2,28 +2,29 @@
 use Rattle.std.specs.Io.KnownBytes.{Appends, Consumes}
 use Rattle.std.specs.List.{flat_map}
 use Rattle.std.specs.Prelude.{◌≡◌, ℕ, ◌<◌, ◌≤◌, ◌⊎◌, List, [], ◌∷◌, ◌++◌, length, nat_lt, ⊤, Bool, true, false, if◌then◌else◌, max, Option, Some, None, ◌≢◌, ◌↔◌, All}
-use Rattle.wire_codec.specs.Framing.{next_id}
 use Rattle.mysql_wire_dump_lines.specs.declared.options.Options.{Options}
 use Rattle.mysql_wire_dump_lines.specs.declared.options.Sides.{Sides}
 use Rattle.mysql_wire_dump_lines.specs.declared.options.Sides.TheVariants as sides
-use Rattle.mysql_wire_dump_lines.specs.declared.kind.Kind.{Kind}
-use Rattle.mysql_wire_dump_lines.specs.declared.kind.Kind.TheVariants.{TooLarge}
-use Rattle.mysql_wire_dump_lines.specs.declared.fields.FieldForm.{FieldForm}
-use Rattle.mysql_wire_dump_lines.specs.declared.fields.FieldForm.TheVariants.{Hidden, Text, Json}
+use Rattle.mysql_wire_session.specs.declared.packet_kind.PacketKind.{PacketKind}
+use Rattle.mysql_wire_session.specs.declared.packet_kind.PacketKind.TheVariants.{TooLarge}
+use Rattle.wire_text.specs.declared.fields.FieldForm.{FieldForm}
+use Rattle.wire_text.specs.declared.fields.FieldForm.TheVariants.{Hidden, Text, Json}
 use Rattle.mysql_wire_dump_lines.specs.declared.lines.LineForm.{LineForm}
 use Rattle.mysql_wire_dump_lines.specs.declared.lines.LineForm.TheVariants as line
 use Rattle.mysql_wire_dump_lines.specs.declared.lines.Seen.{Seen}
-use Rattle.mysql_wire_dump_lines.specs.declared.place.Place.{Place}
-use Rattle.mysql_wire_dump_lines.specs.declared.place.Place.TheVariants as place
-use Rattle.mysql_wire_dump_lines.specs.declared.side.Side.{Side}
-use Rattle.mysql_wire_dump_lines.specs.declared.side.Side.TheVariants.{Client, Server}
+use Rattle.mysql_wire_session.specs.declared.phase.Phase.{Phase}
+use Rattle.mysql_wire_session.specs.declared.phase.Phase.TheVariants as phase
+use Rattle.mysql_wire_session.specs.declared.side.Side.{Side}
+use Rattle.mysql_wire_session.specs.declared.side.Side.TheVariants.{Client, Server}
 use Rattle.mysql_wire_dump_lines.specs.declared.source.End.{End}
 use Rattle.mysql_wire_dump_lines.specs.declared.source.End.TheVariants.{Encrypted}
-use Rattle.mysql_wire_dump_fields.specs.Packets.{HasFields, Nothing, Packet}
-use Rattle.mysql_wire_dump.specs.GoingOn.{follow, passed, went}
-use Rattle.mysql_wire_dump.specs.Known.{Known, nothing_known}
-use Rattle.mysql_wire_dump.specs.Readings.{Is, ReadsAs, kind_of, opened_at}
-use Rattle.mysql_wire_dump_lines.specs.Fields.{Member, fields_text}
+use Rattle.mysql_wire_dump_fields.specs.Packets.{HasFields}
+use Rattle.mysql_wire_session.specs.State.{SessionState, initial_state}
+use Rattle.mysql_wire_session.specs.Advance.{id_after}
+use Rattle.mysql_wire_session.specs.Readings.{ReadsAs, after_packet, kind_of, opened_at, passed}
+use Rattle.mysql_wire_session.specs.declared.packet.Packet.{Packet}
+use Rattle.mysql_wire_session.specs.declared.packet.Packet.TheVariants as packet
+use Rattle.wire_text.specs.Fields.{Member, fields_text}
 use Rattle.mysql_wire_dump_lines.specs.Lines.{packet_line, ending_line}
 use Rattle.mysql_wire_dump_lines.specs.Sources.{EndsAs, ReadWhole, framed}
 use Rattle.mysql_wire_dump_lines.specs.Status.{end_status}
@@ -36,7 +37,7 @@ pub record Shown : Type 0 where
   pub payload : List ℕ
   pub packet : Packet
   pub fields : List ℕ
-  pub at : Known
+  pub at : SessionState
 
 -- how the fields behind a line are shown
 abbrev pub form_if : Bool → LineForm → FieldForm
@@ -47,60 +48,60 @@ form_if true line.Json = Json
 abbrev pub field_form : Options → FieldForm
 field_form options = form_if options.has_fields options.form
 
--- a packet's fields as text, which is empty where none are asked for
-pub record AreFields (form : FieldForm) (packet : Packet) (text : List ℕ) : Type 0 where
+-- a packet of this kind is shown as this; its fields as text, which is empty where none are asked for
+pub record AreFields (form : FieldForm) (types : List ℕ) (wanted : PacketKind) (packet : Packet)
+    (named : PacketKind) (text : List ℕ) : Type 0 where
   pub members : List Member
-  pub has : HasFields packet members
+  pub has : HasFields types wanted packet named members
   pub is : text ≡ fields_text form members
 
 -- what a packet is named by, and what was known where it was read
-abbrev pub wanted_of : Shown → Kind
+abbrev pub wanted_of : Shown → PacketKind
 wanted_of shown = kind_of shown.seen.side shown.seen.id shown.payload shown.at
 
-abbrev pub known_at : Shown → Known
+abbrev pub known_at : Shown → SessionState
 known_at shown = opened_at shown.seen.side shown.seen.id shown.payload shown.at
 
--- its length is the payload's; it is named and read by its place, its first byte, its length and what
+-- its length is the payload's; it is named and read by its phase, its first byte, its length and what
 -- is known, or passed over where it is above the limit; and its fields are those of what it is read as
 pub record IsShown (options : Options) (shown : Shown) : Type 0 where
   pub len : shown.seen.len ≡ length shown.payload
   pub large : options.limit < length shown.payload
-      → Is TooLarge Nothing shown.seen.kind shown.packet
+      → (shown.packet ≡ packet.TooLarge)
+      × AreFields (field_form options) shown.at.types TooLarge shown.packet shown.seen.kind
+      shown.fields
   pub reads : length shown.payload ≤ options.limit
-      → ReadsAs (known_at shown) (wanted_of shown) shown.payload shown.seen.kind shown.packet
-  pub fields : AreFields (field_form options) shown.packet shown.fields
+      → ReadsAs (known_at shown) (wanted_of shown) shown.payload shown.packet
+      × AreFields (field_form options) shown.at.types (wanted_of shown) shown.packet
+      shown.seen.kind shown.fields
 
--- what is known behind it, but for the id that follows
-abbrev pub known_but_id : Options → Shown → Known
-known_but_id options shown =
-    if nat_lt options.limit (length shown.payload)
-    then passed shown.seen.side shown.seen.id shown.at
-    else follow shown.packet
-    (went shown.seen.side (wanted_of shown) shown.payload (known_at shown))
-
-abbrev pub known_behind : Options → Shown → Known
+-- what is known after it
+abbrev pub known_behind : Options → Shown → SessionState
 known_behind options shown =
-    record (known_but_id options shown) { next_id = next_id shown.seen.id shown.payload }
+    if nat_lt options.limit (length shown.payload)
+    then passed shown.seen.side shown.seen.id (length shown.payload) shown.at
+    else after_packet shown.seen.side shown.seen.id (wanted_of shown) shown.payload shown.packet
+    shown.at
 
-abbrev pub known_after : Options → Known → List Shown → Known
+abbrev pub known_after : Options → SessionState → List Shown → SessionState
 known_after options known [] = known
 known_after options known (shown ∷ others) =
     known_after options (known_behind options shown) others
 
 -- they are shown, where this was known at the first, and at each other what was known behind the
 -- packet before it
-abbrev pub AreShown : Options → Known → List Shown → Type 0
+abbrev pub AreShown : Options → SessionState → List Shown → Type 0
 AreShown options known [] = ⊤
 AreShown options known (shown ∷ others) = (shown.at ≡ known) × IsShown options shown
     × AreShown options (known_behind options shown) others
 
 -- behind TLS no packet is shown
 abbrev pub AreVisible : List Shown → Type 0
-AreVisible shown = All (λ one. one.at.place ≢ place.Encrypted) shown
+AreVisible shown = All (λ one. one.at.phase ≢ phase.Encrypted) shown
 
 -- a side's packets are hidden exactly where the session has gone on to TLS
-abbrev pub HidesAt : Place → End → Type 0
-HidesAt at end = (end ≡ Encrypted) ↔ (at ≡ place.Encrypted)
+abbrev pub HidesAt : Phase → End → Type 0
+HidesAt at end = (end ≡ Encrypted) ↔ (at ≡ phase.Encrypted)
 
 abbrev pub is_of : Side → Side → Bool
 is_of Client Client = true
@@ -126,9 +127,9 @@ first_of side (shown ∷ others) behind =
 abbrev pub InOrder : ℕ → List Shown → Option ℕ → Option ℕ → Type 0
 InOrder next [] client server = ⊤
 InOrder next (shown ∷ others) client server =
-    (turn shown.at.place next (first_of Client (shown ∷ others) client)
+    (turn shown.at.phase next (first_of Client (shown ∷ others) client)
     (first_of Server (shown ∷ others) server) ≡ Some shown.seen.side)
-    × InOrder (next_id shown.seen.id shown.payload) others client server
+    × InOrder (id_after shown.seen.id (length shown.payload)) others client server
 
 -- their lines
 abbrev pub lines_of : LineForm → List Shown → List ℕ
@@ -160,7 +161,7 @@ status_of sides.Both client server = max (end_status client) (end_status server)
 pub record Dumped (options : Options) (sides : Sides) (client server : List ℕ) (status : ℕ)
     (text : List ℕ) (client_end server_end : End) : Type 0 where
   pub shown : List Shown
-  pub are_shown : AreShown options nothing_known shown
+  pub are_shown : AreShown options initial_state shown
   pub clients : SideEnds client (packets_of Client shown) client_end
   pub servers : SideEnds server (packets_of Server shown) server_end
   pub client_next : Option ℕ
@@ -168,8 +169,8 @@ pub record Dumped (options : Options) (sides : Sides) (client server : List ℕ)
   pub ordered : InOrder 0 shown client_next server_next
   pub none_left : (client_end ≡ Encrypted) ⊎ ((client_next ≡ None) × (server_next ≡ None))
   pub visible : AreVisible shown
-  pub client_hides : HidesAt (known_after options nothing_known shown).place client_end
-  pub server_hides : HidesAt (known_after options nothing_known shown).place server_end
+  pub client_hides : HidesAt (known_after options initial_state shown).phase client_end
+  pub server_hides : HidesAt (known_after options initial_state shown).phase server_end
   pub is : text ≡ lines_of options.form shown ++ ending_lines options.form sides client_end
       (length (framed (packets_of Client shown))) server_end
       (length (framed (packets_of Server shown)))

@@ -1,24 +1,27 @@
 -- How the dump goes from packet to packet.
-use Rattle.std.specs.Prelude.{◌≡◌, ◌≢◌, ◌⊎◌, ℕ, List, [], ◌∷◌, ◌++◌, ⊤, string_bytes, Option, Some, None, Bool, true, false, ◌↔◌}
+use Rattle.std.specs.Prelude.{◌≡◌, ◌≢◌, ◌⊎◌, ℕ, List, [], ◌∷◌, ◌++◌, length, ⊤, string_bytes, Option, Some, None, Bool, true, false, ◌↔◌}
 use Rattle.std.specs.Io.KnownBytes.{Appends, Consumes}
-use Rattle.wire_codec.specs.Framing.{next_id}
 use Rattle.mysql_wire_dump.specs.declared.dump.Dump.{Dump}
-use Rattle.mysql_wire_dump_fields.specs.Packets.{Nothing, Packet}
-use Rattle.mysql_wire_dump_lines.specs.declared.fields.FieldForm.{FieldForm}
-use Rattle.mysql_wire_dump_lines.specs.declared.kind.Kind.{Kind}
-use Rattle.mysql_wire_dump_lines.specs.declared.kind.Kind.TheVariants.{TooLarge}
+use Rattle.wire_text.specs.declared.fields.FieldForm.{FieldForm}
+use Rattle.mysql_wire_session.specs.declared.packet_kind.PacketKind.{PacketKind}
+use Rattle.mysql_wire_session.specs.declared.packet_kind.PacketKind.TheVariants.{TooLarge}
 use Rattle.mysql_wire_dump_lines.specs.declared.options.Options.{Options}
-use Rattle.mysql_wire_dump_lines.specs.declared.place.Place.TheVariants as place
-use Rattle.mysql_wire_dump_lines.specs.declared.side.Side.{Side}
-use Rattle.mysql_wire_dump_lines.specs.declared.side.Side.TheVariants.{Client, Server}
+use Rattle.mysql_wire_session.specs.declared.phase.Phase.TheVariants as phase
+use Rattle.mysql_wire_session.specs.declared.side.Side.{Side}
+use Rattle.mysql_wire_session.specs.declared.side.Side.TheVariants.{Client, Server}
 use Rattle.mysql_wire_dump_lines.specs.declared.source.End.TheVariants.{Encrypted}
 use Rattle.mysql_wire_dump_lines.specs.declared.source.Next.{Next}
 use Rattle.mysql_wire_dump_lines.specs.declared.source.Next.TheVariants.{Unread, Ended}
 use Rattle.mysql_wire_dump_lines.specs.declared.source.Next.TheVariants as next
 use Rattle.mysql_wire_dump.specs.Dumped.{AreFields, AreShown, AreVisible, InOrder, Shown, known_after, lines_of, packets_of}
-use Rattle.mysql_wire_dump.specs.GoingOn.{follow, passed, went}
-use Rattle.mysql_wire_dump.specs.Known.{Known, known_of, nothing_known}
-use Rattle.mysql_wire_dump.specs.Readings.{ReadsAs, kind_of, opened_at}
+use Rattle.mysql_wire_session.specs.Advance.{id_after}
+use Rattle.mysql_wire_session.specs.State.{SessionState, state_of, initial_state}
+use Rattle.mysql_wire_session.specs.Readings.{ReadsAs, RowReads, after_kind, after_packet, kind_of, opened_at, passed}
+use Rattle.mysql_wire_session.specs.declared.packet.Row.{Row}
+use Rattle.mysql_wire_dump_fields.specs.Packets.{PutsPacket, PutsRowFields}
+use Rattle.wire_text.specs.Fields.{Written}
+use Rattle.mysql_wire_session.specs.declared.packet.Packet.{Packet}
+use Rattle.mysql_wire_session.specs.declared.packet.Packet.TheVariants as packet
 use Rattle.mysql_wire_dump_lines.specs.Sources.{AtEnd, Stands, id_of}
 use Rattle.mysql_wire_dump_lines.specs.Turns.{turn}
 
@@ -31,13 +34,14 @@ Pends (Ended end) found = found ≡ None
 -- the id behind these packets
 abbrev pub id_behind : ℕ → List Shown → ℕ
 id_behind next [] = next
-id_behind next (shown ∷ others) = id_behind (next_id shown.seen.id shown.payload) others
+id_behind next (shown ∷ others) =
+    id_behind (id_after shown.seen.id (length shown.payload)) others
 
 -- so far these packets were shown, of these bytes of both sides, and so much text was written
 pub record Dumping {A : Type 0} (shown : List Shown) (client server written : List ℕ) (dump : Dump A) : Type 0
   where
-    pub are_shown : AreShown dump.options nothing_known shown
-    pub known : known_of dump.session ≡ known_after dump.options nothing_known shown
+    pub are_shown : AreShown dump.options initial_state shown
+    pub known : state_of dump.session ≡ known_after dump.options initial_state shown
     pub clients : Stands (packets_of Client shown) client dump.client
     pub servers : Stands (packets_of Server shown) server dump.server
     pub client_limit : dump.client.limit ≡ dump.options.limit
@@ -55,24 +59,42 @@ pub record StartsDump {A : Type 0} (options : Options) (dump : Dump A) : Type 0 
   pub server_next : dump.server.next ≡ Unread
 
 -- a packet above the limit was passed over
-abbrev pub PassesOver : FieldForm → Side → ℕ → Known → Known → List ℕ → Kind → Type 0
-PassesOver form side id known next fields named =
-    (named ≡ TooLarge) × (next ≡ passed side id known) × AreFields form Nothing fields
+abbrev pub PassesOver : FieldForm → Side → ℕ → ℕ → SessionState → SessionState → List ℕ
+    → PacketKind → Type 0
+PassesOver form side id len known next fields named =
+    (next ≡ passed side id len known)
+    × AreFields form known.types TooLarge packet.TooLarge named fields
+
+-- a packet came, was read and shown as this, and its fields were put
+pub record Tells (side : Side) (id : ℕ) (payload : List ℕ) (known next : SessionState)
+    (old new : Written) (named : PacketKind) : Type 0 where
+  pub packet : Packet
+  pub reads : ReadsAs (opened_at side id payload known) (kind_of side id payload known) payload
+      packet
+  pub puts : PutsPacket known.types (kind_of side id payload known) packet old new named
+  pub goes_on : next ≡ after_packet side id (kind_of side id payload known) payload packet known
+
+-- the same of a row of this kind
+pub record TellsRow (side : Side) (id : ℕ) (called : PacketKind) (payload : List ℕ)
+    (known next : SessionState) (old new : Written) (named : PacketKind) : Type 0 where
+  pub row : Row
+  pub reads : RowReads known called payload row
+  pub puts : PutsRowFields known.types called row old new named
+  pub goes_on : next ≡ after_kind side id called (length payload) known
 
 -- a packet was named and read, and these are its fields as text
 pub record NamesOne (form : FieldForm) (side : Side) (id : ℕ) (payload : List ℕ)
-    (known next : Known) (fields : List ℕ) (named : Kind) : Type 0 where
+    (known next : SessionState) (fields : List ℕ) (named : PacketKind) : Type 0 where
   pub packet : Packet
   pub reads : ReadsAs (opened_at side id payload known) (kind_of side id payload known) payload
-      named packet
-  pub goes_on : next ≡ follow packet
-      (went side (kind_of side id payload known) payload (opened_at side id payload known))
-  pub fields_are : AreFields form packet fields
+      packet
+  pub goes_on : next ≡ after_packet side id (kind_of side id payload known) payload packet known
+  pub fields_are : AreFields form known.types (kind_of side id payload known) packet named fields
 
 -- it is this side's turn
 abbrev pub IsTurn : {A : Type 0} → Side → Dump A → Type 0
 IsTurn side dump =
-    turn dump.session.place dump.session.next_id (id_of dump.client.next) (id_of dump.server.next)
+    turn dump.session.phase dump.session.next_id (id_of dump.client.next) (id_of dump.server.next)
     ≡ Some side
 
 -- both sides were looked at
@@ -113,7 +135,7 @@ pub record SoFar {A : Type 0} (dump : Dump A)
 pub record Going {A : Type 0} (dump : Dump A)
     (client client_left server server_left written now : Option (List ℕ)) : Type 0 where
   pub so_far : SoFar dump client client_left server server_left written now
-  pub is_open : dump.session.place ≢ place.Encrypted
+  pub is_open : dump.session.phase ≢ phase.Encrypted
 
 -- what a dump that began showed of the bytes of both sides, and wrote
 pub record ShowsAll {A : Type 0} (dump : Dump A)
@@ -125,11 +147,11 @@ pub record ShowsAll {A : Type 0} (dump : Dump A)
   pub client_consumed : Consumes client client_left of_client
   pub server_consumed : Consumes server server_left of_server
   pub appended : Appends written now text
-  pub are_shown : AreShown dump.options nothing_known shown
+  pub are_shown : AreShown dump.options initial_state shown
   pub visible : AreVisible shown
-  pub known : known_of dump.session ≡ known_after dump.options nothing_known shown
-  pub client_hides : (dump.client.next ≡ Ended Encrypted) ↔ (dump.session.place ≡ place.Encrypted)
-  pub server_hides : (dump.server.next ≡ Ended Encrypted) ↔ (dump.session.place ≡ place.Encrypted)
+  pub known : state_of dump.session ≡ known_after dump.options initial_state shown
+  pub client_hides : (dump.client.next ≡ Ended Encrypted) ↔ (dump.session.phase ≡ phase.Encrypted)
+  pub server_hides : (dump.server.next ≡ Ended Encrypted) ↔ (dump.session.phase ≡ phase.Encrypted)
   pub clients : Stands (packets_of Client shown) of_client dump.client
   pub servers : Stands (packets_of Server shown) of_server dump.server
   pub client_next : Option ℕ

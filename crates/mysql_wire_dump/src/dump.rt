@@ -3,22 +3,26 @@
 ghost use Rattle.std.specs.Prelude.{◌≡◌, ◌≢◌, ◌<◌, ◌≤◌, ◌⊎◌, ◌++◌, ◌∷◌, ℕ, List, [], length, IfOk, IfSome, OnOk, string_bytes, false};
 ghost use Rattle.std.specs.Io.KnownBytes.{Appends};
 ghost use Rattle.mysql_wire_dump.specs.Dumped.{DumpEnds, Dumps, DumpsOver, ending_lines, field_form, status_of};
-ghost use Rattle.mysql_wire_dump.specs.Dumping.{GoesOver, NamesOne, PassesOver, StartsDump};
-ghost use Rattle.mysql_wire_dump.specs.Known.{known_of};
+ghost use Rattle.mysql_wire_dump.specs.Dumping.{GoesOver, NamesOne, PassesOver, StartsDump, Tells, TellsRow};
+ghost use Rattle.mysql_wire_dump_fields.specs.Packets.{PutsPacket};
+ghost use Rattle.mysql_wire_session.specs.Readings.{IsRowKind, advanced};
+ghost use Rattle.mysql_wire_session.specs.State.{state_of};
 ghost use Rattle.mysql_wire_dump_lines.specs.Status.{end_status};
 
-use crate::session::Session;
-use mysql_wire_dump_lines::fields::{FieldForm, Fields};
-use mysql_wire_dump_lines::kind::Kind;
+use mysql_wire_dump_fields::show::{show_packet, show_row};
 use mysql_wire_dump_lines::lines::{LineForm, Seen, push_ending, push_packet};
 use mysql_wire_dump_lines::options::{Options, Sides};
-use mysql_wire_dump_lines::place::Place;
-use mysql_wire_dump_lines::side::Side;
 use mysql_wire_dump_lines::source::{End, Next, Source};
 use mysql_wire_dump_lines::status::{Stop, exit_status};
 use mysql_wire_dump_lines::turn::turn;
+use mysql_wire_session::packet::Received;
+use mysql_wire_session::packet_kind::PacketKind;
+use mysql_wire_session::phase::Phase;
+use mysql_wire_session::session::Session;
+use mysql_wire_session::side::Side;
 use std::alloc::{AllocError, Allocator, Global};
 use std::io::{Read, Write};
+use wire_text::fields::{FieldForm, Fields};
 
 // How many bytes of text are written at a time.
 const WRITE_SIZE: usize = 65536;
@@ -26,6 +30,8 @@ const WRITE_SIZE: usize = 65536;
 // Both directions, the session, and the text that is not written yet.
 #[derive(Drop)]
 struct Dump<A: Allocator + Copy> {
+    // Packets are read with it, which takes no memory.
+    global: Global,
     options: Options,
     client: Source<A>,
     server: Source<A>,
@@ -45,27 +51,102 @@ fn field_form(options: Options) -> FieldForm
     }
 }
 
-// What a source's next packet is: its fields are put, and the session goes on behind it.
+// Puts the fields of a packet that came, and goes on after it.
+fn show_received<A: Allocator + Copy>(
+    global: Global,
+    session: &mut Session<A>,
+    fields: &mut Fields<A>,
+    received: &Received<'_>,
+) -> Result<PacketKind, Stop>
+    ensures puts { IfOk result (PutsPacket session.old.types.items received.now.kind
+        received.now.packet fields.old fields.new) }
+    ensures goes { OnOk result (state_of session.new
+        ≡ advanced received.now (state_of session.old)) }
+{
+    let types = session.column_types();
+    let kind = show_packet(global, fields, types, received.kind, &received.packet)?;
+    session.advance(received)?;
+    Ok(kind)
+}
+
+// Reads a packet and puts its fields, and goes on after it.
+fn show_other<A: Allocator + Copy>(
+    global: Global,
+    session: &mut Session<A>,
+    fields: &mut Fields<A>,
+    came: (Side, u8),
+    payload: &[u8],
+) -> Result<PacketKind, Stop>
+    ensures { IfOk result (Tells came.0 came.1 payload.now (state_of session.old)
+        (state_of session.new) fields.old fields.new) }
+{
+    match session.read(came.0, came.1, payload) {
+        Ok(received) => show_received(global, session, fields, &received),
+        Err(error) => Err(Stop::from(error)),
+    }
+}
+
+// The same of a row of this kind, of which there are many.
+#[inline(always)]
+fn show_row_of<A: Allocator + Copy>(
+    global: Global,
+    session: &mut Session<A>,
+    fields: &mut Fields<A>,
+    came: (Side, u8, PacketKind),
+    payload: &[u8],
+) -> Result<PacketKind, Stop>
+    requires { IsRowKind came.2 }
+    ensures { IfOk result (TellsRow came.0 came.1 came.2 payload.now (state_of session.old)
+        (state_of session.new) fields.old fields.new) }
+{
+    let row = session.read_row(came.2, payload)?;
+    let kind = show_row(global, fields, session.column_types(), came.2, &row)?;
+    session.advance_by_kind(came.0, came.1, came.2, payload.len());
+    Ok(kind)
+}
+
+// Reads a packet and puts its fields, and goes on after it.
+fn read_and_show<A: Allocator + Copy>(
+    global: Global,
+    session: &mut Session<A>,
+    fields: &mut Fields<A>,
+    side: Side,
+    id: u8,
+    payload: &[u8],
+) -> Result<PacketKind, Stop>
+    ensures { IfOk result (Tells side id payload.now (state_of session.old)
+        (state_of session.new) fields.old fields.new) }
+{
+    match session.classify(side, id, payload.len(), payload) {
+        kind @ (PacketKind::Row | PacketKind::BinaryRow) => {
+            show_row_of(global, session, fields, (side, id, kind), payload)
+        }
+        _ => show_other(global, session, fields, (side, id), payload),
+    }
+}
+
+// What a source's next packet is: its fields are put, and the session goes on after it.
 #[tactic(auto, using(crate::proofs::ReadLemmas::passed_over, crate::proofs::ReadLemmas::names_one))]
 fn name_packet<A: Allocator + Copy>(
+    global: Global,
     side: Side,
     id: u8,
     source: &Source<A>,
     session: &mut Session<A>,
     fields: &mut Fields<A>,
     form: FieldForm,
-) -> Result<Kind, Stop>
+) -> Result<PacketKind, Stop>
     ensures large { IfOk result (λ kind. source.now.limit < source.now.len → PassesOver form side id
-        (known_of session.old) (known_of session.new) fields.new.text kind) }
+        source.now.len (state_of session.old) (state_of session.new) fields.new.text kind) }
     ensures named { IfOk result (λ kind. source.now.len ≤ source.now.limit → NamesOne form side id
-        source.now.held.items (known_of session.old) (known_of session.new) fields.new.text kind) }
+        source.now.held.items (state_of session.old) (state_of session.new) fields.new.text kind) }
 {
     fields.begin(form);
     let Some(payload) = source.payload() else {
-        session.pass(side, id);
-        return Ok(Kind::TooLarge);
+        session.pass(side, id, source.payload_len());
+        return Ok(PacketKind::TooLarge);
     };
-    let kind = session.name(side, id, payload, fields)?;
+    let kind = read_and_show(global, session, fields, side, id, payload)?;
     fields.end()?;
     Ok(kind)
 }
@@ -83,7 +164,7 @@ fn shown_payload<A: Allocator + Copy>(source: &Source<A>) -> &[u8]
 impl<A: Allocator + Copy> Dump<A> {
     ghost use Rattle.mysql_wire_dump.specs.Dumping.{Shows, WritesMuch};
     ghost use Rattle.mysql_wire_dump_lines.specs.Turns.{turn};
-    ghost use Rattle.mysql_wire_dump_lines.specs.declared.side.Side.TheVariants.{Client, Server};
+    ghost use Rattle.mysql_wire_session.specs.declared.side.Side.TheVariants.{Client, Server};
     ghost use Rattle.mysql_wire_dump_lines.specs.Sources.{id_of};
     ghost use Rattle.mysql_wire_dump_lines.specs.declared.source.Next.TheVariants.{Ended};
 
@@ -91,6 +172,7 @@ impl<A: Allocator + Copy> Dump<A> {
         ensures starts { StartsDump options result }
     {
         Dump {
+            global,
             options,
             client: Source::new(alloc, options.limit),
             server: Source::new(alloc, options.limit),
@@ -102,11 +184,11 @@ impl<A: Allocator + Copy> Dump<A> {
 
     // Whose packet is next.
     fn turn(&self) -> Option<Side>
-        ensures { result ≡ turn self.now.session.place self.now.session.next_id
+        ensures { result ≡ turn self.now.session.phase self.now.session.next_id
             (id_of self.now.client.next) (id_of self.now.server.next) }
     {
         turn(
-            self.session.place(),
+            self.session.phase(),
             self.session.next_id(),
             self.client.next_id(),
             self.server.next_id(),
@@ -123,6 +205,7 @@ impl<A: Allocator + Copy> Dump<A> {
         let source = &self.client;
         let session = &mut self.session;
         let kind = name_packet(
+            self.global,
             Side::Client,
             id,
             source,
@@ -139,7 +222,6 @@ impl<A: Allocator + Copy> Dump<A> {
         let fields = self.fields.text();
         let payload = shown_payload(source);
         push_packet(&mut self.text, self.options.form, &seen, payload, fields)?;
-        self.session.set_next_id(self.client.id_behind());
         self.client.pass()?;
         Ok(())
     }
@@ -154,6 +236,7 @@ impl<A: Allocator + Copy> Dump<A> {
         let source = &self.server;
         let session = &mut self.session;
         let kind = name_packet(
+            self.global,
             Side::Server,
             id,
             source,
@@ -170,7 +253,6 @@ impl<A: Allocator + Copy> Dump<A> {
         let fields = self.fields.text();
         let payload = shown_payload(source);
         push_packet(&mut self.text, self.options.form, &seen, payload, fields)?;
-        self.session.set_next_id(self.server.id_behind());
         self.server.pass()?;
         Ok(())
     }
@@ -226,7 +308,7 @@ fn show_next<A: Allocator + Copy, R: Read, S: Read, W: Write>(
     };
     dump.show(side)?;
     dump.write_much(output)?;
-    if dump.session.place() == Place::Encrypted {
+    if dump.session.phase() == Phase::Encrypted {
         dump.client.hide();
         dump.server.hide();
         return Ok(false);

@@ -3,8 +3,6 @@
 
 mod dump;
 mod files;
-mod session;
-mod statements;
 
 use files::run_words;
 use mysql_wire_dump_lines::status::fault_text;

@@ -1,11 +1,15 @@
 -- The fields of packets.
-use Rattle.std.proofs.Common.{◌≡◌, ◌++◌, ℕ, List, refl, subst, inl, inr, Option, Result, Ok, Err}
-use Rattle.std.specs.Prelude.{OnOk}
-use Rattle.mysql_wire_dump_lines.specs.declared.refusal.Refusal.{Refusal}
+use Rattle.std.proofs.Common.{◌≡◌, ◌++◌, ℕ, List, refl, subst, inl, inr, Bor, Option, Result, Ok, Err}
+use Rattle.std.specs.Prelude.{IfOk, OnOk}
+use Rattle.mysql_wire_dump_fields.specs.Packets.{HasFields, PutsPacket, PutsRowFields, packet_fields, shown_kind}
+use Rattle.mysql_wire_dump_fields.specs.ValueFields.{AreRowFields, PutsRow, rest_if, row_bytes_fields}
+use Rattle.mysql_wire_session.specs.declared.packet.Packet.{Packet}
+use Rattle.mysql_wire_session.specs.declared.packet.Packet.TheVariants as packet
+use Rattle.mysql_wire_session.specs.declared.packet.Row.{Row}
+use Rattle.mysql_wire_session.specs.declared.packet_kind.PacketKind.{PacketKind}
+use Rattle.mysql_wire_session.specs.declared.refusal.Refusal.{Refusal}
 use Rattle.mysql_wire_statements.specs.declared.binary_row.BinaryRow.{BinaryRow}
-use Rattle.mysql_wire_dump_lines.specs.Fields.{Member, Puts, Written}
-use Rattle.mysql_wire_dump_fields.specs.Packets.{HasFields, Packet, PutsFields, Row, RowParts, Texts}
-use Rattle.mysql_wire_dump_fields.specs.ValueFields.{PutsRow, PutsTexts, rest_if, row_bytes_fields}
+use Rattle.wire_text.specs.Fields.{Member, Puts, Written}
 
 -- what was put is these fields
 pub puts_are : {X E : Type 0} (result : Result X E) (members : List Member) (wanted : List Member)
@@ -15,31 +19,51 @@ puts_are (Ok done) members wanted old new put is =
     subst (λ (these : List Member). Puts these old new) is put
 puts_are (Err error) members wanted old new put is = tt
 
--- what was put is a packet's fields
-pub puts_fields : {X E : Type 0} (result : Result X E) (packet : Packet) (members : List Member)
-    (old new : Written) → OnOk result (Puts members old new) → HasFields packet members
-    → OnOk result (PutsFields packet old new)
-puts_fields (Ok done) packet members old new put has =
-    record { members = members; has = has; puts = put }
-puts_fields (Err error) packet members old new put has = tt
+-- the fields of a row of so many columns were put
+pub puts_row : (columns : ℕ) (types : List ℕ) (row : BinaryRow) (refusal : Option Refusal) (old new : Written) → PutsRow columns types row refusal old new
+    → (members : List Member) × AreRowFields columns types row refusal members × Puts members old new
+puts_row columns types row refusal old new (inl read) =
+    (read.1.members ++ rest_if refusal read.1.rest, inl (read.0, (read.1.members, (read.1.rest, (read.1.are, refl)))), read.1.puts)
+puts_row columns types row refusal old new (inr other) = (row_bytes_fields row, inr (other.0, (other.1.0, refl)), other.1.1)
 
-pub texts-fields : {columns : ℕ} {payload : List ℕ} {refusal : Option Refusal} {old new : Written}
-    → PutsTexts columns payload refusal old new → PutsFields (Texts columns refusal payload) old new
-texts-fields put = record { members = put.members; has = (put.rest, put.are, put.ends); puts = put.puts }
+-- a packet that is no row of values has its own fields
+pub own_fields : (types : List ℕ) (wanted : PacketKind) (shown : Packet)
+    → ((row : Row) → shown ≡ packet.Row row → ⊥)
+    → HasFields types wanted shown (shown_kind wanted shown) (packet_fields shown)
+own_fields types wanted (packet.Row row) not_row = absurd (not_row row refl)
+own_fields types wanted (packet.Greeting one) not_row = (refl, refl)
+own_fields types wanted (packet.TlsRequest one) not_row = (refl, refl)
+own_fields types wanted (packet.Login one) not_row = (refl, refl)
+own_fields types wanted (packet.AuthSwitch one) not_row = (refl, refl)
+own_fields types wanted (packet.AuthMoreData one) not_row = (refl, refl)
+own_fields types wanted (packet.AuthAnswer one) not_row = (refl, refl)
+own_fields types wanted (packet.Ok one) not_row = (refl, refl)
+own_fields types wanted (packet.RowsEnd one) not_row = (refl, refl)
+own_fields types wanted (packet.Error one) not_row = (refl, refl)
+own_fields types wanted (packet.Progress one) not_row = (refl, refl)
+own_fields types wanted (packet.Eof one) not_row = (refl, refl)
+own_fields types wanted (packet.ColumnCount one) not_row = (refl, refl)
+own_fields types wanted (packet.Column one) not_row = (refl, refl)
+own_fields types wanted (packet.TableColumn one) not_row = (refl, refl)
+own_fields types wanted (packet.LocalInfile one) not_row = (refl, refl)
+own_fields types wanted (packet.File one) not_row = (refl, refl)
+own_fields types wanted (packet.Prepared one) not_row = (refl, refl)
+own_fields types wanted (packet.Statistics one) not_row = (refl, refl)
+own_fields types wanted (packet.BinaryLogEvent one) not_row = (refl, refl)
+own_fields types wanted (packet.Command one) not_row = (refl, refl)
+own_fields types wanted (packet.Prepare one) not_row = (refl, refl)
+own_fields types wanted (packet.Execute one) not_row = (refl, refl)
+own_fields types wanted (packet.ExecuteUnknown one) not_row = (refl, refl)
+own_fields types wanted (packet.LongData one) not_row = (refl, refl)
+own_fields types wanted (packet.CloseStatement one) not_row = (refl, refl)
+own_fields types wanted (packet.ResetStatement one) not_row = (refl, refl)
+own_fields types wanted (packet.Fetch one) not_row = (refl, refl)
+own_fields types wanted (packet.OtherCommand one) not_row = (refl, refl)
+own_fields types wanted packet.TooLarge not_row = (refl, refl)
+own_fields types wanted (packet.Refused one) not_row = (refl, refl)
 
-pub row-fields : (columns : ℕ) (types : List ℕ) (row : BinaryRow) (refusal : Option Refusal) (old new : Written)
-    → PutsRow columns types row refusal old new → PutsFields (Row columns types row refusal) old new
-row-fields columns types row refusal old new (inl read) = record {
-  members = read.1.members ++ rest_if refusal read.1.rest;
-  has = inl (read.0, (read.1.members, (read.1.rest, (read.1.are, refl))));
-  puts = read.1.puts;
-}
-row-fields columns types row refusal old new (inr other) = record {
-  members = row_bytes_fields row;
-  has = inr (other.0, (other.1.0, refl));
-  puts = other.1.1;
-}
-
--- the parts of a row were put
-pub row_parts : (row : BinaryRow) (old new : Written) → PutsFields (RowParts row) old new → Puts (row_bytes_fields row) old new
-row_parts row old new put = subst (λ (members : List Member). Puts members old new) put.has put.puts
+-- a row's fields are its packet's
+pub row_put : {E : Type 0} (result : Result PacketKind E) (types : List ℕ) (wanted : PacketKind) (row : Row) (old new : Written)
+    → IfOk result (PutsRowFields types wanted row old new) → IfOk result (PutsPacket types wanted (packet.Row row) old new)
+row_put (Ok named) types wanted row old new put = record { members = put.members; has = put.has; puts = put.puts }
+row_put (Err error) types wanted row old new put = tt

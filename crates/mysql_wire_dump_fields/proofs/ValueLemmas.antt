@@ -1,14 +1,14 @@
 -- The values of rows, one more at a time.
 use Rattle.std.proofs.Common.{◌≡◌, ◌≢◌, ◌<◌, ℕ, ◌+◌, true, false, List, [], ◌∷◌, ◌++◌, length, get_or, take, refl, sym, ap, ◌∙◌, inl, inr, append-nil, append_assoc, length-append, arith, Some, None}
-use Rattle.mysql_wire_dump_lines.specs.Fields.{Member, Octets, Puts, Written, put, puts}
+use Rattle.wire_text.specs.Fields.{Member, Octets, Puts, Written, put, puts}
 use Rattle.mysql_wire_dump_fields.specs.ValueFields.{AreTexts, AreValues, IsNoText, IsNoValueAt, PutsColumn, PutsText, PutsTexts, PutsValues, rest_if}
-use Rattle.mysql_wire_dump_lines.specs.declared.refusal.Refusal.{Refusal}
-use Rattle.mysql_wire_dump_lines.specs.declared.refusal.Refusal.TheVariants.{TrailingBytes}
+use Rattle.mysql_wire_session.specs.declared.refusal.Refusal.{Refusal}
+use Rattle.mysql_wire_session.specs.declared.refusal.Refusal.TheVariants.{TrailingBytes}
 use Rattle.mysql_wire_statements.specs.declared.binary_row.BinaryRow.{BinaryRow}
 use Rattle.std.proofs.lemmas.List.{take_all}
 use Rattle.std.proofs.lemmas.Grind.{common_steps}
 use Rattle.std.specs.Prelude.{◌==◌, codes}
-use Rattle.mysql_wire_dump_lines.proofs.FieldLemmas.{puts_append}
+use Rattle.wire_text.proofs.FieldLemmas.{puts_append}
 
 -- the texts up to this place were put; with those behind them they are those of the payload
 pub record Texts (place : ℕ) (payload bytes : List ℕ) (start now : Written) : Type 0 where

@@ -10,8 +10,8 @@ use Rattle.mysql_wire_queries.specs.declared.column_count.ColumnCount.{ColumnCou
 use Rattle.mysql_wire_queries.specs.declared.column_definition.ColumnDefinition41.{ColumnDefinition41}
 use Rattle.mysql_wire_queries.specs.declared.local_infile.LocalInfileRequest.{LocalInfileRequest}
 use Rattle.mysql_wire_statements.specs.declared.com_stmt_prepare_ok.ComStmtPrepareOk.{ComStmtPrepareOk}
-use Rattle.mysql_wire_dump_lines.specs.FieldTables.{row_if}
-use Rattle.mysql_wire_dump_lines.specs.Fields.{Flags, Member, Number, Octets, Words}
+use Rattle.wire_text.specs.FieldTables.{row_if}
+use Rattle.wire_text.specs.Fields.{Flags, Member, Number, Octets, Words}
 
 abbrev pub ok_fields : {header : ℕ} → OkForm header → List Member
 ok_fields packet =

@@ -7,10 +7,11 @@ use Rattle.mysql_wire_queries.specs.declared.com_change_user.ComChangeUser.{ComC
 use Rattle.mysql_wire_queries.specs.declared.com_query_attributes.ComQueryWithAttributes.{ComQueryWithAttributes}
 use Rattle.mysql_wire_statements.specs.declared.com_stmt_execute.ComStmtExecute.{ComStmtExecute}
 use Rattle.mysql_wire_statements.specs.declared.com_stmt_fetch.ComStmtFetch.{ComStmtFetch}
+use Rattle.mysql_wire_statements.specs.declared.com_stmt_prepare.ComStmtPrepare.{ComStmtPrepare}
 use Rattle.mysql_wire_statements.specs.declared.com_stmt_send_long_data.ComStmtSendLongData.{ComStmtSendLongData}
 use Rattle.mysql_wire_statements.specs.declared.params.StmtParams.{StmtParams}
-use Rattle.mysql_wire_dump_lines.specs.FieldTables.{row_if}
-use Rattle.mysql_wire_dump_lines.specs.Fields.{Flags, Member, Number, Octets, Words}
+use Rattle.wire_text.specs.FieldTables.{row_if}
+use Rattle.wire_text.specs.Fields.{Flags, Member, Number, Octets, Words}
 
 -- without parameters the query stands alone
 abbrev pub attributes_and_query : ComQueryWithAttributes → Member
@@ -51,6 +52,10 @@ plain_fields (command.Query packet) =
 plain_fields (command.AttributedQuery packet) = attributed_query_fields packet
 plain_fields (command.Ping packet) = []
 plain_fields (command.ChangeUser packet) = change_user_fields packet
+
+-- a statement that is prepared
+abbrev pub prepare_fields : ComStmtPrepare → List Member
+prepare_fields packet = (codes "query", Words packet.query.now) ∷ []
 
 abbrev pub number_fields : ℕ → List Member
 number_fields statement_id = (codes "statement_id", Number statement_id) ∷ []

@@ -8,8 +8,8 @@ use Rattle.mysql_wire_connection.specs.declared.auth_switch_response.AuthSwitchR
 use Rattle.mysql_wire_connection.specs.declared.handshake.HandshakeV10.{HandshakeV10}
 use Rattle.mysql_wire_connection.specs.declared.handshake_response.HandshakeResponse41.{HandshakeResponse41}
 use Rattle.mysql_wire_connection.specs.declared.ssl_request.SslRequest.{SslRequest}
-use Rattle.mysql_wire_dump_lines.specs.FieldTables.{row_if}
-use Rattle.mysql_wire_dump_lines.specs.Fields.{Flags, Member, Number, Octets, Words}
+use Rattle.wire_text.specs.FieldTables.{row_if}
+use Rattle.wire_text.specs.Fields.{Flags, Member, Number, Octets, Words}
 
 abbrev pub greeting_fields : HandshakeV10 → List Member
 greeting_fields packet =

@@ -15,10 +15,10 @@ use Rattle.mysql_wire_statements.specs.Values.{ReadsForm, form_of}
 use Rattle.mysql_wire_statements.specs.declared.binary_row.BinaryRow.{BinaryRow}
 use Rattle.mysql_wire_statements.specs.declared.binary_value.BinaryValue.{BinaryValue}
 use Rattle.mysql_wire_statements.specs.declared.binary_value.BinaryValue.TheVariants as binary
-use Rattle.mysql_wire_dump_lines.specs.Fields.{Member, Null, Number, Octets, Printed, Value, Puts, Word, Words, Written}
-use Rattle.mysql_wire_dump_lines.specs.Refusals.{refusal_of_wire}
-use Rattle.mysql_wire_dump_lines.specs.declared.refusal.Refusal.{Refusal}
-use Rattle.mysql_wire_dump_lines.specs.declared.refusal.Refusal.TheVariants.{TrailingBytes}
+use Rattle.wire_text.specs.Fields.{Member, Null, Number, Octets, Printed, Value, Puts, Word, Words, Written}
+use Rattle.mysql_wire_session.specs.Refusals.{refusal_of_wire}
+use Rattle.mysql_wire_session.specs.declared.refusal.Refusal.{Refusal}
+use Rattle.mysql_wire_session.specs.declared.refusal.Refusal.TheVariants.{TrailingBytes}
 use Rattle.mysql_wire_dump_fields.specs.MomentTexts.{date_text, time_text}
 
 abbrev pub text_shown : Option (List ℕ) → Value

@@ -2,5 +2,4 @@
 #![tactic(auto)]
 
 mod moments;
-pub mod payload;
 pub mod show;

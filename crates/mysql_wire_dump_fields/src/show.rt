@@ -1,34 +1,35 @@
 //! The fields of each packet, by MySQL's names.
 
 ghost use Rattle.std.specs.Cow.{cow_slice_items};
-ghost use Rattle.std.specs.Prelude.{◌≡◌, OnOk};
+ghost use Rattle.std.specs.Prelude.{◌≡◌, List, OnOk};
 ghost use Rattle.wire_field.specs.Rows.{by_side};
-ghost use Rattle.mysql_wire_dump_lines.specs.FieldTables.{members_in, row_if};
-ghost use Rattle.mysql_wire_dump_fields.specs.Packets.{Packet, PutsFields};
-ghost use Rattle.mysql_wire_dump_lines.specs.Fields.{Number, Octets, Words};
+ghost use Rattle.wire_text.specs.FieldTables.{members_in, row_if};
+ghost use Rattle.wire_text.specs.Fields.{Member, Number, Octets, Puts, Words};
 
 mod answers;
 mod commands;
 mod connection;
+mod packet;
 mod unread;
 mod values;
 
 pub use commands::number_of_statement;
-use mysql_wire_dump_lines::fields::{Field, Fields};
+pub use packet::{show_packet, show_row};
 use std::alloc::{AllocError, Allocator};
 pub use unread::{column_bytes, event, other_command, row_bytes, statistics};
 pub use values::{binary_row, text_row};
 use wire_field::row::Either;
 use wire_repr::text::{BytesRepr, RawBytes};
+use wire_text::fields::{Field, Fields};
 
 /// A packet that has fields.
 pub trait Show {
-    /// The packet whose fields these are.
-    ghost packet: { Self → Packet };
+    /// Its fields, by MySQL's names.
+    ghost members: { Self → List Member };
 
-    /// Puts its fields, by MySQL's names.
+    /// Puts its fields.
     fn show<A: Allocator + Copy>(&self, fields: &mut Fields<A>) -> Result<(), AllocError>
-        ensures { OnOk result (PutsFields (packet self.now) fields.old fields.new) };
+        ensures { OnOk result (Puts (members self.now) fields.old fields.new) };
 }
 
 // A text, where it is there.

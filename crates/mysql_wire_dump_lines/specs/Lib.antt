@@ -1,10 +1,6 @@
 pub mod Names
-pub mod Naming
 pub mod Status
-pub mod Refusals
 pub mod Sources
 pub mod Turns
 pub mod Lines
-pub mod Fields
-pub mod FieldTables
 pub mod Arguments

@@ -2,14 +2,15 @@
 use Rattle.std.specs.Fmt.{decimal}
 use Rattle.std.specs.Prelude.{ℕ, nat_lt, List, [], ◌++◌, length, take, if◌then◌else◌, codes}
 use Rattle.hex.specs.Hex.{encode_lower}
-use Rattle.mysql_wire_dump_lines.specs.declared.kind.Kind.{Kind}
-use Rattle.mysql_wire_dump_lines.specs.declared.kind.Kind.TheVariants.{Bytes}
+use Rattle.mysql_wire_session.specs.declared.packet_kind.PacketKind.{PacketKind}
+use Rattle.mysql_wire_session.specs.declared.packet_kind.PacketKind.TheVariants.{Refused}
 use Rattle.mysql_wire_dump_lines.specs.declared.lines.LineForm.{LineForm}
 use Rattle.mysql_wire_dump_lines.specs.declared.lines.LineForm.TheVariants.{Text, Json}
 use Rattle.mysql_wire_dump_lines.specs.declared.lines.Seen.{Seen}
-use Rattle.mysql_wire_dump_lines.specs.declared.side.Side.{Side}
+use Rattle.mysql_wire_session.specs.declared.side.Side.{Side}
 use Rattle.mysql_wire_dump_lines.specs.declared.source.End.{End}
-use Rattle.mysql_wire_dump_lines.specs.Names.{side_name, kind_name, refusal_name, end_name}
+use Rattle.mysql_wire_dump_lines.specs.Names.{end_name}
+use Rattle.mysql_wire_session.specs.Names.{side_name, kind_name, refusal_name}
 
 -- at most 32 bytes in digits, and two dots for those behind them
 abbrev pub shown_bytes : List ℕ → List ℕ
@@ -34,8 +35,8 @@ refused_words Json digits name =
     codes ",\"bytes\":\"" ++ digits ++ codes "\",\"refusal\":\"" ++ name ++ codes "\""
 
 -- the bytes of a payload that its place's type refuses, and why
-abbrev pub bytes_part : LineForm → Kind → List ℕ → List ℕ
-bytes_part form (Bytes refusal) payload =
+abbrev pub bytes_part : LineForm → PacketKind → List ℕ → List ℕ
+bytes_part form (Refused refusal) payload =
     refused_words form (shown_bytes payload) (refusal_name refusal)
 bytes_part form _ payload = []
 

@@ -4,6 +4,13 @@ use Rattle.mysql_wire_dump_lines.specs.declared.source.End.{End}
 use Rattle.mysql_wire_dump_lines.specs.declared.source.End.TheVariants as ending
 use Rattle.mysql_wire_dump_lines.specs.declared.status.Stop.{Stop}
 use Rattle.mysql_wire_dump_lines.specs.declared.status.Stop.TheVariants.{Io, Memory}
+use Rattle.mysql_wire_session.specs.declared.refusal.SessionError.{SessionError}
+use Rattle.mysql_wire_session.specs.declared.refusal.SessionError.TheVariants as session
+
+-- why a dump gives up where its session fails so
+abbrev pub stop_of : SessionError → Stop
+stop_of session.Io = Io
+stop_of session.OutOfMemory = Memory
 
 -- the exit status: a dump's own, or that of why it gave up
 abbrev pub exit_status_of : Result ℕ Stop → ℕ

@@ -3,14 +3,15 @@
 ghost use Rattle.std.specs.Prelude.{◌≡◌, ◌++◌, IfOk, OnOk, string_bytes};
 ghost use Rattle.std.specs.Fmt.{decimal};
 ghost use Rattle.mysql_wire_dump_lines.specs.Lines.{bytes_part, ending_line, line_end, packet_front, packet_line, refused_words, shown_bytes};
-ghost use Rattle.mysql_wire_dump_lines.specs.Names.{end_name, refusal_name};
+ghost use Rattle.mysql_wire_dump_lines.specs.Names.{end_name};
+ghost use Rattle.mysql_wire_session.specs.Names.{refusal_name};
 
-use crate::kind::Kind;
-use crate::put::{push_between, push_number};
-use crate::refusal::Refusal;
-use crate::side::Side;
 use crate::source::End;
+use mysql_wire_session::packet_kind::PacketKind;
+use mysql_wire_session::refusal::Refusal;
+use mysql_wire_session::side::Side;
 use std::alloc::{AllocError, Allocator};
+use wire_text::put::{push_between, push_number};
 
 /// How packets are shown.
 #[derive(Clone, Copy)]
@@ -27,7 +28,7 @@ pub struct Seen {
     pub id: u8,
     /// How many payload bytes it has.
     pub len: usize,
-    pub kind: Kind,
+    pub kind: PacketKind,
 }
 
 // At most 32 bytes in digits, and two dots for those behind them.
@@ -85,14 +86,14 @@ fn push_refused<A: Allocator + Copy>(
 fn push_bytes<A: Allocator + Copy>(
     text: &mut String<A>,
     form: LineForm,
-    kind: Kind,
+    kind: PacketKind,
     payload: &[u8],
 ) -> Result<(), AllocError>
     ensures { OnOk result (string_bytes text.new
         ≡ string_bytes text.old ++ bytes_part form kind payload.now) }
 {
     match kind {
-        Kind::Bytes(refusal) => push_refused(text, form, refusal, payload),
+        PacketKind::Refused(refusal) => push_refused(text, form, refusal, payload),
         _ => Ok(()),
     }
 }

@@ -23,7 +23,7 @@ pub enum End {
     Between,
     /// It ended inside a packet.
     Unfinished,
-    /// Behind a full chunk stands one of another id than the next.
+    /// AfterColumns a full chunk stands one of another id than the next.
     OutOfSync,
     /// Its packets are hidden.
     Encrypted,

@@ -3,6 +3,7 @@
 ghost use Rattle.std.specs.Prelude.{◌≡◌};
 ghost use Rattle.mysql_wire_dump_lines.specs.Status.{exit_status_of, fault_line};
 
+use mysql_wire_session::refusal::SessionError;
 use std::alloc::{AllocError, AllocFailed};
 use std::io;
 
@@ -42,6 +43,19 @@ impl From<AllocFailed<u8>> for Stop {
 
     fn from(_: AllocFailed<u8>) -> Self {
         Stop::Memory
+    }
+}
+
+impl From<SessionError> for Stop {
+    ghost use Rattle.mysql_wire_dump_lines.specs.Status.{stop_of};
+
+    ghost from_gives = { λ error stop. stop ≡ stop_of error };
+
+    fn from(error: SessionError) -> Self {
+        match error {
+            SessionError::Io => Stop::Io,
+            SessionError::OutOfMemory => Stop::Memory,
+        }
     }
 }
 

@@ -3,8 +3,8 @@
 ghost use Rattle.std.specs.Prelude.{◌≡◌};
 ghost use Rattle.mysql_wire_dump_lines.specs.Turns.{turn, turn_by_id, turn_of_both};
 
-use crate::place::Place;
-use crate::side::Side;
+use mysql_wire_session::phase::Phase;
+use mysql_wire_session::side::Side;
 
 // The side whose id follows the last packet's.
 fn turn_by_id(next_id: u8, client_id: u8, server_id: u8) -> Side
@@ -22,35 +22,35 @@ fn turn_by_id(next_id: u8, client_id: u8, server_id: u8) -> Side
 }
 
 // Whose packet is next, where both sides have one.
-fn turn_of_both(place: Place, next_id: u8, client_id: u8, server_id: u8) -> Side
+fn turn_of_both(place: Phase, next_id: u8, client_id: u8, server_id: u8) -> Side
     ensures { result ≡ turn_of_both place next_id client_id server_id }
 {
     match place {
-        Place::Greeting => {
+        Phase::Greeting => {
             if server_id == 0 {
                 Side::Server
             } else {
                 Side::Client
             }
         }
-        Place::Login | Place::Command | Place::File | Place::Closed => Side::Client,
-        Place::Authentication
-        | Place::Answer
-        | Place::PrepareAnswer
-        | Place::OptionAnswer
-        | Place::Statistics
-        | Place::FieldList
-        | Place::BinaryLog
-        | Place::Columns { .. }
-        | Place::ColumnsEnd(_)
-        | Place::Rows
-        | Place::Encrypted => turn_by_id(next_id, client_id, server_id),
+        Phase::Login | Phase::Command | Phase::File | Phase::Closed => Side::Client,
+        Phase::Authentication
+        | Phase::Answer
+        | Phase::PrepareAnswer
+        | Phase::OptionAnswer
+        | Phase::Statistics
+        | Phase::FieldList
+        | Phase::BinaryLog
+        | Phase::Columns { .. }
+        | Phase::ColumnsEnd(_)
+        | Phase::Rows
+        | Phase::Encrypted => turn_by_id(next_id, client_id, server_id),
     }
 }
 
 /// Whose packet is next: the place that the session is at, the id behind the last packet, and the
 /// first ids of each side's next packet, where it has one.
-pub fn turn(place: Place, next_id: u8, client_id: Option<u8>, server_id: Option<u8>) -> Option<Side>
+pub fn turn(place: Phase, next_id: u8, client_id: Option<u8>, server_id: Option<u8>) -> Option<Side>
     ensures { result ≡ turn place next_id client_id server_id }
 {
     match (client_id, server_id) {

@@ -2,13 +2,10 @@
 
 ghost use Rattle.std.specs.Prelude.{◌≡◌};
 ghost use Rattle.mysql_wire_dump_fields.specs.AnswerFields.{column_count_fields, column_fields, eof_fields, error_fields, local_infile_fields, ok_fields, prepared_fields, progress_fields};
-ghost use Rattle.mysql_wire_dump_lines.specs.FieldTables.{members_in, row_if};
-ghost use Rattle.mysql_wire_dump_lines.specs.Fields.{Words};
-ghost use Rattle.mysql_wire_dump_fields.specs.Packets.{Column, Columns, Done, End, Failed, File, Prepared, Progress};
+ghost use Rattle.wire_text.specs.FieldTables.{members_in, row_if};
+ghost use Rattle.wire_text.specs.Fields.{Words};
 
 use super::{Show, bytes_if, number_if, side_if};
-use mysql_wire_dump_lines::fields::Field::{Flags, Number, Text};
-use mysql_wire_dump_lines::fields::{Field, Fields};
 use mysql_wire_packets::eof_packet::EofPacket;
 use mysql_wire_packets::err_packet::ErrPacket;
 use mysql_wire_packets::ok_packet::OkForm;
@@ -18,9 +15,11 @@ use mysql_wire_queries::column_definition::ColumnDefinition41;
 use mysql_wire_queries::local_infile::LocalInfileRequest;
 use mysql_wire_statements::com_stmt_prepare_ok::ComStmtPrepareOk;
 use std::alloc::{AllocError, Allocator};
+use wire_text::fields::Field::{Flags, Number, Text};
+use wire_text::fields::{Field, Fields};
 
 impl<const HEADER: u8> Show for OkForm<'_, HEADER> {
-    ghost packet = { λ packet. Done HEADER packet };
+    ghost members = { λ packet. ok_fields packet };
 
     fn show<A: Allocator + Copy>(&self, fields: &mut Fields<A>) -> Result<(), AllocError> {
         fields.put_all(&[
@@ -45,7 +44,7 @@ fn state_if<'a>(name: &'a str, state: &'a Option<[u8; 5]>) -> Field<'a>
 }
 
 impl Show for ErrPacket<'_> {
-    ghost packet = { λ packet. Failed packet };
+    ghost members = { λ packet. error_fields packet };
 
     fn show<A: Allocator + Copy>(&self, fields: &mut Fields<A>) -> Result<(), AllocError> {
         fields.put_all(&[
@@ -57,7 +56,7 @@ impl Show for ErrPacket<'_> {
 }
 
 impl Show for ProgressReport<'_> {
-    ghost packet = { λ packet. Progress packet };
+    ghost members = { λ packet. progress_fields packet };
 
     fn show<A: Allocator + Copy>(&self, fields: &mut Fields<A>) -> Result<(), AllocError> {
         fields.put_all(&[
@@ -71,7 +70,7 @@ impl Show for ProgressReport<'_> {
 }
 
 impl Show for EofPacket {
-    ghost packet = { λ packet. End packet };
+    ghost members = { λ packet. eof_fields packet };
 
     fn show<A: Allocator + Copy>(&self, fields: &mut Fields<A>) -> Result<(), AllocError> {
         fields.put_all(&[
@@ -82,7 +81,7 @@ impl Show for EofPacket {
 }
 
 impl Show for LocalInfileRequest<'_> {
-    ghost packet = { λ packet. File packet };
+    ghost members = { λ packet. local_infile_fields packet };
 
     fn show<A: Allocator + Copy>(&self, fields: &mut Fields<A>) -> Result<(), AllocError> {
         fields.put_all(&[Text("filename", self.file_name.0.as_slice())])
@@ -90,7 +89,7 @@ impl Show for LocalInfileRequest<'_> {
 }
 
 impl Show for ColumnCount {
-    ghost packet = { λ packet. Columns packet };
+    ghost members = { λ packet. column_count_fields packet };
 
     fn show<A: Allocator + Copy>(&self, fields: &mut Fields<A>) -> Result<(), AllocError> {
         fields.put_all(&[
@@ -102,7 +101,7 @@ impl Show for ColumnCount {
 }
 
 impl Show for ColumnDefinition41<'_> {
-    ghost packet = { λ packet. Column packet };
+    ghost members = { λ packet. column_fields packet };
 
     fn show<A: Allocator + Copy>(&self, fields: &mut Fields<A>) -> Result<(), AllocError> {
         fields.put_all(&[
@@ -123,7 +122,7 @@ impl Show for ColumnDefinition41<'_> {
 }
 
 impl Show for ComStmtPrepareOk {
-    ghost packet = { λ packet. Prepared packet };
+    ghost members = { λ packet. prepared_fields packet };
 
     fn show<A: Allocator + Copy>(&self, fields: &mut Fields<A>) -> Result<(), AllocError> {
         fields.put_all(&[

@@ -2,14 +2,11 @@
 
 ghost use Rattle.std.specs.Prelude.{◌≡◌, ◌∷◌, [], OnOk};
 ghost use Rattle.mysql_wire_queries.specs.declared.client_command.ClientCommand.TheVariants.{AttributedQuery, ChangeUser, InitDb, Ping, Query, Quit};
-ghost use Rattle.mysql_wire_dump_fields.specs.CommandFields.{attributes_and_query, params_fields};
-ghost use Rattle.mysql_wire_dump_lines.specs.FieldTables.{members_in, row_if};
-ghost use Rattle.mysql_wire_dump_lines.specs.Fields.{Number, Octets, Puts};
-ghost use Rattle.mysql_wire_dump_fields.specs.Packets.{Command, Execute, Fetch, LongData, OfStatement, Prepare, PutsFields};
+ghost use Rattle.mysql_wire_dump_fields.specs.CommandFields.{attributes_and_query, execute_fields, fetch_fields, long_data_fields, number_fields, params_fields, plain_fields, prepare_fields};
+ghost use Rattle.wire_text.specs.FieldTables.{members_in, row_if};
+ghost use Rattle.wire_text.specs.Fields.{Number, Octets, Puts};
 
 use super::{Show, bytes_if, words_if};
-use mysql_wire_dump_lines::fields::Field::{Bytes, Flags, Number, Text};
-use mysql_wire_dump_lines::fields::{Field, FieldValue, Fields};
 use mysql_wire_queries::com_change_user::ComChangeUser;
 use mysql_wire_queries::com_init_db::ComInitDb;
 use mysql_wire_queries::com_ping::ComPing;
@@ -24,6 +21,8 @@ use mysql_wire_statements::com_stmt_reset::ComStmtReset;
 use mysql_wire_statements::com_stmt_send_long_data::ComStmtSendLongData;
 use mysql_wire_statements::params::{ParamTypes, StmtParams};
 use std::alloc::{AllocError, Allocator};
+use wire_text::fields::Field::{Bytes, Flags, Number, Text};
+use wire_text::fields::{Field, FieldValue, Fields};
 
 // Without parameters the query stands alone.
 fn attributes_and_query<'a>(packet: &'a ComQueryWithAttributes<'_>) -> Field<'a>
@@ -48,7 +47,7 @@ fn character_set<'a>(name: &'a str, number: Option<u16>) -> Field<'a>
 }
 
 impl Show for ComQuit {
-    ghost packet = { λ packet. Command (Quit packet) };
+    ghost members = { λ packet. plain_fields (Quit packet) };
 
     fn show<A: Allocator + Copy>(&self, _fields: &mut Fields<A>) -> Result<(), AllocError> {
         Ok(())
@@ -56,7 +55,7 @@ impl Show for ComQuit {
 }
 
 impl Show for ComPing {
-    ghost packet = { λ packet. Command (Ping packet) };
+    ghost members = { λ packet. plain_fields (Ping packet) };
 
     fn show<A: Allocator + Copy>(&self, _fields: &mut Fields<A>) -> Result<(), AllocError> {
         Ok(())
@@ -64,7 +63,7 @@ impl Show for ComPing {
 }
 
 impl Show for ComInitDb<'_> {
-    ghost packet = { λ packet. Command (InitDb packet) };
+    ghost members = { λ packet. plain_fields (InitDb packet) };
 
     fn show<A: Allocator + Copy>(&self, fields: &mut Fields<A>) -> Result<(), AllocError> {
         fields.put("schema", FieldValue::Text(self.schema.0.as_slice()))
@@ -72,7 +71,7 @@ impl Show for ComInitDb<'_> {
 }
 
 impl Show for ComQuery<'_> {
-    ghost packet = { λ packet. Command (Query packet) };
+    ghost members = { λ packet. plain_fields (Query packet) };
 
     fn show<A: Allocator + Copy>(&self, fields: &mut Fields<A>) -> Result<(), AllocError> {
         fields.put("query", FieldValue::Text(self.query.0.as_slice()))
@@ -80,7 +79,7 @@ impl Show for ComQuery<'_> {
 }
 
 impl Show for ComQueryWithAttributes<'_> {
-    ghost packet = { λ packet. Command (AttributedQuery packet) };
+    ghost members = { λ packet. plain_fields (AttributedQuery packet) };
 
     fn show<A: Allocator + Copy>(&self, fields: &mut Fields<A>) -> Result<(), AllocError> {
         fields.put_all(&[
@@ -92,7 +91,7 @@ impl Show for ComQueryWithAttributes<'_> {
 }
 
 impl Show for ComChangeUser<'_> {
-    ghost packet = { λ packet. Command (ChangeUser packet) };
+    ghost members = { λ packet. plain_fields (ChangeUser packet) };
 
     fn show<A: Allocator + Copy>(&self, fields: &mut Fields<A>) -> Result<(), AllocError> {
         fields.put_all(&[
@@ -111,7 +110,7 @@ pub fn number_of_statement<A: Allocator + Copy>(
     fields: &mut Fields<A>,
     statement_id: u32,
 ) -> Result<(), AllocError>
-    ensures { OnOk result (PutsFields (OfStatement statement_id) fields.old fields.new) }
+    ensures { OnOk result (Puts (number_fields statement_id) fields.old fields.new) }
 {
     fields.put("statement_id", FieldValue::Number(statement_id as u64))
 }
@@ -143,7 +142,7 @@ fn params<A: Allocator + Copy>(
 }
 
 impl Show for ComStmtExecute<'_> {
-    ghost packet = { λ packet. Execute packet };
+    ghost members = { λ packet. execute_fields packet };
 
     fn show<A: Allocator + Copy>(&self, fields: &mut Fields<A>) -> Result<(), AllocError> {
         fields.put_all(&[
@@ -157,7 +156,7 @@ impl Show for ComStmtExecute<'_> {
 }
 
 impl Show for ComStmtSendLongData<'_> {
-    ghost packet = { λ packet. LongData packet };
+    ghost members = { λ packet. long_data_fields packet };
 
     fn show<A: Allocator + Copy>(&self, fields: &mut Fields<A>) -> Result<(), AllocError> {
         fields.put_all(&[
@@ -169,7 +168,7 @@ impl Show for ComStmtSendLongData<'_> {
 }
 
 impl Show for ComStmtFetch {
-    ghost packet = { λ packet. Fetch packet };
+    ghost members = { λ packet. fetch_fields packet };
 
     fn show<A: Allocator + Copy>(&self, fields: &mut Fields<A>) -> Result<(), AllocError> {
         fields.put_all(&[
@@ -180,7 +179,7 @@ impl Show for ComStmtFetch {
 }
 
 impl Show for ComStmtPrepare<'_> {
-    ghost packet = { λ packet. Prepare packet.query.now };
+    ghost members = { λ packet. prepare_fields packet };
 
     fn show<A: Allocator + Copy>(&self, fields: &mut Fields<A>) -> Result<(), AllocError> {
         fields.put("query", FieldValue::Text(self.query))
@@ -188,7 +187,7 @@ impl Show for ComStmtPrepare<'_> {
 }
 
 impl Show for ComStmtClose {
-    ghost packet = { λ packet. OfStatement packet.statement_id };
+    ghost members = { λ packet. number_fields packet.statement_id };
 
     fn show<A: Allocator + Copy>(&self, fields: &mut Fields<A>) -> Result<(), AllocError> {
         number_of_statement(fields, self.statement_id)
@@ -196,7 +195,7 @@ impl Show for ComStmtClose {
 }
 
 impl Show for ComStmtReset {
-    ghost packet = { λ packet. OfStatement packet.statement_id };
+    ghost members = { λ packet. number_fields packet.statement_id };
 
     fn show<A: Allocator + Copy>(&self, fields: &mut Fields<A>) -> Result<(), AllocError> {
         number_of_statement(fields, self.statement_id)

@@ -1,6 +1,6 @@
 //! The packets that a connection begins with.
 
-ghost use Rattle.mysql_wire_dump_fields.specs.Packets.{AuthAnswer, AuthSwitch, Greeting, Login, MoreData, PutsFields, TlsRequest};
+ghost use Rattle.mysql_wire_dump_fields.specs.ConnectionFields.{auth_answer_fields, auth_more_data_fields, auth_switch_fields, greeting_fields, login_fields, tls_request_fields};
 
 use super::{Show, bytes_if, number_if, of_side, side_if, words_if};
 use mysql_wire_connection::auth_more_data::AuthMoreData;
@@ -9,12 +9,12 @@ use mysql_wire_connection::auth_switch_response::AuthSwitchResponse;
 use mysql_wire_connection::handshake::HandshakeV10;
 use mysql_wire_connection::handshake_response::HandshakeResponse41;
 use mysql_wire_connection::ssl_request::SslRequest;
-use mysql_wire_dump_lines::fields::Field::{Bytes, Flags, Number, Text};
-use mysql_wire_dump_lines::fields::Fields;
 use std::alloc::{AllocError, Allocator};
+use wire_text::fields::Field::{Bytes, Flags, Number, Text};
+use wire_text::fields::Fields;
 
 impl Show for HandshakeV10<'_> {
-    ghost packet = { λ packet. Greeting packet };
+    ghost members = { λ packet. greeting_fields packet };
 
     fn show<A: Allocator + Copy>(&self, fields: &mut Fields<A>) -> Result<(), AllocError> {
         fields.put_all(&[
@@ -39,7 +39,7 @@ impl Show for HandshakeV10<'_> {
 }
 
 impl Show for SslRequest {
-    ghost packet = { λ packet. TlsRequest packet };
+    ghost members = { λ packet. tls_request_fields packet };
 
     fn show<A: Allocator + Copy>(&self, fields: &mut Fields<A>) -> Result<(), AllocError> {
         fields.put_all(&[
@@ -52,7 +52,7 @@ impl Show for SslRequest {
 }
 
 impl Show for HandshakeResponse41<'_> {
-    ghost packet = { λ packet. Login packet };
+    ghost members = { λ packet. login_fields packet };
 
     fn show<A: Allocator + Copy>(&self, fields: &mut Fields<A>) -> Result<(), AllocError> {
         fields.put_all(&[
@@ -71,7 +71,7 @@ impl Show for HandshakeResponse41<'_> {
 }
 
 impl Show for AuthSwitchRequest<'_> {
-    ghost packet = { λ packet. AuthSwitch packet };
+    ghost members = { λ packet. auth_switch_fields packet };
 
     fn show<A: Allocator + Copy>(&self, fields: &mut Fields<A>) -> Result<(), AllocError> {
         fields.put_all(&[
@@ -82,7 +82,7 @@ impl Show for AuthSwitchRequest<'_> {
 }
 
 impl Show for AuthMoreData<'_> {
-    ghost packet = { λ packet. MoreData packet };
+    ghost members = { λ packet. auth_more_data_fields packet };
 
     fn show<A: Allocator + Copy>(&self, fields: &mut Fields<A>) -> Result<(), AllocError> {
         fields.put_all(&[Bytes("data", self.data.0.as_slice())])
@@ -90,7 +90,7 @@ impl Show for AuthMoreData<'_> {
 }
 
 impl Show for AuthSwitchResponse<'_> {
-    ghost packet = { λ packet. AuthAnswer packet };
+    ghost members = { λ packet. auth_answer_fields packet };
 
     fn show<A: Allocator + Copy>(&self, fields: &mut Fields<A>) -> Result<(), AllocError> {
         fields.put_all(&[Bytes("data", self.data.0.as_slice())])

@@ -1,17 +1,18 @@
 //! Payloads that are not read further, and texts.
 
-ghost use Rattle.std.specs.Prelude.{OnOk};
-ghost use Rattle.mysql_wire_dump_fields.specs.Packets.{ColumnBytes, Event, OtherCommand, PutsFields, RowBytes, Statistics};
+ghost use Rattle.std.specs.Prelude.{OnOk, codes};
+ghost use Rattle.mysql_wire_dump_fields.specs.Packets.{as_bytes, as_text};
+ghost use Rattle.wire_text.specs.Fields.{Puts};
 
-use mysql_wire_dump_lines::fields::{FieldValue, Fields};
 use std::alloc::{AllocError, Allocator};
+use wire_text::fields::{FieldValue, Fields};
 
 /// What a server says of itself.
 pub fn statistics<A: Allocator + Copy>(
     fields: &mut Fields<A>,
     payload: &[u8],
 ) -> Result<(), AllocError>
-    ensures { OnOk result (PutsFields (Statistics payload.now) fields.old fields.new) }
+    ensures { OnOk result (Puts (as_text (codes "statistics") payload.now) fields.old fields.new) }
 {
     fields.put("statistics", FieldValue::Text(payload))
 }
@@ -21,7 +22,7 @@ pub fn other_command<A: Allocator + Copy>(
     fields: &mut Fields<A>,
     payload: &[u8],
 ) -> Result<(), AllocError>
-    ensures { OnOk result (PutsFields (OtherCommand payload.now) fields.old fields.new) }
+    ensures { OnOk result (Puts (as_bytes (codes "payload") payload.now) fields.old fields.new) }
 {
     fields.put("payload", FieldValue::Bytes(payload))
 }
@@ -31,7 +32,7 @@ pub fn column_bytes<A: Allocator + Copy>(
     fields: &mut Fields<A>,
     payload: &[u8],
 ) -> Result<(), AllocError>
-    ensures { OnOk result (PutsFields (ColumnBytes payload.now) fields.old fields.new) }
+    ensures { OnOk result (Puts (as_bytes (codes "column") payload.now) fields.old fields.new) }
 {
     fields.put("column", FieldValue::Bytes(payload))
 }
@@ -41,14 +42,14 @@ pub fn row_bytes<A: Allocator + Copy>(
     fields: &mut Fields<A>,
     payload: &[u8],
 ) -> Result<(), AllocError>
-    ensures { OnOk result (PutsFields (RowBytes payload.now) fields.old fields.new) }
+    ensures { OnOk result (Puts (as_bytes (codes "values") payload.now) fields.old fields.new) }
 {
     fields.put("values", FieldValue::Bytes(payload))
 }
 
 /// An event of a binary log.
 pub fn event<A: Allocator + Copy>(fields: &mut Fields<A>, payload: &[u8]) -> Result<(), AllocError>
-    ensures { OnOk result (PutsFields (Event payload.now) fields.old fields.new) }
+    ensures { OnOk result (Puts (as_bytes (codes "event") payload.now) fields.old fields.new) }
 {
     fields.put("event", FieldValue::Bytes(payload))
 }

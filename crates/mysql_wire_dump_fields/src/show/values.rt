@@ -3,17 +3,14 @@
 ghost use Rattle.std.specs.Float.{binary32, binary64};
 ghost use Rattle.std.specs.Fmt.{decimal};
 ghost use Rattle.std.specs.Prelude.{◌≡◌, ◌∷◌, [], ◌++◌, IfOk, OnOk};
-ghost use Rattle.mysql_wire_dump_lines.specs.Fields.{Puts, Word, Written};
+ghost use Rattle.wire_text.specs.Fields.{Puts, Word, Written};
 ghost use Rattle.mysql_wire_dump_fields.specs.MomentTexts.{date_text, time_text};
-ghost use Rattle.mysql_wire_dump_fields.specs.Packets.{PutsFields, Row, RowParts, Texts};
-ghost use Rattle.mysql_wire_dump_fields.specs.ValueFields.{IsTypeOf, PutsColumn, PutsFloat, PutsRow, PutsShown, PutsText, PutsTexts, PutsValues};
+ghost use Rattle.mysql_wire_dump_fields.specs.ValueFields.{IsTypeOf, row_bytes_fields, PutsColumn, PutsFloat, PutsRow, PutsShown, PutsText, PutsTexts, PutsValues};
 
 use super::Show;
 use crate::moments::{push_date, push_time};
-use mysql_wire_dump_lines::fields::{Field, FieldValue, Fields};
-use mysql_wire_dump_lines::refusal::Refusal;
-use mysql_wire_dump_lines::status::Stop;
 use mysql_wire_queries::text_row::TextValue;
+use mysql_wire_session::refusal::{Refusal, SessionError};
 use mysql_wire_statements::binary_row::BinaryRow;
 use mysql_wire_statements::binary_value::BinaryValue;
 use mysql_wire_statements::moments::{BinaryDate, BinaryTime};
@@ -23,6 +20,7 @@ use std::num::{f32_from_bits_with_nan, f64_from_bits_with_nan};
 use wire_buf::error::WireError;
 use wire_buf::io::ParseBuf;
 use wire_const::ColumnType;
+use wire_text::fields::{Field, FieldValue, Fields};
 
 // Reads the text of a column, and puts it. The answer is why it is none.
 fn put_text<A: Allocator + Copy>(
@@ -30,7 +28,7 @@ fn put_text<A: Allocator + Copy>(
     fields: &mut Fields<A>,
     place: u64,
     rest: &mut ParseBuf<'_>,
-) -> Result<Option<Refusal>, Stop>
+) -> Result<Option<Refusal>, SessionError>
     ensures { IfOk result (λ refusal. PutsText place rest.old.0.now rest.new.0.now refusal
         fields.old fields.new) }
 {
@@ -53,7 +51,7 @@ fn put_texts<A: Allocator + Copy>(
     fields: &mut Fields<A>,
     columns: u64,
     payload: &[u8],
-) -> Result<Option<Refusal>, Stop>
+) -> Result<Option<Refusal>, SessionError>
     ensures { IfOk result (λ refusal. PutsTexts columns payload.now refusal
         fields.old fields.new) }
 {
@@ -77,14 +75,11 @@ pub fn text_row<A: Allocator + Copy>(
     fields: &mut Fields<A>,
     columns: u64,
     payload: &[u8],
-) -> Result<Option<Refusal>, Stop>
-    ensures texts { IfOk result (λ refusal. PutsTexts columns payload.now refusal
-        fields.old fields.new) }
-    ensures fields { IfOk result (λ refusal. PutsFields (Texts columns refusal payload.now)
+) -> Result<Option<Refusal>, SessionError>
+    ensures { IfOk result (λ refusal. PutsTexts columns payload.now refusal
         fields.old fields.new) }
 {
-    let refusal = put_texts(global, fields, columns, payload)?;
-    Ok(refusal)
+    put_texts(global, fields, columns, payload)
 }
 
 // Puts a number of these bits.
@@ -191,7 +186,7 @@ fn put_column<'a, A: Allocator + Copy>(
     number: u8,
     row: &BinaryRow<'a>,
     rest: &mut ParseBuf<'a>,
-) -> Result<Option<Refusal>, Stop>
+) -> Result<Option<Refusal>, SessionError>
     ensures { IfOk result (λ refusal. PutsColumn row.now.nulls.0.now place number
         rest.old.0.now rest.new.0.now refusal fields.old fields.new) }
 {
@@ -210,7 +205,7 @@ fn binary_values<A: Allocator + Copy>(
     fields: &mut Fields<A>,
     types: &[u8],
     row: &BinaryRow<'_>,
-) -> Result<Option<Refusal>, Stop>
+) -> Result<Option<Refusal>, SessionError>
     ensures { IfOk result (λ refusal. PutsValues types.now row.now refusal fields.old
         fields.new) }
 {
@@ -228,7 +223,7 @@ fn binary_values<A: Allocator + Copy>(
 }
 
 impl Show for BinaryRow<'_> {
-    ghost packet = { λ row. RowParts row };
+    ghost members = { λ row. row_bytes_fields row };
 
     fn show<A: Allocator + Copy>(&self, fields: &mut Fields<A>) -> Result<(), AllocError> {
         fields.put_all(&[
@@ -246,7 +241,7 @@ fn put_row<A: Allocator + Copy>(
     columns: u64,
     types: &[u8],
     row: &BinaryRow<'_>,
-) -> Result<Option<Refusal>, Stop>
+) -> Result<Option<Refusal>, SessionError>
     ensures { IfOk result (λ refusal. PutsRow columns types.now row.now refusal fields.old
         fields.new) }
 {
@@ -265,12 +260,9 @@ pub fn binary_row<A: Allocator + Copy>(
     columns: u64,
     types: &[u8],
     row: &BinaryRow<'_>,
-) -> Result<Option<Refusal>, Stop>
-    ensures row { IfOk result (λ refusal. PutsRow columns types.now row.now refusal fields.old
+) -> Result<Option<Refusal>, SessionError>
+    ensures { IfOk result (λ refusal. PutsRow columns types.now row.now refusal fields.old
         fields.new) }
-    ensures fields { IfOk result (λ refusal. PutsFields (Row columns types.now row.now refusal)
-        fields.old fields.new) }
 {
-    let refusal = put_row(global, fields, columns, types, row)?;
-    Ok(refusal)
+    put_row(global, fields, columns, types, row)
 }

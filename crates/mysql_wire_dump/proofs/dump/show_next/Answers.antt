@@ -8,7 +8,7 @@ returns-in_default-clause-goes g c all_client all_server before going =
     all_server (g.S.Read.remaining c.args.server.now) (g.S.Read.remaining c.look-2.new.input) before (g.W.Write.contents c.args.output.now) going.so_far
     c.in_ok-look.ensures.looks c.in_ok-look.ensures.kept c.in_ok-look.ensures.end c.in_ok-look.ensures.seen c.in_ok-look.ensures.limit
     c.in_ok-look-2.ensures.looks c.in_ok-look-2.ensures.kept c.in_ok-look-2.ensures.end c.in_ok-look-2.ensures.seen c.in_ok-look-2.ensures.limit in
-    let none = no_turn c.args.dump.now.session.place c.args.dump.now.session.next_id c.look.new.self.next c.look-2.new.self.next (sym c.turn.ensures ∙ c.in_default.is)
+    let none = no_turn c.args.dump.now.session.phase c.args.dump.now.session.next_id c.look.new.self.next c.look-2.new.self.next (sym c.turn.ensures ∙ c.in_default.is)
     c.in_ok-look.ensures.next c.in_ok-look-2.ensures.next in
     none_left _ all_client (g.R.Read.remaining c.look.new.input) all_server (g.S.Read.remaining c.look-2.new.input) before (g.W.Write.contents c.args.output.now) both going.is_open none.0 none.1
 
@@ -24,7 +24,7 @@ returns-then-eq-clause-goes g c all_client all_server before going =
     let written = much_written c.show.new.self c.write_much.new.self much.0 all_client (g.R.Read.remaining c.look.new.input) all_server (g.S.Read.remaining c.look-2.new.input)
     before (g.W.Write.contents c.args.output.now) (g.W.Write.contents c.write_much.new.output) shown much.1 much.2 much.3 in
     rest_hidden c.write_much.new.self c.hide.new.self c.hide-then-eq.new.self all_client (g.R.Read.remaining c.look.new.input) all_server (g.S.Read.remaining c.look-2.new.input)
-    before (g.W.Write.contents c.write_much.new.output) written (search (rules, c.place.ensures, c.eq.ensures, c.if-eq.true, c.if-eq.ensures)) c.hide.ensures.stands c.hide-then-eq.ensures.stands c.hide.ensures.next c.hide-then-eq.ensures.next
+    before (g.W.Write.contents c.write_much.new.output) written (search (rules, c.phase.ensures, c.eq.ensures, c.if-eq.true, c.if-eq.ensures)) c.hide.ensures.stands c.hide-then-eq.ensures.stands c.hide.ensures.next c.hide-then-eq.ensures.next
 
 pub returns-clause-goes : goal.returns-clause-goes
 returns-clause-goes g c all_client all_server before going =
@@ -38,5 +38,5 @@ returns-clause-goes g c all_client all_server before going =
     record {
       so_far = much_written c.show.new.self c.write_much.new.self much.0 all_client (g.R.Read.remaining c.look.new.input) all_server (g.S.Read.remaining c.look-2.new.input)
           before (g.W.Write.contents c.args.output.now) (g.W.Write.contents c.write_much.new.output) shown much.1 much.2 much.3;
-      is_open = search (rules, c.place.ensures, c.eq.ensures, c.if-eq.false, c.if-eq.ensures);
+      is_open = search (rules, c.phase.ensures, c.eq.ensures, c.if-eq.false, c.if-eq.ensures);
     }

@@ -1,9 +1,9 @@
 use Rattle.std.proofs.Common.{◌≡◌, ◌++◌, ◌∙◌, ℕ, refl, string_bytes, subst, sym}
-use Rattle.mysql_wire_dump_lines.specs.declared.side.Side.TheVariants.{Client}
+use Rattle.mysql_wire_session.specs.declared.side.Side.TheVariants.{Client}
 use Rattle.mysql_wire_dump_lines.specs.declared.source.Next.{Next}
 use Rattle.mysql_wire_dump_lines.specs.Lines.{packet_line}
 use Rattle.mysql_wire_dump_lines.specs.Sources.{AtEnd}
-use Rattle.mysql_wire_dump.specs.Known.{known_of}
+use Rattle.mysql_wire_session.specs.State.{state_of}
 use Rattle.mysql_wire_dump.proofs.DumpLemmas.{unread_seen, packet_of, client_shown}
 use Rattle.mysql_wire_dump.proofs.dump.Dump.show_client.Goals as goal
 
@@ -16,10 +16,10 @@ returns g c =
     c.payload_len.ensures c.in_ok-push_packet.ensures in
     record {
       more = λ shown client server written dumping is_turn looked.
-          client_shown old _ (known_of c.name_packet.new.session) c.in-Some.id c.in_ok-kind.kind c.shown_payload-payload.result.now c.text-fields.result.now is
+          client_shown old _ (state_of c.name_packet.new.session) c.in-Some.id c.in_ok-kind.kind c.shown_payload-payload.result.now c.text-fields.result.now is
           (rw (c.text-fields.ensures, ← c.field_form.ensures) c.in_ok-kind.ensures.large)
           (rw (c.text-fields.ensures, ← c.field_form.ensures) c.in_ok-kind.ensures.named)
-          c.shown_payload-payload.ensures text (rw c.id_behind.ensures at c.set_next_id.ensures) refl refl
+          c.shown_payload-payload.ensures text refl refl refl
           c.in_ok-pass.ensures.limit c.in_ok-pass.ensures.passes shown client server written dumping is_turn looked;
       options_are = refl;
       client_seen = λ _. unread_seen _ c.in_ok-pass.ensures.next;

@@ -1,6 +1,6 @@
 use Rattle.std.proofs.Common.{ℕ, List, ◌∙◌, get_or, refl, subst, sym, arith}
 use Rattle.std.proofs.lemmas.List.{take_more}
-use Rattle.mysql_wire_dump_lines.specs.Fields.{Member, Puts}
+use Rattle.wire_text.specs.Fields.{Member, Puts}
 use Rattle.mysql_wire_dump_fields.proofs.ValueLemmas.{Values, rest-none, rest-there, values-ended, values-more, values-refused}
 use Rattle.mysql_wire_dump_fields.proofs.show.values.binary_values.Goals as goal
 

@@ -1,7 +1,6 @@
 use Rattle.std.proofs.Common.{inr, refl}
-use Rattle.mysql_wire_dump_fields.proofs.PacketLemmas.{row_parts}
 use Rattle.mysql_wire_dump_fields.proofs.show.values.put_row.Goals as goal
 
 pub returns : goal.returns
 returns g c =
-    inr (c.if-types-columns.false, (refl, row_parts c.args.row.now c.args.fields.now _ c.in_ok-show.ensures))
+    inr (c.if-types-columns.false, (refl, c.in_ok-show.ensures))

@@ -1,11 +1,11 @@
 use Rattle.std.proofs.lemmas.List.{append-nil}
 use Rattle.std.proofs.Common.{refl}
 use Rattle.mysql_wire_queries.specs.declared.client_command.ClientCommand.TheVariants.{ChangeUser}
-use Rattle.mysql_wire_dump_fields.specs.Packets.{Command}
-use Rattle.mysql_wire_dump_fields.proofs.PacketLemmas.{puts_fields}
+use Rattle.mysql_wire_dump_fields.specs.CommandFields.{plain_fields}
+use Rattle.mysql_wire_dump_fields.proofs.PacketLemmas.{puts_are}
 use Rattle.mysql_wire_dump_fields.proofs.show.commands.ComChangeUserShow.show.Goals as goal
 
 pub returns : goal.returns
 returns g c =
-    puts_fields c.put_all.result (Command (ChangeUser c.args.self.now)) _ c.args.fields.now c.put_all.new.self c.put_all.ensures
+    puts_are c.put_all.result _ (plain_fields (ChangeUser c.args.self.now)) c.args.fields.now c.put_all.new.self c.put_all.ensures
     (rw (c.as_slice.ensures.value, c.as_slice-2.ensures.value, c.as_slice-3.ensures.value, c.character_set.ensures, c.words_if.ensures, c.bytes_if.ensures, append-nil) refl)

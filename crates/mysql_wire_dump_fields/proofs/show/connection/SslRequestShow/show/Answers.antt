@@ -1,8 +1,8 @@
 use Rattle.std.proofs.Common.{refl}
-use Rattle.mysql_wire_dump_fields.specs.Packets.{TlsRequest}
-use Rattle.mysql_wire_dump_fields.proofs.PacketLemmas.{puts_fields}
+use Rattle.mysql_wire_dump_fields.specs.ConnectionFields.{tls_request_fields}
+use Rattle.mysql_wire_dump_fields.proofs.PacketLemmas.{puts_are}
 use Rattle.mysql_wire_dump_fields.proofs.show.connection.SslRequestShow.show.Goals as goal
 
 pub returns : goal.returns
 returns g c =
-    puts_fields c.put_all.result (TlsRequest c.args.self.now) _ c.args.fields.now c.put_all.new.self c.put_all.ensures refl
+    puts_are c.put_all.result _ (tls_request_fields c.args.self.now) c.args.fields.now c.put_all.new.self c.put_all.ensures refl

@@ -1,0 +1,11 @@
+use Rattle.mysql_wire_dump_fields.proofs.PacketLemmas.{puts_row}
+use Rattle.mysql_wire_dump_fields.proofs.show.packet.show_row.Goals as goal
+
+pub returns-in_ok-refusal-in-Binary : goal.returns-in_ok-refusal-in-Binary
+returns-in_ok-refusal-in-Binary g c =
+    let put = puts_row c.in-Binary.columns c.args.types.now c.in-Binary.row c.in_ok-refusal-in-Binary.refusal c.args.fields.now c.binary_row.new.fields c.in_ok-refusal-in-Binary.ensures in
+    rw c.in-Binary.is (record {
+      members = put.0;
+      has = (c.in_ok-refusal-in-Binary.refusal, c.row_kind-in-Binary.ensures, put.1);
+      puts = put.2;
+    })

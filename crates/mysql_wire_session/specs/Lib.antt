@@ -1,0 +1,9 @@
+pub mod Names
+pub mod Kinds
+pub mod Refusals
+pub mod State
+pub mod Advance
+pub mod Opening
+pub mod Readings
+pub mod Senders
+pub mod Grammar

@@ -1,0 +1,328 @@
+//! What a payload is read as.
+
+ghost use Rattle.std.specs.Prelude.{◌≡◌, IfOk, length};
+ghost use Rattle.mysql_wire_packets.specs.Optional.{has_query_attributes};
+ghost use Rattle.mysql_wire_queries.specs.declared.client_command.ClientCommand.TheVariants.{AttributedQuery, ChangeUser, InitDb, Ping, Query, Quit};
+ghost use Rattle.mysql_wire_session.specs.declared.packet.Packet.TheVariants.{Command};
+ghost use Rattle.mysql_wire_session.specs.Advance.{opened, without_eof};
+ghost use Rattle.mysql_wire_session.specs.Opening.{opened_state};
+ghost use Rattle.mysql_wire_session.specs.declared.packet_kind.PacketKind.TheVariants as kinds;
+ghost use Rattle.mysql_wire_session.specs.Readings.{IsColumn, IsCommand, IsEnd, IsMade, IsPlain, IsQuery, IsRowKind, IsTextRow, ReadsAs, RowReads, error_capabilities, is_ended_by_ok, statement_named};
+ghost use Rattle.mysql_wire_session.specs.State.{SessionState, state_of};
+
+use super::Session;
+use super::phases::after_definitions;
+use crate::packet::{Packet, Row};
+use crate::packet_kind::PacketKind;
+use crate::payload::Payload;
+use crate::phase::{Phase, RowForm};
+use crate::refusal::{Refusal, SessionError};
+use mysql_wire_packets::ok_packet::InfoForm;
+use mysql_wire_packets::places::read_whole;
+use mysql_wire_queries::client_command::ClientCommand;
+use mysql_wire_queries::com_change_user::ComChangeUser;
+use mysql_wire_queries::com_init_db::ComInitDb;
+use mysql_wire_queries::com_ping::ComPing;
+use mysql_wire_queries::com_query::ComQuery;
+use mysql_wire_queries::com_query_attributes::ComQueryWithAttributes;
+use mysql_wire_queries::com_quit::ComQuit;
+use mysql_wire_statements::binary_row::BinaryRow;
+use std::alloc::{Allocator, Global};
+use wire_const::{CapabilityFlags, Flags};
+
+// Reads a payload as one packet of this type, and makes a packet of the session of it.
+fn read_as<'a, T: Payload<'a>, F: FnOnce(T) -> Packet<'a>>(
+    global: Global,
+    ctx: T::Ctx,
+    payload: &'a [u8],
+    make: F,
+) -> Result<Packet<'a>, SessionError>
+    requires { (read : T) → F.pre make read }
+    ensures { IfOk result (IsMade (F.post make) (T.reads_whole ctx) payload.entry.now) }
+{
+    match read_whole::<T>(global, ctx, payload) {
+        Ok(packet) => Ok(make(packet)),
+        Err(error) => Ok(Packet::Refused(Refusal::of(error)?)),
+    }
+}
+
+// The number of the statement that a payload names, where it has come.
+fn statement_named(payload: &[u8]) -> Option<u32>
+    ensures { result ≡ statement_named payload.now }
+{
+    match payload {
+        [_, a, b, c, d, ..] => Some(u32::from_le_bytes([*a, *b, *c, *d])),
+        _ => None,
+    }
+}
+
+// The capabilities of an error: where a server begins with one, none are in force.
+fn error_capabilities(phase: Phase, capabilities: CapabilityFlags) -> CapabilityFlags
+    ensures { result ≡ error_capabilities phase capabilities }
+{
+    match phase {
+        Phase::Greeting => CapabilityFlags::empty(),
+        _ => capabilities,
+    }
+}
+
+// Whether an OK ends the rows, and no EOF.
+fn is_ended_by_ok(is_eof_deprecated: bool, len: usize) -> bool
+    ensures { result ≡ is_ended_by_ok is_eof_deprecated len }
+{
+    is_eof_deprecated && len != 5
+}
+
+// What is known where a packet is read that may stand where an EOF would.
+#[derive(Clone, Copy)]
+pub(super) struct Opened {
+    phase: Phase,
+    is_eof_deprecated: bool,
+}
+
+impl<A: Allocator + Copy> Session<A> {
+    // Where no EOF follows definitions, the client wants none.
+    fn without_eof(&self) -> Opened
+        ensures { opened_state result (state_of self.now)
+            ≡ without_eof self.now.phase (state_of self.now) }
+    {
+        match self.phase {
+            Phase::ColumnsEnd(after) => Opened {
+                phase: after_definitions(after),
+                is_eof_deprecated: true,
+            },
+            phase => Opened {
+                phase,
+                is_eof_deprecated: self.is_eof_deprecated,
+            },
+        }
+    }
+
+    // What is known where a packet of this kind is read.
+    pub(super) fn opened(&self, kind: PacketKind, len: usize) -> Opened
+        ensures { opened_state result (state_of self.now)
+            ≡ opened kind len (state_of self.now) }
+    {
+        match kind {
+            PacketKind::Column | PacketKind::Row | PacketKind::BinaryRow => self.without_eof(),
+            PacketKind::Eof if len != 5 => self.without_eof(),
+            _ => Opened {
+                phase: self.phase,
+                is_eof_deprecated: self.is_eof_deprecated,
+            },
+        }
+    }
+
+    // Reads a payload by the type of its kind.
+    pub(super) fn read_packet<'a>(
+        &self,
+        kind: PacketKind,
+        opened: Opened,
+        payload: &'a [u8],
+    ) -> Result<Packet<'a>, SessionError>
+        ensures { IfOk result (ReadsAs (opened_state opened (state_of self.now)) kind
+            payload.entry.now) }
+    {
+        let global = self.global;
+        match kind {
+            PacketKind::Greeting => read_as(global, (), payload, Packet::Greeting),
+            PacketKind::TlsRequest => read_as(global, (), payload, Packet::TlsRequest),
+            PacketKind::Login => read_as(global, (), payload, Packet::Login),
+            PacketKind::AuthSwitch => read_as(global, (), payload, Packet::AuthSwitch),
+            PacketKind::AuthMoreData => read_as(global, (), payload, Packet::AuthMoreData),
+            PacketKind::AuthAnswer => read_as(global, (), payload, Packet::AuthAnswer),
+            PacketKind::Ok => {
+                read_as(global, InfoForm::of(self.capabilities), payload, Packet::Ok)
+            }
+            PacketKind::Error => {
+                let capabilities = error_capabilities(opened.phase, self.capabilities);
+                read_as(global, capabilities, payload, Packet::Error)
+            }
+            PacketKind::Progress => read_as(global, (), payload, Packet::Progress),
+            PacketKind::Eof => self.read_end(opened.is_eof_deprecated, payload),
+            PacketKind::ColumnCount => {
+                let capabilities = (self.capabilities, self.mariadb);
+                read_as(global, capabilities, payload, Packet::ColumnCount)
+            }
+            PacketKind::Column => self.read_column(opened.phase, payload),
+            PacketKind::Row | PacketKind::BinaryRow => match self.read_row(kind, payload) {
+                Ok(row) => Ok(Packet::Row(row)),
+                Err(error) => Err(error),
+            },
+            PacketKind::LocalInfile => read_as(global, (), payload, Packet::LocalInfile),
+            PacketKind::Prepared => read_as(global, (), payload, Packet::Prepared),
+            _ => self.read_command(kind, payload),
+        }
+    }
+
+    // The end of definitions, of rows, or of what else an EOF ends. An OK may stand in its place.
+    fn read_end<'a>(
+        &self,
+        is_eof_deprecated: bool,
+        payload: &'a [u8],
+    ) -> Result<Packet<'a>, SessionError>
+        ensures { IfOk result (IsEnd
+            (is_ended_by_ok is_eof_deprecated (length payload.entry.now))
+            self.now.capabilities payload.entry.now) }
+    {
+        if is_ended_by_ok(is_eof_deprecated, payload.len()) {
+            let form = InfoForm::of(self.capabilities);
+            read_as(self.global, form, payload, Packet::RowsEnd)
+        } else {
+            read_as(self.global, (), payload, Packet::Eof)
+        }
+    }
+
+    // A definition of a column; where none is waited for it is one of the columns of a table, whose
+    // default follows it.
+    fn read_column<'a>(&self, phase: Phase, payload: &'a [u8]) -> Result<Packet<'a>, SessionError>
+        ensures { IfOk result (IsColumn phase self.now.mariadb payload.entry.now) }
+    {
+        match phase {
+            Phase::Columns { .. } => { read_as(self.global, self.mariadb, payload, Packet::Column) }
+            _ => Ok(Packet::TableColumn(payload)),
+        }
+    }
+
+    // A row of texts. One of a command that was not seen is not read.
+    fn text_row<'a>(&self, payload: &'a [u8]) -> Row<'a>
+        ensures { IsTextRow self.now.row_form self.now.columns payload.entry.now result }
+    {
+        match self.row_form {
+            RowForm::Text => Row::Text {
+                columns: self.columns,
+                values: payload,
+            },
+            _ => Row::Unread(payload),
+        }
+    }
+
+    fn binary_row<'a>(&self, payload: &'a [u8]) -> Result<Row<'a>, SessionError>
+        ensures { IfOk result (RowReads (state_of self.now) kinds.BinaryRow payload.entry.now) }
+    {
+        let columns = self.columns;
+        match read_whole::<BinaryRow<'_>>(self.global, columns as usize, payload) {
+            Ok(row) => Ok(Row::Binary { columns, row }),
+            Err(error) => Ok(Row::Refused(Refusal::of(error)?)),
+        }
+    }
+
+    /// What a payload of this kind, `Row` or `BinaryRow`, is read as. The session is as before;
+    /// `advance_by_kind` goes on after it.
+    #[inline(always)]
+    pub fn read_row<'a>(&self, kind: PacketKind, payload: &'a [u8]) -> Result<Row<'a>, SessionError>
+        requires { IsRowKind kind }
+        ensures { IfOk result (RowReads (state_of self.now) kind payload.entry.now) }
+    {
+        match kind {
+            PacketKind::BinaryRow => self.binary_row(payload),
+            _ => Ok(self.text_row(payload)),
+        }
+    }
+
+    // A command, or what no type is for.
+    fn read_command<'a>(
+        &self,
+        kind: PacketKind,
+        payload: &'a [u8],
+    ) -> Result<Packet<'a>, SessionError>
+        requires { IsCommand kind }
+        ensures { IfOk result (ReadsAs (state_of self.now) kind payload.entry.now) }
+    {
+        let global = self.global;
+        match kind {
+            PacketKind::Quit => read_as(global, (), payload, quit),
+            PacketKind::InitDatabase => read_as(global, (), payload, init_db),
+            PacketKind::Query => self.read_query(payload),
+            PacketKind::Ping => read_as(global, (), payload, ping),
+            PacketKind::ChangeUser => { read_as(global, self.capabilities, payload, change_user) }
+            PacketKind::Prepare => read_as(global, (), payload, Packet::Prepare),
+            PacketKind::Execute => self.read_execute(payload),
+            PacketKind::LongData => read_as(global, (), payload, Packet::LongData),
+            PacketKind::CloseStatement => read_as(global, (), payload, Packet::CloseStatement),
+            PacketKind::ResetStatement => read_as(global, (), payload, Packet::ResetStatement),
+            PacketKind::Fetch => read_as(global, (), payload, Packet::Fetch),
+            _ => Ok(as_it_is(kind, payload)),
+        }
+    }
+
+    fn read_query<'a>(&self, payload: &'a [u8]) -> Result<Packet<'a>, SessionError>
+        ensures { IfOk result (IsQuery (has_query_attributes self.now.capabilities)
+            payload.entry.now) }
+    {
+        if self
+            .capabilities
+            .contains(CapabilityFlags::CLIENT_QUERY_ATTRIBUTES)
+        {
+            read_as(self.global, (), payload, attributed_query)
+        } else {
+            read_as(self.global, (), payload, query)
+        }
+    }
+
+    // An execution. Of a statement that is not known, its number.
+    fn read_execute<'a>(&self, payload: &'a [u8]) -> Result<Packet<'a>, SessionError>
+        ensures { IfOk result (ReadsAs (state_of self.now) kinds.Execute payload.entry.now) }
+    {
+        let Some(number) = statement_named(payload) else {
+            return Ok(Packet::Refused(Refusal::OtherHeader));
+        };
+        match self.statements.get(number) {
+            Some(statement) => {
+                read_as(self.global, statement.num_params, payload, Packet::Execute)
+            }
+            None => Ok(Packet::ExecuteUnknown(number)),
+        }
+    }
+}
+
+// What no type is for: the payload as it is.
+fn as_it_is<'a>(kind: PacketKind, payload: &'a [u8]) -> Packet<'a>
+    requires { IsPlain kind }
+    ensures { (state : SessionState) → ReadsAs state kind payload.entry.now result }
+{
+    match kind {
+        PacketKind::File => Packet::File(payload),
+        PacketKind::TooLarge => Packet::TooLarge,
+        PacketKind::Refused(refusal) => Packet::Refused(refusal),
+        PacketKind::Statistics => Packet::Statistics(payload),
+        PacketKind::BinaryLogEvent => Packet::BinaryLogEvent(payload),
+        _ => Packet::OtherCommand(payload),
+    }
+}
+
+fn quit<'a>(read: ComQuit) -> Packet<'a>
+    ensures { result ≡ Command (Quit read) }
+{
+    Packet::Command(ClientCommand::Quit(read))
+}
+
+fn init_db<'a>(read: ComInitDb<'a>) -> Packet<'a>
+    ensures { result ≡ Command (InitDb read.entry) }
+{
+    Packet::Command(ClientCommand::InitDb(read))
+}
+
+fn ping<'a>(read: ComPing) -> Packet<'a>
+    ensures { result ≡ Command (Ping read) }
+{
+    Packet::Command(ClientCommand::Ping(read))
+}
+
+fn change_user<'a>(read: ComChangeUser<'a>) -> Packet<'a>
+    ensures { result ≡ Command (ChangeUser read.entry) }
+{
+    Packet::Command(ClientCommand::ChangeUser(read))
+}
+
+fn query<'a>(read: ComQuery<'a>) -> Packet<'a>
+    ensures { result ≡ Command (Query read.entry) }
+{
+    Packet::Command(ClientCommand::Query(read))
+}
+
+fn attributed_query<'a>(read: ComQueryWithAttributes<'a>) -> Packet<'a>
+    ensures { result ≡ Command (AttributedQuery read.entry) }
+{
+    Packet::Command(ClientCommand::AttributedQuery(read))
+}

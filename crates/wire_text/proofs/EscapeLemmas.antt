@@ -1,0 +1,127 @@
+-- What stands for a byte where JSON quotes it.
+use Rattle.std.proofs.Common.{◌≡◌, ℕ, zero, suc, ◌+◌, ◌*◌, ◌/◌, ◌%◌, ◌<◌, ◌≤◌, ◌⊎◌, inl, inr, leb, eqb, cond, drop, take, List, [], ◌∷◌, ◌++◌, Bool, true, false, refl, ap, ap₂, sym, subst, ◌∙◌, append_assoc, append-nil, take-append-drop, arith, length, get_or}
+use Rattle.std.proofs.lemmas.Bool.{and_parts, eqb-true}
+use Rattle.std.proofs.lemmas.Bool.Decides.{leb_tells}
+use Rattle.std.proofs.lemmas.Grind.{flat_map-append}
+use Rattle.std.proofs.lemmas.List.{length-append, length-drop, length-take, take_more, take-append-le, take_all}
+use Rattle.std.specs.Prelude.{◌&&◌, slice_index_or, slice_set}
+use Rattle.json.specs.Print.{escape, escape_byte}
+use Rattle.wire_text.specs.Fields.{escape_mark}
+use Rattle.wire_text.proofs.FieldLemmas.{is_false}
+
+-- a test of all numbers below one
+abbrev upto : (ℕ → Bool) → ℕ → Bool
+upto p zero = true
+upto p (suc n) = p n && upto p n
+
+upto_last : (p : ℕ → Bool) (n x : ℕ) → p n ≡ true → (x < n → p x ≡ true) → ((leb (suc x) n ≡ true) × (suc x ≤ n)) ⊎ ((leb (suc x) n ≡ false) × (n < suc x))
+    → x < suc n → p x ≡ true
+upto_last p n x last others (inl less) below = others less.1
+upto_last p n x last others (inr more) below = subst (λ (k : ℕ). p k ≡ true) (omega (arith, more.1, below)) last
+
+upto_holds : (p : ℕ → Bool) (n x : ℕ) → upto p n ≡ true → x < n → p x ≡ true
+upto_holds p zero x is below = absurd (omega (arith, below))
+upto_holds p (suc n) x is below =
+    let parts = and_parts (p n) _ is in
+    upto_last p n x parts.0 (upto_holds p n x parts.1) (leb_tells (suc x) n) below
+
+abbrev list_same : List ℕ → List ℕ → Bool
+list_same [] [] = true
+list_same [] (y ∷ ys) = false
+list_same (x ∷ xs) [] = false
+list_same (x ∷ xs) (y ∷ ys) = eqb x y && list_same xs ys
+
+false-true : false ≡ true → ⊥
+false-true is = subst (λ (test : Bool). cond test ⊥ (Unit {0})) is tt
+
+list_same_is : (xs ys : List ℕ) → list_same xs ys ≡ true → xs ≡ ys
+list_same_is [] [] is = refl
+list_same_is [] (y ∷ ys) is = absurd (false-true is)
+list_same_is (x ∷ xs) [] is = absurd (false-true is)
+list_same_is (x ∷ xs) (y ∷ ys) is =
+    let parts = and_parts (eqb x y) _ is in ap₂ (λ (a : ℕ) (b : List ℕ). a ∷ b) (eqb-true x y parts.0) (list_same_is xs ys parts.1)
+
+abbrev letters : List ℕ
+letters = 117 ∷ 117 ∷ 117 ∷ 117 ∷ 117 ∷ 117 ∷ 117 ∷ 117 ∷ 98 ∷ 116 ∷ 110 ∷ 117 ∷ 102 ∷ 114 ∷ 117 ∷ 117 ∷ 117 ∷ 117 ∷ 117 ∷ 117 ∷ 117 ∷ 117 ∷ 117 ∷ 117 ∷ 117 ∷ 117 ∷ 117 ∷ 117 ∷ 117 ∷ 117 ∷ 117 ∷ 117 ∷ 0 ∷ 0 ∷ 34 ∷ 0 ∷ 0 ∷ 0 ∷ 0 ∷ 0 ∷ 0 ∷ 0 ∷ 0 ∷ 0 ∷ 0 ∷ 0 ∷ 0 ∷ 0 ∷ 0 ∷ 0 ∷ 0 ∷ 0 ∷ 0 ∷ 0 ∷ 0 ∷ 0 ∷ 0 ∷ 0 ∷ 0 ∷ 0 ∷ 0 ∷ 0 ∷ 0 ∷ 0 ∷ 0 ∷ 0 ∷ 0 ∷ 0 ∷ 0 ∷ 0 ∷ 0 ∷ 0 ∷ 0 ∷ 0 ∷ 0 ∷ 0 ∷ 0 ∷ 0 ∷ 0 ∷ 0 ∷ 0 ∷ 0 ∷ 0 ∷ 0 ∷ 0 ∷ 0 ∷ 0 ∷ 0 ∷ 0 ∷ 0 ∷ 0 ∷ 0 ∷ 92 ∷ 0 ∷ 0 ∷ 0 ∷ 0 ∷ 0 ∷ 0 ∷ 0 ∷ 0 ∷ 0 ∷ 0 ∷ 0 ∷ 0 ∷ 0 ∷ 0 ∷ 0 ∷ 0 ∷ 0 ∷ 0 ∷ 0 ∷ 0 ∷ 0 ∷ 0 ∷ 0 ∷ 0 ∷ 0 ∷ 0 ∷ 0 ∷ 0 ∷ 0 ∷ 0 ∷ 0 ∷ 0 ∷ 0 ∷ 0 ∷ 0 ∷ 0 ∷ 0 ∷ 0 ∷ 0 ∷ 0 ∷ 0 ∷ 0 ∷ 0 ∷ 0 ∷ 0 ∷ 0 ∷ 0 ∷ 0 ∷ 0 ∷ 0 ∷ 0 ∷ 0 ∷ 0 ∷ 0 ∷ 0 ∷ 0 ∷ 0 ∷ 0 ∷ 0 ∷ 0 ∷ 0 ∷ 0 ∷ 0 ∷ 0 ∷ 0 ∷ 0 ∷ 0 ∷ 0 ∷ 0 ∷ 0 ∷ 0 ∷ 0 ∷ 0 ∷ 0 ∷ 0 ∷ 0 ∷ 0 ∷ 0 ∷ 0 ∷ 0 ∷ 0 ∷ 0 ∷ 0 ∷ 0 ∷ 0 ∷ 0 ∷ 0 ∷ 0 ∷ 0 ∷ 0 ∷ 0 ∷ 0 ∷ 0 ∷ 0 ∷ 0 ∷ 0 ∷ 0 ∷ 0 ∷ 0 ∷ 0 ∷ 0 ∷ 0 ∷ 0 ∷ 0 ∷ 0 ∷ 0 ∷ 0 ∷ 0 ∷ 0 ∷ 0 ∷ 0 ∷ 0 ∷ 0 ∷ 0 ∷ 0 ∷ 0 ∷ 0 ∷ 0 ∷ 0 ∷ 0 ∷ 0 ∷ 0 ∷ 0 ∷ 0 ∷ 0 ∷ 0 ∷ 0 ∷ 0 ∷ 0 ∷ 0 ∷ 0 ∷ 0 ∷ 0 ∷ 0 ∷ 0 ∷ 0 ∷ 0 ∷ 0 ∷ 0 ∷ 0 ∷ 0 ∷ 0 ∷ 0 ∷ 0 ∷ 0 ∷ 0 ∷ 0 ∷ 0 ∷ 0 ∷ 0 ∷ 0 ∷ 0 ∷ 0 ∷ 0 ∷ 0 ∷ 0 ∷ 0 ∷ 0 ∷ 0 ∷ 0 ∷ 0 ∷ 0 ∷ 0 ∷ []
+
+-- the table has each byte's letter
+pub letter_is : (byte : ℕ) → byte < 256 → slice_index_or letters byte 0 ≡ escape_mark byte
+letter_is byte below = eqb-true _ _ (upto_holds (λ x. eqb (slice_index_or letters x 0) (escape_mark x)) 256 byte refl below)
+
+abbrev hexes : List ℕ
+hexes = 48 ∷ 49 ∷ 50 ∷ 51 ∷ 52 ∷ 53 ∷ 54 ∷ 55 ∷ 56 ∷ 57 ∷ 97 ∷ 98 ∷ 99 ∷ 100 ∷ 101 ∷ 102 ∷ []
+
+abbrev in_digits : ℕ → List ℕ
+in_digits byte = 92 ∷ 117 ∷ 48 ∷ 48 ∷ slice_index_or hexes (byte / 16) 0 ∷ slice_index_or hexes (byte % 16) 0 ∷ []
+
+abbrev other_letter : ℕ → ℕ → List ℕ
+other_letter letter byte = cond (eqb letter 117) (in_digits byte) (92 ∷ letter ∷ [])
+
+eqb-no : (a b : ℕ) → (a ≡ b → ⊥) → eqb a b ≡ false
+eqb-no a b never = is_false (eqb a b) (λ is. never (eqb-true a b is))
+
+-- an escape of this letter
+abbrev of_letter : ℕ → ℕ → List ℕ
+of_letter letter byte = cond (eqb letter 0) (byte ∷ []) (other_letter letter byte)
+
+same_escapes : upto (λ byte. list_same (of_letter (escape_mark byte) byte) (escape_byte byte)) 256 ≡ true
+unfolding escape_byte
+same_escapes = refl
+
+escape_is : (byte : ℕ) → byte < 256 → of_letter (escape_mark byte) byte ≡ escape_byte byte
+escape_is byte below = list_same_is _ _ (upto_holds (λ x. list_same (of_letter (escape_mark x) x) (escape_byte x)) 256 byte same_escapes below)
+
+pub no_letter : (byte letter : ℕ) → byte < 256 → letter ≡ escape_mark byte → letter ≡ 0 → byte ∷ [] ≡ escape_byte byte
+no_letter byte letter below is none =
+    sym (ap (λ (test : Bool). cond test (byte ∷ []) (other_letter letter byte)) (ap (λ (l : ℕ). eqb l 0) none)) ∙ ap (λ (l : ℕ). of_letter l byte) is ∙ escape_is byte below
+
+pub short_letter : (byte letter : ℕ) → byte < 256 → letter ≡ escape_mark byte → (letter ≡ 0 → ⊥) → (letter ≡ 117 → ⊥)
+    → 92 ∷ letter ∷ [] ≡ escape_byte byte
+short_letter byte letter below is some short =
+    sym (ap (λ (test : Bool). cond test (byte ∷ []) (other_letter letter byte)) (eqb-no letter 0 some) ∙ ap (λ (test : Bool). cond test (in_digits byte) (92 ∷ letter ∷ [])) (eqb-no letter 117 short))
+    ∙ ap (λ (l : ℕ). of_letter l byte) is ∙ escape_is byte below
+
+pub hex_letter : (byte letter : ℕ) → byte < 256 → letter ≡ escape_mark byte → letter ≡ 117
+    → 92 ∷ letter ∷ 48 ∷ 48 ∷ slice_index_or hexes (byte / 16) 0 ∷ slice_index_or hexes (byte % 16) 0 ∷ [] ≡ escape_byte byte
+hex_letter byte letter below is same =
+    ap (λ (l : ℕ). 92 ∷ l ∷ 48 ∷ 48 ∷ slice_index_or hexes (byte / 16) 0 ∷ slice_index_or hexes (byte % 16) 0 ∷ []) same
+    ∙ sym (ap (λ (l : ℕ). of_letter l byte) same) ∙ ap (λ (l : ℕ). of_letter l byte) is ∙ escape_is byte below
+
+-- ---- in a room
+
+-- so much of the room is filled
+abbrev pub FilledTo : List ℕ → ℕ → ℕ → List ℕ → Type 0
+FilledTo words place at room = (length room ≡ 400) × (1 ≤ at) × (at ≤ 1 + 6 * place) × (take at room ≡ 34 ∷ escape (take place words))
+
+pub filled_begins : (words room : List ℕ) → length room ≡ 400 → FilledTo words 0 1 (slice_set room 0 34)
+filled_begins words [] long = absurd (omega (arith, long))
+filled_begins words (byte ∷ room) long = (long, omega arith, omega arith, refl)
+
+block_in : (at len : ℕ) (room block : List ℕ) → at + 8 ≤ length room → length block ≡ 8 → len ≤ 8
+    → take (at + len) (take at room ++ (block ++ drop (at + 8) room)) ≡ take at room ++ take len block
+block_in at len room block within long short =
+    let front : length (take at room) ≡ at = omega (arith, length-take at room, within) in
+    let part : length (take len block) ≡ len = omega (arith, length-take len block, long, short) in
+    let rest = drop len block ++ drop (at + 8) room in
+    let parted = ap (λ (z : List ℕ). z ++ drop (at + 8) room) (sym (take-append-drop len block)) ∙ append_assoc (take len block) (drop len block) (drop (at + 8) room) in
+    ap (λ (z : List ℕ). take (at + len) (take at room ++ z)) parted
+    ∙ ap (take (at + len)) (sym (append_assoc (take at room) (take len block) rest))
+    ∙ take-append-le (at + len) (take at room ++ take len block) rest (omega (arith, length-append (take at room) (take len block), front, part))
+    ∙ take_all (at + len) (take at room ++ take len block) (omega (arith, length-append (take at room) (take len block), front, part))
+
+escape_more : (place : ℕ) (words : List ℕ) → place < length words → escape (take (place + 1) words) ≡ escape (take place words) ++ escape_byte (get_or words place 0)
+escape_more place words inside =
+    ap escape (take_more words place 0 inside) ∙ flat_map-append escape_byte (take place words) (get_or words place 0 ∷ [])
+    ∙ ap (λ (z : List ℕ). escape (take place words) ++ z) (append-nil (escape_byte (get_or words place 0)))
+
+-- one byte more
+pub filled_on : (words : List ℕ) (place at len : ℕ) (room block new : List ℕ) → FilledTo words place at room → place < length words → at + 8 ≤ 400 → length block ≡ 8
+    → len ≤ 6 → take len block ≡ escape_byte (get_or words place 0) → new ≡ take at room ++ block ++ drop (at + 8) room → FilledTo words (place + 1) (at + len) new
+filled_on words place at len room block new filled inside within long short is new_is =
+    let parted : new ≡ take at room ++ (block ++ drop (at + 8) room) = new_is ∙ append_assoc (take at room) block (drop (at + 8) room) in (
+      ap length parted ∙ omega (arith, length-append (take at room) (block ++ drop (at + 8) room), length-append block (drop (at + 8) room), length-take at room, length-drop (at + 8) room, long, within, filled.0),
+      omega (arith, filled.1),
+      omega (arith, filled.2, short),
+      ap (take (at + len)) parted ∙ block_in at len room block (omega (arith, within, filled.0)) long (omega (arith, short))
+          ∙ ap₂ (λ (a b : List ℕ). a ++ b) filled.3 is ∙ ap (λ (z : List ℕ). 34 ∷ z) (sym (escape_more place words inside)),
+    )

@@ -1,0 +1,3 @@
+pub mod EscapeLemmas
+pub mod FieldLemmas
+pub mod PlainLemmas

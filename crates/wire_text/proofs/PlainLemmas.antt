@@ -1,0 +1,166 @@
+-- Plain letters: of ASCII, and none that JSON escapes.
+use Rattle.std.proofs.Common.{◌≡◌, ℕ, zero, suc, ◌+◌, ◌-◌, ◌*◌, ◌<◌, ◌≤◌, ◌%◌, ◌^◌, ◌⊎◌, inl, inr, leb, ltb, eqb, bit_or, replicate, drop, take, take-append-drop, List, [], ◌∷◌, ◌++◌, Bool, true, false, refl, ap, ap₂, sym, ◌∙◌, append_assoc, arith, length, nat_eq, map, cond}
+use Rattle.std.proofs.lemmas.Bool.{and_from, and_parts}
+use Rattle.std.proofs.lemmas.List.Folds.{list_all-append}
+use Rattle.std.proofs.lemmas.List.{length-append, length-drop, length-map, length-take, take_all}
+use Rattle.std.specs.Prelude.{◌&&◌, not}
+use lib.Lanes.{mask_l, top, zip2}
+use Rattle.std.proofs.lemmas.Bool.Decides.{leb_tells}
+use Rattle.std.proofs.lemmas.Simd.{mask_l-mod, zip2_of_maps, zip2_splat, zip2_splat_left}
+use Rattle.wire_text.specs.Fields.{all_plain, plain}
+use Rattle.wire_text.proofs.FieldLemmas.{zero-false}
+
+-- a byte that is none
+abbrev is_other : ℕ → Bool
+is_other byte = not (plain byte)
+
+none_double : (n : ℕ) → nat_eq (2 * n) 0 ≡ nat_eq n 0
+none_double zero = refl
+none_double (suc n) = zero-false (2 * suc n) (λ is. omega (arith, is)) ∙ sym (zero-false (suc n) (λ is. omega (arith, is)))
+
+one_more : (first : Bool) (mask : ℕ) (rest : Bool) → nat_eq mask 0 ≡ rest → nat_eq (cond (not first) 1 0 + 2 * mask) 0 ≡ (first && rest)
+one_more true mask rest is = ap (λ (n : ℕ). nat_eq n 0) (omega arith) ∙ none_double mask ∙ is
+one_more false mask rest is = zero-false (1 + 2 * mask) (λ is. omega (arith, is))
+
+-- no lane's bit is set just where all are plain
+none_other : (bytes : List ℕ) → nat_eq (mask_l (map is_other bytes)) 0 ≡ all_plain bytes
+none_other [] = refl
+none_other (byte ∷ bytes) = one_more (plain byte) (mask_l (map is_other bytes)) (all_plain bytes) (none_other bytes)
+
+-- a lane of the four comparisons together
+abbrev of_four : Bool → Bool → Bool → Bool → ℕ
+of_four low high quote backslash =
+    bit_or (bit_or (bit_or (cond low 255 0) (cond high 255 0)) (cond quote 255 0)) (cond backslash 255 0)
+
+top_of_four : (low high quote backslash : Bool)
+    → top 7 (of_four low high quote backslash) ≡ not (((not quote && not backslash) && not low) && not high)
+top_of_four true true true true = refl
+top_of_four true true true false = refl
+top_of_four true true false true = refl
+top_of_four true true false false = refl
+top_of_four true false true true = refl
+top_of_four true false true false = refl
+top_of_four true false false true = refl
+top_of_four true false false false = refl
+top_of_four false true true true = refl
+top_of_four false true true false = refl
+top_of_four false true false true = refl
+top_of_four false true false false = refl
+top_of_four false false true true = refl
+top_of_four false false true false = refl
+top_of_four false false false true = refl
+top_of_four false false false false = refl
+
+either_way : (a b : ℕ) → ((leb (suc a) b ≡ true) × (suc a ≤ b)) ⊎ ((leb (suc a) b ≡ false) × (b < suc a))
+    → ((leb b a ≡ true) × (b ≤ a)) ⊎ ((leb b a ≡ false) × (a < b)) → not (ltb a b) ≡ leb b a
+either_way a b (inl less) (inl more) = absurd (omega (arith, less.1, more.1))
+either_way a b (inl less) (inr more) = ap not less.0 ∙ sym more.0
+either_way a b (inr less) (inl more) = ap not less.0 ∙ sym more.0
+either_way a b (inr less) (inr more) = absurd (omega (arith, less.1, more.1))
+
+not_less : (a b : ℕ) → not (ltb a b) ≡ leb b a
+not_less a b = either_way a b (leb_tells (suc a) b) (leb_tells b a)
+
+not_not : (a : Bool) → not (not a) ≡ a
+not_not true = refl
+not_not false = refl
+
+abbrev lane : ℕ → ℕ
+lane byte = of_four (ltb byte 32) (leb 128 byte) (eqb byte 34) (eqb byte 92)
+
+lane_other : (byte : ℕ) → top 7 (lane byte) ≡ is_other byte
+lane_other byte =
+    top_of_four (ltb byte 32) (leb 128 byte) (eqb byte 34) (eqb byte 92)
+    ∙ ap₂ (λ (low high : Bool). not (((not (eqb byte 34) && not (eqb byte 92)) && low) && high)) (not_less byte 32)
+    (ap not (sym (not_less byte 128)) ∙ not_not (ltb byte 128))
+
+lanes_other : (bytes : List ℕ) → map (top 7) (map lane bytes) ≡ map is_other bytes
+lanes_other [] = refl
+lanes_other (byte ∷ bytes) = ap₂ (λ (a : Bool) (b : List Bool). a ∷ b) (lane_other byte) (lanes_other bytes)
+
+abbrev hit : ℕ → ℕ → ℕ
+hit a b = cond (eqb a b) 255 0
+
+abbrev below : ℕ → ℕ → ℕ
+below a b = cond (ltb a b) 255 0
+
+abbrev at_most : ℕ → ℕ → ℕ
+at_most a b = cond (leb a b) 255 0
+
+-- the four comparisons of sixteen bytes
+pub compared : (v : List ℕ) → length v ≡ 16
+    → nat_eq (mask_l (map (top 7) (zip2 bit_or (zip2 bit_or (zip2 bit_or (zip2 below v (replicate 16 32)) (zip2 at_most (replicate 16 128) v))
+    (zip2 hit v (replicate 16 34))) (zip2 hit v (replicate 16 92)))) % 2 ^ 64) 0 ≡ all_plain v
+compared v long =
+    let low = zip2_splat below v 16 32 long in
+    let high = zip2_splat_left at_most 128 16 v long in
+    let quote = zip2_splat hit v 16 34 long in
+    let backslash = zip2_splat hit v 16 92 long in
+    let all = zip2_of_maps bit_or _ _ v (zip2_of_maps bit_or _ _ v (zip2_of_maps bit_or _ _ v low high) quote) backslash in
+    ap (λ (z : List ℕ). nat_eq (mask_l (map (top 7) z) % 2 ^ 64) 0) all
+    ∙ ap (λ (z : List Bool). nat_eq (mask_l z % 2 ^ 64) 0) (lanes_other v)
+    ∙ ap (λ (n : ℕ). nat_eq n 0) (mask_l-mod (map is_other v) 64 (omega (arith, length-map v is_other, long))) ∙ none_other v
+
+-- of a list whose front is plain, what is behind it tells, also with some of the front
+pub behind_plain : (k : ℕ) (done rest : List ℕ) → k ≤ length done → all_plain done ≡ true → all_plain (drop k (done ++ rest)) ≡ all_plain rest
+behind_plain zero done rest within is = list_all-append plain done rest ∙ ap (λ (test : Bool). test && all_plain rest) is
+behind_plain (suc k) [] rest within is = absurd (omega (arith, within))
+behind_plain (suc k) (byte ∷ done) rest within is =
+    behind_plain k done rest (omega (arith, within)) (and_parts (plain byte) _ is).1
+
+both_ways : (a b c : Bool) → (a ≡ true → b ≡ c) → (a && b) ≡ (a && c)
+both_ways true b c same = same refl
+both_ways false b c same = refl
+
+-- the first bytes and the last, which may share some
+pub ends_plain : (n k : ℕ) (words : List ℕ) → k ≤ n → n ≤ length words → (all_plain (take n words) && all_plain (drop k words)) ≡ all_plain words
+ends_plain n k words within inside =
+    let whole = take-append-drop n words in
+    both_ways (all_plain (take n words)) (all_plain (drop k words)) (all_plain (drop n words)) (λ is.
+    ap (λ (z : List ℕ). all_plain (drop k z)) (sym whole) ∙ behind_plain k (take n words) (drop n words) (omega (arith, within, inside, length-take n words)) is)
+    ∙ sym (list_all-append plain (take n words) (drop n words)) ∙ ap all_plain whole
+
+to_end : (k : ℕ) (words : List ℕ) → take (length words - k) (drop k words) ≡ drop k words
+to_end k words = take_all (length words - k) (drop k words) (omega (arith, length-drop k words))
+
+-- as a block of both
+pub block_plain : (n k : ℕ) (words block : List ℕ) → k ≤ n → n ≤ length words → block ≡ take n words ++ take (length words - k) (drop k words)
+    → all_plain block ≡ all_plain words
+block_plain n k words block within inside is =
+    ap all_plain (is ∙ ap (λ (z : List ℕ). take n words ++ z) (to_end k words)) ∙ list_all-append plain (take n words) (drop k words)
+    ∙ ends_plain n k words within inside
+
+and_true : (a : Bool) → (a && true) ≡ a
+and_true true = refl
+and_true false = refl
+
+-- a block that is filled up with spaces
+pub filled_plain : (half block : List ℕ) → block ≡ half ++ (32 ∷ 32 ∷ 32 ∷ 32 ∷ 32 ∷ 32 ∷ 32 ∷ 32 ∷ []) → all_plain block ≡ all_plain half
+filled_plain half block is = ap all_plain is ∙ list_all-append plain half _ ∙ and_true (all_plain half)
+
+-- the blocks so far are plain, and these bytes are behind them
+abbrev pub PlainSoFar : List ℕ → List ℕ → Type 0
+PlainSoFar words rest = (done : List ℕ) × (words ≡ done ++ rest) × (all_plain done ≡ true)
+
+pub plain_begins : (words : List ℕ) → PlainSoFar words words
+plain_begins words = ([], refl, refl)
+
+pub same_plain : (words rest : List ℕ) → PlainSoFar words rest → all_plain words ≡ all_plain rest
+same_plain words rest so_far = ap all_plain so_far.1 ∙ behind_plain 0 so_far.0 rest (omega arith) so_far.2
+
+pub plain_on : (n : ℕ) (words rest block behind : List ℕ) → PlainSoFar words rest → block ≡ take n rest → behind ≡ drop n rest → all_plain block ≡ true
+    → PlainSoFar words behind
+plain_on n words rest block behind so_far block_is behind_is passes = (
+  so_far.0 ++ block,
+  so_far.1 ∙ ap (λ (z : List ℕ). so_far.0 ++ z)
+      (sym (ap₂ (λ (a b : List ℕ). a ++ b) block_is behind_is ∙ take-append-drop n rest)) ∙ sym (append_assoc so_far.0 block behind),
+  list_all-append plain so_far.0 block ∙ and_from _ _ so_far.2 passes,
+)
+
+-- the last bytes tell, with some of those in front of them
+pub last_plain : (k : ℕ) (words rest : List ℕ) → PlainSoFar words rest → k + length rest ≤ length words
+    → all_plain (take (length words - k) (drop k words)) ≡ all_plain words
+last_plain k words rest so_far within =
+    let long = ap length so_far.1 ∙ length-append so_far.0 rest in
+    ap all_plain (to_end k words) ∙ ap (λ (z : List ℕ). all_plain (drop k z)) so_far.1
+    ∙ behind_plain k so_far.0 rest (omega (arith, within, long)) so_far.2 ∙ sym (same_plain words rest so_far)

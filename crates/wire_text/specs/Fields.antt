@@ -1,0 +1,146 @@
+-- The text of fields.
+use Rattle.std.specs.Fmt.{decimal, digits}
+use Rattle.std.specs.List.{flat_map, list_all}
+use Rattle.std.specs.Prelude.{◌≡◌, ◌==◌, ◌&&◌, ℕ, nat_le, nat_lt, Bool, false, not, List, [], ◌∷◌, ◌++◌, codes, if◌then◌else◌}
+use Rattle.std.specs.Str.{is_utf8}
+use Rattle.hex.specs.Hex.{encode_lower}
+use Rattle.json.specs.Print.{escape_letter, quoted}
+use Rattle.wire_text.specs.declared.fields.FieldForm.{FieldForm}
+use Rattle.wire_text.specs.declared.fields.FieldForm.TheVariants.{Hidden, Text, Json}
+use Rattle.wire_text.specs.declared.fields.FieldValue.{FieldValue}
+use Rattle.wire_text.specs.declared.fields.FieldValue.TheVariants as given
+
+-- the value of a field: `Printed` is the text of a number, `Word` a word that stands in quotes as it
+-- is
+pub data Value : Type 0 where
+  Null : Value
+  Number : ℕ → Value
+  Flags : ℕ → Value
+  Words : List ℕ → Value
+  Octets : List ℕ → Value
+  Printed : List ℕ → Value
+  Word : List ℕ → Value
+
+-- a field: its name, and its value
+abbrev pub Member : Type 0
+Member = List ℕ × Value
+
+abbrev pub in_quotes : List ℕ → List ℕ
+in_quotes text = codes "\"" ++ text ++ codes "\""
+
+-- bytes, of which these are the digits
+abbrev pub digits_text : FieldForm → List ℕ → List ℕ
+digits_text Hidden digits = codes "x'" ++ digits ++ codes "'"
+digits_text Text digits = codes "x'" ++ digits ++ codes "'"
+digits_text Json digits = codes "{\"hex\":\"" ++ digits ++ codes "\"}"
+
+-- bytes in hex digits
+abbrev pub octets_text : FieldForm → List ℕ → List ℕ
+octets_text form octets = digits_text form (encode_lower octets)
+
+-- the letter of a byte's escape: `u` where that is in hex digits, 0 where there is none
+abbrev pub escape_mark : ℕ → ℕ
+escape_mark byte =
+    if nat_lt 0 (escape_letter byte) then escape_letter byte else if nat_lt byte 32 then 117 else 0
+
+-- a byte that needs no escape where JSON quotes it
+abbrev pub stands : ℕ → Bool
+stands byte = not (byte == 34) && not (byte == 92) && nat_le 32 byte
+
+abbrev pub all_stand : List ℕ → Bool
+all_stand = list_all stands
+
+-- a letter of ASCII that needs none
+abbrev pub plain : ℕ → Bool
+plain byte = stands byte && nat_lt byte 128
+
+abbrev pub all_plain : List ℕ → Bool
+all_plain = list_all plain
+
+-- a text as JSON quotes it, where the bytes are one
+abbrev pub words_text : FieldForm → List ℕ → List ℕ
+words_text form octets = if is_utf8 octets then quoted octets else octets_text form octets
+
+abbrev pub flags_text : FieldForm → ℕ → List ℕ
+flags_text Hidden bits = codes "0x" ++ digits 16 false bits
+flags_text Text bits = codes "0x" ++ digits 16 false bits
+flags_text Json bits = decimal bits
+
+abbrev pub value_text : FieldForm → Value → List ℕ
+value_text form Null = codes "null"
+value_text form (Number number) = decimal number
+value_text form (Flags bits) = flags_text form bits
+value_text form (Words octets) = words_text form octets
+value_text form (Octets octets) = octets_text form octets
+value_text form (Printed number) = number
+value_text form (Word word) = in_quotes word
+
+abbrev pub line : Member → List ℕ
+line member = codes "\n  " ++ member.0 ++ codes " " ++ value_text Text member.1
+
+abbrev pub pair : Member → List ℕ
+pair member = codes "\"" ++ member.0 ++ codes "\":" ++ value_text Json member.1
+
+-- the text of a packet's fields: a line for each, or an object of JSON
+abbrev pub fields_text : FieldForm → List Member → List ℕ
+fields_text Hidden members = []
+fields_text Text members = flat_map line members
+fields_text Json [] = []
+fields_text Json (first ∷ others) =
+    codes ",\"fields\":{" ++ pair first ++ flat_map (λ member. codes "," ++ pair member) others
+    ++ codes "}"
+
+-- ---- as they are put, one behind another
+
+-- how they are shown, and the text so far
+pub record Written : Type 0 where
+  pub form : FieldForm
+  pub text : List ℕ
+
+-- one more behind this text
+abbrev pub with_member : FieldForm → List ℕ → Member → List ℕ
+with_member Hidden text member = text
+with_member Text text member = text ++ line member
+with_member Json [] member = codes ",\"fields\":{" ++ pair member
+with_member Json (byte ∷ text) member = (byte ∷ text) ++ (codes "," ++ pair member)
+
+-- a name behind this text, and what stands between it and its value
+abbrev pub with_name : FieldForm → List ℕ → List ℕ → List ℕ
+with_name Hidden text name = text
+with_name Text text name = text ++ codes "\n  " ++ name ++ codes " "
+with_name Json [] name = codes ",\"fields\":{\"" ++ name ++ codes "\":"
+with_name Json (byte ∷ text) name = (byte ∷ text) ++ codes ",\"" ++ name ++ codes "\":"
+
+unfoldable pub put : Written → Member → Written
+put written member =
+    record { form = written.form; text = with_member written.form written.text member }
+
+abbrev pub puts : Written → List Member → Written
+puts written [] = written
+puts written (member ∷ members) = puts (put written member) members
+
+-- just these were put
+pub record Puts (members : List Member) (old new : Written) : Type 0 where
+  pub are : new ≡ puts old members
+
+abbrev pub with_end : FieldForm → List ℕ → List ℕ
+with_end Hidden text = text
+with_end Text text = text
+with_end Json [] = []
+with_end Json (byte ∷ text) = (byte ∷ text) ++ codes "}"
+
+unfoldable pub ended : Written → Written
+ended written = record { form = written.form; text = with_end written.form written.text }
+
+-- nothing was put
+abbrev pub nothing : FieldForm → Written
+nothing form = record { form = form; text = [] }
+
+abbrev pub value_of : FieldValue → Value
+value_of given.Null = Null
+value_of (given.Number number) = Number number
+value_of (given.Flags bits) = Flags bits
+value_of (given.Text octets) = Words octets.now
+value_of (given.Bytes octets) = Octets octets.now
+value_of (given.Printed number) = Printed number.now
+value_of (given.Word word) = Word word.now

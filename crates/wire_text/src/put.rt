@@ -1,0 +1,31 @@
+//! What lines and fields are put together of.
+
+ghost use Rattle.std.specs.Prelude.{◌≡◌, ◌++◌, OnOk, string_bytes};
+ghost use Rattle.std.specs.Fmt.{decimal};
+
+use std::alloc::{AllocError, Allocator};
+
+/// Appends words, between two others.
+#[inline(always)]
+pub fn push_between<A: Allocator>(
+    text: &mut String<A>,
+    before: &str,
+    words: &str,
+    after: &str,
+) -> Result<(), AllocError>
+    ensures { OnOk result (string_bytes text.new
+        ≡ string_bytes text.old ++ (before.now ++ words.now ++ after.now)) }
+{
+    text.push_str(before)?;
+    text.push_str(words)?;
+    text.push_str(after)
+}
+
+/// Appends a number in decimal digits.
+#[inline(always)]
+pub fn push_number<A: Allocator>(text: &mut String<A>, number: u64) -> Result<(), AllocError>
+    ensures { OnOk result (string_bytes text.new ≡ string_bytes text.old ++ decimal number) }
+{
+    let mut digits = itoa::Buffer::new();
+    text.push_str(digits.format(number))
+}
