@@ -1,0 +1,207 @@
+// `Session` of mysql_wire_session, packet by packet: with all memory, and with each request for it
+// refused in turn.
+
+mod exchanges;
+
+use exchanges::{
+    CONNECTION, EXECUTE, FETCH, LOAD, LOADED, PIECE, PIECES_END, PREPARE, QUERY, QUIT, REQUEST,
+    RESULTS, Row,
+};
+use mysql_wire::constants::Flags;
+use mysql_wire_session::packet::Received;
+use mysql_wire_session::phase::Phase;
+use mysql_wire_session::session::Session;
+use mysql_wire_session::side::{Sender, Side};
+use mysql_wire_statements::com_stmt_prepare_ok::ComStmtPrepareOk;
+use refusing_allocator::{NEVER, Refusing};
+use std::alloc::{Allocator, Global};
+use std::test::Fail;
+use test_support::facts::{all_hold, no_row, same};
+use test_support::fixture::Heap;
+
+const STATEMENT: ComStmtPrepareOk = ComStmtPrepareOk {
+    statement_id: 7,
+    num_columns: 1,
+    num_params: 1,
+    warning_count: 0,
+};
+
+// How many pieces a file has: their ids go round.
+const PIECES: usize = 300;
+
+// No call asks for memory so often.
+const MOST: u64 = 10;
+
+// A session; the allocator, where it is one that refuses, and how many requests it refused; how many
+// packets came, and the first that went otherwise.
+#[derive(Drop)]
+struct Followed<'h, A: Allocator + Copy> {
+    session: Session<A>,
+    heap: Option<&'h Heap>,
+    refused: u64,
+    count: usize,
+    wrong: Option<usize>,
+}
+
+// What a session says of itself.
+#[derive(Clone, Copy, PartialEq)]
+struct Told {
+    phase: Phase,
+    status: u16,
+    next_id: u8,
+    types: usize,
+    statement: Option<ComStmtPrepareOk>,
+}
+
+fn told_by<A: Allocator + Copy>(session: &Session<A>) -> Told {
+    Told {
+        phase: session.phase(),
+        status: session.status().bits(),
+        next_id: session.next_id(),
+        types: session.column_types().len(),
+        statement: session.statement(7).copied(),
+    }
+}
+
+// Whether this side's packet may be next.
+fn may_send(sender: Sender, side: Side) -> bool {
+    match (sender, side) {
+        (Sender::Client, Side::Server) | (Sender::Server, Side::Client) => false,
+        _ => true,
+    }
+}
+
+// Whether a packet of this side is taken for what it is, by its front, and may be next.
+fn is_awaited<A: Allocator + Copy>(session: &Session<A>, id: u8, row: Row<'_>) -> bool {
+    let (side, payload, kind, ..) = row;
+    let (front, _) = payload.split_at(payload.len().min(3));
+    let named = session.classify(side, id, payload.len(), front).name();
+    may_send(session.next_sender(), side) & same(named.as_bytes(), kind.as_bytes())
+}
+
+// Goes on after a packet, with the first request for memory refused, the next and so on, until none
+// is. After each refusal the session is as it was. Says how many were refused.
+fn advance<A: Allocator + Copy>(
+    heap: &Heap,
+    session: &mut Session<A>,
+    received: &Received<'_>,
+) -> Option<u64> {
+    let before = told_by(session);
+    for refused in 0..MOST {
+        heap.refuse(refused);
+        let goes = session.advance(received).is_ok();
+        if goes == heap.has_refused() || (!goes && told_by(session) != before) {
+            return None;
+        }
+        if goes {
+            return Some(refused);
+        }
+    }
+    None
+}
+
+impl<'h, A: Allocator + Copy> Followed<'h, A> {
+    fn new(alloc: A, global: Global, heap: Option<&'h Heap>) -> Self {
+        Followed {
+            session: Session::new(alloc, global),
+            heap,
+            refused: 0,
+            count: 0,
+            wrong: None,
+        }
+    }
+
+    // Goes on after a packet.
+    fn advance(&mut self, received: &Received<'_>) -> bool {
+        let Some(heap) = self.heap else {
+            return self.session.advance(received).is_ok();
+        };
+        match advance(heap, &mut self.session, received) {
+            Some(refused) => {
+                self.refused = self.refused.wrapping_add(refused);
+                true
+            }
+            None => false,
+        }
+    }
+
+    // Whether a packet is read as what it is, and the session goes on after it.
+    fn goes_on(&mut self, id: u8, row: Row<'_>) -> bool {
+        let (side, payload, kind, phase, status) = row;
+        let Ok(received) = self.session.read(side, id, payload) else {
+            return false;
+        };
+        let is_kind = same(received.kind.name().as_bytes(), kind.as_bytes());
+        let goes = self.advance(&received);
+        let told = told_by(&self.session);
+        let is_idle = self.session.is_idle() == (phase == Phase::Command);
+        let is_told = (told.phase == phase) & (told.status == status);
+        goes & is_kind & is_idle & is_told & (told.next_id == id.wrapping_add(1))
+    }
+
+    // A packet comes.
+    fn take(&mut self, id: u8, row: Row<'_>) {
+        let is_awaited = is_awaited(&self.session, id, row);
+        let goes_on = self.goes_on(id, row);
+        if !(is_awaited & goes_on) && self.wrong.is_none() {
+            self.wrong = Some(self.count);
+        }
+        self.count = self.count.wrapping_add(1);
+    }
+
+    // Packets come, numbered from 0.
+    fn exchange(&mut self, rows: &[Row<'_>]) {
+        let mut id = 0u8;
+        for row in rows {
+            self.take(id, *row);
+            id = id.wrapping_add(1);
+        }
+    }
+
+    // A file comes.
+    fn load(&mut self) {
+        self.take(0, LOAD);
+        self.take(1, REQUEST);
+        let mut id = 2u8;
+        for _ in 0..PIECES {
+            self.take(id, PIECE);
+            id = id.wrapping_add(1);
+        }
+        self.take(id, PIECES_END);
+        self.take(id.wrapping_add(1), LOADED);
+    }
+
+    // A whole session. Says what is kept of columns and statements.
+    fn follow(&mut self) -> [bool; 3] {
+        self.exchange(CONNECTION);
+        self.exchange(QUERY);
+        let has_type = same(self.session.column_types(), b"\x08");
+        self.exchange(RESULTS);
+        let has_none = self.session.statement(7).is_none();
+        self.exchange(PREPARE);
+        let has_one = self.session.statement(7) == Some(&STATEMENT);
+        self.exchange(EXECUTE);
+        self.exchange(FETCH);
+        self.load();
+        self.exchange(QUIT);
+        [has_type, has_none, has_one]
+    }
+}
+
+#[test]
+fn a_session_is_followed(rt: HostRuntime) -> Result<(), Fail> {
+    let mut followed = Followed::new(rt.alloc(), rt.alloc(), None);
+    let facts = followed.follow();
+    no_row(followed.wrong)?;
+    all_hold(&facts)
+}
+
+// The first type of a column and the first statement ask for room.
+#[test]
+fn a_refused_advance_leaves_the_session(rt: HostRuntime) -> Result<(), Fail> {
+    let heap = Refusing::new(rt.alloc(), NEVER);
+    let mut followed = Followed::new(&heap, rt.alloc(), Some(&heap));
+    let facts = followed.follow();
+    no_row(followed.wrong)?;
+    all_hold(&[facts[0], facts[1], facts[2], followed.refused == 2])
+}
