@@ -94,13 +94,19 @@ fn packet_sequence(rt: HostRuntime) -> Result<(), Fail> {
     ensure(good, "each packet comes out as it went in")
 }
 
-// Whether packets of these lengths are encoded by one codec, and decoded from the same bytes by
-// another.
-fn are_passed_together(sender: &mut Ends, receiver: &mut Ends, lens: &[usize]) -> bool {
+// Whether packets of these lengths are encoded by one codec as this many bytes, and decoded from them
+// by another.
+fn are_passed_together(
+    sender: &mut Ends,
+    receiver: &mut Ends,
+    lens: &[usize],
+    bytes: usize,
+) -> bool {
     let mut all = true;
     for len in lens {
         all &= sender.encode_many(*len) == Answer::Done;
     }
+    all &= sender.src.len() == bytes;
     std::mem::swap(&mut sender.src, &mut receiver.src);
     for len in lens {
         receiver.dst.clear();
@@ -118,7 +124,8 @@ fn large_packets(rt: HostRuntime) -> Result<(), Fail> {
     sender.codec.max_allowed_packet = 2 * MAX_PAYLOAD_LEN;
     receiver.codec.max_allowed_packet = 2 * MAX_PAYLOAD_LEN;
     let lens = [MAX_PAYLOAD_LEN, MAX_PAYLOAD_LEN + 1, 2 * MAX_PAYLOAD_LEN];
-    let good = are_passed_together(&mut sender, &mut receiver, &lens);
+    let bytes = 4 * MAX_PAYLOAD_LEN + 29;
+    let good = are_passed_together(&mut sender, &mut receiver, &lens, bytes);
     // Two chunks, two, and three.
     all_hold(&[good, receiver.codec.sequence_id() == 7])
 }

@@ -24,7 +24,7 @@ ReadsEach {X = X} short reads (suc count) input answer eaten =
 
 -- As many values as the count says are read, whose size is this: those of a size from a block of
 -- their own, for which there are bytes before room is taken, and others one after another, room
--- being taken before each.
+-- being taken where it is missing.
 abbrev pub ReadsAll : {X : Type 0} → Option ℕ → (List ℕ → Result X WireError → ℕ → Type 0) → ℕ
     → List ℕ → Result (List X) WireError → ℕ → Type 0
 ReadsAll None reads count input answer eaten = ReadsEach (Unit {0}) reads count input answer eaten
