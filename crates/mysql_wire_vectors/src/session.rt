@@ -4,19 +4,20 @@
 mod exchanges;
 
 use exchanges::{
-    CONNECTION, EXECUTE, FETCH, LOAD, LOADED, PIECE, PIECES_END, PREPARE, QUERY, QUIT, REQUEST,
+    CONNECTION, DONE, EXECUTE, FETCH, LOAD, PIECE, PIECES_END, PREPARE, QUERY, QUIT, REQUEST,
     RESULTS, Row,
 };
 use mysql_wire::constants::Flags;
-use mysql_wire_session::packet::Received;
+use mysql_wire_session::packet::{Packet, Received};
 use mysql_wire_session::phase::Phase;
+use mysql_wire_session::refusal::SessionError;
 use mysql_wire_session::session::Session;
 use mysql_wire_session::side::{Sender, Side};
 use mysql_wire_statements::com_stmt_prepare_ok::ComStmtPrepareOk;
 use refusing_allocator::{NEVER, Refusing};
 use std::alloc::{Allocator, Global};
 use std::test::Fail;
-use test_support::facts::{all_hold, no_row, same};
+use test_support::facts::{all_hold, ensure, no_row, same};
 use test_support::fixture::Heap;
 
 const STATEMENT: ComStmtPrepareOk = ComStmtPrepareOk {
@@ -25,6 +26,9 @@ const STATEMENT: ComStmtPrepareOk = ComStmtPrepareOk {
     num_params: 1,
     warning_count: 0,
 };
+
+// What the client can do.
+const FLAGS: u32 = 0x0008_8281;
 
 // How many pieces a file has: their ids go round.
 const PIECES: usize = 300;
@@ -100,6 +104,17 @@ fn advance<A: Allocator + Copy>(
     None
 }
 
+fn is_idle_after<A: Allocator + Copy>(
+    session: &mut Session<A>,
+    side: Side,
+    id: u8,
+    payload: &[u8],
+) -> Result<bool, SessionError> {
+    let received = session.read(side, id, payload)?;
+    session.advance(&received)?;
+    Ok(session.is_idle())
+}
+
 impl<'h, A: Allocator + Copy> Followed<'h, A> {
     fn new(alloc: A, global: Global, heap: Option<&'h Heap>) -> Self {
         Followed {
@@ -132,11 +147,12 @@ impl<'h, A: Allocator + Copy> Followed<'h, A> {
             return false;
         };
         let is_kind = same(received.kind.name().as_bytes(), kind.as_bytes());
+        let is_refused = matches!(&received.packet, Packet::Refused(_));
         let goes = self.advance(&received);
         let told = told_by(&self.session);
         let is_idle = self.session.is_idle() == (phase == Phase::Command);
         let is_told = (told.phase == phase) & (told.status == status);
-        goes & is_kind & is_idle & is_told & (told.next_id == id.wrapping_add(1))
+        goes & is_kind & !is_refused & is_idle & is_told & (told.next_id == id.wrapping_add(1))
     }
 
     // A packet comes.
@@ -168,14 +184,24 @@ impl<'h, A: Allocator + Copy> Followed<'h, A> {
             id = id.wrapping_add(1);
         }
         self.take(id, PIECES_END);
-        self.take(id.wrapping_add(1), LOADED);
+        self.take(id.wrapping_add(1), DONE);
     }
 
-    // A whole session. Says what is kept of columns and statements.
-    fn follow(&mut self) -> [bool; 3] {
+    // A command of two chunks is passed over, and answered.
+    fn pass(&mut self) -> bool {
+        self.session.pass(Side::Client, 0, 20_000_000);
+        let told = told_by(&self.session);
+        self.take(2, DONE);
+        (told.phase == Phase::Answer) & (told.next_id == 2)
+    }
+
+    // A whole session. Says what is kept of columns and statements, and whether it is idle after a
+    // ping's answer alone.
+    fn follow(&mut self) -> [bool; 5] {
         self.exchange(CONNECTION);
         self.exchange(QUERY);
-        let has_type = same(self.session.column_types(), b"\x08");
+        let has_type = same(self.session.column_types(), b"\x08")
+            & (self.session.capabilities().bits() == FLAGS);
         self.exchange(RESULTS);
         let has_none = self.session.statement(7).is_none();
         self.exchange(PREPARE);
@@ -183,8 +209,17 @@ impl<'h, A: Allocator + Copy> Followed<'h, A> {
         self.exchange(EXECUTE);
         self.exchange(FETCH);
         self.load();
+        let is_ping = matches!(
+            is_idle_after(&mut self.session, Side::Client, 0, b"\x0e"),
+            Ok(false)
+        );
+        let is_pong = matches!(
+            is_idle_after(&mut self.session, Side::Server, 1, b"\0\0\0\x02\0\0\0"),
+            Ok(true)
+        );
+        let passes = self.pass();
         self.exchange(QUIT);
-        [has_type, has_none, has_one]
+        [has_type, has_none, has_one, is_ping & is_pong, passes]
     }
 }
 
@@ -203,5 +238,9 @@ fn a_refused_advance_leaves_the_session(rt: HostRuntime) -> Result<(), Fail> {
     let mut followed = Followed::new(&heap, rt.alloc(), Some(&heap));
     let facts = followed.follow();
     no_row(followed.wrong)?;
-    all_hold(&[facts[0], facts[1], facts[2], followed.refused == 2])
+    all_hold(&facts)?;
+    ensure(
+        followed.refused == 2,
+        "other requests than two were refused",
+    )
 }

@@ -126,6 +126,7 @@ pub const PIECE: Row<'static> = (Client, b"\x03SELECT 1", "file", Phase::File, 0
 
 pub const PIECES_END: Row<'static> = (Client, b"", "file", Phase::Answer, 0xc2);
 
-pub const LOADED: Row<'static> = (Server, OK, "ok", Phase::Command, 2);
+/// What ends an exchange.
+pub const DONE: Row<'static> = (Server, OK, "ok", Phase::Command, 2);
 
 pub const QUIT: &[Row] = &[(Client, b"\x01", "quit", Phase::Closed, 2)];
