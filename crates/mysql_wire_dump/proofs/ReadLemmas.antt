@@ -17,6 +17,7 @@ use Rattle.mysql_wire_session.specs.declared.packet_kind.PacketKind.{PacketKind}
 use Rattle.mysql_wire_session.specs.declared.packet_kind.PacketKind.TheVariants.{TooLarge}
 use Rattle.mysql_wire_session.specs.declared.packet_kind.PacketKind.TheVariants as kind
 use Rattle.mysql_wire_session.specs.declared.side.Side.{Side}
+use Rattle.mysql_wire_session.proofs.FrontLemmas.{came_so}
 use Rattle.wire_text.proofs.FieldLemmas.{fields_text-is}
 use Rattle.wire_text.specs.Fields.{Written, ended, nothing, puts}
 use Rattle.wire_text.specs.declared.fields.FieldForm.{FieldForm}
@@ -33,15 +34,6 @@ no_fields Json types begun is = record { members = []; has = (refl, refl); is = 
 pub passed_over : (form : FieldForm) (side : Side) (id len : ℕ) (known next : SessionState) (begun : Written) → begun ≡ nothing form
     → next ≡ passed side id len known → PassesOver form side id len known next begun.text TooLarge
 passed_over form side id len known next begun is goes_on = (goes_on, no_fields form known.types begun is)
-
--- what is known after what came
-came_so : (side : Side) (id : ℕ) (payload : List ℕ) (known : SessionState) (received : Received) → Receives side id payload known received
-    → advanced received known ≡ after_packet side id (kind_of side id payload known) payload received.packet known
-came_so side id payload known received came =
-    ap (λ (s : Side). after_packet s received.id received.kind received.payload.now received.packet known) came.side_is
-    ∙ ap (λ (i : ℕ). after_packet side i received.kind received.payload.now received.packet known) came.id_is
-    ∙ ap (λ (k : PacketKind). after_packet side id k received.payload.now received.packet known) came.kind_is
-    ∙ ap (λ (p : List ℕ). after_packet side id (kind_of side id payload known) p received.packet known) came.payload_is
 
 -- a packet that came was read and shown
 pub came_and_shown : (side : Side) (id : ℕ) (payload : List ℕ) (known next : SessionState) (received : Received) (old new : Written) (result : Result PacketKind Stop)

@@ -7,3 +7,4 @@ pub mod Opening
 pub mod Readings
 pub mod Senders
 pub mod Grammar
+pub mod Fronts

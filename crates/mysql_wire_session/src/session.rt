@@ -1,6 +1,7 @@
 //! A session, packet by packet: what each is in its phase, and the phase after it.
 
 mod apply;
+mod front;
 mod phases;
 mod read;
 
@@ -18,6 +19,7 @@ use crate::phase::{Phase, RowForm};
 use crate::refusal::SessionError;
 use crate::side::{Sender, Side};
 use crate::statements::Statements;
+pub use front::FrontError;
 use mysql_wire_statements::com_stmt_prepare_ok::ComStmtPrepareOk;
 use phases::past_column;
 use std::alloc::{Allocator, Global};

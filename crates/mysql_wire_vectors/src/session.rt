@@ -11,7 +11,7 @@ use mysql_wire::constants::Flags;
 use mysql_wire_session::packet::{Packet, Received};
 use mysql_wire_session::phase::Phase;
 use mysql_wire_session::refusal::SessionError;
-use mysql_wire_session::session::Session;
+use mysql_wire_session::session::{FrontError, Session};
 use mysql_wire_session::side::{Sender, Side};
 use mysql_wire_statements::com_stmt_prepare_ok::ComStmtPrepareOk;
 use refusing_allocator::{NEVER, Refusing};
@@ -33,14 +33,20 @@ const FLAGS: u32 = 0x0008_8281;
 // How many pieces a file has: their ids go round.
 const PIECES: usize = 300;
 
+// Of how many packets a front is not enough.
+const WHOLE: usize = 18;
+
 // No call asks for memory so often.
 const MOST: u64 = 10;
 
-// A session; the allocator, where it is one that refuses, and how many requests it refused; how many
-// packets came, and the first that went otherwise.
+// A session, and the same by the fronts of its packets; the allocator, where it is one that refuses,
+// and how many requests it refused; how many packets came, of how many the front was not enough, and
+// the first that went otherwise.
 #[derive(Drop)]
 struct Followed<'h, A: Allocator + Copy> {
     session: Session<A>,
+    by_front: Session<A>,
+    whole: usize,
     heap: Option<&'h Heap>,
     refused: u64,
     count: usize,
@@ -115,10 +121,19 @@ fn is_idle_after<A: Allocator + Copy>(
     Ok(session.is_idle())
 }
 
+// Whether a session is idle after a ping's answer alone.
+fn is_pinged<A: Allocator + Copy>(session: &mut Session<A>) -> bool {
+    let is_busy = matches!(is_idle_after(session, Side::Client, 0, b"\x0e"), Ok(false));
+    let answer = b"\0\0\0\x02\0\0\0";
+    is_busy & matches!(is_idle_after(session, Side::Server, 1, answer), Ok(true))
+}
+
 impl<'h, A: Allocator + Copy> Followed<'h, A> {
     fn new(alloc: A, global: Global, heap: Option<&'h Heap>) -> Self {
         Followed {
             session: Session::new(alloc, global),
+            by_front: Session::new(alloc, global),
+            whole: 0,
             heap,
             refused: 0,
             count: 0,
@@ -155,10 +170,24 @@ impl<'h, A: Allocator + Copy> Followed<'h, A> {
         goes & is_kind & !is_refused & is_idle & is_told & (told.next_id == id.wrapping_add(1))
     }
 
+    // Whether the session that is followed by fronts comes to the same, where no request is refused.
+    fn front_goes_on(&mut self, id: u8, row: Row<'_>) -> bool {
+        let (side, payload, ..) = row;
+        let (front, _) = payload.split_at(payload.len().min(3));
+        let mut went = self.by_front.advance_front(side, id, payload.len(), front);
+        if let Err(FrontError::NeedsWhole(_)) = went {
+            self.whole = self.whole.wrapping_add(1);
+            went = self
+                .by_front
+                .advance_front(side, id, payload.len(), payload);
+        }
+        went.is_ok() & (told_by(&self.by_front) == told_by(&self.session))
+    }
+
     // A packet comes.
     fn take(&mut self, id: u8, row: Row<'_>) {
         let is_awaited = is_awaited(&self.session, id, row);
-        let goes_on = self.goes_on(id, row);
+        let goes_on = self.goes_on(id, row) && (self.heap.is_some() || self.front_goes_on(id, row));
         if !(is_awaited & goes_on) && self.wrong.is_none() {
             self.wrong = Some(self.count);
         }
@@ -190,6 +219,7 @@ impl<'h, A: Allocator + Copy> Followed<'h, A> {
     // A command of two chunks is passed over, and answered.
     fn pass(&mut self) -> bool {
         self.session.pass(Side::Client, 0, 20_000_000);
+        self.by_front.pass(Side::Client, 0, 20_000_000);
         let told = told_by(&self.session);
         self.take(2, DONE);
         (told.phase == Phase::Answer) & (told.next_id == 2)
@@ -209,17 +239,10 @@ impl<'h, A: Allocator + Copy> Followed<'h, A> {
         self.exchange(EXECUTE);
         self.exchange(FETCH);
         self.load();
-        let is_ping = matches!(
-            is_idle_after(&mut self.session, Side::Client, 0, b"\x0e"),
-            Ok(false)
-        );
-        let is_pong = matches!(
-            is_idle_after(&mut self.session, Side::Server, 1, b"\0\0\0\x02\0\0\0"),
-            Ok(true)
-        );
+        let is_ping = is_pinged(&mut self.session) & is_pinged(&mut self.by_front);
         let passes = self.pass();
         self.exchange(QUIT);
-        [has_type, has_none, has_one, is_ping & is_pong, passes]
+        [has_type, has_none, has_one, is_ping, passes]
     }
 }
 
@@ -228,7 +251,8 @@ fn a_session_is_followed(rt: HostRuntime) -> Result<(), Fail> {
     let mut followed = Followed::new(rt.alloc(), rt.alloc(), None);
     let facts = followed.follow();
     no_row(followed.wrong)?;
-    all_hold(&facts)
+    all_hold(&facts)?;
+    ensure(followed.whole == WHOLE, "other fronts were not enough")
 }
 
 // The first type of a column and the first statement ask for room.

@@ -76,7 +76,7 @@ fn is_ended_by_ok(is_eof_deprecated: bool, len: usize) -> bool
 // What is known where a packet is read that may stand where an EOF would.
 #[derive(Clone, Copy)]
 pub(super) struct Opened {
-    phase: Phase,
+    pub(super) phase: Phase,
     is_eof_deprecated: bool,
 }
 

@@ -1,0 +1,236 @@
+-- What the front of a payload tells of what is known after it.
+use Rattle.std.proofs.Common.{◌≡◌, ◌⊎◌, ◌∙◌, ◌≤◌, ◌==◌, ℕ, zero, suc, inl, inr, Bool, true, false, List, [], ◌∷◌, length, refl, ap, sym, subst, Option, Some, None, cond, Result, Ok, Err, arith, take}
+use Rattle.std.specs.Prelude.{IfOk, OnOk}
+use Rattle.mysql_wire_packets.specs.Optional.{has_query_attributes}
+use Rattle.mysql_wire_packets.specs.declared.places.PayloadError.{PayloadError}
+use Rattle.mysql_wire_session.specs.Advance.{applied, id_after, opened, remembered, state_after, without_eof}
+use Rattle.mysql_wire_session.specs.Fronts.{IsFront, KnownAfter, TakesFront, are_columns, says_more}
+use Rattle.mysql_wire_session.specs.Kinds.{first_byte, is_report, kind_at, kind_by_front}
+use Rattle.mysql_wire_session.specs.Opening.{opened_state}
+use Rattle.mysql_wire_session.specs.declared.session.read.Opened.{Opened}
+use Rattle.mysql_wire_session.specs.Readings.{IsColumn, IsExecution, IsExecutionOf, IsQuery, IsRead, ReadsAs, Receives, advanced, after_kind, after_packet, kind_of, opened_at, statement_named}
+use Rattle.mysql_wire_session.specs.State.{SessionState, expectation_of, statement_of}
+use Rattle.mysql_wire_session.specs.contracts.payload.HandshakeV10Payload.TheImpl as greeting_type
+use Rattle.mysql_wire_session.specs.contracts.payload.AuthSwitchRequestPayload.TheImpl as switch_type
+use Rattle.mysql_wire_session.specs.contracts.payload.AuthMoreDataPayload.TheImpl as more_type
+use Rattle.mysql_wire_session.specs.contracts.payload.AuthSwitchResponsePayload.TheImpl as answer_type
+use Rattle.mysql_wire_session.specs.contracts.payload.ProgressReportPayload.TheImpl as progress_type
+use Rattle.mysql_wire_session.specs.contracts.payload.ComInitDbPayload.TheImpl as init_type
+use Rattle.mysql_wire_session.specs.contracts.payload.ComPingPayload.TheImpl as ping_type
+use Rattle.mysql_wire_session.specs.contracts.payload.ComQuitPayload.TheImpl as quit_type
+use Rattle.mysql_wire_session.specs.contracts.payload.ComStmtPreparePayload.TheImpl as prepare_type
+use Rattle.mysql_wire_session.specs.contracts.payload.ComStmtSendLongDataPayload.TheImpl as long_data_type
+use Rattle.mysql_wire_session.specs.contracts.payload.ComStmtClosePayload.TheImpl as close_type
+use Rattle.mysql_wire_session.specs.contracts.payload.ComStmtResetPayload.TheImpl as reset_type
+use Rattle.mysql_wire_session.specs.contracts.payload.ComChangeUserPayload.TheImpl as change_type
+use Rattle.mysql_wire_session.specs.contracts.payload.ComQueryPayload.TheImpl as query_type
+use Rattle.mysql_wire_session.specs.contracts.payload.ComQueryWithAttributesPayload.TheImpl as query_type_with
+use Rattle.mysql_wire_session.specs.contracts.payload.ComStmtExecutePayload.TheImpl as execute_type
+use Rattle.mysql_wire_session.specs.declared.classify.Expectation.{Expectation}
+use Rattle.mysql_wire_session.specs.declared.packet.Packet.{Packet}
+use Rattle.mysql_wire_session.specs.declared.packet.Packet.TheVariants as packet
+use Rattle.mysql_wire_session.specs.declared.packet.Received.{Received}
+use Rattle.mysql_wire_session.specs.declared.packet_kind.PacketKind.{PacketKind}
+use Rattle.mysql_wire_session.specs.declared.packet_kind.PacketKind.TheVariants as kind
+use Rattle.mysql_wire_session.specs.declared.phase.Phase.{Phase}
+use Rattle.mysql_wire_session.specs.declared.phase.Phase.TheVariants as phase
+use Rattle.mysql_wire_session.specs.declared.refusal.Refusal.{Refusal}
+use Rattle.mysql_wire_session.specs.declared.refusal.SessionError.{SessionError}
+use Rattle.mysql_wire_session.specs.declared.side.Side.{Side}
+use Rattle.mysql_wire_session.specs.declared.side.Side.TheVariants.{Client, Server}
+use Rattle.mysql_wire_statements.specs.declared.com_stmt_prepare_ok.ComStmtPrepareOk.{ComStmtPrepareOk}
+
+-- ---- the front is the payload's
+
+first_of : (n : ℕ) (payload : List ℕ) → (3 ≤ n) ⊎ (n ≡ length payload) → first_byte (take n payload) ≡ first_byte payload
+first_of zero [] enough = refl
+first_of (suc n) [] enough = refl
+first_of zero (byte ∷ bytes) (inl some) = absurd (omega (arith, some))
+first_of zero (byte ∷ bytes) (inr all) = absurd (omega (arith, all))
+first_of (suc n) (byte ∷ bytes) enough = refl
+
+-- a report begins with three bytes
+report_of : (n : ℕ) (payload : List ℕ) → (3 ≤ n) ⊎ (n ≡ length payload) → is_report (take n payload) ≡ is_report payload
+report_of zero [] enough = refl
+report_of (suc n) [] enough = refl
+report_of zero (a ∷ rest) (inl some) = absurd (omega (arith, some))
+report_of zero (a ∷ rest) (inr all) = absurd (omega (arith, all))
+report_of (suc zero) (a ∷ []) enough = refl
+report_of (suc (suc n)) (a ∷ []) enough = refl
+report_of (suc zero) (a ∷ b ∷ rest) (inl some) = absurd (omega (arith, some))
+report_of (suc zero) (a ∷ b ∷ rest) (inr all) = absurd (omega (arith, all))
+report_of (suc (suc zero)) (a ∷ b ∷ []) enough = refl
+report_of (suc (suc (suc n))) (a ∷ b ∷ []) enough = refl
+report_of (suc (suc zero)) (a ∷ b ∷ c ∷ rest) (inl some) = absurd (omega (arith, some))
+report_of (suc (suc zero)) (a ∷ b ∷ c ∷ rest) (inr all) = absurd (omega (arith, all))
+report_of (suc (suc (suc n))) (a ∷ b ∷ c ∷ rest) enough = refl
+
+same_kind : (expected : Expectation) (side : Side) (id : ℕ) (front payload : List ℕ) → IsFront front payload
+    → kind_by_front expected side id (length payload) front ≡ kind_at expected side id payload
+same_kind expected Client id front payload is =
+    let first = ap first_byte is.are ∙ first_of (length front) payload is.enough in
+    rw first refl
+same_kind expected Server id front payload is =
+    let first = ap first_byte is.are ∙ first_of (length front) payload is.enough in
+    let report = ap is_report is.are ∙ report_of (length front) payload is.enough in
+    rw (first, report) refl
+
+-- ---- a packet that says no more
+
+-- what is read says nothing of what is known
+abbrev Silent : Packet → Type 0
+Silent shown = (state : SessionState) → (remembered shown state ≡ state) × (applied shown state ≡ state)
+
+silent : (side : Side) (id : ℕ) (called : PacketKind) (payload : List ℕ) (shown : Packet) (state : SessionState) → Silent shown
+    → after_kind side id called (length payload) state ≡ after_packet side id called payload shown state
+silent side id called payload shown state quiet =
+    let len = length payload in
+    ap (λ (k : SessionState). record (state_after side called len (opened called len k)) { next_id = id_after id len }) (sym (quiet state).0)
+    ∙ ap (λ (k : SessionState). record k { next_id = id_after id len }) (sym (quiet (state_after side called len (opened called len (remembered shown state)))).1)
+
+of_type : {X : Type 0} (variant : X → Packet) (reads : List ℕ → Result X PayloadError → Type 0) (payload : List ℕ) (shown : Packet)
+    → ((read : X) → Silent (variant read)) → IsRead variant reads payload shown → Silent shown
+of_type variant reads payload shown quiet (inl (read, is, shown_is)) = subst (λ (p : Packet). Silent p) (sym shown_is) (quiet read)
+of_type variant reads payload shown quiet (inr (error, refusal, is, refuses, shown_is)) = subst (λ (p : Packet). Silent p) (sym shown_is) (λ state. (refl, refl))
+
+query_silent : (has_attributes : Bool) (payload : List ℕ) (shown : Packet) → IsQuery has_attributes payload shown → Silent shown
+query_silent true payload shown is =
+    of_type _ (query_type_with.ghosts.reads_whole tt) payload shown (λ read state. (refl, refl)) is
+query_silent false payload shown is =
+    of_type _ (query_type.ghosts.reads_whole tt) payload shown (λ read state. (refl, refl)) is
+
+execution_silent : (statement : Option ComStmtPrepareOk) (number : ℕ) (payload : List ℕ) (shown : Packet) → IsExecutionOf statement number payload shown → Silent shown
+execution_silent (Some statement) number payload shown is = of_type packet.Execute (execute_type.ghosts.reads_whole statement.num_params) payload shown (λ read state. (refl, refl)) is
+execution_silent None number payload shown is = subst (λ (p : Packet). Silent p) (sym is) (λ state. (refl, refl))
+
+execute_silent : (number : Option ℕ) (statements : List ComStmtPrepareOk) (payload : List ℕ) (shown : Packet) → IsExecution number statements payload shown → Silent shown
+execute_silent (Some number) statements payload shown is = execution_silent (statement_of number statements) number payload shown is
+execute_silent None statements payload shown is = subst (λ (p : Packet). Silent p) (sym is) (λ state. (refl, refl))
+
+column_silent : (at : Phase) (state : SessionState) (payload : List ℕ) (shown : Packet) → are_columns at ≡ false → IsColumn at state.mariadb payload shown → Silent shown
+column_silent phase.Greeting state payload shown none is = subst (λ (p : Packet). Silent p) (sym is.2) (λ state. (refl, refl))
+column_silent phase.Login state payload shown none is = subst (λ (p : Packet). Silent p) (sym is.2) (λ state. (refl, refl))
+column_silent phase.Authentication state payload shown none is = subst (λ (p : Packet). Silent p) (sym is.2) (λ state. (refl, refl))
+column_silent phase.Command state payload shown none is = subst (λ (p : Packet). Silent p) (sym is.2) (λ state. (refl, refl))
+column_silent phase.Answer state payload shown none is = subst (λ (p : Packet). Silent p) (sym is.2) (λ state. (refl, refl))
+column_silent phase.PrepareAnswer state payload shown none is = subst (λ (p : Packet). Silent p) (sym is.2) (λ state. (refl, refl))
+column_silent phase.OptionAnswer state payload shown none is = subst (λ (p : Packet). Silent p) (sym is.2) (λ state. (refl, refl))
+column_silent phase.Statistics state payload shown none is = subst (λ (p : Packet). Silent p) (sym is.2) (λ state. (refl, refl))
+column_silent phase.FieldList state payload shown none is = subst (λ (p : Packet). Silent p) (sym is.2) (λ state. (refl, refl))
+column_silent phase.BinaryLog state payload shown none is = subst (λ (p : Packet). Silent p) (sym is.2) (λ state. (refl, refl))
+column_silent (phase.Columns left following) state payload shown none is = absurd cc
+column_silent (phase.ColumnsEnd following) state payload shown none is = subst (λ (p : Packet). Silent p) (sym is.2) (λ state. (refl, refl))
+column_silent phase.Rows state payload shown none is = subst (λ (p : Packet). Silent p) (sym is.2) (λ state. (refl, refl))
+column_silent phase.File state payload shown none is = subst (λ (p : Packet). Silent p) (sym is.2) (λ state. (refl, refl))
+column_silent phase.Closed state payload shown none is = subst (λ (p : Packet). Silent p) (sym is.2) (λ state. (refl, refl))
+column_silent phase.Encrypted state payload shown none is = subst (λ (p : Packet). Silent p) (sym is.2) (λ state. (refl, refl))
+
+-- what a kind that says no more is read as
+kind_silent : (called : PacketKind) (state : SessionState) (payload : List ℕ) (shown : Packet) → says_more called state.phase ≡ false
+    → ReadsAs state called payload shown → Silent shown
+kind_silent kind.Greeting state payload shown none is =
+    of_type _ (greeting_type.ghosts.reads_whole tt) payload shown (λ read state. (refl, refl)) is
+kind_silent kind.TlsRequest state payload shown none is = absurd cc
+kind_silent kind.Login state payload shown none is = absurd cc
+kind_silent kind.AuthSwitch state payload shown none is =
+    of_type _ (switch_type.ghosts.reads_whole tt) payload shown (λ read state. (refl, refl)) is
+kind_silent kind.AuthMoreData state payload shown none is =
+    of_type _ (more_type.ghosts.reads_whole tt) payload shown (λ read state. (refl, refl)) is
+kind_silent kind.AuthAnswer state payload shown none is =
+    of_type _ (answer_type.ghosts.reads_whole tt) payload shown (λ read state. (refl, refl)) is
+kind_silent kind.Ok state payload shown none is = absurd cc
+kind_silent kind.Error state payload shown none is = absurd cc
+kind_silent kind.Progress state payload shown none is =
+    of_type _ (progress_type.ghosts.reads_whole tt) payload shown (λ read state. (refl, refl)) is
+kind_silent kind.Eof state payload shown none is = absurd cc
+kind_silent kind.ColumnCount state payload shown none is = absurd cc
+kind_silent kind.Column state payload shown none is = column_silent state.phase state payload shown none is
+kind_silent kind.Row state payload shown none is = subst (λ (p : Packet). Silent p) (sym is.2) (λ state. (refl, refl))
+kind_silent kind.BinaryRow state payload shown none is = subst (λ (p : Packet). Silent p) (sym is.2) (λ state. (refl, refl))
+kind_silent kind.LocalInfile state payload shown none is = absurd cc
+kind_silent kind.File state payload shown none is = subst (λ (p : Packet). Silent p) (sym is.2) (λ state. (refl, refl))
+kind_silent kind.Prepared state payload shown none is = absurd cc
+kind_silent kind.Statistics state payload shown none is = subst (λ (p : Packet). Silent p) (sym is.2) (λ state. (refl, refl))
+kind_silent kind.BinaryLogEvent state payload shown none is = subst (λ (p : Packet). Silent p) (sym is.2) (λ state. (refl, refl))
+kind_silent kind.Query state payload shown none is = query_silent (has_query_attributes state.capabilities) payload shown is
+kind_silent kind.InitDatabase state payload shown none is =
+    of_type _ (init_type.ghosts.reads_whole tt) payload shown (λ read state. (refl, refl)) is
+kind_silent kind.Ping state payload shown none is =
+    of_type _ (ping_type.ghosts.reads_whole tt) payload shown (λ read state. (refl, refl)) is
+kind_silent kind.Quit state payload shown none is =
+    of_type _ (quit_type.ghosts.reads_whole tt) payload shown (λ read state. (refl, refl)) is
+kind_silent kind.ChangeUser state payload shown none is =
+    of_type _ (change_type.ghosts.reads_whole state.capabilities) payload shown (λ read state. (refl, refl)) is
+kind_silent kind.Prepare state payload shown none is =
+    of_type _ (prepare_type.ghosts.reads_whole tt) payload shown (λ read state. (refl, refl)) is
+kind_silent kind.Execute state payload shown none is = execute_silent (statement_named payload) state.statements payload shown is
+kind_silent kind.LongData state payload shown none is =
+    of_type _ (long_data_type.ghosts.reads_whole tt) payload shown (λ read state. (refl, refl)) is
+kind_silent kind.CloseStatement state payload shown none is =
+    of_type _ (close_type.ghosts.reads_whole tt) payload shown (λ read state. (refl, refl)) is
+kind_silent kind.ResetStatement state payload shown none is =
+    of_type _ (reset_type.ghosts.reads_whole tt) payload shown (λ read state. (refl, refl)) is
+kind_silent kind.Fetch state payload shown none is = absurd cc
+kind_silent kind.FieldList state payload shown none is = subst (λ (p : Packet). Silent p) (sym is.2) (λ state. (refl, refl))
+kind_silent kind.SetOption state payload shown none is = subst (λ (p : Packet). Silent p) (sym is.2) (λ state. (refl, refl))
+kind_silent kind.StatisticsRequest state payload shown none is = subst (λ (p : Packet). Silent p) (sym is.2) (λ state. (refl, refl))
+kind_silent kind.ResetConnection state payload shown none is = subst (λ (p : Packet). Silent p) (sym is.2) (λ state. (refl, refl))
+kind_silent kind.BinaryLogRequest state payload shown none is = subst (λ (p : Packet). Silent p) (sym is.2) (λ state. (refl, refl))
+kind_silent kind.OtherCommand state payload shown none is = subst (λ (p : Packet). Silent p) (sym is.2) (λ state. (refl, refl))
+kind_silent kind.TooLarge state payload shown none is = subst (λ (p : Packet). Silent p) (sym is) (λ state. (refl, refl))
+kind_silent (kind.Refused refusal) state payload shown none is = subst (λ (p : Packet). Silent p) (sym is) (λ state. (refl, refl))
+
+-- ---- what came
+
+-- what is known after what came
+pub came_so : (side : Side) (id : ℕ) (payload : List ℕ) (state : SessionState) (received : Received) → Receives side id payload state received
+    → advanced received state ≡ after_packet side id (kind_of side id payload state) payload received.packet state
+came_so side id payload state received came =
+    ap (λ (s : Side). after_packet s received.id received.kind received.payload.now received.packet state) came.side_is
+    ∙ ap (λ (i : ℕ). after_packet side i received.kind received.payload.now received.packet state) came.id_is
+    ∙ ap (λ (k : PacketKind). after_packet side id k received.payload.now received.packet state) came.kind_is
+    ∙ ap (λ (p : List ℕ). after_packet side id (kind_of side id payload state) p received.packet state) came.payload_is
+
+take_all : (bytes : List ℕ) → take (length bytes) bytes ≡ bytes
+take_all [] = refl
+take_all (byte ∷ bytes) = ap (λ (rest : List ℕ). byte ∷ rest) (take_all bytes)
+
+-- a front of a packet that says no more
+pub front_told : (side : Side) (id len : ℕ) (front : List ℕ) (state next : SessionState) (called : PacketKind)
+    → called ≡ kind_by_front (expectation_of state) side id len front → says_more called (opened called len state).phase ≡ false
+    → next ≡ after_kind side id called len state → TakesFront side id len front state next called
+front_told side id len front state next called called_is none next_is payload len_is is =
+    let so : called ≡ kind_of side id payload state =
+    (called_is ∙ ap (λ (n : ℕ). kind_by_front (expectation_of state) side id n front) (sym len_is) ∙ same_kind (expectation_of state) side id front payload is) in
+    let quiet : says_more (kind_of side id payload state) (opened_at side id payload state).phase ≡ false =
+    subst (λ (k : PacketKind). says_more k (opened k (length payload) state).phase ≡ false) so
+    (subst (λ (n : ℕ). says_more called (opened called n state).phase ≡ false) (sym len_is) none) in (
+      so,
+      inr (λ read reads.
+          next_is ∙ ap (λ (n : ℕ). after_kind side id called n state) (sym len_is)
+          ∙ ap (λ (k : PacketKind). after_kind side id k (length payload) state) so
+          ∙ silent side id (kind_of side id payload state) payload read state (kind_silent (kind_of side id payload state) (opened_at side id payload state) payload read quiet reads)),
+    )
+
+-- a packet that came whole
+pub whole_told : (side : Side) (id len : ℕ) (front : List ℕ) (state next : SessionState) (received : Received) → length front ≡ len
+    → Receives side id front state received → next ≡ advanced received state → TakesFront side id len front state next received.kind
+whole_told side id len front state next received all came goes payload len_is is =
+    let same : front ≡ payload = (is.are ∙ ap (λ (n : ℕ). take n payload) (all ∙ sym len_is) ∙ take_all payload) in
+    subst (λ (p : List ℕ). (received.kind ≡ kind_of side id p state) × KnownAfter side id p state next) same
+    (came.kind_is, inl (received.packet, came.reads, goes ∙ came_so side id front state received came))
+
+-- the same where it may have been refused memory
+pub taken_whole : (side : Side) (id : ℕ) (front : List ℕ) (state next : SessionState) (received : Received) (result : Result PacketKind SessionError)
+    → Receives side id front state received → IfOk result (λ kind. kind ≡ received.kind) → OnOk result (next ≡ advanced received state)
+    → IfOk result (TakesFront side id (length front) front state next)
+taken_whole side id front state next received (Ok called) came kind_is goes =
+    subst (λ (k : PacketKind). TakesFront side id (length front) front state next k) (sym kind_is)
+    (whole_told side id (length front) front state next received refl came goes)
+taken_whole side id front state next received (Err error) came kind_is goes = tt
+
+-- what is not said more of in the phase that is opened
+pub quiet_there : (says : Bool) (called : PacketKind) (len : ℕ) (state : SessionState) (there : Opened) → says ≡ says_more called there.phase → says ≡ false
+    → opened_state there state ≡ opened called len state → says_more called (opened called len state).phase ≡ false
+quiet_there says called len state there says_is none same =
+    subst (λ (k : SessionState). says_more called k.phase ≡ false) same (sym says_is ∙ none)
