@@ -246,25 +246,34 @@ impl<'h, A: Allocator + Copy> Followed<'h, A> {
     }
 }
 
+// What came of a session: the first packet that went otherwise, facts, how many requests were
+// refused, and of how many packets a front was not enough.
+type Outcome = (Option<usize>, [bool; 5], u64, usize);
+
+fn outcome<A: Allocator + Copy>(alloc: A, global: Global, heap: Option<&Heap>) -> Outcome {
+    let mut followed = Followed::new(alloc, global, heap);
+    let facts = followed.follow();
+    (followed.wrong, facts, followed.refused, followed.whole)
+}
+
 #[test]
 fn a_session_is_followed(rt: HostRuntime) -> Result<(), Fail> {
-    let mut followed = Followed::new(rt.alloc(), rt.alloc(), None);
-    let facts = followed.follow();
-    no_row(followed.wrong)?;
+    let (wrong, facts, _, whole) = outcome(rt.alloc(), rt.alloc(), None);
+    no_row(wrong)?;
     all_hold(&facts)?;
-    ensure(followed.whole == WHOLE, "other fronts were not enough")
+    ensure(whole == WHOLE, "other fronts were not enough")
 }
 
 // The first type of a column and the first statement ask for room.
+fn refused_outcome(alloc: Global) -> Outcome {
+    let heap = Refusing::new(alloc, NEVER);
+    outcome(&heap, alloc, Some(&heap))
+}
+
 #[test]
 fn a_refused_advance_leaves_the_session(rt: HostRuntime) -> Result<(), Fail> {
-    let heap = Refusing::new(rt.alloc(), NEVER);
-    let mut followed = Followed::new(&heap, rt.alloc(), Some(&heap));
-    let facts = followed.follow();
-    no_row(followed.wrong)?;
+    let (wrong, facts, refused, _) = refused_outcome(rt.alloc());
+    no_row(wrong)?;
     all_hold(&facts)?;
-    ensure(
-        followed.refused == 2,
-        "other requests than two were refused",
-    )
+    ensure(refused == 2, "other requests than two were refused")
 }

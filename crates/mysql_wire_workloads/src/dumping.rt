@@ -8,16 +8,16 @@ use crate::statements::{TYPE_NUMBERS, Values, put_row};
 use bytes::BytesMut;
 use mysql_wire::constants::{Flags, MariadbCapabilities};
 use mysql_wire_dump_fields::show::{Show, binary_row, statistics, text_row};
-use wire_text::fields::{FieldForm, Fields};
-use mysql_wire_session::packet_kind::PacketKind as Kind;
 use mysql_wire_dump_lines::lines::{LineForm, Seen, push_packet};
-use mysql_wire_session::side::Side;
 use mysql_wire_dump_lines::source::{Next, Source};
 use mysql_wire_packets::places::read_whole;
 use mysql_wire_queries::column_definition::ColumnDefinition41;
+use mysql_wire_session::packet_kind::PacketKind as Kind;
+use mysql_wire_session::side::Side;
 use mysql_wire_statements::binary_row::BinaryRow;
 use std::alloc::Global;
 use std::io::Write;
+use wire_text::fields::{FieldForm, Fields};
 
 // How packets are shown.
 #[derive(Clone, Copy)]
