@@ -8,9 +8,8 @@ use exchanges::{
     RESULTS, Row,
 };
 use mysql_wire::constants::Flags;
-use mysql_wire_session::packet::{Packet, Received};
+use mysql_wire_session::packet::Packet;
 use mysql_wire_session::phase::Phase;
-use mysql_wire_session::refusal::SessionError;
 use mysql_wire_session::session::{FrontError, Session};
 use mysql_wire_session::side::{Sender, Side};
 use mysql_wire_statements::com_stmt_prepare_ok::ComStmtPrepareOk;
@@ -89,17 +88,32 @@ fn is_awaited<A: Allocator + Copy>(session: &Session<A>, id: u8, row: Row<'_>) -
     may_send(session.next_sender(), side) & same(named.as_bytes(), kind.as_bytes())
 }
 
+// Whether a packet is read as what it is.
+fn is_read<A: Allocator + Copy>(session: &Session<A>, id: u8, row: Row<'_>) -> bool {
+    let (side, payload, kind, ..) = row;
+    match session.read(side, id, payload) {
+        Ok(received) => {
+            let is_refused = matches!(&received.packet, Packet::Refused(_));
+            same(received.kind.name().as_bytes(), kind.as_bytes()) & !is_refused
+        }
+        Err(_) => false,
+    }
+}
+
 // Goes on after a packet, with the first request for memory refused, the next and so on, until none
 // is. After each refusal the session is as it was. Says how many were refused.
 fn advance<A: Allocator + Copy>(
     heap: &Heap,
     session: &mut Session<A>,
-    received: &Received<'_>,
+    id: u8,
+    row: Row<'_>,
 ) -> Option<u64> {
+    let (side, payload, ..) = row;
     let before = told_by(session);
     for refused in 0..MOST {
         heap.refuse(refused);
-        let goes = session.advance(received).is_ok();
+        let went = session.advance_front(side, id, payload.len(), payload);
+        let goes = went.is_ok();
         if goes == heap.has_refused() || (!goes && told_by(session) != before) {
             return None;
         }
@@ -115,9 +129,8 @@ fn is_idle_after<A: Allocator + Copy>(
     side: Side,
     id: u8,
     payload: &[u8],
-) -> Result<bool, SessionError> {
-    let received = session.read(side, id, payload)?;
-    session.advance(&received)?;
+) -> Result<bool, FrontError> {
+    session.advance_front(side, id, payload.len(), payload)?;
     Ok(session.is_idle())
 }
 
@@ -142,11 +155,13 @@ impl<'h, A: Allocator + Copy> Followed<'h, A> {
     }
 
     // Goes on after a packet.
-    fn advance(&mut self, received: &Received<'_>) -> bool {
+    fn advance(&mut self, id: u8, row: Row<'_>) -> bool {
+        let (side, payload, ..) = row;
         let Some(heap) = self.heap else {
-            return self.session.advance(received).is_ok();
+            let went = self.session.advance_front(side, id, payload.len(), payload);
+            return went.is_ok();
         };
-        match advance(heap, &mut self.session, received) {
+        match advance(heap, &mut self.session, id, row) {
             Some(refused) => {
                 self.refused = self.refused.wrapping_add(refused);
                 true
@@ -155,19 +170,14 @@ impl<'h, A: Allocator + Copy> Followed<'h, A> {
         }
     }
 
-    // Whether a packet is read as what it is, and the session goes on after it.
+    // Whether the session goes on after a packet as it must.
     fn goes_on(&mut self, id: u8, row: Row<'_>) -> bool {
-        let (side, payload, kind, phase, status) = row;
-        let Ok(received) = self.session.read(side, id, payload) else {
-            return false;
-        };
-        let is_kind = same(received.kind.name().as_bytes(), kind.as_bytes());
-        let is_refused = matches!(&received.packet, Packet::Refused(_));
-        let goes = self.advance(&received);
+        let (_, _, _, phase, status) = row;
+        let goes = self.advance(id, row);
         let told = told_by(&self.session);
         let is_idle = self.session.is_idle() == (phase == Phase::Command);
         let is_told = (told.phase == phase) & (told.status == status);
-        goes & is_kind & !is_refused & is_idle & is_told & (told.next_id == id.wrapping_add(1))
+        goes & is_idle & is_told & (told.next_id == id.wrapping_add(1))
     }
 
     // Whether the session that is followed by fronts comes to the same, where no request is refused.
@@ -186,7 +196,7 @@ impl<'h, A: Allocator + Copy> Followed<'h, A> {
 
     // A packet comes.
     fn take(&mut self, id: u8, row: Row<'_>) {
-        let is_awaited = is_awaited(&self.session, id, row);
+        let is_awaited = is_awaited(&self.session, id, row) & is_read(&self.session, id, row);
         let goes_on = self.goes_on(id, row) && (self.heap.is_some() || self.front_goes_on(id, row));
         if !(is_awaited & goes_on) && self.wrong.is_none() {
             self.wrong = Some(self.count);
