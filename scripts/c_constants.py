@@ -42,7 +42,7 @@ def comment(text):
 
 
 def lines(found, suffix):
-    """The definitions of constants, each behind what it says of itself."""
+    """The definitions of constants, each after what it says of itself."""
     for each in found:
         name = "MYSQL_WIRE_" + each["name"].removeprefix("MYSQL_")
         yield comment(sentence(each["doc"]))

@@ -34,7 +34,7 @@ FULL = 0xFFFFFF
 
 
 def file_session(count):
-    """A file of so many pieces, which look like queries, as a row: their ids go on behind 255."""
+    """A file of this many pieces, which look like queries, as a row: their ids go on after 255."""
     pieces = [(2 + number) % 256 for number in range(count)]
     end, done = (2 + count) % 256, (3 + count) % 256
     client = b"\5\0\0\0\3LOAD"
@@ -114,7 +114,7 @@ SESSIONS = [
      ["client 0 9 query", "server 1 1 column count", "server 2 23 column", "server 3 5 eof",
       "server 4 2 row", "server 5 1 row", "server 6 5 eof", "client end at 13",
       "server end at 61"]),
-    # the OK that ends no rows shows that the client wants no EOF behind definitions
+    # the OK that ends no rows shows that the client wants no EOF after definitions
     ("no rows, and an OK behind the definitions", "", None, ROWS[:32] + b"\7\0\0\3\xfe\0\0\2\0\0\0", 0,
      ["server 1 1 column count", "server 2 23 column", "server 3 7 eof", "server end at 43"]),
     # the second command's answer begins with the id that would follow the first
@@ -180,7 +180,7 @@ SESSIONS = [
     text_session("a long text with an escape in front", "\1" + "\u00e9" * 100),
     wide_session(False),
     wide_session(True),
-    # the piece behind the one numbered 255 is numbered 0, and so is the end of the other file
+    # the piece after the one numbered 255 is numbered 0, and so is the end of the other file
     file_session(300),
     file_session(254),
     # it is written in two parts, and the first is written where the last packet takes memory

@@ -1,7 +1,7 @@
 #!/usr/bin/env bash
 # Runs the gate, and prints a table of its crates: functions, tests, must-fail edits, and the
 # processor seconds of the proof, of the tests' proof and of the edits. They are read once a second
-# off the checks that run, so that each may miss a second. Behind the table stand the sums, and the
+# off the checks that run, so that each may miss a second. After the table stand the sums, and the
 # longest chain of jobs that wait for one another: by the clock, from the first check of a job to the
 # end of its last one, and in processor seconds. The gate's own output goes to the file that is named
 # (gate.log at the top, if none is).
@@ -17,7 +17,7 @@ trap 'rm -f "$samples"' EXIT
 # of the run.
 sample() {
     ps -eo pid=,cputimes=,args= | grep '[/]rattle [a-z]* --crate-name ' | while read -r pid seconds args; do
-        # (the C library's archive is built behind the gate)
+        # (the C library's archive is built after the gate's own checks)
         case $args in *'/rattle build '*' staticlib'*) continue ;; esac
         crate=${args#*--crate-name }
         case $(readlink "/proc/$pid/cwd") in

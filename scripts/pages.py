@@ -53,7 +53,7 @@ def imports(text):
 
 
 def items(block):
-    """The items of a block, without its imports. An item begins behind an empty line, in the first
+    """The items of a block, without its imports. An item begins after an empty line, in the first
     column."""
     rest = re.sub(rf"^{IMPORT.pattern}\n", "", block, flags=re.M)
     return [unindented(item) for item in re.split(r"\n\n+(?=[^\s}])", rest.strip("\n"))]

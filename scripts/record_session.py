@@ -22,7 +22,7 @@ MORE_RESULTS = 0x08
 
 
 def lenenc(data, at):
-    """A length-encoded integer, and the place behind it."""
+    """A length-encoded integer, and the place after it."""
     width = {0xFC: 2, 0xFD: 3, 0xFE: 8}.get(data[at], 0)
     if not width:
         return data[at], at + 1

@@ -69,7 +69,7 @@ OTHER_LINES = [
     "reframe", "reframe 4294967296", "reframe 1 1",
 ]
 
-# One chunk of two bytes, and behind it one of one byte.
+# One chunk of two bytes, and after it one of one byte.
 TWO = b"\2\0\0\0ab\1\0\0\1c"
 
 # The limit, and the later limit and the place from which on it holds, if it changes; the input, and
@@ -79,18 +79,18 @@ STREAMS = [
     ("2", b"\1\0\0\0a\3\0\0\x09b", 4, b"1 61\ntoo large\n"),
     ("3", b"\1\0\0\0a\3\0\0\x09b", 3, b"1 61\nrest 5\n"),
     ("3", b"\1\0\0\0a\3\0\0\x09bcd", 5, b"1 61\nout of sync\n"),
-    # From the first byte on, and from one behind the end.
+    # From the first byte on, and from one after the end.
     ("0 2 0", TWO, 0, b"2 6162\n1 63\nrest 0\n"),
     ("2 0 11", TWO, 0, b"2 6162\n1 63\nrest 0\n"),
     ("2 0 4294967295", TWO, 0, b"2 6162\n1 63\nrest 0\n"),
-    # From the fourth byte of a header on, and from the byte behind it.
+    # From the fourth byte of a header on, and from the byte after it.
     ("0 2 3", TWO, 0, b"2 6162\n1 63\nrest 0\n"),
     ("0 2 4", TWO, 4, b"too large\n"),
     ("2 0 3", TWO, 4, b"too large\n"),
     ("2 0 4", TWO, 4, b"2 6162\ntoo large\n"),
     ("2 0 9", TWO, 4, b"2 6162\ntoo large\n"),
     ("2 0 10", TWO, 0, b"2 6162\n1 63\nrest 0\n"),
-    # The ends behind a change.
+    # The ends after a change.
     ("2 1 6", b"\2\0\0\0ab\1\0\0\5c", 5, b"2 6162\nout of sync\n"),
     ("2 1 6", b"\2\0\0\0ab\1\0\0\1", 3, b"2 6162\nrest 4\n"),
     ("2 1 6", b"\2\0\0\0ab\2\0\0\1", 4, b"2 6162\ntoo large\n"),
@@ -103,7 +103,7 @@ LENGTHS = [
 ]
 
 # The lengths of packets of `D`, of which one read brings many. Lines are held up to 32768 bytes;
-# where one would pass that, its packet and those behind it are.
+# where one would pass that, its packet and those after it are.
 MANY = [
     [1] * 9000,
     [0, 1, 9, 10, 99, 100, 255] * 200,
@@ -114,10 +114,10 @@ MANY = [
 ]
 
 # The most bytes of a write of these: lines that are shorter than 32768 bytes, and 8192 digits with
-# what stands in front of them and behind.
+# what stands in front of them and after.
 MOST_AT_ONCE = 41000
 
-# The limit, the input, what is written, the steps, and places in the input and behind it: what each
+# The limit, the input, what is written, the steps, and places in the input and after it: what each
 # read asks for shows in what the program gets.
 READS = [
     (9, b"\3\0\0\x00123\0\0\0\1", b"3 313233\n0 -\nrest 0\n", [1, 2, 9],
@@ -257,7 +257,7 @@ def of_writes(folder):
 
 
 def packets(count):
-    """So many packets of 300 bytes, framed."""
+    """This many packets of 300 bytes, framed."""
     return b"".join(b"\x2c\1\0" + bytes([index]) + b"P" * 300 for index in range(count))
 
 

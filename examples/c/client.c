@@ -145,7 +145,7 @@ static int ends_rows(mysql_wire_view packet) {
 static int print_rows(client *c, uint64_t columns) {
     mysql_wire_view packet;
     uint64_t i;
-    for (i = 0; i <= columns; i++) /* the definitions, and the packet behind them */
+    for (i = 0; i <= columns; i++) /* the definitions, and the packet after them */
         if (!skip(c)) return 0;
     while (receive(c, &packet)) {
         if (ends_rows(packet)) return 1;

@@ -52,7 +52,7 @@ def query(wire, statement):
     columns = Fields(first).lenenc_int()
     if columns == 0:
         return []
-    for _ in range(columns + 1):  # the definitions, and the packet behind them
+    for _ in range(columns + 1):  # the definitions, and the packet after them
         yield b""
     rows = []
     while (packet := unless_refused((yield b"")))[:1] != END or len(packet) >= 9:

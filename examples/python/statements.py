@@ -56,7 +56,7 @@ class Client:
         self.show("login", [self.receive()])
 
     def ask(self, name, *commands, packets):
-        """Sends commands, of which the last one is answered by so many packets."""
+        """Sends commands, of which the last one is answered by this many packets."""
         framed = b""
         for command in commands:
             self.wire.reset()

@@ -16,7 +16,7 @@ def segment(source, target, number, body=b"", flags=0x18):
 
 
 def segment_6(source, target, number, body):
-    """The same in IPv6, behind an empty hop-by-hop header."""
+    """The same in IPv6, after an empty hop-by-hop header."""
     tcp = struct.pack(">HHIIBBHHH", source[1], target[1], number, 0, 0x50, 0x18, 0, 0, 0) + body
     options = struct.pack(">BB6x", 6, 0)
     front = struct.pack(">IHBB", 6 << 28, len(options) + len(tcp), 0, 64)

@@ -89,7 +89,7 @@ abbrev pub IsMoreData : (List ℕ → Result AuthMoreData WireError → ℕ → 
     → Result Outcome PayloadError → Type 0
 IsMoreData reads payload result = ReadsAs answer.MoreData reads payload (answer_of result)
 
--- a plugin's answer bears this id, and behind an OK a command begins; these capabilities stay
+-- a plugin's answer bears this id, and after an OK a command begins; these capabilities stay
 abbrev pub GoesOn : ℕ → ℕ → Result Outcome PayloadError → Type 0
 GoesOn id bits (Ok (Done next ok)) = (expected_id next.line.codec ≡ 0)
     × (capability_flags_bits next.capabilities ≡ bits)

@@ -117,7 +117,7 @@ pub enum Outcome<'a> {
     MoreData(Asked, AuthMoreData<'a>),
 }
 
-// The state behind the server's first packet.
+// The state after the server's first packet.
 fn read_greeting<'a>(
     alloc: Global,
     line: Line,
@@ -138,7 +138,7 @@ fn read_greeting<'a>(
     }
 }
 
-// The state behind what the server says to a login.
+// The state after what the server says to a login.
 fn read_outcome<'a>(
     alloc: Global,
     line: Line,
@@ -177,7 +177,7 @@ fn read_outcome<'a>(
 }
 
 impl Connecting {
-    /// At the start of a connection, under a limit of so many payload bytes a packet.
+    /// At the start of a connection, under a limit of this many payload bytes a packet.
     pub fn new(limit: usize) -> Connecting
         ensures { expected_id result.line.codec ≡ 0 }
     {

@@ -24,7 +24,7 @@ impl Line {
     ghost use Rattle.mysql_wire.specs.Framing.{framing, next_id};
     ghost use Rattle.mysql_wire.specs.InPlace.{HasFront, front_payload};
 
-    /// At the start of a connection, under a limit of so many payload bytes a packet.
+    /// At the start of a connection, under a limit of this many payload bytes a packet.
     pub fn new(limit: usize) -> Line
         ensures id { expected_id result.codec ≡ 0 }
         ensures limit { result.codec.max_allowed_packet ≡ limit }

@@ -70,7 +70,7 @@ pub struct LoggedIn {
     pub capabilities: CapabilityFlags,
 }
 
-// The state behind what answers the greeting.
+// The state after what answers the greeting.
 fn read_first<'a>(
     alloc: Global,
     line: Line,
@@ -95,7 +95,7 @@ fn read_first<'a>(
     }
 }
 
-// The state behind the client's answer to a plugin.
+// The state after the client's answer to a plugin.
 fn read_answer<'a>(
     alloc: Global,
     line: Line,
@@ -114,7 +114,7 @@ fn read_answer<'a>(
 }
 
 impl Accepted {
-    /// At the start of a connection, under a limit of so many payload bytes a packet.
+    /// At the start of a connection, under a limit of this many payload bytes a packet.
     pub fn new(limit: usize) -> Accepted
         ensures { expected_id result.line.codec ≡ 0 }
     {

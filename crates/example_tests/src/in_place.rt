@@ -11,7 +11,7 @@ use test_support::facts::all_hold;
 // A row of `a` and `b@c`, and the packet that ends the rows.
 const ROWS: &[u8] = b"\x06\0\0\0\x01a\x03b@c\x05\0\0\x01\xfe\0\0\0\0";
 
-// What is said of the row in front, and then of the packet behind it.
+// What is said of the row in front, and then of the packet after it.
 fn mails(alloc: Global, mail: &[u8]) -> (Option<bool>, Option<bool>) {
     let mut codec = PacketCodec::default();
     let mut src = BytesMut::new(alloc);

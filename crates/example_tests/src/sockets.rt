@@ -70,7 +70,7 @@ fn relays(
     relay(from_codec, from, to_codec, to).ok()
 }
 
-// How many packets a proxy passes on behind an empty one.
+// How many packets a proxy passes on after an empty one.
 fn pass(from: &mut Input<'_>, to: &mut Output) -> Option<u8> {
     let mut from_codec = PacketCodec::default();
     let mut to_codec = PacketCodec::default();

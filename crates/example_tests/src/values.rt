@@ -15,10 +15,10 @@ use test_support::facts::{all_hold, same};
 use test_support::fixture::Heap;
 use test_support::receiver::Receiver;
 
-// A number, a text behind its length, and a text that takes the rest.
+// A number, a text after its length, and a text that takes the rest.
 type Row<'a> = Both<RawInt<LeU16>, Both<RawBytes<'a, LenEnc>, RawBytes<'a, EofBytes>>>;
 
-// What is answered where a value is put behind the packets in `src`.
+// What is answered where a value is put after the packets in `src`.
 fn encode<T: MySerialize, A: Allocator + Copy>(to: &mut Receiver<A>, value: &T) -> Answer {
     Answer::of_encode(encode_value(&mut to.codec, value, &mut to.src))
 }

@@ -14,11 +14,11 @@ use Rattle.mysql_wire.specs.Reading.{Answers}
 abbrev pub be_u16_bytes : ℕ → List ℕ
 be_u16_bytes n = reverse (le_bytes 2 n)
 
--- a text of at most 65535 bytes behind its length, and of a longer one so many
+-- a text of at most 65535 bytes after its length, and of a longer one this many
 abbrev pub u16_text_bytes : List ℕ → List ℕ
 u16_text_bytes text = be_u16_bytes (length (take 65535 text)) ++ take 65535 text
 
--- What is answered where this stands behind a length, and how many bytes are eaten, those of the
+-- What is answered where this stands after a length, and how many bytes are eaten, those of the
 -- length with them.
 abbrev pub text_behind_u16 : ℕ → List ℕ → Result (List ℕ) WireError × ℕ
 text_behind_u16 len rest =

@@ -20,7 +20,7 @@ use Rattle.field_examples.specs.declared.parameters.Parameter.{Parameter}
 abbrev name_bytes : List ℕ → List ℕ
 name_bytes name = lenenc_bytes (length name) ++ name
 
--- two bytes of type and flags, and the name behind its length
+-- two bytes of type and flags, and the name after its length
 abbrev pub parameter_bytes : Parameter → List ℕ
 parameter_bytes parameter =
     le_bytes 2 parameter.type_and_flags.0 ++ name_bytes (cow_slice_items parameter.name.0)
@@ -36,7 +36,7 @@ SameParameter parameter back =
     (back.type_and_flags.0 ≡ parameter.type_and_flags.0)
     × IsBorrowedText back.name.0 (cow_slice_items parameter.name.0)
 
--- a list of so many parameters
+-- a list of this many parameters
 abbrev pub AreParameters : ℕ → List Parameter → Type 0
 AreParameters count parameters = All IsParameter parameters × (count ≡ length parameters)
     × (length parameters < 2 ^ 64)
@@ -45,7 +45,7 @@ AreParameters count parameters = All IsParameter parameters × (count ≡ length
 abbrev pub SameParameters : {Z : Type 0} → List Parameter → CowSlice Parameter Z → Type 0
 SameParameters parameters back = AllKept SameParameter parameters (cow_slice_items back)
 
--- two bytes are read, and then a text behind its length
+-- two bytes are read, and then a text after its length
 abbrev pub ReadsParameter : List ℕ → Result Parameter WireError → ℕ → Type 0
 ReadsParameter = ReadsBoth (λ parameter. parameter.type_and_flags) (λ parameter. parameter.name)
     (Parses (Some 2) (λ input. Through (λ number. number.0) (ReadsFixed 2 le_number input)))

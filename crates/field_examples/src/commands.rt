@@ -127,7 +127,7 @@ impl<'de, A: Allocator + Copy> MyDeserialize<'de, A> for ComInitDb<'de> {
     }
 }
 
-// A schema's name takes all the rest, so it comes back where nothing stands behind it.
+// A schema's name takes all the rest, so it comes back where nothing stands after it.
 impl<'de, A: Allocator + Copy> Wire<'de, A> for ComInitDb<'de> {
     ghost is_value = { λ _. Unit {0} };
 

@@ -57,7 +57,7 @@ impl IntRepr for BeU16 {
 #[derive(Clone, Copy, Debug, PartialEq, Eq, Hash, Default)]
 pub struct U16Bytes;
 
-// The first bytes of a text, at most so many.
+// The first bytes of a text, at most this many.
 fn first_bytes(text: &[u8], most: usize) -> &[u8]
     ensures first { result.now ≡ take most text.now }
     ensures few { length result.now ≤ most }
@@ -113,7 +113,7 @@ impl BytesRepr for U16Bytes {
     ghost of_size = { λ text size stated. Prim.cc };
 }
 
-/// Reads a port. Whatever stands behind what was written of one, it comes back.
+/// Reads a port. Whatever stands after what was written of one, it comes back.
 pub fn read_port(alloc: Global, buf: &mut ParseBuf<'_>) -> Result<RawInt<BeU16>, WireError>
     ensures reads { ParsesFixed (λ int. int.0) 2 be_number buf.old.0.now result buf.new.0.now }
     ensures back { (port : ℕ) → port < 2 ^ 16
@@ -123,7 +123,7 @@ pub fn read_port(alloc: Global, buf: &mut ParseBuf<'_>) -> Result<RawInt<BeU16>,
     number_back(alloc, buf)
 }
 
-/// Reads a name, which borrows from the payload. Whatever stands behind what was written of one, it
+/// Reads a name, which borrows from the payload. Whatever stands after what was written of one, it
 /// comes back, or its first 65535 bytes.
 pub fn read_name<'a>(
     alloc: Global,

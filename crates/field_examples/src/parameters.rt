@@ -91,7 +91,7 @@ pub fn put_parameters(parameters: &[Parameter<'_>], buf: &mut Vec<u8>) -> Result
     list.serialize(buf)
 }
 
-/// Reads what a query says of so many parameters. Whatever stands behind what was written of them,
+/// Reads what a query says of this many parameters. Whatever stands after what was written of them,
 /// each comes back.
 pub fn read_parameters<'a>(
     alloc: Global,

@@ -14,10 +14,10 @@ use mysql_wire::misc::raw::seq::Seq;
 use mysql_wire::proto::MyDeserialize;
 use std::alloc::Global;
 
-/// Texts behind their lengths, and four bytes of their number in front.
+/// Texts after their lengths, and four bytes of their number in front.
 pub type Texts<'a> = Seq<'a, RawBytes<'a, LenEnc>, LeU32>;
 
-/// Puts a text behind the others.
+/// Puts a text after the others.
 pub fn push_text<'a>(alloc: Global, list: &mut Texts<'a>, text: &'a [u8]) -> Result<(), WireError>
     ensures ok { OnOk result (GainsText list.old.0 text.now list.new.0) }
     ensures err { IfErr result (λ error. (error ≡ OutOfMemory)
@@ -26,7 +26,7 @@ pub fn push_text<'a>(alloc: Global, list: &mut Texts<'a>, text: &'a [u8]) -> Res
     list.push(alloc, RawBytes::from(text))
 }
 
-/// Reads a list of texts, and puts one behind them.
+/// Reads a list of texts, and puts one after them.
 pub fn read_and_push<'a>(
     alloc: Global,
     buf: &mut ParseBuf<'a>,

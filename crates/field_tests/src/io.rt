@@ -1,5 +1,5 @@
 //! Buffers and streams: the buffer that is read from its front, numbers whose length is in their
-//! first byte, texts behind their length, versions; and what errors say.
+//! first byte, texts after their length, versions; and what errors say.
 
 mod errors;
 mod lenenc;

@@ -128,7 +128,7 @@ where
     all & is_list::<Const<ColumnType, u8>, LeU32, A>(heap, alloc, (), types, NO_TYPES)
 }
 
-// Two texts, with one byte behind them.
+// Two texts, with one byte after them.
 fn are_texts<A: Allocator + Copy>(heap: &Heap, alloc: A) -> bool {
     heap.refuse(NEVER);
     let mut texts: Vec<RawBytes<'_, U8Bytes, A>, A> = Vec::new(alloc);

@@ -18,11 +18,11 @@ type Row<'a> = Both<RawInt<LeU16>, Both<RawBytes<'a, LenEnc>, RawBytes<'a, EofBy
 // A list of numbers.
 type List<'a> = Seq<'a, RawInt<LeU16>, LeU32, Global>;
 
-// 40 numbers, behind their count.
+// 40 numbers, after their count.
 const NUMBERS: &[u8] =
     b"\x28\0\0\0BBBBBBBBBBBBBBBBBBBBBBBBBBBBBBBBBBBBBBBBBBBBBBBBBBBBBBBBBBBBBBBBBBBBBBBBBBBBBBBB";
 
-// A number, a text of 40 bytes behind its length, and a text to the end.
+// A number, a text of 40 bytes after its length, and a text to the end.
 const ROW: &[u8] =
     b"\x02\x01\x28aaaaaaaaaaaaaaaaaaaaaaaaaaaaaaaaaaaaaaaabbbbbbbbbbbbbbbbbbbbbbbbbbbbbbbbbbbbbbbbbbbbbbbbbbbbbbbbbbbb";
 

@@ -20,7 +20,7 @@ fn is_written(buf: &mut Vec<u8>, text: &[u8], zero: usize) -> bool {
     is_put & is_end & same(between(bytes, 0, zero), between(text, 0, zero))
 }
 
-// Whether the text before its first zero is read, and this is left behind that; where there is no
+// Whether the text before its first zero is read, and this is left after that; where there is no
 // zero, whether that is said and nothing is eaten.
 fn is_read(alloc: Global, input: &[u8], text: &[u8], left: &[u8]) -> bool {
     if text.len() == input.len() {

@@ -1,4 +1,4 @@
-// Each representation of a number: the ends of its range, cut short, with bytes behind, and with
+// Each representation of a number: the ends of its range, cut short, with bytes after, and with
 // each request for memory refused.
 
 use mysql_wire::io::InvalidReason;

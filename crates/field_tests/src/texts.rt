@@ -1,4 +1,4 @@
-// Each representation of a text: at the ends of its lengths, cut short, with bytes behind, and with
+// Each representation of a text: at the ends of its lengths, cut short, with bytes after, and with
 // each request for memory refused.
 
 use mysql_wire::io::InvalidReason;
@@ -15,7 +15,7 @@ use test_support::fixture::Heap;
 use test_support::reference::between;
 use test_support::texts::{Row, are_texts, is_bounded, is_text, puts_of};
 
-// ---- texts behind their length
+// ---- texts after their length
 
 const LENENC: &[Row] = &[
     (0, b"\0"),
@@ -222,7 +222,7 @@ const FIXED: &[(&[u8], &[u8])] = &[
     (b"\0b", b"\0b\0\0"),
 ];
 
-// The last one is 300 letters, with two zeros behind them.
+// The last one is 300 letters, with two zeros after them.
 fn are_fixed<A: Allocator + Copy>(heap: &Heap, alloc: A, filled: &[u8]) -> bool {
     let long = between(filled, 0, 300);
     let mut all = is_fixed::<0, A>(heap, alloc, b"abc", b"");

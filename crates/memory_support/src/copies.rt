@@ -59,7 +59,7 @@ pub type List<'a, A> = Seq<'a, RawInt<LeU16>, LeU32, A>;
 /// A list of texts.
 pub type Texts<'a, A> = Seq<'a, Text<'a, A>, LeU32, A>;
 
-// A list of 1 and 2, and a byte behind it.
+// A list of 1 and 2, and a byte after it.
 const LIST: &[u8] = b"\x02\0\0\0\x01\0\x02\0\x02";
 
 fn is_refused(error: &WireError) -> bool {
@@ -171,7 +171,7 @@ fn owned_text<'a, A: Allocator + Copy>(alloc: A) -> Option<Text<'a, A>> {
     text().into_owned(alloc).ok()
 }
 
-// Puts one behind the others, if there is memory.
+// Puts one after the others, if there is memory.
 fn is_pushed<'a, A: Allocator + Copy>(alloc: A, texts: &mut Vec<Text<'a, A>, A>) -> bool {
     match owned_text(alloc) {
         Some(text) => texts.push(text).is_ok(),
@@ -235,8 +235,8 @@ pub fn reads_text<A: Allocator + Copy>(alloc: A, reading: Reading, input: &[u8])
     }
 }
 
-/// Whether a list was refused, so many bytes being left then; else it is the list, and owned, and
-/// so many are left.
+/// Whether a list was refused, this many bytes being left then; else it is the list, and owned, and
+/// this many are left.
 pub fn reads_list<A>(alloc: A, reading: Reading, if_refused: usize, left: usize) -> Option<bool>
 where
     A: Allocator + Copy,
@@ -248,7 +248,7 @@ where
     }
 }
 
-/// The same of the elements behind the count.
+/// The same of the elements after the count.
 pub fn reads_elements<A: Allocator + Copy>(alloc: A) -> Option<bool> {
     let mut buf = ParseBuf(LIST);
     match <LeU32 as SeqRepr>::deserialize::<RawInt<LeU16>, A>(alloc, (), &mut buf) {
@@ -298,7 +298,7 @@ where
     pushes_onto(heap, alloc, &mut read_two(alloc, input)?, nth)
 }
 
-/// Whether a text that is pushed behind two was refused, and the list is as it was; else it has
+/// Whether a text that is pushed after two was refused, and the list is as it was; else it has
 /// three.
 pub fn pushes_text<A>(heap: &Heap, alloc: A, onto: Onto, nth: u64) -> Option<bool>
 where
@@ -372,7 +372,7 @@ where
     }
 }
 
-/// Whether the text behind its length was refused where it is read from a stream, or is there.
+/// Whether the text after its length was refused where it is read from a stream, or is there.
 pub fn reads_stream<A: Allocator>(alloc: A) -> Option<bool> {
     let mut reader = b"\x03abc".as_slice();
     match reader.read_lenenc_str(alloc) {
@@ -422,7 +422,7 @@ pub fn texts_work<A: Allocator + Copy>(heap: &Heap, alloc: A) -> bool {
     all & owned.eq_bytes(b"abc")
 }
 
-// Whether the calls of a list say that it has so many values.
+// Whether the calls of a list say that it has this many values.
 fn has_values<A: Allocator>(list: &List<'_, A>, count: usize) -> bool {
     (list.len() == count) & (list.is_empty() == (count == 0)) & (list.as_slice().len() == count)
 }

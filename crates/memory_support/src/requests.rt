@@ -31,7 +31,7 @@ pub enum Call {
     PutSlice,
     Deliver(Runner),
     Read(Way),
-    /// With so many bytes left where it is refused, and where it isn't.
+    /// With this many bytes left where it is refused, and where it isn't.
     ReadList(Reading, usize, usize),
     Elements,
     PushText(Onto),

@@ -1,4 +1,4 @@
-//! What is put behind what a vector holds, by each function that puts something there.
+//! What is put after what a vector holds, by each function that puts something there.
 
 use mysql_wire::io::{BufMutExt, WireError};
 use mysql_wire::misc::raw::bytes::{BytesRepr, U8Bytes};
@@ -61,7 +61,7 @@ fn serialize<A: Allocator>(writing: Writing, buf: &mut Vec<u8, A>) -> Result<(),
     }
 }
 
-/// Writes it behind what the vector holds; where that fails, why.
+/// Writes it after what the vector holds; where that fails, why.
 pub fn write<A: Allocator>(writing: Writing, buf: &mut Vec<u8, A>) -> Option<Answer> {
     let written = match writing {
         Writing::Value | Writing::Number | Writing::Text | Writing::List | Writing::EmptyText =>

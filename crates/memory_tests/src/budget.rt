@@ -28,7 +28,7 @@ where
 
 type List<'a, U, A> = Seq<'a, RawInt<VarLen>, U, A>;
 
-// Counts that promise gigabytes: two values, of which each has a byte, stand behind them.
+// Counts that promise gigabytes: two values, of which each has a byte, stand after them.
 fn hostile_counts_end<A: Allocator + Copy>(alloc: A) -> [bool; 3] {
     let four = b"\xff\xff\xff\xff\x01\x02";
     let eight = b"\0\0\0\0\x01\0\0\0\x01\x02";
@@ -112,7 +112,7 @@ fn list_of<M: InMemory, A: Allocator + Copy>(alloc: A, input: &[u8]) -> (Option<
     read_of::<Values<'_, M, A>, A>(alloc, input)
 }
 
-// Whether a count of 2^32 - 1 in front of three values asks for so many bytes at most.
+// Whether a count of 2^32 - 1 in front of three values asks for this many bytes at most.
 fn asks_for_few<M: InMemory, A: Allocator + Copy>(heap: &Heap, alloc: A, most: usize) -> bool {
     heap.refuse(NEVER);
     let answer = list_of::<M, A>(alloc, b"\xff\xff\xff\xff\x01\x02\x03");
@@ -128,7 +128,7 @@ fn lists_ask_for_few<A: Allocator + Copy>(heap: &Heap, alloc: A) -> [bool; 3] {
     ]
 }
 
-// Whether such a count in front of many bytes, of which the first is no value, asks for so many
+// Whether such a count in front of many bytes, of which the first is no value, asks for this many
 // bytes at most.
 fn asks_for_the_first<M: InMemory, A: Allocator + Copy>(
     heap: &Heap,

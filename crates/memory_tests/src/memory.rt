@@ -83,7 +83,7 @@ fn a_target_takes_the_room_that_it_is_asked_for(rt: HostRuntime) -> Result<(), F
     ensure(targets_take_room(&heap, &heap), "the room")
 }
 
-// A packet of ten bytes, and a byte behind it.
+// A packet of ten bytes, and a byte after it.
 const PACKET: &[u8] = b"\x0a\0\0\x000123456789\xff";
 
 // Whether a payload whose framing no machine can hold is refused, and nothing is changed.
@@ -100,7 +100,7 @@ fn huge_refused(alloc: Global, len: usize) -> bool {
     begins & is_framed & (encoded == Answer::OutOfMemory) & unchanged
 }
 
-// So many bytes and their headers are just as many as a machine counts.
+// This many bytes and their headers are just as many as a machine counts.
 const COUNTED: usize = usize::MAX - 4398045724676;
 
 // They are more than a machine counts, or just as many, or fewer.

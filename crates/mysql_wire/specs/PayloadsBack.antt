@@ -31,7 +31,7 @@ ReadsBack {X = X} reads bytes kept takes_memory =
     (answer : Result X WireError) (eaten : ℕ) → reads bytes answer eaten
     → ComesBack kept takes_memory (length bytes) answer eaten
 
--- of the stream of these payloads, with more behind it, they are delivered first, and then what is
+-- of the stream of these payloads, with more after it, they are delivered first, and then what is
 -- delivered of the more
 abbrev pub DeliversFirst : ℕ → ℕ → List (List ℕ) → Type 0
 DeliversFirst first_id limit payloads =

@@ -43,7 +43,7 @@ pub fn packet_back<'de, T: Wire<'de, A>, A: Allocator + Copy>(
 }
 
 /// From values to bytes and back. Of the stream of the packets that values were encoded as, with
-/// anything behind it, delivery hands out these packets first; and each of them, read as its type
+/// anything after it, delivery hands out these packets first; and each of them, read as its type
 /// is read, gives back its value, and nothing is left.
 pub fn values_come_back<'de, T: Wire<'de, A>, A: Allocator + Copy>()
     ensures delivered { (first_id limit : ℕ) (values : List T)

@@ -7,7 +7,7 @@ use std::alloc::Global;
 use std::io;
 use std::io::{ErrorKind, Read, Write};
 
-// The same bytes again and again, with an end of input behind them each time.
+// The same bytes again and again, with an end of input after them each time.
 #[derive(Drop)]
 struct Again<'a> {
     bytes: &'a [u8],

@@ -238,7 +238,7 @@ of_four f xs w x y z a b d e answer low high first second third fourth is_a is_b
     subst (λ (l : List (List ℕ)). Asked (codes "unframe" ∷ l) answer)
     (ap₂ (λ (s t : List ℕ). s ∷ t ∷ d ∷ e ∷ []) is_a is_b ∙ ap₂ (λ (s t : List ℕ). f w ∷ f x ∷ s ∷ t ∷ []) is_d is_e ∙ sym (map_four f xs w x y z low high first second third fourth)) told
 
--- a name, and the words behind it
+-- a name, and the words after it
 pub named : {X : Type 0} (f : X → List ℕ) (xs : List X) (x : X) (name text : List ℕ) (answer : Option Request) → 1 ≤ length xs → x ≡ get_or xs 0 x → name ≡ f x → name ≡ text
     → Asked (text ∷ map f (take (length xs - 1) (drop 1 xs))) answer → Asked (map f xs) answer
 named f [] x name text answer some first is same told = absurd (omega arith)

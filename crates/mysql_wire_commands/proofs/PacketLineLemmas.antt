@@ -15,7 +15,7 @@ use Rattle.wire_digits.proofs.DigitLemmas.{digits_more}
 use Rattle.mysql_wire_commands.specs.PacketLines.{Goes}
 use Rattle.mysql_wire_commands.specs.Texts.{hex_or_dash, payload_line}
 
--- one part behind the other
+-- one part after the other
 pub goes_on : (held text middle more left : List ℕ) (before between after : Option (List ℕ)) → Goes held text middle before between → Goes middle more left between after
     → Goes held (text ++ more) left before after
 goes_on held text middle more left before between after first second = (

@@ -14,14 +14,14 @@ use Rattle.mysql_wire_commands.specs.Texts.{payload_line}
 use Rattle.mysql_wire_commands.specs.Unframe.{packet_lines, TakesLines, TakesPiece, TakesUnder}
 use Rattle.mysql_wire_commands.proofs.UnframeLemmas.{id_after-append, id_after_small, open_at_id, place_after-append, length-stream}
 
--- the packet behind these payloads began with the id after them
+-- the packet after these payloads began with the id after them
 first_after : (before after : CodecState) (gained : List (List ℕ)) → after.id ≡ id_at (id_after (first_id before) gained) after.held
     → first_id after ≡ id_after (first_id before) gained
 first_after before after gained is =
     ap (λ (z : ℕ). open_id z after.held) is
     ∙ open_at_id (id_after (first_id before) gained) after.held (id_after_small (first_id before) gained (omega arith))
 
--- what a part and the bytes behind it deliver, where the part waits
+-- what a part and the bytes after it deliver, where the part waits
 joined_parts : JoinedLimitedRuns → (limits : Limits) (place : ℕ) (before middle : CodecState) (part behind : List ℕ) (gained others : List (List ℕ)) (ending : Ending) (unfinished rest : List ℕ)
     → DeliversUnder limits place before.held (input_of before ++ part) (first_id before) gained Waiting middle.held middle.unread
     → first_id middle ≡ id_after (first_id before) gained
@@ -37,7 +37,7 @@ joined_parts joined limits place before middle part behind gained others ending 
     (joined limits place before.held (input_of before ++ part) (first_id before) gained middle.held middle.unread behind others ending unfinished rest first.splits
     (subst (λ (z : List ℕ). DeliversUnder limits p middle.held z s others ending unfinished rest) (append_assoc (front s middle.held) middle.unread behind) here))
 
--- the place behind a part
+-- the place after a part
 part_place : FramedLength → (limits : Limits) (place : ℕ) (before middle : CodecState) (part : List ℕ) (gained : List (List ℕ))
     → DeliversUnder limits place before.held (input_of before ++ part) (first_id before) gained Waiting middle.held middle.unread
     → first_id middle ≡ id_after (first_id before) gained
@@ -88,11 +88,11 @@ parts_join framed joined before middle after limit part behind text more ends fi
       under_joined joined limits place before middle after part behind ends gained two.0 one.2 two.2,
     )
 
--- the chunk in front is the same with more bytes behind it
+-- the chunk in front is the same with more bytes after it
 same_chunk : (rest more : List ℕ) → 4 ≤ length rest → chunk_len (rest ++ more) ≡ chunk_len rest
 same_chunk rest more there = rw (take-append-le 3 rest more (omega arith)) refl
 
--- where packets stop, they stop with more bytes behind them
+-- where packets stop, they stop with more bytes after them
 stops_longer : (limits : Limits) (place : ℕ) (held input : List ℕ) (opened : ℕ) (payloads : List (List ℕ)) (ending : Ending) (unfinished rest more : List ℕ)
     → DeliversUnder limits place held input opened payloads ending unfinished rest
     → Ends ending (id_after opened payloads) (rest_limit limits (place_after place payloads) unfinished (rest ++ more)) unfinished (rest ++ more)

@@ -7,7 +7,7 @@ use Rattle.std.specs.Io.KnownBytes.{Consumes}
 use Rattle.mysql_wire_commands.specs.declared.noted_read.OneRead.{OneRead}
 use Rattle.mysql_wire_commands.specs.Reads.{Makes, AskedFor, EachAskedFor, AsksUpTo, AsksStep, came, ReadsWhile}
 
--- so far so many bytes came
+-- so far this many bytes came
 pub record Asking (step at place : ℕ) (old new : Option (List OneRead)) : Type 0 where
   pub made : List OneRead
   pub makes : Makes old new made
@@ -42,7 +42,7 @@ asking_start step at old = record {
   place_is = refl;
 }
 
--- a read more, of what is asked for with so many bytes left up to the place `at`
+-- a read more, of what is asked for with this many bytes left up to the place `at`
 pub asking_more : (step at place ahead : ℕ) (old new later : Option (List OneRead)) (read : OneRead) → Asking step at place old new → ahead ≡ at - place
     → 0 < read.asked → read.asked ≤ step → (0 < ahead → read.asked ≤ ahead) → (read.asked ≡ step) ⊎ (read.asked ≡ ahead)
     → Makes new later (read ∷ []) → Asking step at (place + read.came) old later
@@ -89,7 +89,7 @@ asked_step step old new asked = record {
   each = each_step step 0 asked.made asked.each;
 }
 
--- so far this held before each read, and so many bytes came
+-- so far this held before each read, and this many bytes came
 pub record Waited (waits : List ℕ → Type 0) (place : ℕ) (old new : Option (List OneRead)) (unread : Option (List ℕ)) : Type 0 where
   pub made : List OneRead
   pub makes : Makes old new made
@@ -101,7 +101,7 @@ pub waited_start : (waits : List ℕ → Type 0) (old : Option (List OneRead)) (
 waited_start waits old None = record { made = []; makes = makes_nothing old; each = tt; place_is = refl }
 waited_start waits old (Some bytes) = record { made = []; makes = makes_nothing old; each = λ index none. absurd (omega arith); place_is = refl }
 
--- before one read more, behind which no other has come
+-- before one read more, after which no other has come
 each_more_waited : (waits : List ℕ → Type 0) (made : List OneRead) (read : OneRead) (bytes input rest : List ℕ)
     → ((index : ℕ) → index < length made → waits (take (came (take index made)) bytes))
     → came made ≡ length input → bytes ≡ input ++ rest → waits input

@@ -84,7 +84,7 @@ all_delivered joined limit before encodes input text more u ending unfinished re
     (subst (λ (z : List ℕ). Delivers before.held z s limit [] ending unfinished rest) (append_assoc (front s before.held) before.unread more) limited) in
     subst (λ (ps : List (List ℕ)). Delivers [] (input ++ more) 0 limit ps ending unfinished rest) (append-nil u.payloads) all
 
--- how many bytes are behind the last whole packet
+-- how many bytes are after the last whole packet
 left_behind : (limit : ℕ) (before : CodecState) (encodes : ℕ) (input text more : List ℕ) (u : Reframing limit before encodes input text) (ending : Ending) (unfinished rest : List ℕ)
     → Delivers before.held (input_of before ++ more) (first_id before) before.limit [] ending unfinished rest
     → front (id_after 0 u.payloads) unfinished ++ rest ≡ input_of before ++ more

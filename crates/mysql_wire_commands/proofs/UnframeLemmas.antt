@@ -147,7 +147,7 @@ unframing_start empty limits at state id header unread held = record {
   is = refl;
 }
 
--- ids and places behind two lists of payloads
+-- ids and places after two lists of payloads
 pub id_after-append : (s : ℕ) (ps qs : List (List ℕ)) → id_after s (ps ++ qs) ≡ id_after (id_after s ps) qs
 id_after-append s [] qs = refl
 id_after-append s (p ∷ ps) qs = id_after-append (next_id s p) ps qs
@@ -171,7 +171,7 @@ length-stream framed s place (p ∷ ps) =
     let more = length-stream framed (next_id s p) (place + framed_size p) ps in
     omega arith
 
--- the place behind all that was read
+-- the place after all that was read
 read_place : FramedLength → (limits : Limits) (at : ℕ) (state : CodecState) (input text : List ℕ) (u : Unframing limits at state input text)
     → place_after 0 u.payloads + length (input_of state) ≡ length input
 read_place framed limits at state input text u =
@@ -252,7 +252,7 @@ blocks : (n : ℕ) → n % max_payload ≡ 0 → n ≤ n / max_payload * max_pay
 unfolding max_payload
 blocks n h = omega arith
 
--- how many bytes came behind the last whole packet
+-- how many bytes came after the last whole packet
 length-front : FramedLength → (s : ℕ) (held : List ℕ) → IsWholeChunks held → length (front s held) ≡ length held + 4 * (length held / max_payload)
 unfolding chunk
 length-front framed s held whole =

@@ -2,7 +2,7 @@
 use Rattle.std.specs.Prelude.{◌≡◌, ◌⊎◌, ◌+◌, ◌<◌, ◌≤◌, ℕ, List, [], ◌∷◌, ◌++◌, length, take, ⊤, All, Option, Some, IfSome}
 use Rattle.mysql_wire_commands.specs.declared.noted_read.OneRead.{OneRead}
 
--- where all reads are known, they are those known before, and these behind them
+-- where all reads are known, they are those known before, and these after them
 abbrev pub Makes : Option (List OneRead) → Option (List OneRead) → List OneRead → Type 0
 Makes old new made =
     IfSome new (λ all. (before : List OneRead) × (old ≡ Some before) × (all ≡ before ++ made))
@@ -15,7 +15,7 @@ pub record AskedFor (step at place asked : ℕ) : Type 0 where
   pub apart : place < at → place + asked ≤ at
   pub no_less : (asked ≡ step) ⊎ (place + asked ≡ at)
 
--- each of these reads is, the first of them at this place, and each other behind what came before
+-- each of these reads is, the first of them at this place, and each other after what came before
 abbrev pub EachAskedFor : ℕ → ℕ → ℕ → List OneRead → Type 0
 EachAskedFor step at place [] = ⊤
 EachAskedFor step at place (read ∷ reads) =

@@ -19,7 +19,7 @@ use Rattle.mysql_wire_commands.specs.Texts.{payload_line, rest_line}
 abbrev pub packet_lines : List (List ℕ) → List ℕ
 packet_lines payloads = flat_map payload_line payloads
 
--- the last line: how many bytes are behind the last whole packet, or why the packets stop
+-- the last line: how many bytes are after the last whole packet, or why the packets stop
 abbrev pub ending_line : Ending → ℕ → List ℕ
 ending_line Waiting left = rest_line left
 ending_line TooLarge left = codes "too large\n"
@@ -69,7 +69,7 @@ pub record UnframedUnder (limits : Limits) (input : List ℕ) (status : ℕ) (te
     pub ends : status ≡ ending_status ending (length (front (id_after 0 payloads) unfinished
         ++ rest))
 
--- as no read goes past this place from before it, bytes behind it were read only where those before
+-- as no read goes past this place from before it, bytes after it were read only where those before
 -- it need more
 abbrev pub StopsAt : Limits → ℕ → List ℕ → Type 0
 StopsAt limits at input = (length input ≤ at) ⊎ WaitsUnder limits 0 (take at input) []
@@ -98,7 +98,7 @@ UnframeEndsOver limit later at status unread left written now =
     (limits : Limits) → ((place : ℕ) → limits place ≡ place_limits limit later at place)
     → UnframeUnderEnds limits at status unread left written now
 
--- no byte was asked for behind a fault: each read was made where the bytes before it only wait,
+-- no byte was asked for after a fault: each read was made where the bytes before it only wait,
 -- under all limits that are the same byte by byte
 abbrev pub StopsOver : ℕ → ℕ → ℕ → Option (List OneRead) → Option (List OneRead)
     → Option (List ℕ) → Type 0
@@ -154,7 +154,7 @@ verdict_line verdict.OutOfSync = codes "out of sync\n"
 abbrev pub run_state : {A : Type 0} → Run A → CodecState
 run_state run = codec_state run.codec run.src.items run.dst.items
 
--- how many bytes came behind the last whole packet: the full chunks of an unfinished one, with
+-- how many bytes came after the last whole packet: the full chunks of an unfinished one, with
 -- their headers, and the bytes unread
 abbrev pub bytes_left : CodecState → ℕ
 bytes_left state =
@@ -183,7 +183,7 @@ abbrev pub RunEnds : {A : Type 0} → Run A → ℕ → Option (List ℕ) → Op
 RunEnds run status unread left written now =
     UnframeEndsOver run.limit run.later run.ahead status unread left written now
 
--- and no byte was asked for behind a fault
+-- and no byte was asked for after a fault
 abbrev pub RunStops : {A : Type 0} → Run A → Option (List OneRead) → Option (List OneRead)
     → Option (List ℕ) → Type 0
 RunStops run old new unread = StopsOver run.limit run.later run.ahead old new unread

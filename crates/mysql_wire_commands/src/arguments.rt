@@ -21,7 +21,7 @@ pub enum Request {
     Frame(u8),
     /// `chunk`
     Chunk,
-    /// `unframe STEP LIMIT`: so many bytes asked of a read, and at most so many a packet.
+    /// `unframe STEP LIMIT`: this many bytes asked of a read, and at most this many a packet.
     Unframe {
         step: usize,
         limit: usize,
@@ -33,7 +33,7 @@ pub enum Request {
         later: usize,
         at: usize,
     },
-    /// `reframe LIMIT`: at most so many bytes a packet.
+    /// `reframe LIMIT`: at most this many bytes a packet.
     Reframe(usize),
 }
 
@@ -98,7 +98,7 @@ fn two_limits(first: &str, second: &str) -> Option<(usize, usize)>
 impl Request {
     ghost use Rattle.mysql_wire_commands.specs.Arguments.{Asked};
 
-    // What `frame` and the words behind it ask for.
+    // What `frame` and the words after it ask for.
     fn frame<A: Allocator>(words: &[String<A>]) -> Option<Request>
         ensures { Asked (codes "frame" ∷ map string_bytes words.now) result }
     {
@@ -108,7 +108,7 @@ impl Request {
         }
     }
 
-    // What `chunk` and the words behind it ask for.
+    // What `chunk` and the words after it ask for.
     fn chunk<A: Allocator>(words: &[String<A>]) -> Option<Request>
         ensures { Asked (codes "chunk" ∷ map string_bytes words.now) result }
     {
@@ -118,7 +118,7 @@ impl Request {
         }
     }
 
-    // What `reframe` and the words behind it ask for.
+    // What `reframe` and the words after it ask for.
     fn reframe<A: Allocator>(words: &[String<A>]) -> Option<Request>
         ensures { Asked (codes "reframe" ∷ map string_bytes words.now) result }
     {
@@ -128,7 +128,7 @@ impl Request {
         }
     }
 
-    // What `unframe` with these words behind it asks for.
+    // What `unframe` with these words after it asks for.
     fn unframe_under(step: &str, limit: &str) -> Option<Request>
         ensures { Asked (codes "unframe" ∷ step.now ∷ limit.now ∷ []) result }
     {
@@ -136,7 +136,7 @@ impl Request {
         Some(Request::Unframe { step, limit })
     }
 
-    // What `unframe` with these words behind it asks for.
+    // What `unframe` with these words after it asks for.
     fn unframe_limited(step: &str, limit: &str, later: &str, at: &str) -> Option<Request>
         ensures { Asked (codes "unframe" ∷ step.now ∷ limit.now ∷ later.now ∷ at.now ∷ []) result }
     {
@@ -150,7 +150,7 @@ impl Request {
         })
     }
 
-    // What `unframe` and the words behind it ask for.
+    // What `unframe` and the words after it ask for.
     fn unframe<A: Allocator>(words: &[String<A>]) -> Option<Request>
         ensures { Asked (codes "unframe" ∷ map string_bytes words.now) result }
     {

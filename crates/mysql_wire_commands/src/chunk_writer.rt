@@ -7,7 +7,7 @@ use std::io;
 use std::io::{ErrorKind, Write};
 use wire_codec::codec::header::{HEADER_LEN, Header};
 
-/// Takes chunks, one behind another. Where a write of several is refused, and nothing of it was
+/// Takes chunks, one after another. Where a write of several is refused, and nothing of it was
 /// taken, the one in front is offered alone.
 #[derive(Drop)]
 pub struct ChunkWriter<W> {
@@ -16,7 +16,7 @@ pub struct ChunkWriter<W> {
     left: usize,
 }
 
-// How many of these bytes the chunk in front has, of which so many are left where a part went out.
+// How many of these bytes the chunk in front has, of which this many are left where a part went out.
 fn front_len(left: usize, bytes: &[u8]) -> usize
     ensures within { result ≤ length bytes.now }
     ensures some { 0 < length bytes.now → 0 < result }
@@ -29,7 +29,7 @@ fn front_len(left: usize, bytes: &[u8]) -> usize
     len.min(bytes.len())
 }
 
-// How many bytes are left of the chunk in front, once so many of these went out.
+// How many bytes are left of the chunk in front, once this many of these went out.
 fn left_behind(mut left: usize, bytes: &[u8], count: usize) -> usize
     requires { count ≤ length bytes.now }
 {

@@ -104,7 +104,7 @@ fn write_packet<A: Allocator, W: Write>(
     Ok(())
 }
 
-/// Writes a line for each packet. What is not yet written stands in `text`, behind what stood there.
+/// Writes a line for each packet. What is not yet written stands in `text`, after what stood there.
 pub fn write_packets<A: Allocator + Copy, W: Write>(
     text: &mut Vec<u8, A>,
     packets: &[Vec<u8, A>],

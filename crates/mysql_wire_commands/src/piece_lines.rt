@@ -7,7 +7,7 @@ use crate::packet_lines::{TEXT_AT_ONCE, push_line};
 use std::alloc::{AllocError, Allocator};
 use wire_codec::codec::Visit;
 
-/// The lines of the small packets in front, and the packets behind them, whose lines are still to
+/// The lines of the small packets in front, and the packets after them, whose lines are still to
 /// be made.
 #[derive(Drop)]
 pub struct PieceLines<A: Allocator + Copy> {
@@ -34,13 +34,13 @@ impl<A: Allocator + Copy> PieceLines<A> {
         self.packets.clear();
     }
 
-    // Whether the text is surely shorter with the line of so many bytes than what is written at
+    // Whether the text is surely shorter with the line of this many bytes than what is written at
     // once: two digits a byte, and 23 bytes at most beside them.
     fn has_room(&self, len: usize) -> bool {
         len < (TEXT_AT_ONCE - 24).saturating_sub(self.text.len()) / 2
     }
 
-    // Adds the line of a packet, or else the packet. Behind a packet there is none but packets.
+    // Adds the line of a packet, or else the packet. After a packet there is none but packets.
     fn add(&mut self, packet: &[u8]) -> Result<(), AllocError>
         ensures { OnOk result (Adds self.old packet.now self.new) }
     {

@@ -69,7 +69,7 @@ fn end<A: Allocator + Copy, W: Write>(to: &mut PacketWriter<W, A>, status: u8) -
     Ok(status)
 }
 
-// Frames a packet behind what is pending, which is written where memory is refused.
+// Frames a packet after what is pending, which is written where memory is refused.
 fn queue<A: Allocator + Copy, W: Write>(
     encoder: &mut PacketCodec,
     to: &mut PacketWriter<W, A>,

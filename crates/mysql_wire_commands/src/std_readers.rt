@@ -1,5 +1,5 @@
 //! std's readers as readers that note nothing: a clause on their `reads` says nothing of them. One
-//! behind a `&mut` or in a `Box` notes what the reader there notes.
+//! after a `&mut` or in a `Box` notes what the reader there notes.
 
 use crate::noted_read::NotedRead;
 use std::alloc::Allocator;

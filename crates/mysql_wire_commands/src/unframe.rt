@@ -19,7 +19,7 @@ use wire_codec::laws;
 use wire_const::MAX_PAYLOAD_LEN;
 
 // Packets are visited where they lie where fewer bytes than these are unread, and fewer than those
-// come: together they hold no full chunk. So many bytes take lines that are held, but for one.
+// come: together they hold no full chunk. This many bytes take lines that are held, but for one.
 const MOST_UNREAD: usize = TEXT_AT_ONCE / 2;
 
 const MOST_AT_ONCE: usize = MAX_PAYLOAD_LEN - MOST_UNREAD;
@@ -43,7 +43,7 @@ struct Run<A: Allocator + Copy> {
     dst: Vec<u8, A>,
     // What is not yet written.
     lines: PieceLines<A>,
-    // The limit of so many bytes more, and that of those behind them.
+    // The limit of this many bytes more, and that of those after them.
     limit: usize,
     ahead: usize,
     later: usize,
@@ -96,7 +96,7 @@ impl<A: Allocator + Copy> Run<A> {
         }
     }
 
-    // The limit of a piece of so many bytes, which are now no more ahead.
+    // The limit of a piece of this many bytes, which are now no more ahead.
     fn begin_piece(&mut self, len: usize) -> usize
         ensures limit { result ≡ next_limit self.old }
         ensures rest { self.new ≡ record self.old { ahead = self.old.ahead - len } }
@@ -106,7 +106,7 @@ impl<A: Allocator + Copy> Run<A> {
         limit
     }
 
-    // How many of so many bytes are taken at once: with the unread ones as many as take lines that
+    // How many of this many bytes are taken at once: with the unread ones as many as take lines that
     // are held, or all where a packet is under way that is too large for that.
     fn part_len(&self, len: usize) -> usize
         ensures within { result ≤ len }
@@ -119,7 +119,7 @@ impl<A: Allocator + Copy> Run<A> {
         }
     }
 
-    // Delivers the packets of pieces with so many bytes. Where one is under way that is too large for
+    // Delivers the packets of pieces with this many bytes. Where one is under way that is too large for
     // its line to be held, or one of several chunks may come whole, they are moved out of the
     // buffers, and else each is visited where it lies.
     fn deliver(
@@ -172,7 +172,7 @@ impl<A: Allocator + Copy> Run<A> {
         }
     }
 
-    // How many bytes came behind the last whole packet: the full chunks of an unfinished one, with
+    // How many bytes came after the last whole packet: the full chunks of an unfinished one, with
     // their headers, and the bytes unread.
     fn bytes_left(&self) -> u128
         ensures { result ≡ bytes_left (run_state self.now) }
@@ -228,7 +228,7 @@ fn take_part<A: Allocator + Copy, W: Write>(
 }
 
 // Takes the packets of one more piece, which comes under one limit, part by part, and writes the
-// lines of each part behind it.
+// lines of each part after it.
 fn take_piece<A: Allocator + Copy, W: Write>(
     run: &mut Run<A>,
     piece: &[u8],

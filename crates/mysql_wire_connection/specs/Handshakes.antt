@@ -26,7 +26,7 @@ Lower = RawFlags CapabilityFlags LeU32LowerHalf ℕ
 abbrev pub Upper : Type 0
 Upper = RawFlags CapabilityFlags LeU32UpperHalf ℕ
 
--- how many bytes the second part of the authentication data has, where both have so many
+-- how many bytes the second part of the authentication data has, where both have this many
 abbrev pub part_2_length : ℕ → ℕ
 part_2_length both = max 13 (both - 8)
 
@@ -71,7 +71,7 @@ head_fields h = (
   ),
 )
 
--- and behind it: the second part, and the plugin's name
+-- and after it: the second part, and the plugin's name
 abbrev pub tail_bytes : HandshakeV10 → List ℕ
 tail_bytes h = take 255 (cow_slice_items h.auth_plugin_data_part_2.0)
     ++ bytes_if (by_side (λ name. clean name.0 ++ 0 ∷ []) (λ name. cow_slice_items name.0))
@@ -85,15 +85,15 @@ upper_half n = n - n % 65536
 abbrev pub has_zero : List ℕ → Bool
 has_zero bytes = nat_lt (length (before_first is_zero bytes)) (length bytes)
 
--- how the fields behind the head are read: the second part of the data by its length, and the name
--- up to a zero where one stands behind that part
+-- how the fields after the head are read: the second part of the data by its length, and the name
+-- up to a zero where one stands after that part
 abbrev pub tail_at : ℕ → ℕ → List ℕ → ℕ × Either (Either (Unit {0}) (Unit {0})) (Unit {0})
 tail_at upper len input = (
   part_2_length len,
   side (side tt (has_zero (drop (part_2_length len) input))) (has upper 0x80000),
 )
 
--- a zero stands behind the second part of the data
+-- a zero stands after the second part of the data
 abbrev pub is_closed : HandshakeV10 → List ℕ → Bool
 is_closed h rest =
     has_zero (drop (part_2_length h.auth_plugin_data_len) (tail_bytes h ++ rest))

@@ -30,7 +30,7 @@ client_fields h = (
   ),
 )
 
--- and behind it
+-- and after it
 abbrev pub answer_bytes : HandshakeResponse41 → List ℕ
 answer_bytes h = by_side (λ text. text_bytes text.0) (λ text. u8_text_bytes text.0) h.auth_response
     ++ (bytes_if (λ name. clean name.0 ++ 0 ∷ []) h.database
@@ -38,7 +38,7 @@ answer_bytes h = by_side (λ text. text_bytes text.0) (λ text. u8_text_bytes te
     ++ (bytes_if (λ attrs. text_bytes attrs.0) h.connect_attrs
     ++ bytes_if (λ level. level ∷ []) h.zstd_compression_level)))
 
--- and those behind it
+-- and those after it
 abbrev pub answer_fields : HandshakeResponse41
     → Both (Either (Text LenEnc) (Text U8Bytes)) (Both (Optional (Text NullBytes))
     (Both (Optional (Text NullBytes)) (Both (Optional (Text LenEnc)) (Optional ℕ))))

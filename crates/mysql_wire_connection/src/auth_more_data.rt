@@ -54,7 +54,7 @@ impl<'de> MyDeserialize<'de, Global> for AuthMoreData<'de> {
     }
 }
 
-// The data take all the rest, so it comes back where nothing stands behind it.
+// The data take all the rest, so it comes back where nothing stands after it.
 impl<'de> Wire<'de, Global> for AuthMoreData<'de> {
     ghost is_value = { λ more. IsText (cow_slice_items more.data.0) };
 

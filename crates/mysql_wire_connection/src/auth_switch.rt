@@ -65,7 +65,7 @@ impl<'de> MyDeserialize<'de, Global> for AuthSwitchRequest<'de> {
     }
 }
 
-// The data take all the rest, so they come back where nothing stands behind them.
+// The data take all the rest, so they come back where nothing stands after them.
 impl<'de> Wire<'de, Global> for AuthSwitchRequest<'de> {
     ghost is_value = { λ request. IsText (cow_slice_items request.plugin_data.0) };
 

@@ -50,7 +50,7 @@ impl<'de> MyDeserialize<'de, Global> for AuthSwitchResponse<'de> {
     }
 }
 
-// The data take all the rest, so they come back where nothing stands behind them.
+// The data take all the rest, so they come back where nothing stands after them.
 impl<'de> Wire<'de, Global> for AuthSwitchResponse<'de> {
     ghost is_value = { λ response. IsText (cow_slice_items response.data.0) };
 

@@ -46,10 +46,10 @@ type Upper = Both<RawFlags<CapabilityFlags, LeU32UpperHalf>, Both<u8, Reserved>>
 
 type Reserved = Both<[u8; 6], u32>;
 
-// And those behind it.
+// And those after it.
 type Tail<'a> = Both<RawBytes<'a, BareU8Bytes>, Optional<PluginName<'a>>>;
 
-/// The name of an authentication plugin, with its zero behind it, or, as servers before 5.5.10 and
+/// The name of an authentication plugin, with its zero after it, or, as servers before 5.5.10 and
 /// 5.6.2 sent it, without one, up to the end of the payload.
 pub type PluginName<'a> = Either<RawBytes<'a, NullBytes>, RawBytes<'a, EofBytes>>;
 
@@ -78,7 +78,7 @@ pub struct HandshakeV10<'a> {
     /// What MariaDB can do beyond MySQL, where it does not set `CLIENT_LONG_PASSWORD`; of MySQL
     /// four more zeros. <https://mariadb.com/kb/en/connection/>
     pub mariadb_capabilities: RawFlags<MariadbCapabilities, LeU32>,
-    /// So many bytes as are left of both, but 13 at least, of which the last is a zero.
+    /// This many bytes as are left of both, but 13 at least, of which the last is a zero.
     pub auth_plugin_data_part_2: RawBytes<'a, BareU8Bytes>,
     /// There under `CLIENT_PLUGIN_AUTH`.
     pub auth_plugin_name: Option<PluginName<'a>>,
@@ -124,7 +124,7 @@ fn of_fields<'a>(head: Head<'a>, tail: Tail<'a>) -> HandshakeV10<'a>
     }
 }
 
-// Whether a zero stands behind the first `count` bytes.
+// Whether a zero stands after the first `count` bytes.
 fn has_zero_behind(count: usize, input: &[u8]) -> bool
     ensures { result ≡ has_zero (drop count input.now) }
 {
@@ -137,7 +137,7 @@ fn has_zero_behind(count: usize, input: &[u8]) -> bool
     }
 }
 
-// The context of the fields behind the head.
+// The context of the fields after the head.
 fn tail_ctx(upper: u32, len: u8, input: &[u8]) -> (usize, Either<Either<(), ()>, ()>)
     ensures { result ≡ tail_at upper len input.now }
 {
@@ -217,7 +217,7 @@ impl<'de> Wire<'de, Global> for HandshakeV10<'de> {
     } };
 
     // The second part of the data is as long as the fields before it say, and so is the name there;
-    // it has no zero behind it where none stands in the rest of the payload, which is the name.
+    // it has no zero after it where none stands in the rest of the payload, which is the name.
     ghost good = { λ _ h rest. record {
       part_2 : part_2_length h.auth_plugin_data_len
           ≡ min (length (cow_slice_items h.auth_plugin_data_part_2.0)) 255;

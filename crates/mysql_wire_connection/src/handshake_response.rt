@@ -36,7 +36,7 @@ type User<'a> = Both<u8, Both<Reserved, RawBytes<'a, NullBytes>>>;
 
 type Reserved = Both<[u8; 19], u32>;
 
-// And those behind it, on which the client's capabilities decide.
+// And those after it, on which the client's capabilities decide.
 type Answer<'a> = Both<AuthResponse<'a>, Both<Optional<RawBytes<'a, NullBytes>>, Plugin<'a>>>;
 
 type Plugin<'a> = Both<Optional<RawBytes<'a, NullBytes>>, Both<Attributes<'a>, Level>>;
@@ -45,8 +45,8 @@ type Attributes<'a> = Optional<RawBytes<'a, LenEnc>>;
 
 type Level = Optional<u8>;
 
-/// What answers the authentication data: behind a length-encoded integer under
-/// `CLIENT_PLUGIN_AUTH_LENENC_CLIENT_DATA`, and else behind one byte.
+/// What answers the authentication data: after a length-encoded integer under
+/// `CLIENT_PLUGIN_AUTH_LENENC_CLIENT_DATA`, and else after one byte.
 pub type AuthResponse<'a> = Either<RawBytes<'a, LenEnc>, RawBytes<'a, U8Bytes>>;
 
 /// The client's answer under `CLIENT_PROTOCOL_41`: `Protocol::HandshakeResponse41`. MariaDB's form
@@ -71,7 +71,7 @@ pub struct HandshakeResponse41<'a> {
     pub database: Option<RawBytes<'a, NullBytes>>,
     /// There under `CLIENT_PLUGIN_AUTH`.
     pub client_plugin_name: Option<RawBytes<'a, NullBytes>>,
-    /// Keys and values in turn, each behind its length, there under `CLIENT_CONNECT_ATTRS`.
+    /// Keys and values in turn, each after its length, there under `CLIENT_CONNECT_ATTRS`.
     pub connect_attrs: Option<RawBytes<'a, LenEnc>>,
     /// There under `CLIENT_ZSTD_COMPRESSION_ALGORITHM`.
     pub zstd_compression_level: Option<u8>,

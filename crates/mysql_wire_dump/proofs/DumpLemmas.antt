@@ -64,7 +64,7 @@ pub known_after_more : (options : Options) (known : SessionState) (shown : List 
 known_after_more options known [] one = refl
 known_after_more options known (first ∷ shown) one = known_after_more options (known_behind options first) shown one
 
--- one packet more is shown, where this is known behind those before it
+-- one packet more is shown, where this is known after those before it
 pub shown_more : (options : Options) (known : SessionState) (shown : List Shown) (one : Shown) → AreShown options known shown
     → one.at ≡ known_after options known shown → IsShown options one → AreShown options known (shown ++ one ∷ [])
 shown_more options known [] one are at is = (at, is, tt)
@@ -114,7 +114,7 @@ same_line form seen shown payload fields limit same large =
       | inr within ↦ ap (λ (z : List ℕ). packet_line form seen z fields) (same within)
     ]
 
--- a packet that was named and read, or passed over, as it is shown, and what is known behind it
+-- a packet that was named and read, or passed over, as it is shown, and what is known after it
 abbrev shown_as : Seen → List ℕ → List ℕ → SessionState → AnyPacket → Shown
 shown_as seen payload fields known one =
     record { seen = seen; payload = payload; packet = one; fields = fields; at = known }
@@ -553,7 +553,7 @@ hides_at : (next : Next) (end : End) (at known : Phase) → next ≡ Ended end �
 hides_at next end at known is same hides =
     ((λ hidden. sym same ∙ hides.0 (is ∙ ap (λ (e : End). Ended e) hidden)), (λ tls. ended_so end Encrypted (sym is ∙ hides.1 (same ∙ tls))))
 
--- all is shown, and how the sides end is written behind it
+-- all is shown, and how the sides end is written after it
 pub dumps_all : {A : Type 0} (options : Options) (sides : Sides) (dump : Dump A) (client_end server_end : End) (last : List ℕ) (status : ℕ)
     (client client_left server server_left written now later : Option (List ℕ))
     → ShowsAll dump client client_left server server_left written now → dump.options ≡ options

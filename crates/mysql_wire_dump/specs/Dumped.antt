@@ -31,7 +31,7 @@ use Rattle.mysql_wire_dump_lines.specs.Status.{end_status}
 use Rattle.mysql_wire_dump_lines.specs.Turns.{turn}
 
 -- a packet that is shown: who sent it, its id, its length and what it is; its payload, and what that
--- is read as; the fields behind it; and what the session knew where it came
+-- is read as; the fields after it; and what the session knew where it came
 pub record Shown : Type 0 where
   pub seen : Seen
   pub payload : List ℕ
@@ -39,7 +39,7 @@ pub record Shown : Type 0 where
   pub fields : List ℕ
   pub at : SessionState
 
--- how the fields behind a line are shown
+-- how the fields after a line are shown
 abbrev pub form_if : Bool → LineForm → FieldForm
 form_if false form = Hidden
 form_if true line.Text = Text
@@ -88,14 +88,14 @@ known_after options known [] = known
 known_after options known (shown ∷ others) =
     known_after options (known_behind options shown) others
 
--- they are shown, where this was known at the first, and at each other what was known behind the
+-- they are shown, where this was known at the first, and at each other what was known after the
 -- packet before it
 abbrev pub AreShown : Options → SessionState → List Shown → Type 0
 AreShown options known [] = ⊤
 AreShown options known (shown ∷ others) = (shown.at ≡ known) × IsShown options shown
     × AreShown options (known_behind options shown) others
 
--- behind TLS no packet is shown
+-- after TLS no packet is shown
 abbrev pub AreVisible : List Shown → Type 0
 AreVisible shown = All (λ one. one.at.phase ≢ phase.Encrypted) shown
 
@@ -116,13 +116,13 @@ packets_of side (shown ∷ others) =
     if is_of side shown.seen.side then (shown.seen.id, shown.payload) ∷ packets_of side others
     else packets_of side others
 
--- the id of a side's first packet among these, or else of the one behind them
+-- the id of a side's first packet among these, or else of the one after them
 abbrev pub first_of : Side → List Shown → Option ℕ → Option ℕ
 first_of side [] behind = behind
 first_of side (shown ∷ others) behind =
     if is_of side shown.seen.side then Some shown.seen.id else first_of side others behind
 
--- each packet is of the side whose turn it is, where this id follows the last packet; behind all of
+-- each packet is of the side whose turn it is, where this id follows the last packet; after all of
 -- them stand packets of these ids, or none
 abbrev pub InOrder : ℕ → List Shown → Option ℕ → Option ℕ → Type 0
 InOrder next [] client server = ⊤

@@ -31,7 +31,7 @@ Pends Unread found = ⊤
 Pends (next.Packet id) found = found ≡ Some id
 Pends (Ended end) found = found ≡ None
 
--- the id behind these packets
+-- the id after these packets
 abbrev pub id_behind : ℕ → List Shown → ℕ
 id_behind next [] = next
 id_behind next (shown ∷ others) =

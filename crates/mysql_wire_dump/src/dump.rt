@@ -195,7 +195,7 @@ impl<A: Allocator + Copy> Dump<A> {
         )
     }
 
-    // Shows the client's next packet, and goes on behind it.
+    // Shows the client's next packet, and goes on after it.
     fn show_client(&mut self) -> Result<(), Stop>
         ensures { OnOk result (Shows Client self.old self.new) }
     {
@@ -226,7 +226,7 @@ impl<A: Allocator + Copy> Dump<A> {
         Ok(())
     }
 
-    // Shows the server's next packet, and goes on behind it.
+    // Shows the server's next packet, and goes on after it.
     fn show_server(&mut self) -> Result<(), Stop>
         ensures { OnOk result (Shows Server self.old self.new) }
     {

@@ -19,7 +19,7 @@ puts_are (Ok done) members wanted old new put is =
     subst (λ (these : List Member). Puts these old new) is put
 puts_are (Err error) members wanted old new put is = tt
 
--- the fields of a row of so many columns were put
+-- the fields of a row of this many columns were put
 pub puts_row : (columns : ℕ) (types : List ℕ) (row : BinaryRow) (refusal : Option Refusal) (old new : Written) → PutsRow columns types row refusal old new
     → (members : List Member) × AreRowFields columns types row refusal members × Puts members old new
 puts_row columns types row refusal old new (inl read) =

@@ -10,7 +10,7 @@ use Rattle.std.proofs.lemmas.Grind.{common_steps}
 use Rattle.std.specs.Prelude.{◌==◌, codes}
 use Rattle.wire_text.proofs.FieldLemmas.{puts_append}
 
--- the texts up to this place were put; with those behind them they are those of the payload
+-- the texts up to this place were put; with those after them they are those of the payload
 pub record Texts (place : ℕ) (payload bytes : List ℕ) (start now : Written) : Type 0 where
   pub before : List Member
   pub count : length before ≡ place
@@ -101,7 +101,7 @@ texts-refused columns place payload bytes start old new refusal so below refused
   puts = record { are = refused.1 ∙ so.puts.are };
 }
 
--- one behind which bytes stand
+-- one after which bytes stand
 pub texts-trailing : (columns : ℕ) (payload bytes : List ℕ) (start now : Written)
     → Texts columns payload bytes start now → bytes ≢ [] → PutsTexts columns payload (Some TrailingBytes) start now
 texts-trailing columns payload bytes start now so some = record {

@@ -9,7 +9,7 @@ use Rattle.mysql_wire_statements.specs.declared.moments.BinaryDate.TheVariants a
 use Rattle.mysql_wire_statements.specs.declared.moments.BinaryTime.{BinaryTime}
 use Rattle.mysql_wire_statements.specs.declared.moments.BinaryTime.TheVariants as time
 
--- a number in at least so many digits, zeros in front
+-- a number in at least this many digits, zeros in front
 abbrev pub zeros : ℕ → ℕ → List ℕ
 zeros width number =
     padded_integral (format_spec 32 0 4 width (2 ^ 64 - 1)) false [] (decimal number)

@@ -25,7 +25,7 @@ abbrev pub text_shown : Option (List ℕ) → Value
 text_shown None = Null
 text_shown (Some text) = Words text
 
--- a text stands in front of these bytes, and is this field; behind it stand these
+-- a text stands in front of these bytes, and is this field; after it stand these
 pub record IsTextAt (place : ℕ) (bytes : List ℕ) (member : Member) (behind : List ℕ) : Type 0
   where
     pub value : Option (List ℕ)
@@ -34,8 +34,8 @@ pub record IsTextAt (place : ℕ) (bytes : List ℕ) (member : Member) (behind :
     pub behind_is : behind ≡ drop eaten bytes
     pub member_is : member ≡ (decimal place, text_shown value)
 
--- these are the texts that stand one behind another in front of these bytes, from this place of a
--- row on; behind them stands the rest
+-- these are the texts that stand one after another in front of these bytes, from this place of a
+-- row on; after them stands the rest
 abbrev pub AreTexts : ℕ → List ℕ → List Member → List ℕ → Type 0
 AreTexts place bytes [] rest = rest ≡ bytes
 AreTexts place bytes (member ∷ members) rest =
@@ -50,7 +50,7 @@ pub record IsNoText (bytes : List ℕ) (refusal : Refusal) : Type 0 where
   pub named : refusal_of_wire error ≡ Ok refusal
 
 -- all columns of a row were read, and no byte is left; or the next one's text is refused, or bytes
--- stand behind the last
+-- stand after the last
 abbrev pub EndsRow : ℕ → Option Refusal → List Member → List ℕ → Type 0
 EndsRow columns None members rest = (length members ≡ columns) × (rest ≡ [])
 EndsRow columns (Some refusal) members rest =
@@ -155,7 +155,7 @@ AreValues nulls place (number ∷ types) bytes (member ∷ members) rest =
     (behind : List ℕ) × (IsColumnAt nulls place number bytes member behind
     × AreValues nulls (place + 1) types behind members rest)
 
--- bytes behind the last value
+-- bytes after the last value
 abbrev pub rest_if : Option Refusal → List ℕ → List Member
 rest_if None [] = []
 rest_if None (byte ∷ bytes) = (codes "rest", Octets (byte ∷ bytes)) ∷ []
@@ -175,7 +175,7 @@ AreRowValues row types (Some refusal) members rest =
     × AreValues row.nulls.0.now 0 (take count types) row.values.now members rest
     × IsNoValueAt row.nulls.0.now count (get_or types count 0) rest refusal
 
--- the values of a row were put, up to where it was refused, and what stands behind the last
+-- the values of a row were put, up to where it was refused, and what stands after the last
 pub record PutsValues (types : List ℕ) (row : BinaryRow) (refusal : Option Refusal)
     (old new : Written) : Type 0 where
   pub members : List Member

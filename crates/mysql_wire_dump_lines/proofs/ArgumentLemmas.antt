@@ -16,7 +16,7 @@ use Rattle.mysql_wire_dump_lines.specs.Arguments.{Adds, Asks, Bars, Command, Dum
 abbrev third : List (List ℕ) → ℕ
 third words = get_or (get_or words 0 []) 2 0
 
--- the part in front, and the words behind it
+-- the part in front, and the words after it
 abbrev first_part : List (List ℕ) → Part × List (List ℕ)
 first_part words =
     if third words == 102 then (Fields, drop 1 words) else if third words == 106 then (Json, drop 1 words) else if third words == 108 then (Limit (get_or words 1 []), drop 2 words)
@@ -248,7 +248,7 @@ pub words_here : {X : Type 0} (f : X → List ℕ) (xs : List X) (i : ℕ) (x : 
 words_here {X} f xs i x word low is text =
     ap (λ (z : List ℕ). map f (take i xs) ++ z ∷ []) (text ∙ ap f is) ∙ sym (ap (map f) (take_more xs i x low) ∙ map-append f (take i xs) (get_or xs i x ∷ []))
 
--- the words up to here, this one, and those behind it
+-- the words up to here, this one, and those after it
 pub words_split : {X : Type 0} (f : X → List ℕ) (xs : List X) (i : ℕ) (x : X) (word : List ℕ) → i < length xs → x ≡ get_or xs i x → word ≡ f x
     → map f xs ≡ map f (take i xs) ++ word ∷ map f (drop (i + 1) xs)
 words_split f xs i x word low is text =

@@ -49,7 +49,7 @@ begins_more id begun unread left eaten is begins = (
   append_assoc begun eaten left ∙ ap (λ (z : List ℕ). begun ++ z) (sym is) ∙ begins.4,
 )
 
--- and behind more bytes
+-- and after more bytes
 pub begins_longer : (id : ℕ) (begun unread more : List ℕ) → BeginsWith id (begun ++ unread) → BeginsWith id (begun ++ (unread ++ more))
 begins_longer id begun unread more begins = (
   begins.0,
@@ -342,7 +342,7 @@ step_ended law old mid new left later more took none src consumed ended taken mo
   end = λ waits. ended;
 }
 
--- a packet behind others
+-- a packet after others
 pub framed_more : (packets : List (ℕ × List ℕ)) (packet : ℕ × List ℕ) → framed (packets ++ packet ∷ []) ≡ framed packets ++ framing packet.0 packet.1
 framed_more [] packet = append-nil (framing packet.0 packet.1)
 framed_more (first ∷ packets) packet =
@@ -402,7 +402,7 @@ idle source packets came is stands =
       fresh = record { begun_is = refl; len = fresh.len; held = fresh.held; between = fresh.between };
     }
 
--- what was found behind a read
+-- what was found after a read
 pub found_after : {A : Type 0} (next : Next) (old mid new : Source A) (unread left later : Option (List ℕ)) (came : List ℕ) → mid.src.items ≡ old.src.items ++ came
     → Consumes unread left came → mid.at ≡ old.at → mid.limit ≡ old.limit → Found next mid new left later → Found next old new unread later
 found_after next old mid new unread left later came src consumed at limit found = record {

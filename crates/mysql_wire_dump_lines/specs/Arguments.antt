@@ -78,7 +78,7 @@ pub data Command : Type 0 where
   Help : Command
   Dump : Session → Command
 
--- these words ask for this: `--help` alone, or they are the words of parts, one behind another,
+-- these words ask for this: `--help` alone, or they are the words of parts, one after another,
 -- which say this and name a file
 abbrev pub Asks : List (List ℕ) → Command → Type 0
 Asks words Help = words ≡ codes "--help" ∷ []
@@ -117,7 +117,7 @@ Grows part old new =
     (parts : List Part) → Says parts (session_of old)
     → Says (parts ++ part ∷ []) (session_of new)
 
--- whatever stands behind it, this part can't be the next
+-- whatever stands after it, this part can't be the next
 abbrev pub Bars : Part → Request → Type 0
 Bars part request =
     (parts others : List Part) (session : Session) → Says parts (session_of request)

@@ -78,7 +78,7 @@ pub record IsFresh (begun : List ℕ) (has : Collected) : Type 0 where
   pub held : has.held ≡ []
   pub between : IsBetween has.state
 
--- what stands next, where so many bytes of it were taken
+-- what stands next, where this many bytes of it were taken
 abbrev pub StandsNext : Next → List ℕ → Collected → Type 0
 StandsNext Unread begun has = IsFresh begun has
 StandsNext (Packet id) begun has = (payload : List ℕ) × HasPacket id payload begun has
@@ -120,7 +120,7 @@ AtEnd Unread left = ⊤
 AtEnd (Packet id) left = ⊤
 AtEnd (Ended end) left = ReadWhole end left
 
--- how a packet goes on, where so many bytes of it were taken
+-- how a packet goes on, where this many bytes of it were taken
 abbrev pub TookAs : Step → ℕ → List ℕ → Collected → Type 0
 TookAs Waits id begun has =
     (has.unread ≡ []) × ((opened : List ℕ) × Collects id begun opened has)

@@ -124,7 +124,7 @@ impl<'a> Request<'a> {
         }
     }
 
-    // With one word more, and the word behind it.
+    // With one word more, and the word after it.
     fn with_pair(self, word: &str, value: &'a str) -> Option<Request<'a>>
         ensures { Takes (word.now ∷ value.now ∷ []) self.entry result }
     {
@@ -136,7 +136,7 @@ impl<'a> Request<'a> {
         }
     }
 
-    // With a word more, behind one that may wait for its value; and the word that waits then.
+    // With a word more, after one that may wait for its value; and the word that waits then.
     fn with_word(self, waits: Option<&str>, word: &'a str) -> Option<(Request<'a>, Option<&'a str>)>
         ensures { Steps word.now self.entry (option_copied waits.entry) result }
     {
@@ -192,7 +192,7 @@ fn is_help<A: Allocator>(words: &[String<A>]) -> bool
     }
 }
 
-/// What the words behind the program's name ask for.
+/// What the words after the program's name ask for.
 pub fn what_is_asked<'a, A: Allocator>(words: &'a [String<A>]) -> Option<Asked<'a>>
     ensures { IsAsked (map string_bytes words.now) (option_map command_of result) }
 {

@@ -31,7 +31,7 @@ pub struct Seen {
     pub kind: PacketKind,
 }
 
-// At most 32 bytes in digits, and two dots for those behind them.
+// At most 32 bytes in digits, and two dots for those after them.
 fn shown_bytes<A: Allocator>(alloc: A, payload: &[u8]) -> Result<String<A>, AllocError>
     ensures { IfOk result (λ text. string_bytes text ≡ shown_bytes payload.now) }
 {
@@ -68,7 +68,7 @@ fn push_words<A: Allocator + Copy>(
     }
 }
 
-// Why a payload is no packet of its place, behind its bytes.
+// Why a payload is no packet of its place, after its bytes.
 fn push_refused<A: Allocator + Copy>(
     text: &mut String<A>,
     form: LineForm,
@@ -98,7 +98,7 @@ fn push_bytes<A: Allocator + Copy>(
     }
 }
 
-// Two numbers, each with the words behind it.
+// Two numbers, each with the words after it.
 #[inline(always)]
 fn push_counted<A: Allocator>(
     text: &mut String<A>,

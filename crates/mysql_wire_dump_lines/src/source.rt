@@ -196,7 +196,7 @@ impl<A: Allocator + Copy> Source<A> {
         }
     }
 
-    /// The id behind the next packet's last chunk.
+    /// The id after the next packet's last chunk.
     pub fn id_behind(&self) -> u8
         ensures { result ≡ (span_state self.now.decoder).id }
     {
@@ -328,7 +328,7 @@ impl<A: Allocator + Copy> Source<A> {
         Ok(())
     }
 
-    /// Goes on behind the next packet.
+    /// Goes on after the next packet.
     pub fn pass(&mut self) -> Result<(), Stop>
         ensures passes { OnOk result (PassesPacket self.old self.new) }
         ensures next { OnOk result (self.new.next ≡ Unread) }

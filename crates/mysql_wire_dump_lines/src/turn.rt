@@ -48,7 +48,7 @@ fn turn_of_both(place: Phase, next_id: u8, client_id: u8, server_id: u8) -> Side
     }
 }
 
-/// Whose packet is next: the place that the session is at, the id behind the last packet, and the
+/// Whose packet is next: the place that the session is at, the id after the last packet, and the
 /// first ids of each side's next packet, where it has one.
 pub fn turn(place: Phase, next_id: u8, client_id: Option<u8>, server_id: Option<u8>) -> Option<Side>
     ensures { result ≡ turn place next_id client_id server_id }

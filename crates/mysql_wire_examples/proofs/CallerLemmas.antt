@@ -49,7 +49,7 @@ pub fresh_delivers : (before after : CodecState) (limit : ℕ) (input left : Lis
 unfolding max_payload
 fresh_delivers before after limit input left answer gained is ok run = fresh_run before after limit input left answer gained is ok run
 
--- where a new codec is behind a stream that waits
+-- where a new codec is after a stream that waits
 abbrev pub waiting_state : ℕ → List ℕ → List ℕ → CodecState
 waiting_state limit unfinished rest = record (empty_state 0 limit) { unread = rest; held = unfinished }
 

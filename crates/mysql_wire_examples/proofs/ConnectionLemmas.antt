@@ -8,7 +8,7 @@ pub flat_map-one_more : {X Y : Type 0} (f : X → List Y) (items : List X) (item
 flat_map-one_more f items item =
     flat_map-append f items (item ∷ []) ∙ ap (λ last. flat_map f items ++ last) (append-nil (f item))
 
--- what is behind one more item
+-- what is after one more item
 pub flat_map-on : (f : List ℕ → List ℕ) (items : List (List ℕ)) (item all before after : List ℕ)
     → all ≡ flat_map f items ++ before → before ≡ f item ++ after → all ≡ flat_map f (items ++ item ∷ []) ++ after
 flat_map-on f items item all before after so_far next =

@@ -43,7 +43,7 @@ pub joined_more : (pieces : List (Bor (List ℕ))) (i : ℕ) (d : Bor (List ℕ)
 joined_more pieces i d there =
     flat_map_more (λ (piece : Bor (List ℕ)). piece.now) [] (take i pieces) (get_or pieces i d) ∙ ap joined (sym (take_more pieces i d there))
 
--- all pieces are those before one, it, and those behind it
+-- all pieces are those before one, it, and those after it
 pub joined_at : (pieces : List (Bor (List ℕ))) (i : ℕ) (d : Bor (List ℕ)) → i < length pieces → joined pieces ≡ (joined (take i pieces) ++ (get_or pieces i d).now) ++ joined (drop (i + 1) pieces)
 joined_at pieces i d there =
     sym (ap joined (take-append-drop (i + 1) pieces))

@@ -53,7 +53,7 @@ goes_on_in_session goes later state stands =
     let known = goes limits 0 state (aligned_where_it_stands state stands) in
     known.1 (has_limits later at state.limit state.header state.unread state.held (omega (arith, known.0)) stands)
 
--- a piece that comes behind the place
+-- a piece that comes after the place
 pub piece_behind : (limit later at : ℕ) (piece : Bor (List ℕ)) → HavePieceLimits (session_limits limit later at) (0 + at) ((later, piece) ∷ [])
 piece_behind limit later at piece = (λ i inside. from_place limit later at (0 + at + i) (omega arith), tt)
 

@@ -8,7 +8,7 @@ use Rattle.mysql_wire.specs.Law.{seen}
 use Rattle.mysql_wire.specs.Laws.{FramedLength}
 use Rattle.mysql_wire.specs.Runs.{payloads}
 
--- behind a whole payload nothing is seen
+-- after a whole payload nothing is seen
 pub seen-nothing : (size : Option ℕ) → seen size [] ≡ []
 seen-nothing None = refl
 seen-nothing (Some size) = refl

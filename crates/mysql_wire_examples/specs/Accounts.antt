@@ -1,4 +1,4 @@
--- Rows of texts, and the packets that stand behind them.
+-- Rows of texts, and the packets that stand after them.
 use Rattle.std.specs.Prelude.{◌≡◌, ◌≤◌, ℕ, List, [], ◌∷◌, length, take, drop, Bool, false, ◌==◌, if◌then◌else◌, nat_lt}
 use Rattle.mysql_wire.specs.Numbers.{le_number}
 use Rattle.mysql_wire.specs.Lenenc.{IsLenencOrMark}

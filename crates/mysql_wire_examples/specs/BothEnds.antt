@@ -34,7 +34,7 @@ answers_of exchanges = flat_map answer_of exchanges
 abbrev pub chunks_in : List ℕ → ℕ
 chunks_in packet = length packet / max_payload + 1
 
--- the ids that both ends expect behind each of these packets, with so many chunks before them
+-- the ids that both ends expect after each of these packets, with this many chunks before them
 abbrev pub points : ℕ → List (List ℕ) → List (ℕ × ℕ)
 points count [] = []
 points count (packet ∷ packets) =

@@ -3,7 +3,7 @@ use Rattle.std.specs.Prelude.{◌≡◌, ℕ, List, [], ◌++◌, Vec}
 use Rattle.mysql_wire.specs.Delivery.{Delivers, Waiting}
 use Rattle.mysql_wire.specs.Runs.{payloads}
 
--- packets were put behind those that were there, and this holds of their payloads
+-- packets were put after those that were there, and this holds of their payloads
 abbrev pub Gains : {A : Type 0} → List (Vec ℕ A) → List (Vec ℕ A) → (List (List ℕ) → Type 0)
     → Type 0
 Gains old new P = (gained : List (List ℕ)) × (payloads new ≡ payloads old ++ gained) × P gained

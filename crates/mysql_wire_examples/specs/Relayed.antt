@@ -32,7 +32,7 @@ abbrev pub Brings : {R : Type 0} → (R → Option (List ℕ)) → PacketCodec �
 Brings remaining codec old new packet behind =
     IsNext (reading_state codec old) (remaining old.reader) packet behind (remaining new.reader)
 
--- a writer sends these bytes behind what was pending
+-- a writer sends these bytes after what was pending
 abbrev pub Sends : {W : Type 0} → (W → Option (List ℕ)) → Writing W → Writing W → List ℕ → Type 0
 Sends contents old new bytes =
     Appends (contents old.writer) (contents new.writer) (old.pending ++ bytes)
@@ -53,7 +53,7 @@ pub record IsRelayed (id : ℕ) (brings : List ℕ → CodecState → Type 0)
   pub came : brings packet behind
   pub sent : sends (framing id packet)
 
--- from this codec and reader to those, so many rows came, and then a packet that ends them
+-- from this codec and reader to those, this many rows came, and then a packet that ends them
 pub record CountsRows {R : Type 0} (remaining : R → Option (List ℕ)) (count : ℕ)
     (codec : PacketCodec) (old : Reading R) (behind : PacketCodec) (new : Reading R) : Type 0 where
   pub rows : List (List ℕ)

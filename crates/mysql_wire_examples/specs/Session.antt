@@ -9,14 +9,14 @@ use Rattle.mysql_wire.specs.Limited.{Limits, DeliversUnder}
 abbrev pub session_limits : ℕ → ℕ → ℕ → Limits
 session_limits limit later at place = Some (if nat_lt place at then limit else later)
 
--- what had come under the codec's own limit, and behind it a piece under this one, deliver these
+-- what had come under the codec's own limit, and after it a piece under this one, deliver these
 -- payloads, and wait
 abbrev pub GoesOnUnder : ℕ → CodecState → List ℕ → List (List ℕ) → CodecState → Type 0
 GoesOnUnder limit before piece gained after =
     DeliversUnder (session_limits before.limit limit (length (input_of before))) 0
     before.held (input_of before ++ piece) (first_id before) gained Waiting after.held after.unread
 
--- the bytes of a login and those of the session behind it, each under its limit, deliver these
+-- the bytes of a login and those of the session after it, each under its limit, deliver these
 -- payloads, and wait
 abbrev pub DeliversSession : ℕ × Bor (List ℕ) → ℕ × Bor (List ℕ) → List (List ℕ) → Type 0
 DeliversSession login session payloads =

@@ -105,7 +105,7 @@ pub fn pass<A: Allocator + Copy>(
     result
 }
 
-/// What both ends heard, and which id each expected behind each packet: first the end that sent it.
+/// What both ends heard, and which id each expected after each packet: first the end that sent it.
 #[derive(Drop)]
 pub struct Heard<A: Allocator + Copy = Global> {
     pub commands: Vec<Vec<u8, A>, A>,
@@ -177,7 +177,7 @@ pub fn ask<A: Allocator + Copy>(
     Ok(())
 }
 
-/// One exchange after another. Each end is handed just what the other sent, in order, and behind
+/// One exchange after another. Each end is handed just what the other sent, in order, and after
 /// each packet both expect the same id: the number of its chunks and of those before it since the
 /// command began, modulo 256.
 pub fn converse<A: Allocator + Copy>(

@@ -41,7 +41,7 @@ pub fn answer_to(command: &[u8]) -> &'static [u8]
 ghost use Rattle.mysql_wire_examples.specs.Connection.{AwaitsCommand, Serves, answer_to, state_of};
 
 impl<A: Allocator + Copy> Connection<A> {
-    /// At the start of a connection, under a limit of so many payload bytes a command.
+    /// At the start of a connection, under a limit of this many payload bytes a command.
     pub fn new(alloc: A, limit: usize) -> Self
         ensures awaits { AwaitsCommand result }
         ensures nothing { input_of (state_of result) ≡ [] }

@@ -88,7 +88,7 @@ pub fn put_schema<B: BufMut>(buf: &mut B, flags: u32, schema: &[u8]) -> Result<(
     buf.put_lenenc_str(schema)
 }
 
-/// Writes a name behind its length, and counts what was written.
+/// Writes a name after its length, and counts what was written.
 pub fn write_name<W: WriteMysqlExt>(out: &mut W, name: &[u8]) -> Result<u64, WireError>
     ensures { OnOk result (Appends (W.contents out.old) (W.contents out.new)
         (lenenc_bytes (length name.now) ++ name.now)) }
@@ -96,7 +96,7 @@ pub fn write_name<W: WriteMysqlExt>(out: &mut W, name: &[u8]) -> Result<u64, Wir
     out.write_lenenc_str(name)
 }
 
-/// Appends an id of two bytes and a name behind its length.
+/// Appends an id of two bytes and a name after its length.
 pub fn put_named(buf: &mut Vec<u8>, id: u16, name: &[u8]) -> Result<(), WireError>
     ensures put { OnOk result (buf.new.items ≡ buf.old.items
         ++ (le_bytes 2 id ++ (lenenc_bytes (length name.now) ++ name.now))) }

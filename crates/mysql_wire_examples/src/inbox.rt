@@ -25,7 +25,7 @@ pub struct Inbox<A: Allocator + Copy = Global> {
 ghost use Rattle.mysql_wire_examples.specs.Inbox.{HoldsFew, held_bytes, inbox_state};
 
 impl<A: Allocator + Copy> Inbox<A> {
-    /// At the start of a connection, under a limit of so many payload bytes a packet.
+    /// At the start of a connection, under a limit of this many payload bytes a packet.
     pub fn new(alloc: A, limit: usize) -> Self
         ensures few { HoldsFew result }
         ensures limit { result.codec.max_allowed_packet ≡ limit }
@@ -75,7 +75,7 @@ impl<A: Allocator + Copy> Inbox<A> {
 }
 
 /// A client's first packet, and what its server goes on with. Whatever the client sends, the reader
-/// keeps at most the limit, the headers of a packet of so many bytes, 3 bytes more, and one read.
+/// keeps at most the limit, the headers of a packet of this many bytes, 3 bytes more, and one read.
 pub fn first_packet<R: Read + Drop, A: Allocator + Copy>(
     alloc: A,
     client: R,

@@ -9,7 +9,7 @@ use mysql_wire::laws;
 use mysql_wire::proto::codec::{FramePart, FrameWriter};
 use std::alloc::{AllocError, Allocator};
 
-// Sends a chunk's header, where one begins, and payload bytes behind it.
+// Sends a chunk's header, where one begins, and payload bytes after it.
 fn send_part<A: Allocator + Copy>(
     part: FramePart<'_>,
     output: &mut BytesMut<A>,
@@ -45,7 +45,7 @@ fn send_piece<A: Allocator + Copy>(
 }
 
 /// Sends a packet whose front lies in one place and whose other bytes lie in another, as the fields
-/// of a command and a long text behind them. The answer is the id behind it.
+/// of a command and a long text after them. The answer is the id after it.
 pub fn send_in_two<A: Allocator + Copy>(
     id: u8,
     front: &[u8],

@@ -37,7 +37,7 @@ pub fn go_on_under<A: Allocator + Copy>(
     result
 }
 
-/// Decodes a recorded session once more: the bytes of its login under one limit, and those behind
+/// Decodes a recorded session once more: the bytes of its login under one limit, and those after
 /// them under another. The packets are those that were received when it came.
 pub fn replay_session<A: Allocator + Copy>(
     alloc: A,

@@ -14,7 +14,7 @@ use mysql_wire::proto::packet_io::{PacketIoError, PacketReader, PacketWriter};
 use std::alloc::Allocator;
 use std::io::{Read, Write};
 
-/// Sends a packet behind what is still pending.
+/// Sends a packet after what is still pending.
 pub fn send<W: Write, A: Allocator + Copy>(
     codec: &mut PacketCodec,
     output: &mut PacketWriter<W, A>,

@@ -52,7 +52,7 @@ pub fn send_values<'de, T: Wire<'de, A>, A: Allocator + Copy>(
     Ok(())
 }
 
-/// Takes the packets from bytes that came in three pieces: cut behind so many bytes, and so many
+/// Takes the packets from bytes that came in three pieces: cut after this many bytes, and this many
 /// further on.
 pub fn receive_packets<A: Allocator + Copy>(
     alloc: A,

@@ -105,7 +105,7 @@ number_law part count input is y eaten (inr (there, all, looked_at, (answered, _
     ap (le_bytes count) (number ∙ ap le_number (take_twice count input there)) ∙ told
     ∙ ap (λ n. take n input) (sym all)
 
--- a number of so many bytes, the least significant first
+-- a number of this many bytes, the least significant first
 pub number_again : {Y : Type 0} (part : Y → ℕ) (count : ℕ)
     → Again (Parses (Some count) (λ input. Through part (ReadsFixed count le_number input)))
     (λ y. le_bytes count (part y))

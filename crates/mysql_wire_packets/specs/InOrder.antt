@@ -21,7 +21,7 @@ use Rattle.wire_buf.specs.Lenenc.{IsLenencOrMark, lenenc_bytes}
 use Rattle.wire_buf.specs.LenencLemmas.{IsLenencOrMark-free}
 use Rattle.wire_buf.specs.LenencWritten.{lenenc_bytes-is}
 
--- a text behind its length, as a length-encoded integer
+-- a text after its length, as a length-encoded integer
 abbrev pub text_bytes : {Z : Type 0} → CowSlice ℕ Z → List ℕ
 text_bytes text = lenenc_bytes (length (cow_slice_items text)) ++ cow_slice_items text
 
@@ -29,7 +29,7 @@ text_bytes text = lenenc_bytes (length (cow_slice_items text)) ++ cow_slice_item
 abbrev pub u8_cut : {Z : Type 0} → CowSlice ℕ Z → List ℕ
 u8_cut text = take u8_max (cow_slice_items text)
 
--- a text behind one byte of length
+-- a text after one byte of length
 abbrev pub u8_text_bytes : {Z : Type 0} → CowSlice ℕ Z → List ℕ
 u8_text_bytes text = le_bytes 1 (length (u8_cut text)) ++ u8_cut text
 
@@ -47,7 +47,7 @@ no_memory kept len (Ok value) eaten back = back
 no_memory kept len (Err error) eaten (is, inl none) = absurd none
 no_memory kept len (Err error) eaten (is, inr none) = absurd none
 
--- one field, and what stands behind it
+-- one field, and what stands after it
 pub both : {A B : Type 0} {reads_a : List ℕ → Result A WireError → ℕ → Type 0}
     {reads_b : List ℕ → Result B WireError → ℕ → Type 0}
     {kept_a : A → Type 0} {kept_b : B → Type 0} {bytes_a bytes_b rest : List ℕ}
@@ -104,7 +104,7 @@ number_by {rest = rest} part count value bytes n len is = record {
       (ReadsFixed-back count value bytes [] n len is));
 }
 
--- a number of so many bytes, the least significant first
+-- a number of this many bytes, the least significant first
 pub number : {Y : Type 0} {rest : List ℕ} (part : Y → ℕ) (count n : ℕ) → n < 256 ^ count
     → Back (Parses (Some count) (λ input. Through part (ReadsFixed count le_number input)))
     (λ y. part y ≡ n) (le_bytes count n) rest
@@ -148,7 +148,7 @@ lenenc_int {rest = rest} part n fits =
           (Leaves-back tells (lenenc_bytes n) n told rest);
     }
 
--- a text behind its length
+-- a text after its length
 pub lenenc_text : {Y Z : Type 0} {rest : List ℕ} (part : Y → CowSlice ℕ Z) (text : List ℕ)
     → IsText text
     → Back (λ input. Borrows part (Leaves (TextBehind (NumberOrEof IsLenencOrMark 1)) input))
@@ -171,7 +171,7 @@ array {rest = rest} count bytes len = record {
       (array-back count bytes [] len);
 }
 
--- a text of so many bytes, which stand elsewhere
+-- a text of this many bytes, which stand elsewhere
 pub bare_text : {Y Z : Type 0} {rest : List ℕ} (part : Y → CowSlice ℕ Z) (most count : ℕ)
     (text : List ℕ) → count ≡ min (length text) most
     → Back (λ input. Borrows part (Answers (front_at count input)))
@@ -181,7 +181,7 @@ bare_text {rest = rest} part most count text is = record {
       (length (take most text)) (front-back most count text rest is);
 }
 
--- a text behind one byte of length
+-- a text after one byte of length
 pub u8_text : {Y Z : Type 0} {rest : List ℕ} (part : Y → CowSlice ℕ Z) (text : List ℕ)
     → Back (λ input. Borrows part (Leaves (TextBehind (NumberOrEof (IsFixed 1) 0)) input))
     (λ y. IsBorrowedText (part y) (take u8_max text))

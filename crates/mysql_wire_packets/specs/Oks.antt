@@ -1,4 +1,4 @@
--- What stands behind the warnings of an OK packet.
+-- What stands after the warnings of an OK packet.
 use Rattle.std.specs.Prelude.{ℕ, ◌≡◌, Bool, true, false, List, [], ◌∷◌, ◌++◌, if◌then◌else◌, Option, None, Result}
 use Rattle.wire_const.specs.FlagSets.{capability_flags_bits}
 use Rattle.wire_const.specs.declared.flag_sets.capability.CapabilityFlags.{CapabilityFlags}
@@ -27,13 +27,13 @@ form_of capabilities = if has capabilities 0x800000 then SessionTrack else Lengt
 abbrev pub ok_form : CapabilityFlags → InfoForm
 ok_form capabilities = form_of (capability_flags_bits capabilities)
 
--- the info stands behind its length
+-- the info stands after its length
 abbrev pub is_lenenc : InfoForm → Bool
 is_lenenc LengthEncoded = true
 is_lenenc SessionTrack = true
 is_lenenc ToTheEnd = false
 
--- the changes of the session stand behind the info, where bytes are left
+-- the changes of the session stand after the info, where bytes are left
 abbrev pub has_state : InfoForm → ℕ → Bool → Bool
 has_state LengthEncoded status more = false
 has_state SessionTrack status true = has status 0x4000
@@ -54,7 +54,7 @@ counts_bytes header affected_rows last_insert_id status warnings = header
     ∷ (lenenc_bytes affected_rows ++ (lenenc_bytes last_insert_id
     ++ (le_bytes 2 status ++ le_bytes 2 warnings)))
 
--- and behind them
+-- and after them
 abbrev pub words_bytes : {header : ℕ} → OkForm header → List ℕ
 words_bytes ok = bytes_if (by_side (λ text. text_bytes text.0) (λ text. cow_slice_items text.0)) ok.info
     ++ bytes_if (λ state. text_bytes state.0) ok.session_state
@@ -68,7 +68,7 @@ pub at_input : {C X : Type 0} {kept : X → Type 0} {bytes rest : List ℕ} (ctx
     → Back (λ input. reads (ctx input) input) kept bytes rest
 at_input ctx reads back = record { law = back.law }
 
--- nothing stands behind an info to the end
+-- nothing stands after an info to the end
 pub none_behind : {V : Type 0} (state : Option V) (rest : List ℕ) (bytes : V → List ℕ)
     → (state ≡ None) × (rest ≡ []) → bytes_if bytes state ++ rest ≡ []
 none_behind state rest bytes (missing, end) = rw (missing, end) refl

@@ -7,7 +7,7 @@ use Rattle.wire_buf.specs.declared.error.WireError.TheVariants.{UnexpectedEof, O
 use Rattle.mysql_wire_packets.specs.declared.places.PayloadError.{PayloadError}
 use Rattle.mysql_wire_packets.specs.declared.places.PayloadError.TheVariants.{Refused, Trailing, OtherHeader, OtherSpelling}
 
--- the payload is one packet, read whole; or the packet's type refuses it; or bytes stand behind it
+-- the payload is one packet, read whole; or the packet's type refuses it; or bytes stand after it
 abbrev pub ReadsWhole : {X : Type 0} → (List ℕ → Result X WireError → ℕ → Type 0) → List ℕ
     → Result X PayloadError → Type 0
 ReadsWhole reads payload (Ok packet) = reads payload (Ok packet) (length payload)

@@ -373,7 +373,7 @@ int_of part = record {
   law = λ input are y eaten read. int_law (part y) input are eaten read;
 }
 
--- what is eaten of a text behind its length
+-- what is eaten of a text after its length
 text_front : (spelling text mid input : List ℕ) (eaten : ℕ) → eaten ≤ length input
     → input ≡ spelling ++ mid → mid ≡ text ++ drop eaten input
     → take eaten input ≡ spelling ++ text
@@ -399,7 +399,7 @@ spelling_are spelling mid input whole are =
     ap (take count) whole ∙ take_at spelling mid count refl in
     subst IsBytes front (IsBytes-take count input are)
 
--- a text behind its length
+-- a text after its length
 pub text_law : (text input : List ℕ) → IsBytes input → (eaten : ℕ)
     → Leaves (TextBehind (NumberOrEof IsLenencOrMark 1)) input (Ok text) eaten
     → Told (lenenc_bytes (length text) ++ text) (take eaten input)
@@ -425,7 +425,7 @@ text_of part = record {
   law = λ input are y eaten read. cow_text_law (part y) input are eaten read;
 }
 
--- a text behind one byte of length
+-- a text after one byte of length
 u8_max_is : u8_max ≡ 255
 unfolding u8_max
 u8_max_is = refl
@@ -450,7 +450,7 @@ u8_text_again part = record {
   law = λ input are y eaten read. u8_text_law (part y) input are eaten read;
 }
 
--- a text of so many bytes, which stand elsewhere, and of which no more than these are written
+-- a text of this many bytes, which stand elsewhere, and of which no more than these are written
 bare_there : (count : ℕ) (input text : List ℕ) (eaten : ℕ) → count ≤ length input
     → Answers (front_at count input) (Ok text) eaten → text ≡ take eaten input
 bare_there count input text eaten there read =

@@ -130,7 +130,7 @@ impl<'de> MyDeserialize<'de, Global> for ErrPacket<'de> {
     }
 }
 
-// The message takes all the rest, so it comes back where nothing stands behind it.
+// The message takes all the rest, so it comes back where nothing stands after it.
 impl<'de> Wire<'de, Global> for ErrPacket<'de> {
     ghost is_value = { λ err. (err.error_code < 2 ^ 16)
         × OnIf (λ state. length state ≡ 5) err.sql_state

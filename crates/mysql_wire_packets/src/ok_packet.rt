@@ -32,19 +32,19 @@ type Counts<const HEADER: u8> = Both<ConstU8<(), HEADER>, Both<RawInt<LenEnc>, R
 
 type Rest = Both<RawInt<LenEnc>, Both<u16, u16>>;
 
-// And those behind them.
+// And those after them.
 type Words<'a> = Both<Optional<OkInfo<'a>>, Optional<RawBytes<'a, LenEnc>>>;
 
-/// Words for people, behind their length or up to the end of the payload, as [`InfoForm`] says.
+/// Words for people, after their length or up to the end of the payload, as [`InfoForm`] says.
 pub type OkInfo<'a> = Either<RawBytes<'a, LenEnc>, RawBytes<'a, EofBytes>>;
 
-/// What may stand behind the warnings of an `OK_Packet`. Nothing is allowed in each form.
+/// What may stand after the warnings of an `OK_Packet`. Nothing is allowed in each form.
 #[derive(Clone, Copy, Debug, PartialEq, Eq)]
 pub enum InfoForm {
-    /// The info behind its length, as servers send it on a connection without
+    /// The info after its length, as servers send it on a connection without
     /// `CLIENT_SESSION_TRACK`.
     LengthEncoded,
-    /// Under `CLIENT_SESSION_TRACK`: the info behind its length, and under
+    /// Under `CLIENT_SESSION_TRACK`: the info after its length, and under
     /// `SERVER_SESSION_STATE_CHANGED` what has changed.
     SessionTrack,
     /// The info up to the end of the payload, as MySQL's page has it without
@@ -66,7 +66,7 @@ impl InfoForm {
 }
 
 /// A command was done, on a connection under `CLIENT_PROTOCOL_41`. The context is the form of what
-/// stands behind the warnings. Another header than `HEADER` is refused as `ConstMismatch`.
+/// stands after the warnings. Another header than `HEADER` is refused as `ConstMismatch`.
 ///
 /// <https://dev.mysql.com/doc/dev/mysql-server/latest/page_protocol_basic_ok_packet.html>
 #[derive(Drop, Debug, PartialEq, Eq)]
@@ -130,7 +130,7 @@ fn of_fields<'a, const HEADER: u8>(counts: Counts<HEADER>, words: Words<'a>) -> 
     }
 }
 
-// The context of the fields behind the warnings.
+// The context of the fields after the warnings.
 fn context(
     form: InfoForm,
     status: u16,

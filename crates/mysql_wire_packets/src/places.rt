@@ -13,7 +13,7 @@ use wire_buf::proto::{MyDeserialize, MySerialize};
 pub enum PayloadError {
     /// The type that its first byte calls for refuses it, or there is no first byte.
     Refused(WireError),
-    /// So many bytes stand behind the packet.
+    /// This many bytes stand after the packet.
     Trailing(usize),
     /// No packet of the place begins with this byte.
     OtherHeader(u8),

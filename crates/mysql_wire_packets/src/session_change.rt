@@ -30,7 +30,7 @@ pub struct SessionChange<'a> {
     /// What has changed. A number that no kind has is kept as it is.
     pub kind: RawConst<u8, SessionStateType>,
     /// What it is now, in the kind's own form: of `SESSION_TRACK_SCHEMA` the name of the database
-    /// behind its length, of a system variable its name and its value, each behind its length.
+    /// after its length, of a system variable its name and its value, each after its length.
     pub data: RawBytes<'a, LenEnc>,
 }
 

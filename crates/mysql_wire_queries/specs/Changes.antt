@@ -17,7 +17,7 @@ abbrev pub user_bytes : ComChangeUser → List ℕ
 user_bytes command = 0x11 ∷ ((clean command.user.0 ++ 0 ∷ [])
     ++ (u8_text_bytes command.auth_plugin_data.0 ++ (clean command.database.0 ++ 0 ∷ [])))
 
--- and behind it, each where it is there
+-- and after it, each where it is there
 abbrev pub set_bytes : ComChangeUser → List ℕ
 set_bytes command = bytes_if (le_bytes 2) command.character_set
 

@@ -16,7 +16,7 @@ use Rattle.mysql_wire_queries.specs.declared.column_definition.Pair.{Pair}
 abbrev pub Names : Type 0
 Names = Both Pair (Both Pair Pair)
 
--- and its numbers, behind their length
+-- and its numbers, after their length
 abbrev pub Numbers : Type 0
 Numbers = Both (Both (Constant 0x0c) (Both ℕ ℕ)) (Both (Both ℕ ℕ) (Both ℕ (List ℕ)))
 

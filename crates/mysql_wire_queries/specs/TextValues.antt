@@ -1,4 +1,4 @@
--- A value of a row: NULL is the byte fb, and others are texts behind their length.
+-- A value of a row: NULL is the byte fb, and others are texts after their length.
 use Rattle.std.specs.Prelude.{ℕ, ◌≡◌, ◌≢◌, ◌<◌, ◌^◌, ◌⊎◌, List, [], ◌∷◌, ◌++◌, length, take, Option, Some, None, Result, Ok, Err}
 use Rattle.std.proofs.Common.{inl, inr, refl, ap, subst, arith}
 use Rattle.std.proofs.lemmas.List.{append_assoc, take_all}
@@ -38,7 +38,7 @@ OfText says (Ok None) eaten = ⊥
 OfText says (Ok (Some text)) eaten = says (Ok text) eaten
 OfText says (Err error) eaten = says (Err error) eaten
 
--- fb is NULL; ff is refused, and nothing is eaten; else a length is read, and the text behind it
+-- fb is NULL; ff is refused, and nothing is eaten; else a length is read, and the text after it
 abbrev pub ReadsValue : List ℕ → Result (Option (List ℕ)) WireError → ℕ → Type 0
 ReadsValue input answer eaten =
     ((take 1 input ≡ 0xfb ∷ []) × Answers (Ok None, 1) answer eaten)

@@ -39,7 +39,7 @@ type Sizes = Both<ConstU8<(), 0x0c>, Both<u16, u32>>;
 
 type Kind = Both<Both<u8, u16>, Both<u8, [u8; 2]>>;
 
-// Two texts, one behind the other.
+// Two texts, one after the other.
 #[derive(Drop)]
 struct Pair<'a>(RawBytes<'a, LenEnc>, RawBytes<'a, LenEnc>);
 
@@ -69,7 +69,7 @@ pub struct ColumnDefinition41<'a> {
     pub column_length: u32,
     pub column_type: RawConst<u8, ColumnType>,
     pub flags: RawFlags<ColumnFlags, LeU16>,
-    /// How many digits are shown behind the point; 31 where that is not fixed.
+    /// How many digits are shown after the point; 31 where that is not fixed.
     pub decimals: u8,
     /// Zeros, of each server so far.
     pub reserved: [u8; 2],

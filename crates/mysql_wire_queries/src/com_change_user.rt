@@ -42,7 +42,7 @@ type Plugin<'a> = Both<IfMore<RawBytes<'a, NullBytes>>, IfMore<RawBytes<'a, LenE
 /// `COM_CHANGE_USER`: another user goes on with the connection, whose session begins anew. The
 /// context are the capabilities of the connection.
 ///
-/// Behind the name of the database the payload may end before each field.
+/// After the name of the database the payload may end before each field.
 ///
 /// <https://dev.mysql.com/doc/dev/mysql-server/latest/page_protocol_com_change_user.html>
 #[derive(Drop, Debug, PartialEq, Eq)]
@@ -54,7 +54,7 @@ pub struct ComChangeUser<'a> {
     pub character_set: Option<u16>,
     /// There under `CLIENT_PLUGIN_AUTH`, where the payload goes on.
     pub auth_plugin_name: Option<RawBytes<'a, NullBytes>>,
-    /// Keys and values in turn, each behind its length, there under `CLIENT_CONNECT_ATTRS`, where
+    /// Keys and values in turn, each after its length, there under `CLIENT_CONNECT_ATTRS`, where
     /// the payload goes on.
     pub connect_attrs: Option<RawBytes<'a, LenEnc>>,
 }

@@ -55,7 +55,7 @@ impl<'de> MyDeserialize<'de, Global> for ComInitDb<'de> {
     }
 }
 
-// The name takes all the rest, so it comes back where nothing stands behind it.
+// The name takes all the rest, so it comes back where nothing stands after it.
 impl<'de> Wire<'de, Global> for ComInitDb<'de> {
     ghost is_value = { λ command. IsText (cow_slice_items command.schema.0) };
 

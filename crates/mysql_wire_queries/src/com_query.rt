@@ -55,7 +55,7 @@ impl<'de> MyDeserialize<'de, Global> for ComQuery<'de> {
     }
 }
 
-// The query takes all the rest, so it comes back where nothing stands behind it.
+// The query takes all the rest, so it comes back where nothing stands after it.
 impl<'de> Wire<'de, Global> for ComQuery<'de> {
     ghost is_value = { λ command. IsText (cow_slice_items command.query.0) };
 

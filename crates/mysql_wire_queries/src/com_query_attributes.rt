@@ -82,7 +82,7 @@ impl<'de> MyDeserialize<'de, Global> for ComQueryWithAttributes<'de> {
     }
 }
 
-// The text takes all the rest, so it comes back where nothing stands behind it.
+// The text takes all the rest, so it comes back where nothing stands after it.
 impl<'de> Wire<'de, Global> for ComQueryWithAttributes<'de> {
     ghost is_value = { λ command. (command.parameter_count < 2 ^ 64)
         × (command.parameter_set_count < 2 ^ 64)

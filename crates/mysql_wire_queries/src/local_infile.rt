@@ -55,7 +55,7 @@ impl<'de> MyDeserialize<'de, Global> for LocalInfileRequest<'de> {
     }
 }
 
-// The name takes all the rest, so it comes back where nothing stands behind it.
+// The name takes all the rest, so it comes back where nothing stands after it.
 impl<'de> Wire<'de, Global> for LocalInfileRequest<'de> {
     ghost is_value = { λ request. IsText (cow_slice_items request.file_name.0) };
 

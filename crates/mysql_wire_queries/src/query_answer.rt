@@ -24,7 +24,7 @@ pub enum QueryAnswer<'a> {
     Failed(ErrPacket<'a>),
     /// The server asks for a file.
     File(LocalInfileRequest<'a>),
-    /// Rows follow, of so many columns.
+    /// Rows follow, of this many columns.
     Columns(ColumnCount),
 }
 

@@ -16,7 +16,7 @@ use std::alloc::Global;
 use wire_buf::proto::MyDeserialize;
 use wire_const::{CapabilityFlags, Flags};
 
-/// What comes behind the definitions of columns, in the text protocol.
+/// What comes after the definitions of columns, in the text protocol.
 ///
 /// <https://dev.mysql.com/doc/dev/mysql-server/latest/page_protocol_com_query_response_text_resultset.html>
 #[derive(Drop, Debug, PartialEq, Eq)]
@@ -41,7 +41,7 @@ fn is_end(is_deprecated: bool, len: usize) -> bool
 }
 
 impl<'a> RowAnswer<'a> {
-    /// Reads a payload where a row of so many columns is waited for, on a connection of these
+    /// Reads a payload where a row of this many columns is waited for, on a connection of these
     /// capabilities. `ff` begins an error. `fe` begins the end of the rows, where the payload is
     /// shorter than 9 bytes, or, under `CLIENT_DEPRECATE_EOF`, than a full chunk; else it is a row
     /// whose first text has 16 MiB or more. All others are rows.

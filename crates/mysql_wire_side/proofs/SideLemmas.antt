@@ -1,4 +1,4 @@
--- More bytes behind what is to be read.
+-- More bytes after what is to be read.
 use Rattle.std.proofs.Common.{◌≡◌, ℕ, ◌+◌, ◌≤◌, List, ◌++◌, length, take, drop, refl, sym, ap, ap₂, ◌∙◌, arith, Some, false, length-drop}
 use Rattle.std.proofs.lemmas.List.{take-append-le, drop-append-le}
 use Rattle.wire_buf.specs.Numbers.{le_number}
@@ -26,7 +26,7 @@ rest-more src more long whole =
     ap (λ (n : ℕ). drop (4 + n) (src ++ more)) (chunk_len-more src more long)
     ∙ drop-append-le (4 + chunk_len src) src more whole
 
--- a connection with these bytes behind
+-- a connection with these bytes after
 abbrev pub fed : Side → List ℕ → Side
 fed side more = record side { state = appended side.state more }
 

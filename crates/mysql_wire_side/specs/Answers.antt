@@ -21,7 +21,7 @@ abbrev pub holding : List ℕ → CodecState → CodecState
 holding packet state = record state { held = packet }
 
 -- the packet is the one that was lent, or else the next one, as one call of the codec's `decode`
--- has it; and this stands behind it, with nothing held
+-- has it; and this stands after it, with nothing held
 abbrev pub IsNextPacket : Side → List ℕ → CodecState → Type 0
 IsNextPacket before packet behind =
     (behind.held ≡ [])

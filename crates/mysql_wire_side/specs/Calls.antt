@@ -39,7 +39,7 @@ pub record Takes (answer : ℤ) (before after : Side) : Type 0 where
   pub none : answer ≡ NO_PACKET → (before.lent ≡ None) × (after ≡ before)
   pub answers : (answer ≡ OK) ⊎ (answer ≡ NO_PACKET)
 
--- the packet is copied to the front of the room, which has so many bytes of it then, and is taken
+-- the packet is copied to the front of the room, which has this many bytes of it then, and is taken
 pub record CopiesNext (old_room room : List ℕ) (len : ℕ) (answer : ℤ) (before after : Side)
     : Type 0 where
   pub packet : answer ≡ PACKET → (after.lent ≡ None) × (after.is_lost ≡ false)

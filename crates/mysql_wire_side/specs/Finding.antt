@@ -9,7 +9,7 @@ use Rattle.mysql_wire_side.specs.declared.connection.Front.TheVariants.{Unfinish
 use Rattle.mysql_wire_side.specs.Side.{lent_at, behind_lent}
 use Rattle.mysql_wire_side.specs.Answers.{holding}
 
--- the packet that is lent, and what stands behind it, are those of one call of `decode`; or that call
+-- the packet that is lent, and what stands after it, are those of one call of `decode`; or that call
 -- says why there is none
 pub record Finds (answer : ℤ) (before : CodecState) (front : Front) (after : CodecState) : Type 0
   where

@@ -11,7 +11,7 @@ pub record Side : Type 0 where
   pub is_lost : Bool
   -- the packet that is lent, and not taken yet
   pub lent : Option (List ℕ)
-  -- the codec, and what is to be read, behind the packet that is lent
+  -- the codec, and what is to be read, after the packet that is lent
   pub state : CodecState
   -- the bytes that wait to be sent
   pub pending : List ℕ
@@ -31,7 +31,7 @@ lent_at InPlace state = Some (front_payload state.unread)
 lent_at Copied state = Some state.held
 lent_at Lost state = None
 
--- what stands behind it
+-- what stands after it
 abbrev pub behind_lent : Front → CodecState → CodecState
 behind_lent Unfinished state = state
 behind_lent InPlace state = emptied (behind_front state)

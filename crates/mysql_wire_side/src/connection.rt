@@ -33,7 +33,7 @@ pub enum Front {
 /// One side of a connection: the bytes that came and aren't taken, the packet that is put together,
 /// the numbers of packets, and the bytes that wait to be sent.
 ///
-/// Contracts see its `Side`: whether it is lost, the packet that is lent, the codec behind it, and
+/// Contracts see its `Side`: whether it is lost, the packet that is lent, the codec after it, and
 /// the bytes that wait; and whether the packet that is lent lies where it came.
 #[derive(Drop)]
 pub struct Connection {
@@ -75,7 +75,7 @@ impl Connection {
 
 // What comes.
 impl Connection {
-    /// Takes bytes that came, behind those that are unread. `OUT_OF_SYNC` where the connection is
+    /// Takes bytes that came, after those that are unread. `OUT_OF_SYNC` where the connection is
     /// lost, `NO_MEMORY` where memory was refused: then nothing is taken.
     pub fn feed(&mut self, bytes: &[u8]) -> i32
         ensures { Feeds bytes.now result self.old.side self.new.side }

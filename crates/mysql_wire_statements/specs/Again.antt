@@ -37,7 +37,7 @@ drop_are zero bytes are = are
 drop_are (suc count) [] are = are
 drop_are (suc count) (byte ∷ bytes) are = drop_are count bytes (λ k. are (suc k))
 
--- a field of so many bytes was read of just these
+-- a field of this many bytes was read of just these
 parsed : {X : Type 0} (count : ℕ) (reads : List ℕ → Result X WireError → ℕ → Type 0)
     (input : List ℕ) (value : X) (eaten : ℕ) → Parses (Some count) reads input (Ok value) eaten
     → (count ≤ length input) × (eaten ≡ count) × (looked_at : ℕ)
@@ -119,7 +119,7 @@ slice_law count input bytes eaten read = elim (cases_lt (length input) count) [
   | inr there ↦ slice_there count input bytes eaten there read
 ]
 
--- one field, and what stands behind it
+-- one field, and what stands after it
 pub both_again : {A B : Type 0} {reads_a : List ℕ → Result A WireError → ℕ → Type 0}
     {reads_b : List ℕ → Result B WireError → ℕ → Type 0} {bytes_a : A → List ℕ}
     {bytes_b : B → List ℕ} → Again reads_a bytes_a → Again reads_b bytes_b
@@ -148,7 +148,7 @@ const_again byte = record {
   law = λ input value eaten are read. const_law byte input value eaten read;
 }
 
--- a number of so many bytes, the least significant first
+-- a number of this many bytes, the least significant first
 pub number_again : {Y : Type 0} (part : Y → ℕ) (count : ℕ)
     → Again (Parses (Some count) (λ input. Through part (ReadsFixed count le_number input)))
     (λ y. le_bytes count (part y))
@@ -163,7 +163,7 @@ rest_again part = record {
   law = λ input value eaten are read. rest_law input (part value) eaten read;
 }
 
--- so many bytes
+-- this many bytes
 pub slice_again : {Y : Type 0} (part : Y → List ℕ) (count : ℕ)
     → Again (λ input. Through part (Answers (front_at count input))) part
 slice_again part count = record {
@@ -208,7 +208,7 @@ pub by_field : {A B : Type 0} (bytes : A → List ℕ) (none : B) (value : Optio
 by_field bytes none (Some value) = refl
 by_field bytes none None = refl
 
--- with what is left behind it, what is written of the answer is what stood there
+-- with what is left after it, what is written of the answer is what stood there
 pub again_of : {X : Type 0} (reads : List ℕ → Result X WireError → ℕ → Type 0) (bytes : X → List ℕ)
     (shortest : Type 0) (old new : List ℕ) (answer : Result X WireError)
     → Reads reads old answer new

@@ -1,7 +1,7 @@
 -- Bitmaps: bit 0 is the least significant of the first byte.
 use Rattle.std.specs.Prelude.{ℕ, ◌≡◌, ◌<◌, ◌+◌, ◌^◌, ◌/◌, ◌%◌, List, length, slice_index}
 
--- how many bytes hold so many bits that come behind the first ones
+-- how many bytes hold this many bits that come after the first ones
 abbrev pub bitmap_len : ℕ → ℕ → ℕ
 bitmap_len first count = (first + count + 7) / 8
 

@@ -12,7 +12,7 @@ abbrev pub IsLongData : ℕ → ℕ → List ℕ → ComStmtSendLongData → Typ
 IsLongData id param part command = (command.statement_id ≡ id) × (command.param_id ≡ param)
     × (command.data.now ≡ part)
 
--- so many of its rows
+-- this many of its rows
 abbrev pub fetch_bytes : ℕ → ℕ → List ℕ
 fetch_bytes id rows = 0x1c ∷ (le_bytes 4 id ++ le_bytes 4 rows)
 

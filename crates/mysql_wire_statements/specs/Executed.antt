@@ -13,7 +13,7 @@ abbrev pub params_bytes : StmtParams → List ℕ
 params_bytes params = params.nulls.0.now
     ++ (types_bytes (types_of params.types) ++ params.values.now)
 
--- there are bits and types for so many
+-- there are bits and types for this many
 abbrev pub AreParams : ℕ → StmtParams → Type 0
 AreParams count params = (bitmap_len 0 count ≡ length params.nulls.0.now)
     × HaveTypes count (types_of params.types)
@@ -34,7 +34,7 @@ abbrev pub HasNumbers : ComStmtExecute → Type 0
 HasNumbers command = (command.statement_id < 2 ^ 32) × (command.flags.0 < 2 ^ 8)
     × (command.iteration_count < 2 ^ 32)
 
--- and it has parameters where the statement has some, and bits and types for so many
+-- and it has parameters where the statement has some, and bits and types for this many
 abbrev pub IsExecution : ℕ → ComStmtExecute → Type 0
 IsExecution num_params command = HasNumbers command
     × IsThere (nat_lt 0 num_params) command.params × OnIf (AreParams num_params) command.params

@@ -16,7 +16,7 @@ rest_of {rest = rest} part text none = record {
       (all-back text rest none);
 }
 
--- so many bytes
+-- this many bytes
 pub slice_of : {Y : Type 0} {rest : List ℕ} (part : Y → List ℕ) (count : ℕ) (bytes : List ℕ)
     → count ≡ length bytes
     → Back (λ input. Through part (Answers (front_at count input))) (λ y. part y ≡ bytes) bytes rest

@@ -1,4 +1,4 @@
--- Dates and times in their binary form. Each begins with the count of the bytes behind it.
+-- Dates and times in their binary form. Each begins with the count of the bytes after it.
 use Rattle.std.specs.Prelude.{ℕ, ◌≡◌, ◌≢◌, ◌⊎◌, List, [], ◌∷◌, ◌++◌, length, take, drop, slice_index, Result, Ok, Err, nat_lt, if◌then◌else◌}
 use Rattle.std.proofs.Common.{suc}
 use Rattle.wire_buf.specs.declared.error.WireError.{WireError}
@@ -61,7 +61,7 @@ span_at bytes = record {
   clock = clock_at 6 bytes;
 }
 
--- a number of microseconds, behind so many bytes
+-- a number of microseconds, after this many bytes
 abbrev pub micros_at : ℕ → List ℕ → ℕ
 micros_at at bytes = le_number (take 4 (drop at bytes))
 
@@ -74,7 +74,7 @@ date_micros_at bytes = date.Micros (day_at bytes) (clock_at 5 bytes) (micros_at 
 abbrev pub time_micros_at : List ℕ → BinaryTime
 time_micros_at bytes = time.Micros (span_at bytes) (micros_at 9 bytes)
 
--- what so many bytes behind the count are; fewer are an end of input, and then nothing is eaten
+-- what this many bytes after the count are; fewer are an end of input, and then nothing is eaten
 abbrev pub behind : {X : Type 0} → ℕ → (List ℕ → X) → List ℕ → Result X WireError × ℕ
 behind count value input = if nat_lt (length input) (suc count) then (Err UnexpectedEof, 0)
     else (Ok (value (take (suc count) input)), suc count)

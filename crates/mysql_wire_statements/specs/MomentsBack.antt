@@ -180,7 +180,7 @@ behind_read count value input x eaten read = elim (cases_lt (length input) (suc 
   | inr there ↦ behind_there count value input x eaten there read
 ]
 
--- the items of a list of so many
+-- the items of a list of this many
 abbrev listed : ℕ → List ℕ → List ℕ
 listed zero items = []
 listed (suc count) items = slice_index items 0 ∷ listed count (drop 1 items)
@@ -259,7 +259,7 @@ time_micros_again a b c d e f g h i j k l m are at =
     ∙ ap (λ mark. mark ∷ b ∷ c ∷ d ∷ e ∷ f ∷ g ∷ h ∷ i ∷ j ∷ k ∷ l ∷ m ∷ [])
     (sym (heads a 12 at)))
 
--- what was read of so many bytes is written as these, where it is for each list of so many
+-- what was read of this many bytes is written as these, where it is for each list of this many
 whole_again : {X : Type 0} (count mark : ℕ) (value : List ℕ → X) (bytes : X → List ℕ)
     (input : List ℕ) (x : X) (eaten : ℕ) → IsBytes input → take 1 input ≡ mark ∷ []
     → Answers (behind count value input) (Ok x) eaten

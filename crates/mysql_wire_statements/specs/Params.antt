@@ -30,7 +30,7 @@ HasType place types answer = MatchOption answer (length types < 2 * place + 2)
     × (param.column_type.0 ≡ slice_index types (2 * place))
     × (param.flags.0 ≡ slice_index types (2 * place + 1)))
 
--- so many bytes of types behind one byte
+-- this many bytes of types after one byte
 abbrev pub types_behind : ℕ → List ℕ → Result (Option (List ℕ)) WireError × ℕ
 types_behind len input = if nat_lt (length input) (suc len) then (Err UnexpectedEof, 0)
     else (Ok (Some (drop 1 (take (suc len) input))), suc len)

@@ -130,12 +130,12 @@ abbrev pub OnPart : {X : Type 0} → (BinaryValue → Option X)
 OnPart part says (Ok value) eaten = MatchOption (part value) ⊥ (λ x. says (Ok x) eaten)
 OnPart part says (Err error) eaten = says (Err error) eaten
 
--- a number of so many bytes; fewer are an end of input, and then nothing is eaten
+-- a number of this many bytes; fewer are an end of input, and then nothing is eaten
 abbrev pub number_at : ℕ → (ℕ → BinaryValue) → List ℕ → Result BinaryValue WireError × ℕ
 number_at count value input = if nat_lt (length input) count then (Err UnexpectedEof, 0)
     else (Ok (value (le_number (take count input))), count)
 
--- fb and ff begin no length, and nothing is eaten; else a length is read, and the text behind it
+-- fb and ff begin no length, and nothing is eaten; else a length is read, and the text after it
 abbrev pub ReadsText : List ℕ → Result (List ℕ) WireError → ℕ → Type 0
 ReadsText input answer eaten =
     ((take 1 input ≡ 0xfb ∷ []) × Answers (Err (Other (record {})), 0) answer eaten)

@@ -94,7 +94,7 @@ impl<'de, A: Allocator + Copy> MyDeserialize<'de, A> for BinaryRow<'de> {
     }
 }
 
-// The values take all the rest, so they come back where nothing stands behind them.
+// The values take all the rest, so they come back where nothing stands after them.
 impl<'de, A: Allocator + Copy> Wire<'de, A> for BinaryRow<'de> {
     ghost is_value = { λ _. Unit {0} };
 

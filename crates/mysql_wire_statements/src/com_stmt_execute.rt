@@ -132,7 +132,7 @@ impl<'de, A: Allocator + Copy> MyDeserialize<'de, A> for ComStmtExecute<'de> {
     }
 }
 
-// The parameters' values take all the rest, so they come back where nothing stands behind them.
+// The parameters' values take all the rest, so they come back where nothing stands after them.
 impl<'de, A: Allocator + Copy> Wire<'de, A> for ComStmtExecute<'de> {
     ghost is_value = { HasNumbers };
 

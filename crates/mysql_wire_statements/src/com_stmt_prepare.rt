@@ -54,7 +54,7 @@ impl<'de, A: Allocator + Copy> MyDeserialize<'de, A> for ComStmtPrepare<'de> {
     }
 }
 
-// The query takes all the rest, so it comes back where nothing stands behind it.
+// The query takes all the rest, so it comes back where nothing stands after it.
 impl<'de, A: Allocator + Copy> Wire<'de, A> for ComStmtPrepare<'de> {
     ghost is_value = { λ _. Unit {0} };
 

@@ -69,7 +69,7 @@ impl<'de, A: Allocator + Copy> MyDeserialize<'de, A> for ComStmtSendLongData<'de
     }
 }
 
-// The data take all the rest, so they come back where nothing stands behind them.
+// The data take all the rest, so they come back where nothing stands after them.
 impl<'de, A: Allocator + Copy> Wire<'de, A> for ComStmtSendLongData<'de> {
     ghost is_value = { λ command. (command.statement_id < 2 ^ 32)
         × (command.param_id < 2 ^ 16) };

@@ -27,7 +27,7 @@ use wire_buf::io::ParseBuf;
 use wire_const::ColumnType;
 use wire_repr::field_laws::parse_back;
 
-/// A `ComStmtPrepare` comes back, where nothing stands behind it.
+/// A `ComStmtPrepare` comes back, where nothing stands after it.
 pub fn prepare_comes_back<'a>(
     alloc: Global,
     buf: &mut ParseBuf<'a>,
@@ -50,7 +50,7 @@ pub fn prepare_is_written_back<'a>(
     is_written_back(alloc, (), buf)
 }
 
-/// A `ComStmtSendLongData` comes back, where nothing stands behind it.
+/// A `ComStmtSendLongData` comes back, where nothing stands after it.
 pub fn send_long_data_comes_back<'a>(
     alloc: Global,
     buf: &mut ParseBuf<'a>,
@@ -73,7 +73,7 @@ pub fn send_long_data_is_written_back<'a>(
     is_written_back(alloc, (), buf)
 }
 
-/// A `ComStmtFetch` comes back, whatever stands behind it.
+/// A `ComStmtFetch` comes back, whatever stands after it.
 pub fn fetch_comes_back(alloc: Global, buf: &mut ParseBuf<'_>) -> Result<ComStmtFetch, WireError>
     ensures { (id rows : ℕ) → id < 2 ^ 32 → rows < 2 ^ 32
         → ComesBackFrom (fetch_bytes id rows) (IsFetch id rows) ⊥ buf.old.0.now result
@@ -93,7 +93,7 @@ pub fn fetch_is_written_back(
     is_written_back(alloc, (), buf)
 }
 
-/// A `ComStmtReset` comes back, whatever stands behind it.
+/// A `ComStmtReset` comes back, whatever stands after it.
 pub fn reset_comes_back(alloc: Global, buf: &mut ParseBuf<'_>) -> Result<ComStmtReset, WireError>
     ensures { (id : ℕ) → id < 2 ^ 32
         → ComesBackFrom (0x1a ∷ le_bytes 4 id) (λ back. back.statement_id ≡ id) ⊥ buf.old.0.now
@@ -113,7 +113,7 @@ pub fn reset_is_written_back(
     is_written_back(alloc, (), buf)
 }
 
-/// A `ComStmtClose` comes back, whatever stands behind it.
+/// A `ComStmtClose` comes back, whatever stands after it.
 pub fn close_comes_back(alloc: Global, buf: &mut ParseBuf<'_>) -> Result<ComStmtClose, WireError>
     ensures { (id : ℕ) → id < 2 ^ 32
         → ComesBackFrom (0x19 ∷ le_bytes 4 id) (λ back. back.statement_id ≡ id) ⊥ buf.old.0.now
@@ -134,7 +134,7 @@ pub fn close_is_written_back(
 }
 
 /// A `ComStmtExecute` comes back, where it has as many parameters as the context says, and nothing
-/// stands behind it.
+/// stands after it.
 pub fn execute_comes_back<'a>(
     alloc: Global,
     num_params: u16,
@@ -158,8 +158,8 @@ pub fn execute_is_written_back<'a>(
     is_written_back(alloc, num_params, buf)
 }
 
-/// A `BinaryRow` comes back, where its bitmap has the bits of so many columns, and nothing stands
-/// behind it.
+/// A `BinaryRow` comes back, where its bitmap has the bits of this many columns, and nothing stands
+/// after it.
 pub fn row_comes_back<'a>(
     alloc: Global,
     columns: usize,
@@ -184,7 +184,7 @@ pub fn row_is_written_back<'a>(
     is_written_back(alloc, columns, buf)
 }
 
-/// A `BinaryValue` comes back where the type is one of its form, whatever stands behind it.
+/// A `BinaryValue` comes back where the type is one of its form, whatever stands after it.
 pub fn value_comes_back<'a>(
     alloc: Global,
     column_type: ColumnType,

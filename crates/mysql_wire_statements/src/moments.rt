@@ -174,7 +174,7 @@ fn first_byte(buf: &ParseBuf<'_>) -> Option<u8>
     }
 }
 
-// The day behind the first byte.
+// The day after the first byte.
 fn eat_day(bytes: &[u8]) -> Day
     requires { 5 ≤ length bytes.now }
     ensures { result ≡ day_at bytes.now }
@@ -198,7 +198,7 @@ fn eat_clock(at: usize, bytes: &[u8]) -> Clock
     }
 }
 
-// The span behind the first byte.
+// The span after the first byte.
 fn eat_span(bytes: &[u8]) -> Span
     requires { 9 ≤ length bytes.now }
     ensures { result ≡ span_at bytes.now }
@@ -210,7 +210,7 @@ fn eat_span(bytes: &[u8]) -> Span
     }
 }
 
-// The microseconds behind so many bytes.
+// The microseconds after this many bytes.
 fn eat_micros(at: usize, bytes: &[u8]) -> u32
     requires { at + 4 ≤ length bytes.now }
     ensures { result ≡ micros_at at bytes.now }

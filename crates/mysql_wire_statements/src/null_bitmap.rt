@@ -11,7 +11,7 @@ use wire_buf::io::ParseBuf;
 use wire_buf::proto::{HasSize, MyDeserialize, MySerialize, Varying};
 use wire_repr::wire::Wire;
 
-/// A bit for each of a list of values, which is set where the value is NULL. The bits stand behind
+/// A bit for each of a list of values, which is set where the value is NULL. The bits stand after
 /// the `FIRST` ones, from the least significant of the first byte on: `FIRST` is 0 for the
 /// parameters of a statement, and 2 for the columns of a row. Read, the context is the count of the
 /// values.
@@ -27,7 +27,7 @@ pub type ParamNulls<'a> = NullBitmap<'a, 0>;
 pub type RowNulls<'a> = NullBitmap<'a, 2>;
 
 impl<'a, const FIRST: u8> NullBitmap<'a, FIRST> {
-    /// How many bytes the bitmap of so many values has.
+    /// How many bytes the bitmap of this many values has.
     pub fn len_for(count: usize) -> usize
         ensures { result ≡ bitmap_len FIRST count }
     {

@@ -1,4 +1,4 @@
--- A text behind four bytes of length: what is written of it is read back, and what is read of it is
+-- A text after four bytes of length: what is written of it is read back, and what is read of it is
 -- written as it stood.
 use Rattle.std.specs.Prelude.{ℕ, ◌≡◌, ◌<◌, ◌≤◌, ◌^◌, List, ◌++◌, length, take, drop, Ok}
 use Rattle.std.proofs.Common.{refl, sym, ap, subst, ◌∙◌, arith}

@@ -73,7 +73,7 @@ impl<'de> MyDeserialize<'de, Global> for ComBinlogDump<'de> {
     }
 }
 
-// The name takes all the rest, so it comes back where nothing stands behind it.
+// The name takes all the rest, so it comes back where nothing stands after it.
 impl<'de> Wire<'de, Global> for ComBinlogDump<'de> {
     ghost is_value = { λ command. (command.pos < 2 ^ 32)
         × (command.flags < 2 ^ 16)

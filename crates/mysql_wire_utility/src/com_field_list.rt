@@ -63,7 +63,7 @@ impl<'de> MyDeserialize<'de, Global> for ComFieldList<'de> {
     }
 }
 
-// The wildcard takes all the rest, so it comes back where nothing stands behind it.
+// The wildcard takes all the rest, so it comes back where nothing stands after it.
 impl<'de> Wire<'de, Global> for ComFieldList<'de> {
     ghost is_value = { λ _. Unit {0} };
 

@@ -109,7 +109,7 @@ impl<'de> MyDeserialize<'de, Global> for StatisticsText<'de> {
     }
 }
 
-// The text takes all the rest, so it comes back where nothing stands behind it.
+// The text takes all the rest, so it comes back where nothing stands after it.
 impl<'de> Wire<'de, Global> for StatisticsText<'de> {
     ghost is_value = { λ _. Unit {0} };
 

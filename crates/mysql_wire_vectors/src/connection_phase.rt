@@ -157,7 +157,7 @@ fn goes_on(
     }
 }
 
-// Whether the client is in behind the last that the server sends.
+// Whether the client is in after the last that the server sends.
 fn is_in(alloc: Global, wire: &mut BytesMut) -> bool {
     let mut input = ParseBuf(SERVER);
     let Some(waiting) = begins(alloc, &mut input, wire) else {
@@ -231,7 +231,7 @@ fn accepts(deciding: Deciding, wire: &mut BytesMut) -> Option<server::LoggedIn> 
     deciding.accept(&ok, wire).ok()
 }
 
-// Whether the server lets the client in behind the last that it sends.
+// Whether the server lets the client in after the last that it sends.
 fn lets_in(alloc: Global, wire: &mut BytesMut) -> bool {
     let mut input = ParseBuf(CLIENT);
     let Some(greeting) = greets(wire) else {

@@ -158,7 +158,7 @@ fn empty_packets(alloc: Global) -> Vec<u8> {
     stream
 }
 
-// All of them are delivered, and the next id is behind theirs.
+// All of them are delivered, and the next id is after theirs.
 fn ids_go_on_with_0_after_255(alloc: Global) -> bool {
     let stream = empty_packets(alloc);
     let mut receiver = Receiver::new(alloc, 0);

@@ -26,7 +26,7 @@ fn is_own(alloc: Global, bytes: &[u8]) -> bool {
     (port == 0x1234) & name & buf.is_empty() & is_cut
 }
 
-// Whether just as many bytes of a text stand behind their length as two bytes can state.
+// Whether just as many bytes of a text stand after their length as two bytes can state.
 fn is_bounded(alloc: Global) -> bool {
     match Vec::from_elem(alloc, b'a', 65536) {
         Ok(long) => RawBytes::<U16Bytes>::from(long.as_slice()).len() == 65535,
@@ -45,7 +45,7 @@ fn own_fields_are_written_and_read(rt: HostRuntime) -> Result<(), Fail> {
     ensure(own, "a port and a name")
 }
 
-// A number of two bytes and a name behind its length.
+// A number of two bytes and a name after its length.
 fn parameter<'a>(type_and_flags: u16, name: &'a [u8]) -> Parameter<'a> {
     Parameter {
         type_and_flags: RawInt::new(type_and_flags),
@@ -53,7 +53,7 @@ fn parameter<'a>(type_and_flags: u16, name: &'a [u8]) -> Parameter<'a> {
     }
 }
 
-// Whether so many are these, or aren't there; and so many bytes are left.
+// Whether this many are these, or aren't there; and this many bytes are left.
 fn are_read(
     alloc: Global,
     bytes: &[u8],

@@ -42,7 +42,7 @@ fn text_len(draws: &mut Draws, column: usize) -> usize {
     }
 }
 
-/// Puts a row of so many columns.
+/// Puts a row of this many columns.
 pub fn put_row(
     draws: &mut Draws,
     letters: &Letters,
@@ -95,7 +95,7 @@ fn frame(codec: &mut PacketCodec, payload: &mut Vec<u8>, stream: &mut BytesMut) 
     Some(())
 }
 
-/// An answer of so many rows.
+/// An answer of this many rows.
 pub fn make_answer(
     alloc: Global,
     draws: &mut Draws,

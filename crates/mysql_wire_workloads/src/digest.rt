@@ -51,7 +51,7 @@ impl Digest {
 #[derive(Drop)]
 pub struct Sink {
     digest: Digest,
-    // What came behind the last whole word.
+    // What came after the last whole word.
     rest: Vec<u8>,
 }
 

@@ -83,7 +83,7 @@ impl Letters {
         })
     }
 
-    /// A text of about so many bytes, at most 4,096.
+    /// A text of about this many bytes, at most 4,096.
     pub fn text(&self, draws: &mut Draws, script: Script, len: usize) -> &[u8] {
         let len = len.min(4096);
         let start = draws.below(LETTERS - 4096);
@@ -95,7 +95,7 @@ impl Letters {
     }
 }
 
-// So many bytes from there on, or as many as there are.
+// This many bytes from there on, or as many as there are.
 fn part(bytes: &[u8], start: usize, len: usize) -> &[u8] {
     let (_, behind) = bytes.split_at(start.min(bytes.len()));
     let (front, _) = behind.split_at(len.min(behind.len()));

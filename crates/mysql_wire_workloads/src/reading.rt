@@ -23,7 +23,7 @@ enum RowsBy {
     Hand,
 }
 
-/// Bytes that come so many at a read, at most.
+/// Bytes that come this many at a read, at most.
 #[derive(Drop)]
 pub struct Pieces<'a> {
     bytes: &'a [u8],

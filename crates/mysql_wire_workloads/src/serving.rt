@@ -92,7 +92,7 @@ fn done<'a>(draws: &mut Draws, letters: &'a Letters) -> OkPacket<'a> {
     }
 }
 
-// An answer of so many rows, each as a type by turns with one put text by text.
+// An answer of this many rows, each as a type by turns with one put text by text.
 fn serve(
     server: &mut Server,
     alloc: Global,

@@ -14,7 +14,7 @@ use std::alloc::Global;
 // How many bytes a read of the program asks for.
 const STEP: usize = 8192;
 
-// Puts a packet of so many bytes, or up to two fewer.
+// Puts a packet of this many bytes, or up to two fewer.
 fn put(
     codec: &mut PacketCodec,
     draws: &mut Draws,
@@ -59,7 +59,7 @@ pub fn stream(
     Some(stream)
 }
 
-/// A packet of two full chunks, behind which an empty one stands.
+/// A packet of two full chunks, after which an empty one stands.
 pub fn full_chunks(alloc: Global, draws: &mut Draws, letters: &Letters) -> Option<BytesMut> {
     let mut codec = codec_under(LIMIT);
     let mut stream = BytesMut::new(alloc);

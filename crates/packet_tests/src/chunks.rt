@@ -245,7 +245,7 @@ fn a_chunk_goes_by_the_state_of_its_decoder(rt: HostRuntime) -> Result<(), Fail>
     no_row(wrong_header(rt.alloc()).or(wrong_chunk(rt.alloc())))
 }
 
-// A decoder that needs so many bytes, where so many are there and so many held; its answer, and how
+// A decoder that needs this many bytes, where this many are there and this many held; its answer, and how
 // many bytes are left and held then.
 type Long = (usize, usize, usize, Answer, usize, usize);
 

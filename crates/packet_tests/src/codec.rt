@@ -188,7 +188,7 @@ const STANDING: &[Script] = &[
             Step::StandsAt(b"\x02\0\0\0", b"", true),
             Step::StandsAt(b"\xff\xff\xff\xff\x61", b"", true),
             Step::StandsAt(b"", b"a", false),
-            // Behind a header.
+            // After a header.
             Step::Src(b"\x02\0\0\0"),
             Step::Decode(Answer::Waits),
             Step::Sync,
@@ -610,7 +610,7 @@ fn a_put_of_a_short_packet_may_be_refused(rt: HostRuntime) -> Result<(), Fail> {
     play(rt.alloc(), SHORT_PUTS)
 }
 
-// A packet of so many bytes at this limit, which is not below.
+// A packet of this many bytes at this limit, which is not below.
 fn passing(len: usize, limit: usize) -> [Step; 7] {
     [
         Step::Limit(limit),
@@ -623,8 +623,8 @@ fn passing(len: usize, limit: usize) -> [Step; 7] {
     ]
 }
 
-// And at a limit of one byte less: then the chunk with its last byte is refused, so many bytes
-// being held, and so many left.
+// And at a limit of one byte less: then the chunk with its last byte is refused, this many bytes
+// being held, and this many left.
 fn refused(len: usize, held: usize, left: usize) -> [Step; 9] {
     let limit = len.saturating_sub(1);
     [

@@ -31,7 +31,7 @@ const ROWS: &[Row] = &[
         ids_after: (0, 7),
         ..ROW
     },
-    // Empty packets, and the id behind 255.
+    // Empty packets, and the id after 255.
     Row {
         parts: &[(b"\0\0\0\xff\0\0\0\0", 0)],
         limit: 0,
@@ -106,14 +106,14 @@ fn each_packet_is_copied(rt: HostRuntime) -> Result<(), Fail> {
 
 // ---- packets of any size
 
-// A packet's parts, as they are read, how many bytes it has, and the id behind it.
+// A packet's parts, as they are read, how many bytes it has, and the id after it.
 const LONG_ROWS: &[(&[(&[u8], usize)], usize, u8)] = &[
     (&[(b"\x00\x20\0\0", 8192)], 8192, 1),
     (&[(b"\xff\x3f\0\0", 16383)], 16383, 1),
     (&[(b"\x00\x40\0\0", 16384)], 16384, 1),
     (&[(b"\x01\x40\0\0", 16385)], 16385, 1),
     (&[(b"\x00\x00\x10\0", 1048576)], 1048576, 1),
-    // A full chunk, and an empty one or one of a byte behind it.
+    // A full chunk, and an empty one or one of a byte after it.
     (
         &[(b"\xff\xff\xff\0", 16777215), (b"\0\0\0\x01", 0)],
         16777215,

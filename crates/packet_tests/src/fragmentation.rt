@@ -10,8 +10,8 @@ use test_support::fixture::FILL;
 use test_support::reference::{between, low_byte};
 use wire_const::MAX_PAYLOAD_LEN;
 
-// The stream, cut behind its byte number i + 1 where bit i of the number is set, and an empty piece
-// behind each piece where they are spaced. A piece that no memory is left for is missing, which no
+// The stream, cut after its byte number i + 1 where bit i of the number is set, and an empty piece
+// after each piece where they are spaced. A piece that no memory is left for is missing, which no
 // reading agrees with.
 fn cut_by_bits<'a>(alloc: Global, stream: &'a [u8], bits: u32, spaced: bool) -> Vec<&'a [u8]> {
     let mut pieces = Vec::new(alloc);
@@ -45,7 +45,7 @@ fn all_cuttings_agree(alloc: Global, case: &Case, cuttings: u32) -> bool {
     agree
 }
 
-// A stream from id 0 on, and what every one of so many cuttings of it must show.
+// A stream from id 0 on, and what every one of this many cuttings of it must show.
 #[derive(Clone, Copy)]
 struct Row<'a> {
     stream: &'a [u8],
@@ -248,7 +248,7 @@ fn streams_cut_at_any_two_places_agree(rt: HostRuntime) -> Result<(), Fail> {
     no_row(wrong_row(rt.alloc(), SHORT_STREAMS, short_agrees))
 }
 
-// A stream with full chunks, by its parts: these bytes, and so many bytes `42` behind them; and what
+// A stream with full chunks, by its parts: these bytes, and this many bytes `42` after them; and what
 // comes of it.
 #[derive(Clone, Copy)]
 struct Long<'a> {
@@ -319,12 +319,12 @@ const PLACES: &[usize] = &[
     2 * SECOND + 10,
 ];
 
-// Where the second chunk's header begins, behind a full chunk.
+// Where the second chunk's header begins, after a full chunk.
 const SECOND: usize = MAX_PAYLOAD_LEN + 4;
 
 const FULL: (&[u8], usize) = (b"\xff\xff\xff\0", MAX_PAYLOAD_LEN);
 
-// A full chunk, and an empty one behind it.
+// A full chunk, and an empty one after it.
 const ROW: Long = Long {
     first_id: 0,
     parts: &[FULL, (b"\0\0\0\x01", 0)],
@@ -334,7 +334,7 @@ const ROW: Long = Long {
     held: 0,
 };
 
-// It is held, and what is behind it is not taken.
+// It is held, and what is after it is not taken.
 const HELD: Long = Long {
     packets: 0,
     held: MAX_PAYLOAD_LEN,

@@ -31,7 +31,7 @@ fn send(writer: &mut FrameWriter, piece: &mut &[u8], out: &mut Vec<u8>) -> bool 
     false
 }
 
-// Sends a packet in these pieces, behind what was sent. Whether each went whole, and the last byte
+// Sends a packet in these pieces, after what was sent. Whether each went whole, and the last byte
 // ended the packet.
 fn goes_in(writer: &mut FrameWriter, pieces: &[&[u8]], out: &mut Vec<u8>) -> bool {
     let mut all = true;
@@ -62,7 +62,7 @@ const PAYLOADS: &[&[u8]] = &[b"abc", b"", b"z", b"hello"];
 
 const STREAM: &[u8] = b"\x03\0\0\xfeabc\0\0\0\xff\x01\0\0\0z\x05\0\0\x01hello";
 
-// Whether packets go in one piece, and the bytes behind them stay.
+// Whether packets go in one piece, and the bytes after them stay.
 fn they_go(writer: &mut FrameWriter, out: &mut Vec<u8>) -> bool {
     let mut piece = b"abczhello, and more".as_slice();
     let mut all = true;
@@ -80,7 +80,7 @@ fn they_go_in_one_piece(alloc: Global) -> bool {
     all & same(out.as_slice(), STREAM) & (writer.sequence_id() == 2)
 }
 
-// Whether 300 empty packets go with no byte of a piece, and ids begin again behind 255.
+// Whether 300 empty packets go with no byte of a piece, and ids begin again after 255.
 fn empty_ones_go() -> bool {
     let mut writer = FrameWriter::default();
     let mut all = true;
@@ -103,7 +103,7 @@ fn is_inside(writer: &mut FrameWriter) -> bool {
     (writer.begin(1) == Err(UnfinishedPacket)) & (*writer == before)
 }
 
-// Whether none is begun in front of a header and inside a chunk, and one is behind it.
+// Whether none is begun in front of a header and inside a chunk, and one is after it.
 fn none_is_begun_inside(alloc: Global) -> bool {
     let mut writer = writer_from(7);
     let mut out = Vec::new(alloc);
@@ -127,7 +127,7 @@ fn packets_are_framed_as_they_come(rt: HostRuntime) -> Result<(), Fail> {
     ])
 }
 
-/// Whether a payload goes in pieces of so many bytes, from the id 254 on, as it is framed.
+/// Whether a payload goes in pieces of this many bytes, from the id 254 on, as it is framed.
 pub fn goes_as(alloc: Global, payload: &[u8], at_once: usize, framed: &[u8], next_id: u8) -> bool {
     let mut writer = writer_from(254);
     let mut out = Vec::new(alloc);

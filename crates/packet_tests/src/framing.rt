@@ -13,7 +13,7 @@ use test_support::reference::{between, chunk_count, low_byte, put_framing};
 use test_support::targets::Trickle;
 use wire_const::MAX_PAYLOAD_LEN;
 
-// What a payload must become, from its first id on, and the id behind it.
+// What a payload must become, from its first id on, and the id after it.
 #[derive(Clone, Copy)]
 struct Framed<'a> {
     first_id: u8,
@@ -22,7 +22,7 @@ struct Framed<'a> {
 }
 
 impl Framed<'_> {
-    // Whether this packet becomes so, behind what was there, and is emptied.
+    // Whether this packet becomes so, after what was there, and is emptied.
     fn is_made<T: Buf>(&self, alloc: Global, packet: &mut T) -> bool {
         let mut to = Receiver::holding(alloc, 0, b"ab");
         let is_framed = self.is_framed(&mut to, packet);
@@ -38,12 +38,12 @@ impl Framed<'_> {
         is_next & (packet.remaining() == 0)
     }
 
-    // Whether two packets, one behind the other, become so.
+    // Whether two packets, one after the other, become so.
     fn is_made_of_two<T: Buf + Drop>(&self, alloc: Global, front: T, back: T) -> bool {
         self.is_made(alloc, &mut front.chain(back))
     }
 
-    // Whether a payload becomes so in one piece, in two, and in pieces of so many bytes.
+    // Whether a payload becomes so in one piece, in two, and in pieces of this many bytes.
     fn is_made_of_pieces(&self, alloc: Global, payload: &[u8], at: usize) -> bool {
         let (front, back) = payload.split_at(at.min(payload.len()));
         let empty = b"".as_slice();
@@ -142,7 +142,7 @@ const LENGTHS: &[Length] = &[
     ),
 ];
 
-// Whether these headers stand in front of the chunks, and the bytes are so many.
+// Whether these headers stand in front of the chunks, and the bytes are this many.
 fn has_headers(bytes: &[u8], headers: &[u8], len: usize) -> bool {
     let mut all = bytes.len() == len.wrapping_add(headers.len());
     let mut at = 0usize;
@@ -170,7 +170,7 @@ fn agrees(alloc: Global, payload: &[u8], bytes: &[u8], at: usize) -> bool {
         & goes_as(alloc, payload, usize::MAX, bytes, framed.next_id)
 }
 
-// Whether a payload of so many bytes has these headers, each byte in its place.
+// Whether a payload of this many bytes has these headers, each byte in its place.
 fn is_length(alloc: Global, row: Length) -> bool {
     let (len, headers, at) = row;
     let payload = pattern(alloc, len);

@@ -24,7 +24,7 @@ impl Wire {
     }
 }
 
-// Gives a part a read. All that came before, but for so many bytes, is to be written by then.
+// Gives a part a read. All that came before, but for this many bytes, is to be written by then.
 #[derive(Drop)]
 struct Watched<'a> {
     parts: &'a [&'a [u8]],
@@ -91,7 +91,7 @@ fn is_copied(alloc: Global) -> bool {
     went & (wire.written.get() == 9) & !wire.is_late.get()
 }
 
-// The same with headers, and with the end behind the packet, in front of which the last go.
+// The same with headers, and with the end after the packet, in front of which the last go.
 fn is_passed_on(alloc: Global) -> bool {
     let wire = Wire::new();
     let Ok(mut reader) = PacketReader::new(alloc, reader_below(&wire, 0)) else {

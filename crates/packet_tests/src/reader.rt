@@ -15,7 +15,7 @@ const ROW: Row = Row {
     ..taken::ROW
 };
 
-// Two packets in six reads, of which one fails, or the one behind them.
+// Two packets in six reads, of which one fails, or the one after them.
 const TWO: Row = Row {
     parts: &[(b"\x01\0\0\0a\x02\0\0\x01bc", 0)],
     at_once: 2,
@@ -37,7 +37,7 @@ const SECOND: Row = Row {
     ..TWO
 };
 
-// The read behind them.
+// The read after them.
 const BEHIND: Row = Row {
     until_fault: 6,
     answers: &[Answer::Packet, Answer::Packet, Answer::Io, Answer::End],
@@ -141,7 +141,7 @@ const ROWS: &[Row] = &[
         ids_after: (2, 7),
         ..ROW
     },
-    // The part of a packet behind another.
+    // The part of a packet after another.
     Row {
         parts: &[(b"\x01\0\0\0a\x02\0\0\x01b", 0)],
         answers: &[Answer::Packet, Answer::UnexpectedEof],

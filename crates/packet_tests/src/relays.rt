@@ -37,7 +37,7 @@ const ROWS: &[Row] = &[
         ids_after: (0, 7),
         ..ROW
     },
-    // Empty packets, and the id behind 255.
+    // Empty packets, and the id after 255.
     Row {
         parts: &[(b"\0\0\0\xff\0\0\0\0", 0)],
         limit: 0,
@@ -100,7 +100,7 @@ const ROWS: &[Row] = &[
         ..ROW
     },
 ];
-// A write fails inside the packet, and behind it; what didn't go is pending, and goes first.
+// A write fails inside the packet, and after it; what didn't go is pending, and goes first.
 const FAILING: &[Row] = &[
     Row {
         at_once: 5,

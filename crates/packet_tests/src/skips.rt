@@ -31,7 +31,7 @@ const ROWS: &[Row] = &[
         ids_after: (0, 7),
         ..ROW
     },
-    // An end behind a header, which is gone.
+    // An end after a header, which is gone.
     Row {
         parts: &[(b"\x01\0\0\0", 0)],
         answers: &[Answer::UnexpectedEof, Answer::UnexpectedEof],
@@ -130,7 +130,7 @@ const LONG_ROWS: &[Row] = &[
         ids_after: (3, 7),
         ..LONG_ROW
     },
-    // A read fails inside the first chunk, behind it, and behind the second header.
+    // A read fails inside the first chunk, after it, and after the second header.
     Row {
         until_fault: 1024,
         answers: &[Answer::Io, Answer::Packet, Answer::End],
@@ -155,7 +155,7 @@ const LONG_ROWS: &[Row] = &[
         answers: &[Answer::TooLarge, Answer::Packet, Answer::End],
         ..LONG_ROW
     },
-    // The input ends behind the first chunk, and inside the second.
+    // The input ends after the first chunk, and inside the second.
     Row {
         parts: &[(b"\xff\xff\xff\0", 16777215)],
         answers: &[Answer::UnexpectedEof, Answer::UnexpectedEof],
@@ -183,7 +183,7 @@ fn each_packet_is_skipped(rt: HostRuntime) -> Result<(), Fail> {
 
 // ---- in the midst of a packet
 
-// A packet of which a full chunk is held, and one behind it. Its read of some number fails.
+// A packet of which a full chunk is held, and one after it. Its read of some number fails.
 const HELD: Row = Row {
     parts: &[
         (b"\xff\xff\xff\0", 16777215),
@@ -195,7 +195,7 @@ const HELD: Row = Row {
     ..taken::ROW
 };
 
-// It is skipped, and the one behind it handed out.
+// It is skipped, and the one after it handed out.
 const HELD_STEPS: &[Step] = &[
     Step::Says(Way::HandedOut, Answer::Io),
     Step::Id(1),

@@ -1,5 +1,5 @@
 //! Packets in spans and with other ids, row by row: each cutting of a small stream, limits and ids
-//! that refuse, and how a stream goes on; spans behind a codec, and a codec behind spans; ids over
+//! that refuse, and how a stream goes on; spans after a codec, and a codec after spans; ids over
 //! 255; decoders in plain numbers.
 
 use crate::spanned::{Renumbered, Spanned, decoder_of, each_cut};
@@ -25,7 +25,7 @@ struct Row<'a> {
     packets: &'a [&'a [u8]],
     spans: usize,
     stop: Option<SpanError>,
-    // So many bytes are eaten, and go out.
+    // This many bytes are eaten, and go out.
     eaten: usize,
     // All bytes of the pieces up to the stop, with other ids.
     out: &'a [u8],
@@ -68,7 +68,7 @@ const LIMITS: &[Row] = &[
         spans: 5,
         ..ROW
     },
-    // A part of a header is behind the packets.
+    // A part of a header is after the packets.
     Row {
         pieces: &[b"\x03\0\0\xfeabc\0\0\0\xff\x01\0\0\0z\x02\0"],
         eaten: 18,
@@ -282,7 +282,7 @@ fn renumber_from(next_id: u8) -> Renumber {
     }
 }
 
-// Whether the rows go, one behind another.
+// Whether the rows go, one after another.
 fn all_go(alloc: Global, rows: &[Row]) -> bool {
     let mut renumber = renumber_from(0);
     let mut all = true;
@@ -303,12 +303,12 @@ fn is_cut(alloc: Global, [front, middle, end]: [&[u8]; 3]) -> bool {
         .is_some()
 }
 
-// The first packet of the stream, and what comes behind it.
+// The first packet of the stream, and what comes after it.
 const FRONT: &[u8] = b"\x03\0\0\xfeabc";
 
 const BEHIND: &[u8] = b"\0\0\0\xff\x01\0\0\0z\x02\0\0\x01";
 
-// Whether spans go on behind a codec that took the first packet.
+// Whether spans go on after a codec that took the first packet.
 fn spans_go_on(alloc: Global) -> bool {
     let mut receiver = Receiver::new(alloc, 9);
     receiver.codec.set_sequence_id(254);
@@ -319,7 +319,7 @@ fn spans_go_on(alloc: Global) -> bool {
     all & spanned.stop.is_none() & (spanned.decoder.sequence_id() == 2)
 }
 
-// Whether a codec goes on behind spans that brought it.
+// Whether a codec goes on after spans that brought it.
 fn a_codec_goes_on(alloc: Global) -> bool {
     let mut spanned = Spanned::new(alloc, decoder_of(254, 9));
     spanned.feed(alloc, FRONT);
@@ -372,7 +372,7 @@ fn streams_go_in_spans_and_with_other_ids(rt: HostRuntime) -> Result<(), Fail> {
 
 // ---- chunks that are full
 
-// What comes behind the row's before: a piece, and full chunks' bytes in 255 pieces; and how many
+// What comes after the row's before: a piece, and full chunks' bytes in 255 pieces; and how many
 // packets came then, how many bytes of an open one, and the stop, which leaves the piece.
 #[derive(Clone, Copy)]
 struct Full {
@@ -432,7 +432,7 @@ const SECOND: &[Full] = &[
     },
 ];
 
-// Whether a row goes behind what came before.
+// Whether a row goes after what came before.
 fn goes_full(alloc: Global, spanned: &mut Spanned, row: &Full, fill: &[u8]) -> bool {
     spanned.eaten = 0;
     spanned.stop = None;
@@ -448,7 +448,7 @@ fn goes_full(alloc: Global, spanned: &mut Spanned, row: &Full, fill: &[u8]) -> b
         & (is_between == (row.packets == 1))
 }
 
-// Whether a packet of so many bytes comes, in the rows' chunks, with this id behind it.
+// Whether a packet of this many bytes comes, in the rows' chunks, with this id after it.
 fn are_full(alloc: Global, rows: &[Full], len: usize, next_id: u8) -> bool {
     let Ok(fill) = Vec::from_elem(alloc, 7u8, 65793) else {
         return false;
@@ -496,7 +496,7 @@ fn places_are_told() -> bool {
     all
 }
 
-// Whether the decoder is the same behind each byte of the stream.
+// Whether the decoder is the same after each byte of the stream.
 fn decoders_come_back() -> bool {
     let mut decoder = decoder_of(254, 3);
     let mut all = true;

@@ -15,7 +15,7 @@ use wire_span::{Renumber, SpanError};
 
 // ---- what a decoder of spans must do with a stream of small packets
 
-// Where it stops, or what stands behind the packets.
+// Where it stops, or what stands after the packets.
 #[derive(Clone, Copy)]
 struct Place {
     // Where the chunk begins that is refused, or isn't whole.
@@ -25,7 +25,7 @@ struct Place {
     is_open: bool,
 }
 
-// The reading of a chunk of another id is behind it.
+// The reading of a chunk of another id is after it.
 fn chunk_at(case: &Case) -> usize {
     let reading = &case.reading;
     match reading.answer {
@@ -138,7 +138,7 @@ fn encode_all(to: &mut Receiver<Global>, packets: &[Vec<u8>]) -> u8 {
     to.codec.sequence_id()
 }
 
-// The packets encoded from this id on, and the bytes behind them, of which a header that is
+// The packets encoded from this id on, and the bytes after them, of which a header that is
 // accepted bears the next id; and the id after it.
 fn encoded(to: &mut Receiver<Global>, case: &Case, place: Place, end: usize) -> u8 {
     let next_id = encode_all(to, case.reading.packets.as_slice());

@@ -45,7 +45,7 @@ pub struct Row<'a> {
     pub ids: (u8, u8),
     pub ids_after: (u8, u8),
     pub answers: &'a [Answer],
-    /// What is handed out or written, and how many bytes behind it.
+    /// What is handed out or written, and how many bytes after it.
     pub out: &'a [u8],
     pub zeros: usize,
     pub pending: &'a [u8],
@@ -94,7 +94,7 @@ pub enum Step {
     Lends(&'static [u8]),
     /// The id that the reader's codec expects.
     Id(u8),
-    /// So many reads were made.
+    /// This many reads were made.
     Reads(u64),
     /// Whether the reader fits its codec, and whether it can skip.
     Fits(bool, bool),
@@ -163,7 +163,7 @@ impl<'a, A: Allocator + Copy> Taker<'a, Parts<'a>, Narrow, A> {
     }
 }
 
-// Takes a packet that is handed out behind the others.
+// Takes a packet that is handed out after the others.
 fn keeps<A: Allocator>(out: &mut Vec<u8>, packet: Option<Vec<u8, A>>) -> Answer {
     match packet {
         Some(packet) => {
@@ -177,7 +177,7 @@ fn keeps<A: Allocator>(out: &mut Vec<u8>, packet: Option<Vec<u8, A>>) -> Answer 
 // Generic in the reader and the writer: that `Parts` is a reader and `Narrow` a writer is proved anew
 // in each function that calls through them.
 impl<R: Read, W: Write, A: Allocator + Copy> Taker<'_, R, W, A> {
-    // Takes a packet by `next_packet`, behind the others.
+    // Takes a packet by `next_packet`, after the others.
     fn hands_out(&mut self) -> Answer {
         if !self.reader.fits(&self.codec) {
             return Answer::Fallen;
@@ -196,7 +196,7 @@ impl<R: Read, W: Write, A: Allocator + Copy> Taker<'_, R, W, A> {
         answer_if(self.reader.fill_packet(&mut self.codec))
     }
 
-    // Has a packet ready, and takes it behind the others.
+    // Has a packet ready, and takes it after the others.
     fn lends(&mut self) -> Answer {
         let answer = self.fills();
         if answer == Answer::Packet {
@@ -354,7 +354,7 @@ where
 }
 
 /// Whether a row goes as it says by a way, where no request for memory is refused, and where each
-/// of so many is, of which the last is not made. None is larger than `largest`.
+/// of this many is, of which the last is not made. None is larger than `largest`.
 pub fn goes(alloc: Global, way: Way, row: &Row, requests: u64, largest: usize) -> bool {
     let heap = Refusing::new(alloc, NEVER);
     let mut all = is_taken(&heap, &heap, alloc, way, row) & (heap.largest() <= largest);

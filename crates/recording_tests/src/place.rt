@@ -11,7 +11,7 @@ pub enum Place {
     Answer,
     /// The first packet of the answer to `COM_STMT_PREPARE`.
     PrepareAnswer,
-    /// So many definitions.
+    /// This many definitions.
     Definitions(Defined, u64),
     DefinitionsEnd(Defined),
     /// The answer to `COM_SET_OPTION`.

@@ -17,7 +17,7 @@ pub enum Record<'a> {
 }
 
 impl<'a> Record<'a> {
-    /// The first record, and the bytes behind it.
+    /// The first record, and the bytes after it.
     pub fn first(bytes: &'a [u8]) -> Option<(Record<'a>, &'a [u8])> {
         let mut buf = ParseBuf(bytes);
         let len = buf.checked_eat_u24_le()?;

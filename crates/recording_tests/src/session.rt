@@ -231,7 +231,7 @@ impl Session {
             }
             Ok(QueryAnswer::Columns(count)) => {
                 self.columns = count.column_count;
-                // (a statement's columns may be told once, behind its number)
+                // (a statement's columns may be told once, after its number)
                 self.place = if count.mariadb_metadata_follows == Some(0) {
                     Place::Rows
                 } else {
@@ -260,7 +260,7 @@ impl Session {
         }
     }
 
-    // Where so many definitions are left.
+    // Where this many definitions are left.
     fn definitions(&self, of: Defined, left: u64) -> Place {
         match left {
             0 => self.behind_definitions(of),
@@ -268,7 +268,7 @@ impl Session {
         }
     }
 
-    // Behind the last definition, where the end of definitions is not told.
+    // After the last definition, where the end of definitions is not told.
     fn behind_definitions(&self, of: Defined) -> Place {
         match of {
             Defined::Rows => Place::Rows,

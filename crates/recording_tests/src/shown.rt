@@ -1,5 +1,5 @@
-//! The fields of packets in a plain form, each a word with a space behind it: a number in decimal,
-//! and a text as `x` and its bytes in hex. The word `end` stands behind the last.
+//! The fields of packets in a plain form, each a word with a space after it: a number in decimal,
+//! and a text as `x` and its bytes in hex. The word `end` stands after the last.
 
 use mysql_wire_connection::auth_more_data::AuthMoreData;
 use mysql_wire_connection::auth_switch::AuthSwitchRequest;
@@ -32,7 +32,7 @@ use wire_repr::text::{BytesRepr, RawBytes};
 pub enum Field<'a> {
     Number(u64),
     Text(&'a [u8]),
-    /// Keys and values in turn, each behind its length: how many bytes they have, and each.
+    /// Keys and values in turn, each after its length: how many bytes they have, and each.
     Texts(&'a [u8]),
     Missing,
 }
@@ -179,7 +179,7 @@ impl Fields {
         }
     }
 
-    /// Those of a packet, and the word behind the last.
+    /// Those of a packet, and the word after the last.
     pub fn all_of<T: Shown>(&mut self, packet: &T) {
         packet.show(self);
         self.is_whole &= self.words.push_str("end ").is_ok();
@@ -315,7 +315,7 @@ impl Shown for ColumnCount {
     }
 }
 
-// The fields of a column behind what MariaDB says more of its type.
+// The fields of a column after what MariaDB says more of its type.
 fn put_form(column: &ColumnDefinition41<'_>, fields: &mut Fields) {
     fields.put_all(&[
         Field::Number(0x0c),

@@ -16,7 +16,7 @@ use wire_buf::io::ParseBuf;
 #[derive(Drop)]
 pub struct Statements(Vec<Statement>);
 
-// The statement's id, behind the number of the command.
+// The statement's id, after the number of the command.
 fn statement_id(payload: &[u8]) -> Option<u32> {
     let mut buf = ParseBuf(payload);
     if buf.checked_skip(1) {

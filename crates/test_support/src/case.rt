@@ -15,7 +15,7 @@ pub struct Case<'a> {
     pub reading: Reading,
 }
 
-// The least number of pieces that brings what shows the fault, where so many bytes are there
+// The least number of pieces that brings what shows the fault, where this many bytes are there
 // already; all of them where there is none.
 fn least_count(shown_at: usize, there: usize, pieces: &[&[u8]]) -> usize {
     let mut there = there;
@@ -95,7 +95,7 @@ impl<'a> Case<'a> {
         all & (answer == self.reading.answer)
     }
 
-    /// Whether a receiver that had so many bytes in `src`, and then took pieces, ended as the
+    /// Whether a receiver that had this many bytes in `src`, and then took pieces, ended as the
     /// reading says: no more pieces were appended than are needed, and no id is raised twice.
     pub fn is_ended<A: Allocator + Copy>(
         &self,

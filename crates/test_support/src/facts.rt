@@ -7,7 +7,7 @@ pub fn ensure(holds: bool, words: &str) -> Result<(), Fail> {
     if holds { Ok(()) } else { Err(Fail::new(words)) }
 }
 
-/// Whether the bytes are these parts, one behind the other.
+/// Whether the bytes are these parts, one after the other.
 pub fn are_parts(bytes: &[u8], parts: [&[u8]; 3]) -> bool {
     let [first, second, third] = parts;
     let (front, rest) = bytes.split_at(first.len().min(bytes.len()));

@@ -17,7 +17,7 @@ pub const MORE: &[u8] = b"\xff\x80\0";
 // No value asks for memory so often.
 const MOST: u64 = 100;
 
-/// The last bytes, so many.
+/// The last bytes, this many.
 pub fn last(bytes: &[u8], count: usize) -> &[u8] {
     between(bytes, bytes.len().saturating_sub(count), bytes.len())
 }
@@ -49,7 +49,7 @@ pub fn full<A: Allocator>(heap: &Heap, alloc: A) -> Vec<u8, A> {
     buf
 }
 
-// Whether these bytes stand behind the byte that was there.
+// Whether these bytes stand after the byte that was there.
 fn is_behind(buf: &[u8], bytes: &[u8]) -> bool {
     match buf {
         [first, rest @ ..] => (*first == 0xaa) & same(rest, bytes),
@@ -89,7 +89,7 @@ fn refusals<T: MySerialize>(heap: &Heap, value: &T, bytes: &[u8]) -> Option<u64>
     None
 }
 
-/// Whether a value is written as these bytes after so many requests for memory are refused in turn,
+/// Whether a value is written as these bytes after this many requests for memory are refused in turn,
 /// at least. No bytes ask for none.
 pub fn is_refused_at_least<T: MySerialize>(
     heap: &Heap,
@@ -120,7 +120,7 @@ pub enum Eaten {
 }
 
 impl Eaten {
-    // So many are left of these.
+    // This many are left of these.
     fn left_of(self, there: usize) -> usize {
         match self {
             Eaten::Nothing => there,
@@ -150,7 +150,7 @@ impl Short {
         }
     }
 
-    // So many bytes are left of these.
+    // This many bytes are left of these.
     fn left_of(self, there: usize) -> usize {
         if there < self.front {
             self.eaten.left_of(there)
@@ -160,7 +160,7 @@ impl Short {
     }
 }
 
-/// Whether this value is read, and so many bytes are left.
+/// Whether this value is read, and this many bytes are left.
 pub fn gives<'de, T, C, A>(alloc: A, ctx: C, input: &'de [u8], wanted: &T, left: usize) -> bool
 where
     A: Allocator + Copy,
@@ -172,7 +172,7 @@ where
     }
 }
 
-/// Whether no value is read for this reason, and so many bytes are left.
+/// Whether no value is read for this reason, and this many bytes are left.
 pub fn stops<'de, T, C, A>(alloc: A, ctx: C, input: &'de [u8], fault: Answer, left: usize) -> bool
 where
     A: Allocator + Copy,

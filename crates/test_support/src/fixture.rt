@@ -28,7 +28,7 @@ pub fn decoder_of(remembered: Remembered) -> ChunkDecoder {
     }
 }
 
-/// Whether these are so many bytes `42`.
+/// Whether these are this many bytes `42`.
 pub fn is_filled(bytes: &[u8], len: usize) -> bool {
     let mut all = bytes.len() == len;
     for byte in bytes {
@@ -90,7 +90,7 @@ impl<'h, A: Allocator + Copy, T: Target> Fixture<'h, A, T> {
         Answer::of_encode(self.codec.encode(&mut packet, &mut self.src))
     }
 
-    /// Encodes so many bytes `42`.
+    /// Encodes this many bytes `42`.
     pub fn encode_many(&mut self, len: usize) -> Answer {
         match Vec::from_elem(self.alloc, FILL, len) {
             Ok(payload) => self.encode(payload.as_slice()),
@@ -98,7 +98,7 @@ impl<'h, A: Allocator + Copy, T: Target> Fixture<'h, A, T> {
         }
     }
 
-    /// These bytes come in behind `src`.
+    /// These bytes come in after `src`.
     pub fn comes(&mut self, bytes: &[u8]) -> bool {
         self.src.extend_from_slice(bytes).is_ok()
     }
@@ -109,7 +109,7 @@ impl<'h, A: Allocator + Copy, T: Target> Fixture<'h, A, T> {
         self.comes(bytes)
     }
 
-    /// So many bytes `42` come in behind `src`.
+    /// This many bytes `42` come in after `src`.
     pub fn comes_many(&mut self, len: usize) -> bool {
         let len = self.src.len().saturating_add(len);
         self.src.resize(len, FILL).is_ok()
@@ -120,7 +120,7 @@ impl<'h, A: Allocator + Copy, T: Target> Fixture<'h, A, T> {
         self.dst.put_slice(bytes).is_ok()
     }
 
-    /// `dst` becomes so many bytes `42`.
+    /// `dst` becomes this many bytes `42`.
     pub fn replace_dst_many(&mut self, len: usize) -> bool {
         match Vec::from_elem(self.alloc, FILL, len) {
             Ok(bytes) => self.replace_dst(bytes.as_slice()),

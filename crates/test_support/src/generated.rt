@@ -49,7 +49,7 @@ fn payload<'a>(draws: &mut Draws, bytes: &'a mut [u8]) -> &'a [u8] {
 }
 
 impl Stream {
-    // Puts a packet behind the others.
+    // Puts a packet after the others.
     fn put(&mut self, id: u8, payload: &[u8]) -> Result<(), AllocError> {
         self.headers.push(self.bytes.len())?;
         self.lens.push(payload.len())?;

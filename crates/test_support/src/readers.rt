@@ -26,8 +26,8 @@ impl Read for OneByOne<'_> {
     }
 }
 
-/// Gives parts, each in reads of its own: these bytes, and so many zeros behind them, which take no
-/// memory. Gives so many bytes a read at most, and fails once, at the read of this number. Counts the
+/// Gives parts, each in reads of its own: these bytes, and this many zeros after them, which take no
+/// memory. Gives this many bytes a read at most, and fails once, at the read of this number. Counts the
 /// reads that are asked for another number of bytes than 8192.
 #[derive(Drop)]
 pub struct Parts<'a> {
@@ -59,7 +59,7 @@ impl<'a> Parts<'a> {
         }
     }
 
-    // Begins the next part behind a part's end.
+    // Begins the next part after a part's end.
     fn begin(&mut self) {
         if !self.bytes.is_empty() | (self.zeros > 0) {
             return;
@@ -100,7 +100,7 @@ impl Read for Parts<'_> {
     }
 }
 
-/// Takes so many bytes a write at most, and fails once, at the write or flush of this number.
+/// Takes this many bytes a write at most, and fails once, at the write or flush of this number.
 #[derive(Drop)]
 pub struct Narrow {
     pub taken: Vec<u8>,

@@ -38,7 +38,7 @@ pub struct Receiver<A: Allocator> {
 /// How many pieces were appended, and what was answered.
 pub type Run = (usize, Answer);
 
-// Puts a copy of a packet behind the others, if there is memory.
+// Puts a copy of a packet after the others, if there is memory.
 fn put_copy<A: Allocator + Copy>(alloc: A, out: &mut Vec<Vec<u8, A>, A>, packet: &[u8]) -> bool {
     match Vec::from_slice(alloc, packet) {
         Ok(packet) => out.push(packet).is_ok(),
@@ -59,14 +59,14 @@ impl<A: Allocator + Copy> Receiver<A> {
         }
     }
 
-    /// With these bytes in `src`, and little room behind them.
+    /// With these bytes in `src`, and little room after them.
     pub fn holding(alloc: A, limit: usize, bytes: &[u8]) -> Self {
         let mut to = Receiver::new(alloc, limit);
         let _ = to.src.extend_from_slice(bytes);
         to
     }
 
-    /// Puts a packet behind `src` as chunks from this id, and tells the next.
+    /// Puts a packet after `src` as chunks from this id, and tells the next.
     pub fn frame<T: Buf>(&mut self, id: u8, packet: &mut T) -> Result<u8, Answer> {
         answered(packet_to_chunks(id, packet, &mut self.src))
     }
@@ -196,7 +196,7 @@ impl<A: Allocator + Copy> Receiver<A> {
         (count.wrapping_add(more), answer)
     }
 
-    /// As `deliver`, in two runs, the first over so many pieces.
+    /// As `deliver`, in two runs, the first over this many pieces.
     pub fn deliver_in_two(&mut self, pieces: &[&[u8]], first: usize) -> Run {
         let limit = self.codec.max_allowed_packet;
         self.deliver_again(first, pieces, Answer::Waits, limit)

@@ -45,12 +45,12 @@ fn put_chunk(stream: &mut Vec<u8>, id: usize, bytes: &[u8]) -> Result<(), AllocE
     stream.extend_from_slice(bytes)
 }
 
-/// How many chunks a payload of so many bytes has.
+/// How many chunks a payload of this many bytes has.
 pub fn chunk_count(len: usize) -> usize {
     len / MAX_PAYLOAD_LEN + 1
 }
 
-/// How many bytes the framing of a payload of so many bytes has.
+/// How many bytes the framing of a payload of this many bytes has.
 pub fn framed_len(len: usize) -> usize {
     len.saturating_add(chunk_count(len).saturating_mul(4))
 }
@@ -165,17 +165,17 @@ pub struct Reading {
     pub packets: Vec<Vec<u8>>,
     /// Why it stops.
     pub answer: Answer,
-    /// The full chunks of an unfinished payload, and the bytes of a chunk out of sync behind them.
+    /// The full chunks of an unfinished payload, and the bytes of a chunk out of sync after them.
     pub held: Vec<u8>,
     /// What is left of the stream begins here.
     pub left: usize,
-    /// So many bytes of the stream show its fault. Where it has none, there are never enough.
+    /// This many bytes of the stream show its fault. Where it has none, there are never enough.
     pub shown_at: usize,
     /// The id that the next chunk is to bear.
     pub next_id: u8,
 }
 
-// What stops a stream, where it goes on with `rest` and so many bytes of a packet are held; and how
+// What stops a stream, where it goes on with `rest` and this many bytes of a packet are held; and how
 // many bytes of `rest` show it.
 fn stop(rest: &[u8], held: usize, limit: usize) -> (Answer, usize) {
     let Some((len, _)) = header_at(rest, 0) else {
@@ -217,7 +217,7 @@ impl Reading {
         Ok(())
     }
 
-    // Takes these chunks, which are good, and stops behind them.
+    // Takes these chunks, which are good, and stops after them.
     fn take_all(
         &mut self,
         alloc: Global,

@@ -20,15 +20,15 @@ pub enum Step {
     Reset,
     /// `sync_seq_id` is called, which changes nothing.
     Sync,
-    /// These bytes come in behind `src`.
+    /// These bytes come in after `src`.
     Comes(&'static [u8]),
-    /// So many bytes `42` come in behind `src`.
+    /// This many bytes `42` come in after `src`.
     ComesMany(usize),
     /// `src` becomes these bytes.
     Src(&'static [u8]),
     /// `dst` becomes these bytes.
     Dst(&'static [u8]),
-    /// `dst` becomes so many bytes `42`.
+    /// `dst` becomes this many bytes `42`.
     DstMany(usize),
     /// The codec's next id becomes this one, counted from 0.
     Id(u8),
@@ -41,9 +41,9 @@ pub enum Step {
     Counting,
     /// The put of this number into `dst`, counted from 0 at this step, is refused.
     RefusePut(u64),
-    /// A packet is encoded behind `src`.
+    /// A packet is encoded after `src`.
     Encode(&'static [u8], Answer),
-    /// A packet of so many bytes `42` is encoded behind `src`.
+    /// A packet of this many bytes `42` is encoded after `src`.
     EncodeMany(usize, Answer),
     /// `decode` is called, and answers this.
     Decode(Answer),
@@ -51,11 +51,11 @@ pub enum Step {
     Chunk(usize, Answer),
     /// `src` is these bytes.
     Left(&'static [u8]),
-    /// `src` is so many bytes.
+    /// `src` is this many bytes.
     LeftMany(usize),
     /// `dst` is these bytes.
     Held(&'static [u8]),
-    /// `dst` is so many bytes `42`.
+    /// `dst` is this many bytes `42`.
     HeldMany(usize),
     /// What the decoder of single chunks remembers.
     Remembers(Remembered),
@@ -66,7 +66,7 @@ pub enum Step {
     /// How often `dst` was asked for room, and for how much at last. Targets that don't count
     /// skip this.
     Grew(u64, usize),
-    /// So many requests for memory may still come before the one that is refused.
+    /// This many requests for memory may still come before the one that is refused.
     Unasked(u64),
     /// Whether a request was refused.
     Refused(bool),

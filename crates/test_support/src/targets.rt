@@ -127,7 +127,7 @@ impl Buf for Trickle<'_> {
     }
 }
 
-/// So many zero bytes, which take no memory: a buffer of the tests' own that may be of any length.
+/// This many zero bytes, which take no memory: a buffer of the tests' own that may be of any length.
 #[derive(Drop)]
 pub struct Zeros {
     pub left: usize,

@@ -8,7 +8,7 @@ use crate::reference::between;
 use std::alloc::Allocator;
 use wire_repr::text::{BytesRepr, RawBytes};
 
-/// A text of 65536 bytes, none of them a zero, and two zeros behind it. It is shorter where memory
+/// A text of 65536 bytes, none of them a zero, and two zeros after it. It is shorter where memory
 /// is refused.
 pub fn letters<A: Allocator>(alloc: A) -> Vec<u8, A> {
     let mut text = Vec::new(alloc);
@@ -20,7 +20,7 @@ pub fn letters<A: Allocator>(alloc: A) -> Vec<u8, A> {
     text
 }
 
-/// How a text is written: the bytes before it, the text, what is read back of it, the bytes behind
+/// How a text is written: the bytes before it, the text, what is read back of it, the bytes after
 /// it, and how many of the requests for memory that this takes are refused in turn, at least.
 pub type Text<'a> = (&'a [u8], &'a [u8], &'a [u8], &'a [u8], u64);
 
@@ -63,7 +63,7 @@ pub fn is_text<T: BytesRepr<Ctx = C>, C: Copy, A: Allocator + Copy>(
     is_put & is_back::<T, C, A>(heap, alloc, ctx, (input, len), cut, short)
 }
 
-/// Whether at most so many bytes of a text are written, and it has this size.
+/// Whether at most this many bytes of a text are written, and it has this size.
 pub fn is_bounded<T: BytesRepr>(text: &[u8], most: usize, size: Option<usize>) -> bool {
     let is_cut = RawBytes::<T>::from(text).len() == text.len().min(most);
     let has_size = has_size::<RawBytes<'_, T>>(size) & (T::SIZE == size);
@@ -73,7 +73,7 @@ pub fn is_bounded<T: BytesRepr>(text: &[u8], most: usize, size: Option<usize>) -
 /// The length of a text, and what is written of that.
 pub type Row<'a> = (usize, &'a [u8]);
 
-/// Whether texts of these lengths, of some letters, are written behind their length, `most` bytes
+/// Whether texts of these lengths, of some letters, are written after their length, `most` bytes
 /// of them at most. A length is eaten, where it is there, and else as `eaten` says.
 pub fn are_texts<T: BytesRepr<Ctx = ()>, A: Allocator + Copy>(
     heap: &Heap,

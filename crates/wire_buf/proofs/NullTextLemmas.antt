@@ -21,7 +21,7 @@ position_or_len-found bytes (Some end) (first, zero) =
     prefix_len_is (λ x. not (is_zero x)) bytes end 0 (omega (arith, first.high))
     (λ k below. not_true _ (first.before k (omega arith) below)) (λ _. ap not zero)
 
--- what is eaten up to the zero, and what is left behind it
+-- what is eaten up to the zero, and what is left after it
 pub parts-found : (bytes : List ℕ) (found : Option ℕ) → IsFirstByte (is_byte 0) bytes found
     → MatchOption found ((before_first is_zero bytes ≡ bytes) × (after_first is_zero bytes ≡ []))
     (λ end. (before_first is_zero bytes ≡ take end bytes)

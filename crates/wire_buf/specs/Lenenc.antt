@@ -3,7 +3,7 @@ use Rattle.std.specs.Prelude.{ℕ, ◌≡◌, ◌<◌, ◌^◌, nat_lt, if◌the
 use Rattle.wire_buf.specs.Numbers.{le_bytes}
 use Rattle.wire_buf.specs.Spelling.{IsBehind}
 
--- one byte below 251; or fc, fd or fe, and behind it 2, 3 or 8 bytes
+-- one byte below 251; or fc, fd or fe, and after it 2, 3 or 8 bytes
 abbrev pub IsLenenc : ℕ → List ℕ → Type 0
 IsLenenc n bytes = ((bytes ≡ n ∷ []) × (n < 251)) ⊎ IsBehind 0xfc 2 n bytes
     ⊎ IsBehind 0xfd 3 n bytes ⊎ IsBehind 0xfe 8 n bytes

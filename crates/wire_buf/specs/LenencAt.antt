@@ -15,7 +15,7 @@ abbrev pub fixed_at : ℕ → List ℕ → Option ℕ × ℕ
 fixed_at count old = if nat_lt (length old) count then (None, 0)
     else (Some (le_number (take count old)), count)
 
--- count bytes behind the first one, or that one alone
+-- count bytes after the first one, or that one alone
 abbrev pub behind_at : ℕ → List ℕ → Option ℕ × ℕ
 behind_at count rest = if nat_lt (length rest) count then (None, 1)
     else (Some (le_number (take count rest)), 1 + count)
@@ -30,7 +30,7 @@ lenenc_at (first ∷ rest) =
     else (if nat_eq first 0xfb then (Some 0, 1)
     else (if nat_eq first 0xff then (Some 0, 1) else (None, 1))))))
 
--- a text behind a length that was answered so
+-- a text after a length that was answered so
 abbrev pub text_behind : Option ℕ × ℕ → List ℕ → Option (List ℕ) × ℕ
 text_behind (None, eaten) old = (None, eaten)
 text_behind (Some len, eaten) old =

@@ -8,7 +8,7 @@ use Rattle.wire_buf.specs.Spelling.{IsBehind, EatsSpelling, HoldsNumber, SpellsN
 use Rattle.wire_buf.specs.SpellingLemmas.{IsPrefixFree, same_parts}
 use Rattle.wire_buf.specs.Lenenc.{IsLenenc, IsLenencOrMark}
 
--- how many bytes stand behind a first byte
+-- how many bytes stand after a first byte
 abbrev pub count_behind : ℕ → ℕ
 count_behind first =
     if nat_eq first 0xfc then 2 else
@@ -74,7 +74,7 @@ nothing_in-nil n rest (spelling, is, whole) =
     let e : [] ≡ f ∷ (r ++ rest) = whole ∙ ap (λ l. l ++ rest) left in
     cc e
 
--- too few bytes stand behind the first
+-- too few bytes stand after the first
 pub nothing_in_short : (first : ℕ) (mid : List ℕ) → length mid < count_behind first
     → SpellsNothing IsLenencOrMark (first ∷ mid)
 nothing_in_short first mid short n rest (spelling, is, whole) =
@@ -85,7 +85,7 @@ nothing_in_short first mid short n rest (spelling, is, whole) =
     let more : length mid ≡ length r + length rest = ap length parts ∙ length-append r rest in
     omega (arith, short, more, len, ap count_behind same)
 
--- an integer behind its first byte
+-- an integer after its first byte
 pub reads_behind : (first count : ℕ) (old mid : List ℕ) (answer : Option ℕ) (new : List ℕ)
     → old ≡ first ∷ mid
     → count_behind first ≡ count

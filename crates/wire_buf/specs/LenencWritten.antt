@@ -26,7 +26,7 @@ lenenc_bytes-is n fits = elim (cases_lt n 251) [
   ]
 ]
 
--- of so many bytes
+-- of this many bytes
 pub length-lenenc_bytes : (n : ℕ)
     → length (lenenc_bytes n)
     ≡ (if nat_lt n 251 then 1 else
@@ -57,7 +57,7 @@ IsBytes-lenenc_bytes n = elim (cases_lt n 251) [
   ]
 ]
 
--- so many bytes behind a first one hold no larger number
+-- this many bytes after a first one hold no larger number
 behind_below : (first count n : ℕ) (bytes : List ℕ) → IsBytes bytes → IsBehind first count n bytes
     → (length bytes ≡ 1 + count) × (n < 256 ^ count)
 behind_below first count n bytes are (rest, is, len, value) =

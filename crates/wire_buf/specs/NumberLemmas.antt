@@ -60,7 +60,7 @@ le_number-le_bytes_fits count n fits = le_number-le_bytes count n ∙ mod-eq_of_
 pub be_number-reverse : (bytes : List ℕ) → be_number (reverse bytes) ≡ le_number bytes
 be_number-reverse bytes = ap le_number (reverse-reverse bytes)
 
--- a number of so many bytes fits them
+-- a number of this many bytes fits them
 pub le_number-lt : (bytes : List ℕ) → IsBytes bytes → le_number bytes < 256 ^ length bytes
 le_number-lt [] are = omega arith
 le_number-lt (byte ∷ bytes) are =

@@ -7,7 +7,7 @@ use Rattle.wire_buf.specs.declared.error.WireError.TheVariants.{UnexpectedEof}
 abbrev pub Eats : {X : Type 0} → ℕ → (List ℕ → X) → List ℕ → X → List ℕ → Type 0
 Eats count value old answer new = (answer ≡ value (take count old)) × (new ≡ drop count old)
 
--- the same where there are so many bytes; otherwise there is no answer, and nothing is eaten
+-- the same where there are this many bytes; otherwise there is no answer, and nothing is eaten
 abbrev pub EatsIfThere : {X : Type 0} → ℕ → (List ℕ → X) → List ℕ → Option X → List ℕ → Type 0
 EatsIfThere count value old None new = (length old < count) × (new ≡ old)
 EatsIfThere count value old (Some answer) new = (count ≤ length old)

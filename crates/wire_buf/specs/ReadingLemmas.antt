@@ -5,7 +5,7 @@ use Rattle.wire_buf.specs.declared.error.WireError.{WireError}
 use Rattle.wire_buf.specs.declared.error.WireError.TheVariants.{UnexpectedEof}
 use Rattle.wire_buf.specs.Reading.{Reads, Parses}
 
--- a value that `parse` answers of a type with a size: so many bytes were there, they are eaten, and
+-- a value that `parse` answers of a type with a size: this many bytes were there, they are eaten, and
 -- they alone were read
 pub parsed_fixed : {X : Type 0} (reads : List ℕ → Result X WireError → ℕ → Type 0) (size : ℕ)
     (old new : List ℕ) (value : X) → Reads (Parses (Some size) reads) old (Ok value) new
@@ -31,12 +31,12 @@ pub eats_first : (count : ℕ) (all old new : List ℕ) → old ≡ all → new 
     → new ≡ drop count all
 eats_first count all old new was left = left ∙ ap (drop count) was
 
--- more are eaten, behind those that were
+-- more are eaten, after those that were
 pub eats_on : (at count : ℕ) (all old new : List ℕ) → old ≡ drop at all → new ≡ drop count old
     → new ≡ drop (at + count) all
 eats_on at count all old new was left = left ∙ ap (drop count) was ∙ drop-drop count at all
 
--- the value of the bytes behind those that were eaten
+-- the value of the bytes after those that were eaten
 pub value_at : {X : Type 0} (at count : ℕ) (value : List ℕ → X) (all old : List ℕ) (x : X)
     → old ≡ drop at all → x ≡ value (take count old) → x ≡ value (take count (drop at all))
 value_at at count value all old x was is = is ∙ ap (λ bytes. value (take count bytes)) was

@@ -1,9 +1,9 @@
--- Numbers that bytes spell, and texts behind their length. A spelling is an encoding: bytes that
+-- Numbers that bytes spell, and texts after their length. A spelling is an encoding: bytes that
 -- stand for a number. A format is given by its relation `spells` of a number and its spellings.
 use Rattle.std.specs.Prelude.{ℕ, ◌≡◌, ◌<◌, ◌≤◌, List, ◌∷◌, ◌++◌, length, drop, Option, Some, None, ◌⊎◌}
 use Rattle.wire_buf.specs.Numbers.{le_number, IsBytes}
 
--- this first byte, and behind it count bytes whose number is n
+-- this first byte, and after it count bytes whose number is n
 abbrev pub IsBehind : ℕ → ℕ → ℕ → List ℕ → Type 0
 IsBehind first count n bytes = (rest : List ℕ) × (bytes ≡ first ∷ rest) × (length rest ≡ count)
     × (n ≡ le_number rest)
@@ -25,7 +25,7 @@ abbrev pub SpellsNothing : (ℕ → List ℕ → Type 0) → List ℕ → Type 0
 SpellsNothing spells bytes = (n : ℕ) (rest : List ℕ) → ¬ EatsSpelling spells bytes n rest
 
 -- A number is answered where a front of the bytes spells one, and that front is eaten. Otherwise so
--- many bytes are, where there are so many.
+-- many bytes are, where there are this many.
 abbrev pub ReadsNumber : (ℕ → List ℕ → Type 0) → ℕ → List ℕ → Option ℕ → List ℕ → Type 0
 ReadsNumber spells lost old None new = SpellsNothing spells old × (new ≡ drop lost old)
 ReadsNumber spells lost old (Some n) new = EatsSpelling spells old n new
@@ -34,11 +34,11 @@ ReadsNumber spells lost old (Some n) new = EatsSpelling spells old n new
 abbrev pub EatsText : (ℕ → List ℕ → Type 0) → List ℕ → List ℕ → List ℕ → Type 0
 EatsText spells old text new = EatsSpelling spells old (length text) (text ++ new)
 
--- a front of the bytes is a text behind its length
+-- a front of the bytes is a text after its length
 abbrev pub HoldsText : (ℕ → List ℕ → Type 0) → List ℕ → Type 0
 HoldsText spells bytes = (text : List ℕ) × (rest : List ℕ) × EatsText spells bytes text rest
 
--- A text is answered where its length is there, and so many bytes behind it. Where the length is
+-- A text is answered where its length is there, and this many bytes after it. Where the length is
 -- cut short, what `ReadsNumber` says is eaten, and where the text is, its length.
 abbrev pub ReadsText : (ℕ → List ℕ → Type 0) → ℕ → List ℕ → Option (List ℕ) → List ℕ → Type 0
 ReadsText spells lost old (Some text) new = EatsText spells old text new

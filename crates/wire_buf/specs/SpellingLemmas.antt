@@ -75,7 +75,7 @@ IsSpelling-from spells free n bytes is = (
       (bytes, is, refl),
 )
 
--- a number of so many bytes
+-- a number of this many bytes
 pub IsFixed-free : (count : ℕ) → IsPrefixFree (IsFixed count)
 IsFixed-free count n m a b x y is_a is_b whole =
     let same = same_parts a b x y whole (is_a.0 ∙ sym is_b.0) in
@@ -95,7 +95,7 @@ ReadsNumber-fixed count old (Some n) new (there, value, left) = (
   sym (ap (λ l. take count old ++ l) left ∙ take-append-drop count old),
 )
 
--- a text behind its length
+-- a text after its length
 pub EatsText-take : (spells : ℕ → List ℕ → Type 0) (old mid text new : List ℕ) (len : ℕ)
     → EatsSpelling spells old len mid
     → len ≤ length mid → text ≡ take len mid → new ≡ drop len mid → EatsText spells old text new
@@ -114,7 +114,7 @@ text_there spells free old mid len (text, rest, holds) read =
     let same = EatsSpelling-same spells free old len (length text) mid (text ++ rest) read holds in
     omega (arith, same.0, ap length same.1, length-append text rest)
 
--- a length of so many bytes
+-- a length of this many bytes
 pub eats_fixed : (count : ℕ) (old mid : List ℕ) (len : ℕ) → HoldsText (IsFixed count) old
     → Eats count le_number old len mid → EatsSpelling (IsFixed count) old len mid
 eats_fixed count old mid len (text, rest, (spelling, is, whole)) (value, left) =
@@ -122,7 +122,7 @@ eats_fixed count old mid len (text, rest, (spelling, is, whole)) (value, left) =
     omega (arith, is.0, ap length whole, length-append spelling (text ++ rest)) in
     ReadsNumber-fixed count old (Some len) mid (there, value, left)
 
--- so many bytes are the text
+-- this many bytes are the text
 pub eats_text : (spells : ℕ → List ℕ → Type 0) → IsPrefixFree spells
     → (old mid text new : List ℕ) (len : ℕ) → HoldsText spells old → EatsSpelling spells old len mid
     → text ≡ take len mid → new ≡ drop len mid → EatsText spells old text new

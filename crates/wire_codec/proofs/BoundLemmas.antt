@@ -13,7 +13,7 @@ use Rattle.wire_codec.proofs.ConstantLimit.{one, one_delivers}
 use Rattle.wire_codec.proofs.LimitedLemmas.{under_most}
 use Rattle.wire_codec.proofs.GoingOnLemmas.{length-input}
 
--- with what waits behind it, it is at most the rest of a header more
+-- with what waits after it, it is at most the rest of a header more
 waiting_bounded : (limit most : ℕ) (unfinished rest : List ℕ) → length unfinished ≤ most → limit ≤ most
     → IsWaiting limit unfinished rest → length unfinished + length rest ≤ most + 3
 waiting_bounded limit most unfinished rest few less (inl short) = omega arith

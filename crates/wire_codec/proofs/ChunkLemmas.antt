@@ -51,7 +51,7 @@ pub last_block : (n : ℕ) → 0 < n → (i : ℕ) × (i * max_payload < n) × (
 unfolding max_payload
 last_block n some = ((n - 1) / max_payload, omega arith, omega arith)
 
--- what ends with full chunks, and a chunk in it, or behind it
+-- what ends with full chunks, and a chunk in it, or after it
 pub whole_end : (i n : ℕ) → n % max_payload ≡ 0 → i * max_payload < n → i * max_payload + max_payload ≤ n
 unfolding max_payload
 whole_end i n whole inside = omega arith
@@ -95,7 +95,7 @@ chunks-append_le (suc n) s p r h =
     ap (λ z. take max_payload z) (drop-append-le (n * max_payload) p r before) ∙ take-append-le max_payload (drop (n * max_payload) p) r room in
     rw (chunks-append_le n s p r before, e) refl
 
--- one more chunk behind full ones
+-- one more chunk after full ones
 pub chunks-push : (k s : ℕ) (q c : List ℕ) → length q ≡ k * max_payload → length c ≤ max_payload
     → chunks (suc k) s (q ++ c) ≡ chunks k s q ++ chunk (s + k) c
 chunks-push k s q c hq hc =
@@ -134,7 +134,7 @@ block n p = take max_payload (drop (n * max_payload) p)
 pub length-block : (n : ℕ) (p : List ℕ) → length (block n p) ≤ max_payload
 length-block n p = rw length-take (omega arith)
 
--- behind full chunks of a longer payload stands its next one
+-- after full chunks of a longer payload stands its next one
 pub next_chunk : (s a more : ℕ) (q p W y : List ℕ) → a * max_payload ≤ length q → a * max_payload ≤ length p → chunks a s q ++ W ≡ chunks (suc a + more) s p ++ y
     → (take (a * max_payload) q ≡ take (a * max_payload) p) × (W ≡ chunk (s + a) (block a p) ++ (chunks more (s + suc a) (drop (suc a * max_payload) p) ++ y))
 next_chunk s a more q p W y long_q long_p same =
@@ -211,7 +211,7 @@ chunks_more written old left_bytes payload count first id len is_left is_id is_l
     ∙ append_assoc old (chunks count first payload) (chunk (first + count) (take max_payload (drop (count * max_payload) payload)))
     ∙ ap (λ (n : ℕ). old ++ chunks n first payload) (sym (add-one count))
 
--- what is left behind it
+-- what is left after it
 pub left_more : (left_bytes payload : List ℕ) (count len : ℕ)
     → left_bytes ≡ drop (count * max_payload) payload → len ≡ min (length left_bytes) max_payload
     → drop len left_bytes ≡ drop ((count + 1) * max_payload) payload
@@ -220,7 +220,7 @@ left_more left_bytes payload count len is_left is_len =
     ∙ ap (λ (z : List ℕ). drop max_payload z) is_left ∙ drop-drop max_payload (count * max_payload) payload
     ∙ ap (λ (n : ℕ). drop n payload) (omega arith)
 
--- nothing is left behind the last chunk
+-- nothing is left after the last chunk
 pub left_nothing : (left_bytes payload : List ℕ) (count : ℕ)
     → left_bytes ≡ drop (count * max_payload) payload → count ≡ length payload / max_payload + 1 → left_bytes ≡ []
 left_nothing left_bytes payload count is_left all =
@@ -240,7 +240,7 @@ framing_short s p short =
     ∙ ap₂ (λ (n : ℕ) (z : List ℕ). chunk n (take max_payload z)) (omega arith) (ap (λ (n : ℕ). drop n p) first)
     ∙ ap (λ (z : List ℕ). chunk s z) (take_all max_payload p (omega arith))
 
--- a payload that lies in one piece, put behind its header
+-- a payload that lies in one piece, put after its header
 pub piece_framed : (old hdr piece new payload : List ℕ) (id len : ℕ) → len ≡ length payload → len < max_payload
     → length piece ≡ len → take (length piece) payload ≡ piece → hdr ≡ header len id → new ≡ (old ++ hdr) ++ piece
     → new ≡ old ++ framing id payload
@@ -277,7 +277,7 @@ length-framing s p =
 
 pub ruleset framing_laws = (length-framing)
 
--- bytes written at a place, and others behind them
+-- bytes written at a place, and others after them
 pub put_twice : (old mid new a b : List ℕ) (at : ℕ) → at + length a ≤ length old → mid ≡ take at old ++ a ++ drop (at + length a) old
     → new ≡ take (at + length a) mid ++ b ++ drop (at + length a + length b) mid
     → new ≡ take at old ++ (a ++ b) ++ drop (at + length a + length b) old
@@ -301,7 +301,7 @@ put_chunk_there old mid new hdr bytes at id four is fits mid_is new_is =
     (subst (λ (n : ℕ). new ≡ take n mid ++ bytes ++ drop (n + length bytes) mid) (sym e) new_is) in
     both ∙ ap₂ (λ (u : List ℕ) (n : ℕ). take at old ++ (u ++ bytes) ++ drop (n + length bytes) old) is e
 
--- one chunk more of a payload, written behind the others
+-- one chunk more of a payload, written after the others
 pub chunk_behind : (old room new packet rest bytes : List ℕ) (at count first id len : ℕ) → room ≡ chunks count first packet ++ drop at old
     → length (chunks count first packet) ≡ at → new ≡ take at room ++ chunk id bytes ++ drop (at + 4 + length bytes) room → bytes ≡ take len rest
     → rest ≡ drop (count * max_payload) packet → id ≡ (first + count) % 256 → len ≡ min (length rest) max_payload

@@ -67,7 +67,7 @@ pub one_delivery_is : OneDelivery
 one_delivery_is held input s limit ps qs e f q r W V a b =
     one_delivery_under_is (one limit) 0 held input s ps qs e f q r W V (one_delivers 0 a) (one_delivers 0 b)
 
--- what a stream of payloads within the limit, with anything behind it, delivers: these payloads first
+-- what a stream of payloads within the limit, with anything after it, delivers: these payloads first
 pub encoded_first_is : EncodedFirst
 encoded_first_is s L [] qs x e q W small d = (qs, refl, d)
 encoded_first_is s L (p ∷ ps) [] x e q W small d =

@@ -69,12 +69,12 @@ unfolding chunk
 length-chunk i c r = simp length-append (omega arith)
 
 -- the chunk of this number of the payload is within the limit, where it is not empty and stands
--- behind the bytes that come before it
+-- after the bytes that come before it
 abbrev pub FitsAt : ℕ → ℕ → List ℕ → List ℕ → List ℕ → Type 0
 FitsAt limit index before rest payload =
     index * max_payload < length payload → length before + chunk_len rest ≡ min (length payload) (index * max_payload + max_payload) → length before + chunk_len rest ≤ limit
 
--- what the header behind full chunks of a longer payload says
+-- what the header after full chunks of a longer payload says
 pub next_len : (s a more : ℕ) (q p W y : List ℕ) → length q ≡ a * max_payload → a * max_payload ≤ length p
     → chunks a s q ++ W ≡ chunks (suc a + more) s p ++ y → chunk_len W ≡ min max_payload (length p - a * max_payload)
 next_len s a more q p W y len_q long same =

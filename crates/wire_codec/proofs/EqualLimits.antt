@@ -29,7 +29,7 @@ map_are a b place held (p ∷ ps) q goes c = (
   map_are a b (place + framed_size p) [] ps q (λ x n later. goes x n (omega arith)) c.1,
 )
 
--- to this one, behind the remembered header, and from it
+-- to this one, after the remembered header, and from it
 allows_one : (limits : Limits) (L : ℕ) (d src : List ℕ) → SameLimit limits L d src → (x n : ℕ) → chunk_place 0 (length d / max_payload) + 3 < x → Allows (limits x) n → n ≤ L
 allows_one limits L d src same x n behind allows =
     elim (same x) [ inl is ↦ subst (λ (b : Option ℕ). Allows b n) is allows | inr here ↦ absurd (let e = here.0 in omega arith) ]

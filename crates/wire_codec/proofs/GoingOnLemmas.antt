@@ -33,7 +33,7 @@ outcome_under answer {limits = limits} {place = place} {h = Some (id, needed)} {
     outcome_finished (rest_limit limits place held src) src held answer header rest dst g.aligned.0 s.0 (omega (arith, s.2, s.3))
     (allows_bound (limit_at limits place (length held / max_payload)) (length held + chunk_len src) allowed) (rw (s.1, s.2) d)
 
--- where the header behind the chunk in front stands, past the mark
+-- where the header after the chunk in front stands, past the mark
 behind_mark : (limits : Limits) (mark place limit : ℕ) (h : Option (ℕ × ℕ)) (src held : List ℕ) → GoesOnAt limits mark place limit h src held
     → mark ≤ unread_place place held + (chunk_len src + 7)
 behind_mark limits mark place limit None src held g = let m = g.marked in omega (arith, m)
@@ -154,7 +154,7 @@ failed_under error first {limits = limits} {mark = mark} {place = place} {limit 
       λ e. behind_mark limits mark place limit h src held g,
     )
 
--- a full chunk with nothing behind it
+-- a full chunk with nothing after it
 pub alone_under : {limits : Limits} {mark place limit first id : ℕ} (src : List ℕ) {held : List ℕ} {header : Option (ℕ × ℕ)} {rest dst : List ℕ}
     → length rest ≡ 0 → SplitsUnder limits place held (front first held ++ src) first [] dst rest × (id ≡ id_at first dst) × GoesOnAt limits mark place limit header rest dst × (header ≡ None)
     → DecodesOn limits mark place first (front first held ++ src) held (Ok false) id header rest dst

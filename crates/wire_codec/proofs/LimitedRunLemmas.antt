@@ -36,7 +36,7 @@ splits_push {s = s} {ps = ps} {p = p} V a e c = splits_trans a (record {
   within = (c, record { begins = refl; small = λ index from some. absurd (omega arith) });
 })
 
--- and goes on behind it
+-- and goes on after it
 pub goes_on_pushed : {limits : Limits} {mark place limit : ℕ} (s : ℕ) {h : Option (ℕ × ℕ)} (header : Option (ℕ × ℕ)) {q W : List ℕ} (p V : List ℕ)
     → GoesOnAt limits mark place limit h W q → front s q ++ W ≡ framing s p ++ V → header ≡ None → mark ≤ place + framed_size p + 3 → length V ≤ length W
     → GoesOnAt limits mark (place + framed_size p) limit header V []
@@ -175,7 +175,7 @@ run_limits_have state pieces aligned =
     (not_remembered state.header _ (0 + n + i) apart) (le-ltb (0 + n + i) n (omega arith))
     ∙ ap (λ (m : ℕ). Some (piece_limit state.limit pieces m)) (omega arith))
 
--- more bytes behind change nothing of what is there
+-- more bytes after change nothing of what is there
 aligned_append : (header : Option (ℕ × ℕ)) (src x held : List ℕ) → AlignedAt header src held → AlignedAt header (src ++ x) held
 aligned_append None src x held s = s
 aligned_append (Some h) src x held s =

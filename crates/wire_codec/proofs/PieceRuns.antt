@@ -17,7 +17,7 @@ use Rattle.wire_codec.proofs.TakenChunk.{open_small}
 abbrev pub with_unread : ℕ → List ℕ → CodecState → CodecState
 with_unread limit unread state = record { limit = limit; id = state.id; header = state.header; unread = unread; held = state.held }
 
--- what a run that began in this place made of the first pieces, so many of them
+-- what a run that began in this place made of the first pieces, this many of them
 abbrev RunsIn : {O : Type 0} → (O → List (List ℕ) → O → Type 0) → Limits → ℕ → CodecState → Pieces → ℕ → Result (Unit {0}) PacketCodecError → O → O → CodecState → Type 0
 RunsIn took limits place before pieces count answer old now state =
     (gained : List (List ℕ)) × took old gained now
@@ -32,7 +32,7 @@ StopsIn took limits mark place before pieces count answer old now state =
 abbrev InPlaces : CodecState → Pieces → (Limits → ℕ → ℕ → Type 0) → Type 0
 InPlaces before pieces A = (limits : Limits) (mark place : ℕ) → GoesOn limits mark place before → HavePieceLimits limits (place + length (input_of before)) pieces → A limits mark place
 
--- a run over the first pieces, so many of them, that waits
+-- a run over the first pieces, this many of them, that waits
 pub record HasRun {O : Type 0} (took : O → List (List ℕ) → O → Type 0) (before : CodecState) (pieces : Pieces) (count : ℕ) (old now : O) (state : CodecState) : Type 0 where
   pub limit : state.limit ≡ last_limit before.limit (take count pieces)
   pub waits : (j : ℕ) → j < count → WaitsLimited before pieces j
@@ -164,7 +164,7 @@ refuses_piece {took = took} error {before = before} {pieces = pieces} {i = i} {o
     remembers_on (run.1 e) long (omega arith))
     inside so_far.waits so_far.limit
 
--- it stops behind a piece
+-- it stops after a piece
 pub stops_behind : {O : Type 0} {took : O → List (List ℕ) → O → Type 0} (joins : (a b c : O) (ps qs : List (List ℕ)) → took a ps b → took b qs c → took a (ps ++ qs) c)
     (error : PacketCodecError) {before : CodecState} {pieces : Pieces} {i : ℕ} {old mid : O} (new : O) {state : CodecState} {piece : ℕ × Bor (List ℕ)} {limit : ℕ} {unread : List ℕ} (after : CodecState)
     → Aligned before → HasRun took before pieces i old mid state → Comes pieces i state piece limit unread

@@ -28,7 +28,7 @@ pub next_open : (s : ℕ) (ps : List (List ℕ)) (id : ℕ) (p : List ℕ) → i
 unfolding max_payload
 next_open s ps id p e h = (omega arith) ∙ e ∙ sym (id_after-append s ps (p ∷ []))
 
--- more bytes behind change nothing of what is there
+-- more bytes after change nothing of what is there
 pub chunk_len_append : (W x : List ℕ) → 4 ≤ length W → chunk_len (W ++ x) ≡ chunk_len W
 chunk_len_append W x h = ap le_number (take-append-le 3 W x (omega arith))
 

@@ -66,7 +66,7 @@ dropped_part {header = header} {left = left} {held = held} {count = count} more 
       },
     )
 
--- the payload of the open chunk, behind the full ones
+-- the payload of the open chunk, after the full ones
 abbrev pub joined_held : CodecState → List ℕ
 joined_held full = full.held ++ take (chunk_len full.unread) (drop 4 full.unread)
 

@@ -13,7 +13,7 @@ use Rattle.wire_codec.specs.LimitedRuns.{AlignedAt, WasAllowed, unread_place, li
 
 -- the codec goes on here with the packet that is framed from this place on: the bytes from the mark
 -- on came under its own limit; before the mark there is no header that isn't remembered, and no
--- header behind the remembered one, which is within the limit of its fourth byte
+-- header after the remembered one, which is within the limit of its fourth byte
 pub record GoesOnAt (limits : Limits) (mark place limit : ℕ) (header : Option (ℕ
     × ℕ)) (src held : List ℕ) : Type 0 where
   pub aligned : AlignedAt header src held
@@ -35,7 +35,7 @@ HasLimits limits place state =
     → limits (unread_place place state.held + i) ≡ Some state.limit)
     × WasAllowed limits place state.header state.held
 
--- the mark stays where it is, behind what was taken
+-- the mark stays where it is, after what was taken
 abbrev pub KeepsMark : ℕ → ℕ → Result Bool PacketCodecError → List ℕ → List ℕ → Type 0
 KeepsMark mark place (Ok true) src dst = mark ≤ place + framed_size dst + 3
 KeepsMark mark place (Ok false) src dst = ⊤

@@ -19,7 +19,7 @@ HasFront state =
     × (chunk_len state.unread < max_payload) × (slice_index state.unread 3 ≡ state.id)
     × MatchOption state.header (chunk_len state.unread ≤ state.limit) (λ h. ⊤)
 
--- what stands behind the packet in front, as `decode` would leave it, with the packet in `dst`
+-- what stands after the packet in front, as `decode` would leave it, with the packet in `dst`
 abbrev pub behind_front : CodecState → CodecState
 behind_front state = record {
   limit = state.limit;

@@ -85,7 +85,7 @@ JoinedSplits =
     ++ (rest ++ more)) (id_after open_id payloads) limit others another left
     → Splits held (input ++ more) open_id limit (payloads ++ others) another left
 
--- the same where each byte has its limit: the second run begins at the place behind the payloads of
+-- the same where each byte has its limit: the second run begins at the place after the payloads of
 -- the first
 abbrev pub JoinedLimitedRuns : Type 0
 JoinedLimitedRuns =
@@ -117,8 +117,8 @@ FramedLength =
     → length (framing first_id payload)
     ≡ length payload + 4 * (length payload / max_payload + 1)
 
--- what a stream delivers, with anything behind it, begins with its payloads; the others are
--- delivered of what is behind it
+-- what a stream delivers, with anything after it, begins with its payloads; the others are
+-- delivered of what is after it
 abbrev pub EncodedFirst : Type 0
 EncodedFirst =
     (first_id limit : ℕ) (payloads delivered : List (List ℕ)) (more : List ℕ)
@@ -128,7 +128,7 @@ EncodedFirst =
     → (others : List (List ℕ)) × (delivered ≡ payloads ++ others)
     × Delivers [] more (id_after first_id payloads) limit others ending unfinished rest
 
--- two streams, one behind the other, are one
+-- two streams, one after the other, are one
 abbrev pub StreamAppend : Type 0
 StreamAppend =
     (first_id : ℕ) (payloads others : List (List ℕ))
@@ -184,7 +184,7 @@ EmptyGoesOn =
     (limits : Limits) (place id limit : ℕ) → GoesOn limits place place (empty_state id limit)
 
 -- an aligned codec goes on in a stream under whose limits its bytes came; the bytes that come next
--- stand behind those to be read
+-- stand after those to be read
 abbrev pub AlignedGoesOn : Type 0
 AlignedGoesOn =
     (limits : Limits) (place : ℕ) (state : CodecState) → Aligned state

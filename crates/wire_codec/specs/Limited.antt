@@ -8,7 +8,7 @@ use Rattle.wire_codec.specs.Delivery.{chunk_len, IsWholeChunks, Ending, Ends}
 abbrev pub Limits : Type 0
 Limits = ℕ → Option ℕ
 
--- a packet of so many bytes is within this limit
+-- a packet of this many bytes is within this limit
 abbrev pub Allows : Option ℕ → ℕ → Type 0
 Allows None size = ⊤
 Allows (Some limit) size = size ≤ limit
@@ -17,7 +17,7 @@ Allows (Some limit) size = size ≤ limit
 abbrev pub AreAtMost : ℕ → Limits → Type 0
 AreAtMost most limits = (place : ℕ) → MatchOption (limits place) ⊥ (λ limit. limit ≤ most)
 
--- what a packet of so many bytes is compared with
+-- what a packet of this many bytes is compared with
 abbrev pub bound : Option ℕ → ℕ → ℕ
 bound None size = size
 bound (Some limit) size = limit
@@ -30,7 +30,7 @@ chunk_place place index = place + (index * max_payload + 4 * index)
 abbrev pub framed_size : List ℕ → ℕ
 framed_size payload = length payload + 4 * (length payload / max_payload + 1)
 
--- the place behind these payloads, framed from this place on
+-- the place after these payloads, framed from this place on
 abbrev pub place_after : ℕ → List (List ℕ) → ℕ
 place_after place [] = place
 place_after place (payload ∷ payloads) = place_after (place + framed_size payload) payloads
@@ -39,7 +39,7 @@ place_after place (payload ∷ payloads) = place_after (place + framed_size payl
 abbrev pub limit_at : Limits → ℕ → ℕ → Option ℕ
 limit_at limits place index = limits (chunk_place place index + 3)
 
--- a payload that is framed from this place on begins with what is held, and with each chunk behind
+-- a payload that is framed from this place on begins with what is held, and with each chunk after
 -- that it is within that chunk's limit
 pub record ContinuesUnder (limits : Limits) (place : ℕ) (held payload : List ℕ) : Type 0 where
   pub begins : take (length held) payload ≡ held
@@ -64,7 +64,7 @@ pub record SplitsUnder (limits : Limits) (place : ℕ) (held input : List ℕ) (
   pub unfinished_whole : IsWholeChunks unfinished
   pub within : AreUnder limits place held payloads unfinished
 
--- the limit of the fourth byte of the rest, behind the full chunks of a payload that is framed from
+-- the limit of the fourth byte of the rest, after the full chunks of a payload that is framed from
 -- this place on
 abbrev pub rest_limit : Limits → ℕ → List ℕ → List ℕ → ℕ
 rest_limit limits place unfinished rest = bound

@@ -21,7 +21,7 @@ AlignedAt header src held =
 abbrev pub Aligned : CodecState → Type 0
 Aligned state = AlignedAt state.header state.unread state.held
 
--- the place at which the bytes to be read begin, behind the full chunks of a payload that is framed
+-- the place at which the bytes to be read begin, after the full chunks of a payload that is framed
 -- from this place on
 abbrev pub unread_place : ℕ → List ℕ → ℕ
 unread_place place held = chunk_place place (length held / max_payload)
@@ -75,7 +75,7 @@ RunsUnder limits place first input held (Ok _) gained id header src dst =
 RunsUnder limits place first input held (Err PacketTooLarge) gained id header src dst =
     DeliversUnder limits place held input first gained TooLarge dst src
     × (id ≡ id_at (id_after first gained) dst) × (header ≡ None)
--- the chunk of another id is taken, and its bytes stand behind what is held
+-- the chunk of another id is taken, and its bytes stand after what is held
 RunsUnder limits place first input held (Err PacketsOutOfSync) gained id header src dst =
     (unfinished : List ℕ) × (rest : List ℕ) × DeliversUnder limits place held input first gained
     OutOfSync unfinished rest
@@ -117,7 +117,7 @@ DecodesAligned before answer after =
 abbrev pub DecodesWhereAligned : CodecState → Result Bool PacketCodecError → CodecState → Type 0
 DecodesWhereAligned before answer after = Aligned before → DecodesAligned before answer after
 
--- the same run over a longer input, of which these bytes are left behind what `src` holds
+-- the same run over a longer input, of which these bytes are left after what `src` holds
 abbrev pub LeavesUnder : Limits → ℕ → ℕ → List ℕ → List ℕ → Result (Unit {0}) PacketCodecError
     → List (List ℕ) → List ℕ → List ℕ → List ℕ → Type 0
 LeavesUnder limits place first input held (Ok _) gained src left dst = DeliversUnder limits place
@@ -138,7 +138,7 @@ abbrev pub WaitsUnder : Limits → ℕ → List ℕ → List ℕ → Type 0
 WaitsUnder limits first input held = (gained : List (List ℕ)) × (unfinished : List ℕ)
     × (rest : List ℕ) × DeliversUnder limits 0 held input first gained Waiting unfinished rest
 
--- over the first pieces, so many of them, a run from this state only waits
+-- over the first pieces, this many of them, a run from this state only waits
 abbrev pub WaitsLimited : CodecState → List (ℕ × Bor (List ℕ)) → ℕ → Type 0
 WaitsLimited before pieces count = WaitsUnder (run_limits before pieces) (first_id before)
     (input_of before ++ limited_bytes (take count pieces)) before.held

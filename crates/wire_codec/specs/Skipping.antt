@@ -26,7 +26,7 @@ abbrev pub header_at : Option OpenChunk → Option (ℕ × ℕ) → Option (ℕ 
 header_at None remembered = remembered
 header_at (Some begun) remembered = Some (begun.header.seq_id, begun.header.len)
 
--- what was dropped of the open chunk: its header, and all but so many of its bytes
+-- what was dropped of the open chunk: its header, and all but this many of its bytes
 abbrev pub IsGone : Option OpenChunk → List ℕ → List ℕ → Type 0
 IsGone None gone unread = gone ≡ []
 IsGone (Some begun) gone unread =
@@ -45,7 +45,7 @@ pub record WouldStand (skipped : Skipped) (codec : PacketCodec) (unread : List �
   pub held_is : length full.held ≡ skipped.held
   pub stands : Stands full
 
--- nothing was dropped, and the codec is behind the packet
+-- nothing was dropped, and the codec is after the packet
 abbrev pub IsBehind : Skipped → PacketCodec → List ℕ → CodecState → Type 0
 IsBehind skipped codec unread after =
     (skipped ≡ nothing_skipped) × (after ≡ codec_state codec unread after.held)
@@ -70,7 +70,7 @@ LeavesChunk (Ok More) skipped codec unread after = WouldStand skipped codec unre
 LeavesChunk (Err error) skipped codec unread after = LeavesSkip (Err error) skipped codec unread
     after
 
--- a codec at a chunk whose header was judged, and of which so many bytes are to be taken
+-- a codec at a chunk whose header was judged, and of which this many bytes are to be taken
 pub record AtChunk (header : Header) (left held : ℕ) (codec : PacketCodec) (unread : List ℕ)
     (full : CodecState) : Type 0 where
   pub limit : full.limit ≡ codec.max_allowed_packet

@@ -56,7 +56,7 @@ abbrev pub pieces_for : {P : Type 0} → (ℕ → P → ℕ × Bor (List ℕ)) �
     → List (ℕ × Bor (List ℕ))
 pieces_for limited codec pieces = pieces_under limited codec.max_allowed_packet pieces
 
--- a run over pieces, of which so many were appended: what it hands out and leaves, in a stream of
+-- a run over pieces, of which this many were appended: what it hands out and leaves, in a stream of
 -- its own and in the middle of any; how many pieces it took, and where the codec stands
 pub record RunsPieces {O : Type 0} (took : O → List (List ℕ) → O → Type 0) (before : CodecState)
     (pieces : List (ℕ × Bor (List ℕ))) (count : ℕ) (answer : Result (Unit {0}) PacketCodecError)

@@ -54,20 +54,20 @@ pub fn appended_run()
     ensures { AppendedRun }
 {}
 
-/// A framing with anything behind it is the framing of one payload alone.
+/// A framing with anything after it is the framing of one payload alone.
 #[tactic(auto, using(crate::proofs::ChunkLemmas::framing_cancel))]
 pub fn unique_framing()
     ensures { UniqueFraming }
 {}
 
-/// What is delivered of framed payloads within the limit, with anything behind them, begins with
-/// these payloads; the other payloads are delivered of what is behind them.
+/// What is delivered of framed payloads within the limit, with anything after them, begins with
+/// these payloads; the other payloads are delivered of what is after them.
 #[tactic(auto, using(crate::proofs::ConstantLimit::encoded_first_is))]
 pub fn encoded_first()
     ensures { EncodedFirst }
 {}
 
-/// Streams one behind the other are one stream, so that what one `encode` after another appends is.
+/// Streams one after the other are one stream, so that what one `encode` after another appends is.
 #[tactic(auto, using(crate::proofs::DeliveryLemmas::stream_laws))]
 pub fn stream_append()
     ensures { StreamAppend }

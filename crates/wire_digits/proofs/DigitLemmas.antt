@@ -82,13 +82,13 @@ unfolding encode_with
 length_digits table [] = refl
 length_digits table (b ∷ rest) = omega (arith, length_digits table rest)
 
--- the digits of one part behind those of another
+-- the digits of one part after those of another
 pub digits_more : (table first second : List ℕ) → encode_with table (first ++ second) ≡ encode_with table first ++ encode_with table second
 unfolding encode_with
 digits_more table [] second = refl
 digits_more table (b ∷ rest) second = ap (λ (z : List ℕ). slice_index table (b / 16) ∷ slice_index table (b % 16) ∷ z) (digits_more table rest second)
 
--- what more bytes behind them leave in front
+-- what more bytes after them leave in front
 pub front_digits : (bytes more : List ℕ) → take (2 * length bytes) (encode_lower (bytes ++ more)) ≡ encode_lower bytes
 front_digits bytes more =
     let long = length_digits lower_digits bytes in
@@ -115,7 +115,7 @@ all_pushed bytes rest held text so_far =
     ap (λ (z : List ℕ). z ++ encode_lower rest) so_far.2 ∙ append_assoc held (encode_lower so_far.0) (encode_lower rest)
     ∙ ap (λ (z : List ℕ). held ++ z) (sym (digits_more lower_digits so_far.0 rest) ∙ ap encode_lower so_far.1)
 
--- the digits in front, where what is behind them does not count
+-- the digits in front, where what is after them does not count
 pub last_pushed : (bytes copied more digits held left : List ℕ) → copied ≡ bytes → digits ≡ encode_lower (copied ++ more) → left ≡ held ++ take (2 * length bytes) digits
     → left ≡ held ++ encode_lower bytes
 last_pushed bytes copied more digits held left copied_is digits_is left_is =

@@ -30,7 +30,7 @@ fn low_digits(bytes: u8x16) -> u8x16
     u8x16::from_array(DIGITS).swizzle_dyn(bytes & u8x16::splat(15))
 }
 
-// Both digits of each of sixteen bytes, one byte's behind the other's.
+// Both digits of each of sixteen bytes, one byte's after the other's.
 #[inline(always)]
 fn digits_of(bytes: &[u8]) -> [u8; 32]
     requires { length bytes.now ≡ 16 }
@@ -47,7 +47,7 @@ fn digits_of(bytes: &[u8]) -> [u8; 32]
     digits.to_array()
 }
 
-// Fills a place with two parts, one behind the other.
+// Fills a place with two parts, one after the other.
 #[inline(always)]
 fn fill(place: &mut [u8], front: &[u8], behind: &[u8])
     requires { length front.now + length behind.now ≡ length place.old }

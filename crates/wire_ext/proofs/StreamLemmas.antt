@@ -24,7 +24,7 @@ reads_byte (Some xs) None byte read low = absurd read
 reads_byte (Some xs) (Some ys) byte (there, value, left) low =
     (byte ∷ [], inl (refl, low), first_byte xs ys byte there value left)
 
--- and otherwise says how many bytes are behind it
+-- and otherwise says how many bytes are after it
 pub reads_behind : (first count : ℕ) (old mid new : Option (List ℕ)) (byte n : ℕ)
     → ReadsNumber big_number 1 old mid byte → byte ≡ first
     → ((n : ℕ) (bytes : List ℕ) → IsBehind first count n bytes → IsLenenc n bytes)

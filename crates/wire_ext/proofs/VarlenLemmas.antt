@@ -14,7 +14,7 @@ use Rattle.wire_buf.specs.SpellingLemmas.{IsPrefixFree, IsSpelling-from, same_pa
 use Rattle.wire_ext.specs.Varlen.{IsVarlenUint, IsMark, IsMarked, IsVarlenSize, varlen_bytes}
 use Rattle.wire_ext.proofs.MarkLemmas.{IsMark-same, IsMark-number, IsMark-byte, number_over-mark}
 
--- so many bits are held by so many bytes
+-- this many bits are held by this many bytes
 pub IsVarlenSize-from_bits : (value bits size : ℕ) → value < 2 ^ bits → 2 ^ bits ≤ 2 * value + 1
     → size ≡ max 1 (min (div_ceil bits 7) 9) → IsVarlenSize value size
 IsVarlenSize-from_bits value bits size above below is = record {
@@ -118,7 +118,7 @@ IsMarked-take (suc size) first old mid is low mark there =
     let len : length (first ∷ take size mid) ≡ suc size = ap suc (length-take-le size mid enough) in
     subst (λ l. IsMarked (take (suc size) l)) (sym is) (subst (λ n. IsMark n first) (sym len) mark)
 
--- eight of them behind ff
+-- eight of them after ff
 ends_in_ones : (first : ℕ) → first < 256 → IsMark 9 first → first ≡ 255
 ends_in_ones first small mark = omega arith
 
@@ -151,7 +151,7 @@ IsVarlenUint-marked (first ∷ rest) number high mark value =
 
 -- ---- what is written
 
--- a value that so many bytes hold leaves room for its mark
+-- a value that this many bytes hold leaves room for its mark
 number_fits : (size value : ℕ) → 1 ≤ size → value < 2 ^ (7 * size)
     → value * 2 ^ size + (2 ^ (size - 1) - 1) < 256 ^ size
 number_fits size value low holds =

@@ -4,14 +4,14 @@ use Rattle.wire_buf.specs.Numbers.{le_number, le_bytes}
 use Rattle.wire_buf.specs.Spelling.{IsBehind}
 
 -- One to eight bytes, the low bits of whose number are as many ones as there are further bytes, and
--- a zero, with the value above them. Or ff, and behind it the value in eight bytes.
+-- a zero, with the value above them. Or ff, and after it the value in eight bytes.
 abbrev pub IsVarlenUint : ℕ → List ℕ → Type 0
 IsVarlenUint value bytes =
     ((1 ≤ length bytes) × (length bytes ≤ 8)
     × (le_number bytes ≡ value * 2 ^ length bytes + (2 ^ (length bytes - 1) - 1)))
     ⊎ IsBehind 0xff 8 value bytes
 
--- the low bits of a first byte say that there are so many: as many ones as further bytes, and a
+-- the low bits of a first byte say that there are this many: as many ones as further bytes, and a
 -- zero
 abbrev pub IsMark : ℕ → ℕ → Type 0
 IsMark count byte = (byte + 1) % 2 ^ count ≡ 2 ^ (count - 1)
@@ -27,7 +27,7 @@ pub record IsVarlenSize (value size : ℕ) : Type 0 where
   pub holds : size ≤ 8 → value < 2 ^ (7 * size)
   pub needed : 2 ≤ size → 2 ^ (7 * (size - 1)) ≤ value
 
--- the spelling of a value in so many bytes
+-- the spelling of a value in this many bytes
 abbrev pub varlen_bytes : ℕ → ℕ → List ℕ
 varlen_bytes size value =
     if nat_eq size 9 then 0xff ∷ le_bytes 8 value

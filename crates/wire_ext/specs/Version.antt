@@ -10,7 +10,7 @@ is_dot byte = byte == 46
 abbrev pub is_no_digit : ℕ → Bool
 is_no_digit byte = not (is_ascii_digit byte)
 
--- the text has a dot, and these parts stand before and behind the first
+-- the text has a dot, and these parts stand before and after the first
 abbrev pub IsCut : List ℕ → List ℕ → List ℕ → Type 0
 IsCut text first second =
     (position_or_len is_dot text < length text) × (first ≡ before_first is_dot text)
@@ -20,7 +20,7 @@ IsCut text first second =
 abbrev pub IsPart : List ℕ → ℕ → Type 0
 IsPart digits n = IsNumeral 10 digits × (n ≡ digits_value 10 digits) × (n ≤ 255)
 
--- the same behind one plus, or behind one minus where they make 0
+-- the same after one plus, or after one minus where they make 0
 abbrev pub IsSignedPart : List ℕ → ℕ → Type 0
 IsSignedPart piece n =
     IsPart piece n

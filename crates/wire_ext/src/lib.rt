@@ -1,4 +1,4 @@
-//! Numbers whose length is in their first byte, and the texts behind them, over readers and writers;
+//! Numbers whose length is in their first byte, and the texts after them, over readers and writers;
 //! lengths, integers of the serialization library, and server versions.
 #![tactic(auto)]
 

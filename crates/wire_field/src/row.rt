@@ -184,7 +184,7 @@ impl<'de, T: Wire<'de, H>, U: Wire<'de, H>, H: Allocator + Copy> Wire<'de, H> fo
     ghost of_size = { λ either size value stated. Prim.cc };
 }
 
-/// Two values, the second behind the first. The context is a pair of theirs.
+/// Two values, the second after the first. The context is a pair of theirs.
 ///
 /// As a connection attribute's key and value:
 /// <https://dev.mysql.com/doc/dev/mysql-server/latest/page_protocol_connection_phase_packets_protocol_handshake_response.html>

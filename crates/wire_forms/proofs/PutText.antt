@@ -1,4 +1,4 @@
--- A text that was put behind its length is there whole, or is taken away again.
+-- A text that was put after its length is there whole, or is taken away again.
 use Rattle.std.proofs.Common.{ℕ, ◌≡◌, Bool, List, ◌++◌, length, take, Result, Ok, Err, OnOk, IfErr, IsTrue, IsFalse, is_ok, ◌⊎◌, inl, inr, arith, refl, sym, ap, subst, ◌∙◌}
 use Rattle.std.proofs.lemmas.List.{append_assoc, take_at, take_all}
 use Rattle.wire_buf.specs.declared.error.WireError.{WireError}

@@ -7,7 +7,7 @@ use Rattle.wire_buf.specs.declared.error.WireError.{WireError}
 use Rattle.wire_buf.specs.Reading.{Answers, front_at}
 use Rattle.wire_repr.specs.Law.{ReadsFixed, ReadsFixed-back}
 
--- the first bytes of a text, and zeros, so many together
+-- the first bytes of a text, and zeros, this many together
 abbrev pub padded : ℕ → List ℕ → List ℕ
 padded count text = take count text ++ replicate (count - length text) 0
 

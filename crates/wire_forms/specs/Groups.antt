@@ -40,7 +40,7 @@ ReadsGroups old (Ok n) new = EatsSpelling IsGroups old n new
 ReadsGroups old (Err error) new = (eaten : List ℕ) × (old ≡ eaten ++ new)
     × RefusesGroups error eaten new
 
--- as few groups as hold the number, and at most so many behind the first
+-- as few groups as hold the number, and at most this many after the first
 abbrev pub groups_within : ℕ → ℕ → List ℕ
 groups_within zero n = n ∷ []
 groups_within (suc more) n = if nat_lt n 128 then n ∷ []

@@ -180,7 +180,7 @@ pub GoOn-append : (front : List ℕ) (last : ℕ) → GoOn front → 128 ≤ las
 GoOn-append [] last on high = (high, tt)
 GoOn-append (byte ∷ front) last on high = (on.0, GoOn-append front last on.1 high)
 
--- so many bytes were read, and none is the last
+-- this many bytes were read, and none is the last
 abbrev pub SoFar : List ℕ → ℕ → ℕ → List ℕ → Type 0
 SoFar old place number new = (front : List ℕ) × (old ≡ front ++ new) × GoOn front
     × (length front ≡ place) × (number ≡ groups_number front)

@@ -1,4 +1,4 @@
--- Texts behind their length are read back.
+-- Texts after their length are read back.
 use Rattle.std.proofs.Common.{ℕ, ◌≡◌, ◌≤◌, ◌<◌, ◌+◌, ◌-◌, ◌^◌, List, ◌++◌, length, take, drop, Result, Ok, Err, IfOk, IfErr, inl, inr, refl, sym, ap, subst, ◌∙◌, arith}
 use Rattle.std.specs.declared.borrow.CowSlice.{CowSlice}
 use Rattle.std.specs.declared.borrow.CowSlice.TheVariants as slice
@@ -29,7 +29,7 @@ lenenc_text-back text rest is =
     Leaves-back (TextBehind tells) (front ++ text) text
     (TextBehind-back tells front text (lenenc_bytes-told (length text) is.1)) rest
 
--- a length of so many bytes
+-- a length of this many bytes
 fixed_text-back : (count : ℕ) (text rest : List ℕ) → length text < 256 ^ count
     → (answer : Result (List ℕ) WireError) (eaten : ℕ)
     → Leaves (TextBehind (NumberOrEof (IsFixed count) 0))
@@ -143,7 +143,7 @@ TextBehind-read tells old mid new len (Err error) read ok (is, short, same) =
 
 -- ---- for who reads one field after another
 
--- the text that was answered stood behind its length, at the front
+-- the text that was answered stood after its length, at the front
 pub eaten_text : {Z : Type 0} (spells : ℕ → List ℕ → Type 0) (lost : ℕ) (text : CowSlice ℕ Z)
     (old : List ℕ) (eaten : ℕ)
     → BorrowsIn text (Leaves (TextBehind (NumberOrEof spells lost)) old) eaten

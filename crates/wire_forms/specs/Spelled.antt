@@ -21,7 +21,7 @@ NumberOrEof spells lost old (Ok n) new = ReadsNumber spells lost old (Some n) ne
 NumberOrEof spells lost old (Err error) new = (error ≡ UnexpectedEof)
     × ReadsNumber spells lost old None new
 
--- A length is read as `tells` says, and then so many bytes, which are the text. Where fewer are
+-- A length is read as `tells` says, and then this many bytes, which are the text. Where fewer are
 -- left, the length alone is eaten.
 abbrev pub TextBehind : (List ℕ → Result ℕ WireError → List ℕ → Type 0) → List ℕ
     → Result (List ℕ) WireError → List ℕ → Type 0
@@ -81,7 +81,7 @@ NumberOrEof-back spells free lost n bytes is rest (Ok m) new told =
 NumberOrEof-back spells free lost n bytes is rest (Err error) new (_, told) =
     absurd (told.0 n rest (bytes, is, refl))
 
--- a text behind its length
+-- a text after its length
 pub TextBehind-back : (tells : List ℕ → Result ℕ WireError → List ℕ → Type 0)
     (spelling text : List ℕ) → TellsBack tells spelling (length text)
     → TellsBack (TextBehind tells) (spelling ++ text) text
@@ -102,7 +102,7 @@ TextBehind-back tells spelling text back rest (Err error) new (inr (len, told, s
     let as_long : len ≡ length text = cc is in
     absurd (omega (arith, short, as_long, ap length left, length-append text rest))
 
--- a reader that tells this of a number has read it so, with the front eaten or so many bytes
+-- a reader that tells this of a number has read it so, with the front eaten or this many bytes
 NumberOrEof-left_err : (spells : ℕ → List ℕ → Type 0) (lost : ℕ) (old : List ℕ) (error : WireError)
     (new : List ℕ) → lost ≤ length old
     → NumberOrEof spells lost old (Err error) new

@@ -16,7 +16,7 @@ use wire_buf::proto::{Fixed, HasSize, MyDeserialize, MySerialize};
 use wire_repr::append::{append, append_byte, append_le};
 use wire_repr::wire::Wire;
 
-// Eats so many bytes, and answers with the value where they are these.
+// Eats this many bytes, and answers with the value where they are these.
 #[inline(always)]
 fn eat_const<X: Copy>(
     count: usize,

@@ -1,4 +1,4 @@
-//! Texts behind their length.
+//! Texts after their length.
 //!
 //! <https://dev.mysql.com/doc/dev/mysql-server/latest/page_protocol_basic_dt_strings.html>
 

@@ -128,7 +128,7 @@ impl<const N: usize> BytesRepr for BareBytes<N> {
     ghost of_size = { λ text size stated. Prim.cc };
 }
 
-/// A `string<fix>`: `N` bytes, the text and zeros behind it. The zeros come back with it.
+/// A `string<fix>`: `N` bytes, the text and zeros after it. The zeros come back with it.
 ///
 /// <https://dev.mysql.com/doc/dev/mysql-server/latest/page_protocol_basic_dt_strings.html>
 #[derive(Clone, Copy, Debug, PartialEq, Eq, Hash, Default)]

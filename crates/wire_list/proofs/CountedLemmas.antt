@@ -1,4 +1,4 @@
--- A list behind its count, as a part of the value that is answered.
+-- A list after its count, as a part of the value that is answered.
 use Rattle.std.proofs.Common.{ℕ, ◌≡◌, ◌+◌, List, drop, Result, Ok, Err, sym, subst}
 use Rattle.std.specs.declared.borrow.CowSlice.{CowSlice}
 use Rattle.std.specs.Cow.{cow_slice_items}

@@ -18,7 +18,7 @@ abbrev pub OwnsAs : {X Z : Type 0} → (X → X → Type 0) → CowSlice X Z →
 OwnsAs is_clone (slice.Borrowed r) items = AllZip is_clone r.now items
 OwnsAs is_clone (slice.Owned v) items = items ≡ v.items
 
--- the list owns its values, and one more behind them
+-- the list owns its values, and one more after them
 abbrev pub Gains : {X Z : Type 0} → (X → X → Type 0) → CowSlice X Z → X → CowSlice X Z → Type 0
 Gains {X = X} is_clone old value new = IsOwned new
     × ((items : List X) × OwnsAs is_clone old items × (cow_slice_items new ≡ items ++ value ∷ []))

@@ -1,4 +1,4 @@
--- Sequences behind their count.
+-- Sequences after their count.
 use Rattle.std.proofs.Common.{◌≡◌, ◌≤◌, ◌<◌, ℕ, zero, suc, ◌+◌, ◌-◌, ◌*◌, ◌^◌, min, List, [], ◌∷◌, ◌++◌, length, take, drop, refl, sym, ap, ◌∙◌, arith, Result, Option, Some, None, Ok, Err, inl, inr, subst, nat_lt, if◌then◌else◌}
 use Rattle.std.proofs.lemmas.List.{take_at, drop_at, drop-drop, length-drop, take_all, length-append, append-nil, append_assoc}
 use Rattle.std.proofs.lemmas.Bool.{le-ltb}
@@ -28,7 +28,7 @@ ReadsCounted seq (Ok number, width) each input (Err error) eaten =
 ReadsCounted seq (Err why, width) each input (Ok items) eaten = ⊥
 ReadsCounted seq (Err why, width) each input (Err error) eaten = (error ≡ why) × (eaten ≡ width)
 
--- a count of so many bytes
+-- a count of this many bytes
 abbrev pub count_at : ℕ → List ℕ → Result ℕ WireError × ℕ
 count_at width input =
     if nat_lt (length input) width then (Err UnexpectedEof, 0)
@@ -181,7 +181,7 @@ each-laws size reads bytes kept memory is_value good sized law (value ∷ others
       (λ index default below. goods (suc index) default (omega arith)),
 )
 
--- behind a count that comes back
+-- after a count that comes back
 behind-count : {X Z V : Type 0} (seq : V → CowSlice X Z) (number : ℕ) (front flat rest : List ℕ)
     (kept : List X → Type 0) (each : ℕ → List ℕ → Result (List X) WireError → ℕ → Type 0)
     → ((answer : Result (List X) WireError) (eaten : ℕ) → each number (flat ++ rest) answer eaten

@@ -24,7 +24,7 @@ AllKept kept [] [] = Unit {0}
 AllKept kept (value ∷ others) (back ∷ backs) = kept value back × AllKept kept others backs
 AllKept kept others backs = ⊥
 
--- each value is good whatever stands behind it
+-- each value is good whatever stands after it
 abbrev pub AllGood : {X Z : Type 0} → Option ℕ → (X → List ℕ → Type 0) → CowSlice X Z → Type 0
 AllGood size good list =
     All (λ value. (rest : List ℕ) → good value (seen size rest)) (cow_slice_items list)

@@ -11,7 +11,7 @@ use Rattle.wire_values.specs.Elements.{ReadsAll}
 use Rattle.wire_list.specs.ElementLaws.{AllKept}
 use Rattle.wire_list.specs.declared.seq.Seq.{Seq}
 
--- so many are read, one after another
+-- this many are read, one after another
 abbrev pub ReadsNumbers : {R P : Type 0} → Option ℕ
     → (List ℕ → Result P WireError → ℕ → Type 0) → ℕ → List ℕ
     → Result (List (RawInt R P)) WireError → ℕ → Type 0

@@ -1,4 +1,4 @@
-//! Lists of fields: of values behind their count, and of numbers that stand for constants; and how
+//! Lists of fields: of values after their count, and of numbers that stand for constants; and how
 //! fields are compared.
 #![tactic(auto)]
 

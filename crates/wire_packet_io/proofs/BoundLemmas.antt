@@ -58,7 +58,7 @@ split_len answer first S held limit id q W s =
     let h = blocks_whole (length q) s.unfinished_whole in
     (omega arith, λ _. omega arith)
 
--- what stands behind a call
+-- what stands after a call
 left_len : (answer : Answer) (before after : CodecState) (more : List ℕ) → ReadsTo before more answer after
     → (length after.held + length after.unread ≤ length (input_of before ++ more))
     × (answer ≢ Err PacketsOutOfSync → length (input_of after) ≤ length (input_of before ++ more))

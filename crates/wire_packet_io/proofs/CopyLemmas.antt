@@ -42,7 +42,7 @@ copied_more a m z P Q T b c ends same f g = (
   merged_spans a m z f.0 g.0 b c ends same f.2 g.2,
 )
 
--- with more to come behind it
+-- with more to come after it
 pub copied_ahead : (a z : SpanState) (P Q T b : List ℕ) (ends : Bool) → EatsSpans a P ((b, ends) ∷ []) Q z
     → EatsSpans a (P ++ T) ((b, ends) ∷ []) (Q ++ T) z
 copied_ahead a z P Q T b ends f = (f.0, ap (λ (w : List ℕ). w ++ T) f.1 ∙ append_assoc f.0 Q T, f.2)
@@ -222,7 +222,7 @@ pub copies_more : (ends : Bool) (a m z : SpanState) (P Q T : List ℕ) (held som
 copies_more ends a m z P Q T held some more same f g =
     (f.0 ++ g.0, copied_more a m z P Q T f.0 g.0 ends same f.1 g.1, Appends-trans held some more f.0 g.0 f.2 g.2)
 
--- in a call, behind its reads so far
+-- in a call, after its reads so far
 pub copies_go : (result : Result Bool PacketIoError) (before mid after : SpanState) (old src new : List ℕ) (unread left last : Option (List ℕ)) (old_reads new_reads all : ℕ) (held some more : Option (List ℕ))
     → mid.limit ≡ before.limit → last ≡ left → all ≡ new_reads
     → (s : (b : List ℕ) × Appends held some b × CopiesNext before old unread left old_reads new_reads so_far b mid src)
@@ -240,7 +240,7 @@ pub copies_kept : (a m z : SpanState) (P Q T : List ℕ) (held some more : Optio
 copies_kept a m z P Q T held some more f state unread kept =
     rw (state, unread) (f.0, f.1, Appends-kept held some more f.0 f.2 kept)
 
--- behind a call another one may be made
+-- after a call another one may be made
 pub can_after : (copied : Option SpanDecoder) (lost : Bool) (codec : PacketCodec) (unread held : List ℕ) (lent : Option (List ℕ)) (decoder : SpanDecoder)
     → IsNone lent → held ≡ [] → (IsNone copied → header_of codec ≡ None) → IfSome copied (λ d. d ≡ decoder) → header_came (span_state decoder).place ≡ []
     → MatchOption copied (IsTrue lost ⊎ (Stands (codec_state codec unread held) × (held ≡ []) × IsNone lent))
@@ -268,7 +268,7 @@ read_stops (Io error) state src new old_reads new_reads left waiting is failed =
 read_stops OutOfMemory state src new old_reads new_reads left waiting is failed = subst (λ (z : List ℕ). WaitsHere state z) (sym is) waiting
 read_stops other state src new old_reads new_reads left waiting is failed = absurd failed
 
--- a call behind bytes that went before its first read
+-- a call after bytes that went before its first read
 pub reads_before : (result : Result Bool PacketIoError) (before mid after : SpanState) (old src new : List ℕ) (unread left : Option (List ℕ)) (old_reads new_reads : ℕ) (b c : List ℕ)
     → mid.limit ≡ before.limit → EatsSpans before old ((b, false) ∷ []) src mid → CopiesNext mid src unread left old_reads new_reads result c after new
     → CopiesNext before old unread left old_reads new_reads result (b ++ c) after new

@@ -24,7 +24,7 @@ use Rattle.wire_codec.proofs.RunLemmas.{front-nil, splits_extend, stands_append}
 use Rattle.wire_codec.proofs.ChunkLemmas.{blocks_whole}
 use Rattle.wire_codec.proofs.LimitedLemmas.{length-front_under}
 
--- what a read put behind the bytes that were there
+-- what a read put after the bytes that were there
 pub read_taken : (n count room : ℕ) (all old now buf rest more : List ℕ) → n ≡ length old → take n now ≡ old → count ≤ length buf → n + count ≤ room
     → all ≡ take (n + count) (take room ((take n now ++ (buf ++ rest)) ++ more)) → all ≡ old ++ take count buf
 read_taken n count room all old now buf rest more len front fits small is =
@@ -100,7 +100,7 @@ pub record Made (before : CodecState) (unread left : Option (List ℕ)) (old_rea
   pub few : length reads ≤ most_reads before.limit
   pub small : All (λ (read : List ℕ). length read ≤ read_size) reads
 
--- those so far, and what stands behind them
+-- those so far, and what stands after them
 pub record SoFar (before now : CodecState) (unread left : Option (List ℕ)) (old_reads new_reads : ℕ) : Type 0 where
   pub made : Made before unread left old_reads new_reads
   pub splits : Splits before.held (input_of before ++ joined_reads made.reads) (first_id before) before.limit [] now.held now.unread
@@ -195,7 +195,7 @@ end_seen (Ok None) reads left empty h = (empty, h)
 end_seen (Err UnexpectedEnd) reads left empty h = (empty, h)
 end_seen other reads left empty h = tt
 
--- where a call waits, with so many reads made
+-- where a call waits, with this many reads made
 pub record Waited (before after : CodecState) (unread left : Option (List ℕ)) (old_reads new_reads : ℕ) : Type 0 where
   pub made : Made before unread left old_reads new_reads
   pub run : RunsTo before (joined_reads made.reads) (Ok tt) [] after

@@ -89,7 +89,7 @@ pub gone_none : (before : SpanState) (id : ℕ) (pending : List ℕ) (held : Opt
 gone_none before id pending held =
     record { out = []; written = []; spans = nothing_on (sent before id); all = append-nil pending; appended = Appends-nil held }
 
--- and more, behind what is pending
+-- and more, after what is pending
 pub gone_more : (ended : Bool) (before mid after : SpanState) (id number next : ℕ) (b c out old some new : List ℕ) (held more last : Option (List ℕ))
     → PassesOn before id b false mid number old some held more → mid.limit ≡ before.limit
     → SpansOn (sent mid number) out ((c, ended) ∷ []) (sent after next) → new ≡ some ++ out → last ≡ more
@@ -102,7 +102,7 @@ gone_more ended before mid after id number next b c out old some new held more l
   appended = subst (λ (z : Option (List ℕ)). Appends held z p.written) (sym same) p.appended;
 }
 
--- in a call, behind its reads so far
+-- in a call, after its reads so far
 pub relays_go : (result : Result Bool PacketIoError) (before mid after : SpanState) (id number next : ℕ) (old src new : List ℕ) (unread left last : Option (List ℕ)) (old_reads new_reads all : ℕ) (pending some now : List ℕ) (held more then : Option (List ℕ))
     → mid.limit ≡ before.limit → last ≡ left → all ≡ new_reads → then ≡ more
     → (s : (b : List ℕ) × CopiesNext before old unread left old_reads new_reads so_far b mid src × PassesOn before id b false mid number pending some held more)

@@ -55,7 +55,7 @@ skip_to_go_is full mid first skipped start codec old src w v =
     ap₂ (λ (n m : ℕ). (most_reads full.limit + (length full.held + 4 * (length full.held / max_payload))) - (n + 4 * (n / max_payload) + m)) v.held_is all
     ∙ ap₂ (λ (n m : ℕ). (most_reads n + (m + 4 * (m / max_payload))) - (skipped.held + 4 * (skipped.held / max_payload) + (gone_len skipped.begun + length src))) w.limit w.held_is
 
--- more bytes behind what is to be read
+-- more bytes after what is to be read
 spelled_more : (bytes more : List ℕ) → 4 ≤ length bytes → IsSpelled bytes → IsSpelled (bytes ++ more)
 spelled_more (a ∷ b ∷ c ∷ d ∷ bytes) more long s = λ h. s long
 spelled_more bytes more long s = absurd (omega arith)

@@ -25,7 +25,7 @@ same_state : (l k i j n m : ℕ) (p q : SpanPlace) → l ≡ k → i ≡ j → n
     → state l i n p ≡ state k j m q
 same_state l k i j n m p q a b c d = rw (a, b, c, d) refl
 
--- its header and its bytes pass, one behind the other
+-- its header and its bytes pass, one after the other
 pub whole_is : (codec : PacketCodec) (before mid after : SpanState) (src : List ℕ) (len number next : ℕ)
     → before ≡ in_front codec → mid.limit ≡ before.limit → after.limit ≡ mid.limit
     → 4 + len ≤ length src → len ≤ max_payload → len ≡ chunk_len src → number ≡ slice_index src 3 → IsSpelled src → before.id < 256
@@ -57,7 +57,7 @@ whole_is codec before mid after src len number next start limit_mid limit_after 
           (headers i low_i) (came ((i + 1) % 256) x long)));
     }
 
--- and goes out behind what is pending
+-- and goes out after what is pending
 pub relays_whole : (codec behind : PacketCodec) (src rest : List ℕ) (unread : Option (List ℕ)) (reads len here id next : ℕ) (pending more : List ℕ) (held : Option (List ℕ))
     → LiesWhole codec src len here → rest ≡ drop (4 + len) src → behind.max_allowed_packet ≡ codec.max_allowed_packet → expected_id behind ≡ here
     → id < 256 → next ≡ (id + 1) % 256 → more ≡ pending ++ (header len id ++ payload_of len src)
@@ -112,7 +112,7 @@ begins_front None (Some decoder) codec ends start after last src new unread held
 begins_front (Some InFront) copied codec ends start after last src new unread held more none alone first end is f = absurd cc
 begins_front (Some (Apart packet)) copied codec ends start after last src new unread held more none alone first end is f = absurd cc
 
--- a codec behind a packet that was copied
+-- a codec after a packet that was copied
 pub behind_is : (copied : Option SpanDecoder) (behind : PacketCodec) (after : SpanState) → IsNone copied → IsBetween after
     → behind.max_allowed_packet ≡ after.limit → expected_id behind ≡ after.id → copied_to copied behind ≡ after
 behind_is None behind after none between limit id = same_state _ after.limit _ after.id 0 after.size _ after.place limit id (sym between.0) (sym between.1)

@@ -5,7 +5,7 @@ use Rattle.wire_codec.specs.Codec.{CodecState, input_of}
 use Rattle.wire_packet_io.specs.declared.error.PacketIoError.TheVariants.{PacketsOutOfSync}
 use Rattle.wire_packet_io.specs.PacketIo.{Answer, NextPacket, read_size}
 
--- an unfinished packet of at most so many bytes, with the headers of its full chunks, less than a
+-- an unfinished packet of at most this many bytes, with the headers of its full chunks, less than a
 -- header of the next one, and one read
 abbrev pub most_read : ℕ → ℕ
 most_read most = most + 4 * (most / max_payload) + 3 + read_size

@@ -38,7 +38,7 @@ HasPlace reading = IsSome reading.copied ⊎ IsFalse reading.is_lost
 abbrev pub WaitsHere : SpanState → List ℕ → Type 0
 WaitsHere state unread = (length unread < 4) × (0 < left_in state.place → unread ≡ [])
 
--- and the input is such, behind bytes that go in one span
+-- and the input is such, after bytes that go in one span
 abbrev pub WaitsBehind : SpanState → List ℕ → Type 0
 WaitsBehind before input =
     (bytes : List ℕ) × (left : List ℕ) × (after : SpanState)
@@ -138,7 +138,7 @@ IsSpanRefusal span.PacketTooLarge error = error ≡ PacketTooLarge
 IsSpanRefusal span.PacketsOutOfSync error = error ≡ PacketsOutOfSync
 
 -- a packet that was copied by one call: what was unread and read began with the framing of what was
--- written, which is within the limit, and the id is the one behind it
+-- written, which is within the limit, and the id is the one after it
 abbrev pub CopiedPacket : Type 0
 CopiedPacket =
     (before after : SpanState) (old new : List ℕ) (unread left : Option (List ℕ))

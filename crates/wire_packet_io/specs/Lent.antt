@@ -17,7 +17,7 @@ use Rattle.wire_packet_io.specs.PacketIo.{Answer, NextPacket}
 pub record Reading (R : Type 0) : Type 0 where
   -- the reader below
   pub reader : R
-  -- what was read, behind the packet that is lent
+  -- what was read, after the packet that is lent
   pub unread : List ℕ
   -- the full chunks of an unfinished packet
   pub held : List ℕ
@@ -36,7 +36,7 @@ pub record Reading (R : Type 0) : Type 0 where
 abbrev pub reading_state : {R : Type 0} → PacketCodec → Reading R → CodecState
 reading_state codec reading = codec_state codec reading.unread reading.held
 
--- a call of `next_packet`: the reader with its codec, the answer, and both behind it
+-- a call of `next_packet`: the reader with its codec, the answer, and both after it
 abbrev pub ReadsPacket : {R : Type 0} → (R → Option (List ℕ)) → PacketCodec → Reading R → Answer
     → PacketCodec → Reading R → Type 0
 ReadsPacket remaining codec old answer behind new =
@@ -54,7 +54,7 @@ packet_of (Some InFront) src = Some (front_payload src)
 packet_of (Some (Apart packet)) src = Some packet.items
 packet_of None src = None
 
--- the bytes behind it
+-- the bytes after it
 abbrev pub unread_behind : {A : Type 0} → Option (Found A) → List ℕ → List ℕ
 unread_behind (Some InFront) src = drop (4 + chunk_len src) src
 unread_behind (Some (Apart packet)) src = src

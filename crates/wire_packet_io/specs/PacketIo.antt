@@ -63,7 +63,7 @@ WaitsAlone before more = (after : CodecState) × RunsTo before more (Ok tt) [] a
 abbrev pub most_reads : ℕ → ℕ
 most_reads limit = limit + 4 * (limit / max_payload + 1)
 
--- a count of reads rose by so many, or stays at the end of its range
+-- a count of reads rose by this many, or stays at the end of its range
 abbrev pub CountsUp : ℕ → ℕ → ℕ → Type 0
 CountsUp old new count = (count ≡ 0 → new ≡ old)
     × (0 < count → new ≡ min (old + count) (2 ^ 64 - 1))
@@ -101,7 +101,7 @@ TakesPacket before (Err OutOfMemory) lost after = DecodesPacket before (Err code
     × IsFalse lost
 TakesPacket before (Err other) lost after = ⊥
 
--- at the end of the input, with so many bytes unread and held
+-- at the end of the input, with this many bytes unread and held
 abbrev pub EndsAt : Answer → ℕ → ℕ → Type 0
 EndsAt (Ok None) unread held = (unread ≡ 0) × (held ≡ 0)
 EndsAt (Err UnexpectedEnd) unread held = 0 < unread + held

@@ -15,7 +15,7 @@ use Rattle.wire_packet_io.specs.PacketIo.{joined_reads, Writing}
 use Rattle.wire_packet_io.specs.Lent.{Reading}
 use Rattle.wire_packet_io.specs.Copying.{CopiesNext, WaitsHere, copied_to, has_ended}
 
--- bytes of a packet go out with their headers, which bear ids from this one on, behind what was
+-- bytes of a packet go out with their headers, which bear ids from this one on, after what was
 -- pending: a front of both is written, and the rest is pending
 pub record PassesOn (before : SpanState) (id : ℕ) (bytes : List ℕ) (ended : Bool) (after : SpanState)
     (next : ℕ) (old new : List ℕ) (held more : Option (List ℕ)) : Type 0 where
@@ -48,7 +48,7 @@ RelaysPacket remaining contents codec old other held result behind new next more
 abbrev pub IsUncut : SpanDecoder → Type 0
 IsUncut decoder = header_came (span_state decoder).place ≡ []
 
--- the front of what was unread is moved behind what was pending, in one span on both sides
+-- the front of what was unread is moved after what was pending, in one span on both sides
 abbrev pub Relays : Bool → SpanState → ℕ → List ℕ → List ℕ → SpanState → ℕ → List ℕ → List ℕ → Type 0
 Relays ended before id old pending after next new left =
     (bytes : List ℕ) × (out : List ℕ) × EatsSpans before old ((bytes, ended) ∷ []) new after

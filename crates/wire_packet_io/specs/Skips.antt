@@ -17,7 +17,7 @@ SkipsFor (Ok true) answer = (packet : List ℕ) × (answer ≡ Ok (Some packet))
 SkipsFor (Ok false) answer = answer ≡ Ok None
 SkipsFor (Err error) answer = answer ≡ Err error
 
--- where the codec is left: behind the packet, or where it would stand had the bytes been kept
+-- where the codec is left: after the packet, or where it would stand had the bytes been kept
 abbrev pub LeavesNext : Result Bool PacketIoError → Skipped → PacketCodec → List ℕ → CodecState → Type 0
 LeavesNext (Ok true) skipped codec unread after = IsBehind skipped codec unread after
 LeavesNext (Err PacketsOutOfSync) skipped codec unread after = IsBehind skipped codec unread after

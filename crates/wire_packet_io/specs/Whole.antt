@@ -5,7 +5,7 @@ use Rattle.wire_codec.specs.Framing.{max_payload, header}
 use Rattle.wire_span.specs.Spans.{SpanState, EatsSpans, SpansOn}
 use Rattle.wire_packet_io.specs.Copying.{in_front}
 
--- the bytes of the packet in front, where it has so many
+-- the bytes of the packet in front, where it has this many
 abbrev pub payload_of : ℕ → List ℕ → List ℕ
 payload_of len src = take len (drop 4 src)
 
@@ -13,8 +13,8 @@ payload_of len src = take len (drop 4 src)
 abbrev pub in_front_with : PacketCodec → ℕ → SpanState
 in_front_with codec id = record (in_front codec) { id = id }
 
--- a packet of so many bytes lies whole in one chunk in front, the codec accepts it, and this id is
--- the next one behind it
+-- a packet of this many bytes lies whole in one chunk in front, the codec accepts it, and this id is
+-- the next one after it
 pub record LiesWhole (codec : PacketCodec) (src : List ℕ) (len next : ℕ) : Type 0 where
   pub there : 4 + len ≤ length src
   pub small : len ≤ max_payload

@@ -30,7 +30,7 @@ const READ_SIZE: usize = 8192;
 /// A packet that was found.
 #[derive(Debug, Drop)]
 pub enum Found<A: Allocator + Copy> {
-    /// It lies in one chunk at the front of what was read, and the codec is behind it.
+    /// It lies in one chunk at the front of what was read, and the codec is after it.
     InFront,
     /// It was put together.
     Apart(Vec<u8, A>),
@@ -201,7 +201,7 @@ impl<R: Read, A: Allocator + Copy> Input<R, A> {
         }
     }
 
-    /// Whether `next` can go on with this codec, where the bytes behind these are the unread ones:
+    /// Whether `next` can go on with this codec, where the bytes after these are the unread ones:
     /// it stands at them and at what is held, or the reader is lost.
     pub(crate) fn fits(&self, codec: &PacketCodec, unread: &[u8]) -> bool
         ensures { IsTrue result ↔ FitsAt self.now.lost

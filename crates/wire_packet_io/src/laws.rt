@@ -12,13 +12,13 @@ pub fn bounded_reads()
 {}
 
 /// What one call of `copy_packet` wrote is the packet, where it began in front of one: the bytes
-/// that were there began with its framing, and the codec is behind it.
+/// that were there began with its framing, and the codec is after it.
 pub fn copied_packet()
     ensures { CopiedPacket }
 {}
 
 /// What one call of `relay_packet` passed on, where it began in front of a packet: the same bytes
-/// came and went, framed with the ids of each side, and both codecs are behind them. Where the call
+/// came and went, framed with the ids of each side, and both codecs are after them. Where the call
 /// stopped before the packet's end, what came and what went are the fronts of those framings.
 pub fn relayed_packet()
     ensures whole { RelayedPacket }

@@ -29,14 +29,14 @@ use wire_span::SpanDecoder;
 /// bytes lie in the reader's buffer, they aren't copied.
 ///
 /// The codec is handed in at each call, so that a reader and a writer can share one id. Once a
-/// packet is lent the codec is behind it: an answer may be queued before it is taken.
+/// packet is lent the codec is after it: an answer may be queued before it is taken.
 ///
 /// Contracts see a `Reading`: the reader below, what is unread, what is held of an unfinished
 /// packet, the packet that is lent, whether the stream is lost, and how many reads were made.
 #[derive(Drop)]
 pub struct PacketReader<R: Read, A: Allocator + Copy = Global> {
     input: Input<R, A>,
-    // The packet that is lent. The codec is behind it, and nothing is held.
+    // The packet that is lent. The codec is after it, and nothing is held.
     lent: Option<Found<A>>,
     // How much was dropped of a packet that is being skipped. The input is lost meanwhile.
     skipped: Option<Skipped>,
@@ -342,7 +342,7 @@ impl<R: Read, A: Allocator + Copy> PacketReader<R, A> {
     /// refuses as `next_packet` does, and asks for the same; the packet's bytes stay in the
     /// reader's buffer where they lie whole in one chunk, and are put together where they don't.
     ///
-    /// The codec is behind the packet from then on. Where a packet is lent already it answers
+    /// The codec is after the packet from then on. Where a packet is lent already it answers
     /// true, and nothing is read.
     #[inline(always)]
     pub fn fill_packet(&mut self, codec: &mut PacketCodec) -> Result<bool, PacketIoError>

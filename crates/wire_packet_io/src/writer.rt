@@ -70,7 +70,7 @@ impl<W: Write, A: Allocator + Copy> PacketWriter<W, A> {
         self.writer
     }
 
-    /// Frames the packet behind what is pending, and empties it, as the codec's `encode` does.
+    /// Frames the packet after what is pending, and empties it, as the codec's `encode` does.
     /// `PacketTooLarge` and `OutOfMemory` change nothing.
     #[inline(always)]
     pub fn queue<T: Buf>(
@@ -104,7 +104,7 @@ impl<W: Write, A: Allocator + Copy> PacketWriter<W, A> {
         }
     }
 
-    // Puts bytes behind what is pending.
+    // Puts bytes after what is pending.
     pub(crate) fn put(&mut self, bytes: &[u8]) -> Result<(), PacketIoError>
         ensures put { OnOk result (self.new.pending ≡ self.old.pending ++ bytes.now) }
         ensures err { OnErr result (self.new.pending ≡ self.old.pending) }
@@ -117,7 +117,7 @@ impl<W: Write, A: Allocator + Copy> PacketWriter<W, A> {
         }
     }
 
-    // Puts both behind what is pending, where there is room for them: no memory is asked for.
+    // Puts both after what is pending, where there is room for them: no memory is asked for.
     #[inline(always)]
     pub(crate) fn put_in_room(&mut self, header: &[u8], payload: &[u8]) -> bool
         ensures put { IsTrue result

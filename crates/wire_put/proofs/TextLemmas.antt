@@ -1,4 +1,4 @@
--- A text behind its length, in two puts.
+-- A text after its length, in two puts.
 use Rattle.std.proofs.Common.{◌≡◌, ℕ, ◌+◌, ◌<◌, ◌≤◌, List, ◌++◌, length, Result, Err, refl, sym, ap, ◌∙◌, subst, arith, inl, inr, append_assoc}
 use Rattle.std.proofs.lemmas.List.{length-append}
 use Rattle.wire_buf.specs.declared.error.WireError.{WireError}

@@ -1,9 +1,9 @@
--- Texts behind their length.
+-- Texts after their length.
 use Rattle.std.specs.Prelude.{ℕ, ◌≡◌, ◌<◌, List, ◌++◌, length, Result, Ok, Err, ◌⊎◌}
 use Rattle.wire_buf.specs.declared.error.WireError.{WireError}
 use Rattle.wire_buf.specs.declared.error.WireError.TheVariants.{OutOfMemory}
 
--- the longest texts behind one and four bytes of length
+-- the longest texts after one and four bytes of length
 unfoldable pub u8_max : ℕ
 u8_max = 255
 

@@ -1,4 +1,4 @@
-//! Numbers whose length is in their first byte, and the texts behind them, put into buffers.
+//! Numbers whose length is in their first byte, and the texts after them, put into buffers.
 #![tactic(auto)]
 
 mod put;

@@ -83,7 +83,7 @@ pub trait BufMutExt: BufMut {
         put_spelling(self, n)
     }
 
-    /// Puts a `string<lenenc>`: the text behind its length as an `int<lenenc>`.
+    /// Puts a `string<lenenc>`: the text after its length as an `int<lenenc>`.
     ///
     /// <https://dev.mysql.com/doc/dev/mysql-server/latest/page_protocol_basic_dt_strings.html>
     #[inline(always)]
@@ -167,7 +167,7 @@ pub trait BufMutExt: BufMut {
         Ok(())
     }
 
-    /// Puts a text behind one byte of length. Of a text longer than 255 bytes the first 255 are
+    /// Puts a text after one byte of length. Of a text longer than 255 bytes the first 255 are
     /// put.
     final fn put_u8_str(&mut self, text: &[u8]) -> Result<(), WireError>
     where
@@ -184,7 +184,7 @@ pub trait BufMutExt: BufMut {
         Ok(())
     }
 
-    /// Puts a text behind four bytes of length, the least significant first. Of a text longer than
+    /// Puts a text after four bytes of length, the least significant first. Of a text longer than
     /// 4294967295 bytes the first 4294967295 are put.
     final fn put_u32_str(&mut self, text: &[u8]) -> Result<(), WireError>
     where

@@ -1,4 +1,4 @@
-//! The spellings (encodings) of length-encoded integers behind a first byte, for the layers above.
+//! The spellings (encodings) of length-encoded integers after a first byte, for the layers above.
 
 ghost use Rattle.std.specs.Prelude.{◌≡◌, ◌∷◌};
 ghost use Rattle.wire_buf.specs.Numbers.{le_bytes};

@@ -25,7 +25,7 @@ abbrev pub LeavesRestOf : {X : Type 0} → List ℕ → List ℕ → (X → Type
 LeavesRestOf bytes rest kept takes_memory answer old new =
     old.0.now ≡ bytes ++ rest → LeavesRest kept takes_memory rest answer new.0.now
 
--- The same of each buffer that begins with the written bytes, whatever stands behind them.
+-- The same of each buffer that begins with the written bytes, whatever stands after them.
 abbrev pub ComesBackFrom : {X : Type 0} → List ℕ → (X → Type 0) → Type 0 → List ℕ
     → Result X WireError → List ℕ → Type 0
 ComesBackFrom bytes kept takes_memory old answer new =
@@ -37,7 +37,7 @@ abbrev pub ComesBackAlone : {X : Type 0} → List ℕ → (X → Type 0) → Lis
 ComesBackAlone bytes kept old answer new =
     old ≡ bytes ++ [] → LeavesRest kept ⊥ [] answer new
 
--- What a reader sees of the bytes behind a value, where `parse` calls it: nothing, if its type has
+-- What a reader sees of the bytes after a value, where `parse` calls it: nothing, if its type has
 -- a size.
 abbrev pub seen : Option ℕ → List ℕ → List ℕ
 seen None rest = rest

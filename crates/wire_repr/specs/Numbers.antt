@@ -7,7 +7,7 @@ use Rattle.wire_buf.specs.NumberLemmas.{length-le_bytes, le_number-le_bytes, le_
 use Rattle.wire_buf.specs.Reading.{Answers}
 use Rattle.wire_repr.specs.Law.{ReadsFixed, ReadsFixed-back}
 
--- a number of so many bytes that fits them
+-- a number of this many bytes that fits them
 pub le_bytes-back : (count n : ℕ) (rest : List ℕ) → n < 256 ^ count
     → (answer : Result ℕ WireError) (eaten : ℕ)
     → ReadsFixed count le_number (le_bytes count n ++ rest) answer eaten

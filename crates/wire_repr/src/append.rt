@@ -1,4 +1,4 @@
-//! Bytes behind those that a buffer has.
+//! Bytes after those that a buffer has.
 
 ghost use Rattle.std.specs.Prelude.{◌≡◌, ◌≤◌, ◌++◌, ◌∷◌, [], take, Ok, Err, OnOk, IfErr, IsTrue, IsFalse};
 ghost use Rattle.wire_buf.specs.declared.error.WireError.TheVariants.{OutOfMemory};
@@ -41,7 +41,7 @@ pub fn append_le<A: Allocator>(
     append(&number.to_le_bytes()[..count], buf)
 }
 
-/// Where a part of what was to be appended was refused, takes away what was: all behind this length.
+/// Where a part of what was to be appended was refused, takes away what was: all after this length.
 pub fn all_or_nothing<A: Allocator>(
     all: bool,
     at: usize,

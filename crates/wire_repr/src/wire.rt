@@ -11,7 +11,7 @@ use std::alloc::Allocator;
 use wire_buf::proto::{MyDeserialize, MySerialize};
 
 /// A type whose values are read back from what they are written as, before what each of them
-/// allows: most whatever stands behind them, one that takes all the rest before nothing (`good`).
+/// allows: most whatever stands after them, one that takes all the rest before nothing (`good`).
 ///
 /// A type of one's own that is made of such fields gets the law from theirs.
 pub trait Wire<'de, A: Allocator + Copy>: MySerialize + MyDeserialize<'de, A> {

@@ -33,7 +33,7 @@ first_chunk i c r e =
     let same : i + 0 ≡ i = omega arith in
     ap₂ (λ (k : ℕ) (z : List ℕ). chunk k z) same (ap (λ (n : ℕ). take max_payload (drop n r)) none ∙ e)
 
--- a full one, and the framing of what is behind it
+-- a full one, and the framing of what is after it
 full_framing : (i n : ℕ) (r : List ℕ) → length r ≡ max_payload + n
     → framing i r ≡ header max_payload i ++ (take max_payload r ++ framing ((i + 1) % 256) (drop max_payload r))
 full_framing i n r long =

@@ -101,7 +101,7 @@ pub padded_front : (came bytes : List ℕ) (zeros len : ℕ) → bytes ≡ came 
 padded_front came bytes zeros len e f =
     ap₂ (λ (k : ℕ) (z : List ℕ). take k z) f e ∙ take_front came (replicate zeros 0)
 
--- and so it stands behind some stream: one of zeros
+-- and so it stands after some stream: one of zeros
 id_back : (id count : ℕ) → id < 256 → id ≡ ((id + (256 - count % 256)) % 256 + count) % 256
 id_back id count small = omega arith
 

@@ -12,7 +12,7 @@ use Rattle.wire_span.specs.Passing.{left_in, most_here}
 use Rattle.wire_span.proofs.SpanLemmas.{at_place, joined_spans_is, stops_is}
 use Rattle.wire_span.proofs.RenumberLemmas.{Passes, header_on, chunk_on}
 
--- a span that ends no packet, and the one behind it, are one
+-- a span that ends no packet, and the one after it, are one
 pub merged_spans : (a m z : SpanState) (x y b c : List ℕ) (ends : Bool) → m.limit ≡ a.limit
     → SpansOn a x ((b, false) ∷ []) m → SpansOn m y ((c, ends) ∷ []) z → SpansOn a (x ++ y) ((b ++ c, ends) ∷ []) z
 merged_spans a m z x y b c true same f g s L S ps o le h =
@@ -39,7 +39,7 @@ header_passes limit n len size place ends after is small fits is_size passes j l
 abbrev pub at_most : SpanPlace → ℕ → ℕ → ℕ
 at_most place limit size = most_here place + 5 * (limit - size)
 
--- behind a header that ends no packet fewer bytes are to come
+-- after a header that ends no packet fewer bytes are to come
 pub header_fewer : (limit n len size : ℕ) (old new : SpanPlace) (ends : Bool)
     → old ≡ AtHeader [] → (len ≡ 0) ⊎ (n + len ≤ limit) → size ≡ n + len
     → (IsFalse ends → most_here new + 0 ≡ len + 4) → (IsFalse ends → (0 < len) ⊎ IsTrue (len == 16777215)) → IsFalse ends

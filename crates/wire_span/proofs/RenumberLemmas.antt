@@ -149,7 +149,7 @@ drop_front : (xs ys : List ℕ) → drop (length xs) (xs ++ ys) ≡ ys
 drop_front [] ys = refl
 drop_front (x ∷ xs) ys = drop_front xs ys
 
--- one step behind others
+-- one step after others
 pub renumbers_more : (a m z : SpanState) (i j k at count : ℕ) (P Q A B : List ℕ) → m.limit ≡ a.limit
     → RenumbersFront a i P Q at m j → A ≡ drop at Q → RenumbersFront m j A B count z k
     → RenumbersFront a i P (take at Q ++ B) (at + count) z k

@@ -170,7 +170,7 @@ spans_begin_is state L small between = (
       (subst (λ (n : ℕ). InNextHeader state.id L state.id n [] [] []) (sym between.0) (begins_between state.id L state.id refl small)),
 )
 
--- the state behind a span
+-- the state after a span
 abbrev pub at_place : ℕ → ℕ → ℕ → SpanPlace → SpanState
 at_place limit id size place = record { limit = limit; id = id; size = size; place = place }
 
@@ -268,7 +268,7 @@ came_splits s L S ps q b W e f small whole within = record {
   within = within_rest L ps q small within;
 }
 
--- the full chunks of the open packet, and what is behind them
+-- the full chunks of the open packet, and what is after them
 abbrev pub came_held : (t L i n : ℕ) (p : SpanPlace) (o b : List ℕ) → Begins t L i n p o b → List ℕ
 came_held t L i n (AtHeader c) o b h = o
 came_held t L i n (Within left full) o b h = h.1.held
@@ -362,7 +362,7 @@ one_spanning_is law s L S ps qs o r a z h g =
     let same = stands_alike t L a.id a.size z.id z.size a.place z.place o h.0 k.0 h.3 k.3 two.2 two.3 in
     (one.0, opened, same.0, same.1, same.2)
 
--- spans behind spans
+-- spans after spans
 pub packets_of-append : (o : List ℕ) (xs ys : List (List ℕ × Bool)) → packets_of o (xs ++ ys) ≡ packets_of o xs ++ packets_of (opened_after o xs) ys
 packets_of-append o [] ys = refl
 packets_of-append o ((x, true) ∷ xs) ys = ap (λ (z : List (List ℕ)). (o ++ x) ∷ z) (packets_of-append [] xs ys)
@@ -386,7 +386,7 @@ pub nothing_came : (a : SpanState) → SpansOn a [] [] a
 nothing_came a s L S ps o le h =
     subst (λ (z : List ℕ). CameTo s L z (ps ++ []) o a) (sym (append-nil S)) (still s L S ps o a h)
 
--- the part of a header that the piece brought, and what is behind it
+-- the part of a header that the piece brought, and what is after it
 pub header_part : (came : HeaderFront) (P R : List ℕ) (len id : ℕ) → front_bytes came ++ P ≡ header len id ++ R
     → (x : List ℕ) × (front_bytes came ++ x ≡ header len id) × (P ≡ x ++ R)
 header_part Empty P R len id e = (header len id, refl, e)
@@ -404,7 +404,7 @@ front_ends came P R N len id (Some span) e h =
     let size : length (front_bytes came ++ part.0) ≡ 4 = ap (λ (w : List ℕ). length w) part.1 in
     (part.0, part.2 ∙ ap (λ (z : List ℕ). part.0 ++ z) h, omega (arith, size, length-append (front_bytes came) part.0))
 
--- a header that is accepted, and what is taken behind it
+-- a header that is accepted, and what is taken after it
 pub header_then : (limit s L : ℕ) (S : List ℕ) (ps : List (List ℕ)) (o c x y : List ℕ) (i n len id next size : ℕ) (spans : List (List ℕ × Bool)) (after : SpanState)
     → CameTo s L S ps o (at_place limit i n (AtHeader c)) → c ++ x ≡ header len id → len ≤ max_payload → id ≡ i → limit ≤ L → (len ≡ 0) ⊎ (n + len ≤ limit)
     → size ≡ n + len → next ≡ (i + 1) % 256 → TakesSpan next size len (len == 16777215) y spans after

@@ -23,14 +23,14 @@ FramesFront =
     → framing id (came ++ rest) ≡ out ++ to_send after rest
 
 -- once all of it went, the bytes that came are the payload, of the length that was stated, what
--- went is its framing, and the id is the one behind it
+-- went is its framing, and the id is the one after it
 abbrev pub FramedPacket : Type 0
 FramedPacket =
     (id len : ℕ) (payload out : List ℕ) (after : FrameState)
     → FramesOn (begun id len) payload out after → IsBetweenPackets after
     → (length payload ≡ len) × (out ≡ framing id payload) × (after.id ≡ next_id id payload)
 
--- behind other packets, what went out is the stream of all payloads
+-- after other packets, what went out is the stream of all payloads
 abbrev pub FramedStream : Type 0
 FramedStream =
     (first len : ℕ) (payloads : List (List ℕ)) (payload out : List ℕ) (after : FrameState)

@@ -5,7 +5,7 @@ use Rattle.wire_span.specs.declared.frame.FrameWriter.{FrameWriter}
 use Rattle.wire_codec.specs.Framing.{framing, next_id}
 
 -- a writer between two calls: the id that the next chunk bears, how many bytes of the open chunk are
--- to come, and how many of the packet behind it, where another chunk follows
+-- to come, and how many of the packet after it, where another chunk follows
 pub record FrameState : Type 0 where
   pub id : ℕ
   pub chunk_left : ℕ
@@ -19,7 +19,7 @@ frame_state writer =
       behind = writer.behind;
     }
 
--- in front of a packet of so many bytes
+-- in front of a packet of this many bytes
 abbrev pub begun : ℕ → ℕ → FrameState
 begun id len = record { id = id; chunk_left = 0; behind = Some len }
 
@@ -40,7 +40,7 @@ most_parts state piece =
 abbrev pub payload_left : FrameState → ℕ
 payload_left state = state.chunk_left + unwrap_or state.behind 0
 
--- behind the open chunk: the rest of the payload framed from the next id on, where a chunk follows
+-- after the open chunk: the rest of the payload framed from the next id on, where a chunk follows
 abbrev pub framed_behind : Option ℕ → ℕ → List ℕ → List ℕ
 framed_behind None id rest = []
 framed_behind (Some len) id rest = framing id rest
@@ -62,7 +62,7 @@ abbrev pub header_bytes : Option (List ℕ) → List ℕ
 header_bytes None = []
 header_bytes (Some header) = header
 
--- these bytes of the payload came and those went out: whatever comes behind them, what was to go is
+-- these bytes of the payload came and those went out: whatever comes after them, what was to go is
 -- what went, and what goes still
 pub record FramesOn (before : FrameState) (eaten out : List ℕ) (after : FrameState) : Type 0 where
   pub left : payload_left before ≡ length eaten + payload_left after

@@ -4,9 +4,9 @@ use Rattle.wire_span.specs.declared.span.parts.SpanParts.{SpanParts}
 use Rattle.wire_codec.specs.Framing.{max_payload}
 use Rattle.wire_span.specs.Spans.{SpanPlace, AtHeader, Within, SpanState, CameTo, SpansOn}
 
--- the place in a packet that has so many bytes up to the end of its open chunk, of which so many
+-- the place in a packet that has this many bytes up to the end of its open chunk, of which this many
 -- are to come: with none to come it is in front of a header, of which these bytes came; and full
--- chunks alone leave none behind them
+-- chunks alone leave none after them
 abbrev pub place_at : ℕ → ℕ → List ℕ → SpanPlace
 place_at size zero came = AtHeader came
 place_at size (suc less) came = Within (suc less) (size % max_payload == 0)
@@ -27,8 +27,8 @@ IsTidy parts =
     × (drop parts.header_len parts.header ≡ replicate (3 - parts.header_len) 0)
     × ((parts.left ≡ 0) ⊎ (parts.header_len ≡ 0))
 
--- the open chunk of a packet of so many bytes up to its end, a full one or a shorter one behind
--- full ones, may have so many to come
+-- the open chunk of a packet of this many bytes up to its end, a full one or a shorter one after
+-- full ones, may have this many to come
 abbrev pub IsInChunk : ℕ → ℕ → Type 0
 IsInChunk size left =
     ((size % max_payload ≡ 0) × (left ≤ max_payload) × (left ≤ size))
@@ -39,13 +39,13 @@ abbrev pub IsPlace : ℕ → ℕ → Type 0
 IsPlace size zero = size % max_payload ≡ 0
 IsPlace size (suc less) = IsInChunk size (suc less)
 
--- a decoder may stand so: it does behind the bytes of some stream, which began between two packets
+-- a decoder may stand so: it does after the bytes of some stream, which began between two packets
 abbrev pub CanStand : SpanState → Type 0
 CanStand state =
     (first limit : ℕ) × (input : List ℕ) × (payloads : List (List ℕ)) × (opened : List ℕ)
     × (state.limit ≤ limit) × CameTo first limit input payloads opened state
 
--- so it may behind more bytes that came
+-- so it may after more bytes that came
 abbrev pub SpansStand : Type 0
 SpansStand =
     (before after : SpanState) (eaten : List ℕ) (spans : List (List ℕ × Bool))

@@ -79,7 +79,7 @@ JoinedSpans =
 abbrev pub NothingCame : Type 0
 NothingCame = (state : SpanState) → SpansOn state [] [] state
 
--- a piece that went whole, and the front of the one behind it
+-- a piece that went whole, and the front of the one after it
 abbrev pub JoinedRenumberings : Type 0
 JoinedRenumberings =
     (before between after : SpanState) (id other next count : ℕ) (old new more others : List ℕ)

@@ -26,7 +26,7 @@ front_bytes (Three a b c) = a ∷ b ∷ c ∷ []
 pub data SpanPlace : Type 0 where
   -- in front of a chunk's bytes: these bytes of its header came
   AtHeader : List ℕ → SpanPlace
-  -- among them: so many are to come, and whether the chunk is a full one
+  -- among them: this many are to come, and whether the chunk is a full one
   Within : ℕ → Bool → SpanPlace
 
 abbrev pub place_of : Place → SpanPlace
@@ -55,8 +55,8 @@ span_state decoder =
       place = place_of decoder.place;
     }
 
--- the full chunks of an open packet, and behind them the header of its open chunk and the part of
--- the chunk that came, with so many bytes to come
+-- the full chunks of an open packet, and after them the header of its open chunk and the part of
+-- the chunk that came, with this many bytes to come
 pub record InOpenChunk (first limit id size left : ℕ) (is_full : Bool)
     (opened begun : List ℕ) : Type 0 where
   pub held : List ℕ
@@ -72,7 +72,7 @@ pub record InOpenChunk (first limit id size left : ℕ) (is_full : Bool)
   pub size_is : size ≡ length opened + left
   pub within : size ≤ limit
 
--- the full chunks of an open packet, and behind them these bytes of the next header
+-- the full chunks of an open packet, and after them these bytes of the next header
 pub record InNextHeader (first limit id size : ℕ) (came opened begun : List ℕ) : Type 0 where
   pub opened_whole : IsWholeChunks opened
   pub begun_is : begun ≡ front first opened ++ came
@@ -107,13 +107,13 @@ packets_of opened [] = []
 packets_of opened (span ∷ spans) =
     if span.1 then (opened ++ span.0) ∷ packets_of [] spans else packets_of (opened ++ span.0) spans
 
--- the bytes that are open behind them
+-- the bytes that are open after them
 abbrev pub opened_after : List ℕ → List (List ℕ × Bool) → List ℕ
 opened_after opened [] = opened
 opened_after opened (span ∷ spans) =
     if span.1 then opened_after [] spans else opened_after (opened ++ span.0) spans
 
--- so many bytes more came, in these spans: wherever the stream stood, the packets are those that
+-- this many bytes more came, in these spans: wherever the stream stood, the packets are those that
 -- the spans make
 abbrev pub SpansOn : SpanState → List ℕ → List (List ℕ × Bool) → SpanState → Type 0
 SpansOn before eaten spans after =
@@ -147,7 +147,7 @@ abbrev pub Refuses : SpanError → ℕ → ℕ → List ℕ → List ℕ → Typ
 Refuses PacketTooLarge first limit opened rest = IsTooLarge limit opened rest
 Refuses PacketsOutOfSync first limit opened rest = IsOfAnotherId first limit opened rest
 
--- in front of these bytes a decoder stops: wherever the stream stood, it stood behind full chunks,
+-- in front of these bytes a decoder stops: wherever the stream stood, it stood after full chunks,
 -- and the header that follows is refused
 abbrev pub StopsBefore : SpanState → List ℕ → SpanError → Type 0
 StopsBefore state more error =

@@ -18,7 +18,7 @@ pub struct UnfinishedPacket;
 pub struct FramePart<'a> {
     /// The header of the next chunk, where one begins here. It goes first.
     pub header: Option<[u8; HEADER_LEN]>,
-    /// Payload bytes of the chunk, behind its header.
+    /// Payload bytes of the chunk, after its header.
     pub bytes: &'a [u8],
     /// Whether the packet has gone whole with this.
     pub ends_packet: bool,
@@ -33,7 +33,7 @@ pub struct FrameWriter {
     seq_id: u8,
     // How many bytes of the open chunk are to come.
     chunk_left: usize,
-    // How many bytes of the packet are to come behind it, in chunks of their own; `None` where no
+    // How many bytes of the packet are to come after it, in chunks of their own; `None` where no
     // chunk follows.
     behind: Option<usize>,
     ghost fits: { chunk_left + unwrap_or behind 0 < 2 ^ 64 },
@@ -93,7 +93,7 @@ impl FrameWriter {
         self.chunk_left + self.behind.unwrap_or(0)
     }
 
-    /// Begins a packet of so many payload bytes, any number from 0 on. `UnfinishedPacket`: the one
+    /// Begins a packet of this many payload bytes, any number from 0 on. `UnfinishedPacket`: the one
     /// before has not gone whole. Then nothing changes.
     pub fn begin(&mut self, len: usize) -> Result<(), UnfinishedPacket>
         ensures ok { OnOk result ((frame_state self.new ≡ begun (frame_state self.old).id len)
@@ -108,7 +108,7 @@ impl FrameWriter {
         Ok(())
     }
 
-    // Opens the next chunk where one is due: its header. Behind a full chunk another one is due.
+    // Opens the next chunk where one is due: its header. After a full chunk another one is due.
     fn open_chunk(&mut self) -> Option<[u8; HEADER_LEN]>
         ensures frames { FramesOn (frame_state self.old) [] (header_bytes result)
             (frame_state self.new) }
@@ -130,8 +130,8 @@ impl FrameWriter {
 
     /// Eats the front of the piece: what goes out next, or `None` where nothing can go before more
     /// bytes come or another packet is begun. A chunk's header goes out as soon as it is due, also
-    /// with no bytes behind it: so does an empty packet, and the empty chunk that ends a packet of
-    /// a multiple of 16777215 bytes. Bytes behind the packet's end stay in the piece.
+    /// with no bytes after it: so does an empty packet, and the empty chunk that ends a packet of
+    /// a multiple of 16777215 bytes. Bytes after the packet's end stay in the piece.
     pub fn next_part<'a>(&mut self, piece: &mut &'a [u8]) -> Option<FramePart<'a>>
         ensures eaten { IfSome result (λ part. piece.old.now ≡ part.bytes.now ++ piece.new.now) }
         ensures frames { IfSome result (λ part. FramesOn (frame_state self.old) part.bytes.now

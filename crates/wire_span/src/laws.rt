@@ -36,7 +36,7 @@ pub fn spans_stop()
     ensures { SpansStop }
 {}
 
-/// A decoder that stands where some stream brings it still does so behind more bytes.
+/// A decoder that stands where some stream brings it still does so after more bytes.
 pub fn spans_stand()
     ensures { SpansStand }
 {}
@@ -59,7 +59,7 @@ pub fn nothing_came()
     ensures { NothingCame }
 {}
 
-/// A piece that was renumbered whole, and the one behind it, are one piece.
+/// A piece that was renumbered whole, and the one after it, are one piece.
 pub fn joined_renumberings()
     ensures { JoinedRenumberings }
 {}
@@ -87,12 +87,12 @@ pub fn frames_front()
 {}
 
 /// Once the packet has gone whole, what went out is the framing of the bytes that came, from the id
-/// at `begin` on, and the next chunk bears the id behind it.
+/// at `begin` on, and the next chunk bears the id after it.
 pub fn framed_packet()
     ensures { FramedPacket }
 {}
 
-/// Packets that went out one behind another are the stream of their payloads.
+/// Packets that went out one after another are the stream of their payloads.
 pub fn framed_stream()
     ensures { FramedStream }
 {}

@@ -110,7 +110,7 @@ impl HeaderFront {
         }
     }
 
-    // What came, and then the piece: the header and what is behind it, or all that came of it.
+    // What came, and then the piece: the header and what is after it, or all that came of it.
     #[inline(always)]
     fn read<'a>(self, piece: &'a [u8]) -> Result<(Header, &'a [u8]), HeaderFront>
         ensures whole { IfOk result (λ read.
@@ -232,7 +232,7 @@ impl SpanDecoder {
         Ok(())
     }
 
-    // Hands out what came of the open chunk, of which so many bytes are to come.
+    // Hands out what came of the open chunk, of which this many bytes are to come.
     #[inline(always)]
     fn take_span<'a>(
         &mut self,
@@ -289,7 +289,7 @@ impl SpanDecoder {
     /// is empty.
     ///
     /// A header is judged as soon as it has come whole, its limit first and then its id, and no
-    /// byte behind it is handed out before. Where it is refused nothing changes, neither the
+    /// byte after it is handed out before. Where it is refused nothing changes, neither the
     /// decoder nor the piece, so that after `PacketTooLarge` a larger limit goes on, and after
     /// `PacketsOutOfSync` the answer stays.
     #[inline(always)]

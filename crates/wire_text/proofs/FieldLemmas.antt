@@ -62,7 +62,7 @@ pub puts_append : (written : Written) (front back : List Member)
 puts_append written [] back = refl
 puts_append written (member ∷ front) back = puts_append (put written member) front back
 
--- some were put, and others behind them
+-- some were put, and others after them
 pub puts_then : {front back : List Member} {old middle new : Written} → Puts front old middle
     → Puts back middle new → Puts (front ++ back) old new
 puts_then {front = front} {back = back} {old = old} first last = record {
@@ -73,7 +73,7 @@ puts_then {front = front} {back = back} {old = old} first last = record {
 pub zero-false : (n : ℕ) → (n ≡ 0 → ⊥) → (n == 0) ≡ false
 zero-false n never = is_false (n == 0) (λ is. never (grind (arith, common_steps, is)))
 
--- the members of fields one behind another
+-- the members of fields one after another
 pub members_append : (front back : List Field) → members_of (front ++ back) ≡ members_of front ++ members_of back
 members_append [] back = refl
 members_append (field ∷ front) back =
@@ -104,7 +104,7 @@ escape-all_stand (byte ∷ words) is =
     let parts = and_parts (stands byte) _ is in
     rw (byte_stands byte parts.0, escape-all_stand words parts.1) refl
 
--- sixteen bytes, and those behind them
+-- sixteen bytes, and those after them
 pub plain_parts : (rest block behind : List ℕ) → block ≡ take 16 rest → behind ≡ drop 16 rest
     → all_plain rest ≡ (all_plain block && all_plain behind)
 plain_parts rest block behind block_is behind_is =
@@ -187,7 +187,7 @@ pub plain_member : (form : FieldForm) (text name words : List ℕ) → all_plain
     → with_member form text (name, Words words) ≡ with_member form text (name, Word words)
 plain_member form text name words is = with_value form text name (Words words) (Word words) (plain_words Text words is) (plain_words Json words is)
 
--- a name, and the value behind it
+-- a name, and the value after it
 pub member_named : (form : FieldForm) (text name : List ℕ) (value : Value) → (form ≡ Text) ⊎ (form ≡ Json)
     → with_member form text (name, value) ≡ with_name form text name ++ value_text form value
 member_named Hidden text name value shown = absurd (search rules)

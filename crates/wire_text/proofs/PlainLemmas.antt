@@ -101,7 +101,7 @@ compared v long =
     ∙ ap (λ (z : List Bool). nat_eq (mask_l z % 2 ^ 64) 0) (lanes_other v)
     ∙ ap (λ (n : ℕ). nat_eq n 0) (mask_l-mod (map is_other v) 64 (omega (arith, length-map v is_other, long))) ∙ none_other v
 
--- of a list whose front is plain, what is behind it tells, also with some of the front
+-- of a list whose front is plain, what is after it tells, also with some of the front
 pub behind_plain : (k : ℕ) (done rest : List ℕ) → k ≤ length done → all_plain done ≡ true → all_plain (drop k (done ++ rest)) ≡ all_plain rest
 behind_plain zero done rest within is = list_all-append plain done rest ∙ ap (λ (test : Bool). test && all_plain rest) is
 behind_plain (suc k) [] rest within is = absurd (omega (arith, within))
@@ -138,7 +138,7 @@ and_true false = refl
 pub filled_plain : (half block : List ℕ) → block ≡ half ++ (32 ∷ 32 ∷ 32 ∷ 32 ∷ 32 ∷ 32 ∷ 32 ∷ 32 ∷ []) → all_plain block ≡ all_plain half
 filled_plain half block is = ap all_plain is ∙ list_all-append plain half _ ∙ and_true (all_plain half)
 
--- the blocks so far are plain, and these bytes are behind them
+-- the blocks so far are plain, and these bytes are after them
 abbrev pub PlainSoFar : List ℕ → List ℕ → Type 0
 PlainSoFar words rest = (done : List ℕ) × (words ≡ done ++ rest) × (all_plain done ≡ true)
 

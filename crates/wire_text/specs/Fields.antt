@@ -90,21 +90,21 @@ fields_text Json (first ∷ others) =
     codes ",\"fields\":{" ++ pair first ++ flat_map (λ member. codes "," ++ pair member) others
     ++ codes "}"
 
--- ---- as they are put, one behind another
+-- ---- as they are put, one after another
 
 -- how they are shown, and the text so far
 pub record Written : Type 0 where
   pub form : FieldForm
   pub text : List ℕ
 
--- one more behind this text
+-- one more after this text
 abbrev pub with_member : FieldForm → List ℕ → Member → List ℕ
 with_member Hidden text member = text
 with_member Text text member = text ++ line member
 with_member Json [] member = codes ",\"fields\":{" ++ pair member
 with_member Json (byte ∷ text) member = (byte ∷ text) ++ (codes "," ++ pair member)
 
--- a name behind this text, and what stands between it and its value
+-- a name after this text, and what stands between it and its value
 abbrev pub with_name : FieldForm → List ℕ → List ℕ → List ℕ
 with_name Hidden text name = text
 with_name Text text name = text ++ codes "\n  " ++ name ++ codes " "

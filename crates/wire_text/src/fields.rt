@@ -115,7 +115,7 @@ fn is_plain_block(block: &[u8]) -> bool
     other.to_bitmask() == 0
 }
 
-// Fills a place with two parts, one behind the other.
+// Fills a place with two parts, one after the other.
 #[inline(always)]
 fn fill(place: &mut [u8], front: &[u8], behind: &[u8])
     requires { length front.now + length behind.now ≡ length place.old }
@@ -212,7 +212,7 @@ fn escape_letter_of(byte: u8) -> u8
     ESCAPE_LETTERS[byte as usize]
 }
 
-// What stands for a byte where JSON quotes it: so many bytes of these.
+// What stands for a byte where JSON quotes it: this many bytes of these.
 #[inline(always)]
 fn escape_of(byte: u8) -> ([u8; 8], usize)
     ensures { (length result.0 ≡ 8) × (result.1 ≤ 6)
@@ -231,7 +231,7 @@ fn escape_of(byte: u8) -> ([u8; 8], usize)
 }
 
 // The most bytes of a text that is quoted in a room of its own, and that room: six bytes for each,
-// the quotes, and what is written behind the last.
+// the quotes, and what is written after the last.
 const FEW: usize = 64;
 
 const ROOM: usize = 400;
@@ -367,7 +367,7 @@ fn push_few<A: Allocator>(text: &mut String<A>, bytes: &[u8]) -> Result<(), Allo
     text.push_str(unsafe { std::str::from_utf8_unchecked(bytes) })
 }
 
-// A name and the quote behind it, on a line of its own. A name of one or two bytes goes in one
+// A name and the quote after it, on a line of its own. A name of one or two bytes goes in one
 // append with what stands around it.
 #[inline(always)]
 fn push_line_front<A: Allocator>(text: &mut String<A>, name: &str) -> Result<(), AllocError>
@@ -381,7 +381,7 @@ fn push_line_front<A: Allocator>(text: &mut String<A>, name: &str) -> Result<(),
     }
 }
 
-// The same behind another member of an object.
+// The same after another member of an object.
 #[inline(always)]
 fn push_pair_front<A: Allocator>(text: &mut String<A>, name: &str) -> Result<(), AllocError>
     ensures { OnOk result (string_bytes text.new

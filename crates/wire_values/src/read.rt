@@ -10,7 +10,7 @@ use wire_buf::error::WireError;
 use wire_buf::io::ParseBuf;
 use wire_buf::proto::{MyDeserialize, ReadSize};
 
-// Room for so many values is asked for at once: until they are read, a count is only a claim.
+// Room for this many values is asked for at once: until they are read, a count is only a claim.
 const FIRST_ROOM: usize = 64;
 
 // Values one after another, room being taken before each where it is missing.

@@ -28,7 +28,7 @@ pub fn write_each<T: MySerialize, A: Allocator>(
     Ok(())
 }
 
-/// A count and the values behind it, whole or not at all.
+/// A count and the values after it, whole or not at all.
 pub fn write_counted<T: MySerialize, A: Allocator>(
     count: &[u8],
     values: &[T],

@@ -1,4 +1,4 @@
-// Numbers whose length is in their first byte, and texts behind their length: put into buffers, and
+// Numbers whose length is in their first byte, and texts after their length: put into buffers, and
 // read from buffers.
 
 use crate::io::numbers::{Readers, Row};
@@ -30,7 +30,7 @@ impl Readers for Lenenc {
     }
 }
 
-/// Numbers at the ends of the forms, each as it is written, and a byte behind it.
+/// Numbers at the ends of the forms, each as it is written, and a byte after it.
 pub const WRITTEN: &[Row<u64>] = &[
     (1, b"\0\xfe", 0),
     (1, b"\x01\xfe", 1),
@@ -95,7 +95,7 @@ const PUT: &[u8] = b"\x04\x03\x02\
     \xfe\xff\xff\xff\xff\xff\xff\
     \x01a\x01b\x01\0\0\0c\xff";
 
-// Puts numbers of a fixed width, and texts behind their length, each as it stands in `PUT`.
+// Puts numbers of a fixed width, and texts after their length, each as it stands in `PUT`.
 fn put_fixed<B: BufMutExt>(buf: &mut B, long: &[u8]) -> [bool; 10] {
     [
         is_done(buf.put_u24_le(0x01020304)),
@@ -111,7 +111,7 @@ fn put_fixed<B: BufMutExt>(buf: &mut B, long: &[u8]) -> [bool; 10] {
     ]
 }
 
-// Whether these are put one behind the other, and of a text whose length its byte can't say, as
+// Whether these are put one after the other, and of a text whose length its byte can't say, as
 // much as that says. And of a text that is refused the length is left.
 fn all_are_put(alloc: Global) -> bool {
     let mut buf = Vec::new(alloc);
@@ -187,7 +187,7 @@ fn answer<B: BufMutExt>(buf: &mut B, text: Option<&[u8]>, number: u64) -> Result
     })
 }
 
-// How much is left of a put that writes so many bytes, of which so many are in front of a text:
+// How much is left of a put that writes this many bytes, of which this many are in front of a text:
 // all where there is room for that, and else its length, where there is room for that, and else
 // nothing.
 fn left_of(front: usize, whole: usize, room: usize) -> usize {

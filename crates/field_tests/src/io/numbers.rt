@@ -182,7 +182,7 @@ impl Readers for SignedBe {
 /// A width, bytes that begin with a number of that width, and the number.
 pub type Row<'a, N> = (usize, &'a [u8], N);
 
-// Whether both forms answer this, and leave so many bytes. Where there is no number, the plain form
+// Whether both forms answer this, and leave this many bytes. Where there is no number, the plain form
 // isn't called.
 fn answers<R: Readers>(width: usize, input: &[u8], wanted: Option<R::Number>, left: usize) -> bool {
     let mut buf = ParseBuf(input);
@@ -196,7 +196,7 @@ fn answers<R: Readers>(width: usize, input: &[u8], wanted: Option<R::Number>, le
 }
 
 /// Whether both forms read the row's number, whatever follows, and nothing from fewer bytes, of
-/// which so many at most are eaten.
+/// which this many at most are eaten.
 pub fn is_read<R: Readers>(row: &Row<'_, R::Number>, eaten: usize) -> bool {
     let (width, bytes, number) = *row;
     let mut all = width <= bytes.len();

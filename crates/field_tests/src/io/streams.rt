@@ -17,7 +17,7 @@ use test_support::reference::between;
 
 // ---- numbers
 
-// Whether a stream that begins so gives this number, and its last bytes are left, so many.
+// Whether a stream that begins so gives this number, and its last bytes are left, this many.
 fn gives(bytes: &[u8], wanted: Result<u64, Answer>, left: usize) -> bool {
     let mut reader = bytes;
     let read = answered(reader.read_lenenc_int());

@@ -53,14 +53,14 @@ const TEXT: &[u8] = &[b'a'; LEN];
 
 const HEADER: &[u8] = b"\xc8\0\0\0";
 
-// Two bytes and, behind them, a header and the two pieces of a packet.
+// Two bytes and, after them, a header and the two pieces of a packet.
 const FRAMED: [&[u8]; 3] = [b"ab\xc8\0\0\0", TEXT, b""];
 
 const FRAMED_FROM_255: [&[u8]; 3] = [b"ab\x05\0\0\xff", b"123", b"45"];
 
 // ---- framing
 
-// A receiver whose `src` holds two bytes, with little room behind them.
+// A receiver whose `src` holds two bytes, with little room after them.
 fn begun<A: Allocator + Copy>(heap: &Heap, alloc: A) -> Receiver<A> {
     heap.refuse(NEVER);
     Receiver::holding(alloc, LEN, b"ab")

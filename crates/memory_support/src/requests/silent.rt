@@ -187,7 +187,7 @@ fn fixture<'h, A: Allocator + Copy, T: Target>(
 }
 
 // Two calls, of which the second meets a remembered header where the first waits. The codec stands
-// before and, its ids set right, behind.
+// before and, its ids set right, after.
 fn decodes_nothing_in<A, T>(to: &mut Fixture<'_, A, T>, answer: Answer) -> bool
 where
     A: Allocator + Copy,

@@ -1,4 +1,4 @@
-//! The functions that write behind what a vector holds.
+//! The functions that write after what a vector holds.
 
 use crate::writing::{Writing, write};
 use std::alloc::Allocator;
@@ -7,9 +7,9 @@ use test_support::facts::are_parts;
 use test_support::fields::full;
 use test_support::fixture::Heap;
 
-// A function by its name, and what stands behind the byte `aa` after its first request is refused,
+// A function by its name, and what stands after the byte `aa` after its first request is refused,
 // after its second, and so on, and in the end. The same call made after a refusal puts the last of
-// these behind what stands.
+// these after what stands.
 type Row = (&'static str, Writing, &'static [&'static [u8]]);
 
 const ROWS: &[Row] = &[

@@ -27,7 +27,7 @@ pub fn other_command<A: Allocator + Copy>(
     fields.put("payload", FieldValue::Bytes(payload))
 }
 
-/// One of the columns of a table, with its default behind it.
+/// One of the columns of a table, with its default after it.
 pub fn column_bytes<A: Allocator + Copy>(
     fields: &mut Fields<A>,
     payload: &[u8],

@@ -45,7 +45,7 @@ fn put_text<A: Allocator + Copy>(
     }
 }
 
-// Reads a row of so many columns, value by value, and puts each. The answer is why it is none.
+// Reads a row of this many columns, value by value, and puts each. The answer is why it is none.
 fn put_texts<A: Allocator + Copy>(
     global: Global,
     fields: &mut Fields<A>,
@@ -69,7 +69,7 @@ fn put_texts<A: Allocator + Copy>(
     })
 }
 
-/// Reads a row of so many columns, value by value, and puts each. The answer is why it is none.
+/// Reads a row of this many columns, value by value, and puts each. The answer is why it is none.
 pub fn text_row<A: Allocator + Copy>(
     global: Global,
     fields: &mut Fields<A>,
@@ -199,7 +199,7 @@ fn put_column<'a, A: Allocator + Copy>(
     }
 }
 
-// The values of a row whose columns have these types, and what stands behind them.
+// The values of a row whose columns have these types, and what stands after them.
 fn binary_values<A: Allocator + Copy>(
     global: Global,
     fields: &mut Fields<A>,

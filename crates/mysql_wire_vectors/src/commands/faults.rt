@@ -142,7 +142,7 @@ const ROWS: &[Row] = &[
 ];
 
 // Whether a row ends with this status where this fails. Where it isn't the row's own, a front of its
-// text is written, of so many bytes at most.
+// text is written, of this many bytes at most.
 fn ends(alloc: Global, row: Row<'_>, faults: Faults, wanted: u8, most: usize) -> bool {
     let (status, text, _) = run(alloc, row.words, row.input, faults);
     let is_front = row.text.starts_with(text.as_slice());
@@ -163,7 +163,7 @@ fn is_read(alloc: Global, row: Row<'_>, read: usize, kind: ErrorKind) -> bool {
     ends(alloc, row, faults, wanted, row.most)
 }
 
-// Whether it does where writes of so many bytes take none or fail behind so many, if there are more.
+// Whether it does where writes of this many bytes take none or fail after this many, if there are more.
 fn is_written(alloc: Global, row: Row<'_>, room: usize, at_once: usize, fails: bool) -> bool {
     let mut faults = NO_FAULT;
     faults.at_once = at_once;
@@ -188,7 +188,7 @@ fn is_interrupted(alloc: Global, row: Row<'_>) -> bool {
     ends(alloc, row, faults, if is_met { 2 } else { row.status }, 0)
 }
 
-// No row makes so many reads or requests, or writes so many bytes.
+// No row makes this many reads or requests, or writes this many bytes.
 const COUNT: usize = 30;
 
 // Whether it does where the request of this number is refused, if it is made.

@@ -6,7 +6,7 @@ use std::alloc::{AllocError, Global};
 use std::test::Fail;
 use test_support::facts::{ensure, same};
 
-// So many packets of 20 bytes, framed, and their lines.
+// This many packets of 20 bytes, framed, and their lines.
 fn packets(alloc: Global, count: usize) -> Result<(Vec<u8>, Vec<u8>), AllocError> {
     let (mut bytes, mut lines) = (Vec::new(alloc), Vec::new(alloc));
     let mut id = 0u8;

@@ -100,7 +100,7 @@ fn is_right(alloc: Global, step: usize, at: usize) -> bool {
     }
 }
 
-// Places in the input and behind it.
+// Places in the input and after it.
 const PLACES: &[usize] = &[0, 1, 5, 8, 11, 12, 4294967295];
 
 // The same where the limit changes at each of the places.

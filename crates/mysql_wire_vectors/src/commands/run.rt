@@ -13,7 +13,7 @@ pub struct Faults {
     /// The read of this number, counted from 0, fails or is interrupted.
     pub read: usize,
     pub kind: ErrorKind,
-    /// A write takes so many bytes at most; behind this many in all it takes none, or fails.
+    /// A write takes this many bytes at most; after this many in all it takes none, or fails.
     pub at_once: usize,
     pub room: usize,
     pub fails: bool,

@@ -13,7 +13,7 @@ const INPUT: &[u8] = b"\x01\0\0\0a\x01\0\0\x01b\x02\0\0\x02cd";
 
 const ENDS: [usize; 3] = [5, 10, 16];
 
-// The packets that are whole where so many bytes have come.
+// The packets that are whole where this many bytes have come.
 fn whole_packets(came: usize) -> &'static [u8] {
     let mut whole = 0;
     for end in ENDS {
@@ -24,7 +24,7 @@ fn whole_packets(came: usize) -> &'static [u8] {
     &INPUT[..whole.min(INPUT.len())]
 }
 
-// Whether these are sent, and nothing else, where reads bring so many bytes and that of this number
+// Whether these are sent, and nothing else, where reads bring this many bytes and that of this number
 // fails.
 fn is_sent(alloc: Global, at_once: usize, read: usize) -> bool {
     let parts = [(INPUT, 0)];
@@ -76,7 +76,7 @@ impl Write for Whole {
     }
 }
 
-// So many packets of 300 bytes, framed, in 304 bytes each.
+// This many packets of 300 bytes, framed, in 304 bytes each.
 fn packets(alloc: Global, count: u8) -> Result<Vec<u8>, AllocError> {
     let mut bytes = Vec::new(alloc);
     for id in 0..count {

@@ -26,7 +26,7 @@ const NULLS: &[(&[u8], usize, bool, bool)] = &[
     (b"", 0, false, false),
 ];
 
-// Bitmaps of so many values, and their lengths: of parameters, and of columns.
+// Bitmaps of this many values, and their lengths: of parameters, and of columns.
 const LENGTHS: &[(usize, usize, usize)] = &[
     (0, 0, 1),
     (1, 1, 1),

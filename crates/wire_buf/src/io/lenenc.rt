@@ -1,4 +1,4 @@
-//! Length-encoded integers, and texts behind their length, read from a buffer.
+//! Length-encoded integers, and texts after their length, read from a buffer.
 //!
 //! <https://dev.mysql.com/doc/dev/mysql-server/latest/page_protocol_basic_dt_integers.html>
 //! <https://dev.mysql.com/doc/dev/mysql-server/latest/page_protocol_basic_dt_strings.html>
@@ -58,7 +58,7 @@ impl<'a> ParseBuf<'a> {
         self.checked_eat(len as usize)
     }
 
-    /// Eats a text behind one byte of length.
+    /// Eats a text after one byte of length.
     pub fn eat_u8_str(&mut self) -> &'a [u8]
         requires { HoldsText (IsFixed 1) self.old.0.now }
         ensures { EatsText (IsFixed 1) self.old.0.now result.now self.new.0.now }
@@ -76,7 +76,7 @@ impl<'a> ParseBuf<'a> {
         self.checked_eat(len as usize)
     }
 
-    /// Eats a text behind four bytes of length, the least significant first.
+    /// Eats a text after four bytes of length, the least significant first.
     pub fn eat_u32_str(&mut self) -> &'a [u8]
         requires { HoldsText (IsFixed 4) self.old.0.now }
         ensures { EatsText (IsFixed 4) self.old.0.now result.now self.new.0.now }

@@ -32,8 +32,8 @@ impl<'a> ParseBuf<'a> {
         T::deserialize(alloc, ctx, self)
     }
 
-    /// Reads a value. A type with a size sees so many bytes and no more, and they are eaten even
-    /// where it refuses them or looks at fewer, so that a reader goes on behind a bad field. Where
+    /// Reads a value. A type with a size sees this many bytes and no more, and they are eaten even
+    /// where it refuses them or looks at fewer, so that a reader goes on after a bad field. Where
     /// fewer are left, the answer is `UnexpectedEof`, and none is eaten.
     #[inline(always)]
     pub fn parse<T>(&mut self, alloc: Global, ctx: T::Ctx) -> Result<T, WireError>
@@ -58,7 +58,7 @@ impl<'a> ParseBuf<'a> {
         }
     }
 
-    // Reads a value of this size from the first bytes, so many.
+    // Reads a value of this size from the first bytes, this many.
     fn parse_front<T, A>(&mut self, size: usize, alloc: A, ctx: T::Ctx) -> Result<T, WireError>
     where
         A: Allocator + Copy,

@@ -76,7 +76,7 @@ pub fn deliver<A: Allocator + Copy>(
     ensures runs { TakesPieces (state_at codec.old src.old dst.old) pieces.now result.0 result.1
         (state_at codec.new src.new dst.new) (HandsOut out.old.items out.new.items) }
 
-    // So many pieces were appended, and with fewer of them the run only waits.
+    // This many pieces were appended, and with fewer of them the run only waits.
     ensures count { result.0 ≤ length pieces.now }
     ensures least { (j : ℕ) → j < result.0
         → Waits (state_at codec.old src.old dst.old) (joined (take j pieces.now)) }

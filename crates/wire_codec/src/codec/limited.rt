@@ -40,7 +40,7 @@ pub fn deliver_limited<A: Allocator + Copy>(
     ensures on { TakesGoingOn (state_at codec.old src.old dst.old) pieces.now result.0 result.1
         (state_at codec.new src.new dst.new) (HandsOut out.old.items out.new.items) }
 
-    // So many pieces were appended, and with fewer of them the run only waits.
+    // This many pieces were appended, and with fewer of them the run only waits.
     ensures count { result.0 ≤ length pieces.now }
     ensures least { (j : ℕ) → j < result.0
         → WaitsLimited (state_at codec.old src.old dst.old) pieces.now j }
@@ -76,7 +76,7 @@ pub fn deliver_each_limited<A: Allocator + Copy, V: Visit>(
     ensures on { TakesGoingOn (state_at codec.old src.old dst.old) pieces.now result.0 result.1
         (state_at codec.new src.new dst.new) (Visited V.sees visitor.old visitor.new) }
 
-    // So many pieces were appended, and with fewer of them the run only waits.
+    // This many pieces were appended, and with fewer of them the run only waits.
     ensures count { result.0 ≤ length pieces.now }
     ensures least { (j : ℕ) → j < result.0
         → WaitsLimited (state_at codec.old src.old dst.old) pieces.now j }

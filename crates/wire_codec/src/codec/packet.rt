@@ -70,7 +70,7 @@ impl PacketCodec {
         self.stands_behind(unread, dst.len())
     }
 
-    // As `stands_before`, with so many bytes in `dst`.
+    // As `stands_before`, with this many bytes in `dst`.
     fn stands_behind(&self, unread: &[u8], held: usize) -> bool
         ensures { (dst : List ℕ) → length dst ≡ held
             → (IsTrue result ↔ Stands (codec_state self.now unread.now dst)) }
@@ -109,7 +109,7 @@ impl PacketCodec {
     }
 
     /// Takes chunks from the front of `src` until a packet is whole, and puts their payload bytes
-    /// behind what `dst` holds, which is asked for room once, for all bytes that the call takes.
+    /// after what `dst` holds, which is asked for room once, for all bytes that the call takes.
     /// The answer is whether `dst` now holds a whole packet. After false the call is made again
     /// with the same `dst` and more bytes in `src`; after true, with an empty `dst`.
     ///
@@ -220,7 +220,7 @@ impl PacketCodec {
         self.seq_id = seq_id;
     }
 
-    /// Stands in front of a packet whose first chunk bears this id, as behind one that was taken
+    /// Stands in front of a packet whose first chunk bears this id, as after one that was taken
     /// without the codec. A remembered header is forgotten.
     pub fn begin_at(&mut self, seq_id: u8)
         ensures id { expected_id self.new ≡ seq_id }
@@ -244,7 +244,7 @@ impl PacketCodec {
 enum Progress {
     // The packet is whole.
     Whole,
-    // A full chunk, and bytes behind it.
+    // A full chunk, and bytes after it.
     More,
     // More bytes are needed.
     Starved,

@@ -11,7 +11,7 @@ use std::alloc::Allocator;
 
 // A way in which `O` takes packets.
 pub(crate) trait Takes<A: Allocator + Copy, O> {
-    // What so many packets, taken one after another, make of it.
+    // What this many packets, taken one after another, make of it.
     ghost took: { O → List (List ℕ) → O → Type 0 };
 
     // Decodes the next packet, which is taken. False where more bytes are needed.

@@ -14,7 +14,7 @@ use wire_buf::error::{InvalidLengthEncodedInteger, WireError};
 // How many bytes of a text room is asked for before they are read.
 const ROOM_AT_A_TIME: u64 = 8192;
 
-// Appends so many bytes of a reader to a text.
+// Appends this many bytes of a reader to a text.
 fn read_more<R: Read, A: Allocator>(
     reader: &mut R,
     text: &mut Vec<u8, A>,

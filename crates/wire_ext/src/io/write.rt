@@ -59,7 +59,7 @@ pub trait WriteMysqlExt: WriteBytesExt {
         write_spelling(self, n)
     }
 
-    /// Writes a `string<lenenc>`: the text behind its length as an `int<lenenc>`. A count past
+    /// Writes a `string<lenenc>`: the text after its length as an `int<lenenc>`. A count past
     /// `u64::MAX` stays there.
     ///
     /// <https://dev.mysql.com/doc/dev/mysql-server/latest/page_protocol_basic_dt_strings.html>

@@ -78,7 +78,7 @@ fn nine_bytes(value: u64) -> [u8; 9]
     [0xff, a, b, c, d, e, f, g, h]
 }
 
-// The number whose bytes are the spelling in so many bytes, below nine.
+// The number whose bytes are the spelling in this many bytes, below nine.
 fn marked(value: u64, size: usize) -> u64
     requires low { 1 ≤ size }
     requires high { size ≤ 8 }

@@ -40,7 +40,7 @@ fn part(digits: &[u8]) -> Option<u8>
     Some(number)
 }
 
-// The same behind a sign, if there is one.
+// The same after a sign, if there is one.
 fn signed_part(piece: &[u8]) -> Option<u8>
     ensures { MatchOption result ((n : ℕ) → ¬ IsSignedPart piece.now n)
         (λ n. IsSignedPart piece.now n) }
@@ -87,7 +87,7 @@ fn version_of(text: &[u8]) -> Option<(u8, u8, u8)>
 }
 
 /// Splits a server's version, as `8.0.36-log`, into its three numbers, each at most 255. The first
-/// two may have a sign, and behind the third anything may follow. The answer is three zeros where
+/// two may have a sign, and after the third anything may follow. The answer is three zeros where
 /// the text is no such version.
 pub fn split_version(version_str: &[u8]) -> (u8, u8, u8)
     ensures { ReadsVersion version_str.now result }

@@ -18,7 +18,7 @@ use wire_repr::field_laws::parse_back;
 use wire_repr::int::{IntRepr, LeU32, LeU64, RawInt};
 use wire_repr::wire::Wire;
 
-/// Numbers in a list, behind four bytes of their count.
+/// Numbers in a list, after four bytes of their count.
 pub fn seq_u32<'de, T: IntRepr>(
     alloc: Global,
     buf: &mut ParseBuf<'de>,
@@ -47,7 +47,7 @@ pub fn seq_u32_comes_back<'de, T: Clone + Wire<'de, A, Ctx = ()>, A: Allocator +
         → AllKept T.kept (cow_slice_items _seq.now.0) (cow_slice_items _back.now.0) }
 {}
 
-/// Numbers in a list, behind eight bytes of their count.
+/// Numbers in a list, after eight bytes of their count.
 pub fn seq_u64<'de, T: IntRepr>(
     alloc: Global,
     buf: &mut ParseBuf<'de>,

@@ -20,7 +20,7 @@ use wire_values::write::{write_counted, write_each};
 
 /// How many values a list has, and how that is written.
 ///
-/// As the ids of servers with their transactions, behind eight bytes:
+/// As the ids of servers with their transactions, after eight bytes:
 /// <https://dev.mysql.com/doc/dev/mysql-server/latest/page_protocol_com_binlog_dump_gtid.html>
 pub trait SeqRepr {
     /// How many values are written at most. The others are left out.

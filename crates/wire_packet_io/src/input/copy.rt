@@ -129,7 +129,7 @@ impl<R: Read, A: Allocator + Copy> Input<R, A> {
         }
     }
 
-    /// Two steps of it at most, the header in front and the bytes behind it: whether the packet has
+    /// Two steps of it at most, the header in front and the bytes after it: whether the packet has
     /// ended.
     #[inline(always)]
     pub(crate) fn copy_begin<W: Write>(

@@ -17,7 +17,7 @@ use wire_codec::codec::header::{HEADER_LEN, Header};
 use wire_span::SpanDecoder;
 
 impl<R: Read, A: Allocator + Copy> Input<R, A> {
-    // Moves what came of the open chunk behind what is pending: whether that ended the packet.
+    // Moves what came of the open chunk after what is pending: whether that ended the packet.
     // `None` where nothing of it is there.
     fn relay_bytes<W: Write, B: Allocator + Copy>(
         &mut self,
@@ -120,7 +120,7 @@ impl<R: Read, A: Allocator + Copy> Input<R, A> {
         }
     }
 
-    /// Moves the next packet behind what is pending, with ids from the next one on: true where it
+    /// Moves the next packet after what is pending, with ids from the next one on: true where it
     /// has ended, false where the input ends between two packets. All that is pending is written
     /// before each read.
     pub(crate) fn relay<W: Write, B: Allocator + Copy>(

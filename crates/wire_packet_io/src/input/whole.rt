@@ -24,7 +24,7 @@ pub(crate) fn in_front_of(codec: &PacketCodec) -> SpanDecoder
 }
 
 impl<R: Read, A: Allocator + Copy> Input<R, A> {
-    /// How many bytes the packet in front has, and the id behind it, where it lies whole in one
+    /// How many bytes the packet in front has, and the id after it, where it lies whole in one
     /// chunk, has a byte, and is not refused.
     #[inline(always)]
     pub(crate) fn whole_front(&self, codec: &PacketCodec) -> Option<(usize, u8)>

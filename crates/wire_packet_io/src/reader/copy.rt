@@ -122,7 +122,7 @@ impl<R: Read, A: Allocator + Copy> PacketReader<R, A> {
         self.input.copy(decoder, writer)
     }
 
-    // Keeps the place in the packet, or, where it has ended, puts the codec behind it.
+    // Keeps the place in the packet, or, where it has ended, puts the codec after it.
     pub(super) fn keep_place(
         &mut self,
         codec: &mut PacketCodec,

@@ -17,11 +17,11 @@ use wire_span::SpanDecoder;
 impl<R: Read, A: Allocator + Copy> PacketReader<R, A> {
     /// Passes the next packet on to a writer, with the ids of the writer's codec: true where it has
     /// ended, false where the input ends between two packets. Its chunks keep their lengths. What
-    /// is kept of it is what one read brings, and as much behind what is pending, whatever its
+    /// is kept of it is what one read brings, and as much after what is pending, whatever its
     /// size; the limit of the reader's codec counts.
     ///
     /// All that is pending is written, and flushed, before each read. The packet's last bytes are
-    /// pending as behind `queue`: `write_pending` writes them, once for many packets.
+    /// pending as after `queue`: `write_pending` writes them, once for many packets.
     ///
     /// It asks for a reader between two packets, with nothing lent or held; `can_copy` is the test.
     /// A chunk is refused as soon as its header has come, with `PacketTooLarge` or

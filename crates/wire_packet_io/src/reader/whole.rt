@@ -16,7 +16,7 @@ use wire_codec::codec::header::{HEADER_LEN, Header};
 
 impl<R: Read, A: Allocator + Copy> PacketReader<R, A> {
     // Passes on the packet in front, where it lies whole in one chunk and there is room for it
-    // behind what is pending: whether it has. No memory is asked for. Nothing changes where it
+    // after what is pending: whether it has. No memory is asked for. Nothing changes where it
     // hasn't.
     #[inline(always)]
     pub(super) fn relay_whole<W: Write, B: Allocator + Copy>(

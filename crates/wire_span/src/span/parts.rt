@@ -39,7 +39,7 @@ impl HeaderFront {
         }
     }
 
-    // Back from so many bytes, and zeros.
+    // Back from this many bytes, and zeros.
     fn of_padded(bytes: [u8; 3], len: u8) -> Option<HeaderFront>
         ensures some { IfSome result (λ came. front_bytes came ≡ take len bytes) }
         ensures len { IfSome result (λ came. length (front_bytes came) ≡ len) }
@@ -55,7 +55,7 @@ impl HeaderFront {
     }
 }
 
-// Whether so many bytes may be to come of the open chunk, up to whose end the packet has so many.
+// Whether this many bytes may be to come of the open chunk, up to whose end the packet has this many.
 #[tactic(auto, using(crate::proofs::PartLemmas::full_chunk))]
 fn is_in_chunk(size: usize, left: usize) -> bool
     ensures { IsTrue result ↔ IsInChunk size left }
@@ -68,7 +68,7 @@ fn is_in_chunk(size: usize, left: usize) -> bool
     }
 }
 
-// The place in a packet of so many bytes up to the end of its open chunk, of which so many are to
+// The place in a packet of this many bytes up to the end of its open chunk, of which this many are to
 // come. `None` where no packet has such a chunk.
 fn place_at(size: usize, left: usize, came: HeaderFront) -> Option<Place>
     ensures some { IfSome result (λ place. place_of place ≡ place_at size left (front_bytes came)) }
@@ -105,7 +105,7 @@ impl SpanDecoder {
         }
     }
 
-    /// The decoder that stands so. `None` where no decoder does, behind whatever bytes.
+    /// The decoder that stands so. `None` where no decoder does, after whatever bytes.
     pub fn from_parts(parts: SpanParts) -> Option<SpanDecoder>
         ensures some { IfSome result (λ decoder. span_state decoder ≡ parts_state parts) }
         ensures exact { IsSome result ↔ (IsTidy parts × CanStand (parts_state parts)) }

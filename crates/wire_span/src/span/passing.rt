@@ -50,7 +50,7 @@ impl SpanDecoder {
         Ok(self.pass(header.len, header.len == MAX_PAYLOAD_LEN, 0))
     }
 
-    /// So many bytes of the open chunk came: whether they end their packet. It asks that no more of
+    /// This many bytes of the open chunk came: whether they end their packet. It asks that no more of
     /// them came than were to come.
     pub fn pass_bytes(&mut self, count: usize) -> bool
         requires { count ≤ left_in (span_state self.old).place }

@@ -11,7 +11,7 @@ use std::num::NonZeroUsize;
 use wire_const::MAX_PAYLOAD_LEN;
 
 impl SpanDecoder {
-    // So many bytes of the open chunk came, of which so many were to come: whether they end their
+    // This many bytes of the open chunk came, of which this many were to come: whether they end their
     // packet.
     pub(super) fn pass(&mut self, left: usize, is_full: bool, came: usize) -> bool
         requires { came ≤ left }
@@ -98,7 +98,7 @@ impl Renumber {
     }
 
     /// Writes the ids over those of the piece, which goes on where the last one ended. Where a
-    /// header is refused nothing of it is written, and nothing behind it. The number is then the
+    /// header is refused nothing of it is written, and nothing after it. The number is then the
     /// place in the piece at which it begins: how many bytes may go. What is left from there on may
     /// be given again. It is 0 where earlier pieces brought the header's front, which has gone:
     /// `decoder.partial_header_len()` bytes.

@@ -6,7 +6,7 @@ use Rattle.mysql_wire_commands.specs.declared.unframe.Verdict.{Verdict}
 use Rattle.mysql_wire_commands.specs.Unframe.{TakesPiece, run_state}
 use Rattle.mysql_wire_commands.proofs.unframe.take_piece.Given as goal
 
--- what the rest makes of it, the whole piece does, behind the text that was written
+-- what the rest makes of it, the whole piece does, after the text that was written
 abbrev pub invariant-parts : goal.invariant-parts
 invariant-parts g l = record {
   aligned : Aligned (run_state l.run);

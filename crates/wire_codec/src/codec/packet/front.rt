@@ -86,12 +86,12 @@ impl PacketCodec {
         Some(&front[HEADER_LEN..HEADER_LEN + header.len])
     }
 
-    /// Accepts the packet that `front_packet` lends: the codec goes on behind it, and its bytes
+    /// Accepts the packet that `front_packet` lends: the codec goes on after it, and its bytes
     /// stay where they lie. The answer is how many bytes of `src` are its chunk, header and
     /// payload: `src` is to be advanced by them before the codec reads on. It asks that there is
     /// such a packet.
     ///
-    /// `encode` then bears the id behind the packet, while its bytes are still read.
+    /// `encode` then bears the id after the packet, while its bytes are still read.
     #[inline(always)]
     pub fn accept_front(&mut self, src: &BytesMut<impl Allocator + Copy>) -> usize
         requires { HasFront (codec_state self.old src.now.items []) }

@@ -34,7 +34,7 @@ pub struct Skipped {
 }
 
 impl Skipped {
-    /// Full chunks with so many payload bytes; 0 before a packet.
+    /// Full chunks with this many payload bytes; 0 before a packet.
     pub fn behind(held: usize) -> Self
         ensures { result ≡ record { held = held; begun = None } }
     {
@@ -79,7 +79,7 @@ impl PacketCodec {
         }
     }
 
-    // Drops what came of a chunk with this header, of which so many bytes, with those of the
+    // Drops what came of a chunk with this header, of which this many bytes, with those of the
     // header, are to come.
     fn drop_chunk(
         &mut self,
@@ -158,7 +158,7 @@ impl PacketCodec {
 }
 
 impl OpenChunk {
-    // Whether such a chunk may be open behind full chunks with so many bytes.
+    // Whether such a chunk may be open after full chunks with this many bytes.
     #[tactic(auto, using(crate::specs::Framing::max_payload_is))]
     fn is_behind(self, held: usize, limit: usize) -> bool
         ensures id { self.header.seq_id < 256 }
@@ -193,7 +193,7 @@ impl PacketCodec {
     /// packet.
     ///
     /// `skipped` says how much of the packet was dropped: `Skipped::behind(0)` before a packet, or
-    /// with so many payload bytes of full chunks that `decode` has put. It answers and refuses as
+    /// with this many payload bytes of full chunks that `decode` has put. It answers and refuses as
     /// `decode` would, had the bytes been kept, but asks for no memory. `PacketTooLarge` leaves the
     /// header in `src`, and a larger limit goes on. `PacketsOutOfSync` comes as soon as the chunk of
     /// another id has come whole.

@@ -34,7 +34,7 @@ returns-in-Err-clause-relays g c =
     (ap (λ z. g.W.Write.contents z) c.relay_unread.ensures.kept.3) c.reads.invariant.so_far c.in-Err.ensures.goes
     (relay_unended c.in-Err.error _ _ c.reads.invariant.so_far.1.reads c.in-Err.ensures.ends)
 
--- what was there went behind what is pending, a front of that was written, and the packet goes on
+-- what was there went after what is pending, a front of that was written, and the packet goes on
 went : (g : given.Over) (c : After-write_pending g)
     → RelaysTo g.R.Read.remaining g.W.Write.contents (span_state c.args.decoder.now) (lender None c.args.self.now) c.args.next_id.now c.args.writer.now so_far
     (span_state c.relay_unread.new.decoder) (lender None c.relay_unread.new.self) c.relay_unread.new.next_id c.write_pending.new.self

@@ -34,7 +34,7 @@ lack_room-requires-clause-takeable g c =
     (subst (λ (z : List ℕ). IsTakeable header src (length z) limit id needed) stays
     (takeable limit id header src c.as_ref.result.now needed there len some))
 
--- the packet stands behind the empty `dst`
+-- the packet stands after the empty `dst`
 pub returns-in-Some-new-clause-chain : goal.returns-in-Some-new-clause-chain
 returns-in-Some-new-clause-chain g c =
     let held = g.T.PacketDst.held in
