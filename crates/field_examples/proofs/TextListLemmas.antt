@@ -5,7 +5,7 @@ use Rattle.std.specs.List.{AllZip, each_same}
 use Rattle.std.specs.declared.borrow.CowSlice.{CowSlice}
 use Rattle.std.specs.declared.borrow.CowSlice.TheVariants as slice
 use Rattle.mysql_wire.specs.RawTexts.{IsBorrowedText}
-use Rattle.mysql_wire.specs.Copies.{IsCopy, OwnsAs, Gains}
+use Rattle.mysql_wire.specs.Copies.{IsCopy, OwnsAs, GainsValue}
 
 -- a text that is borrowed is that text
 pub borrowed_text : {Z : Type 0} (c : CowSlice ℕ Z) (text : List ℕ) → IsBorrowedText c text
@@ -51,7 +51,7 @@ module _ {X : Type 0} (text : X → List ℕ) (is_clone : X → X → Type 0) wh
   copied_texts (slice.Owned v) (slice.Owned w) is keeps = each_kept v.items w.items is keeps
 
   pub pushed_texts : {Z : Type 0} (old new : CowSlice X Z) (value : X)
-      → Gains is_clone old value new → Keeps text is_clone
+      → GainsValue is_clone old value new → Keeps text is_clone
       → map text (cow_slice_items new) ≡ map text (cow_slice_items old) ++ text value ∷ []
   pushed_texts old new value gains keeps =
       let items = gains.1.0 in

@@ -4,7 +4,7 @@ use Rattle.std.proofs.lemmas.Bool.{cases_lt}
 use Rattle.std.proofs.lemmas.List.{take-append-le, take_at, length-append}
 use Rattle.std.proofs.lemmas.List.Elements.{All-nil, All-cons}
 use Rattle.std.specs.Io.KnownBytes.{Consumes}
-use Rattle.mysql_wire_commands.specs.declared.noted_read.OneRead.{OneRead}
+use Rattle.mysql_wire_commands.specs.declared.traced_read.OneRead.{OneRead}
 use Rattle.mysql_wire_commands.specs.Reads.{Makes, AskedFor, EachAskedFor, AsksUpTo, AsksStep, came, ReadsWhile}
 
 -- so far this many bytes came

@@ -23,33 +23,33 @@ use Rattle.mysql_wire_commands.specs.Status.{exit_status_of}
 use Rattle.mysql_wire_commands.specs.declared.unframe.Verdict.TheVariants as verdict
 use Rattle.std.specs.List.{FoldsTo}
 use Rattle.mysql_wire_commands.specs.declared.piece_lines.PieceLines.{PieceLines}
-use Rattle.mysql_wire_commands.specs.PieceLines.{Gains, Shows, said}
+use Rattle.mysql_wire_commands.specs.PieceLines.{GainsLine, HoldsLines, pending_lines}
 use Rattle.mysql_wire_commands.specs.Unframe.{packet_lines, ending_line, ending_status, place_limits, StopsAt, TakesLines, Unframing, Unframed, UnframedUnder, UnframeEnds, UnframeEndsOver, UnframeLimitedEnds, UnframeUnderEnds}
 
 -- what one call makes of one piece
 abbrev pub CallRuns : {A : Type 0} → Limits → ℕ → CodecState → ℕ → Bor (List ℕ) → ℕ → Result (Unit {0}) PacketCodecError → PieceLines A → CodecState → Type 0
 CallRuns limits place before limit piece count answer lines after =
-    (gained : List (List ℕ)) × Shows lines gained × RunsOn limits place before ((limit, piece) ∷ []) count answer gained after
+    (gained : List (List ℕ)) × HoldsLines lines gained × RunsOn limits place before ((limit, piece) ∷ []) count answer gained after
 
 -- packets that are visited one after another, where no memory was refused
-lines_gained : {A : Type 0} (old : PieceLines A) (gained : List (List ℕ)) (new : PieceLines A) → FoldsTo Gains old gained new → IsFalse new.is_refused
-    → IsFalse old.is_refused × (said new ≡ said old ++ packet_lines gained)
+lines_gained : {A : Type 0} (old : PieceLines A) (gained : List (List ℕ)) (new : PieceLines A) → FoldsTo GainsLine old gained new → IsFalse new.is_refused
+    → IsFalse old.is_refused × (pending_lines new ≡ pending_lines old ++ packet_lines gained)
 lines_gained old [] new same fine = (
   subst (λ z. IsFalse z.is_refused) (sym same) fine,
-  ap (λ z. said z) (sym same) ∙ sym (append-nil (said old)),
+  ap (λ z. pending_lines z) (sym same) ∙ sym (append-nil (pending_lines old)),
 )
 lines_gained old (packet ∷ packets) new (next, step, steps) fine =
     let more = lines_gained next packets new steps fine in
     let one = step more.0 in (
       one.0,
-      more.1 ∙ ap (λ (z : List ℕ). z ++ packet_lines packets) one.1 ∙ append_assoc (said old) (payload_line packet) (packet_lines packets),
+      more.1 ∙ ap (λ (z : List ℕ). z ++ packet_lines packets) one.1 ∙ append_assoc (pending_lines old) (payload_line packet) (packet_lines packets),
     )
 
-pub visited_lines : {A : Type 0} (old : PieceLines A) (gained : List (List ℕ)) (new : PieceLines A) → said old ≡ [] → FoldsTo Gains old gained new → Shows new gained
+pub visited_lines : {A : Type 0} (old : PieceLines A) (gained : List (List ℕ)) (new : PieceLines A) → pending_lines old ≡ [] → FoldsTo GainsLine old gained new → HoldsLines new gained
 visited_lines old gained new none steps fine = (lines_gained old gained new steps fine).1 ∙ ap (λ (z : List ℕ). z ++ packet_lines gained) none
 
 -- packets that are moved
-pub moved_lines : {A : Type 0} (old new : PieceLines A) (gained : List (List ℕ)) → said old ≡ [] → new.text.items ≡ old.text.items → payloads new.packets.items ≡ payloads old.packets.items ++ gained → Shows new gained
+pub moved_lines : {A : Type 0} (old new : PieceLines A) (gained : List (List ℕ)) → pending_lines old ≡ [] → new.text.items ≡ old.text.items → payloads new.packets.items ≡ payloads old.packets.items ++ gained → HoldsLines new gained
 moved_lines old new gained none same moved fine =
     let before : List (List ℕ) = payloads old.packets.items in
     ap₂ (λ (a : List ℕ) (b : List (List ℕ)). a ++ packet_lines b) same moved
@@ -60,7 +60,7 @@ moved_lines old new gained none same moved fine =
 -- the answer is known
 call_known : {A : Type 0} (limits : Limits) (place : ℕ) (before : CodecState) (limit : ℕ) (piece : Bor (List ℕ)) (count : ℕ) (answer known : Result (Unit {0}) PacketCodecError) (lines : PieceLines A) (after : CodecState)
     → IsFalse lines.is_refused → answer ≡ known → CallRuns limits place before limit piece count answer lines after
-    → (gained : List (List ℕ)) × (said lines ≡ packet_lines gained) × RunsOn limits place before ((limit, piece) ∷ []) count known gained after
+    → (gained : List (List ℕ)) × (pending_lines lines ≡ packet_lines gained) × RunsOn limits place before ((limit, piece) ∷ []) count known gained after
 call_known limits place before limit piece count answer known lines after fine is (gained, shows, run) = (
   gained,
   shows fine,
@@ -70,7 +70,7 @@ call_known limits place before limit piece count answer known lines after fine i
 -- it waits
 pub piece_waits : {A : Type 0} (limits : Limits) (place : ℕ) (before : CodecState) (limit : ℕ) (piece : Bor (List ℕ)) (count : ℕ) (answer : Result (Unit {0}) PacketCodecError) (lines : PieceLines A) (after : CodecState)
     → IsFalse lines.is_refused → answer ≡ Ok tt → OnOk answer (count ≡ 1) → CallRuns limits place before limit piece count answer lines after
-    → TakesLines limits place before piece.now verdict.Waits (said lines) after
+    → TakesLines limits place before piece.now verdict.Waits (pending_lines lines) after
 piece_waits limits place before limit piece count answer lines after fine is all call =
     let one : count ≡ 1 = subst (λ (z : Result (Unit {0}) PacketCodecError). OnOk z (count ≡ 1)) is all in
     let known = call_known limits place before limit piece count answer (Ok tt) lines after fine is call in
@@ -93,7 +93,7 @@ not_lost answer is lost = (let e = sym is ∙ lost in cc)
 -- it ends at a packet past the limit
 pub piece_too_large : {A : Type 0} (limits : Limits) (place : ℕ) (before : CodecState) (limit : ℕ) (piece : Bor (List ℕ)) (count : ℕ) (answer : Result (Unit {0}) PacketCodecError) (lines : PieceLines A) (after : CodecState)
     → IsFalse lines.is_refused → answer ≡ Err PacketTooLarge → CallRuns limits place before limit piece count answer lines after
-    → TakesLines limits place before piece.now verdict.TooLarge (said lines) after
+    → TakesLines limits place before piece.now verdict.TooLarge (pending_lines lines) after
 piece_too_large limits place before limit piece count answer lines after fine is call =
     let known = call_known limits place before limit piece count answer (Err PacketTooLarge) lines after fine is call in
     let left : List ℕ = after.unread ++ limited_bytes (drop count ((limit, piece) ∷ [])) in (
@@ -109,7 +109,7 @@ piece_too_large limits place before limit piece count answer lines after fine is
 -- it ends at a chunk of another id
 pub piece_out_of_sync : {A : Type 0} (limits : Limits) (place : ℕ) (before : CodecState) (limit : ℕ) (piece : Bor (List ℕ)) (count : ℕ) (answer : Result (Unit {0}) PacketCodecError) (lines : PieceLines A) (after : CodecState)
     → IsFalse lines.is_refused → answer ≡ Err PacketsOutOfSync → CallRuns limits place before limit piece count answer lines after
-    → TakesLines limits place before piece.now verdict.OutOfSync (said lines) after
+    → TakesLines limits place before piece.now verdict.OutOfSync (pending_lines lines) after
 piece_out_of_sync limits place before limit piece count answer lines after fine is call =
     let known = call_known limits place before limit piece count answer (Err PacketsOutOfSync) lines after fine is call in
     let left = known.2.1 in (

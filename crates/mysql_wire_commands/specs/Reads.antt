@@ -1,6 +1,6 @@
 -- What reads are asked for.
 use Rattle.std.specs.Prelude.{◌≡◌, ◌⊎◌, ◌+◌, ◌<◌, ◌≤◌, ℕ, List, [], ◌∷◌, ◌++◌, length, take, ⊤, All, Option, Some, IfSome}
-use Rattle.mysql_wire_commands.specs.declared.noted_read.OneRead.{OneRead}
+use Rattle.mysql_wire_commands.specs.declared.traced_read.OneRead.{OneRead}
 
 -- where all reads are known, they are those known before, and these after them
 abbrev pub Makes : Option (List OneRead) → Option (List OneRead) → List OneRead → Type 0

@@ -8,7 +8,7 @@ use Rattle.wire_codec.specs.Codec.{CodecState, codec_state, expected_id, first_i
 use Rattle.wire_codec.specs.Limited.{Limits, place_after, DeliversUnder}
 use Rattle.wire_codec.specs.LimitedRuns.{WaitsUnder}
 use Rattle.wire_codec.specs.GoingOn.{GoesOn}
-use Rattle.mysql_wire_commands.specs.declared.noted_read.OneRead.{OneRead}
+use Rattle.mysql_wire_commands.specs.declared.traced_read.OneRead.{OneRead}
 use Rattle.mysql_wire_commands.specs.declared.unframe.Verdict.{Verdict}
 use Rattle.mysql_wire_commands.specs.declared.unframe.Verdict.TheVariants as verdict
 use Rattle.mysql_wire_commands.specs.declared.unframe.Run.{Run}

@@ -8,8 +8,8 @@ ghost use Rattle.mysql_wire_commands.specs.Numbers.{IsNumber, IsStep};
 
 use crate::chunk::run_chunk;
 use crate::frame::run_frame;
-use crate::noted_read::Unnoted;
 use crate::reframe::run_reframe;
+use crate::traced_read::Unnoted;
 use crate::unframe::{run_unframe, run_unframe_limited};
 use std::alloc::Allocator;
 use std::io::{Read, Write};

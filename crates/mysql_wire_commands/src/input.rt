@@ -5,8 +5,8 @@ ghost use Rattle.std.specs.Io.KnownBytes.{Consumes, IsAtEnd};
 ghost use Rattle.std.specs.Result.{result_unwrap_or};
 ghost use Rattle.mysql_wire_commands.specs.Reads.{Makes};
 
-use crate::noted_read::NotedRead;
 use crate::status::Stop;
+use crate::traced_read::TracedRead;
 use bytes::BytesMut;
 use std::alloc::Allocator;
 use std::io;
@@ -36,7 +36,7 @@ pub fn read_whole<A: Allocator + Copy, R: Read>(
 
 /// One read of at most `most` bytes to the front of `piece`: how many came, none at the end of the
 /// input.
-pub fn read_piece<A: Allocator, R: NotedRead>(
+pub fn read_piece<A: Allocator, R: TracedRead>(
     input: &mut R,
     piece: &mut Vec<u8, A>,
     most: usize,

@@ -1,7 +1,7 @@
 //! What becomes of the packets of a piece, as they are visited.
 
 ghost use Rattle.std.specs.Prelude.{◌≡◌, [], OnOk};
-ghost use Rattle.mysql_wire_commands.specs.PieceLines.{Adds, Gains, said};
+ghost use Rattle.mysql_wire_commands.specs.PieceLines.{AppendsLine, GainsLine, pending_lines};
 
 use crate::packet_lines::{TEXT_AT_ONCE, push_line};
 use std::alloc::{AllocError, Allocator};
@@ -28,7 +28,7 @@ impl<A: Allocator + Copy> PieceLines<A> {
 
     /// Begins with no packet.
     pub fn clear(&mut self)
-        ensures { said self.new ≡ [] }
+        ensures { pending_lines self.new ≡ [] }
     {
         self.text.clear();
         self.packets.clear();
@@ -42,7 +42,7 @@ impl<A: Allocator + Copy> PieceLines<A> {
 
     // Adds the line of a packet, or else the packet. After a packet there is none but packets.
     fn add(&mut self, packet: &[u8]) -> Result<(), AllocError>
-        ensures { OnOk result (Adds self.old packet.now self.new) }
+        ensures { OnOk result (AppendsLine self.old packet.now self.new) }
     {
         if self.packets.is_empty() && self.has_room(packet.len()) {
             push_line(&mut self.text, packet)
@@ -55,7 +55,7 @@ impl<A: Allocator + Copy> PieceLines<A> {
 }
 
 impl<A: Allocator + Copy> Visit for PieceLines<A> {
-    ghost sees = { λ old packet new. Gains old packet new };
+    ghost sees = { λ old packet new. GainsLine old packet new };
 
     fn visit(&mut self, packet: &[u8]) {
         if !self.is_refused && self.add(packet).is_err() {

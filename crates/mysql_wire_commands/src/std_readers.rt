@@ -1,80 +1,80 @@
 //! std's readers as readers that note nothing: a clause on their `reads` says nothing of them. One
 //! after a `&mut` or in a `Box` notes what the reader there notes.
 
-use crate::noted_read::NotedRead;
+use crate::traced_read::TracedRead;
 use std::alloc::Allocator;
 use std::collections::VecDeque;
 use std::fs::File;
 use std::io;
 use std::io::{AsBytes, BufReader, Chain, Cursor, Empty, PipeReader, Read, Repeat, Stdin, Take};
 
-impl NotedRead for &[u8] {
+impl TracedRead for &[u8] {
     fn read_noted(&mut self, buf: &mut [u8]) -> io::Result<usize> {
         self.read(buf)
     }
 }
 
-impl<T: AsBytes> NotedRead for Cursor<T> {
+impl<T: AsBytes> TracedRead for Cursor<T> {
     fn read_noted(&mut self, buf: &mut [u8]) -> io::Result<usize> {
         self.read(buf)
     }
 }
 
-impl<A: Allocator> NotedRead for VecDeque<u8, A> {
+impl<A: Allocator> TracedRead for VecDeque<u8, A> {
     fn read_noted(&mut self, buf: &mut [u8]) -> io::Result<usize> {
         self.read(buf)
     }
 }
 
-impl NotedRead for Empty {
+impl TracedRead for Empty {
     fn read_noted(&mut self, buf: &mut [u8]) -> io::Result<usize> {
         self.read(buf)
     }
 }
 
-impl NotedRead for Repeat {
+impl TracedRead for Repeat {
     fn read_noted(&mut self, buf: &mut [u8]) -> io::Result<usize> {
         self.read(buf)
     }
 }
 
-impl NotedRead for PipeReader {
+impl TracedRead for PipeReader {
     fn read_noted(&mut self, buf: &mut [u8]) -> io::Result<usize> {
         self.read(buf)
     }
 }
 
-impl NotedRead for Stdin {
+impl TracedRead for Stdin {
     fn read_noted(&mut self, buf: &mut [u8]) -> io::Result<usize> {
         self.read(buf)
     }
 }
 
-impl NotedRead for File {
+impl TracedRead for File {
     fn read_noted(&mut self, buf: &mut [u8]) -> io::Result<usize> {
         self.read(buf)
     }
 }
 
-impl<R: Read, A: Allocator> NotedRead for BufReader<R, A> {
+impl<R: Read, A: Allocator> TracedRead for BufReader<R, A> {
     fn read_noted(&mut self, buf: &mut [u8]) -> io::Result<usize> {
         self.read(buf)
     }
 }
 
-impl<R: Read> NotedRead for Take<R> {
+impl<R: Read> TracedRead for Take<R> {
     fn read_noted(&mut self, buf: &mut [u8]) -> io::Result<usize> {
         self.read(buf)
     }
 }
 
-impl<R: Read, S: Read> NotedRead for Chain<R, S> {
+impl<R: Read, S: Read> TracedRead for Chain<R, S> {
     fn read_noted(&mut self, buf: &mut [u8]) -> io::Result<usize> {
         self.read(buf)
     }
 }
 
-impl<R: NotedRead> NotedRead for &mut R {
+impl<R: TracedRead> TracedRead for &mut R {
     ghost reads = { λ reader. R.reads reader.now };
 
     fn read_noted(&mut self, buf: &mut [u8]) -> io::Result<usize> {
@@ -82,7 +82,7 @@ impl<R: NotedRead> NotedRead for &mut R {
     }
 }
 
-impl<R: NotedRead, A: Allocator> NotedRead for Box<R, A> {
+impl<R: TracedRead, A: Allocator> TracedRead for Box<R, A> {
     ghost reads = { λ reader. R.reads reader.value };
 
     fn read_noted(&mut self, buf: &mut [u8]) -> io::Result<usize> {

@@ -5,11 +5,11 @@ ghost use Rattle.mysql_wire_commands.specs.declared.unframe.Verdict.TheVariants.
 
 use crate::input::read_piece;
 use crate::lines::push_rest;
-use crate::noted_read::NotedRead;
 use crate::output::write_whole;
 use crate::packet_lines::{TEXT_AT_ONCE, write_packets};
 use crate::piece_lines::PieceLines;
 use crate::status::{Stop, exit_status};
+use crate::traced_read::TracedRead;
 use bytes::BytesMut;
 use std::alloc::{AllocError, Allocator};
 use std::io::Write;
@@ -50,7 +50,7 @@ struct Run<A: Allocator + Copy> {
 }
 
 impl<A: Allocator + Copy> Run<A> {
-    ghost use Rattle.mysql_wire_commands.specs.PieceLines.{Shows, said};
+    ghost use Rattle.mysql_wire_commands.specs.PieceLines.{HoldsLines, pending_lines};
     ghost use Rattle.wire_codec.specs.GoingOn.{TakesGoingOn};
     ghost use Rattle.mysql_wire_commands.specs.Unframe.{StartsRun, TakesPiece, bytes_left, next_limit, run_state};
     ghost use Rattle.wire_codec.specs.LimitedRuns.{Aligned, TakesLimited};
@@ -129,9 +129,9 @@ impl<A: Allocator + Copy> Run<A> {
     ) -> (usize, Result<(), PacketCodecError>)
         requires { Aligned (run_state self.old) }
         ensures runs { TakesLimited (run_state self.old) pieces.now result.0 result.1
-            (run_state self.new) (Shows self.new.lines) }
+            (run_state self.new) (HoldsLines self.new.lines) }
         ensures on { TakesGoingOn (run_state self.old) pieces.now result.0 result.1
-            (run_state self.new) (Shows self.new.lines) }
+            (run_state self.new) (HoldsLines self.new.lines) }
         ensures all { OnOk result.1 (result.0 ≡ length pieces.now) }
         ensures aligned { result.1 ≢ Err PacketCodecError.PacketsOutOfSync
             → Aligned (run_state self.new) }
@@ -153,7 +153,7 @@ impl<A: Allocator + Copy> Run<A> {
         requires { Aligned (run_state self.old) }
         ensures takes { IfOk result
             (λ verdict. TakesPiece (run_state self.old) limit part.now verdict
-            (said self.new.lines) (run_state self.new)) }
+            (pending_lines self.new.lines) (run_state self.new)) }
         ensures aligned { IfOk result (λ verdict. verdict ≡ Waits → Aligned (run_state self.new)) }
         ensures limits { (self.new.limit ≡ self.old.limit) × (self.new.later ≡ self.old.later)
             × (self.new.ahead ≡ self.old.ahead) }
@@ -281,7 +281,7 @@ fn write_rest<A: Allocator + Copy, W: Write>(
 /// completes, under a limit of `limit` payload bytes a packet. The answer is the exit status: 0
 /// where the input ended between two packets, 3 where it ended inside one, 4 at a packet past the
 /// limit, 5 at a chunk of another id, 2 where a read or a write failed, 6 where memory was refused.
-pub fn run_unframe<A: Allocator + Copy, R: NotedRead, W: Write>(
+pub fn run_unframe<A: Allocator + Copy, R: TracedRead, W: Write>(
     alloc: A,
     step: usize,
     limit: usize,
@@ -304,7 +304,7 @@ pub fn run_unframe<A: Allocator + Copy, R: NotedRead, W: Write>(
 /// The same under a limit that changes: bytes of the input from place `at` on, counted from 0, come
 /// under `later`, and those before it under `limit`. A chunk is judged by the limit of the fourth
 /// byte of its header. A read before that place is asked for no byte past it.
-pub fn run_unframe_limited<A: Allocator + Copy, R: NotedRead, W: Write>(
+pub fn run_unframe_limited<A: Allocator + Copy, R: TracedRead, W: Write>(
     alloc: A,
     step: usize,
     limit: usize,
@@ -325,7 +325,7 @@ pub fn run_unframe_limited<A: Allocator + Copy, R: NotedRead, W: Write>(
 }
 
 // Reads pieces and takes their packets, until the input ends or the packets stop.
-fn take_pieces<A: Allocator + Copy, R: NotedRead, W: Write>(
+fn take_pieces<A: Allocator + Copy, R: TracedRead, W: Write>(
     alloc: A,
     step: usize,
     run: &mut Run<A>,
@@ -360,7 +360,7 @@ fn take_pieces<A: Allocator + Copy, R: NotedRead, W: Write>(
 }
 
 // The same, with the exit status or why it gave up.
-fn unframe<A: Allocator + Copy, R: NotedRead, W: Write>(
+fn unframe<A: Allocator + Copy, R: TracedRead, W: Write>(
     alloc: A,
     step: usize,
     limit: usize,

@@ -6,7 +6,7 @@ ghost use Rattle.wire_buf.specs.Reading.{Through};
 ghost use Rattle.wire_repr.specs.Texts.{IsText, IsBorrowedText};
 ghost use Rattle.mysql_wire_packets.specs.InOrder.{packet, both, const_u8, eof_text};
 
-use mysql_wire_packets::lent::Lent;
+use mysql_wire_packets::by_ref::ByRef;
 use std::alloc::{Allocator, Global};
 use wire_buf::error::WireError;
 use wire_buf::io::ParseBuf;
@@ -32,7 +32,7 @@ impl MySerialize for AuthMoreData<'_> {
     ghost bytes = { λ more. 0x01 ∷ cow_slice_items more.data.0 };
 
     fn serialize<A: Allocator>(&self, buf: &mut Vec<u8, A>) -> Result<(), WireError> {
-        Both(ConstU8::<(), 0x01>::new(), Lent(&self.data)).serialize(buf)
+        Both(ConstU8::<(), 0x01>::new(), ByRef(&self.data)).serialize(buf)
     }
 }
 

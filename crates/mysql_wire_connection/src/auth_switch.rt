@@ -7,7 +7,7 @@ ghost use Rattle.wire_repr.specs.Texts.{IsText, IsBorrowedText};
 ghost use Rattle.mysql_wire_packets.specs.NullTexts.{clean, null_text};
 ghost use Rattle.mysql_wire_packets.specs.InOrder.{packet, both, const_u8, eof_text};
 
-use mysql_wire_packets::lent::Lent;
+use mysql_wire_packets::by_ref::ByRef;
 use std::alloc::{Allocator, Global};
 use wire_buf::error::WireError;
 use wire_buf::io::ParseBuf;
@@ -38,7 +38,7 @@ impl MySerialize for AuthSwitchRequest<'_> {
         ++ cow_slice_items request.plugin_data.0) };
 
     fn serialize<A: Allocator>(&self, buf: &mut Vec<u8, A>) -> Result<(), WireError> {
-        let names = Both(Lent(&self.plugin_name), Lent(&self.plugin_data));
+        let names = Both(ByRef(&self.plugin_name), ByRef(&self.plugin_data));
         Both(ConstU8::<(), 0xfe>::new(), names).serialize(buf)
     }
 }

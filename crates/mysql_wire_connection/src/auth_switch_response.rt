@@ -6,7 +6,7 @@ ghost use Rattle.wire_buf.specs.Reading.{Through};
 ghost use Rattle.wire_repr.specs.Texts.{IsText, IsBorrowedText};
 ghost use Rattle.mysql_wire_packets.specs.InOrder.{packet, eof_text};
 
-use mysql_wire_packets::lent::Lent;
+use mysql_wire_packets::by_ref::ByRef;
 use std::alloc::{Allocator, Global};
 use wire_buf::error::WireError;
 use wire_buf::io::ParseBuf;
@@ -28,7 +28,7 @@ impl MySerialize for AuthSwitchResponse<'_> {
     ghost bytes = { λ response. cow_slice_items response.data.0 };
 
     fn serialize<A: Allocator>(&self, buf: &mut Vec<u8, A>) -> Result<(), WireError> {
-        Lent(&self.data).serialize(buf)
+        ByRef(&self.data).serialize(buf)
     }
 }
 

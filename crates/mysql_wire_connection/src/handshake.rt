@@ -16,7 +16,7 @@ ghost use Rattle.mysql_wire_packets.specs.Oks.{at_input};
 ghost use Rattle.wire_field.specs.Rows.{OnSide, SameSide, by_side};
 ghost use Rattle.std.proofs.Common.{subst};
 
-use mysql_wire_packets::lent::{Lent, LentIf};
+use mysql_wire_packets::by_ref::{ByRef, ByRefIf};
 use mysql_wire_packets::optional::{Optional, under, value_of};
 use std::alloc::{Allocator, Global};
 use wire_buf::error::WireError;
@@ -166,10 +166,10 @@ impl MySerialize for HandshakeV10<'_> {
             part_1,
             Both(self.filler, Both(self.capability_flags_1, state)),
         );
-        let server_version = Lent(&self.server_version);
+        let server_version = ByRef(&self.server_version);
         let head = Both(server_version, Both(self.thread_id, part_1));
-        let name = LentIf(&self.auth_plugin_name);
-        let tail = Both(Lent(&self.auth_plugin_data_part_2), name);
+        let name = ByRefIf(&self.auth_plugin_name);
+        let tail = Both(ByRef(&self.auth_plugin_data_part_2), name);
         Both(Both(ConstU8::<(), 0x0a>::new(), head), tail).serialize(buf)
     }
 }

@@ -12,7 +12,7 @@ ghost use Rattle.mysql_wire_packets.specs.Optional.{BothIf, IsSide, IsThere, OnI
 ghost use Rattle.mysql_wire_connection.specs.Responses.{answer_bytes, answer_fields, client_bytes, client_fields};
 ghost use Rattle.mysql_wire_packets.specs.Then.{ReadsThen, then_back};
 
-use mysql_wire_packets::lent::{Lent, LentIf};
+use mysql_wire_packets::by_ref::{ByRef, ByRefIf};
 use mysql_wire_packets::optional::{Optional, field_of_byte, known_text, under, value_of};
 use std::alloc::{Allocator, Global};
 use wire_buf::error::WireError;
@@ -106,15 +106,15 @@ impl MySerialize for HandshakeResponse41<'_> {
 
     fn serialize<A: Allocator>(&self, buf: &mut Vec<u8, A>) -> Result<(), WireError> {
         let level = field_of_byte(self.zstd_compression_level);
-        let attrs = LentIf(&self.connect_attrs);
-        let plugin = LentIf(&self.client_plugin_name);
-        let database = LentIf(&self.database);
-        let auth_response = Lent(&self.auth_response);
+        let attrs = ByRefIf(&self.connect_attrs);
+        let plugin = ByRefIf(&self.client_plugin_name);
+        let database = ByRefIf(&self.database);
+        let auth_response = ByRef(&self.auth_response);
         let answer = Both(
             auth_response,
             Both(database, Both(plugin, Both(attrs, level))),
         );
-        let username = Lent(&self.username);
+        let username = ByRef(&self.username);
         let reserved = Both(self.filler, self.mariadb_capabilities.0);
         let user = Both(self.character_set, Both(reserved, username));
         let client = Both(self.client_flag.0, Both(self.max_packet_size, user));

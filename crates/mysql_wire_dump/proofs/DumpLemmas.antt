@@ -17,22 +17,22 @@ use Rattle.mysql_wire_session.specs.declared.phase.Phase.{Phase}
 use Rattle.mysql_wire_session.specs.declared.phase.Phase.TheVariants as phase
 use Rattle.mysql_wire_session.specs.declared.side.Side.{Side}
 use Rattle.mysql_wire_session.specs.declared.side.Side.TheVariants.{Client, Server}
-use Rattle.mysql_wire_dump_lines.specs.declared.source.End.{End}
-use Rattle.mysql_wire_dump_lines.specs.declared.source.End.TheVariants.{Encrypted}
-use Rattle.mysql_wire_dump_lines.specs.declared.source.Next.{Next}
-use Rattle.mysql_wire_dump_lines.specs.declared.source.Next.TheVariants.{Unread, Packet, Ended}
-use Rattle.mysql_wire_dump_lines.specs.declared.source.Source.{Source}
+use Rattle.mysql_wire_dump_lines.specs.declared.packet_stream.End.{End}
+use Rattle.mysql_wire_dump_lines.specs.declared.packet_stream.End.TheVariants.{Encrypted}
+use Rattle.mysql_wire_dump_lines.specs.declared.packet_stream.Next.{Next}
+use Rattle.mysql_wire_dump_lines.specs.declared.packet_stream.Next.TheVariants.{Unread, Packet, Ended}
+use Rattle.mysql_wire_dump_lines.specs.declared.packet_stream.PacketStream.{PacketStream}
 use Rattle.mysql_wire_dump.specs.Dumped.{AreShown, AreVisible, HidesAt, field_form, Dumps, InOrder, IsShown, Shown, SideEnds, ending_lines, first_of, is_of, known_after, known_behind, lines_of, packets_of, status_of}
-use Rattle.mysql_wire_dump.specs.Dumping.{Dumping, Goes, Going, IsLooked, IsTurn, NamesOne, PassesOver, Pends, Shows, ShowsAll, SoFar, StartsDump, id_behind}
+use Rattle.mysql_wire_dump.specs.Dumping.{Dumping, Goes, Going, IsLooked, IsTurn, NamesOne, PassesOver, Pends, ShowsPacket, ShowsAll, SoFar, StartsDump, id_behind}
 use Rattle.mysql_wire_session.specs.State.{SessionState, state_of, initial_state}
 use Rattle.mysql_wire_session.specs.Advance.{id_after}
 use Rattle.mysql_wire_session.specs.Readings.{passed}
 use Rattle.mysql_wire_session.specs.declared.packet.Packet.{Packet as AnyPacket}
 use Rattle.mysql_wire_session.specs.declared.packet.Packet.TheVariants as packet
 use Rattle.mysql_wire_dump_lines.specs.Lines.{bytes_part, line_end, packet_front, packet_line}
-use Rattle.mysql_wire_dump_lines.specs.Sources.{AtEnd, HasPacket, Stands, StandsNext, collected, id_of}
-use Rattle.mysql_wire_dump_lines.proofs.SourceLemmas.{consumes_none}
-use Rattle.mysql_wire_dump_lines.specs.Turns.{turn}
+use Rattle.mysql_wire_dump_lines.specs.PacketStreams.{AtEnd, HasPacket, Stands, StandsNext, collected, id_of}
+use Rattle.mysql_wire_dump_lines.proofs.PacketStreamLemmas.{consumes_none}
+use Rattle.mysql_wire_dump_lines.specs.NextSenders.{next_sender}
 
 -- one packet more, of one side
 pub packets_of_more : (side : Side) (shown : List Shown) (one : Shown) → packets_of side (shown ++ one ∷ []) ≡ packets_of side shown ++ packets_of side (one ∷ [])
@@ -73,13 +73,13 @@ shown_more options known (first ∷ shown) one are at is =
 
 -- one packet more, whose turn it is
 pub in_order_more : (next : ℕ) (shown : List Shown) (one : Shown) (client server client_next server_next : Option ℕ)
-    → InOrder next shown client server → turn one.at.phase (id_behind next shown) client server ≡ Some one.seen.side
+    → InOrder next shown client server → next_sender one.at.phase (id_behind next shown) client server ≡ Some one.seen.side
     → first_of Client (one ∷ []) client_next ≡ client → first_of Server (one ∷ []) server_next ≡ server
     → InOrder next (shown ++ one ∷ []) client_next server_next
 in_order_more next [] one client server client_next server_next ordered is_turn client_is server_is =
-    (ap₂ (λ (c s : Option ℕ). turn one.at.phase next c s) client_is server_is ∙ is_turn, tt)
+    (ap₂ (λ (c s : Option ℕ). next_sender one.at.phase next c s) client_is server_is ∙ is_turn, tt)
 in_order_more next (first ∷ shown) one client server client_next server_next ordered is_turn client_is server_is = (
-  ap₂ (λ (c s : Option ℕ). turn first.at.phase next c s)
+  ap₂ (λ (c s : Option ℕ). next_sender first.at.phase next c s)
       (first_of_more Client (first ∷ shown) (one ∷ []) client_next ∙ ap (λ (c : Option ℕ). first_of Client (first ∷ shown) c) client_is)
       (first_of_more Server (first ∷ shown) (one ∷ []) server_next ∙ ap (λ (s : Option ℕ). first_of Server (first ∷ shown) s) server_is)
       ∙ ordered.0,
@@ -173,10 +173,10 @@ client_shown {A = A} old new middle id kind bytes fields is large named same tex
     let it = one_told old.options seen payload old.client.held.items fields (state_of old.session) middle old.client.limit limit_is has.len has.held large named in
     let one : Shown = shown_as seen payload fields (state_of old.session) it.0 in
     let here : Pends old.client.next (Some id) = subst (λ (n : Next). Pends n (Some id)) (sym is) refl in
-    let turn_is : turn old.session.phase (id_behind 0 shown) (Some id) (id_of old.server.next) ≡ Some Client =
-    ap₂ (λ (n : ℕ) (c : Option ℕ). turn old.session.phase n c (id_of old.server.next)) (sym dumping.behind) (sym (ap id_of is)) ∙ is_turn in
+    let turn_is : next_sender old.session.phase (id_behind 0 shown) (Some id) (id_of old.server.next) ≡ Some Client =
+    ap₂ (λ (n : ℕ) (c : Option ℕ). next_sender old.session.phase n c (id_of old.server.next)) (sym dumping.behind) (sym (ap id_of is)) ∙ is_turn in
     let other_is : (number : Option ℕ) → Pends new.server.next number → number ≡ id_of old.server.next =
-    λ number pends. pends_is old.server.next number looked.1 (subst (λ (source : Source A). Pends source.next number) other_same pends) in (
+    λ number pends. pends_is old.server.next number looked.1 (subst (λ (source : PacketStream A). Pends source.next number) other_same pends) in (
       one,
       record {
         are_shown = subst (λ (o : Options). AreShown o initial_state (shown ++ one ∷ [])) (sym options)
@@ -184,10 +184,10 @@ client_shown {A = A} old new middle id kind bytes fields is large named same tex
         known = subst (λ (o : Options). state_of new.session ≡ known_after o initial_state (shown ++ one ∷ [])) (sym options)
             (known_is ∙ it.2 ∙ sym (known_after_more old.options initial_state shown one));
         clients = subst (λ (z : List (ℕ × List ℕ)). Stands z client new.client) (sym (packets_of_more Client shown one)) pass.2;
-        servers = subst (λ (source : Source A). Stands (packets_of Server (shown ++ one ∷ [])) server source) (sym other_same)
+        servers = subst (λ (source : PacketStream A). Stands (packets_of Server (shown ++ one ∷ [])) server source) (sym other_same)
             (subst (λ (z : List (ℕ × List ℕ)). Stands z server old.server) (sym (packets_of_more Server shown one ∙ append-nil (packets_of Server shown))) dumping.servers);
         client_limit = limit ∙ limit_is ∙ ap (λ (o : Options). o.limit) (sym options);
-        server_limit = ap (λ (source : Source A). source.limit) other_same ∙ dumping.server_limit ∙ ap (λ (o : Options). o.limit) (sym options);
+        server_limit = ap (λ (source : PacketStream A). source.limit) other_same ∙ dumping.server_limit ∙ ap (λ (o : Options). o.limit) (sym options);
         behind = ap (λ (k : SessionState). k.next_id) known_is ∙ it.3 ∙ sym (id_behind_more 0 shown one);
         ordered = λ client_next server_next client_pends server_pends.
             in_order_more 0 shown one (Some id) (id_of old.server.next) client_next server_next (dumping.ordered (Some id) (id_of old.server.next) here (pends_so old.server.next)) turn_is refl (other_is server_next server_pends);
@@ -221,10 +221,10 @@ server_shown {A = A} old new middle id kind bytes fields is large named same tex
     let it = one_told old.options seen payload old.server.held.items fields (state_of old.session) middle old.server.limit limit_is has.len has.held large named in
     let one : Shown = shown_as seen payload fields (state_of old.session) it.0 in
     let here : Pends old.server.next (Some id) = subst (λ (n : Next). Pends n (Some id)) (sym is) refl in
-    let turn_is : turn old.session.phase (id_behind 0 shown) (id_of old.client.next) (Some id) ≡ Some Server =
-    ap₂ (λ (n : ℕ) (c : Option ℕ). turn old.session.phase n (id_of old.client.next) c) (sym dumping.behind) (sym (ap id_of is)) ∙ is_turn in
+    let turn_is : next_sender old.session.phase (id_behind 0 shown) (id_of old.client.next) (Some id) ≡ Some Server =
+    ap₂ (λ (n : ℕ) (c : Option ℕ). next_sender old.session.phase n (id_of old.client.next) c) (sym dumping.behind) (sym (ap id_of is)) ∙ is_turn in
     let other_is : (number : Option ℕ) → Pends new.client.next number → number ≡ id_of old.client.next =
-    λ number pends. pends_is old.client.next number looked.0 (subst (λ (source : Source A). Pends source.next number) other_same pends) in (
+    λ number pends. pends_is old.client.next number looked.0 (subst (λ (source : PacketStream A). Pends source.next number) other_same pends) in (
       one,
       record {
         are_shown = subst (λ (o : Options). AreShown o initial_state (shown ++ one ∷ [])) (sym options)
@@ -232,10 +232,10 @@ server_shown {A = A} old new middle id kind bytes fields is large named same tex
         known = subst (λ (o : Options). state_of new.session ≡ known_after o initial_state (shown ++ one ∷ [])) (sym options)
             (known_is ∙ it.2 ∙ sym (known_after_more old.options initial_state shown one));
         servers = subst (λ (z : List (ℕ × List ℕ)). Stands z server new.server) (sym (packets_of_more Server shown one)) pass.2;
-        clients = subst (λ (source : Source A). Stands (packets_of Client (shown ++ one ∷ [])) client source) (sym other_same)
+        clients = subst (λ (source : PacketStream A). Stands (packets_of Client (shown ++ one ∷ [])) client source) (sym other_same)
             (subst (λ (z : List (ℕ × List ℕ)). Stands z client old.client) (sym (packets_of_more Client shown one ∙ append-nil (packets_of Client shown))) dumping.clients);
         server_limit = limit ∙ limit_is ∙ ap (λ (o : Options). o.limit) (sym options);
-        client_limit = ap (λ (source : Source A). source.limit) other_same ∙ dumping.client_limit ∙ ap (λ (o : Options). o.limit) (sym options);
+        client_limit = ap (λ (source : PacketStream A). source.limit) other_same ∙ dumping.client_limit ∙ ap (λ (o : Options). o.limit) (sym options);
         behind = ap (λ (k : SessionState). k.next_id) known_is ∙ it.3 ∙ sym (id_behind_more 0 shown one);
         ordered = λ client_next server_next client_pends server_pends.
             in_order_more 0 shown one (id_of old.client.next) (Some id) client_next server_next (dumping.ordered (id_of old.client.next) (Some id) (pends_so old.client.next) here) turn_is (other_is client_next client_pends) refl;
@@ -287,7 +287,7 @@ still_pends (Packet number) new id kept pends = subst (λ (n : Next). Pends n id
 still_pends (Ended end) new id kept pends = subst (λ (n : Next). Pends n id) (kept (λ e. cc)) pends
 
 -- the client's next packet was looked for
-client_looked : {A : Type 0} (dump : Dump A) (source : Source A) (client client_left left server server_left written now : Option (List ℕ))
+client_looked : {A : Type 0} (dump : Dump A) (source : PacketStream A) (client client_left left server server_left written now : Option (List ℕ))
     → SoFar dump client client_left server server_left written now
     → ((packets : List (ℕ × List ℕ)) (came : List ℕ) → Stands packets came dump.client → (more : List ℕ) × Consumes client_left left more × Stands packets (came ++ more) source)
     → (dump.client.next ≢ Unread → source.next ≡ dump.client.next) → (AtEnd dump.client.next client_left → AtEnd source.next left)
@@ -295,19 +295,19 @@ client_looked : {A : Type 0} (dump : Dump A) (source : Source A) (client client_
     → SoFar (record dump { client = source }) client left server server_left written now
 client_looked dump source client client_left left server server_left written now so_far looks kept ended seen limit =
     let was = so_far.dumping in
-    let look = looks (packets_of Client so_far.shown) so_far.of_client was.clients in
+    let peek = looks (packets_of Client so_far.shown) so_far.of_client was.clients in
     record {
       shown = so_far.shown;
-      of_client = so_far.of_client ++ look.0;
+      of_client = so_far.of_client ++ peek.0;
       of_server = so_far.of_server;
       text = so_far.text;
-      client_consumed = Consumes-trans client client_left left so_far.of_client look.0 so_far.client_consumed look.1;
+      client_consumed = Consumes-trans client client_left left so_far.of_client peek.0 so_far.client_consumed peek.1;
       server_consumed = so_far.server_consumed;
       appended = so_far.appended;
       dumping = record {
         are_shown = was.are_shown;
         known = was.known;
-        clients = look.2;
+        clients = peek.2;
         servers = was.servers;
         client_limit = limit ∙ was.client_limit;
         server_limit = was.server_limit;
@@ -323,7 +323,7 @@ client_looked dump source client client_left left server server_left written now
       server_end = so_far.server_end;
     }
 
-server_looked : {A : Type 0} (dump : Dump A) (source : Source A) (client client_left server server_left left written now : Option (List ℕ))
+server_looked : {A : Type 0} (dump : Dump A) (source : PacketStream A) (client client_left server server_left left written now : Option (List ℕ))
     → SoFar dump client client_left server server_left written now
     → ((packets : List (ℕ × List ℕ)) (came : List ℕ) → Stands packets came dump.server → (more : List ℕ) × Consumes server_left left more × Stands packets (came ++ more) source)
     → (dump.server.next ≢ Unread → source.next ≡ dump.server.next) → (AtEnd dump.server.next server_left → AtEnd source.next left)
@@ -331,20 +331,20 @@ server_looked : {A : Type 0} (dump : Dump A) (source : Source A) (client client_
     → SoFar (record dump { server = source }) client client_left server left written now
 server_looked dump source client client_left server server_left left written now so_far looks kept ended seen limit =
     let was = so_far.dumping in
-    let look = looks (packets_of Server so_far.shown) so_far.of_server was.servers in
+    let peek = looks (packets_of Server so_far.shown) so_far.of_server was.servers in
     record {
       shown = so_far.shown;
       of_client = so_far.of_client;
-      of_server = so_far.of_server ++ look.0;
+      of_server = so_far.of_server ++ peek.0;
       text = so_far.text;
       client_consumed = so_far.client_consumed;
-      server_consumed = Consumes-trans server server_left left so_far.of_server look.0 so_far.server_consumed look.1;
+      server_consumed = Consumes-trans server server_left left so_far.of_server peek.0 so_far.server_consumed peek.1;
       appended = so_far.appended;
       dumping = record {
         are_shown = was.are_shown;
         known = was.known;
         clients = was.clients;
-        servers = look.2;
+        servers = peek.2;
         client_limit = was.client_limit;
         server_limit = limit ∙ was.server_limit;
         behind = was.behind;
@@ -360,7 +360,7 @@ server_looked dump source client client_left server server_left left written now
     }
 
 -- both sides' next packets were looked for
-pub both_looked : {A : Type 0} (dump : Dump A) (client_source server_source : Source A)
+pub both_looked : {A : Type 0} (dump : Dump A) (client_source server_source : PacketStream A)
     (client client_left client_now server server_left server_now written now : Option (List ℕ))
     → SoFar dump client client_left server server_left written now
     → ((packets : List (ℕ × List ℕ)) (came : List ℕ) → Stands packets came dump.client → (more : List ℕ) × Consumes client_left client_now more × Stands packets (came ++ more) client_source)
@@ -388,7 +388,7 @@ visible_more shown one are is =
 
 -- a packet was shown
 pub one_shown : {A : Type 0} (side : Side) (old new : Dump A) (client client_left server server_left written now : Option (List ℕ))
-    → SoFar old client client_left server server_left written now → old.session.phase ≢ phase.Encrypted → Shows side old new → IsTurn side old → IsLooked old
+    → SoFar old client client_left server server_left written now → old.session.phase ≢ phase.Encrypted → ShowsPacket side old new → IsTurn side old → IsLooked old
     → SoFar new client client_left server server_left written now
 one_shown side old new client client_left server server_left written now so_far is_open shows is_turn looked =
     let more = shows.more so_far.shown so_far.of_client so_far.of_server so_far.text so_far.dumping is_turn looked in
@@ -475,7 +475,7 @@ none_left dump client client_left server server_left written now so_far is_open 
     }
 
 -- what is left is hidden
-pub rest_hidden : {A : Type 0} (dump : Dump A) (client_source server_source : Source A) (client client_left server server_left written now : Option (List ℕ))
+pub rest_hidden : {A : Type 0} (dump : Dump A) (client_source server_source : PacketStream A) (client client_left server server_left written now : Option (List ℕ))
     → SoFar dump client client_left server server_left written now → dump.session.phase ≡ phase.Encrypted
     → ((packets : List (ℕ × List ℕ)) (came : List ℕ) → Stands packets came dump.client → Stands packets came client_source)
     → ((packets : List (ℕ × List ℕ)) (came : List ℕ) → Stands packets came dump.server → Stands packets came server_source)
@@ -511,7 +511,7 @@ some_none : (side : Side) → Some side ≡ None → ⊥
 some_none side same = cc
 
 -- where it is no side's turn, no packet stands next
-pub no_turn : (at : Phase) (next : ℕ) (client server : Next) → turn at next (id_of client) (id_of server) ≡ None → client ≢ Unread → server ≢ Unread
+pub no_turn : (at : Phase) (next : ℕ) (client server : Next) → next_sender at next (id_of client) (id_of server) ≡ None → client ≢ Unread → server ≢ Unread
     → Pends client None × Pends server None
 no_turn at next Unread server none looked other_looked = absurd (looked refl)
 no_turn at next (Packet id) Unread none looked other_looked = absurd (other_looked refl)
@@ -537,7 +537,7 @@ goes_on more first middle last client client_between client_left server server_b
     λ all_client all_server before so_far. goes all_client all_server before (begins all_client all_server before so_far)
 
 -- how a side ends
-side_ends : {A : Type 0} (source : Source A) (packets : List (ℕ × List ℕ)) (bytes : List ℕ) (end : End) → Stands packets bytes source → source.next ≡ Ended end
+side_ends : {A : Type 0} (source : PacketStream A) (packets : List (ℕ × List ℕ)) (bytes : List ℕ) (end : End) → Stands packets bytes source → source.next ≡ Ended end
     → SideEnds bytes packets end
 side_ends source packets bytes end stands is = record {
   rest = stands.begun ++ source.src.items;

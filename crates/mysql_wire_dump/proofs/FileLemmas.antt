@@ -4,8 +4,8 @@ use Rattle.std.specs.Io.KnownBytes.{Appends, Keeps}
 use Rattle.mysql_wire_dump_lines.specs.declared.arguments.Request.{Request}
 use Rattle.mysql_wire_dump_lines.specs.declared.options.Sides.{Sides}
 use Rattle.mysql_wire_dump_lines.specs.declared.options.Sides.TheVariants as sides
-use Rattle.mysql_wire_dump_lines.specs.declared.source.End.{End}
-use Rattle.mysql_wire_dump_lines.specs.declared.source.End.TheVariants.{Between, Unfinished, OutOfSync, Encrypted}
+use Rattle.mysql_wire_dump_lines.specs.declared.packet_stream.End.{End}
+use Rattle.mysql_wire_dump_lines.specs.declared.packet_stream.End.TheVariants.{Between, Unfinished, OutOfSync, Encrypted}
 use Rattle.mysql_wire_dump_lines.specs.Arguments.{Asks, Command, Help, Dump, IsAsked, session_of, sides_of}
 use Rattle.mysql_wire_dump_lines.specs.declared.status.Stop.{Stop}
 use Rattle.mysql_wire_dump_lines.specs.declared.status.Stop.TheVariants.{Io, Memory}

@@ -16,8 +16,8 @@ use Rattle.mysql_wire_session.specs.declared.phase.Phase.{Phase}
 use Rattle.mysql_wire_session.specs.declared.phase.Phase.TheVariants as phase
 use Rattle.mysql_wire_session.specs.declared.side.Side.{Side}
 use Rattle.mysql_wire_session.specs.declared.side.Side.TheVariants.{Client, Server}
-use Rattle.mysql_wire_dump_lines.specs.declared.source.End.{End}
-use Rattle.mysql_wire_dump_lines.specs.declared.source.End.TheVariants.{Encrypted}
+use Rattle.mysql_wire_dump_lines.specs.declared.packet_stream.End.{End}
+use Rattle.mysql_wire_dump_lines.specs.declared.packet_stream.End.TheVariants.{Encrypted}
 use Rattle.mysql_wire_dump_fields.specs.Packets.{HasFields}
 use Rattle.mysql_wire_session.specs.State.{SessionState, initial_state}
 use Rattle.mysql_wire_session.specs.Advance.{id_after}
@@ -26,9 +26,9 @@ use Rattle.mysql_wire_session.specs.declared.packet.Packet.{Packet}
 use Rattle.mysql_wire_session.specs.declared.packet.Packet.TheVariants as packet
 use Rattle.wire_text.specs.Fields.{Member, fields_text}
 use Rattle.mysql_wire_dump_lines.specs.Lines.{packet_line, ending_line}
-use Rattle.mysql_wire_dump_lines.specs.Sources.{EndsAs, ReadWhole, framed}
+use Rattle.mysql_wire_dump_lines.specs.PacketStreams.{EndsAs, ReadWhole, framed}
 use Rattle.mysql_wire_dump_lines.specs.Status.{end_status}
-use Rattle.mysql_wire_dump_lines.specs.Turns.{turn}
+use Rattle.mysql_wire_dump_lines.specs.NextSenders.{next_sender}
 
 -- a packet that is shown: who sent it, its id, its length and what it is; its payload, and what that
 -- is read as; the fields after it; and what the session knew where it came
@@ -127,7 +127,7 @@ first_of side (shown ∷ others) behind =
 abbrev pub InOrder : ℕ → List Shown → Option ℕ → Option ℕ → Type 0
 InOrder next [] client server = ⊤
 InOrder next (shown ∷ others) client server =
-    (turn shown.at.phase next (first_of Client (shown ∷ others) client)
+    (next_sender shown.at.phase next (first_of Client (shown ∷ others) client)
     (first_of Server (shown ∷ others) server) ≡ Some shown.seen.side)
     × InOrder (id_after shown.seen.id (length shown.payload)) others client server
 

@@ -9,10 +9,10 @@ use Rattle.mysql_wire_dump_lines.specs.declared.options.Options.{Options}
 use Rattle.mysql_wire_session.specs.declared.phase.Phase.TheVariants as phase
 use Rattle.mysql_wire_session.specs.declared.side.Side.{Side}
 use Rattle.mysql_wire_session.specs.declared.side.Side.TheVariants.{Client, Server}
-use Rattle.mysql_wire_dump_lines.specs.declared.source.End.TheVariants.{Encrypted}
-use Rattle.mysql_wire_dump_lines.specs.declared.source.Next.{Next}
-use Rattle.mysql_wire_dump_lines.specs.declared.source.Next.TheVariants.{Unread, Ended}
-use Rattle.mysql_wire_dump_lines.specs.declared.source.Next.TheVariants as next
+use Rattle.mysql_wire_dump_lines.specs.declared.packet_stream.End.TheVariants.{Encrypted}
+use Rattle.mysql_wire_dump_lines.specs.declared.packet_stream.Next.{Next}
+use Rattle.mysql_wire_dump_lines.specs.declared.packet_stream.Next.TheVariants.{Unread, Ended}
+use Rattle.mysql_wire_dump_lines.specs.declared.packet_stream.Next.TheVariants as next
 use Rattle.mysql_wire_dump.specs.Dumped.{AreFields, AreShown, AreVisible, InOrder, Shown, known_after, lines_of, packets_of}
 use Rattle.mysql_wire_session.specs.Advance.{id_after}
 use Rattle.mysql_wire_session.specs.State.{SessionState, state_of, initial_state}
@@ -22,8 +22,8 @@ use Rattle.mysql_wire_dump_fields.specs.Packets.{PutsPacket, PutsRowFields}
 use Rattle.wire_text.specs.Fields.{Written}
 use Rattle.mysql_wire_session.specs.declared.packet.Packet.{Packet}
 use Rattle.mysql_wire_session.specs.declared.packet.Packet.TheVariants as packet
-use Rattle.mysql_wire_dump_lines.specs.Sources.{AtEnd, Stands, id_of}
-use Rattle.mysql_wire_dump_lines.specs.Turns.{turn}
+use Rattle.mysql_wire_dump_lines.specs.PacketStreams.{AtEnd, Stands, id_of}
+use Rattle.mysql_wire_dump_lines.specs.NextSenders.{next_sender}
 
 -- what may stand next of a side: where it was not looked at, anything
 abbrev pub Pends : Next → Option ℕ → Type 0
@@ -94,7 +94,7 @@ pub record NamesOne (form : FieldForm) (side : Side) (id : ℕ) (payload : List 
 -- it is this side's turn
 abbrev pub IsTurn : {A : Type 0} → Side → Dump A → Type 0
 IsTurn side dump =
-    turn dump.session.phase dump.session.next_id (id_of dump.client.next) (id_of dump.server.next)
+    next_sender dump.session.phase dump.session.next_id (id_of dump.client.next) (id_of dump.server.next)
     ≡ Some side
 
 -- both sides were looked at
@@ -102,7 +102,7 @@ abbrev pub IsLooked : {A : Type 0} → Dump A → Type 0
 IsLooked dump = (dump.client.next ≢ Unread) × (dump.server.next ≢ Unread)
 
 -- one packet more is shown, of the side whose turn it is
-pub record Shows {A : Type 0} (side : Side) (old new : Dump A) : Type 0 where
+pub record ShowsPacket {A : Type 0} (side : Side) (old new : Dump A) : Type 0 where
   pub more : (shown : List Shown) (client server written : List ℕ)
       → Dumping shown client server written old → IsTurn side old → IsLooked old
       → (one : Shown) × Dumping (shown ++ one ∷ []) client server written new

@@ -11,10 +11,10 @@ ghost use Rattle.mysql_wire_dump_lines.specs.Status.{end_status};
 
 use mysql_wire_dump_fields::show::{show_packet, show_row};
 use mysql_wire_dump_lines::lines::{LineForm, Seen, push_ending, push_packet};
+use mysql_wire_dump_lines::next_sender::next_sender;
 use mysql_wire_dump_lines::options::{Options, Sides};
-use mysql_wire_dump_lines::source::{End, Next, Source};
+use mysql_wire_dump_lines::packet_stream::{End, Next, PacketStream};
 use mysql_wire_dump_lines::status::{Stop, exit_status};
-use mysql_wire_dump_lines::turn::turn;
 use mysql_wire_session::packet::Received;
 use mysql_wire_session::packet_kind::PacketKind;
 use mysql_wire_session::phase::Phase;
@@ -33,8 +33,8 @@ struct Dump<A: Allocator + Copy> {
     // Packets are read with it, which takes no memory.
     global: Global,
     options: Options,
-    client: Source<A>,
-    server: Source<A>,
+    client: PacketStream<A>,
+    server: PacketStream<A>,
     session: Session<A>,
     fields: Fields<A>,
     text: String<A>,
@@ -131,7 +131,7 @@ fn name_packet<A: Allocator + Copy>(
     global: Global,
     side: Side,
     id: u8,
-    source: &Source<A>,
+    source: &PacketStream<A>,
     session: &mut Session<A>,
     fields: &mut Fields<A>,
     form: FieldForm,
@@ -152,7 +152,7 @@ fn name_packet<A: Allocator + Copy>(
 }
 
 // The payload of which bytes may be shown.
-fn shown_payload<A: Allocator + Copy>(source: &Source<A>) -> &[u8]
+fn shown_payload<A: Allocator + Copy>(source: &PacketStream<A>) -> &[u8]
     ensures { source.now.len ≤ source.now.limit → result.now ≡ source.now.held.items }
 {
     match source.payload() {
@@ -162,11 +162,11 @@ fn shown_payload<A: Allocator + Copy>(source: &Source<A>) -> &[u8]
 }
 
 impl<A: Allocator + Copy> Dump<A> {
-    ghost use Rattle.mysql_wire_dump.specs.Dumping.{Shows, WritesMuch};
-    ghost use Rattle.mysql_wire_dump_lines.specs.Turns.{turn};
+    ghost use Rattle.mysql_wire_dump.specs.Dumping.{ShowsPacket, WritesMuch};
+    ghost use Rattle.mysql_wire_dump_lines.specs.NextSenders.{next_sender};
     ghost use Rattle.mysql_wire_session.specs.declared.side.Side.TheVariants.{Client, Server};
-    ghost use Rattle.mysql_wire_dump_lines.specs.Sources.{id_of};
-    ghost use Rattle.mysql_wire_dump_lines.specs.declared.source.Next.TheVariants.{Ended};
+    ghost use Rattle.mysql_wire_dump_lines.specs.PacketStreams.{id_of};
+    ghost use Rattle.mysql_wire_dump_lines.specs.declared.packet_stream.Next.TheVariants.{Ended};
 
     fn new(alloc: A, global: Global, options: Options) -> Self
         ensures starts { StartsDump options result }
@@ -174,8 +174,8 @@ impl<A: Allocator + Copy> Dump<A> {
         Dump {
             global,
             options,
-            client: Source::new(alloc, options.limit),
-            server: Source::new(alloc, options.limit),
+            client: PacketStream::new(alloc, options.limit),
+            server: PacketStream::new(alloc, options.limit),
             session: Session::new(alloc, global),
             fields: Fields::new(alloc),
             text: String::new(alloc),
@@ -183,11 +183,11 @@ impl<A: Allocator + Copy> Dump<A> {
     }
 
     // Whose packet is next.
-    fn turn(&self) -> Option<Side>
-        ensures { result ≡ turn self.now.session.phase self.now.session.next_id
+    fn next_sender(&self) -> Option<Side>
+        ensures { result ≡ next_sender self.now.session.phase self.now.session.next_id
             (id_of self.now.client.next) (id_of self.now.server.next) }
     {
-        turn(
+        next_sender(
             self.session.phase(),
             self.session.next_id(),
             self.client.next_id(),
@@ -197,7 +197,7 @@ impl<A: Allocator + Copy> Dump<A> {
 
     // Shows the client's next packet, and goes on after it.
     fn show_client(&mut self) -> Result<(), Stop>
-        ensures { OnOk result (Shows Client self.old self.new) }
+        ensures { OnOk result (ShowsPacket Client self.old self.new) }
     {
         let Some(id) = self.client.next_id() else {
             return Err(Stop::Io);
@@ -222,13 +222,13 @@ impl<A: Allocator + Copy> Dump<A> {
         let fields = self.fields.text();
         let payload = shown_payload(source);
         push_packet(&mut self.text, self.options.form, &seen, payload, fields)?;
-        self.client.pass()?;
+        self.client.advance()?;
         Ok(())
     }
 
     // Shows the server's next packet, and goes on after it.
     fn show_server(&mut self) -> Result<(), Stop>
-        ensures { OnOk result (Shows Server self.old self.new) }
+        ensures { OnOk result (ShowsPacket Server self.old self.new) }
     {
         let Some(id) = self.server.next_id() else {
             return Err(Stop::Io);
@@ -253,13 +253,13 @@ impl<A: Allocator + Copy> Dump<A> {
         let fields = self.fields.text();
         let payload = shown_payload(source);
         push_packet(&mut self.text, self.options.form, &seen, payload, fields)?;
-        self.server.pass()?;
+        self.server.advance()?;
         Ok(())
     }
 
     // Shows the next packet of a side.
     fn show(&mut self, side: Side) -> Result<(), Stop>
-        ensures { OnOk result (Shows side self.old self.new) }
+        ensures { OnOk result (ShowsPacket side self.old self.new) }
     {
         match side {
             Side::Client => self.show_client(),
@@ -301,9 +301,9 @@ fn show_next<A: Allocator + Copy, R: Read, S: Read, W: Write>(
         dump.old client.old server.old output.old dump.new client.new server.new output.new) }
     ensures options { OnOk result (dump.new.options ≡ dump.old.options) }
 {
-    dump.client.look(client)?;
-    dump.server.look(server)?;
-    let Some(side) = dump.turn() else {
+    dump.client.peek(client)?;
+    dump.server.peek(server)?;
+    let Some(side) = dump.next_sender() else {
         return Ok(false);
     };
     dump.show(side)?;

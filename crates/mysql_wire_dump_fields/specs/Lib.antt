@@ -1,4 +1,4 @@
-pub mod MomentTexts
+pub mod TemporalTexts
 pub mod ConnectionFields
 pub mod AnswerFields
 pub mod CommandFields

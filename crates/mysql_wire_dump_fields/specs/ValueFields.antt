@@ -19,7 +19,7 @@ use Rattle.wire_text.specs.Fields.{Member, Null, Number, Octets, Printed, Value,
 use Rattle.mysql_wire_session.specs.Refusals.{refusal_of_wire}
 use Rattle.mysql_wire_session.specs.declared.refusal.Refusal.{Refusal}
 use Rattle.mysql_wire_session.specs.declared.refusal.Refusal.TheVariants.{TrailingBytes}
-use Rattle.mysql_wire_dump_fields.specs.MomentTexts.{date_text, time_text}
+use Rattle.mysql_wire_dump_fields.specs.TemporalTexts.{date_text, time_text}
 
 abbrev pub text_shown : Option (List ℕ) → Value
 text_shown None = Null

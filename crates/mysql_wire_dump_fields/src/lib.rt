@@ -1,5 +1,5 @@
 //! The fields of each packet, as members of a dump's text or JSON.
 #![tactic(auto)]
 
-mod moments;
 pub mod show;
+mod temporal;

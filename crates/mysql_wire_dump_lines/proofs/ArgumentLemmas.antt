@@ -9,7 +9,7 @@ use Rattle.mysql_wire_dump_lines.specs.declared.arguments.Request.{Request}
 use Rattle.mysql_wire_dump_lines.specs.declared.lines.LineForm.{LineForm}
 use Rattle.mysql_wire_dump_lines.specs.declared.options.Options.{Options}
 use Rattle.mysql_wire_dump_lines.specs.declared.options.Sides.{Sides}
-use Rattle.mysql_wire_dump_lines.specs.Arguments.{Adds, Asks, Bars, Command, Dump, Help, Grows, IsAsked, IsNumber, IsValid, Part, Fields, Json, Limit, Client, Server, Reads, Says, Session, Takes, session_of, sides_of, words_of}
+use Rattle.mysql_wire_dump_lines.specs.Arguments.{AddsPart, Asks, Bars, Command, Dump, Help, Grows, IsAsked, IsNumber, IsValid, Part, Fields, Json, Limit, Client, Server, Reads, Says, Session, TakesWords, session_of, sides_of, words_of}
 
 -- ---- the words of parts tell the parts
 
@@ -79,7 +79,7 @@ no_help (Server file) q is = absurd (omega (arith, ap third is))
 
 -- ---- a part more
 
-pub takes_one : (part : Part) (words : List (List ℕ)) (old : Request) (result : Option Request) → words_of part ≡ words → Adds part old result → Takes words old result
+pub takes_one : (part : Part) (words : List (List ℕ)) (old : Request) (result : Option Request) → words_of part ≡ words → AddsPart part old result → TakesWords words old result
 takes_one part words old None is bars = λ other same. subst (λ (p : Part). Bars p old) (same_part part other (is ∙ sym same)) bars
 takes_one part words old (Some new) is grows = (part, is, grows)
 

@@ -1,3 +1,3 @@
-pub mod SourceLemmas
+pub mod PacketStreamLemmas
 pub mod NumberLemmas
 pub mod ArgumentLemmas

@@ -124,12 +124,12 @@ Bars part request =
     → ¬ (Says (parts ++ part ∷ others) session)
 
 -- a part more, or it is refused
-abbrev pub Adds : Part → Request → Option Request → Type 0
-Adds part old result = MatchOption result (Bars part old) (Grows part old)
+abbrev pub AddsPart : Part → Request → Option Request → Type 0
+AddsPart part old result = MatchOption result (Bars part old) (Grows part old)
 
 -- the words of an option or a file
-abbrev pub Takes : List (List ℕ) → Request → Option Request → Type 0
-Takes words old result =
+abbrev pub TakesWords : List (List ℕ) → Request → Option Request → Type 0
+TakesWords words old result =
     MatchOption result ((part : Part) → words_of part ≡ words → Bars part old)
     (λ new. (part : Part) × (words_of part ≡ words) × Grows part old new)
 

@@ -1,6 +1,6 @@
 pub mod Names
 pub mod Status
-pub mod Sources
-pub mod Turns
+pub mod PacketStreams
+pub mod NextSenders
 pub mod Lines
 pub mod Arguments

@@ -8,7 +8,7 @@ use Rattle.mysql_wire_dump_lines.specs.declared.lines.LineForm.{LineForm}
 use Rattle.mysql_wire_dump_lines.specs.declared.lines.LineForm.TheVariants.{Text, Json}
 use Rattle.mysql_wire_dump_lines.specs.declared.lines.Seen.{Seen}
 use Rattle.mysql_wire_session.specs.declared.side.Side.{Side}
-use Rattle.mysql_wire_dump_lines.specs.declared.source.End.{End}
+use Rattle.mysql_wire_dump_lines.specs.declared.packet_stream.End.{End}
 use Rattle.mysql_wire_dump_lines.specs.Names.{end_name}
 use Rattle.mysql_wire_session.specs.Names.{side_name, kind_name, refusal_name}
 

@@ -1,7 +1,7 @@
 -- The words that lines are made of.
 use Rattle.std.specs.Prelude.{ℕ, List, codes}
-use Rattle.mysql_wire_dump_lines.specs.declared.source.End.{End}
-use Rattle.mysql_wire_dump_lines.specs.declared.source.End.TheVariants as ending
+use Rattle.mysql_wire_dump_lines.specs.declared.packet_stream.End.{End}
+use Rattle.mysql_wire_dump_lines.specs.declared.packet_stream.End.TheVariants as ending
 
 -- how a direction ends
 abbrev pub end_name : End → List ℕ

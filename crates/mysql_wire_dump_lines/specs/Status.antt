@@ -1,7 +1,7 @@
 -- How the program ends.
 use Rattle.std.specs.Prelude.{ℕ, List, [], codes, ◌==◌, if◌then◌else◌, Result, Ok, Err}
-use Rattle.mysql_wire_dump_lines.specs.declared.source.End.{End}
-use Rattle.mysql_wire_dump_lines.specs.declared.source.End.TheVariants as ending
+use Rattle.mysql_wire_dump_lines.specs.declared.packet_stream.End.{End}
+use Rattle.mysql_wire_dump_lines.specs.declared.packet_stream.End.TheVariants as ending
 use Rattle.mysql_wire_dump_lines.specs.declared.status.Stop.{Stop}
 use Rattle.mysql_wire_dump_lines.specs.declared.status.Stop.TheVariants.{Io, Memory}
 use Rattle.mysql_wire_session.specs.declared.refusal.SessionError.{SessionError}

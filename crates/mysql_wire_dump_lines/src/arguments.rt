@@ -39,7 +39,7 @@ fn number(word: &str) -> Option<usize>
 }
 
 impl<'a> Request<'a> {
-    ghost use Rattle.mysql_wire_dump_lines.specs.Arguments.{Adds, Asks, Client, Dump, Grows, Fields, Json, Limit, Says, Server, Session, Steps, Takes, TakesAlone, session_of, sides_of};
+    ghost use Rattle.mysql_wire_dump_lines.specs.Arguments.{AddsPart, Asks, Client, Dump, Grows, Fields, Json, Limit, Says, Server, Session, Steps, TakesWords, TakesAlone, session_of, sides_of};
 
     // Nothing yet.
     fn new() -> Request<'a>
@@ -78,7 +78,7 @@ impl<'a> Request<'a> {
 
     // With a limit, where the word is a number.
     fn with_limit(self, word: &str) -> Option<Request<'a>>
-        ensures { Adds (Limit word.now) self.entry result }
+        ensures { AddsPart (Limit word.now) self.entry result }
     {
         let options = Options {
             limit: number(word)?,
@@ -89,7 +89,7 @@ impl<'a> Request<'a> {
 
     // With a client's file, where it has none.
     fn with_client(self, file: &'a str) -> Option<Request<'a>>
-        ensures { Adds (Client file.now) self.entry result }
+        ensures { AddsPart (Client file.now) self.entry result }
     {
         match self.client {
             None => Some(Request {
@@ -102,7 +102,7 @@ impl<'a> Request<'a> {
 
     // With a server's file, where it has none.
     fn with_server(self, file: &'a str) -> Option<Request<'a>>
-        ensures { Adds (Server file.now) self.entry result }
+        ensures { AddsPart (Server file.now) self.entry result }
     {
         match self.server {
             None => Some(Request {
@@ -126,7 +126,7 @@ impl<'a> Request<'a> {
 
     // With one word more, and the word after it.
     fn with_pair(self, word: &str, value: &'a str) -> Option<Request<'a>>
-        ensures { Takes (word.now ∷ value.now ∷ []) self.entry result }
+        ensures { TakesWords (word.now ∷ value.now ∷ []) self.entry result }
     {
         match word {
             "--limit" => self.with_limit(value),

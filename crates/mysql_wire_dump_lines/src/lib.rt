@@ -3,7 +3,7 @@
 
 pub mod arguments;
 pub mod lines;
+pub mod next_sender;
 pub mod options;
-pub mod source;
+pub mod packet_stream;
 pub mod status;
-pub mod turn;

@@ -6,7 +6,7 @@ ghost use Rattle.mysql_wire_dump_lines.specs.Lines.{bytes_part, ending_line, lin
 ghost use Rattle.mysql_wire_dump_lines.specs.Names.{end_name};
 ghost use Rattle.mysql_wire_session.specs.Names.{refusal_name};
 
-use crate::source::End;
+use crate::packet_stream::End;
 use mysql_wire_session::packet_kind::PacketKind;
 use mysql_wire_session::refusal::Refusal;
 use mysql_wire_session::side::Side;

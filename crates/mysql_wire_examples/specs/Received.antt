@@ -4,9 +4,9 @@ use Rattle.mysql_wire.specs.Delivery.{Delivers, Waiting}
 use Rattle.mysql_wire.specs.Runs.{payloads}
 
 -- packets were put after those that were there, and this holds of their payloads
-abbrev pub Gains : {A : Type 0} → List (Vec ℕ A) → List (Vec ℕ A) → (List (List ℕ) → Type 0)
+abbrev pub GainsPackets : {A : Type 0} → List (Vec ℕ A) → List (Vec ℕ A) → (List (List ℕ) → Type 0)
     → Type 0
-Gains old new P = (gained : List (List ℕ)) × (payloads new ≡ payloads old ++ gained) × P gained
+GainsPackets old new P = (gained : List (List ℕ)) × (payloads new ≡ payloads old ++ gained) × P gained
 
 -- a stream that begins with the chunk of this id has delivered these payloads under this limit, and
 -- waits for more

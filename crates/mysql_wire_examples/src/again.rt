@@ -3,7 +3,7 @@
 ghost use Rattle.std.specs.Prelude.{◌≡◌, ◌≢◌, ◌≤◌, length, take, Err, OnOk};
 ghost use Rattle.mysql_wire.specs.Codec.{Stands, state_at};
 ghost use Rattle.mysql_wire.specs.Runs.{joined, RunsTo};
-ghost use Rattle.mysql_wire_examples.specs.Received.{Gains};
+ghost use Rattle.mysql_wire_examples.specs.Received.{GainsPackets};
 
 use bytes::BytesMut;
 use mysql_wire::laws;
@@ -22,7 +22,7 @@ pub fn deliver_again<A: Allocator + Copy>(
     again: usize,
 ) -> (usize, Result<(), PacketCodecError>)
     requires { Stands (state_at codec.old src.old dst.old) }
-    ensures runs { Gains out.old.items out.new.items (λ gained. RunsTo
+    ensures runs { GainsPackets out.old.items out.new.items (λ gained. RunsTo
         (state_at codec.old src.old dst.old) (joined (take result.0 pieces.now)) result.1 gained
         (state_at codec.new src.new dst.new)) }
     ensures count { result.0 ≤ length pieces.now }

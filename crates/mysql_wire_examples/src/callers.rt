@@ -6,7 +6,7 @@ ghost use Rattle.mysql_wire.specs.Codec.{Stands, state_at};
 ghost use Rattle.mysql_wire.specs.Delivery.{Delivers, Waiting};
 ghost use Rattle.mysql_wire.specs.Framing.{framing, next_id};
 ghost use Rattle.mysql_wire.specs.Runs.{joined, payloads, RunsTo};
-ghost use Rattle.mysql_wire_examples.specs.Received.{DeliversSoFar, Gains};
+ghost use Rattle.mysql_wire_examples.specs.Received.{DeliversSoFar, GainsPackets};
 
 use bytes::BytesMut;
 use mysql_wire::laws;
@@ -48,7 +48,7 @@ fn take_unread<A: Allocator + Copy>(
     packets: &mut Vec<Vec<u8, A>, A>,
 ) -> Result<(), PacketCodecError>
     requires { Stands (state_at codec.old src.old dst.old) }
-    ensures run { OnOk result (Gains packets.old.items packets.new.items (λ gained. RunsTo
+    ensures run { OnOk result (GainsPackets packets.old.items packets.new.items (λ gained. RunsTo
         (state_at codec.old src.old dst.old) [] (Ok tt) gained
         (state_at codec.new src.new dst.new))) }
     ensures limit { codec.new.max_allowed_packet ≡ codec.old.max_allowed_packet }

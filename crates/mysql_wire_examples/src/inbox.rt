@@ -3,7 +3,7 @@
 ghost use Rattle.std.specs.Prelude.{◌≡◌, ◌+◌, ◌≤◌, length, Ok, OnOk, IfOk};
 ghost use Rattle.mysql_wire.specs.Bounds.{most_read};
 ghost use Rattle.mysql_wire.specs.Runs.{RunsTo};
-ghost use Rattle.mysql_wire_examples.specs.Received.{Gains};
+ghost use Rattle.mysql_wire_examples.specs.Received.{GainsPackets};
 
 use crate::again::deliver_again;
 use bytes::BytesMut;
@@ -57,7 +57,7 @@ impl<A: Allocator + Copy> Inbox<A> {
     ) -> Result<(), PacketCodecError>
         requires { HoldsFew self.old }
         ensures few { OnOk result (HoldsFew self.new) }
-        ensures packets { OnOk result (Gains packets.old.items packets.new.items (λ gained.
+        ensures packets { OnOk result (GainsPackets packets.old.items packets.new.items (λ gained.
             RunsTo (inbox_state self.old) piece.now (Ok tt) gained (inbox_state self.new))) }
         ensures limit { self.new.codec.max_allowed_packet ≡ self.old.codec.max_allowed_packet }
     {

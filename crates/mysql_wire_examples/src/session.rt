@@ -4,7 +4,7 @@ ghost use Rattle.std.specs.Prelude.{◌≡◌, max, OnOk, IfOk};
 ghost use Rattle.mysql_wire.specs.Codec.{Stands, state_at};
 ghost use Rattle.mysql_wire.specs.Delivery.{IsBounded};
 ghost use Rattle.mysql_wire.specs.Runs.{payloads};
-ghost use Rattle.mysql_wire_examples.specs.Received.{Gains};
+ghost use Rattle.mysql_wire_examples.specs.Received.{GainsPackets};
 ghost use Rattle.mysql_wire_examples.specs.Session.{DeliversSession, GoesOnUnder};
 
 use bytes::BytesMut;
@@ -25,7 +25,7 @@ pub fn go_on_under<A: Allocator + Copy>(
     packets: &mut Vec<Vec<u8, A>, A>,
 ) -> Result<(), PacketCodecError>
     requires { Stands (state_at codec.old src.old dst.old) }
-    ensures session { OnOk result (Gains packets.old.items packets.new.items (λ gained. GoesOnUnder
+    ensures session { OnOk result (GainsPackets packets.old.items packets.new.items (λ gained. GoesOnUnder
         limit (state_at codec.old src.old dst.old) piece.now gained
         (state_at codec.new src.new dst.new))) }
     ensures bounded { OnOk result (IsBounded (max codec.old.max_allowed_packet limit)

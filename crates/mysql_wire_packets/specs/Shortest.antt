@@ -51,8 +51,8 @@ IsWrittenBack written came = (length written ≤ length came)
 -- ---- lemmas
 
 -- what came and is spelled shortest is the same
-abbrev pub Told : List ℕ → List ℕ → Type 0
-Told written came = (length written ≤ length came)
+abbrev pub IsNoLonger : List ℕ → List ℕ → Type 0
+IsNoLonger written came = (length written ≤ length came)
     × (IsSpelledShortest written came → written ≡ came)
 
 not_both : (byte : ℕ) → byte ≡ 0 → IsMark byte → ⊥
@@ -67,7 +67,7 @@ no_mark_same (byte ∷ bytes) = (
 )
 
 -- and what is the same is spelled shortest
-pub written_back : (written came : List ℕ) → Told written came → IsWrittenBack written came
+pub written_back : (written came : List ℕ) → IsNoLonger written came → IsWrittenBack written came
 written_back written came told = (
   told.0,
   (
@@ -83,16 +83,16 @@ written_back written came told = (
 pub record Shortest {X : Type 0} (reads : List ℕ → Result X WireError → ℕ → Type 0)
     (bytes : X → List ℕ) : Type 0 where
   pub law : (input : List ℕ) → IsBytes input → (x : X) (eaten : ℕ) → reads input (Ok x) eaten
-      → Told (bytes x) (take eaten input)
+      → IsNoLonger (bytes x) (take eaten input)
 
-pub told_same : (written came : List ℕ) → written ≡ came → Told written came
-told_same written came same = (omega (arith, ap length same), λ short. same)
+pub no_longer_if_same : (written came : List ℕ) → written ≡ came → IsNoLonger written came
+no_longer_if_same written came same = (omega (arith, ap length same), λ short. same)
 
-told_less : (written came : List ℕ) → length written < length came → Told written came
+told_less : (written came : List ℕ) → length written < length came → IsNoLonger written came
 told_less written came less =
     (omega (arith, less), λ short. absurd (omega (arith, less, short.0)))
 
-told_cut : (most : ℕ) (text : List ℕ) → Told (take most text) text
+told_cut : (most : ℕ) (text : List ℕ) → IsNoLonger (take most text) text
 told_cut most text = (
   omega (arith, length-take most text),
   λ short. take_all most text (omega (arith, short.0, length-take most text)),
@@ -107,7 +107,7 @@ no_mark_split (head ∷ a) b (other ∷ c) d len none =
     let more = no_mark_split a b c d (omega (arith, len)) none.1 in
     ((none.0, more.0), more.1)
 
-pub told_both : (a b c d : List ℕ) → Told a c → Told b d → Told (a ++ b) (c ++ d)
+pub told_both : (a b c d : List ℕ) → IsNoLonger a c → IsNoLonger b d → IsNoLonger (a ++ b) (c ++ d)
 told_both a b c d first second = (
   omega (arith, first.0, second.0, length-append a b, length-append c d),
   λ short.
@@ -151,22 +151,22 @@ rest_are first rest bytes is are = λ i.
     let same : slice_index bytes (suc i) ≡ slice_index rest i = ap (λ l. slice_index l (suc i)) is in
     omega (arith, byte, same))
 
-spelled_low : (n : ℕ) (bytes : List ℕ) → bytes ≡ n ∷ [] → n < 251 → Told (lenenc_bytes n) bytes
-spelled_low n bytes is low = told_same (lenenc_bytes n) bytes (low_is n low ∙ sym is)
+spelled_low : (n : ℕ) (bytes : List ℕ) → bytes ≡ n ∷ [] → n < 251 → IsNoLonger (lenenc_bytes n) bytes
+spelled_low n bytes is low = no_longer_if_same (lenenc_bytes n) bytes (low_is n low ∙ sym is)
 
 spelled_two : (n : ℕ) (bytes : List ℕ) → IsBytes bytes → IsBehind 0xfc 2 n bytes
-    → Told (lenenc_bytes n) bytes
+    → IsNoLonger (lenenc_bytes n) bytes
 spelled_two n bytes are (rest, is, len, value) =
     let back = value_back 2 n rest (rest_are 0xfc rest bytes is are) len value in
     let size : length bytes ≡ 1 + length rest = ap length is ∙ omega arith in
     elim (cases_lt n 251) [
       | inl a ↦ told_less (lenenc_bytes n) bytes (omega (arith, ap length (low_is n a), size, len))
-      | inr a ↦ told_same (lenenc_bytes n) bytes
+      | inr a ↦ no_longer_if_same (lenenc_bytes n) bytes
           (two_is n a back.1 ∙ ap (λ l. 0xfc ∷ l) back.0 ∙ sym is)
     ]
 
 spelled_three : (n : ℕ) (bytes : List ℕ) → IsBytes bytes → IsBehind 0xfd 3 n bytes
-    → Told (lenenc_bytes n) bytes
+    → IsNoLonger (lenenc_bytes n) bytes
 spelled_three n bytes are (rest, is, len, value) =
     let back = value_back 3 n rest (rest_are 0xfd rest bytes is are) len value in
     let size : length bytes ≡ 1 + length rest = ap length is ∙ omega arith in
@@ -175,13 +175,13 @@ spelled_three n bytes are (rest, is, len, value) =
       | inr a ↦ elim (cases_lt n (256 ^ 2)) [
         | inl b ↦ told_less (lenenc_bytes n) bytes
             (omega (arith, ap length (two_is n a b), size, len))
-        | inr b ↦ told_same (lenenc_bytes n) bytes
+        | inr b ↦ no_longer_if_same (lenenc_bytes n) bytes
             (three_is n a b back.1 ∙ ap (λ l. 0xfd ∷ l) back.0 ∙ sym is)
       ]
     ]
 
 spelled_eight : (n : ℕ) (bytes : List ℕ) → IsBytes bytes → IsBehind 0xfe 8 n bytes
-    → Told (lenenc_bytes n) bytes
+    → IsNoLonger (lenenc_bytes n) bytes
 spelled_eight n bytes are (rest, is, len, value) =
     let back = value_back 8 n rest (rest_are 0xfe rest bytes is are) len value in
     let size : length bytes ≡ 1 + length rest = ap length is ∙ omega arith in
@@ -193,7 +193,7 @@ spelled_eight n bytes are (rest, is, len, value) =
         | inr b ↦ elim (cases_lt n (256 ^ 3)) [
           | inl c ↦ told_less (lenenc_bytes n) bytes
               (omega (arith, ap length (three_is n a b c), size, len))
-          | inr c ↦ told_same (lenenc_bytes n) bytes
+          | inr c ↦ no_longer_if_same (lenenc_bytes n) bytes
               (eight_is n a b c ∙ ap (λ l. 0xfe ∷ l) back.0 ∙ sym is)
         ]
       ]
@@ -201,7 +201,7 @@ spelled_eight n bytes are (rest, is, len, value) =
 
 -- a mark is none that may stand there
 spelled_mark : (n mark : ℕ) (bytes : List ℕ) → n ≡ 0 → IsMark mark → bytes ≡ mark ∷ []
-    → Told (lenenc_bytes n) bytes
+    → IsNoLonger (lenenc_bytes n) bytes
 spelled_mark n mark bytes zero_is marked is =
     let written : lenenc_bytes n ≡ n ∷ [] = low_is n (omega (arith, zero_is)) in (
       omega (arith, ap length written, ap length is),
@@ -212,7 +212,7 @@ spelled_mark n mark bytes zero_is marked is =
     )
 
 spelled : (n : ℕ) (bytes : List ℕ) → IsBytes bytes → IsLenencOrMark n bytes
-    → Told (lenenc_bytes n) bytes
+    → IsNoLonger (lenenc_bytes n) bytes
 spelled n bytes are (inl (inl (is, low))) = spelled_low n bytes is low
 spelled n bytes are (inl (inr (inl form))) = spelled_two n bytes are form
 spelled n bytes are (inl (inr (inr (inl form)))) = spelled_three n bytes are form
@@ -227,7 +227,7 @@ pub exact : {X : Type 0} {reads : List ℕ → Result X WireError → ℕ → Ty
     → Again reads bytes → Shortest reads bytes
 exact {bytes = bytes} again = record {
   law = λ input are x eaten read.
-      told_same (bytes x) (take eaten input) (again.law input are x eaten read);
+      no_longer_if_same (bytes x) (take eaten input) (again.law input are x eaten read);
 }
 
 -- a field of the value
@@ -249,7 +249,7 @@ both_of {bytes_a = bytes_a} {bytes_b = bytes_b} first second = record {
       let rest = drop taken input in
       let shape : take eaten input ≡ take taken input ++ take after rest =
       ap (λ count. take count input) all ∙ take-add taken after input in
-      subst (Told (bytes_a y ++ bytes_b y)) (sym shape)
+      subst (IsNoLonger (bytes_a y ++ bytes_b y)) (sym shape)
       (told_both (bytes_a y) (bytes_b y) (take taken input) (take after rest)
       (first.law input are y taken read_a)
       (second.law rest (IsBytes-drop taken input are) y after read_b)));
@@ -279,7 +279,7 @@ then_at {bytes_a = bytes_a} {bytes_b = bytes_b} first ctx front more = record {
       let rest = drop taken input in
       let shape : take eaten input ≡ take taken input ++ take after rest =
       ap (λ count. take count input) all ∙ take-add taken after input in
-      subst (Told (bytes_a (first y) ++ bytes_b y)) (sym shape)
+      subst (IsNoLonger (bytes_a (first y) ++ bytes_b y)) (sym shape)
       (told_both (bytes_a (first y)) (bytes_b y) (take taken input) (take after rest)
       (front.law input are (first y) taken read_a)
       ((more (ctx (first y) rest)).law rest (IsBytes-drop taken input are) y after read_b)));
@@ -300,7 +300,7 @@ either_law : {C D A B : Type 0} (reads_a : C → List ℕ → Result A WireError
     → ((d : D) → Shortest (reads_b d) bytes_b) → (ctx : Either C D) (input : List ℕ)
     → IsBytes input → (x : Either A B) (eaten : ℕ)
     → ReadsEither reads_a reads_b ctx input (Ok x) eaten
-    → Told (by_side bytes_a bytes_b x) (take eaten input)
+    → IsNoLonger (by_side bytes_a bytes_b x) (take eaten input)
 either_law reads_a reads_b bytes_a bytes_b left right (Left c) input are (Left a) eaten read =
     (left c).law input are a eaten read
 either_law reads_a reads_b bytes_a bytes_b left right (Left c) input are (Right b) eaten read =
@@ -328,13 +328,13 @@ optional_law : {A B C X : Type 0} (reads : C → List ℕ → Result A WireError
     (eaten : ℕ)
     → ReadsEither {C = C} {D = Unit {0}} {A = A} {B = B} reads
     (λ _. Parses (Some 0) (ReadsAny 0)) ctx input (Ok (field of_value none value)) eaten
-    → Told (bytes_if (λ x. bytes (of_value x)) value) (take eaten input)
+    → IsNoLonger (bytes_if (λ x. bytes (of_value x)) value) (take eaten input)
 optional_law reads bytes of_value none law (Left c) input are (Some x) eaten read =
     (law c).law input are (of_value x) eaten read
 optional_law reads bytes of_value none law (Left c) input are None eaten read = absurd read
 optional_law reads bytes of_value none law (Right d) input are (Some x) eaten read = absurd read
 optional_law reads bytes of_value none law (Right d) input are None eaten read =
-    told_same [] (take eaten input) (nothing_law input none eaten read)
+    no_longer_if_same [] (take eaten input) (nothing_law input none eaten read)
 
 pub optional_of : {A B C X Y : Type 0} {reads : C → List ℕ → Result A WireError → ℕ → Type 0}
     {bytes : A → List ℕ} (value : Y → Option X) (of_value : X → A) (none : B)
@@ -351,7 +351,7 @@ optional_of {reads = reads} {bytes = bytes} value of_value none law ctx = record
 -- a length-encoded number
 int_law : (n : ℕ) (input : List ℕ) → IsBytes input → (eaten : ℕ)
     → Leaves (NumberOrEof IsLenencOrMark 1) input (Ok n) eaten
-    → Told (lenenc_bytes n) (take eaten input)
+    → IsNoLonger (lenenc_bytes n) (take eaten input)
 int_law n input are eaten (there, (spelling, spells, whole)) =
     let rest = drop eaten input in
     let len : length spelling ≡ eaten = omega (
@@ -364,7 +364,7 @@ int_law n input are eaten (there, (spelling, spells, whole)) =
     let front : take eaten input ≡ spelling =
     ap (take eaten) whole ∙ take_at spelling rest eaten len in
     let bytes : IsBytes spelling = subst IsBytes front (IsBytes-take eaten input are) in
-    subst (Told (lenenc_bytes n)) (sym front) (spelled n spelling bytes spells)
+    subst (IsNoLonger (lenenc_bytes n)) (sym front) (spelled n spelling bytes spells)
 
 pub int_of : {Y : Type 0} (part : Y → ℕ)
     → Shortest (λ input. Through part (Leaves (NumberOrEof IsLenencOrMark 1) input))
@@ -402,19 +402,19 @@ spelling_are spelling mid input whole are =
 -- a text after its length
 pub text_law : (text input : List ℕ) → IsBytes input → (eaten : ℕ)
     → Leaves (TextBehind (NumberOrEof IsLenencOrMark 1)) input (Ok text) eaten
-    → Told (lenenc_bytes (length text) ++ text) (take eaten input)
+    → IsNoLonger (lenenc_bytes (length text) ++ text) (take eaten input)
 text_law text input are eaten (there, (mid, (spelling, spells, whole), parts)) =
     let n = length text in
     let front = text_front spelling text mid input eaten there whole parts in
     let bytes = spelling_are spelling mid input whole are in
-    subst (Told (lenenc_bytes n ++ text)) (sym front)
+    subst (IsNoLonger (lenenc_bytes n ++ text)) (sym front)
     (told_both (lenenc_bytes n) text spelling text (spelled n spelling bytes spells)
-    (told_same text text refl))
+    (no_longer_if_same text text refl))
 
 cow_text_law : {Z : Type 0} (text : CowSlice ℕ Z) (input : List ℕ) → IsBytes input → (eaten : ℕ)
     → Borrows (λ (c : CowSlice ℕ Z). c)
     (Leaves (TextBehind (NumberOrEof IsLenencOrMark 1)) input) (Ok text) eaten
-    → Told (text_bytes text) (take eaten input)
+    → IsNoLonger (text_bytes text) (take eaten input)
 cow_text_law (Borrowed text) input are eaten read = text_law text.now input are eaten read
 cow_text_law (Owned text) input are eaten read = absurd read
 
@@ -474,9 +474,9 @@ bare_is count input text eaten read = elim (cases_lt (length input) count) [
 
 bare_law : {Z : Type 0} (most count : ℕ) (text : CowSlice ℕ Z) (input : List ℕ) (eaten : ℕ)
     → Borrows (λ (c : CowSlice ℕ Z). c) (Answers (front_at count input)) (Ok text) eaten
-    → Told (take most (cow_slice_items text)) (take eaten input)
+    → IsNoLonger (take most (cow_slice_items text)) (take eaten input)
 bare_law most count (Borrowed text) input eaten read =
-    subst (Told (take most text.now)) (bare_is count input text.now eaten read)
+    subst (IsNoLonger (take most text.now)) (bare_is count input text.now eaten read)
     (told_cut most text.now)
 bare_law most count (Owned text) input eaten read = absurd read
 

@@ -10,7 +10,7 @@ ghost use Rattle.wire_buf.specs.Reading.{Through};
 ghost use Rattle.mysql_wire_packets.specs.InOrder.{packet, both, const_u8, number, array, eof_text};
 ghost use Rattle.mysql_wire_packets.specs.Optional.{BothIf, IsThere, OnIf, bytes_if, field, has, kept_field, optional, side};
 
-use crate::lent::Lent;
+use crate::by_ref::ByRef;
 use crate::optional::{Optional, under};
 use std::alloc::{Allocator, Global};
 use wire_buf::error::WireError;
@@ -83,7 +83,7 @@ impl MySerialize for ErrPacket<'_> {
         ++ cow_slice_items err.error_message.0)) };
 
     fn serialize<A: Allocator>(&self, buf: &mut Vec<u8, A>) -> Result<(), WireError> {
-        let message = Both(field_of(self.sql_state), Lent(&self.error_message));
+        let message = Both(field_of(self.sql_state), ByRef(&self.error_message));
         Both(ConstU8::<(), 0xff>::new(), Both(self.error_code, message)).serialize(buf)
     }
 }

@@ -11,7 +11,7 @@ ghost use Rattle.mysql_wire_packets.specs.Oks.{at_input, counts_bytes, form_of, 
 ghost use Rattle.mysql_wire_packets.specs.Optional.{BothIf, IsSide, IsThere, KeptField, OnIf, field, kept_field, one_of, optional, side};
 ghost use Rattle.mysql_wire_packets.specs.Then.{ReadsThen, then_back};
 
-use crate::lent::{Lent, LentIf};
+use crate::by_ref::{ByRef, ByRefIf};
 use crate::optional::{Optional, known_text, value_of};
 use std::alloc::{Allocator, Global};
 use wire_buf::error::WireError;
@@ -174,7 +174,7 @@ impl<const HEADER: u8> MySerialize for OkForm<'_, HEADER> {
         let last_insert_id = RawInt::<LenEnc>::new(self.last_insert_id);
         let state = Both(self.status_flags.0, self.warnings);
         let counts = Both(affected_rows, Both(last_insert_id, state));
-        let words = Both(LentIf(&self.info), LentIf(&self.session_state));
+        let words = Both(ByRefIf(&self.info), ByRefIf(&self.session_state));
         Both(Both(ConstU8::<(), HEADER>::new(), counts), words).serialize(buf)
     }
 }

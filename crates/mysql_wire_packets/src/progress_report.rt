@@ -7,7 +7,7 @@ ghost use Rattle.wire_buf.specs.Reading.{Through};
 ghost use Rattle.wire_repr.specs.Texts.{IsText, IsBorrowedText};
 ghost use Rattle.mysql_wire_packets.specs.InOrder.{packet, both, byte, const_u8, cut_number, lenenc_text, text_bytes};
 
-use crate::lent::Lent;
+use crate::by_ref::ByRef;
 use std::alloc::{Allocator, Global};
 use wire_buf::error::WireError;
 use wire_buf::io::ParseBuf;
@@ -56,7 +56,7 @@ impl MySerialize for ProgressReport<'_> {
         let head: Head = Both(ConstU8::new(), Both(ConstU8::new(), ConstU8::new()));
         let stages = Both(self.strings, Both(self.stage, self.max_stage));
         let progress = RawInt::<LeU24>::new(self.progress);
-        Both(head, Both(stages, Both(progress, Lent(&self.info)))).serialize(buf)
+        Both(head, Both(stages, Both(progress, ByRef(&self.info)))).serialize(buf)
     }
 }
 

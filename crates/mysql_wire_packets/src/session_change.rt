@@ -6,7 +6,7 @@ ghost use Rattle.wire_repr.specs.Texts.{IsText, IsBorrowedText};
 ghost use Rattle.wire_buf.specs.Reading.{Through};
 ghost use Rattle.mysql_wire_packets.specs.InOrder.{packet, both, byte, lenenc_text, text_bytes};
 
-use crate::lent::Lent;
+use crate::by_ref::ByRef;
 use std::alloc::{Allocator, Global};
 use wire_buf::error::WireError;
 use wire_buf::io::ParseBuf;
@@ -38,7 +38,7 @@ impl MySerialize for SessionChange<'_> {
     ghost bytes = { λ change. change.kind.0 ∷ text_bytes change.data.0 };
 
     fn serialize<A: Allocator>(&self, buf: &mut Vec<u8, A>) -> Result<(), WireError> {
-        Both(self.kind, Lent(&self.data)).serialize(buf)
+        Both(self.kind, ByRef(&self.data)).serialize(buf)
     }
 }
 

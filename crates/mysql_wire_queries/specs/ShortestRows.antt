@@ -10,15 +10,15 @@ use Rattle.wire_buf.specs.Reading.{Through}
 use Rattle.wire_buf.specs.declared.error.WireError.TheVariants.{Other}
 use Rattle.wire_buf.specs.declared.error.WireError.{WireError}
 use Rattle.mysql_wire_packets.specs.Again.{IsBytes-drop}
-use Rattle.mysql_wire_packets.specs.Shortest.{Shortest, Told, told_same, told_both, text_law}
+use Rattle.mysql_wire_packets.specs.Shortest.{Shortest, IsNoLonger, no_longer_if_same, told_both, text_law}
 use Rattle.mysql_wire_queries.specs.TextValues.{ReadsValue, value_bytes}
 
 -- a value of a row
 value_law : (value : Option (List ℕ)) (input : List ℕ) → IsBytes input → (eaten : ℕ)
     → ReadsValue input (Ok value) eaten
-    → Told (value_bytes value) (take eaten input)
+    → IsNoLonger (value_bytes value) (take eaten input)
 value_law None input are eaten (inl (at, (answered, all))) =
-    told_same (0xfb ∷ []) (take eaten input) (sym at ∙ ap (λ n. take n input) (sym all))
+    no_longer_if_same (0xfb ∷ []) (take eaten input) (sym at ∙ ap (λ n. take n input) (sym all))
 value_law (Some text) input are eaten (inl (at, (answered, all))) =
     let differs : ◌≡◌ {A = Result (Option (List ℕ)) WireError} (Ok (Some text)) (Ok None) =
     answered in
@@ -44,15 +44,15 @@ each_next : {X : Type 0} (reads : List ℕ → Result X WireError → ℕ → Ty
     → (input : List ℕ) → IsBytes input → (value : X) (taken after eaten : ℕ)
     → (others : Result (List X) WireError) (values : List X)
     → ((more : List X) → others ≡ Ok more
-    → Told (flat_map bytes more) (take after (drop taken input)))
+    → IsNoLonger (flat_map bytes more) (take after (drop taken input)))
     → reads input (Ok value) taken → Ok values ≡ behind (value ∷ []) others
-    → eaten ≡ taken + after → Told (flat_map bytes values) (take eaten input)
+    → eaten ≡ taken + after → IsNoLonger (flat_map bytes values) (take eaten input)
 each_next reads bytes law input are value taken after eaten (Ok more) values told read answered all =
     let same : values ≡ value ∷ more = cc answered in
     let shape : take eaten input ≡ take taken input ++ take after (drop taken input) =
     ap (λ count. take count input) all ∙ take-add taken after input in
-    subst (λ values. Told (flat_map bytes values) (take eaten input)) (sym same)
-    (subst (Told (bytes value ++ flat_map bytes more)) (sym shape)
+    subst (λ values. IsNoLonger (flat_map bytes values) (take eaten input)) (sym same)
+    (subst (IsNoLonger (bytes value ++ flat_map bytes more)) (sym shape)
     (told_both (bytes value) (flat_map bytes more) (take taken input)
     (take after (drop taken input)) (law.law input are value taken read) (told more refl)))
 each_next {X = X} reads bytes law input are value taken after eaten (Err error) values told read
@@ -64,10 +64,10 @@ each_law : {X : Type 0} (reads : List ℕ → Result X WireError → ℕ → Typ
     → Shortest reads bytes → (count : ℕ) (input : List ℕ) → IsBytes input → (values : List X)
     (eaten : ℕ) (answer : Result (List X) WireError) → answer ≡ Ok values
     → ReadsEach (Unit {0}) reads count input answer eaten
-    → Told (flat_map bytes values) (take eaten input)
+    → IsNoLonger (flat_map bytes values) (take eaten input)
 each_law reads bytes law zero input are values eaten answer is (answered, none) =
     let same : values ≡ [] = cc (is, answered) in
-    told_same (flat_map bytes values) (take eaten input)
+    no_longer_if_same (flat_map bytes values) (take eaten input)
     (ap (flat_map bytes) same ∙ ap (λ n. take n input) (sym none))
 each_law reads bytes law (suc count) input are values eaten answer is (inl (_, failed, _)) =
     absurd (cc (is, failed))
@@ -85,8 +85,8 @@ pub row_law : {X : Type 0} {reads : List ℕ → Result X WireError → ℕ → 
     (count : ℕ) → Shortest reads bytes → (values : List X) (input : List ℕ) → IsBytes input
     → (eaten : ℕ)
     → ((taken : ℕ) × ReadsEach (Unit {0}) reads count input (Ok values) taken × (eaten ≡ 0 + taken))
-    → Told (flat_map bytes values) (take eaten input)
+    → IsNoLonger (flat_map bytes values) (take eaten input)
 row_law {reads = reads} {bytes = bytes} count law values input are eaten (taken, read, all) =
     let same : taken ≡ eaten = omega (arith, all) in
-    subst (λ n. Told (flat_map bytes values) (take n input)) same
+    subst (λ n. IsNoLonger (flat_map bytes values) (take n input)) same
     (each_law reads bytes law count input are values taken (Ok values) refl read)

@@ -12,7 +12,7 @@ ghost use Rattle.mysql_wire_queries.specs.Columns.{column_fields, pair};
 ghost use Rattle.wire_field.specs.Rows.{ReadsBoth};
 ghost use Rattle.std.proofs.Common.{subst};
 
-use mysql_wire_packets::lent::{Lent, LentIf};
+use mysql_wire_packets::by_ref::{ByRef, ByRefIf};
 use mysql_wire_packets::optional::{Optional, known_text, value_of};
 use std::alloc::{Allocator, Global};
 use wire_buf::error::WireError;
@@ -124,9 +124,9 @@ impl MySerialize for ColumnDefinition41<'_> {
         ++ column.decimals ∷ column.reserved))) };
 
     fn serialize<A: Allocator>(&self, buf: &mut Vec<u8, A>) -> Result<(), WireError> {
-        let schemas = Both(Lent(&self.catalog), Lent(&self.schema));
-        let tables = Both(Lent(&self.table), Lent(&self.org_table));
-        let names = Both(Lent(&self.name), Lent(&self.org_name));
+        let schemas = Both(ByRef(&self.catalog), ByRef(&self.schema));
+        let tables = Both(ByRef(&self.table), ByRef(&self.org_table));
+        let names = Both(ByRef(&self.name), ByRef(&self.org_name));
         let sizes = Both(
             ConstU8::<(), 0x0c>::new(),
             Both(self.character_set, self.column_length),
@@ -135,7 +135,7 @@ impl MySerialize for ColumnDefinition41<'_> {
             Both(self.column_type.0, self.flags.0),
             Both(self.decimals, self.reserved),
         );
-        let numbers = Both(LentIf(&self.extended_metadata), Both(sizes, kind));
+        let numbers = Both(ByRefIf(&self.extended_metadata), Both(sizes, kind));
         Both(Both(schemas, Both(tables, names)), numbers).serialize(buf)
     }
 }

@@ -13,7 +13,7 @@ ghost use Rattle.mysql_wire_packets.specs.More.{more, there_if};
 ghost use Rattle.mysql_wire_packets.specs.NullTexts.{clean, null_text};
 ghost use Rattle.mysql_wire_packets.specs.Optional.{BothIf, IsThere, OnIf, has, kept_field, side};
 
-use mysql_wire_packets::lent::{Lent, LentIf};
+use mysql_wire_packets::by_ref::{ByRef, ByRefIf};
 use mysql_wire_packets::optional::{IfMore, known_text, under, value_of};
 use std::alloc::{Allocator, Global};
 use wire_buf::error::WireError;
@@ -92,10 +92,13 @@ impl MySerialize for ComChangeUser<'_> {
         ++ (set_bytes command ++ (name_bytes command ++ attrs_bytes command)) };
 
     fn serialize<A: Allocator>(&self, buf: &mut Vec<u8, A>) -> Result<(), WireError> {
-        let answer = Both(Lent(&self.auth_plugin_data), Lent(&self.database));
-        let user = Both(Lent(&self.user), answer);
-        let plugin = Both(LentIf(&self.auth_plugin_name), LentIf(&self.connect_attrs));
-        let more = Both(LentIf(&self.character_set), plugin);
+        let answer = Both(ByRef(&self.auth_plugin_data), ByRef(&self.database));
+        let user = Both(ByRef(&self.user), answer);
+        let plugin = Both(
+            ByRefIf(&self.auth_plugin_name),
+            ByRefIf(&self.connect_attrs),
+        );
+        let more = Both(ByRefIf(&self.character_set), plugin);
         Both(Both(ConstU8::<(), 0x11>::new(), user), more).serialize(buf)
     }
 }

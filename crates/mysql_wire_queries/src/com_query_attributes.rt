@@ -7,7 +7,7 @@ ghost use Rattle.wire_buf.specs.Reading.{Through};
 ghost use Rattle.wire_repr.specs.Texts.{IsText, IsBorrowedText};
 ghost use Rattle.mysql_wire_packets.specs.InOrder.{packet, both, const_u8, eof_text, lenenc_int};
 
-use mysql_wire_packets::lent::Lent;
+use mysql_wire_packets::by_ref::ByRef;
 use std::alloc::{Allocator, Global};
 use wire_buf::error::WireError;
 use wire_buf::io::ParseBuf;
@@ -48,7 +48,7 @@ impl MySerialize for ComQueryWithAttributes<'_> {
     fn serialize<A: Allocator>(&self, buf: &mut Vec<u8, A>) -> Result<(), WireError> {
         let count = RawInt::<LenEnc>::new(self.parameter_count);
         let set_count = RawInt::<LenEnc>::new(self.parameter_set_count);
-        let rest = Both(set_count, Lent(&self.attributes_and_query));
+        let rest = Both(set_count, ByRef(&self.attributes_and_query));
         Both(ConstU8::<(), 0x03>::new(), Both(count, rest)).serialize(buf)
     }
 }

@@ -6,7 +6,7 @@ ghost use Rattle.wire_repr.specs.Texts.{IsText, IsBorrowedText};
 ghost use Rattle.wire_buf.specs.Reading.{Through};
 ghost use Rattle.mysql_wire_packets.specs.InOrder.{packet, both, byte, lenenc_text, text_bytes};
 
-use mysql_wire_packets::lent::Lent;
+use mysql_wire_packets::by_ref::ByRef;
 use std::alloc::{Allocator, Global};
 use wire_buf::error::WireError;
 use wire_buf::io::ParseBuf;
@@ -34,7 +34,7 @@ impl MySerialize for TypeDetail<'_> {
     ghost bytes = { λ detail. detail.kind ∷ text_bytes detail.value.0 };
 
     fn serialize<A: Allocator>(&self, buf: &mut Vec<u8, A>) -> Result<(), WireError> {
-        Both(self.kind, Lent(&self.value)).serialize(buf)
+        Both(self.kind, ByRef(&self.value)).serialize(buf)
     }
 }
 

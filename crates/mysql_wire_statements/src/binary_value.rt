@@ -6,7 +6,7 @@ ghost use Rattle.wire_buf.specs.Reading.{Reads, Through};
 ghost use Rattle.mysql_wire_statements.specs.Values.{form_of, value_bytes, written_form, IsPlain, IsShortest, IsValue, ReadsForm, ReadsText, SameValue};
 ghost use Rattle.mysql_wire_statements.specs.ValuesBack.{value-back, value_law};
 
-use crate::moments::{BinaryDate, BinaryTime};
+use crate::temporal::{BinaryDate, BinaryTime};
 use crate::written_back::WrittenBack;
 use std::alloc::{Allocator, Global};
 use std::borrow::CowSlice;

@@ -8,7 +8,7 @@ ghost use Rattle.mysql_wire_packets.specs.Again.{packet_again, both_again, const
 ghost use Rattle.mysql_wire_packets.specs.InOrder.{packet, both, const_u8, eof_text, number};
 ghost use Rattle.mysql_wire_utility.specs.Replicas.{dump_bytes};
 
-use mysql_wire_packets::lent::Lent;
+use mysql_wire_packets::by_ref::ByRef;
 use mysql_wire_statements::written_back::WrittenBack;
 use std::alloc::{Allocator, Global};
 use wire_buf::error::WireError;
@@ -42,7 +42,7 @@ impl MySerialize for ComBinlogDump<'_> {
     ghost bytes = { dump_bytes };
 
     fn serialize<A: Allocator>(&self, buf: &mut Vec<u8, A>) -> Result<(), WireError> {
-        let replica = Both(self.server_id, Lent(&self.filename));
+        let replica = Both(self.server_id, ByRef(&self.filename));
         let place = Both(self.pos, Both(self.flags, replica));
         Both(ConstU8::<(), 0x12>::new(), place).serialize(buf)
     }

@@ -9,7 +9,7 @@ ghost use Rattle.mysql_wire_packets.specs.InOrder.{packet, both, const_u8, numbe
 ghost use Rattle.mysql_wire_utility.specs.LongTexts.{u32_cut, u32_text, u32_text_again};
 ghost use Rattle.mysql_wire_utility.specs.Replicas.{dump_gtid_bytes, dump_gtid_fields};
 
-use mysql_wire_packets::lent::Lent;
+use mysql_wire_packets::by_ref::ByRef;
 use mysql_wire_statements::written_back::WrittenBack;
 use std::alloc::{Allocator, Global};
 use wire_buf::error::WireError;
@@ -50,8 +50,8 @@ impl MySerialize for ComBinlogDumpGtid<'_> {
     fn serialize<A: Allocator>(&self, buf: &mut Vec<u8, A>) -> Result<(), WireError> {
         let flags = Both(self.flags, self.server_id);
         let replica = Both(ConstU8::<(), 0x1e>::new(), flags);
-        let transactions = Both(self.pos, Lent(&self.sid_block));
-        Both(replica, Both(Lent(&self.filename), transactions)).serialize(buf)
+        let transactions = Both(self.pos, ByRef(&self.sid_block));
+        Both(replica, Both(ByRef(&self.filename), transactions)).serialize(buf)
     }
 }
 

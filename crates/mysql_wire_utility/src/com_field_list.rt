@@ -8,7 +8,7 @@ ghost use Rattle.mysql_wire_packets.specs.Again.{packet_again, both_again, const
 ghost use Rattle.mysql_wire_packets.specs.InOrder.{packet, both, const_u8, eof_text};
 ghost use Rattle.mysql_wire_packets.specs.NullTexts.{clean, null_text};
 
-use mysql_wire_packets::lent::Lent;
+use mysql_wire_packets::by_ref::ByRef;
 use mysql_wire_statements::written_back::WrittenBack;
 use std::alloc::{Allocator, Global};
 use wire_buf::error::WireError;
@@ -40,7 +40,7 @@ impl MySerialize for ComFieldList<'_> {
         ++ cow_slice_items command.wildcard.0) };
 
     fn serialize<A: Allocator>(&self, buf: &mut Vec<u8, A>) -> Result<(), WireError> {
-        let columns = Both(Lent(&self.table), Lent(&self.wildcard));
+        let columns = Both(ByRef(&self.table), ByRef(&self.wildcard));
         Both(ConstU8::<(), 0x04>::new(), columns).serialize(buf)
     }
 }

@@ -9,7 +9,7 @@ ghost use Rattle.mysql_wire_packets.specs.InOrder.{packet, both, const_u8, numbe
 ghost use Rattle.mysql_wire_packets.specs.Shortest.{u8_text_again};
 ghost use Rattle.mysql_wire_utility.specs.Replicas.{register_bytes, register_fields};
 
-use mysql_wire_packets::lent::Lent;
+use mysql_wire_packets::by_ref::ByRef;
 use mysql_wire_statements::written_back::WrittenBack;
 use std::alloc::{Allocator, Global};
 use wire_buf::error::WireError;
@@ -55,8 +55,8 @@ impl MySerialize for ComRegisterSlave<'_> {
     fn serialize<A: Allocator>(&self, buf: &mut Vec<u8, A>) -> Result<(), WireError> {
         let server = Both(ConstU8::<(), 0x15>::new(), self.server_id);
         let account = Both(
-            Lent(&self.hostname),
-            Both(Lent(&self.user), Lent(&self.password)),
+            ByRef(&self.hostname),
+            Both(ByRef(&self.user), ByRef(&self.password)),
         );
         let place = Both(self.port, Both(self.replication_rank, self.master_id));
         Both(server, Both(account, place)).serialize(buf)

@@ -9,7 +9,7 @@ ghost use Rattle.wire_forms.specs.Constants.{ReadsConst, ReadsConst-back};
 ghost use Rattle.mysql_wire_packets.specs.Again.{packet_again, const_again, eof_text_again};
 ghost use Rattle.mysql_wire_packets.specs.InOrder.{packet, eof_text};
 
-use mysql_wire_packets::lent::Lent;
+use mysql_wire_packets::by_ref::ByRef;
 use mysql_wire_statements::written_back::WrittenBack;
 use std::alloc::{Allocator, Global};
 use wire_buf::error::{InvalidReason, WireError};
@@ -87,7 +87,7 @@ impl MySerialize for StatisticsText<'_> {
     ghost bytes = { λ statistics. cow_slice_items statistics.text.0 };
 
     fn serialize<A: Allocator>(&self, buf: &mut Vec<u8, A>) -> Result<(), WireError> {
-        Lent(&self.text).serialize(buf)
+        ByRef(&self.text).serialize(buf)
     }
 }
 

@@ -9,7 +9,7 @@ use bytes::BytesMut;
 use mysql_wire::constants::{Flags, MariadbCapabilities};
 use mysql_wire_dump_fields::show::{Show, binary_row, statistics, text_row};
 use mysql_wire_dump_lines::lines::{LineForm, Seen, push_packet};
-use mysql_wire_dump_lines::source::{Next, Source};
+use mysql_wire_dump_lines::packet_stream::{Next, PacketStream};
 use mysql_wire_packets::places::read_whole;
 use mysql_wire_queries::column_definition::ColumnDefinition41;
 use mysql_wire_session::packet_kind::PacketKind as Kind;
@@ -106,7 +106,7 @@ fn show(shown: &mut Shown, place: u64, id: u8, payload: &[u8]) -> Option<()> {
 // Shows all packets of a stream.
 fn show_all(shown: &mut Shown, stream: &[u8]) -> Option<u64> {
     let mut input = stream;
-    let mut source = Source::new(shown.alloc, LIMIT);
+    let mut source = PacketStream::new(shown.alloc, LIMIT);
     'packets: for place in 0..u64::MAX {
         source.look(&mut input).ok()?;
         let Next::Packet(id) = source.next() else {

@@ -14,9 +14,9 @@ use mysql_wire_packets::places::read_whole;
 use mysql_wire_statements::binary_row::BinaryRow;
 use mysql_wire_statements::binary_value::BinaryValue;
 use mysql_wire_statements::com_stmt_execute::ComStmtExecute;
-use mysql_wire_statements::moments::{BinaryDate, BinaryTime, Clock, Day, Span};
 use mysql_wire_statements::null_bitmap::NullBitmap;
 use mysql_wire_statements::params::{ParamTypes, StmtParams};
+use mysql_wire_statements::temporal::{BinaryDate, BinaryTime, Clock, Day, Span};
 use std::alloc::Global;
 
 // The types of a statement's parameters, and of a row's columns.

@@ -63,8 +63,8 @@ TakesOn limits mark place limit first input held (Err error) id header src dst =
     mark place first input held (Err error) id header src dst
 
 -- in every place of such a run
-abbrev pub Takes : CodecState → Result Progress PacketCodecError → CodecState → Type 0
-Takes before answer after = (limits : Limits) (mark place : ℕ) → GoesOn limits mark place before
+abbrev pub PacketSink : CodecState → Result Progress PacketCodecError → CodecState → Type 0
+PacketSink before answer after = (limits : Limits) (mark place : ℕ) → GoesOn limits mark place before
     → TakesOn limits mark place before.limit (first_id before) (input_of before) before.held answer
     after.id after.header after.unread after.held
 

@@ -19,8 +19,8 @@ OwnsAs is_clone (slice.Borrowed r) items = AllZip is_clone r.now items
 OwnsAs is_clone (slice.Owned v) items = items ≡ v.items
 
 -- the list owns its values, and one more after them
-abbrev pub Gains : {X Z : Type 0} → (X → X → Type 0) → CowSlice X Z → X → CowSlice X Z → Type 0
-Gains {X = X} is_clone old value new = IsOwned new
+abbrev pub GainsValue : {X Z : Type 0} → (X → X → Type 0) → CowSlice X Z → X → CowSlice X Z → Type 0
+GainsValue {X = X} is_clone old value new = IsOwned new
     × ((items : List X) × OwnsAs is_clone old items × (cow_slice_items new ≡ items ++ value ∷ []))
 
 -- the same values, owned or borrowed as they were

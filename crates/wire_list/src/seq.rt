@@ -10,7 +10,7 @@ ghost use Rattle.wire_repr.specs.Law.{seen};
 ghost use Rattle.wire_repr.specs.Texts.{IsOwned, IsNotOwned};
 ghost use Rattle.wire_values.specs.Elements.{ReadsAll};
 ghost use Rattle.wire_list.specs.Counted.{ReadsCounted, count_at, count-back, each-laws, sized-values, seq-back, unknown-back, at_most, below_32};
-ghost use Rattle.wire_list.specs.Copies.{IsCopy, OwnsAs, Gains, SameList};
+ghost use Rattle.wire_list.specs.Copies.{IsCopy, OwnsAs, GainsValue, SameList};
 ghost use Rattle.wire_list.specs.ElementLaws.{AllKept};
 
 mod repr;
@@ -94,7 +94,7 @@ impl<'a, T: Clone, U, A: Allocator> Seq<'a, T, U, A> {
     pub fn push(&mut self, alloc: A, element: T) -> Result<(), WireError>
     where
         T: Drop,
-        ensures ok { OnOk result (Gains T.is_clone self.old.0 element self.new.0) }
+        ensures ok { OnOk result (GainsValue T.is_clone self.old.0 element self.new.0) }
         ensures same { OnOk result (((value clone : T) → T.is_clone value clone → clone ≡ value)
             → cow_slice_items self.new.0 ≡ cow_slice_items self.old.0 ++ element ∷ []) }
         ensures err { IfErr result (λ error. (error ≡ OutOfMemory)

@@ -16,9 +16,9 @@ use Rattle.std.specs.Io.KnownBytes.{Consumes, IsAtEnd, Keeps}
 use Rattle.wire_codec.specs.Codec.{CodecState, first_id, input_of, open_id, StandsAt, Stands, DecodesFrom}
 use Rattle.wire_codec.specs.Runs.{RunsTo}
 use Rattle.wire_packet_io.specs.PacketIo.{Answer, joined_reads, read_size, WaitsAlone, most_reads, CountsUp, ReadsTo, EndsEmpty, SeesEnd, NextPacket, ReadFails, TakesPacket, EndsAt, FitsAt}
-use Rattle.wire_packet_io.specs.Lent.{IsApart, answer_over, unread_behind}
+use Rattle.wire_packet_io.specs.Lending.{IsCopied, answer_over, unread_behind}
 use Rattle.wire_packet_io.specs.declared.input.Found.{Found}
-use Rattle.wire_packet_io.specs.declared.input.Found.TheVariants.{InFront, Apart}
+use Rattle.wire_packet_io.specs.declared.input.Found.TheVariants.{InFront, Copied}
 use Rattle.wire_codec.proofs.CodecLemmas.{decodes_later, open_at_id, open_small, splits_here}
 use Rattle.wire_codec.proofs.RunLemmas.{front-nil, splits_extend, stands_append}
 use Rattle.wire_codec.proofs.ChunkLemmas.{blocks_whole}
@@ -167,9 +167,9 @@ ends_by answer lost before mid after unread left last old_reads new_reads all s 
 -- what was found is no end
 pub found_ends : {A : Type 0} (found : Found A) (src : List ℕ) → answer_over (Ok (Some found)) src ≢ Ok None
 found_ends InFront src e = absurd cc
-found_ends (Apart packet) src e = absurd cc
+found_ends (Copied packet) src e = absurd cc
 
-pub apart_unread : {A : Type 0} (found : Option (Found A)) (src : List ℕ) → IsApart found → unread_behind found src ≡ src
+pub apart_unread : {A : Type 0} (found : Option (Found A)) (src : List ℕ) → IsCopied found → unread_behind found src ≡ src
 apart_unread (Some InFront) src h = absurd h
 apart_unread found src h = refl
 

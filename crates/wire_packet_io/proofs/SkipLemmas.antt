@@ -17,9 +17,9 @@ use Rattle.wire_codec.proofs.RunLemmas.{nothing_whole, stands_append}
 use Rattle.wire_codec.proofs.CodecLemmas.{stands_without}
 use Rattle.wire_packet_io.specs.declared.error.PacketIoError.{PacketIoError}
 use Rattle.wire_packet_io.specs.declared.error.PacketIoError.TheVariants.{Io, UnexpectedEnd, PacketTooLarge, PacketsOutOfSync, OutOfMemory}
-use Rattle.wire_packet_io.specs.Lent.{packet_of, unread_behind}
+use Rattle.wire_packet_io.specs.Lending.{packet_of, unread_behind}
 use Rattle.wire_packet_io.specs.declared.input.Found.{Found}
-use Rattle.wire_packet_io.specs.declared.input.Found.TheVariants.{InFront, Apart}
+use Rattle.wire_packet_io.specs.declared.input.Found.TheVariants.{InFront, Copied}
 use Rattle.wire_packet_io.specs.PacketIo.{Answer, FitsAt, NextPacket, ReadFails, most_reads}
 use Rattle.wire_packet_io.specs.Skips.{LeavesNext, SkipsFor, skipped_or, IsRefusal}
 use Rattle.wire_packet_io.proofs.PacketIoLemmas.{length-zero, is_standing, SoFar, Waited, ends_by, ended, failed, to_go}
@@ -222,7 +222,7 @@ left_whole other lost full unread left old_reads new_reads skipped codec src k h
 -- no packet is lent
 pub unlent : {A : Type 0} (found : Option (Found A)) (src : List ℕ) → IsNone (packet_of found src) → unread_behind found src ≡ src
 unlent (Some InFront) src h = absurd cc
-unlent (Some (Apart packet)) src h = absurd cc
+unlent (Some (Copied packet)) src h = absurd cc
 unlent None src h = refl
 
 pub lent_none : {A : Type 0} (found : Option (Found A)) (src : List ℕ) (lent : Bool) → lent ≡ is_some found → lent ≡ false → IsNone (packet_of found src)

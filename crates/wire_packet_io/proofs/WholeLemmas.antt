@@ -9,9 +9,9 @@ use Rattle.wire_span.specs.Renumbering.{sent}
 use Rattle.wire_span.proofs.PassingLemmas.{merged_spans}
 use Rattle.wire_codec.specs.Codec.{expected_id}
 use Rattle.wire_packet_io.specs.Copying.{copied_to, in_front, Copies, CopiesNext}
-use Rattle.wire_packet_io.specs.Lent.{packet_of, unread_behind}
+use Rattle.wire_packet_io.specs.Lending.{packet_of, unread_behind}
 use Rattle.wire_packet_io.specs.declared.input.Found.{Found}
-use Rattle.wire_packet_io.specs.declared.input.Found.TheVariants.{InFront, Apart}
+use Rattle.wire_packet_io.specs.declared.input.Found.TheVariants.{InFront, Copied}
 use Rattle.wire_span.specs.declared.span.SpanDecoder.{SpanDecoder}
 use Rattle.wire_packet_io.specs.Relaying.{PassesOn}
 use Rattle.wire_packet_io.specs.Whole.{LiesWhole, in_front_with, payload_of}
@@ -83,7 +83,7 @@ relays_front None None codec behind src rest unread reads len here id next pendi
     relays_whole codec behind src rest unread reads len here id next pending more held whole rest_is limit here_is low next_is put
 relays_front None (Some decoder) codec behind src rest unread reads len here id next pending more held none alone whole rest_is limit here_is low next_is put = absurd cc
 relays_front (Some InFront) copied codec behind src rest unread reads len here id next pending more held none alone whole rest_is limit here_is low next_is put = absurd cc
-relays_front (Some (Apart packet)) copied codec behind src rest unread reads len here id next pending more held none alone whole rest_is limit here_is low next_is put = absurd cc
+relays_front (Some (Copied packet)) copied codec behind src rest unread reads len here id next pending more held none alone whole rest_is limit here_is low next_is put = absurd cc
 
 -- what was put: its header, and the part of what was read
 pub put_is : (pending more put read src : List ℕ) (len id : ℕ) → read ≡ src → put ≡ header len id
@@ -110,7 +110,7 @@ begins_front None None codec ends start after last src new unread held more none
     subst (λ (s : SpanState). Copies ends s src held last unread more) first (rw (end, is) f)
 begins_front None (Some decoder) codec ends start after last src new unread held more none alone first end is f = absurd cc
 begins_front (Some InFront) copied codec ends start after last src new unread held more none alone first end is f = absurd cc
-begins_front (Some (Apart packet)) copied codec ends start after last src new unread held more none alone first end is f = absurd cc
+begins_front (Some (Copied packet)) copied codec ends start after last src new unread held more none alone first end is f = absurd cc
 
 -- a codec after a packet that was copied
 pub behind_is : (copied : Option SpanDecoder) (behind : PacketCodec) (after : SpanState) → IsNone copied → IsBetween after

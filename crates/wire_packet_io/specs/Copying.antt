@@ -12,7 +12,7 @@ use Rattle.wire_span.specs.Passing.{left_in, most_bytes}
 use Rattle.wire_packet_io.specs.declared.error.PacketIoError.{PacketIoError}
 use Rattle.wire_packet_io.specs.declared.error.PacketIoError.TheVariants.{Io, UnexpectedEnd, WriteZero, PacketTooLarge, PacketsOutOfSync, OutOfMemory}
 use Rattle.wire_packet_io.specs.PacketIo.{joined_reads, read_size, CountsUp, EndsEmpty}
-use Rattle.wire_packet_io.specs.Lent.{Reading, reading_state}
+use Rattle.wire_packet_io.specs.Lending.{Reading, reading_state}
 
 -- in front of a packet: the first chunk is to bear the codec's id
 abbrev pub in_front : PacketCodec → SpanState

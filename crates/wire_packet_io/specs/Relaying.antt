@@ -12,7 +12,7 @@ use Rattle.wire_span.specs.Renumbering.{sent}
 use Rattle.wire_packet_io.specs.declared.error.PacketIoError.{PacketIoError}
 use Rattle.wire_packet_io.specs.declared.error.PacketIoError.TheVariants.{Io, UnexpectedEnd, WriteZero, PacketTooLarge, PacketsOutOfSync, OutOfMemory}
 use Rattle.wire_packet_io.specs.PacketIo.{joined_reads, Writing}
-use Rattle.wire_packet_io.specs.Lent.{Reading}
+use Rattle.wire_packet_io.specs.Lending.{Reading}
 use Rattle.wire_packet_io.specs.Copying.{CopiesNext, WaitsHere, copied_to, has_ended}
 
 -- bytes of a packet go out with their headers, which bear ids from this one on, after what was

@@ -9,7 +9,7 @@ use Rattle.wire_codec.specs.declared.codec.error.PacketCodecError.TheVariants as
 use Rattle.wire_packet_io.specs.declared.error.PacketIoError.{PacketIoError}
 use Rattle.wire_packet_io.specs.declared.error.PacketIoError.TheVariants.{Io, PacketTooLarge, PacketsOutOfSync, OutOfMemory}
 use Rattle.wire_packet_io.specs.PacketIo.{Answer, FitsAt, NextPacket}
-use Rattle.wire_packet_io.specs.Lent.{Reading, reading_state}
+use Rattle.wire_packet_io.specs.Lending.{Reading, reading_state}
 
 -- the answer of `next_packet` where a packet is skipped so
 abbrev pub SkipsFor : Result Bool PacketIoError → Answer → Type 0

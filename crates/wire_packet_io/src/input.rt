@@ -8,7 +8,7 @@ ghost use Rattle.wire_codec.specs.InPlace.{front_payload as payload_in_front};
 ghost use Rattle.wire_packet_io.specs.PacketIo.{ReadFails, TakesPacket, EndsAt, FitsAt, read_size};
 ghost use Rattle.wire_codec.specs.Skipping.{MaySkip};
 ghost use Rattle.wire_packet_io.specs.Skips.{IsRefusal, SkipsOn, skipping};
-ghost use Rattle.wire_packet_io.specs.Lent.{IsThere, IsApart, ReadsPacket, found_in, answer_over, input_state, lender};
+ghost use Rattle.wire_packet_io.specs.Lending.{IsThere, IsCopied, ReadsPacket, found_in, answer_over, input_state, lender};
 
 mod copy;
 mod relay;
@@ -33,7 +33,7 @@ pub enum Found<A: Allocator + Copy> {
     /// It lies in one chunk at the front of what was read, and the codec is after it.
     InFront,
     /// It was put together.
-    Apart(Vec<u8, A>),
+    Copied(Vec<u8, A>),
 }
 
 /// A reader, with what was read and isn't decoded, and the full chunks of an unfinished packet.
@@ -105,7 +105,7 @@ impl<R: Read, A: Allocator + Copy> Input<R, A> {
         ensures takes { TakesPacket (input_state codec.old None self.old)
             (answer_over result self.new.src.items) self.new.lost
             (input_state codec.new None self.new) }
-        ensures apart { IsApart (found_in result) }
+        ensures apart { IsCopied (found_in result) }
         ensures kept { (self.new.reader ≡ self.old.reader) × (self.new.reads ≡ self.old.reads)
             × (codec.new.max_allowed_packet ≡ codec.old.max_allowed_packet) }
     {
@@ -114,7 +114,7 @@ impl<R: Read, A: Allocator + Copy> Input<R, A> {
             Ok(true) => {
                 let alloc = *self.dst.allocator();
                 let packet = mem::replace(&mut self.dst, Vec::new(alloc));
-                Ok(Some(Found::Apart(packet)))
+                Ok(Some(Found::Copied(packet)))
             }
             Ok(false) => Ok(None),
             Err(PacketCodecError::PacketTooLarge) => Err(PacketIoError::PacketTooLarge),
@@ -141,7 +141,7 @@ impl<R: Read, A: Allocator + Copy> Input<R, A> {
             (answer_over result self.new.src.items) self.new.lost
             (input_state codec.new (found_in result) self.new) }
         ensures there { IsThere (found_in result) self.new.src.items }
-        ensures apart { IsFalse lends → IsApart (found_in result) }
+        ensures apart { IsFalse lends → IsCopied (found_in result) }
         ensures kept { (self.new.reader ≡ self.old.reader) × (self.new.reads ≡ self.old.reads)
             × (codec.new.max_allowed_packet ≡ codec.old.max_allowed_packet) }
     {
@@ -156,7 +156,7 @@ impl<R: Read, A: Allocator + Copy> Input<R, A> {
     fn at_end(&self) -> Result<Option<Found<A>>, PacketIoError>
         ensures ends { EndsAt (answer_over result self.now.src.items) (length self.now.src.items)
             (length self.now.dst.items) }
-        ensures none { IsApart (found_in result) }
+        ensures none { IsCopied (found_in result) }
     {
         if self.src.is_empty() && self.dst.is_empty() {
             Ok(None)
@@ -182,7 +182,7 @@ impl<R: Read, A: Allocator + Copy> Input<R, A> {
             (answer_over result self.new.src.items) codec.new
             (lender (found_in result) self.new) }
         ensures there { IsThere (found_in result) self.new.src.items
-            × (IsFalse lends → IsApart (found_in result)) }
+            × (IsFalse lends → IsCopied (found_in result)) }
         ensures fits { FitsAt self.new.lost (input_state codec.new (found_in result) self.new)
             × (codec.new.max_allowed_packet ≡ codec.old.max_allowed_packet) }
         ensures loses { IsTrue self.new.lost ↔ (result ≡ Err PacketIoError.PacketsOutOfSync) }

@@ -6,7 +6,7 @@ ghost use Rattle.wire_codec.specs.Skipping.{MaySkip};
 ghost use Rattle.wire_codec.specs.InPlace.{HasFront, behind_front as behind};
 ghost use Rattle.wire_packet_io.specs.PacketIo.{FitsAt};
 ghost use Rattle.wire_packet_io.specs.declared.error.PacketIoError.{PacketIoError};
-ghost use Rattle.wire_packet_io.specs.Lent.{HandsOutLent, IsApart, ReadsPacket, reading_state, found_in, answer_of, answer_over, answer_lent};
+ghost use Rattle.wire_packet_io.specs.Lending.{HandsOutLent, IsCopied, ReadsPacket, reading_state, found_in, answer_of, answer_over, answer_lent};
 ghost use Rattle.wire_packet_io.specs.Skips.{CanSkip, SkipsNext, SkipsOn, skipped_at, skipping};
 
 mod copy;
@@ -45,7 +45,7 @@ pub struct PacketReader<R: Read, A: Allocator + Copy = Global> {
 }
 
 impl<R: Read, A: Allocator + Copy> Model for PacketReader<R, A> {
-    ghost use Rattle.wire_packet_io.specs.Lent.{Reading, IsThere, lender};
+    ghost use Rattle.wire_packet_io.specs.Lending.{Reading, IsThere, lender};
 
     ghost Value = { Reading R };
 
@@ -112,7 +112,7 @@ impl<R: Read, A: Allocator + Copy> PacketReader<R, A> {
     {
         match &self.lent {
             Some(Found::InFront) => behind_front(self.input.src.as_slice()),
-            Some(Found::Apart(_)) | None => self.input.src.as_slice(),
+            Some(Found::Copied(_)) | None => self.input.src.as_slice(),
         }
     }
 
@@ -174,7 +174,7 @@ impl<R: Read, A: Allocator + Copy> PacketReader<R, A> {
     {
         match self.lent.take() {
             None => Ok(None),
-            Some(Found::Apart(packet)) => Ok(Some(packet)),
+            Some(Found::Copied(packet)) => Ok(Some(packet)),
             Some(Found::InFront) => {
                 let alloc = *self.input.dst.allocator();
                 match Vec::from_slice(alloc, front_payload(self.input.src.as_slice())) {
@@ -197,12 +197,12 @@ impl<R: Read, A: Allocator + Copy> PacketReader<R, A> {
 fn apart<A: Allocator + Copy>(
     found: Result<Option<Found<A>>, PacketIoError>,
 ) -> Result<Option<Vec<u8, A>>, PacketIoError>
-    requires { IsApart (found_in found) }
+    requires { IsCopied (found_in found) }
     ensures packet { (src : List ℕ) → answer_of result ≡ answer_over found src }
     ensures refused { (error : PacketIoError) → (result ≡ Err error) ↔ (found ≡ Err error) }
 {
     match found? {
-        Some(Found::Apart(packet)) => Ok(Some(packet)),
+        Some(Found::Copied(packet)) => Ok(Some(packet)),
         Some(Found::InFront) => unreachable!(),
         None => Ok(None),
     }
@@ -385,7 +385,7 @@ impl<R: Read, A: Allocator + Copy> PacketReader<R, A> {
         match &self.lent {
             None => &[],
             Some(Found::InFront) => front_payload(self.input.src.as_slice()),
-            Some(Found::Apart(packet)) => packet.as_slice(),
+            Some(Found::Copied(packet)) => packet.as_slice(),
         }
     }
 

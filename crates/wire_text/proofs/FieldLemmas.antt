@@ -13,7 +13,7 @@ use Rattle.std.proofs.lemmas.Str.{IsUtf8-append, IsUtf8-from_ascii, IsUtf8-from_
 use Rattle.wire_text.specs.declared.fields.FieldForm.{FieldForm}
 use Rattle.wire_text.specs.declared.fields.Field.{Field}
 use Rattle.wire_text.specs.declared.fields.FieldForm.TheVariants.{Hidden, Text, Json}
-use Rattle.wire_text.specs.Fields.{Member, Puts, Written, all_plain, all_stand, ended, fields_text, line, nothing, pair, plain, put, puts, stands, value_text, with_member, with_name, Value, Word, Words}
+use Rattle.wire_text.specs.Fields.{Member, Puts, Written, all_plain, none_needs_escape, ended, fields_text, line, nothing, pair, plain, put, puts, needs_no_escape, value_text, with_member, with_name, Value, Word, Words}
 use Rattle.wire_text.specs.FieldTables.{members_in, members_of}
 
 pub is_false : (test : Bool) → (test ≡ true → ⊥) → test ≡ false
@@ -88,7 +88,7 @@ members_more fields place other within =
     ∙ members_append (take place fields) (get_or fields place other ∷ [])
     ∙ ap (λ (members : List Member). members_of (take place fields) ++ members) (append-nil (members_in (get_or fields place other)))
 
-byte_stands : (byte : ℕ) → stands byte ≡ true → escape_byte byte ≡ byte ∷ []
+byte_stands : (byte : ℕ) → needs_no_escape byte ≡ true → escape_byte byte ≡ byte ∷ []
 byte_stands byte is =
     let parts = and_parts _ _ is in
     let marks = and_parts (not (byte == 34)) _ parts.0 in
@@ -98,11 +98,11 @@ byte_stands byte is =
     (leb-true 32 byte parts.1)
 
 -- where no byte needs an escape, JSON quotes them as they are
-pub escape-all_stand : (words : List ℕ) → all_stand words ≡ true → escape words ≡ words
-escape-all_stand [] is = refl
-escape-all_stand (byte ∷ words) is =
-    let parts = and_parts (stands byte) _ is in
-    rw (byte_stands byte parts.0, escape-all_stand words parts.1) refl
+pub escape-none_needs_escape : (words : List ℕ) → none_needs_escape words ≡ true → escape words ≡ words
+escape-none_needs_escape [] is = refl
+escape-none_needs_escape (byte ∷ words) is =
+    let parts = and_parts (needs_no_escape byte) _ is in
+    rw (byte_stands byte parts.0, escape-none_needs_escape words parts.1) refl
 
 -- sixteen bytes, and those after them
 pub plain_parts : (rest block behind : List ℕ) → block ≡ take 16 rest → behind ≡ drop 16 rest
@@ -118,11 +118,11 @@ pub plain_fails : (words rest block behind : List ℕ) → all_plain words ≡ a
 plain_fails words rest block behind so_far block_is behind_is fails =
     sym (so_far ∙ plain_parts rest block behind block_is behind_is ∙ and_left _ _ fails)
 
-plain_byte : (byte : ℕ) → plain byte ≡ true → (stands byte ≡ true) × (byte < 128)
-plain_byte byte is = let parts = and_parts (stands byte) _ is in (parts.0, ltb-true byte 128 parts.1)
+plain_byte : (byte : ℕ) → plain byte ≡ true → (needs_no_escape byte ≡ true) × (byte < 128)
+plain_byte byte is = let parts = and_parts (needs_no_escape byte) _ is in (parts.0, ltb-true byte 128 parts.1)
 
 -- letters of ASCII that JSON quotes as they are
-pub plain_stand : (words : List ℕ) → all_plain words ≡ true → all_stand words ≡ true
+pub plain_stand : (words : List ℕ) → all_plain words ≡ true → none_needs_escape words ≡ true
 plain_stand [] is = refl
 plain_stand (byte ∷ words) is =
     let parts = and_parts (plain byte) _ is in
@@ -173,7 +173,7 @@ two_between front back (one ∷ two ∷ []) front_is back_is name_is some few = 
 two_between front back (one ∷ two ∷ three ∷ more) front_is back_is name_is some few = absurd (omega (arith, few))
 
 plain_words : (form : FieldForm) (words : List ℕ) → all_plain words ≡ true → value_text form (Words words) ≡ value_text form (Word words)
-plain_words form words is = rw (is_utf8-from_IsUtf8 words (plain_utf8 words is), escape-all_stand words (plain_stand words is)) refl
+plain_words form words is = rw (is_utf8-from_IsUtf8 words (plain_utf8 words is), escape-none_needs_escape words (plain_stand words is)) refl
 
 with_value : (form : FieldForm) (text name : List ℕ) (one other : Value) → value_text Text one ≡ value_text Text other → value_text Json one ≡ value_text Json other
     → with_member form text (name, one) ≡ with_member form text (name, other)

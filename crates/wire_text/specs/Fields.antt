@@ -44,15 +44,15 @@ escape_mark byte =
     if nat_lt 0 (escape_letter byte) then escape_letter byte else if nat_lt byte 32 then 117 else 0
 
 -- a byte that needs no escape where JSON quotes it
-abbrev pub stands : ℕ → Bool
-stands byte = not (byte == 34) && not (byte == 92) && nat_le 32 byte
+abbrev pub needs_no_escape : ℕ → Bool
+needs_no_escape byte = not (byte == 34) && not (byte == 92) && nat_le 32 byte
 
-abbrev pub all_stand : List ℕ → Bool
-all_stand = list_all stands
+abbrev pub none_needs_escape : List ℕ → Bool
+none_needs_escape = list_all needs_no_escape
 
 -- a letter of ASCII that needs none
 abbrev pub plain : ℕ → Bool
-plain byte = stands byte && nat_lt byte 128
+plain byte = needs_no_escape byte && nat_lt byte 128
 
 abbrev pub all_plain : List ℕ → Bool
 all_plain = list_all plain

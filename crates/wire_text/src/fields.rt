@@ -5,7 +5,7 @@ ghost use Rattle.std.specs.Str.{IsUtf8};
 ghost use Rattle.std.specs.Fmt.{decimal};
 ghost use Rattle.json.specs.Print.{escape_byte, quoted};
 ghost use Rattle.wire_text.specs.FieldTables.{members_in, members_of};
-ghost use Rattle.wire_text.specs.Fields.{Puts, escape_mark, all_plain, all_stand, stands, ended, flags_text, in_quotes, nothing, octets_text, value_of, value_text, with_end, with_member, with_name, words_text, Word, Words};
+ghost use Rattle.wire_text.specs.Fields.{Puts, escape_mark, all_plain, none_needs_escape, needs_no_escape, ended, flags_text, in_quotes, nothing, octets_text, value_of, value_text, with_end, with_member, with_name, words_text, Word, Words};
 
 use crate::put::{push_between, push_number};
 use json::Writer;
@@ -72,19 +72,19 @@ fn push_digits<A: Allocator + Copy>(
 
 // Whether a byte needs no escape.
 #[inline(always)]
-fn stands(byte: u8) -> bool
-    ensures { result ≡ stands byte }
+fn needs_no_escape(byte: u8) -> bool
+    ensures { result ≡ needs_no_escape byte }
 {
     (byte != b'"') & (byte != b'\\') & (byte >= 0x20)
 }
 
 // Whether none of these bytes needs an escape.
-fn all_stand(words: &[u8]) -> bool
-    ensures { result ≡ all_stand words.now }
+fn none_needs_escape(words: &[u8]) -> bool
+    ensures { result ≡ none_needs_escape words.now }
 {
     let mut all = true;
     'bytes: for byte in words {
-        all &= stands(*byte);
+        all &= needs_no_escape(*byte);
     }
     all
 }
@@ -96,7 +96,7 @@ fn all_plain(words: &[u8]) -> bool
 {
     let mut all = true;
     'bytes: for byte in words {
-        all &= stands(*byte) & (*byte < 0x80);
+        all &= needs_no_escape(*byte) & (*byte < 0x80);
     }
     all
 }
@@ -286,7 +286,7 @@ fn push_escaped<A: Allocator + Copy>(text: &mut String<A>, words: &str) -> Resul
 fn push_quoted<A: Allocator + Copy>(text: &mut String<A>, words: &str) -> Result<(), AllocError>
     ensures { OnOk result (string_bytes text.new ≡ string_bytes text.old ++ quoted words.now) }
 {
-    if all_stand(words.as_bytes()) {
+    if none_needs_escape(words.as_bytes()) {
         push_in_quotes(text, words)
     } else {
         push_escaped(text, words)

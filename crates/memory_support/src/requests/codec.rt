@@ -195,7 +195,7 @@ fn decodes<A: Allocator + Copy>(heap: &Heap, alloc: A, one: bool, nth: u64) -> O
     decodes_in(heap, &mut to, one, nth)
 }
 
-fn take_room<T: PacketDst>(dst: &mut T, puts: bool) -> bool {
+fn reserve_or_put<T: PacketDst>(dst: &mut T, puts: bool) -> bool {
     if puts {
         dst.put_slice(TEXT).is_ok()
     } else {
@@ -206,7 +206,7 @@ fn take_room<T: PacketDst>(dst: &mut T, puts: bool) -> bool {
 // Whether the request was refused, and the target is as it was; the bytes are then put.
 fn puts<T: PacketDst>(heap: &Heap, dst: &mut T, puts: bool, nth: u64) -> Option<bool> {
     heap.refuse(nth);
-    let refused = !take_room(dst, puts);
+    let refused = !reserve_or_put(dst, puts);
     let mut all = true;
     if refused | !puts {
         all &= dst.as_ref().is_empty();

@@ -1,10 +1,10 @@
 // What `unframe` asks of a reader, with a reader that keeps each of its reads.
 
 ghost use Rattle.std.specs.Prelude.{◌≡◌, ◌<◌, List, [], Option, Some, None, IfSome, IsFalse, if◌then◌else◌};
-ghost use Rattle.mysql_wire_commands.specs.declared.noted_read.OneRead.{OneRead};
+ghost use Rattle.mysql_wire_commands.specs.declared.traced_read.OneRead.{OneRead};
 ghost use Rattle.mysql_wire_commands.specs.Reads.{EachAskedFor};
 
-use mysql_wire_commands::noted_read::{NotedRead, OneRead};
+use mysql_wire_commands::traced_read::{OneRead, TracedRead};
 use mysql_wire_commands::unframe::{run_unframe, run_unframe_limited};
 use std::alloc::Global;
 use std::io;
@@ -30,7 +30,7 @@ impl Read for Keeping<'_> {
     }
 }
 
-impl NotedRead for Keeping<'_> {
+impl TracedRead for Keeping<'_> {
     ghost reads = { λ reader. if reader.lost then None else Some reader.reads.items };
 
     fn read_noted(&mut self, buf: &mut [u8]) -> io::Result<usize> {
@@ -63,7 +63,7 @@ fn reader(alloc: Global) -> Keeping<'static>
 
 // The reads of an `unframe`, and its status; none where one was not kept. That each read is asked
 // for a step, and none for bytes from a place on from before it, is known by its contract alone.
-fn noted_reads(alloc: Global, step: usize, at: usize) -> (u8, Option<Vec<OneRead>>)
+fn traced_reads(alloc: Global, step: usize, at: usize) -> (u8, Option<Vec<OneRead>>)
     requires { 0 < step }
     ensures { IfSome result.1 (λ reads. EachAskedFor step at 0 reads.items) }
 {
@@ -94,7 +94,7 @@ fn are_right(reads: &[OneRead], step: usize, at: usize) -> bool {
 
 // The same of an `unframe`.
 fn is_right(alloc: Global, step: usize, at: usize) -> bool {
-    match noted_reads(alloc, step.max(1), at) {
+    match traced_reads(alloc, step.max(1), at) {
         (0, Some(reads)) => are_right(reads.as_slice(), step, at),
         _ => false,
     }
@@ -121,7 +121,7 @@ fn unframe_asks_for_its_step_and_not_past_its_place(rt: HostRuntime) -> Result<(
     ensure(all, "reads go otherwise")
 }
 
-fn is_unframed<R: NotedRead>(alloc: Global, input: &mut R) -> bool {
+fn is_unframed<R: TracedRead>(alloc: Global, input: &mut R) -> bool {
     let mut output: Vec<u8> = Vec::new(alloc);
     let status = run_unframe(alloc, 4, 9, input, &mut output);
     (status == 0) & same(output.as_slice(), b"3 313233\n0 -\nrest 0\n")

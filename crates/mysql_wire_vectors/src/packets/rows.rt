@@ -4,9 +4,9 @@ use mysql_wire::constants::ColumnType;
 use mysql_wire::io::ParseBuf;
 use mysql_wire_statements::binary_row::BinaryRow;
 use mysql_wire_statements::binary_value::BinaryValue;
-use mysql_wire_statements::moments::{BinaryDate, Clock, Day};
 use mysql_wire_statements::null_bitmap::{NullBitmap, ParamNulls, RowNulls};
 use mysql_wire_statements::params::ParamTypes;
+use mysql_wire_statements::temporal::{BinaryDate, Clock, Day};
 use std::alloc::Global;
 
 // Of parameters the bits count from the first, of columns from the third; past a bitmap none is

@@ -11,7 +11,7 @@ use ColumnType::{
 use mysql_wire::constants::ColumnType;
 use mysql_wire::io::{InvalidReason, ParseBuf};
 use mysql_wire_statements::binary_value::BinaryValue;
-use mysql_wire_statements::moments::{BinaryDate, BinaryTime, Clock, Day, Span};
+use mysql_wire_statements::temporal::{BinaryDate, BinaryTime, Clock, Day, Span};
 use std::alloc::Global;
 use test_support::answers::{Answer, error_of};
 use test_support::fields::stops;

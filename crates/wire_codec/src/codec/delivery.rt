@@ -8,15 +8,15 @@ ghost use Rattle.wire_codec.specs.Runs.{HandsOut, TakesPieces, Waits, joined, pa
 use crate::codec::error::PacketCodecError;
 use crate::codec::packet::PacketCodec;
 use crate::codec::pieces::take_pieces;
-use crate::codec::taking::Takes;
+use crate::codec::taking::PacketSink;
 use bytes::BytesMut;
 use std::alloc::Allocator;
 use std::mem;
 
 // Each packet is moved to the end of a list.
-pub(crate) struct Collects;
+pub(crate) struct CollectSink;
 
-impl<A: Allocator + Copy> Takes<A, Vec<Vec<u8, A>, A>> for Collects {
+impl<A: Allocator + Copy> PacketSink<A, Vec<Vec<u8, A>, A>> for CollectSink {
     ghost use Rattle.std.proofs.Common.{rules};
     ghost use Rattle.std.proofs.lemmas.Grind.{common_steps};
 
@@ -89,5 +89,5 @@ pub fn deliver<A: Allocator + Copy>(
         → Stands (state_at codec.new src.new dst.new) }
     ensures limit { codec.new.max_allowed_packet ≡ codec.old.max_allowed_packet }
 {
-    take_pieces::<A, Vec<Vec<u8, A>, A>, Collects, &[u8]>(codec, src, dst, pieces, out)
+    take_pieces::<A, Vec<Vec<u8, A>, A>, CollectSink, &[u8]>(codec, src, dst, pieces, out)
 }

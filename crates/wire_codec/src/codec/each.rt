@@ -10,7 +10,7 @@ ghost use Rattle.wire_codec.specs.Taking.{FoldsTo-append};
 use crate::codec::error::PacketCodecError;
 use crate::codec::packet::PacketCodec;
 use crate::codec::pieces::take_pieces;
-use crate::codec::taking::Takes;
+use crate::codec::taking::PacketSink;
 use bytes::BytesMut;
 use std::alloc::Allocator;
 
@@ -25,9 +25,9 @@ pub trait Visit {
 }
 
 // Each packet is visited, where it lies or else in `dst`.
-pub(crate) struct Visits;
+pub(crate) struct VisitSink;
 
-impl<A: Allocator + Copy, V: Visit> Takes<A, V> for Visits {
+impl<A: Allocator + Copy, V: Visit> PacketSink<A, V> for VisitSink {
     ghost use Rattle.std.proofs.Common.{refl};
 
     ghost took = { λ old gained new. FoldsTo V.sees old gained new };
@@ -91,5 +91,5 @@ pub fn deliver_each<A: Allocator + Copy, V: Visit>(
         → Stands (state_at codec.new src.new dst.new) }
     ensures limit { codec.new.max_allowed_packet ≡ codec.old.max_allowed_packet }
 {
-    take_pieces::<A, V, Visits, &[u8]>(codec, src, dst, pieces, visitor)
+    take_pieces::<A, V, VisitSink, &[u8]>(codec, src, dst, pieces, visitor)
 }

@@ -7,8 +7,8 @@ ghost use Rattle.wire_codec.specs.GoingOn.{TakesGoingOn};
 ghost use Rattle.wire_codec.specs.Codec.{state_at};
 ghost use Rattle.wire_codec.specs.Runs.{HandsOut, Visited};
 
-use crate::codec::delivery::Collects;
-use crate::codec::each::{Visit, Visits};
+use crate::codec::delivery::CollectSink;
+use crate::codec::each::{Visit, VisitSink};
 use crate::codec::error::PacketCodecError;
 use crate::codec::packet::PacketCodec;
 use crate::codec::pieces::take_pieces;
@@ -51,7 +51,7 @@ pub fn deliver_limited<A: Allocator + Copy>(
     ensures limit { codec.new.max_allowed_packet
         ≡ last_limit codec.old.max_allowed_packet (take result.0 pieces.now) }
 {
-    take_pieces::<A, Vec<Vec<u8, A>, A>, Collects, (usize, &[u8])>(codec, src, dst, pieces, out)
+    take_pieces::<A, Vec<Vec<u8, A>, A>, CollectSink, (usize, &[u8])>(codec, src, dst, pieces, out)
 }
 
 /// As `deliver_limited`, and each packet is visited in place of being handed out, as `deliver_each`
@@ -87,5 +87,5 @@ pub fn deliver_each_limited<A: Allocator + Copy, V: Visit>(
     ensures limit { codec.new.max_allowed_packet
         ≡ last_limit codec.old.max_allowed_packet (take result.0 pieces.now) }
 {
-    take_pieces::<A, V, Visits, (usize, &[u8])>(codec, src, dst, pieces, visitor)
+    take_pieces::<A, V, VisitSink, (usize, &[u8])>(codec, src, dst, pieces, visitor)
 }

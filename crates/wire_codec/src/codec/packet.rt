@@ -253,7 +253,7 @@ enum Progress {
 impl PacketCodec {
     ghost use Rattle.wire_codec.specs.Codec.{expected_id, header_of, codec_state, DecodesStanding, HasChunk, IsChain, IsLink, LacksMemory, TakesStanding};
     ghost use Rattle.std.specs.Int.NonZero.{non_zero_usize_get};
-    ghost use Rattle.wire_codec.specs.GoingOn.{Takes, Decodes};
+    ghost use Rattle.wire_codec.specs.GoingOn.{PacketSink, Decodes};
     ghost use Rattle.wire_codec.specs.OneChunk.{IsTakeable};
 
     // Takes one chunk, the next link of a chain.
@@ -305,7 +305,7 @@ impl PacketCodec {
             (codec_state self.new src.new.items (T.held dst.new)) }
         ensures links { IsLink (codec_state self.old src.old.items (T.held dst.old)) result
             (codec_state self.new src.new.items (T.held dst.new)) }
-        ensures on { Takes (codec_state self.old src.old.items (T.held dst.old)) result
+        ensures on { PacketSink (codec_state self.old src.old.items (T.held dst.old)) result
             (codec_state self.new src.new.items (T.held dst.new)) }
         ensures more { result ≡ Ok Progress.More → length src.new.items < length src.old.items }
         ensures whole { result ≡ Ok Progress.Whole → length src.new.items < length src.old.items }
@@ -388,7 +388,7 @@ impl PacketCodec {
     // Whether the chunk in front is seen to lack bytes: its header hasn't come whole, or is
     // remembered and stands before fewer bytes than it states.
     #[inline(always)]
-    fn awaits(&self, came: usize) -> bool
+    fn lacks_bytes(&self, came: usize) -> bool
         ensures { IsTrue result
             → MatchOption (header_of self.now) (came < 4) (λ header. came < 4 + header.1) }
     {
@@ -419,7 +419,7 @@ impl PacketCodec {
         ensures shorter { result ≡ Ok true → length src.new.items < length src.old.items }
         ensures limit { self.new.max_allowed_packet ≡ self.old.max_allowed_packet }
     {
-        if !self.awaits(src.len()) {
+        if !self.lacks_bytes(src.len()) {
             // The common case: a packet of one chunk, of which all is known before it is put.
             match self.front_packet_in(src.as_slice(), dst.as_ref()) {
                 Some(packet) => {

@@ -8,7 +8,7 @@ ghost use Rattle.wire_codec.specs.Taking.{pieces_for, RunsPieces};
 
 use crate::codec::error::PacketCodecError;
 use crate::codec::packet::PacketCodec;
-use crate::codec::taking::{Takes, drain};
+use crate::codec::taking::{PacketSink, drain};
 use bytes::BytesMut;
 use std::alloc::Allocator;
 
@@ -66,7 +66,7 @@ fn append<A: Allocator + Copy>(src: &mut BytesMut<A>, piece: &[u8]) -> Result<()
 
 // Takes what `src` holds under the codec's limit, then appends one piece after another and takes
 // after each, until a fault. The answer is how many pieces were appended, and how the run ended.
-pub(crate) fn take_pieces<A: Allocator + Copy, O, K: Takes<A, O>, P: Piece>(
+pub(crate) fn take_pieces<A: Allocator + Copy, O, K: PacketSink<A, O>, P: Piece>(
     codec: &mut PacketCodec,
     src: &mut BytesMut<A>,
     dst: &mut Vec<u8, A>,

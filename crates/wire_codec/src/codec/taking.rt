@@ -10,7 +10,7 @@ use bytes::BytesMut;
 use std::alloc::Allocator;
 
 // A way in which `O` takes packets.
-pub(crate) trait Takes<A: Allocator + Copy, O> {
+pub(crate) trait PacketSink<A: Allocator + Copy, O> {
     // What this many packets, taken one after another, make of it.
     ghost took: { O → List (List ℕ) → O → Type 0 };
 
@@ -35,7 +35,7 @@ pub(crate) trait Takes<A: Allocator + Copy, O> {
 // Takes packets under this limit until more bytes are needed, whatever limits the earlier bytes
 // came under. The limit is the codec's then.
 #[inline(always)]
-pub(crate) fn drain<A: Allocator + Copy, O, K: Takes<A, O>>(
+pub(crate) fn drain<A: Allocator + Copy, O, K: PacketSink<A, O>>(
     codec: &mut PacketCodec,
     src: &mut BytesMut<A>,
     dst: &mut Vec<u8, A>,

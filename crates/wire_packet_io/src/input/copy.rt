@@ -4,7 +4,7 @@ ghost use Rattle.std.specs.Prelude.{◌≡◌, ◌+◌, ◌<◌, ◌≤◌, [], 
 ghost use Rattle.wire_span.specs.Spans.{header_came, span_state, IsBetween};
 ghost use Rattle.wire_span.specs.Passing.{left_in, most_bytes};
 ghost use Rattle.wire_packet_io.specs.Copying.{has_ended, Copies, CopiesTo, CopyStops, EndsCopy, IsSpanRefusal, StepsCopy, StopsHere, WaitsHere};
-ghost use Rattle.wire_packet_io.specs.Lent.{lender};
+ghost use Rattle.wire_packet_io.specs.Lending.{lender};
 
 use super::Input;
 use crate::error::PacketIoError;

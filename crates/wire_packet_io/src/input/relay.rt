@@ -4,7 +4,7 @@ ghost use Rattle.std.specs.Prelude.{◌≡◌, ℕ, ◌+◌, ◌<◌, ◌≤◌,
 ghost use Rattle.wire_span.specs.Spans.{span_state};
 ghost use Rattle.wire_span.specs.Passing.{left_in, most_bytes};
 ghost use Rattle.wire_packet_io.specs.Copying.{has_ended};
-ghost use Rattle.wire_packet_io.specs.Lent.{lender};
+ghost use Rattle.wire_packet_io.specs.Lending.{lender};
 ghost use Rattle.wire_packet_io.specs.Relaying.{EndsRelay, IsUncut, RelayStops, Relays, RelaysTo, StepsRelay};
 
 use super::Input;

@@ -1,14 +1,14 @@
 use Rattle.std.proofs.Common.{ℕ, List, ◌++◌, ap, subst, ◌∙◌}
 use Rattle.std.specs.Io.KnownBytes.{Appends}
 use Rattle.wire_codec.specs.Runs.{payloads}
-use Rattle.mysql_wire_commands.specs.PieceLines.{said}
+use Rattle.mysql_wire_commands.specs.PieceLines.{pending_lines}
 use Rattle.mysql_wire_commands.specs.Unframe.{packet_lines, verdict_line}
 use Rattle.mysql_wire_commands.proofs.PacketLineLemmas.{all_written}
 use Rattle.mysql_wire_commands.proofs.unframe.take_part.Goals as goal
 
 pub returns-clause-takes : goal.returns-clause-takes
 returns-clause-takes g c = (
-  said c.take.new.self.lines,
+  pending_lines c.take.new.self.lines,
   c.in_ok-verdict.ensures.takes,
   subst (λ (z : List ℕ). Appends (g.W.Write.contents c.args.output.now) (g.W.Write.contents c.write_whole.new.output) z)
       (ap (λ z. c.take.new.self.lines.text.items ++ packet_lines (payloads z) ++ verdict_line c.in_ok-verdict.verdict) c.as_slice.ensures.value)

@@ -6,7 +6,7 @@ use Rattle.wire_codec.specs.Limited.{place_after}
 use Rattle.wire_codec.specs.LimitedRuns.{WaitsUnder}
 use Rattle.std.specs.Io.KnownBytes.{Appends}
 use Rattle.mysql_wire_commands.specs.declared.status.Stop.{Stop}
-use Rattle.mysql_wire_commands.specs.declared.noted_read.OneRead.{OneRead}
+use Rattle.mysql_wire_commands.specs.declared.traced_read.OneRead.{OneRead}
 use Rattle.mysql_wire_commands.specs.Reads.{AsksUpTo}
 use Rattle.mysql_wire_commands.specs.Unframe.{ending_status, StopsOver, UnframeEndsOver, place_limits, run_state, next_limit, bytes_left, ending_line, UnframedUnder}
 use Rattle.mysql_wire_commands.proofs.ReadLemmas.{Asking, asking_start, asking_more, asked_more, Waited, waited_start, waited_more, waited}
@@ -49,7 +49,7 @@ reads-preserved g c =
     ap₂ (λ (a b : ℕ). if nat_lt 0 ahead then a else b) c.reads.invariant.limit c.reads.invariant.later in
     let lines = rw (append-nil takes.0) at takes.2 in
     let asks = c.next_read.ensures in
-    let asking = asking_more c.args.step c.args.run.now.ahead (length old.0) ahead _ _ (g.R.NotedRead.reads c.read_piece.new.input) (record { asked = c.next_read.result; came = c.in_ok-count.count })
+    let asking = asking_more c.args.step c.args.run.now.ahead (length old.0) ahead _ _ (g.R.TracedRead.reads c.read_piece.new.input) (record { asked = c.next_read.result; came = c.in_ok-count.count })
     old.6 old.3 asks.some asks.step asks.apart asks.no_less c.in_ok-count.ensures.noted in
     let came : length old.0 + c.in_ok-count.count ≡ length (old.0 ++ piece) =
     let len = length-append old.0 piece in let part = length-take c.in_ok-count.count c.deref.result.now in omega (arith, len, part, c.in_ok-count.ensures.count) in
@@ -69,12 +69,12 @@ reads-preserved g c =
         (let len = length-append old.0 piece in omega (arith, len, c.take_piece.ensures.limits.2, old.3)),
         Consumes-trans _ _ _ old.0 piece old.4 read,
         Appends-trans _ _ _ old.1 takes.0 old.5 lines,
-        subst (λ (n : ℕ). Asking c.args.step c.args.run.now.ahead n (g.R.NotedRead.reads c.args.input.now) (g.R.NotedRead.reads c.read_piece.new.input)) came asking,
+        subst (λ (n : ℕ). Asking c.args.step c.args.run.now.ahead n (g.R.TracedRead.reads c.args.input.now) (g.R.TracedRead.reads c.read_piece.new.input)) came asking,
         λ limits known.
             let u = old.2 limits known in
             let more = waited_more (λ (front : List ℕ). WaitsUnder limits 0 front []) (length old.0) old.0 _ _ _ _ _ (record { asked = c.next_read.result; came = c.in_ok-count.count })
             (old.7 limits known) refl old.4 (u.payloads, before.held, before.unread, u.delivered) c.in_ok-count.ensures.noted in
-            subst (λ (n : ℕ). Waited (λ (front : List ℕ). WaitsUnder limits 0 front []) n (g.R.NotedRead.reads c.args.input.now) (g.R.NotedRead.reads c.read_piece.new.input) (g.R.Read.remaining c.args.input.now)) came more,
+            subst (λ (n : ℕ). Waited (λ (front : List ℕ). WaitsUnder limits 0 front []) n (g.R.TracedRead.reads c.args.input.now) (g.R.TracedRead.reads c.read_piece.new.input) (g.R.Read.remaining c.args.input.now)) came more,
       );
     }
 
@@ -184,8 +184,8 @@ returns-in_err-count-clause-reads g c =
 
 -- what was read with this read
 reads_here : (g : given.Over) (c : In_ok-count g)
-    → AsksUpTo c.args.step c.args.run.now.ahead (g.R.NotedRead.reads c.args.input.now) (g.R.NotedRead.reads c.read_piece.new.input)
-    × StopsOver c.args.run.now.limit c.args.run.now.later c.args.run.now.ahead (g.R.NotedRead.reads c.args.input.now) (g.R.NotedRead.reads c.read_piece.new.input) (g.R.Read.remaining c.args.input.now)
+    → AsksUpTo c.args.step c.args.run.now.ahead (g.R.TracedRead.reads c.args.input.now) (g.R.TracedRead.reads c.read_piece.new.input)
+    × StopsOver c.args.run.now.limit c.args.run.now.later c.args.run.now.ahead (g.R.TracedRead.reads c.args.input.now) (g.R.TracedRead.reads c.read_piece.new.input) (g.R.Read.remaining c.args.input.now)
 reads_here g c =
     let old = c.reads.invariant.so_far in
     let asks = c.next_read.ensures in

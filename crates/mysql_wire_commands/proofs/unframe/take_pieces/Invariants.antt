@@ -17,7 +17,7 @@ invariant-reads g l = record {
       × (l.run.ahead ≡ l.fn.run.ahead - length input)
       × Consumes (g.R.Read.remaining l.fn.input) (g.R.Read.remaining l.input) input
       × Appends (g.W.Write.contents l.fn.output) (g.W.Write.contents l.output) text
-      × Asking l.fn.step l.fn.run.ahead (length input) (g.R.NotedRead.reads l.fn.input) (g.R.NotedRead.reads l.input)
+      × Asking l.fn.step l.fn.run.ahead (length input) (g.R.TracedRead.reads l.fn.input) (g.R.TracedRead.reads l.input)
       × ((limits : Limits) → ((place : ℕ) → limits place ≡ place_limits l.fn.run.limit l.fn.run.later l.fn.run.ahead place)
-      → Waited (λ (front : List ℕ). WaitsUnder limits 0 front []) (length input) (g.R.NotedRead.reads l.fn.input) (g.R.NotedRead.reads l.input) (g.R.Read.remaining l.fn.input));
+      → Waited (λ (front : List ℕ). WaitsUnder limits 0 front []) (length input) (g.R.TracedRead.reads l.fn.input) (g.R.TracedRead.reads l.input) (g.R.Read.remaining l.fn.input));
 }

@@ -1,6 +1,6 @@
 use Rattle.std.proofs.Common.{◌≡◌, take}
-use Rattle.wire_text.specs.Fields.{all_stand}
-use Rattle.wire_text.proofs.fields.all_stand.Given as goal
+use Rattle.wire_text.specs.Fields.{none_needs_escape}
+use Rattle.wire_text.proofs.fields.none_needs_escape.Given as goal
 
 abbrev pub invariant-bytes : goal.invariant-bytes
-invariant-bytes l = l.all ≡ all_stand (take l.byte-index l.words)
+invariant-bytes l = l.all ≡ none_needs_escape (take l.byte-index l.words)

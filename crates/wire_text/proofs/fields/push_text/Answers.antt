@@ -1,6 +1,6 @@
 use Rattle.std.proofs.Common.{sym, ◌∙◌}
 use Rattle.std.proofs.lemmas.Str.{is_utf8-from_IsUtf8}
-use Rattle.wire_text.proofs.FieldLemmas.{escape-all_stand, plain_stand, plain_utf8}
+use Rattle.wire_text.proofs.FieldLemmas.{escape-none_needs_escape, plain_stand, plain_utf8}
 use Rattle.wire_text.proofs.fields.push_text.Goals as goal
 
 pub from_utf8_unchecked-words-requires : goal.from_utf8_unchecked-words-requires
@@ -12,6 +12,6 @@ returns-then-is_plain g c =
     let plain = sym c.is_plain.ensures ∙ c.if-is_plain.true in
     rw (
       is_utf8-from_IsUtf8 c.args.bytes.now (plain_utf8 c.args.bytes.now plain),
-      escape-all_stand c.args.bytes.now (plain_stand c.args.bytes.now plain),
+      escape-none_needs_escape c.args.bytes.now (plain_stand c.args.bytes.now plain),
       ← c.from_utf8_unchecked-words.ensures,
     ) c.push_in_quotes.ensures

@@ -1,8 +1,8 @@
 use Rattle.std.proofs.Common.{◌≡◌, ◌++◌, ◌∙◌, ℕ, refl, string_bytes, subst, sym}
 use Rattle.mysql_wire_session.specs.declared.side.Side.TheVariants.{Client}
-use Rattle.mysql_wire_dump_lines.specs.declared.source.Next.{Next}
+use Rattle.mysql_wire_dump_lines.specs.declared.packet_stream.Next.{Next}
 use Rattle.mysql_wire_dump_lines.specs.Lines.{packet_line}
-use Rattle.mysql_wire_dump_lines.specs.Sources.{AtEnd}
+use Rattle.mysql_wire_dump_lines.specs.PacketStreams.{AtEnd}
 use Rattle.mysql_wire_session.specs.State.{state_of}
 use Rattle.mysql_wire_dump.proofs.DumpLemmas.{unread_seen, packet_of, client_shown}
 use Rattle.mysql_wire_dump.proofs.dump.Dump.show_client.Goals as goal
@@ -20,10 +20,10 @@ returns g c =
           (rw (c.text-fields.ensures, ← c.field_form.ensures) c.in_ok-kind.ensures.large)
           (rw (c.text-fields.ensures, ← c.field_form.ensures) c.in_ok-kind.ensures.named)
           c.shown_payload-payload.ensures text refl refl refl
-          c.in_ok-pass.ensures.limit c.in_ok-pass.ensures.passes shown client server written dumping is_turn looked;
+          c.in_ok-advance.ensures.limit c.in_ok-advance.ensures.passes shown client server written dumping is_turn looked;
       options_are = refl;
-      client_seen = λ _. unread_seen _ c.in_ok-pass.ensures.next;
+      client_seen = λ _. unread_seen _ c.in_ok-advance.ensures.next;
       server_seen = λ seen. seen;
-      client_end = λ left ended. subst (λ (n : Next). AtEnd n left) (sym c.in_ok-pass.ensures.next) tt;
+      client_end = λ left ended. subst (λ (n : Next). AtEnd n left) (sym c.in_ok-advance.ensures.next) tt;
       server_end = λ left ended. ended;
     }

@@ -21,7 +21,7 @@ pub returns-in-Err : goal.returns-in-Err
 returns-in-Err g c =
     let before = codec_state c.args.codec.now c.args.src.now.items c.args.dst.now.items in
     let after = codec_state c.drain.new.codec c.drain.new.src.items c.drain.new.dst.items in
-    stops_first g.K.Takes.took c.in-Err.error before (pieces_under g.P.Piece.limited before.limit c.args.pieces.now) c.args.out.now c.drain.new.out after
+    stops_first g.K.PacketSink.took c.in-Err.error before (pieces_under g.P.Piece.limited before.limit c.args.pieces.now) c.args.out.now c.drain.new.out after
     c.requires c.in-Err.ensures.on c.drain.ensures.limit
 
 pub loop-piece-init : goal.loop-piece-init
@@ -30,7 +30,7 @@ loop-piece-init g c =
     let after = codec_state c.drain.new.codec c.drain.new.src.items c.drain.new.dst.items in
     record {
       count = refl;
-      run = has_run_first g.K.Takes.took before (pieces_under g.P.Piece.limited before.limit c.args.pieces.now) c.args.out.now c.drain.new.out after c.in-Ok.ensures.on c.drain.ensures.limit;
+      run = has_run_first g.K.PacketSink.took before (pieces_under g.P.Piece.limited before.limit c.args.pieces.now) c.args.out.now c.drain.new.out after c.in-Ok.ensures.on c.drain.ensures.limit;
     }
 
 pub returns-in-Err-append : goal.returns-in-Err-append
@@ -47,7 +47,7 @@ returns-in-Err-drain g c =
     let after = codec_state c.drain-in-loop-piece.new.codec c.drain-in-loop-piece.new.src.items c.drain-in-loop-piece.new.dst.items in
     let piece = comes g.P.Piece.limited own c.loop-piece.piece-index c.args.pieces.now state c.piece-item.result c.limit.result c.append.new.src.items _
     c.loop-piece-test.true c.piece-item.is c.limit.ensures c.in-Ok-append.ensures.src (c.bytes.ensures own) in
-    rw c.loop-piece.invariant.count (stops_behind g.met.K.Takes.joins c.in-Err-drain.error c.drain-in-loop-piece.new.out after c.requires c.loop-piece.invariant.run piece
+    rw c.loop-piece.invariant.count (stops_behind g.met.K.PacketSink.joins c.in-Err-drain.error c.drain-in-loop-piece.new.out after c.requires c.loop-piece.invariant.run piece
     c.in-Err-drain.ensures.on c.drain-in-loop-piece.ensures.limit)
 
 pub loop-piece-preserved : goal.loop-piece-preserved
@@ -59,7 +59,7 @@ loop-piece-preserved g c =
     c.loop-piece-test.true c.piece-item.is c.limit.ensures c.in-Ok-append.ensures.src (c.bytes.ensures own) in
     record {
       count = ap (λ (n : ℕ). n + 1) c.loop-piece.invariant.count;
-      run = has_run_more g.met.K.Takes.joins c.drain-in-loop-piece.new.out after c.requires c.loop-piece.invariant.run piece c.in-Ok-drain.ensures.on c.drain-in-loop-piece.ensures.limit;
+      run = has_run_more g.met.K.PacketSink.joins c.drain-in-loop-piece.new.out after c.requires c.loop-piece.invariant.run piece c.in-Ok-drain.ensures.on c.drain-in-loop-piece.ensures.limit;
     }
 
 pub returns : goal.returns

@@ -9,5 +9,5 @@ invariant-loop-piece g l =
     let before = codec_state l.fn.codec l.fn.src.items l.fn.dst.items in
     record {
       count : l.count ≡ l.piece-index;
-      run : HasRun g.K.Takes.took before (pieces_under g.P.Piece.limited before.limit l.fn.pieces) l.piece-index l.fn.out l.out (codec_state l.codec l.src.items l.dst.items);
+      run : HasRun g.K.PacketSink.took before (pieces_under g.P.Piece.limited before.limit l.fn.pieces) l.piece-index l.fn.out l.out (codec_state l.codec l.src.items l.dst.items);
     }

@@ -10,7 +10,7 @@ packets-init g c = record {
   same = refl;
   on = λ limits mark place at. (
     [],
-    g.met.K.Takes.none c.args.out.now,
+    g.met.K.PacketSink.none c.args.out.now,
     splits_here_under limits place (first_id (codec_state c.args.codec.now c.args.src.now.items c.args.dst.now.items)) c.args.dst.now.items c.args.src.now.items at.aligned.0,
     at,
     refl,
@@ -25,7 +25,7 @@ packets-preserved g c =
     record {
       same = c.take_next.ensures.limit ∙ c.packets.invariant.same;
       on = λ limits mark place at.
-          has_taken_more g.K.Takes.took g.met.K.Takes.joins limits mark place _ _ _ c.args.out.now c.packets.out c.take_next.new.out before after
+          has_taken_more g.K.PacketSink.took g.met.K.PacketSink.joins limits mark place _ _ _ c.args.out.now c.packets.out c.take_next.new.out before after
           (c.packets.invariant.on limits mark place at)
           (λ there here. rw c.in-Ok-true.field-0-test at (c.in-Ok-true.ensures.takes limits mark there here))
           (let less = c.take_next.ensures.shorter said in omega arith) c.take_next.ensures.limit;
@@ -38,8 +38,8 @@ returns-in-Ok-false-clause-on g c limits mark place at =
     let run = c.packets.invariant.on limits mark place at in
     let next = rw c.in-Ok-false.field-0-test at (c.in-Ok-false.ensures.takes limits mark (place_after place run.0) run.3) in (
       run.0,
-      rw (append-nil run.0) at (g.met.K.Takes.joins c.args.out.now c.packets.out c.take_next.new.out run.0 [] run.1 next.0),
-      has_taken_all g.K.Takes.took limits mark place _ _ _ c.args.out.now c.packets.out before after (Ok tt) run next.1,
+      rw (append-nil run.0) at (g.met.K.PacketSink.joins c.args.out.now c.packets.out c.take_next.new.out run.0 [] run.1 next.0),
+      has_taken_all g.K.PacketSink.took limits mark place _ _ _ c.args.out.now c.packets.out before after (Ok tt) run next.1,
       λ e. absurd cc,
     )
 
@@ -50,7 +50,7 @@ returns-in-Err-clause-on g c limits mark place at =
     let run = c.packets.invariant.on limits mark place at in
     let next = c.in-Err.ensures.takes limits mark (place_after place run.0) run.3 in (
       run.0,
-      rw (append-nil run.0) at (g.met.K.Takes.joins c.args.out.now c.packets.out c.take_next.new.out run.0 [] run.1 next.0),
-      has_taken_all g.K.Takes.took limits mark place _ _ _ c.args.out.now c.packets.out before after (Err c.in-Err.error) run next.1,
+      rw (append-nil run.0) at (g.met.K.PacketSink.joins c.args.out.now c.packets.out c.take_next.new.out run.0 [] run.1 next.0),
+      has_taken_all g.K.PacketSink.took limits mark place _ _ _ c.args.out.now c.packets.out before after (Err c.in-Err.error) run next.1,
       λ e. next.2 cc,
     )

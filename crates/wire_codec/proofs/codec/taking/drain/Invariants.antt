@@ -11,7 +11,7 @@ invariant-packets g l =
     record {
       same : l.codec.max_allowed_packet ≡ l.initial.codec.max_allowed_packet;
       on : (limits : Limits) (mark place : ℕ) → GoesOn limits mark place before
-          → HasTaken g.K.Takes.took limits mark place (first_id before) before.held (input_of before) l.initial.out l.out (codec_state l.codec l.src.items l.dst.items);
+          → HasTaken g.K.PacketSink.took limits mark place (first_id before) before.held (input_of before) l.initial.out l.out (codec_state l.codec l.src.items l.dst.items);
     }
 
 abbrev pub decreases-packets : goal.decreases-packets

@@ -1,7 +1,7 @@
 use Rattle.std.proofs.Common.{◌∙◌, [], ap, refl, None, Ok, Err, true, false}
 use Rattle.std.proofs.KnownBytes.{Appends-nil}
 use Rattle.wire_span.specs.Spans.{span_state}
-use Rattle.wire_packet_io.specs.Lent.{lender}
+use Rattle.wire_packet_io.specs.Lending.{lender}
 use Rattle.wire_packet_io.specs.Copying.{CopiesTo}
 use Rattle.wire_packet_io.proofs.CopyLemmas.{copies_go, stops_by, stops_unended, reads_start, reads_read, reads_ended, reads_fail, at_end, read_stops, so_far}
 use Rattle.wire_packet_io.proofs.input.Input.copy.Given as given

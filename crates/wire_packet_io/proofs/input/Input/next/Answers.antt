@@ -1,7 +1,7 @@
 use Rattle.std.proofs.Common.{List, ℕ, sym, ap, ◌∙◌, subst, arith, None, Some, Ok, Err}
 use Rattle.wire_codec.specs.Codec.{codec_state}
 use Rattle.wire_packet_io.specs.PacketIo.{NextPacket}
-use Rattle.wire_packet_io.specs.Lent.{answer_over, found_in, input_state}
+use Rattle.wire_packet_io.specs.Lending.{answer_over, found_in, input_state}
 use Rattle.wire_packet_io.proofs.PacketIoLemmas.{Waited, starts, ends_by, found_ends, apart_unread, waited, ended, failed, goes_on, smaller}
 use Rattle.wire_packet_io.proofs.input.Input.next.Given as given
 use Rattle.wire_packet_io.proofs.input.Input.next.Goals as goal

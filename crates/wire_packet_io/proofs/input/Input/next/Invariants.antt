@@ -1,5 +1,5 @@
 use Rattle.std.proofs.Common.{◌≡◌, None, false}
-use Rattle.wire_packet_io.specs.Lent.{input_state}
+use Rattle.wire_packet_io.specs.Lending.{input_state}
 use Rattle.wire_packet_io.proofs.PacketIoLemmas.{SoFar, to_go}
 use Rattle.wire_packet_io.proofs.input.Input.next.Given as goal
 

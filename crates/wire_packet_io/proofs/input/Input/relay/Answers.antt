@@ -1,6 +1,6 @@
 use Rattle.std.proofs.Common.{◌∙◌, [], ap, refl, None, Ok, Err, true, false}
 use Rattle.wire_span.specs.Spans.{span_state}
-use Rattle.wire_packet_io.specs.Lent.{lender}
+use Rattle.wire_packet_io.specs.Lending.{lender}
 use Rattle.wire_packet_io.specs.Relaying.{RelaysTo}
 use Rattle.wire_packet_io.proofs.CopyLemmas.{reads_start, reads_read, reads_end, reads_ended, reads_fail, so_far}
 use Rattle.wire_packet_io.proofs.RelayLemmas.{relays_go, gone_none, gone_out, relay_stops_by, relay_unended, write_unended, relay_write_stops, relay_read_stops, relay_at_end}

@@ -1,7 +1,7 @@
 use Rattle.std.proofs.Common.{◌≡◌, ◌-◌, [], length, None}
 use Rattle.wire_span.specs.Spans.{header_came, span_state}
 use Rattle.wire_span.specs.Passing.{most_bytes}
-use Rattle.wire_packet_io.specs.Lent.{lender}
+use Rattle.wire_packet_io.specs.Lending.{lender}
 use Rattle.wire_packet_io.specs.Relaying.{RelaysTo}
 use Rattle.wire_packet_io.proofs.CopyLemmas.{so_far as stopped}
 use Rattle.wire_packet_io.proofs.input.Input.relay.Given as goal

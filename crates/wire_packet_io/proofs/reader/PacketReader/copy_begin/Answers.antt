@@ -1,7 +1,7 @@
 use Rattle.std.proofs.Common.{◌∙◌, ap, refl, sym, true, false, IsNone}
 use Rattle.wire_span.specs.Spans.{span_state}
 use Rattle.wire_packet_io.specs.Copying.{copied_to}
-use Rattle.wire_packet_io.specs.Lent.{packet_of}
+use Rattle.wire_packet_io.specs.Lending.{packet_of}
 use Rattle.wire_packet_io.proofs.WholeLemmas.{begins_front, behind_is, midst_is, not_lent}
 use Rattle.wire_packet_io.proofs.reader.PacketReader.copy_begin.Goals as goal
 

@@ -1,7 +1,7 @@
 use Rattle.std.proofs.Common.{◌≡◌, sym, subst, refl, IsNone}
 use Rattle.wire_codec.specs.declared.codec.packet.skip.Skipped.{Skipped}
 use Rattle.wire_codec.specs.Skipping.{MaySkip, WouldStand}
-use Rattle.wire_packet_io.specs.Lent.{reading_state}
+use Rattle.wire_packet_io.specs.Lending.{reading_state}
 use Rattle.wire_packet_io.specs.Skips.{SkipsNext, skipped_at, skipping}
 use Rattle.wire_packet_io.proofs.SkipLemmas.{lent_none, may_skip, fresh_would, left_under_way, left_whole, not_under_way, nothing_is, can_fit}
 use Rattle.wire_packet_io.proofs.reader.PacketReader.skip_packet.Given as given
