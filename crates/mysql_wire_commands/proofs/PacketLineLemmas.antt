@@ -11,7 +11,7 @@ use Rattle.std.specs.Io.KnownBytes.{Appends}
 use Rattle.std.specs.Result.{is_ok}
 use Rattle.std.specs.Prelude.{codes}
 use Rattle.hex.specs.Hex.{encode_lower, encode_with, lower_digits}
-use Rattle.wire_digits.proofs.DigitLemmas.{digits_more}
+use Rattle.wire_text.proofs.DigitLemmas.{digits_more}
 use Rattle.mysql_wire_commands.specs.PacketLines.{Goes}
 use Rattle.mysql_wire_commands.specs.Texts.{hex_or_dash, payload_line}
 

@@ -13,7 +13,7 @@ use itoa::Buffer;
 use std::alloc::{AllocError, Allocator};
 use std::io;
 use std::io::Write;
-use wire_digits::push_digits;
+use wire_text::digits::push_digits;
 
 // How many bytes become digits at once.
 const BYTES_AT_ONCE: usize = 4096;

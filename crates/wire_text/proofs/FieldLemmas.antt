@@ -13,6 +13,8 @@ use Rattle.std.proofs.lemmas.Str.{IsUtf8-append, IsUtf8-from_ascii, IsUtf8-from_
 use Rattle.wire_text.specs.declared.fields.FieldForm.{FieldForm}
 use Rattle.wire_text.specs.declared.fields.Field.{Field}
 use Rattle.wire_text.specs.declared.fields.FieldForm.TheVariants.{Hidden, Text, Json}
+use Rattle.wire_text.specs.declared.members.MemberForm.{MemberForm}
+use Rattle.wire_text.specs.declared.members.MemberForm.TheVariants as member
 use Rattle.wire_text.specs.Fields.{Member, Puts, Written, all_plain, none_needs_escape, ended, fields_text, line, nothing, pair, plain, put, puts, needs_no_escape, value_text, with_member, with_name, Value, Word, Words}
 use Rattle.wire_text.specs.FieldTables.{members_in, members_of}
 
@@ -172,25 +174,23 @@ two_between front back (one ∷ []) front_is back_is name_is some few = absurd (
 two_between front back (one ∷ two ∷ []) front_is back_is name_is some few = utf8_between front back (one ∷ two ∷ []) front_is back_is name_is
 two_between front back (one ∷ two ∷ three ∷ more) front_is back_is name_is some few = absurd (omega (arith, few))
 
-plain_words : (form : FieldForm) (words : List ℕ) → all_plain words ≡ true → value_text form (Words words) ≡ value_text form (Word words)
+plain_words : (form : MemberForm) (words : List ℕ) → all_plain words ≡ true → value_text form (Words words) ≡ value_text form (Word words)
 plain_words form words is = rw (is_utf8-from_IsUtf8 words (plain_utf8 words is), escape-none_needs_escape words (plain_stand words is)) refl
 
-with_value : (form : FieldForm) (text name : List ℕ) (one other : Value) → value_text Text one ≡ value_text Text other → value_text Json one ≡ value_text Json other
+with_value : (form : MemberForm) (text name : List ℕ) (one other : Value) → value_text form one ≡ value_text form other
     → with_member form text (name, one) ≡ with_member form text (name, other)
-with_value Hidden text name one other lines pairs = refl
-with_value Text text name one other lines pairs = ap (λ (z : List ℕ). text ++ (codes "\n  " ++ name ++ codes " " ++ z)) lines
-with_value Json [] name one other lines pairs = ap (λ (z : List ℕ). codes ",\"fields\":{" ++ (codes "\"" ++ name ++ codes "\":" ++ z)) pairs
-with_value Json (byte ∷ text) name one other lines pairs = ap (λ (z : List ℕ). (byte ∷ text) ++ (codes "," ++ (codes "\"" ++ name ++ codes "\":" ++ z))) pairs
+with_value member.Text text name one other same = ap (λ (z : List ℕ). text ++ (codes "\n  " ++ name ++ codes " " ++ z)) same
+with_value member.Json [] name one other same = ap (λ (z : List ℕ). codes ",\"fields\":{" ++ (codes "\"" ++ name ++ codes "\":" ++ z)) same
+with_value member.Json (byte ∷ text) name one other same = ap (λ (z : List ℕ). (byte ∷ text) ++ (codes "," ++ (codes "\"" ++ name ++ codes "\":" ++ z))) same
 
 -- plain letters are a text as they are
-pub plain_member : (form : FieldForm) (text name words : List ℕ) → all_plain words ≡ true
+pub plain_member : (form : MemberForm) (text name words : List ℕ) → all_plain words ≡ true
     → with_member form text (name, Words words) ≡ with_member form text (name, Word words)
-plain_member form text name words is = with_value form text name (Words words) (Word words) (plain_words Text words is) (plain_words Json words is)
+plain_member form text name words is = with_value form text name (Words words) (Word words) (plain_words form words is)
 
 -- a name, and the value after it
-pub member_named : (form : FieldForm) (text name : List ℕ) (value : Value) → (form ≡ Text) ⊎ (form ≡ Json)
+pub member_named : (form : MemberForm) (text name : List ℕ) (value : Value)
     → with_member form text (name, value) ≡ with_name form text name ++ value_text form value
-member_named Hidden text name value shown = absurd (search rules)
-member_named Text text name value shown = simp append_assoc
-member_named Json [] name value shown = simp append_assoc
-member_named Json (byte ∷ text) name value shown = simp append_assoc
+member_named member.Text text name value = simp append_assoc
+member_named member.Json [] name value = simp append_assoc
+member_named member.Json (byte ∷ text) name value = simp append_assoc

@@ -1,14 +1,16 @@
 -- The text of fields.
 use Rattle.std.specs.Fmt.{decimal, digits}
 use Rattle.std.specs.List.{flat_map, list_all}
-use Rattle.std.specs.Prelude.{◌≡◌, ◌==◌, ◌&&◌, ℕ, nat_le, nat_lt, Bool, false, not, List, [], ◌∷◌, ◌++◌, codes, if◌then◌else◌}
+use Rattle.std.specs.Prelude.{◌≡◌, ◌==◌, ◌&&◌, ℕ, nat_le, nat_lt, Bool, false, not, List, [], ◌∷◌, ◌++◌, Option, Some, None, codes, if◌then◌else◌}
 use Rattle.std.specs.Str.{is_utf8}
 use Rattle.hex.specs.Hex.{encode_lower}
 use Rattle.json.specs.Print.{escape_letter, quoted}
 use Rattle.wire_text.specs.declared.fields.FieldForm.{FieldForm}
 use Rattle.wire_text.specs.declared.fields.FieldForm.TheVariants.{Hidden, Text, Json}
-use Rattle.wire_text.specs.declared.fields.FieldValue.{FieldValue}
-use Rattle.wire_text.specs.declared.fields.FieldValue.TheVariants as given
+use Rattle.wire_text.specs.declared.members.FieldValue.{FieldValue}
+use Rattle.wire_text.specs.declared.members.FieldValue.TheVariants as given
+use Rattle.wire_text.specs.declared.members.MemberForm.{MemberForm}
+use Rattle.wire_text.specs.declared.members.MemberForm.TheVariants as member
 
 -- the value of a field: `Printed` is the text of a number, `Word` a word that stands in quotes as it
 -- is
@@ -29,13 +31,12 @@ abbrev pub in_quotes : List ℕ → List ℕ
 in_quotes text = codes "\"" ++ text ++ codes "\""
 
 -- bytes, of which these are the digits
-abbrev pub digits_text : FieldForm → List ℕ → List ℕ
-digits_text Hidden digits = codes "x'" ++ digits ++ codes "'"
-digits_text Text digits = codes "x'" ++ digits ++ codes "'"
-digits_text Json digits = codes "{\"hex\":\"" ++ digits ++ codes "\"}"
+abbrev pub digits_text : MemberForm → List ℕ → List ℕ
+digits_text member.Text digits = codes "x'" ++ digits ++ codes "'"
+digits_text member.Json digits = codes "{\"hex\":\"" ++ digits ++ codes "\"}"
 
 -- bytes in hex digits
-abbrev pub octets_text : FieldForm → List ℕ → List ℕ
+abbrev pub octets_text : MemberForm → List ℕ → List ℕ
 octets_text form octets = digits_text form (encode_lower octets)
 
 -- the letter of a byte's escape: `u` where that is in hex digits, 0 where there is none
@@ -58,15 +59,14 @@ abbrev pub all_plain : List ℕ → Bool
 all_plain = list_all plain
 
 -- a text as JSON quotes it, where the bytes are one
-abbrev pub words_text : FieldForm → List ℕ → List ℕ
+abbrev pub words_text : MemberForm → List ℕ → List ℕ
 words_text form octets = if is_utf8 octets then quoted octets else octets_text form octets
 
-abbrev pub flags_text : FieldForm → ℕ → List ℕ
-flags_text Hidden bits = codes "0x" ++ digits 16 false bits
-flags_text Text bits = codes "0x" ++ digits 16 false bits
-flags_text Json bits = decimal bits
+abbrev pub flags_text : MemberForm → ℕ → List ℕ
+flags_text member.Text bits = codes "0x" ++ digits 16 false bits
+flags_text member.Json bits = decimal bits
 
-abbrev pub value_text : FieldForm → Value → List ℕ
+abbrev pub value_text : MemberForm → Value → List ℕ
 value_text form Null = codes "null"
 value_text form (Number number) = decimal number
 value_text form (Flags bits) = flags_text form bits
@@ -76,10 +76,10 @@ value_text form (Printed number) = number
 value_text form (Word word) = in_quotes word
 
 abbrev pub line : Member → List ℕ
-line member = codes "\n  " ++ member.0 ++ codes " " ++ value_text Text member.1
+line (name, value) = codes "\n  " ++ name ++ codes " " ++ value_text member.Text value
 
 abbrev pub pair : Member → List ℕ
-pair member = codes "\"" ++ member.0 ++ codes "\":" ++ value_text Json member.1
+pair (name, value) = codes "\"" ++ name ++ codes "\":" ++ value_text member.Json value
 
 -- the text of a packet's fields: a line for each, or an object of JSON
 abbrev pub fields_text : FieldForm → List Member → List ℕ
@@ -98,22 +98,31 @@ pub record Written : Type 0 where
   pub text : List ℕ
 
 -- one more after this text
-abbrev pub with_member : FieldForm → List ℕ → Member → List ℕ
-with_member Hidden text member = text
-with_member Text text member = text ++ line member
-with_member Json [] member = codes ",\"fields\":{" ++ pair member
-with_member Json (byte ∷ text) member = (byte ∷ text) ++ (codes "," ++ pair member)
+abbrev pub with_member : MemberForm → List ℕ → Member → List ℕ
+with_member member.Text text one = text ++ line one
+with_member member.Json [] one = codes ",\"fields\":{" ++ pair one
+with_member member.Json (byte ∷ text) one = (byte ∷ text) ++ (codes "," ++ pair one)
 
 -- a name after this text, and what stands between it and its value
-abbrev pub with_name : FieldForm → List ℕ → List ℕ → List ℕ
-with_name Hidden text name = text
-with_name Text text name = text ++ codes "\n  " ++ name ++ codes " "
-with_name Json [] name = codes ",\"fields\":{\"" ++ name ++ codes "\":"
-with_name Json (byte ∷ text) name = (byte ∷ text) ++ codes ",\"" ++ name ++ codes "\":"
+abbrev pub with_name : MemberForm → List ℕ → List ℕ → List ℕ
+with_name member.Text text name = text ++ codes "\n  " ++ name ++ codes " "
+with_name member.Json [] name = codes ",\"fields\":{\"" ++ name ++ codes "\":"
+with_name member.Json (byte ∷ text) name = (byte ∷ text) ++ codes ",\"" ++ name ++ codes "\":"
+
+-- how members are shown, where they are
+abbrev pub member_form : FieldForm → Option MemberForm
+member_form Hidden = None
+member_form Text = Some member.Text
+member_form Json = Some member.Json
+
+-- this text, with a member more where they are shown
+abbrev pub shown_after : Option MemberForm → List ℕ → Member → List ℕ
+shown_after None text one = text
+shown_after (Some form) text one = with_member form text one
 
 unfoldable pub put : Written → Member → Written
-put written member =
-    record { form = written.form; text = with_member written.form written.text member }
+put written one =
+    record { form = written.form; text = shown_after (member_form written.form) written.text one }
 
 abbrev pub puts : Written → List Member → Written
 puts written [] = written
@@ -123,14 +132,18 @@ puts written (member ∷ members) = puts (put written member) members
 pub record Puts (members : List Member) (old new : Written) : Type 0 where
   pub are : new ≡ puts old members
 
-abbrev pub with_end : FieldForm → List ℕ → List ℕ
-with_end Hidden text = text
-with_end Text text = text
-with_end Json [] = []
-with_end Json (byte ∷ text) = (byte ∷ text) ++ codes "}"
+abbrev pub with_end : MemberForm → List ℕ → List ℕ
+with_end member.Text text = text
+with_end member.Json [] = []
+with_end member.Json (byte ∷ text) = (byte ∷ text) ++ codes "}"
+
+abbrev pub ended_after : Option MemberForm → List ℕ → List ℕ
+ended_after None text = text
+ended_after (Some form) text = with_end form text
 
 unfoldable pub ended : Written → Written
-ended written = record { form = written.form; text = with_end written.form written.text }
+ended written =
+    record { form = written.form; text = ended_after (member_form written.form) written.text }
 
 -- nothing was put
 abbrev pub nothing : FieldForm → Written

@@ -1,5 +1,10 @@
-//! Fields as text or as members of a JSON object, and what texts are put together of.
+//! What is text and no protocol: hex digits, what texts are put together of, and fields as text or as
+//! members of a JSON object.
 #![tactic(auto)]
 
+pub mod digits;
 pub mod fields;
+mod members;
+mod plain;
 pub mod put;
+mod quoted;

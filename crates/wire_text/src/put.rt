@@ -2,6 +2,7 @@
 
 ghost use Rattle.std.specs.Prelude.{◌≡◌, ◌++◌, OnOk, string_bytes};
 ghost use Rattle.std.specs.Fmt.{decimal};
+ghost use Rattle.std.specs.Str.{IsUtf8};
 
 use std::alloc::{AllocError, Allocator};
 
@@ -28,4 +29,13 @@ pub fn push_number<A: Allocator>(text: &mut String<A>, number: u64) -> Result<()
 {
     let mut digits = itoa::Buffer::new();
     text.push_str(digits.format(number))
+}
+
+// Appends a few bytes at once.
+#[inline(always)]
+pub(crate) fn push_few<A: Allocator>(text: &mut String<A>, bytes: &[u8]) -> Result<(), AllocError>
+    requires { IsUtf8 bytes.now }
+    ensures { OnOk result (string_bytes text.new ≡ string_bytes text.old ++ bytes.now) }
+{
+    text.push_str(unsafe { std::str::from_utf8_unchecked(bytes) })
 }

@@ -1,6 +1,0 @@
-use Rattle.std.proofs.Common.{arith}
-use Rattle.wire_digits.proofs.DigitLemmas.{block_by_turns}
-use Rattle.wire_digits.proofs.digits_of.Goals as goal
-
-pub returns : goal.returns
-returns c = block_by_turns c.args.bytes.now c.high_digits.result c.low_digits.result (omega arith) c.high_digits.ensures c.low_digits.ensures

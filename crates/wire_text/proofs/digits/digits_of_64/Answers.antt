@@ -1,0 +1,7 @@
+use Rattle.wire_text.proofs.DigitLemmas.{halves}
+use Rattle.wire_text.proofs.digits.digits_of_64.Goals as goal
+
+pub returns : goal.returns
+returns c =
+    halves 32 c.args.bytes.now c.split_at.result.0.now c.split_at.result.1.now c.digits_of_32.result c.digits_of_32-2.result _ c.split_at.ensures.front c.split_at.ensures.back
+    c.digits_of_32.ensures c.digits_of_32-2.ensures c.fill.ensures

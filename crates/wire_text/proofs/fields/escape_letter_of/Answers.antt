@@ -1,5 +1,0 @@
-use Rattle.wire_text.proofs.EscapeLemmas.{letter_is}
-use Rattle.wire_text.proofs.fields.escape_letter_of.Goals as goal
-
-pub returns : goal.returns
-returns c = letter_is c.args.byte c.ranges.byte.fits

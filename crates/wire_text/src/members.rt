@@ -1,0 +1,254 @@
+//! Members: a name and a value, on a line of its own or in an object of JSON.
+
+ghost use Rattle.std.specs.Prelude.{◌≡◌, ◌++◌, codes, OnOk, string_bytes};
+ghost use Rattle.std.specs.Fmt.{decimal};
+ghost use Rattle.wire_text.specs.Fields.{flags_text, octets_text, value_of, value_text, with_end, with_member, with_name, words_text, Word, Words};
+
+use crate::digits::push_digits_to;
+use crate::plain::is_plain;
+use crate::put::{push_between, push_few, push_number};
+use crate::quoted::{push_in_quotes, push_quoted};
+use std::alloc::{AllocError, Allocator};
+
+/// How members are shown.
+#[derive(Clone, Copy)]
+pub enum MemberForm {
+    /// Each on a line of its own.
+    Text,
+    Json,
+}
+
+/// The value of a field.
+#[derive(Clone, Copy)]
+pub enum FieldValue<'a> {
+    Null,
+    Number(u64),
+    /// A set of flags.
+    Flags(u64),
+    /// A text, where the bytes are one.
+    Text(&'a [u8]),
+    Bytes(&'a [u8]),
+    /// The text of a number.
+    Printed(&'a str),
+    /// A word in quotes, which JSON need not escape: of a date, of what is no number.
+    Word(&'a str),
+}
+
+// Bytes in hex digits.
+fn push_octets<A: Allocator + Copy>(
+    text: &mut String<A>,
+    form: MemberForm,
+    bytes: &[u8],
+) -> Result<(), AllocError>
+    ensures { OnOk result (string_bytes text.new
+        ≡ string_bytes text.old ++ octets_text form bytes.now) }
+{
+    let (before, after) = match form {
+        MemberForm::Json => ("{\"hex\":\"", "\"}"),
+        MemberForm::Text => ("x'", "'"),
+    };
+    text.push_str(before)?;
+    push_digits_to(text, bytes)?;
+    text.push_str(after)
+}
+
+// A text, or else bytes, of which some are not of ASCII or need escapes.
+#[inline(never)]
+fn push_words<A: Allocator + Copy>(
+    text: &mut String<A>,
+    form: MemberForm,
+    bytes: &[u8],
+) -> Result<(), AllocError>
+    ensures { OnOk result (string_bytes text.new
+        ≡ string_bytes text.old ++ words_text form bytes.now) }
+{
+    match std::str::from_utf8(bytes) {
+        Ok(words) => push_quoted(text, words),
+        Err(_) => push_octets(text, form, bytes),
+    }
+}
+
+fn push_text<A: Allocator + Copy>(
+    text: &mut String<A>,
+    form: MemberForm,
+    bytes: &[u8],
+) -> Result<(), AllocError>
+    ensures { OnOk result (string_bytes text.new
+        ≡ string_bytes text.old ++ words_text form bytes.now) }
+{
+    if is_plain(bytes) {
+        // What is of ASCII is UTF-8.
+        let words = unsafe { std::str::from_utf8_unchecked(bytes) };
+        push_in_quotes(text, words)
+    } else {
+        push_words(text, form, bytes)
+    }
+}
+
+fn push_flags<A: Allocator>(
+    text: &mut String<A>,
+    form: MemberForm,
+    bits: u64,
+) -> Result<(), AllocError>
+    ensures { OnOk result (string_bytes text.new ≡ string_bytes text.old ++ flags_text form bits) }
+{
+    match form {
+        MemberForm::Json => push_number(text, bits),
+        MemberForm::Text => write!(text, "0x{bits:x}"),
+    }
+}
+
+fn push_value<A: Allocator + Copy>(
+    text: &mut String<A>,
+    form: MemberForm,
+    value: FieldValue<'_>,
+) -> Result<(), AllocError>
+    ensures { OnOk result (string_bytes text.new
+        ≡ string_bytes text.old ++ value_text form (value_of value.entry)) }
+{
+    match value {
+        FieldValue::Null => text.push_str("null"),
+        FieldValue::Number(number) => push_number(text, number),
+        FieldValue::Flags(bits) => push_flags(text, form, bits),
+        FieldValue::Text(bytes) => push_text(text, form, bytes),
+        FieldValue::Bytes(bytes) => push_octets(text, form, bytes),
+        FieldValue::Printed(number) => text.push_str(number),
+        FieldValue::Word(word) => push_in_quotes(text, word),
+    }
+}
+
+// A name and the quote after it, on a line of its own. A name of one or two bytes goes in one
+// append with what stands around it.
+#[inline(always)]
+fn push_line_front<A: Allocator>(text: &mut String<A>, name: &str) -> Result<(), AllocError>
+    ensures { OnOk result (string_bytes text.new
+        ≡ string_bytes text.old ++ (codes "\n  " ++ name.now ++ codes " \"")) }
+{
+    match name.as_bytes() {
+        [one] => push_few(text, &[b'\n', b' ', b' ', *one, b' ', b'"']),
+        [one, two] => push_few(text, &[b'\n', b' ', b' ', *one, *two, b' ', b'"']),
+        _ => push_between(text, "\n  ", name, " \""),
+    }
+}
+
+// The same after another member of an object.
+#[inline(always)]
+fn push_pair_front<A: Allocator>(text: &mut String<A>, name: &str) -> Result<(), AllocError>
+    ensures { OnOk result (string_bytes text.new
+        ≡ string_bytes text.old ++ (codes ",\"" ++ name.now ++ codes "\":\"")) }
+{
+    match name.as_bytes() {
+        [one] => push_few(text, &[b',', b'"', *one, b'"', b':', b'"']),
+        [one, two] => push_few(text, &[b',', b'"', *one, *two, b'"', b':', b'"']),
+        _ => push_between(text, ",\"", name, "\":\""),
+    }
+}
+
+// A field of plain letters.
+#[inline(always)]
+fn push_plain<A: Allocator>(
+    text: &mut String<A>,
+    form: MemberForm,
+    name: &str,
+    words: &str,
+) -> Result<(), AllocError>
+    ensures { OnOk result (string_bytes text.new
+        ≡ with_member form (string_bytes text.old) (name.now, Word words.now)) }
+{
+    match form {
+        MemberForm::Text => push_line_front(text, name)?,
+        MemberForm::Json => {
+            if text.is_empty() {
+                push_between(text, ",\"fields\":{\"", name, "\":\"")?;
+            } else {
+                push_pair_front(text, name)?;
+            }
+        }
+    }
+    text.push_str(words)?;
+    text.push_str("\"")
+}
+
+// The name of a field, with what stands around it.
+fn push_name<A: Allocator>(
+    text: &mut String<A>,
+    form: MemberForm,
+    name: &str,
+) -> Result<(), AllocError>
+    ensures { OnOk result (string_bytes text.new ≡ with_name form (string_bytes text.old) name.now) }
+{
+    match form {
+        MemberForm::Text => push_between(text, "\n  ", name, " "),
+        MemberForm::Json => {
+            let before = if text.is_empty() {
+                ",\"fields\":{\""
+            } else {
+                ",\""
+            };
+            push_between(text, before, name, "\":")
+        }
+    }
+}
+
+// A text that is not plain letters.
+#[inline(never)]
+fn push_other_text<A: Allocator + Copy>(
+    text: &mut String<A>,
+    form: MemberForm,
+    name: &str,
+    bytes: &[u8],
+) -> Result<(), AllocError>
+    ensures { OnOk result (string_bytes text.new
+        ≡ with_member form (string_bytes text.old) (name.now, Words bytes.now)) }
+{
+    push_name(text, form, name)?;
+    push_words(text, form, bytes)
+}
+
+// A text whose name is its place.
+#[inline(never)]
+pub(crate) fn push_text_at<A: Allocator + Copy>(
+    text: &mut String<A>,
+    form: MemberForm,
+    place: u64,
+    bytes: &[u8],
+) -> Result<(), AllocError>
+    ensures { OnOk result (string_bytes text.new
+        ≡ with_member form (string_bytes text.old) (decimal place, Words bytes.now)) }
+{
+    let mut digits = itoa::Buffer::new();
+    let name = digits.format(place);
+    if is_plain(bytes) {
+        // What is of ASCII is UTF-8.
+        let words = unsafe { std::str::from_utf8_unchecked(bytes) };
+        push_plain(text, form, name, words)
+    } else {
+        push_other_text(text, form, name, bytes)
+    }
+}
+
+pub(crate) fn push_member<A: Allocator + Copy>(
+    text: &mut String<A>,
+    form: MemberForm,
+    name: &str,
+    value: FieldValue<'_>,
+) -> Result<(), AllocError>
+    ensures { OnOk result (string_bytes text.new
+        ≡ with_member form (string_bytes text.old) (name.now, value_of value.entry)) }
+{
+    push_name(text, form, name)?;
+    push_value(text, form, value)
+}
+
+// Ends the object of JSON, where one was begun.
+pub(crate) fn push_closing<A: Allocator>(
+    text: &mut String<A>,
+    form: MemberForm,
+) -> Result<(), AllocError>
+    ensures { OnOk result (string_bytes text.new ≡ with_end form (string_bytes text.old)) }
+{
+    match form {
+        MemberForm::Json if !text.is_empty() => text.push_str("}"),
+        _ => Ok(()),
+    }
+}

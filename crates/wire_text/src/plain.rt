@@ -1,0 +1,91 @@
+//! Which bytes of a text stand in quotes as they are.
+
+ghost use Rattle.std.specs.Prelude.{◌≡◌, ◌≤◌, length};
+ghost use Rattle.wire_text.specs.Fields.{all_plain, needs_no_escape, none_needs_escape};
+
+use crate::digits::fill;
+use std::simd::prelude::*;
+
+// Whether a byte needs no escape.
+#[inline(always)]
+fn needs_no_escape(byte: u8) -> bool
+    ensures { result ≡ needs_no_escape byte }
+{
+    (byte != b'"') & (byte != b'\\') & (byte >= 0x20)
+}
+
+// Whether none of these bytes needs an escape.
+pub(crate) fn none_needs_escape(words: &[u8]) -> bool
+    ensures { result ≡ none_needs_escape words.now }
+{
+    let mut all = true;
+    'bytes: for byte in words {
+        all &= needs_no_escape(*byte);
+    }
+    all
+}
+
+// Whether these bytes are of ASCII, and none needs an escape.
+#[inline(always)]
+fn all_plain(words: &[u8]) -> bool
+    ensures { result ≡ all_plain words.now }
+{
+    let mut all = true;
+    'bytes: for byte in words {
+        all &= needs_no_escape(*byte) & (*byte < 0x80);
+    }
+    all
+}
+
+// The same of sixteen bytes at once.
+#[inline(always)]
+fn is_plain_block(block: &[u8]) -> bool
+    requires { length block.now ≡ 16 }
+    ensures { result ≡ all_plain block.now }
+{
+    let bytes = u8x16::from_slice(block);
+    let other = bytes.simd_lt(u8x16::splat(0x20))
+        | bytes.simd_ge(u8x16::splat(0x80))
+        | bytes.simd_eq(u8x16::splat(b'"'))
+        | bytes.simd_eq(u8x16::splat(b'\\'));
+    other.to_bitmask() == 0
+}
+
+// The same of fewer bytes: of eight and more, and of four and more, the first and the last.
+#[inline(always)]
+fn is_short_plain(words: &[u8]) -> bool
+    requires { length words.now ≤ 16 }
+    ensures { result ≡ all_plain words.now }
+{
+    let mut block = [b' '; 16];
+    let len = words.len();
+    if len >= 8 {
+        fill(&mut block, &words[..8], &words[len - 8..]);
+        return is_plain_block(&block);
+    }
+    if len >= 4 {
+        let mut half = [b' '; 8];
+        fill(&mut half, &words[..4], &words[len - 4..]);
+        fill(&mut block, &half, &[b' '; 8]);
+        return is_plain_block(&block);
+    }
+    all_plain(words)
+}
+
+// The same, sixteen bytes at once; the last sixteen with some of those in front of them.
+#[inline(always)]
+pub(crate) fn is_plain(words: &[u8]) -> bool
+    ensures { result ≡ all_plain words.now }
+{
+    if words.len() < 16 {
+        return is_short_plain(words);
+    }
+    let mut rest = words;
+    'rounds: while let Some((block, after)) = rest.split_first_chunk::<16>() {
+        if !is_plain_block(block) {
+            return false;
+        }
+        rest = after;
+    }
+    is_plain_block(&words[words.len() - 16..])
+}

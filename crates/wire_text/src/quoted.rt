@@ -1,0 +1,141 @@
+//! A text between quotes, with JSON's escapes.
+
+ghost use Rattle.std.specs.Prelude.{◌≡◌, ◌≤◌, ◌+◌, ◌++◌, length, take, drop, IfOk, OnOk, string_bytes};
+ghost use Rattle.json.specs.Print.{escape_byte, quoted};
+ghost use Rattle.wire_text.specs.Fields.{escape_mark, in_quotes};
+
+use crate::digits::DIGITS;
+use crate::plain::none_needs_escape;
+use crate::put::{push_between, push_few};
+use json::Writer;
+use std::alloc::{AllocError, Allocator};
+
+// A text between quotes, as it is.
+#[inline(always)]
+pub(crate) fn push_in_quotes<A: Allocator>(
+    text: &mut String<A>,
+    words: &str,
+) -> Result<(), AllocError>
+    ensures { OnOk result (string_bytes text.new ≡ string_bytes text.old ++ in_quotes words.now) }
+{
+    push_between(text, "\"", words, "\"")
+}
+
+// Room beside a text's own bytes, for its quotes and its escapes.
+const QUOTED_ROOM: usize = 64;
+
+// A text as JSON quotes it.
+#[tactic(auto, unfolding(json::specs::Print::print_from))]
+fn quoted<A: Allocator>(alloc: A, words: &str) -> Result<String<A>, AllocError>
+    ensures { IfOk result (λ text. string_bytes text ≡ quoted words.now) }
+{
+    let room = words.len().saturating_add(QUOTED_ROOM);
+    let mut writer = Writer::new(Vec::with_capacity(alloc, room)?);
+    writer.string(words)?;
+    Ok(unsafe { String::from_utf8_unchecked(writer.into_inner()) })
+}
+
+// The letter of each byte's escape: `u` where that is in hex digits, 0 where there is none.
+const ESCAPE_LETTERS: [u8; 256] = [
+    b'u', b'u', b'u', b'u', b'u', b'u', b'u', b'u', b'b', b't', b'n', b'u', b'f', b'r', b'u', b'u',
+    b'u', b'u', b'u', b'u', b'u', b'u', b'u', b'u', b'u', b'u', b'u', b'u', b'u', b'u', b'u', b'u',
+    0, 0, b'"', 0, 0, 0, 0, 0, 0, 0, 0, 0, 0, 0, 0, 0, 0, 0, 0, 0, 0, 0, 0, 0, 0, 0, 0, 0, 0, 0, 0,
+    0, 0, 0, 0, 0, 0, 0, 0, 0, 0, 0, 0, 0, 0, 0, 0, 0, 0, 0, 0, 0, 0, 0, 0, 0, 0, 0, 0, 0, b'\\',
+    0, 0, 0, 0, 0, 0, 0, 0, 0, 0, 0, 0, 0, 0, 0, 0, 0, 0, 0, 0, 0, 0, 0, 0, 0, 0, 0, 0, 0, 0, 0, 0,
+    0, 0, 0, 0, 0, 0, 0, 0, 0, 0, 0, 0, 0, 0, 0, 0, 0, 0, 0, 0, 0, 0, 0, 0, 0, 0, 0, 0, 0, 0, 0, 0,
+    0, 0, 0, 0, 0, 0, 0, 0, 0, 0, 0, 0, 0, 0, 0, 0, 0, 0, 0, 0, 0, 0, 0, 0, 0, 0, 0, 0, 0, 0, 0, 0,
+    0, 0, 0, 0, 0, 0, 0, 0, 0, 0, 0, 0, 0, 0, 0, 0, 0, 0, 0, 0, 0, 0, 0, 0, 0, 0, 0, 0, 0, 0, 0, 0,
+    0, 0, 0, 0, 0, 0, 0, 0, 0, 0, 0, 0, 0, 0, 0, 0, 0, 0, 0, 0, 0, 0, 0, 0, 0, 0, 0, 0, 0, 0, 0, 0,
+    0, 0, 0,
+];
+
+#[inline(always)]
+fn escape_letter_of(byte: u8) -> u8
+    ensures { result ≡ escape_mark byte }
+{
+    ESCAPE_LETTERS[byte as usize]
+}
+
+// What stands for a byte where JSON quotes it: this many bytes of these.
+#[inline(always)]
+fn escape_of(byte: u8) -> ([u8; 8], usize)
+    ensures { (length result.0 ≡ 8) × (result.1 ≤ 6)
+        × (take result.1 result.0 ≡ escape_byte byte) }
+{
+    let letter = escape_letter_of(byte);
+    if letter == 0 {
+        return ([byte, 0, 0, 0, 0, 0, 0, 0], 1);
+    }
+    if letter != b'u' {
+        return ([b'\\', letter, 0, 0, 0, 0, 0, 0], 2);
+    }
+    let high = DIGITS[(byte / 16) as usize];
+    let low = DIGITS[(byte % 16) as usize];
+    ([b'\\', letter, b'0', b'0', high, low, 0, 0], 6)
+}
+
+// The most bytes of a text that is quoted in a room of its own, and that room: six bytes for each,
+// the quotes, and what is written after the last.
+const FEW: usize = 64;
+
+const ROOM: usize = 400;
+
+#[inline(always)]
+fn put_block(room: &mut [u8; 400], at: usize, block: &[u8; 8])
+    requires { at + 8 ≤ 400 }
+    ensures { room.new ≡ take at room.old ++ block.now ++ drop (at + 8) room.old }
+{
+    room[at..at + 8].copy_from_slice(block);
+}
+
+// Quotes a few bytes at the front of the room. The answer is how many bytes they take.
+fn quote_few(room: &mut [u8; 400], words: &[u8]) -> usize
+    requires { length words.now ≤ 64 }
+    ensures { (result ≤ 400) × (take result room.new ≡ quoted words.now) }
+{
+    room[0] = b'"';
+    let mut at = 1;
+    'bytes: for byte in words {
+        let (block, len) = escape_of(*byte);
+        put_block(room, at, &block);
+        at += len;
+    }
+    room[at] = b'"';
+    at + 1
+}
+
+// A text of a few bytes, of which some need escapes.
+#[inline(never)]
+fn push_few_escaped<A: Allocator>(text: &mut String<A>, words: &str) -> Result<(), AllocError>
+    requires { length words.now ≤ 64 }
+    ensures { OnOk result (string_bytes text.new ≡ string_bytes text.old ++ quoted words.now) }
+{
+    let mut room = [0; ROOM];
+    let len = quote_few(&mut room, words.as_bytes());
+    push_few(text, &room[..len])
+}
+
+// A text of which some bytes may need escapes.
+#[inline(never)]
+fn push_escaped<A: Allocator + Copy>(text: &mut String<A>, words: &str) -> Result<(), AllocError>
+    ensures { OnOk result (string_bytes text.new ≡ string_bytes text.old ++ quoted words.now) }
+{
+    if words.len() <= FEW {
+        return push_few_escaped(text, words);
+    }
+    let quoted = quoted(*text.allocator(), words)?;
+    text.push_str(quoted.as_str())
+}
+
+pub(crate) fn push_quoted<A: Allocator + Copy>(
+    text: &mut String<A>,
+    words: &str,
+) -> Result<(), AllocError>
+    ensures { OnOk result (string_bytes text.new ≡ string_bytes text.old ++ quoted words.now) }
+{
+    if none_needs_escape(words.as_bytes()) {
+        push_in_quotes(text, words)
+    } else {
+        push_escaped(text, words)
+    }
+}
