@@ -4,8 +4,8 @@ pub mod Bitmaps
 pub mod Commands
 pub mod Executed
 pub mod InOrder
-pub mod Moments
-pub mod MomentsBack
+pub mod TemporalValues
+pub mod TemporalValuesBack
 pub mod Params
 pub mod PrepareAnswers
 pub mod TypesBack

@@ -1,5 +1,5 @@
 pub mod PacketIo
-pub mod Lent
+pub mod Lending
 pub mod Bounds
 pub mod Skips
 pub mod Copying

@@ -117,13 +117,7 @@ impl<R: Read, A: Allocator + Copy> Input<R, A> {
                 Ok(Some(Found::Copied(packet)))
             }
             Ok(false) => Ok(None),
-            Err(PacketCodecError::PacketTooLarge) => Err(PacketIoError::PacketTooLarge),
-            Err(PacketCodecError::PacketsOutOfSync) => {
-                self.lost = true;
-                Err(PacketIoError::PacketsOutOfSync)
-            }
-            Err(PacketCodecError::OutOfMemory) => Err(PacketIoError::OutOfMemory),
-            Err(PacketCodecError::Io(error)) => Err(PacketIoError::Io(error)),
+            Err(error) => Err(self.refuse(error)),
         }
     }
 
