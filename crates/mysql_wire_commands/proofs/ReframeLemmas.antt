@@ -8,9 +8,9 @@ use Rattle.wire_codec.specs.Runs.{RunsTo}
 use Rattle.wire_codec.specs.Laws.{JoinedRuns, JoinedSplits, NothingRead, BetweenPackets, StreamAppend, IdAfterAppend, empty_state}
 use Rattle.mysql_wire_commands.specs.Unframe.{ending_status}
 use Rattle.std.specs.Result.{IfOk}
-use Rattle.mysql_wire_commands.specs.declared.status.Stop.{Stop}
-use Rattle.mysql_wire_commands.specs.declared.status.Stop.TheVariants.{Io, Memory}
-use Rattle.mysql_wire_commands.specs.Status.{exit_status_of}
+use Rattle.wire_text.specs.declared.stop.Stop.{Stop}
+use Rattle.wire_text.specs.declared.stop.Stop.TheVariants.{Io, Memory}
+use Rattle.wire_text.specs.Stops.{exit_status_of}
 use Rattle.mysql_wire_commands.specs.Reframe.{Reframing, Reframed, ReframeEnds, Sends}
 use Rattle.std.specs.Io.KnownBytes.{Appends}
 use Rattle.std.proofs.KnownBytes.{Appends-nil, Appends-trans}

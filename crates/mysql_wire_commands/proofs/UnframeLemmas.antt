@@ -17,9 +17,9 @@ use Rattle.wire_codec.specs.Runs.{RunsTo, WaitsFrom, payloads}
 use Rattle.wire_codec.specs.Laws.{JoinedLimitedRuns, EmptyGoesOn, EqualLimits, FramedLength, NothingRead, empty_state}
 use Rattle.mysql_wire_commands.specs.Texts.{payload_line}
 use Rattle.std.specs.Result.{IfOk}
-use Rattle.mysql_wire_commands.specs.declared.status.Stop.{Stop}
-use Rattle.mysql_wire_commands.specs.declared.status.Stop.TheVariants.{Io, Memory}
-use Rattle.mysql_wire_commands.specs.Status.{exit_status_of}
+use Rattle.wire_text.specs.declared.stop.Stop.{Stop}
+use Rattle.wire_text.specs.declared.stop.Stop.TheVariants.{Io, Memory}
+use Rattle.wire_text.specs.Stops.{exit_status_of}
 use Rattle.mysql_wire_commands.specs.declared.unframe.Verdict.TheVariants as verdict
 use Rattle.std.specs.List.{FoldsTo}
 use Rattle.mysql_wire_commands.specs.declared.piece_lines.PieceLines.{PieceLines}

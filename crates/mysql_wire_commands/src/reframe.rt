@@ -4,7 +4,7 @@ ghost use Rattle.std.specs.Prelude.{◌≡◌, ◌≤◌, ◌++◌, [], length, 
 ghost use Rattle.std.specs.Io.KnownBytes.{Appends};
 ghost use Rattle.wire_codec.specs.Codec.{expected_id, header_of};
 ghost use Rattle.wire_codec.specs.Framing.{framing, next_id};
-ghost use Rattle.mysql_wire_commands.specs.declared.status.Stop.{Stop};
+ghost use Rattle.wire_text.specs.declared.stop.Stop.{Stop};
 ghost use Rattle.mysql_wire_commands.specs.Reframe.{ReframeEnds, Sends, StartsReading};
 
 use crate::chunk_writer::ChunkWriter;

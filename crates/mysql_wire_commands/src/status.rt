@@ -1,64 +1,18 @@
 //! How the program ends.
 
 ghost use Rattle.std.specs.Prelude.{◌≡◌};
-ghost use Rattle.mysql_wire_commands.specs.Status.{exit_status_of, fault_line};
+ghost use Rattle.mysql_wire_commands.specs.Status.{fault_line};
 
-use std::alloc::{AllocError, AllocFailed};
-use std::io;
-
-/// Why a command gives up.
-#[derive(Clone, Copy, PartialEq, Eq)]
-pub enum Stop {
-    /// A read or a write failed, or there were 2^64 - 1 reads.
-    Io,
-    /// Memory was refused.
-    Memory,
-}
-
-impl From<io::Error> for Stop {
-    ghost use Rattle.mysql_wire_commands.specs.declared.status.Stop.TheVariants.{Io};
-
-    ghost from_gives = { λ _ stop. stop ≡ Io };
-
-    fn from(_: io::Error) -> Self {
-        Stop::Io
-    }
-}
-
-impl From<AllocError> for Stop {
-    ghost use Rattle.mysql_wire_commands.specs.declared.status.Stop.TheVariants.{Memory};
-
-    ghost from_gives = { λ _ stop. stop ≡ Memory };
-
-    fn from(_: AllocError) -> Self {
-        Stop::Memory
-    }
-}
-
-/// The exit status (0 to 6) of a command that ended with this one, or gave up.
-pub fn exit_status(ended: Result<u8, Stop>) -> u8
-    ensures { result ≡ exit_status_of ended }
-{
-    match ended {
-        Ok(status) => status,
-        Err(Stop::Io) => 2,
-        Err(Stop::Memory) => 6,
-    }
-}
+pub use wire_text::stop::{Stop, exit_status};
 
 // The commands, in one line.
 const USAGE: &str =
     "usage: mysql_wire_tool frame ID | chunk | unframe STEP LIMIT [LATER AT] | reframe LIMIT";
 
-/// What standard error says at this exit status, without the end of the line. It is empty where the
-/// status needs no word.
+/// What standard error says at this exit status (0 to 6), without the end of the line. It is empty
+/// where the status needs no word.
 pub fn fault_text(status: u8) -> &'static str
     ensures { result.now ≡ fault_line status }
 {
-    match status {
-        1 => USAGE,
-        2 => "input or output failed",
-        6 => "out of memory",
-        _ => "",
-    }
+    wire_text::stop::fault_text(status, USAGE)
 }

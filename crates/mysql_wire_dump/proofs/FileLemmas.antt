@@ -7,9 +7,10 @@ use Rattle.mysql_wire_dump_lines.specs.declared.options.Sides.TheVariants as sid
 use Rattle.mysql_wire_dump_lines.specs.declared.packet_stream.End.{End}
 use Rattle.mysql_wire_dump_lines.specs.declared.packet_stream.End.TheVariants.{Between, Unfinished, OutOfSync, Encrypted}
 use Rattle.mysql_wire_dump_lines.specs.Arguments.{Asks, Command, Help, Dump, IsAsked, session_of, sides_of}
-use Rattle.mysql_wire_dump_lines.specs.declared.status.Stop.{Stop}
-use Rattle.mysql_wire_dump_lines.specs.declared.status.Stop.TheVariants.{Io, Memory}
-use Rattle.mysql_wire_dump_lines.specs.Status.{end_status, exit_status_of, usage}
+use Rattle.wire_text.specs.declared.stop.Stop.{Stop}
+use Rattle.wire_text.specs.declared.stop.Stop.TheVariants.{Io, Memory}
+use Rattle.mysql_wire_dump_lines.specs.Status.{end_status, usage}
+use Rattle.wire_text.specs.Stops.{exit_status_of}
 use Rattle.mysql_wire_dump.specs.Dumped.{status_of}
 use Rattle.mysql_wire_dump.specs.Files.{CommandEnds, FilesEnd}
 

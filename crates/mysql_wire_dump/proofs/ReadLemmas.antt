@@ -9,7 +9,7 @@ use Rattle.mysql_wire_session.specs.Advance.{opened, without_eof}
 use Rattle.mysql_wire_session.specs.declared.packet.Row.{Row}
 use Rattle.mysql_wire_session.specs.declared.phase.Phase.{Phase}
 use Rattle.mysql_wire_session.specs.declared.phase.Phase.TheVariants as phase
-use Rattle.mysql_wire_dump_lines.specs.declared.status.Stop.{Stop}
+use Rattle.wire_text.specs.declared.stop.Stop.{Stop}
 use Rattle.mysql_wire_session.specs.State.{SessionState}
 use Rattle.mysql_wire_session.specs.declared.packet.Packet.TheVariants as packet
 use Rattle.mysql_wire_session.specs.declared.packet.Received.{Received}

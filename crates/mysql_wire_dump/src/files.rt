@@ -2,9 +2,10 @@
 
 ghost use Rattle.std.specs.Prelude.{◌≡◌, ◌≢◌, ◌↔◌, ◌++◌, codes, map, string_bytes, None, IfOk, MatchResult};
 ghost use Rattle.std.specs.Io.KnownBytes.{Appends, Keeps};
-ghost use Rattle.mysql_wire_dump_lines.specs.declared.status.Stop.TheVariants.{Io};
+ghost use Rattle.wire_text.specs.declared.stop.Stop.TheVariants.{Io};
 ghost use Rattle.mysql_wire_dump_lines.specs.Arguments.{Asks, Command, session_of, sides_of};
-ghost use Rattle.mysql_wire_dump_lines.specs.Status.{exit_status_of, usage};
+ghost use Rattle.mysql_wire_dump_lines.specs.Status.{usage};
+ghost use Rattle.wire_text.specs.Stops.{exit_status_of};
 ghost use Rattle.mysql_wire_dump.specs.Files.{CommandEnds, FilesEnd, left_in};
 
 use crate::dump::run_dump;

@@ -15,7 +15,7 @@ use Rattle.mysql_wire_dump_lines.specs.declared.packet_stream.Next.TheVariants.{
 use Rattle.mysql_wire_dump_lines.specs.declared.packet_stream.PacketStream.{PacketStream}
 use Rattle.mysql_wire_dump_lines.specs.declared.packet_stream.Step.{Step}
 use Rattle.mysql_wire_dump_lines.specs.declared.packet_stream.Step.TheVariants.{Waits, Goes, Whole, LosesSync}
-use Rattle.mysql_wire_dump_lines.specs.declared.status.Stop.{Stop}
+use Rattle.wire_text.specs.declared.stop.Stop.{Stop}
 use Rattle.mysql_wire_dump_lines.specs.PacketStreams.{BeginsWith, Collected, Collects, EndsAs, Found, HasPacket, IsIdle, IsReady, Stands, StandsNext, Stepped, SteppedAs, Steps, Took, TookAs, collected, framed, most}
 
 -- nothing is consumed

@@ -8,3 +8,4 @@ mod members;
 mod plain;
 pub mod put;
 mod quoted;
+pub mod stop;

@@ -5,7 +5,7 @@ use Rattle.wire_codec.specs.Delivery.{Waiting}
 use Rattle.wire_codec.specs.Limited.{place_after}
 use Rattle.wire_codec.specs.LimitedRuns.{WaitsUnder}
 use Rattle.std.specs.Io.KnownBytes.{Appends}
-use Rattle.mysql_wire_commands.specs.declared.status.Stop.{Stop}
+use Rattle.wire_text.specs.declared.stop.Stop.{Stop}
 use Rattle.mysql_wire_commands.specs.declared.traced_read.OneRead.{OneRead}
 use Rattle.mysql_wire_commands.specs.Reads.{AsksUpTo}
 use Rattle.mysql_wire_commands.specs.Unframe.{ending_status, StopsOver, UnframeEndsOver, place_limits, run_state, next_limit, bytes_left, ending_line, UnframedUnder}
