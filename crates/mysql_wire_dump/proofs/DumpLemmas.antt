@@ -153,12 +153,12 @@ one_told options seen payload held fields known next limit limit_is len_is held_
 
 -- the client's next packet is shown
 pub client_shown : {A : Type 0} (old new : Dump A) (middle : SessionState) (id : ℕ) (kind : PacketKind) (bytes fields : List ℕ) → old.client.next ≡ Packet id
-    → (old.client.limit < old.client.len → PassesOver (field_form old.options) Client id old.client.len (state_of old.session) middle fields kind)
+    → (old.client.limit < old.client.len → PassesOver (field_form old.lines.options) Client id old.client.len (state_of old.lines.session) middle fields kind)
     → (old.client.len ≤ old.client.limit
-    → NamesOne (field_form old.options) Client id old.client.held.items (state_of old.session) middle fields kind)
+    → NamesOne (field_form old.lines.options) Client id old.client.held.items (state_of old.lines.session) middle fields kind)
     → (old.client.len ≤ old.client.limit → bytes ≡ old.client.held.items)
-    → string_bytes new.text ≡ string_bytes old.text ++ packet_line old.options.form (record { side = Client; id = id; len = old.client.len; kind = kind }) bytes fields
-    → state_of new.session ≡ middle → new.options ≡ old.options → new.server ≡ old.server
+    → string_bytes new.lines.text ≡ string_bytes old.lines.text ++ packet_line old.lines.options.form (record { side = Client; id = id; len = old.client.len; kind = kind }) bytes fields
+    → state_of new.lines.session ≡ middle → new.lines.options ≡ old.lines.options → new.server ≡ old.server
     → new.client.limit ≡ old.client.limit
     → ((packets : List (ℕ × List ℕ)) (came : List ℕ) (number : ℕ) → old.client.next ≡ Packet number → (stands : Stands packets came old.client)
     → (payload : List ℕ) × HasPacket number payload stands.begun (collected old.client) × Stands (packets ++ (number, payload) ∷ []) came new.client)
@@ -169,20 +169,20 @@ client_shown {A = A} old new middle id kind bytes fields is large named same tex
     let payload : List ℕ = pass.0 in
     let has = pass.1 in
     let seen : Seen = record { side = Client; id = id; len = old.client.len; kind = kind } in
-    let limit_is : old.client.limit ≡ old.options.limit = dumping.client_limit in
-    let it = one_told old.options seen payload old.client.held.items fields (state_of old.session) middle old.client.limit limit_is has.len has.held large named in
-    let one : Shown = shown_as seen payload fields (state_of old.session) it.0 in
+    let limit_is : old.client.limit ≡ old.lines.options.limit = dumping.client_limit in
+    let it = one_told old.lines.options seen payload old.client.held.items fields (state_of old.lines.session) middle old.client.limit limit_is has.len has.held large named in
+    let one : Shown = shown_as seen payload fields (state_of old.lines.session) it.0 in
     let here : Pends old.client.next (Some id) = subst (λ (n : Next). Pends n (Some id)) (sym is) refl in
-    let turn_is : next_sender old.session.phase (id_behind 0 shown) (Some id) (id_of old.server.next) ≡ Some Client =
-    ap₂ (λ (n : ℕ) (c : Option ℕ). next_sender old.session.phase n c (id_of old.server.next)) (sym dumping.behind) (sym (ap id_of is)) ∙ is_turn in
+    let turn_is : next_sender old.lines.session.phase (id_behind 0 shown) (Some id) (id_of old.server.next) ≡ Some Client =
+    ap₂ (λ (n : ℕ) (c : Option ℕ). next_sender old.lines.session.phase n c (id_of old.server.next)) (sym dumping.behind) (sym (ap id_of is)) ∙ is_turn in
     let other_is : (number : Option ℕ) → Pends new.server.next number → number ≡ id_of old.server.next =
     λ number pends. pends_is old.server.next number looked.1 (subst (λ (source : PacketStream A). Pends source.next number) other_same pends) in (
       one,
       record {
         are_shown = subst (λ (o : Options). AreShown o initial_state (shown ++ one ∷ [])) (sym options)
-            (shown_more old.options initial_state shown one dumping.are_shown dumping.known it.1);
-        known = subst (λ (o : Options). state_of new.session ≡ known_after o initial_state (shown ++ one ∷ [])) (sym options)
-            (known_is ∙ it.2 ∙ sym (known_after_more old.options initial_state shown one));
+            (shown_more old.lines.options initial_state shown one dumping.are_shown dumping.known it.1);
+        known = subst (λ (o : Options). state_of new.lines.session ≡ known_after o initial_state (shown ++ one ∷ [])) (sym options)
+            (known_is ∙ it.2 ∙ sym (known_after_more old.lines.options initial_state shown one));
         clients = subst (λ (z : List (ℕ × List ℕ)). Stands z client new.client) (sym (packets_of_more Client shown one)) pass.2;
         servers = subst (λ (source : PacketStream A). Stands (packets_of Server (shown ++ one ∷ [])) server source) (sym other_same)
             (subst (λ (z : List (ℕ × List ℕ)). Stands z server old.server) (sym (packets_of_more Server shown one ∙ append-nil (packets_of Server shown))) dumping.servers);
@@ -191,22 +191,22 @@ client_shown {A = A} old new middle id kind bytes fields is large named same tex
         behind = ap (λ (k : SessionState). k.next_id) known_is ∙ it.3 ∙ sym (id_behind_more 0 shown one);
         ordered = λ client_next server_next client_pends server_pends.
             in_order_more 0 shown one (Some id) (id_of old.server.next) client_next server_next (dumping.ordered (Some id) (id_of old.server.next) here (pends_so old.server.next)) turn_is refl (other_is server_next server_pends);
-        lines = ap (λ (z : List ℕ). written ++ z) text ∙ sym (append_assoc written (string_bytes old.text) (packet_line old.options.form seen bytes fields))
-            ∙ ap (λ (z : List ℕ). z ++ packet_line old.options.form seen bytes fields) dumping.lines
-            ∙ ap (λ (z : List ℕ). lines_of old.options.form shown ++ z)
-            (same_line old.options.form seen bytes payload fields old.client.limit (λ within. same within ∙ has.held within) (λ above. (large above).1.has.0))
-            ∙ sym (lines_of_more old.options.form shown one) ∙ ap (λ (o : Options). lines_of o.form (shown ++ one ∷ [])) (sym options);
+        lines = ap (λ (z : List ℕ). written ++ z) text ∙ sym (append_assoc written (string_bytes old.lines.text) (packet_line old.lines.options.form seen bytes fields))
+            ∙ ap (λ (z : List ℕ). z ++ packet_line old.lines.options.form seen bytes fields) dumping.lines
+            ∙ ap (λ (z : List ℕ). lines_of old.lines.options.form shown ++ z)
+            (same_line old.lines.options.form seen bytes payload fields old.client.limit (λ within. same within ∙ has.held within) (λ above. (large above).1.has.0))
+            ∙ sym (lines_of_more old.lines.options.form shown one) ∙ ap (λ (o : Options). lines_of o.form (shown ++ one ∷ [])) (sym options);
       },
     )
 
 -- the server's next packet is shown
 pub server_shown : {A : Type 0} (old new : Dump A) (middle : SessionState) (id : ℕ) (kind : PacketKind) (bytes fields : List ℕ) → old.server.next ≡ Packet id
-    → (old.server.limit < old.server.len → PassesOver (field_form old.options) Server id old.server.len (state_of old.session) middle fields kind)
+    → (old.server.limit < old.server.len → PassesOver (field_form old.lines.options) Server id old.server.len (state_of old.lines.session) middle fields kind)
     → (old.server.len ≤ old.server.limit
-    → NamesOne (field_form old.options) Server id old.server.held.items (state_of old.session) middle fields kind)
+    → NamesOne (field_form old.lines.options) Server id old.server.held.items (state_of old.lines.session) middle fields kind)
     → (old.server.len ≤ old.server.limit → bytes ≡ old.server.held.items)
-    → string_bytes new.text ≡ string_bytes old.text ++ packet_line old.options.form (record { side = Server; id = id; len = old.server.len; kind = kind }) bytes fields
-    → state_of new.session ≡ middle → new.options ≡ old.options → new.client ≡ old.client
+    → string_bytes new.lines.text ≡ string_bytes old.lines.text ++ packet_line old.lines.options.form (record { side = Server; id = id; len = old.server.len; kind = kind }) bytes fields
+    → state_of new.lines.session ≡ middle → new.lines.options ≡ old.lines.options → new.client ≡ old.client
     → new.server.limit ≡ old.server.limit
     → ((packets : List (ℕ × List ℕ)) (came : List ℕ) (number : ℕ) → old.server.next ≡ Packet number → (stands : Stands packets came old.server)
     → (payload : List ℕ) × HasPacket number payload stands.begun (collected old.server) × Stands (packets ++ (number, payload) ∷ []) came new.server)
@@ -217,20 +217,20 @@ server_shown {A = A} old new middle id kind bytes fields is large named same tex
     let payload : List ℕ = pass.0 in
     let has = pass.1 in
     let seen : Seen = record { side = Server; id = id; len = old.server.len; kind = kind } in
-    let limit_is : old.server.limit ≡ old.options.limit = dumping.server_limit in
-    let it = one_told old.options seen payload old.server.held.items fields (state_of old.session) middle old.server.limit limit_is has.len has.held large named in
-    let one : Shown = shown_as seen payload fields (state_of old.session) it.0 in
+    let limit_is : old.server.limit ≡ old.lines.options.limit = dumping.server_limit in
+    let it = one_told old.lines.options seen payload old.server.held.items fields (state_of old.lines.session) middle old.server.limit limit_is has.len has.held large named in
+    let one : Shown = shown_as seen payload fields (state_of old.lines.session) it.0 in
     let here : Pends old.server.next (Some id) = subst (λ (n : Next). Pends n (Some id)) (sym is) refl in
-    let turn_is : next_sender old.session.phase (id_behind 0 shown) (id_of old.client.next) (Some id) ≡ Some Server =
-    ap₂ (λ (n : ℕ) (c : Option ℕ). next_sender old.session.phase n (id_of old.client.next) c) (sym dumping.behind) (sym (ap id_of is)) ∙ is_turn in
+    let turn_is : next_sender old.lines.session.phase (id_behind 0 shown) (id_of old.client.next) (Some id) ≡ Some Server =
+    ap₂ (λ (n : ℕ) (c : Option ℕ). next_sender old.lines.session.phase n (id_of old.client.next) c) (sym dumping.behind) (sym (ap id_of is)) ∙ is_turn in
     let other_is : (number : Option ℕ) → Pends new.client.next number → number ≡ id_of old.client.next =
     λ number pends. pends_is old.client.next number looked.0 (subst (λ (source : PacketStream A). Pends source.next number) other_same pends) in (
       one,
       record {
         are_shown = subst (λ (o : Options). AreShown o initial_state (shown ++ one ∷ [])) (sym options)
-            (shown_more old.options initial_state shown one dumping.are_shown dumping.known it.1);
-        known = subst (λ (o : Options). state_of new.session ≡ known_after o initial_state (shown ++ one ∷ [])) (sym options)
-            (known_is ∙ it.2 ∙ sym (known_after_more old.options initial_state shown one));
+            (shown_more old.lines.options initial_state shown one dumping.are_shown dumping.known it.1);
+        known = subst (λ (o : Options). state_of new.lines.session ≡ known_after o initial_state (shown ++ one ∷ [])) (sym options)
+            (known_is ∙ it.2 ∙ sym (known_after_more old.lines.options initial_state shown one));
         servers = subst (λ (z : List (ℕ × List ℕ)). Stands z server new.server) (sym (packets_of_more Server shown one)) pass.2;
         clients = subst (λ (source : PacketStream A). Stands (packets_of Client (shown ++ one ∷ [])) client source) (sym other_same)
             (subst (λ (z : List (ℕ × List ℕ)). Stands z client old.client) (sym (packets_of_more Client shown one ∙ append-nil (packets_of Client shown))) dumping.clients);
@@ -239,11 +239,11 @@ server_shown {A = A} old new middle id kind bytes fields is large named same tex
         behind = ap (λ (k : SessionState). k.next_id) known_is ∙ it.3 ∙ sym (id_behind_more 0 shown one);
         ordered = λ client_next server_next client_pends server_pends.
             in_order_more 0 shown one (id_of old.client.next) (Some id) client_next server_next (dumping.ordered (id_of old.client.next) (Some id) (pends_so old.client.next) here) turn_is (other_is client_next client_pends) refl;
-        lines = ap (λ (z : List ℕ). written ++ z) text ∙ sym (append_assoc written (string_bytes old.text) (packet_line old.options.form seen bytes fields))
-            ∙ ap (λ (z : List ℕ). z ++ packet_line old.options.form seen bytes fields) dumping.lines
-            ∙ ap (λ (z : List ℕ). lines_of old.options.form shown ++ z)
-            (same_line old.options.form seen bytes payload fields old.server.limit (λ within. same within ∙ has.held within) (λ above. (large above).1.has.0))
-            ∙ sym (lines_of_more old.options.form shown one) ∙ ap (λ (o : Options). lines_of o.form (shown ++ one ∷ [])) (sym options);
+        lines = ap (λ (z : List ℕ). written ++ z) text ∙ sym (append_assoc written (string_bytes old.lines.text) (packet_line old.lines.options.form seen bytes fields))
+            ∙ ap (λ (z : List ℕ). z ++ packet_line old.lines.options.form seen bytes fields) dumping.lines
+            ∙ ap (λ (z : List ℕ). lines_of old.lines.options.form shown ++ z)
+            (same_line old.lines.options.form seen bytes payload fields old.server.limit (λ within. same within ∙ has.held within) (λ above. (large above).1.has.0))
+            ∙ sym (lines_of_more old.lines.options.form shown one) ∙ ap (λ (o : Options). lines_of o.form (shown ++ one ∷ [])) (sym options);
       },
     )
 
@@ -388,12 +388,12 @@ visible_more shown one are is =
 
 -- a packet was shown
 pub one_shown : {A : Type 0} (side : Side) (old new : Dump A) (client client_left server server_left written now : Option (List ℕ))
-    → SoFar old client client_left server server_left written now → old.session.phase ≢ phase.Encrypted → ShowsPacket side old new → IsTurn side old → IsLooked old
+    → SoFar old client client_left server server_left written now → old.lines.session.phase ≢ phase.Encrypted → ShowsPacket side old new → IsTurn side old → IsLooked old
     → SoFar new client client_left server server_left written now
 one_shown side old new client client_left server server_left written now so_far is_open shows is_turn looked =
     let more = shows.more so_far.shown so_far.of_client so_far.of_server so_far.text so_far.dumping is_turn looked in
-    let here : more.0.at ≡ state_of old.session =
-    last_at new.options initial_state so_far.shown more.0 more.1.are_shown
+    let here : more.0.at ≡ state_of old.lines.session =
+    last_at new.lines.options initial_state so_far.shown more.0 more.1.are_shown
     ∙ ap (λ (o : Options). known_after o initial_state so_far.shown) shows.options_are ∙ sym so_far.dumping.known in
     record {
       shown = so_far.shown ++ more.0 ∷ [];
@@ -414,7 +414,7 @@ one_shown side old new client client_left server server_left written now so_far 
 -- a part of the text was written
 pub much_written : {A : Type 0} (old new : Dump A) (part : List ℕ) (client client_left server server_left written now later : Option (List ℕ))
     → SoFar old client client_left server server_left written now → Appends now later part
-    → string_bytes old.text ≡ part ++ string_bytes new.text → new ≡ record old { text = new.text }
+    → string_bytes old.lines.text ≡ part ++ string_bytes new.lines.text → new ≡ record old { lines = record old.lines { text = new.lines.text } }
     → SoFar new client client_left server server_left written later
 much_written {A = A} old new part client client_left server server_left written now later so_far appended text same =
     let was = so_far.dumping in
@@ -435,7 +435,7 @@ much_written {A = A} old new part client client_left server server_left written 
         server_limit = was.server_limit;
         behind = was.behind;
         ordered = was.ordered;
-        lines = append_assoc so_far.text part (string_bytes new.text) ∙ ap (λ (z : List ℕ). so_far.text ++ z) (sym text) ∙ was.lines;
+        lines = append_assoc so_far.text part (string_bytes new.lines.text) ∙ ap (λ (z : List ℕ). so_far.text ++ z) (sym text) ∙ was.lines;
       };
       visible = so_far.visible;
       client_seen = so_far.client_seen;
@@ -446,7 +446,7 @@ much_written {A = A} old new part client client_left server server_left written 
 
 -- no packet is left
 pub none_left : {A : Type 0} (dump : Dump A) (client client_left server server_left written now : Option (List ℕ))
-    → SoFar dump client client_left server server_left written now → dump.session.phase ≢ phase.Encrypted → Pends dump.client.next None → Pends dump.server.next None
+    → SoFar dump client client_left server server_left written now → dump.lines.session.phase ≢ phase.Encrypted → Pends dump.client.next None → Pends dump.server.next None
     → ShowsAll dump client client_left server server_left written now
 none_left dump client client_left server server_left written now so_far is_open client_none server_none =
     let was = so_far.dumping in
@@ -476,7 +476,7 @@ none_left dump client client_left server server_left written now so_far is_open 
 
 -- what is left is hidden
 pub rest_hidden : {A : Type 0} (dump : Dump A) (client_source server_source : PacketStream A) (client client_left server server_left written now : Option (List ℕ))
-    → SoFar dump client client_left server server_left written now → dump.session.phase ≡ phase.Encrypted
+    → SoFar dump client client_left server server_left written now → dump.lines.session.phase ≡ phase.Encrypted
     → ((packets : List (ℕ × List ℕ)) (came : List ℕ) → Stands packets came dump.client → Stands packets came client_source)
     → ((packets : List (ℕ × List ℕ)) (came : List ℕ) → Stands packets came dump.server → Stands packets came server_source)
     → client_source.next ≡ Ended Encrypted → server_source.next ≡ Ended Encrypted
@@ -556,13 +556,13 @@ hides_at next end at known is same hides =
 -- all is shown, and how the sides end is written after it
 pub dumps_all : {A : Type 0} (options : Options) (sides : Sides) (dump : Dump A) (client_end server_end : End) (last : List ℕ) (status : ℕ)
     (client client_left server server_left written now later : Option (List ℕ))
-    → ShowsAll dump client client_left server server_left written now → dump.options ≡ options
+    → ShowsAll dump client client_left server server_left written now → dump.lines.options ≡ options
     → dump.client.next ≡ Ended client_end → dump.server.next ≡ Ended server_end
-    → last ≡ string_bytes dump.text ++ ending_lines options.form sides client_end dump.client.at server_end dump.server.at
+    → last ≡ string_bytes dump.lines.text ++ ending_lines options.form sides client_end dump.client.at server_end dump.server.at
     → Appends now later last → status ≡ status_of sides client_end server_end
     → Dumps options sides client client_left server server_left written later status
 dumps_all options sides dump client_end server_end last status client client_left server server_left written now later all options_are client_is server_is last_is appended status_is =
-    let known_is : state_of dump.session ≡ known_after options initial_state all.shown =
+    let known_is : state_of dump.lines.session ≡ known_after options initial_state all.shown =
     all.known ∙ ap (λ (o : Options). known_after o initial_state all.shown) options_are in
     let endings : ℕ → ℕ → List ℕ = λ client_at server_at. ending_lines options.form sides client_end client_at server_end server_at in
     record {
@@ -590,7 +590,7 @@ dumps_all options sides dump client_end server_end last status client client_lef
           | inr none ↦ inr none
         ];
         is = ap (λ (z : List ℕ). all.text ++ z) last_is
-            ∙ sym (append_assoc all.text (string_bytes dump.text) (endings dump.client.at dump.server.at))
+            ∙ sym (append_assoc all.text (string_bytes dump.lines.text) (endings dump.client.at dump.server.at))
             ∙ ap₂ (λ (lines ends : List ℕ). lines ++ ends) (all.lines ∙ ap (λ (o : Options). lines_of o.form all.shown) options_are)
             (ap₂ (λ (c s : ℕ). endings c s) all.clients.at all.servers.at);
         ends = status_is;

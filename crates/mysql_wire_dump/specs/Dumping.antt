@@ -1,7 +1,10 @@
 -- How the dump goes from packet to packet.
-use Rattle.std.specs.Prelude.{◌≡◌, ◌≢◌, ◌⊎◌, ℕ, List, [], ◌∷◌, ◌++◌, length, ⊤, string_bytes, Option, Some, None, Bool, true, false, ◌↔◌}
+use Rattle.std.specs.Prelude.{◌≡◌, ◌≢◌, ◌⊎◌, ◌<◌, ◌≤◌, ℕ, List, [], ◌∷◌, ◌++◌, length, ⊤, string_bytes, Option, Some, None, Bool, true, false, ◌↔◌}
 use Rattle.std.specs.Io.KnownBytes.{Appends, Consumes}
 use Rattle.mysql_wire_dump.specs.declared.dump.Dump.{Dump}
+use Rattle.mysql_wire_dump.specs.declared.dump.SessionLines.{SessionLines}
+use Rattle.mysql_wire_dump_lines.specs.Lines.{packet_line}
+use Rattle.mysql_wire_dump_lines.specs.declared.packet_stream.PacketStream.{PacketStream}
 use Rattle.wire_text.specs.declared.fields.FieldForm.{FieldForm}
 use Rattle.mysql_wire_session.specs.declared.packet_kind.PacketKind.{PacketKind}
 use Rattle.mysql_wire_session.specs.declared.packet_kind.PacketKind.TheVariants.{TooLarge}
@@ -13,7 +16,7 @@ use Rattle.mysql_wire_dump_lines.specs.declared.packet_stream.End.TheVariants.{E
 use Rattle.mysql_wire_dump_lines.specs.declared.packet_stream.Next.{Next}
 use Rattle.mysql_wire_dump_lines.specs.declared.packet_stream.Next.TheVariants.{Unread, Ended}
 use Rattle.mysql_wire_dump_lines.specs.declared.packet_stream.Next.TheVariants as next
-use Rattle.mysql_wire_dump.specs.Dumped.{AreFields, AreShown, AreVisible, InOrder, Shown, known_after, lines_of, packets_of}
+use Rattle.mysql_wire_dump.specs.Dumped.{AreFields, AreShown, AreVisible, InOrder, Shown, field_form, known_after, lines_of, packets_of}
 use Rattle.mysql_wire_session.specs.Advance.{id_after}
 use Rattle.mysql_wire_session.specs.State.{SessionState, state_of, initial_state}
 use Rattle.mysql_wire_session.specs.Readings.{ReadsAs, RowReads, after_kind, after_packet, kind_of, opened_at, passed}
@@ -40,21 +43,21 @@ id_behind next (shown ∷ others) =
 -- so far these packets were shown, of these bytes of both sides, and so much text was written
 pub record Dumping {A : Type 0} (shown : List Shown) (client server written : List ℕ) (dump : Dump A) : Type 0
   where
-    pub are_shown : AreShown dump.options initial_state shown
-    pub known : state_of dump.session ≡ known_after dump.options initial_state shown
+    pub are_shown : AreShown dump.lines.options initial_state shown
+    pub known : state_of dump.lines.session ≡ known_after dump.lines.options initial_state shown
     pub clients : Stands (packets_of Client shown) client dump.client
     pub servers : Stands (packets_of Server shown) server dump.server
-    pub client_limit : dump.client.limit ≡ dump.options.limit
-    pub server_limit : dump.server.limit ≡ dump.options.limit
-    pub behind : dump.session.next_id ≡ id_behind 0 shown
+    pub client_limit : dump.client.limit ≡ dump.lines.options.limit
+    pub server_limit : dump.server.limit ≡ dump.lines.options.limit
+    pub behind : dump.lines.session.next_id ≡ id_behind 0 shown
     pub ordered : (client_next server_next : Option ℕ) → Pends dump.client.next client_next
         → Pends dump.server.next server_next → InOrder 0 shown client_next server_next
-    pub lines : written ++ string_bytes dump.text ≡ lines_of dump.options.form shown
+    pub lines : written ++ string_bytes dump.lines.text ≡ lines_of dump.lines.options.form shown
 
 -- a dump that begins
 pub record StartsDump {A : Type 0} (options : Options) (dump : Dump A) : Type 0 where
   pub dumps : Dumping [] [] [] [] dump
-  pub options_are : dump.options ≡ options
+  pub options_are : dump.lines.options ≡ options
   pub client_next : dump.client.next ≡ Unread
   pub server_next : dump.server.next ≡ Unread
 
@@ -91,10 +94,27 @@ pub record NamesOne (form : FieldForm) (side : Side) (id : ℕ) (payload : List 
   pub goes_on : next ≡ after_packet side id (kind_of side id payload known) payload packet known
   pub fields_are : AreFields form known.types (kind_of side id payload known) packet named fields
 
+-- the line of a stream's next packet is appended, and the session goes on after it
+pub record PushesNext {A : Type 0} (side : Side) (source : PacketStream A)
+    (old new : SessionLines A) : Type 0 where
+  pub id : ℕ
+  pub kind : PacketKind
+  pub bytes : List ℕ
+  pub fields : List ℕ
+  pub is_next : source.next ≡ next.Packet id
+  pub large : source.limit < source.len → PassesOver (field_form old.options) side id source.len
+      (state_of old.session) (state_of new.session) fields kind
+  pub named : source.len ≤ source.limit → NamesOne (field_form old.options) side id
+      source.held.items (state_of old.session) (state_of new.session) fields kind
+  pub held : source.len ≤ source.limit → bytes ≡ source.held.items
+  pub line : string_bytes new.text ≡ string_bytes old.text ++ packet_line old.options.form
+      (record { side = side; id = id; len = source.len; kind = kind }) bytes fields
+  pub options_are : new.options ≡ old.options
+
 -- it is this side's turn
 abbrev pub IsTurn : {A : Type 0} → Side → Dump A → Type 0
 IsTurn side dump =
-    next_sender dump.session.phase dump.session.next_id (id_of dump.client.next) (id_of dump.server.next)
+    next_sender dump.lines.session.phase dump.lines.session.next_id (id_of dump.client.next) (id_of dump.server.next)
     ≡ Some side
 
 -- both sides were looked at
@@ -106,7 +126,7 @@ pub record ShowsPacket {A : Type 0} (side : Side) (old new : Dump A) : Type 0 wh
   pub more : (shown : List Shown) (client server written : List ℕ)
       → Dumping shown client server written old → IsTurn side old → IsLooked old
       → (one : Shown) × Dumping (shown ++ one ∷ []) client server written new
-  pub options_are : new.options ≡ old.options
+  pub options_are : new.lines.options ≡ old.lines.options
   pub client_seen : old.client.next ≢ Ended Encrypted → new.client.next ≢ Ended Encrypted
   pub server_seen : old.server.next ≢ Ended Encrypted → new.server.next ≢ Ended Encrypted
   pub client_end : (left : Option (List ℕ)) → AtEnd old.client.next left
@@ -135,7 +155,7 @@ pub record SoFar {A : Type 0} (dump : Dump A)
 pub record Going {A : Type 0} (dump : Dump A)
     (client client_left server server_left written now : Option (List ℕ)) : Type 0 where
   pub so_far : SoFar dump client client_left server server_left written now
-  pub is_open : dump.session.phase ≢ phase.Encrypted
+  pub is_open : dump.lines.session.phase ≢ phase.Encrypted
 
 -- what a dump that began showed of the bytes of both sides, and wrote
 pub record ShowsAll {A : Type 0} (dump : Dump A)
@@ -147,11 +167,11 @@ pub record ShowsAll {A : Type 0} (dump : Dump A)
   pub client_consumed : Consumes client client_left of_client
   pub server_consumed : Consumes server server_left of_server
   pub appended : Appends written now text
-  pub are_shown : AreShown dump.options initial_state shown
+  pub are_shown : AreShown dump.lines.options initial_state shown
   pub visible : AreVisible shown
-  pub known : state_of dump.session ≡ known_after dump.options initial_state shown
-  pub client_hides : (dump.client.next ≡ Ended Encrypted) ↔ (dump.session.phase ≡ phase.Encrypted)
-  pub server_hides : (dump.server.next ≡ Ended Encrypted) ↔ (dump.session.phase ≡ phase.Encrypted)
+  pub known : state_of dump.lines.session ≡ known_after dump.lines.options initial_state shown
+  pub client_hides : (dump.client.next ≡ Ended Encrypted) ↔ (dump.lines.session.phase ≡ phase.Encrypted)
+  pub server_hides : (dump.server.next ≡ Ended Encrypted) ↔ (dump.lines.session.phase ≡ phase.Encrypted)
   pub clients : Stands (packets_of Client shown) of_client dump.client
   pub servers : Stands (packets_of Server shown) of_server dump.server
   pub client_next : Option ℕ
@@ -159,7 +179,7 @@ pub record ShowsAll {A : Type 0} (dump : Dump A)
   pub ordered : InOrder 0 shown client_next server_next
   pub none_left : (dump.client.next ≡ Ended Encrypted)
       ⊎ ((client_next ≡ None) × (server_next ≡ None))
-  pub lines : text ++ string_bytes dump.text ≡ lines_of dump.options.form shown
+  pub lines : text ++ string_bytes dump.lines.text ≡ lines_of dump.lines.options.form shown
   pub client_end : AtEnd dump.client.next client_left
   pub server_end : AtEnd dump.server.next server_left
 
@@ -187,5 +207,5 @@ GoesOver remaining others contents old client server output new client_left serv
 abbrev pub WritesMuch : {A W : Type 0} → (W → Option (List ℕ)) → Dump A → W → Dump A → W → Type 0
 WritesMuch contents old output new now =
     (written : List ℕ) × Appends (contents output) (contents now) written
-    × (string_bytes old.text ≡ written ++ string_bytes new.text)
-    × (new ≡ record old { text = new.text })
+    × (string_bytes old.lines.text ≡ written ++ string_bytes new.lines.text)
+    × (new ≡ record old { lines = record old.lines { text = new.lines.text } })

@@ -14,7 +14,7 @@ use mysql_wire_dump_lines::lines::{LineForm, Seen, push_ending, push_packet};
 use mysql_wire_dump_lines::next_sender::next_sender;
 use mysql_wire_dump_lines::options::{Options, Sides};
 use mysql_wire_dump_lines::packet_stream::{End, Next, PacketStream};
-use mysql_wire_dump_lines::status::{Stop, exit_status};
+use mysql_wire_dump_lines::status::{Stop, exit_status, stop_of};
 use mysql_wire_session::packet::Received;
 use mysql_wire_session::packet_kind::PacketKind;
 use mysql_wire_session::phase::Phase;
@@ -27,17 +27,23 @@ use wire_text::fields::{FieldForm, Fields};
 // How many bytes of text are written at a time.
 const WRITE_SIZE: usize = 65536;
 
-// Both directions, the session, and the text that is not written yet.
+// A session, and the lines of its packets that are not written yet.
 #[derive(Drop)]
-struct Dump<A: Allocator + Copy> {
+struct SessionLines<A: Allocator + Copy> {
     // Packets are read with it, which takes no memory.
     global: Global,
     options: Options,
-    client: PacketStream<A>,
-    server: PacketStream<A>,
     session: Session<A>,
     fields: Fields<A>,
     text: String<A>,
+}
+
+// Both directions, and the lines of their session.
+#[derive(Drop)]
+struct Dump<A: Allocator + Copy> {
+    client: PacketStream<A>,
+    server: PacketStream<A>,
+    lines: SessionLines<A>,
 }
 
 // How fields are shown.
@@ -65,8 +71,10 @@ fn show_received<A: Allocator + Copy>(
 {
     let types = session.column_types();
     let kind = show_packet(global, fields, types, received.kind, &received.packet)?;
-    session.advance(received)?;
-    Ok(kind)
+    match session.advance(received) {
+        Ok(()) => Ok(kind),
+        Err(error) => Err(stop_of(error)),
+    }
 }
 
 // Reads a packet and puts its fields, and goes on after it.
@@ -82,7 +90,7 @@ fn show_other<A: Allocator + Copy>(
 {
     match session.read(came.0, came.1, payload) {
         Ok(received) => show_received(global, session, fields, &received),
-        Err(error) => Err(Stop::from(error)),
+        Err(error) => Err(stop_of(error)),
     }
 }
 
@@ -99,7 +107,10 @@ fn show_row_of<A: Allocator + Copy>(
     ensures { IfOk result (TellsRow came.0 came.1 came.2 payload.now (state_of session.old)
         (state_of session.new) fields.old fields.new) }
 {
-    let row = session.read_row(came.2, payload)?;
+    let row = match session.read_row(came.2, payload) {
+        Ok(row) => row,
+        Err(error) => return Err(stop_of(error)),
+    };
     let kind = show_row(global, fields, session.column_types(), came.2, &row)?;
     session.advance_by_kind(came.0, came.1, came.2, payload.len());
     Ok(kind)
@@ -161,6 +172,38 @@ fn shown_payload<A: Allocator + Copy>(source: &PacketStream<A>) -> &[u8]
     }
 }
 
+impl<A: Allocator + Copy> SessionLines<A> {
+    ghost use Rattle.mysql_wire_dump.specs.Dumping.{PushesNext};
+
+    // Appends the line of a stream's next packet, and goes on after it.
+    fn push_next(&mut self, side: Side, source: &PacketStream<A>) -> Result<(), Stop>
+        ensures { OnOk result (PushesNext side source.now self.old self.new) }
+    {
+        let Some(id) = source.next_id() else {
+            return Err(Stop::Io);
+        };
+        let kind = name_packet(
+            self.global,
+            side,
+            id,
+            source,
+            &mut self.session,
+            &mut self.fields,
+            field_form(self.options),
+        )?;
+        let seen = Seen {
+            side,
+            id,
+            len: source.payload_len(),
+            kind,
+        };
+        let fields = self.fields.text();
+        let payload = shown_payload(source);
+        push_packet(&mut self.text, self.options.form, &seen, payload, fields)?;
+        Ok(())
+    }
+}
+
 impl<A: Allocator + Copy> Dump<A> {
     ghost use Rattle.mysql_wire_dump.specs.Dumping.{ShowsPacket, WritesMuch};
     ghost use Rattle.mysql_wire_dump_lines.specs.NextSenders.{next_sender};
@@ -172,89 +215,29 @@ impl<A: Allocator + Copy> Dump<A> {
         ensures starts { StartsDump options result }
     {
         Dump {
-            global,
-            options,
             client: PacketStream::new(alloc, options.limit),
             server: PacketStream::new(alloc, options.limit),
-            session: Session::new(alloc, global),
-            fields: Fields::new(alloc),
-            text: String::new(alloc),
+            lines: SessionLines {
+                global,
+                options,
+                session: Session::new(alloc, global),
+                fields: Fields::new(alloc),
+                text: String::new(alloc),
+            },
         }
     }
 
     // Whose packet is next.
     fn next_sender(&self) -> Option<Side>
-        ensures { result ≡ next_sender self.now.session.phase self.now.session.next_id
+        ensures { result ≡ next_sender self.now.lines.session.phase self.now.lines.session.next_id
             (id_of self.now.client.next) (id_of self.now.server.next) }
     {
         next_sender(
-            self.session.phase(),
-            self.session.next_id(),
+            self.lines.session.phase(),
+            self.lines.session.next_id(),
             self.client.next_id(),
             self.server.next_id(),
         )
-    }
-
-    // Shows the client's next packet, and goes on after it.
-    fn show_client(&mut self) -> Result<(), Stop>
-        ensures { OnOk result (ShowsPacket Client self.old self.new) }
-    {
-        let Some(id) = self.client.next_id() else {
-            return Err(Stop::Io);
-        };
-        let source = &self.client;
-        let session = &mut self.session;
-        let kind = name_packet(
-            self.global,
-            Side::Client,
-            id,
-            source,
-            session,
-            &mut self.fields,
-            field_form(self.options),
-        )?;
-        let seen = Seen {
-            side: Side::Client,
-            id,
-            len: source.payload_len(),
-            kind,
-        };
-        let fields = self.fields.text();
-        let payload = shown_payload(source);
-        push_packet(&mut self.text, self.options.form, &seen, payload, fields)?;
-        self.client.advance()?;
-        Ok(())
-    }
-
-    // Shows the server's next packet, and goes on after it.
-    fn show_server(&mut self) -> Result<(), Stop>
-        ensures { OnOk result (ShowsPacket Server self.old self.new) }
-    {
-        let Some(id) = self.server.next_id() else {
-            return Err(Stop::Io);
-        };
-        let source = &self.server;
-        let session = &mut self.session;
-        let kind = name_packet(
-            self.global,
-            Side::Server,
-            id,
-            source,
-            session,
-            &mut self.fields,
-            field_form(self.options),
-        )?;
-        let seen = Seen {
-            side: Side::Server,
-            id,
-            len: source.payload_len(),
-            kind,
-        };
-        let fields = self.fields.text();
-        let payload = shown_payload(source);
-        push_packet(&mut self.text, self.options.form, &seen, payload, fields)?;
-        self.server.advance()?;
-        Ok(())
     }
 
     // Shows the next packet of a side.
@@ -262,8 +245,14 @@ impl<A: Allocator + Copy> Dump<A> {
         ensures { OnOk result (ShowsPacket side self.old self.new) }
     {
         match side {
-            Side::Client => self.show_client(),
-            Side::Server => self.show_server(),
+            Side::Client => {
+                self.lines.push_next(side, &self.client)?;
+                self.client.advance()
+            }
+            Side::Server => {
+                self.lines.push_next(side, &self.server)?;
+                self.server.advance()
+            }
         }
     }
 
@@ -271,9 +260,10 @@ impl<A: Allocator + Copy> Dump<A> {
     fn write_much<W: Write>(&mut self, output: &mut W) -> Result<(), Stop>
         ensures { OnOk result (WritesMuch W.contents self.old output.old self.new output.new) }
     {
-        if self.text.len() >= WRITE_SIZE {
-            output.write_all(self.text.as_bytes())?;
-            self.text.clear();
+        let text = &mut self.lines.text;
+        if text.len() >= WRITE_SIZE {
+            output.write_all(text.as_bytes())?;
+            text.clear();
         }
         Ok(())
     }
@@ -299,7 +289,7 @@ fn show_next<A: Allocator + Copy, R: Read, S: Read, W: Write>(
 ) -> Result<bool, Stop>
     ensures goes { IfOk result (GoesOver R.remaining S.remaining W.contents
         dump.old client.old server.old output.old dump.new client.new server.new output.new) }
-    ensures options { OnOk result (dump.new.options ≡ dump.old.options) }
+    ensures options { OnOk result (dump.new.lines.options ≡ dump.old.lines.options) }
 {
     dump.client.peek(client)?;
     dump.server.peek(server)?;
@@ -308,7 +298,7 @@ fn show_next<A: Allocator + Copy, R: Read, S: Read, W: Write>(
     };
     dump.show(side)?;
     dump.write_much(output)?;
-    if dump.session.phase() == Phase::Encrypted {
+    if dump.lines.session.phase() == Phase::Encrypted {
         dump.client.hide();
         dump.server.hide();
         return Ok(false);
@@ -326,7 +316,7 @@ fn show_all<A: Allocator + Copy, R: Read, S: Read, W: Write>(
     ensures goes { OnOk result (GoesOver R.remaining S.remaining W.contents
         dump.old client.old server.old output.old dump.new client.new server.new output.new
         false) }
-    ensures options { OnOk result (dump.new.options ≡ dump.old.options) }
+    ensures options { OnOk result (dump.new.lines.options ≡ dump.old.lines.options) }
 {
     'packets: for _ in 0..u64::MAX {
         if !show_next(dump, client, server, output)? {
@@ -399,8 +389,14 @@ fn show_whole<A: Allocator + Copy, R: Read, S: Read, W: Write>(
     };
     let of_client = (client_end, dump.client.place());
     let of_server = (server_end, dump.server.place());
-    push_endings(&mut dump.text, options.form, sides, of_client, of_server)?;
-    output.write_all(dump.text.as_bytes())?;
+    push_endings(
+        &mut dump.lines.text,
+        options.form,
+        sides,
+        of_client,
+        of_server,
+    )?;
+    output.write_all(dump.lines.text.as_bytes())?;
     output.flush()?;
     Ok(status_of(sides, client_end, server_end))
 }

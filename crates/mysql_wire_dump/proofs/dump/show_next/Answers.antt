@@ -8,7 +8,7 @@ returns-in_default-clause-goes g c all_client all_server before going =
     all_server (g.S.Read.remaining c.args.server.now) (g.S.Read.remaining c.peek-2.new.input) before (g.W.Write.contents c.args.output.now) going.so_far
     c.in_ok-peek.ensures.looks c.in_ok-peek.ensures.kept c.in_ok-peek.ensures.end c.in_ok-peek.ensures.seen c.in_ok-peek.ensures.limit
     c.in_ok-peek-2.ensures.looks c.in_ok-peek-2.ensures.kept c.in_ok-peek-2.ensures.end c.in_ok-peek-2.ensures.seen c.in_ok-peek-2.ensures.limit in
-    let none = no_turn c.args.dump.now.session.phase c.args.dump.now.session.next_id c.peek.new.self.next c.peek-2.new.self.next (sym c.next_sender.ensures ∙ c.in_default.is)
+    let none = no_turn c.args.dump.now.lines.session.phase c.args.dump.now.lines.session.next_id c.peek.new.self.next c.peek-2.new.self.next (sym c.next_sender.ensures ∙ c.in_default.is)
     c.in_ok-peek.ensures.next c.in_ok-peek-2.ensures.next in
     none_left _ all_client (g.R.Read.remaining c.peek.new.input) all_server (g.S.Read.remaining c.peek-2.new.input) before (g.W.Write.contents c.args.output.now) both going.is_open none.0 none.1
 

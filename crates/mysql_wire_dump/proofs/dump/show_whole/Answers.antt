@@ -15,5 +15,5 @@ returns g c starts =
     (g.W.Write.contents c.flush.new.self) all (c.in_ok-show_all.ensures.options ∙ starts.options_are)
     (search (rules, c.in-Some.ensures)) (search (rules, c.in-Some.ensures))
     (c.as_bytes.ensures.value ∙ c.in_ok-push_endings.ensures
-    ∙ ap₂ (λ (at other : ℕ). string_bytes shown.text ++ ending_lines c.args.options.form c.args.sides c.in-Some.client_end at c.in-Some.server_end other) c.place.ensures c.place-2.ensures)
+    ∙ ap₂ (λ (at other : ℕ). string_bytes shown.lines.text ++ ending_lines c.args.options.form c.args.sides c.in-Some.client_end at c.in-Some.server_end other) c.place.ensures c.place-2.ensures)
     (search (rules, c.in_ok-write_all.ensures.bytes, c.in_ok-flush.ensures.bytes)) c.status_of.ensures
