@@ -13,6 +13,7 @@ unsafe extern "C" {
     fn mw_place_row(ptr: *const u8, len: usize, cols: u64, row: u64, form: u64, reps: u64) -> u64;
     fn mw_read(ptr: *const u8, len: usize, limit: u64, form: u64, reps: u64) -> u64;
     fn mw_relay_each(ptr: *const u8, len: usize, limit: u64, form: u64, reps: u64) -> u64;
+    fn mw_session(ptr: *const u8, len: usize, form: u64, reps: u64) -> u64;
     fn mw_write(ptr: *const u8, len: usize, count: u64, reps: u64) -> u64;
     fn mw_row(ptr: *const u8, len: usize, cols: u64, form: u64, reps: u64) -> u64;
     fn mw_row_copy(ptr: *const u8, len: usize, form: u64, reps: u64) -> u64;
@@ -82,6 +83,11 @@ pub fn read(bytes: &[u8], limit: u64, form: u64, reps: u64) -> u64 {
 /// queued.
 pub fn relay_each(bytes: &[u8], limit: u64, form: u64, reps: u64) -> u64 {
     unsafe { mw_relay_each(bytes.as_ptr(), bytes.len(), limit, form, reps) }
+}
+
+/// A session's packets followed: form 0 by their fronts, form 1 a row by its kind.
+pub fn session(bytes: &[u8], form: u64, reps: u64) -> u64 {
+    unsafe { mw_session(bytes.as_ptr(), bytes.len(), form, reps) }
 }
 
 /// A payload queued `count` times by a `PacketWriter`, and written at once.

@@ -52,6 +52,7 @@ mod memory;
 mod packets;
 mod place;
 mod plot;
+mod sessions;
 mod spans;
 mod streams;
 mod summary;
@@ -84,6 +85,7 @@ fn measure_rows(word: &str, run: &mut Run) -> bool {
     place::rows(&mut rows);
     spans::rows(&mut rows);
     streams::rows(&mut rows);
+    sessions::rows(&mut rows);
     fields::rows(&mut rows);
     columns::rows(&mut rows);
     typed::rows(&mut rows);

@@ -8,6 +8,7 @@ mod columns;
 mod fields;
 mod in_place;
 mod packets;
+mod sessions;
 mod spans;
 mod streams;
 mod typed;
