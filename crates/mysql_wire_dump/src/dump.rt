@@ -207,7 +207,7 @@ impl<A: Allocator + Copy> SessionLines<A> {
 impl<A: Allocator + Copy> Dump<A> {
     ghost use Rattle.mysql_wire_dump.specs.Dumping.{ShowsPacket, WritesMuch};
     ghost use Rattle.mysql_wire_dump_lines.specs.NextSenders.{next_sender};
-    ghost use Rattle.mysql_wire_session.specs.declared.side.Side.TheVariants.{Client, Server};
+    ghost use Rattle.mysql_wire_session_packets.specs.declared.side.Side.TheVariants.{Client, Server};
     ghost use Rattle.mysql_wire_dump_lines.specs.PacketStreams.{id_of};
     ghost use Rattle.mysql_wire_dump_lines.specs.declared.packet_stream.Next.TheVariants.{Ended};
 

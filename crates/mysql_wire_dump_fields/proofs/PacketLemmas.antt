@@ -3,11 +3,11 @@ use Rattle.std.proofs.Common.{◌≡◌, ◌++◌, ℕ, List, refl, subst, inl, 
 use Rattle.std.specs.Prelude.{IfOk, OnOk}
 use Rattle.mysql_wire_dump_fields.specs.Packets.{HasFields, PutsPacket, PutsRowFields, packet_fields, shown_kind}
 use Rattle.mysql_wire_dump_fields.specs.ValueFields.{AreRowFields, PutsRow, rest_if, row_bytes_fields}
-use Rattle.mysql_wire_session.specs.declared.packet.Packet.{Packet}
-use Rattle.mysql_wire_session.specs.declared.packet.Packet.TheVariants as packet
-use Rattle.mysql_wire_session.specs.declared.packet.Row.{Row}
-use Rattle.mysql_wire_session.specs.declared.packet_kind.PacketKind.{PacketKind}
-use Rattle.mysql_wire_session.specs.declared.refusal.Refusal.{Refusal}
+use Rattle.mysql_wire_session_packets.specs.declared.packet.Packet.{Packet}
+use Rattle.mysql_wire_session_packets.specs.declared.packet.Packet.TheVariants as packet
+use Rattle.mysql_wire_session_packets.specs.declared.packet.Row.{Row}
+use Rattle.mysql_wire_session_packets.specs.declared.packet_kind.PacketKind.{PacketKind}
+use Rattle.mysql_wire_session_packets.specs.declared.refusal.Refusal.{Refusal}
 use Rattle.mysql_wire_statements.specs.declared.binary_row.BinaryRow.{BinaryRow}
 use Rattle.wire_text.specs.Fields.{Member, Puts, Written}
 

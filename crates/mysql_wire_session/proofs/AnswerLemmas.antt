@@ -4,21 +4,21 @@ use Rattle.std.specs.List.{AllByRecursion, flat_map}
 use Rattle.std.proofs.lemmas.Bool.{cases_eq, le-ltb, lt-ltb, ne_eqb}
 use Rattle.std.proofs.lemmas.List.{append_assoc}
 use Rattle.std.proofs.lemmas.List.Elements.{recursion_from_All}
-use Rattle.mysql_wire_session.specs.declared.packet.Packet.{Packet}
-use Rattle.mysql_wire_session.specs.declared.packet.Packet.TheVariants as packet
+use Rattle.mysql_wire_session_packets.specs.declared.packet.Packet.{Packet}
+use Rattle.mysql_wire_session_packets.specs.declared.packet.Packet.TheVariants as packet
 use Rattle.mysql_wire_session.specs.Kinds.{answer_kind, client_kind, done_kind, field_kind, first_byte, is_report, is_short, kind_at, row_kind, server_kind, statistics_kind, values_kind}
-use Rattle.mysql_wire_session.specs.declared.packet_kind.PacketKind.{PacketKind}
-use Rattle.mysql_wire_session.specs.declared.packet_kind.PacketKind.TheVariants as kind
+use Rattle.mysql_wire_session_packets.specs.declared.packet_kind.PacketKind.{PacketKind}
+use Rattle.mysql_wire_session_packets.specs.declared.packet_kind.PacketKind.TheVariants as kind
 use Rattle.mysql_wire_session.specs.declared.classify.Expectation.{Expectation}
-use Rattle.mysql_wire_session.specs.declared.phase.AfterColumns.{AfterColumns}
-use Rattle.mysql_wire_session.specs.declared.phase.AfterColumns.TheVariants as after
-use Rattle.mysql_wire_session.specs.declared.phase.Phase.{Phase}
-use Rattle.mysql_wire_session.specs.declared.phase.Phase.TheVariants as phase
-use Rattle.mysql_wire_session.specs.declared.phase.RowForm.{RowForm}
-use Rattle.mysql_wire_session.specs.declared.phase.RowForm.TheVariants as form
-use Rattle.mysql_wire_session.specs.declared.refusal.Refusal.{Refusal}
-use Rattle.mysql_wire_session.specs.declared.side.Side.{Side}
-use Rattle.mysql_wire_session.specs.declared.side.Side.TheVariants.{Client, Server}
+use Rattle.mysql_wire_session_packets.specs.declared.phase.AfterColumns.{AfterColumns}
+use Rattle.mysql_wire_session_packets.specs.declared.phase.AfterColumns.TheVariants as after
+use Rattle.mysql_wire_session_packets.specs.declared.phase.Phase.{Phase}
+use Rattle.mysql_wire_session_packets.specs.declared.phase.Phase.TheVariants as phase
+use Rattle.mysql_wire_session_packets.specs.declared.phase.RowForm.{RowForm}
+use Rattle.mysql_wire_session_packets.specs.declared.phase.RowForm.TheVariants as form
+use Rattle.mysql_wire_session_packets.specs.declared.refusal.Refusal.{Refusal}
+use Rattle.mysql_wire_session_packets.specs.declared.side.Side.{Side}
+use Rattle.mysql_wire_session_packets.specs.declared.side.Side.TheVariants.{Client, Server}
 use Rattle.mysql_wire_session.specs.Grammar.{Advances, Agreed, Agrees, AreColumns, AreExchanges, ConnectionIsFollowed, FollowsEach, IsLogin, SessionIsFollowed, AreDefined, AreEnded, AreResults, Counts, EachIsFollowed, EndsRows, EndsWell, Follows, FollowsExchange, IdleAtItsEnd, IsColumnCount, IsCommand, IsAuthentication, IsDefinition, IsEntry, IsEof, IsError, IsExchange, IsFetch, IsLetIn, IsOptionCommand, IsOptionOutcome, IsFileEnd, IsFileRequest, IsOk, IsOutcome, IsPiece, IsPlainCommand, IsPrepareAnswer, IsPrepared, IsReadAs, IsResult, IsRow, IsServers, IsStatistics, IsTableColumn, IsUnanswered, MayBeColumns, MaySend, Numbered, Reaches, Said, agreed_of, called_at, form_of}
 use Rattle.mysql_wire_session.specs.Advance.{after_column, after_columns, after_definitions, applied, client_state_after, counted_phase, ended_phase, id_after, noted, opened, prepared_phase, remembered, state_after, statement_columns, status_of, without_eof}
 use Rattle.mysql_wire_session.specs.State.{SessionState, expectation_of, initial_state, statement_of}

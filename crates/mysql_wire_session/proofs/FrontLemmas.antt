@@ -27,17 +27,17 @@ use Rattle.mysql_wire_session.specs.contracts.payload.ComQueryPayload.TheImpl as
 use Rattle.mysql_wire_session.specs.contracts.payload.ComQueryWithAttributesPayload.TheImpl as query_type_with
 use Rattle.mysql_wire_session.specs.contracts.payload.ComStmtExecutePayload.TheImpl as execute_type
 use Rattle.mysql_wire_session.specs.declared.classify.Expectation.{Expectation}
-use Rattle.mysql_wire_session.specs.declared.packet.Packet.{Packet}
-use Rattle.mysql_wire_session.specs.declared.packet.Packet.TheVariants as packet
-use Rattle.mysql_wire_session.specs.declared.packet.Received.{Received}
-use Rattle.mysql_wire_session.specs.declared.packet_kind.PacketKind.{PacketKind}
-use Rattle.mysql_wire_session.specs.declared.packet_kind.PacketKind.TheVariants as kind
-use Rattle.mysql_wire_session.specs.declared.phase.Phase.{Phase}
-use Rattle.mysql_wire_session.specs.declared.phase.Phase.TheVariants as phase
-use Rattle.mysql_wire_session.specs.declared.refusal.Refusal.{Refusal}
-use Rattle.mysql_wire_session.specs.declared.refusal.SessionError.{SessionError}
-use Rattle.mysql_wire_session.specs.declared.side.Side.{Side}
-use Rattle.mysql_wire_session.specs.declared.side.Side.TheVariants.{Client, Server}
+use Rattle.mysql_wire_session_packets.specs.declared.packet.Packet.{Packet}
+use Rattle.mysql_wire_session_packets.specs.declared.packet.Packet.TheVariants as packet
+use Rattle.mysql_wire_session_packets.specs.declared.packet.Received.{Received}
+use Rattle.mysql_wire_session_packets.specs.declared.packet_kind.PacketKind.{PacketKind}
+use Rattle.mysql_wire_session_packets.specs.declared.packet_kind.PacketKind.TheVariants as kind
+use Rattle.mysql_wire_session_packets.specs.declared.phase.Phase.{Phase}
+use Rattle.mysql_wire_session_packets.specs.declared.phase.Phase.TheVariants as phase
+use Rattle.mysql_wire_session_packets.specs.declared.refusal.Refusal.{Refusal}
+use Rattle.mysql_wire_session_packets.specs.declared.refusal.SessionError.{SessionError}
+use Rattle.mysql_wire_session_packets.specs.declared.side.Side.{Side}
+use Rattle.mysql_wire_session_packets.specs.declared.side.Side.TheVariants.{Client, Server}
 use Rattle.mysql_wire_statements.specs.declared.com_stmt_prepare_ok.ComStmtPrepareOk.{ComStmtPrepareOk}
 
 -- ---- the front is the payload's

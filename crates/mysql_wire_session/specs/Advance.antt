@@ -3,19 +3,19 @@ use Rattle.std.specs.Prelude.{ℕ, ◌==◌, ◌-◌, ◌+◌, ◌/◌, ◌%◌,
 use Rattle.wire_const.specs.declared.flag_sets.mariadb.MariadbCapabilities.{MariadbCapabilities}
 use Rattle.wire_const.specs.declared.flag_sets.status.StatusFlags.{StatusFlags}
 use Rattle.mysql_wire_connection.specs.declared.handshake_response.HandshakeResponse41.{HandshakeResponse41}
-use Rattle.mysql_wire_session.specs.declared.packet_kind.PacketKind.{PacketKind}
-use Rattle.mysql_wire_session.specs.declared.packet_kind.PacketKind.TheVariants as kind
-use Rattle.mysql_wire_session.specs.declared.phase.AfterColumns.{AfterColumns}
-use Rattle.mysql_wire_session.specs.declared.phase.AfterColumns.TheVariants as after
-use Rattle.mysql_wire_session.specs.declared.phase.Phase.{Phase}
-use Rattle.mysql_wire_session.specs.declared.phase.Phase.TheVariants as phase
-use Rattle.mysql_wire_session.specs.declared.phase.RowForm.{RowForm}
-use Rattle.mysql_wire_session.specs.declared.phase.RowForm.TheVariants as form
-use Rattle.mysql_wire_session.specs.declared.side.Side.{Side}
-use Rattle.mysql_wire_session.specs.declared.side.Side.TheVariants.{Client, Server}
+use Rattle.mysql_wire_session_packets.specs.declared.packet_kind.PacketKind.{PacketKind}
+use Rattle.mysql_wire_session_packets.specs.declared.packet_kind.PacketKind.TheVariants as kind
+use Rattle.mysql_wire_session_packets.specs.declared.phase.AfterColumns.{AfterColumns}
+use Rattle.mysql_wire_session_packets.specs.declared.phase.AfterColumns.TheVariants as after
+use Rattle.mysql_wire_session_packets.specs.declared.phase.Phase.{Phase}
+use Rattle.mysql_wire_session_packets.specs.declared.phase.Phase.TheVariants as phase
+use Rattle.mysql_wire_session_packets.specs.declared.phase.RowForm.{RowForm}
+use Rattle.mysql_wire_session_packets.specs.declared.phase.RowForm.TheVariants as form
+use Rattle.mysql_wire_session_packets.specs.declared.side.Side.{Side}
+use Rattle.mysql_wire_session_packets.specs.declared.side.Side.TheVariants.{Client, Server}
 use Rattle.mysql_wire_session.specs.Kinds.{is_command}
-use Rattle.mysql_wire_session.specs.declared.packet.Packet.{Packet}
-use Rattle.mysql_wire_session.specs.declared.packet.Packet.TheVariants as packet
+use Rattle.mysql_wire_session_packets.specs.declared.packet.Packet.{Packet}
+use Rattle.mysql_wire_session_packets.specs.declared.packet.Packet.TheVariants as packet
 use Rattle.mysql_wire_packets.specs.Optional.{has}
 use Rattle.mysql_wire_queries.specs.declared.column_count.ColumnCount.{ColumnCount}
 use Rattle.mysql_wire_statements.specs.declared.com_stmt_prepare_ok.ComStmtPrepareOk.{ComStmtPrepareOk}

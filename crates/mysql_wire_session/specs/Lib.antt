@@ -1,6 +1,4 @@
-pub mod Names
 pub mod Kinds
-pub mod Refusals
 pub mod State
 pub mod Advance
 pub mod Opening

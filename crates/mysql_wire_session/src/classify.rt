@@ -3,10 +3,10 @@
 ghost use Rattle.std.specs.Prelude.{◌≡◌};
 ghost use Rattle.mysql_wire_session.specs.Kinds.{answer_kind, client_kind, column_kind, columns_end_kind, command_kind, empty_kind, event_kind, field_kind, first_byte, greeting_kind, is_command, is_report, is_short, kind_by_front, option_kind, outcome_kind, prepare_kind, row_kind, server_kind, statistics_kind, values_kind};
 
-use crate::packet_kind::PacketKind;
-use crate::phase::{AfterColumns, Phase, RowForm};
-use crate::refusal::Refusal;
-use crate::side::Side;
+use mysql_wire_session_packets::packet_kind::PacketKind;
+use mysql_wire_session_packets::phase::{AfterColumns, Phase, RowForm};
+use mysql_wire_session_packets::refusal::Refusal;
+use mysql_wire_session_packets::side::Side;
 
 /// What a session knows of the next packet: its phase, the id that follows the last packet's, whether
 /// rows end without an EOF after the definitions of columns, and how their values are written.

@@ -13,13 +13,13 @@ ghost use Rattle.mysql_wire_session.specs.Senders.{is_idle, next_sender};
 ghost use Rattle.mysql_wire_session.specs.State.{expectation_of, initial_state, state_of, statement_of};
 
 use crate::classify::{Expectation, is_command, kind_by_front};
-use crate::packet::Received;
-use crate::packet_kind::PacketKind;
-use crate::phase::{Phase, RowForm};
-use crate::refusal::SessionError;
-use crate::side::{Sender, Side};
 use crate::statements::Statements;
 pub use front::FrontError;
+use mysql_wire_session_packets::packet::Received;
+use mysql_wire_session_packets::packet_kind::PacketKind;
+use mysql_wire_session_packets::phase::{Phase, RowForm};
+use mysql_wire_session_packets::refusal::SessionError;
+use mysql_wire_session_packets::side::{Sender, Side};
 use mysql_wire_statements::com_stmt_prepare_ok::ComStmtPrepareOk;
 use phases::past_column;
 use std::alloc::{Allocator, Global};

@@ -10,9 +10,9 @@ use super::{
     statistics, text_row,
 };
 use mysql_wire_queries::client_command::ClientCommand;
-use mysql_wire_session::packet::{Packet, Row};
-use mysql_wire_session::packet_kind::PacketKind;
-use mysql_wire_session::refusal::{Refusal, SessionError};
+use mysql_wire_session_packets::packet::{Packet, Row};
+use mysql_wire_session_packets::packet_kind::PacketKind;
+use mysql_wire_session_packets::refusal::{Refusal, SessionError};
 use std::alloc::{AllocError, Allocator, Global};
 use wire_text::fields::Fields;
 

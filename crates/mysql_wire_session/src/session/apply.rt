@@ -9,12 +9,12 @@ use super::phases::{
     after_definitions, command_phase, command_rows, counted_phase, done_phase, ended_phase,
     failed_phase, prepared_phase, server_phase,
 };
-use crate::packet::Packet;
-use crate::packet_kind::PacketKind;
-use crate::phase::{Phase, RowForm};
-use crate::refusal::SessionError;
-use crate::side::Side;
 use mysql_wire_connection::handshake_response::HandshakeResponse41;
+use mysql_wire_session_packets::packet::Packet;
+use mysql_wire_session_packets::packet_kind::PacketKind;
+use mysql_wire_session_packets::phase::{Phase, RowForm};
+use mysql_wire_session_packets::refusal::SessionError;
+use mysql_wire_session_packets::side::Side;
 use mysql_wire_statements::com_stmt_fetch::ComStmtFetch;
 use std::alloc::Allocator;
 use wire_const::{CapabilityFlags, Flags, MariadbCapabilities, StatusFlags};

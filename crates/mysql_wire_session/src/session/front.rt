@@ -6,11 +6,11 @@ ghost use Rattle.mysql_wire_session.specs.Readings.{advanced};
 ghost use Rattle.mysql_wire_session.specs.State.{state_of};
 
 use super::Session;
-use crate::packet::Received;
-use crate::packet_kind::PacketKind;
-use crate::phase::Phase;
-use crate::refusal::SessionError;
-use crate::side::Side;
+use mysql_wire_session_packets::packet::Received;
+use mysql_wire_session_packets::packet_kind::PacketKind;
+use mysql_wire_session_packets::phase::Phase;
+use mysql_wire_session_packets::refusal::SessionError;
+use mysql_wire_session_packets::side::Side;
 use std::alloc::Allocator;
 
 /// Why a session did not go on after the front of a packet. It is as it was.

@@ -3,9 +3,9 @@
 ghost use Rattle.std.specs.Prelude.{◌≡◌};
 ghost use Rattle.mysql_wire_session.specs.Advance.{after_answer, after_columns, after_definitions, command_phase, command_rows, counted_phase, done_phase, ended_phase, eof_phase, error_phase, failed_phase, is_zero, ok_phase, past_column, prepared_phase, server_phase, statement_columns};
 
-use crate::packet_kind::PacketKind;
-use crate::phase::{AfterColumns, Phase, RowForm};
 use mysql_wire_queries::column_count::ColumnCount;
+use mysql_wire_session_packets::packet_kind::PacketKind;
+use mysql_wire_session_packets::phase::{AfterColumns, Phase, RowForm};
 use mysql_wire_statements::com_stmt_prepare_ok::ComStmtPrepareOk;
 use wire_const::{Flags, StatusFlags};
 
