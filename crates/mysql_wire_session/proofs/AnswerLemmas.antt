@@ -19,7 +19,7 @@ use Rattle.mysql_wire_session_packets.specs.declared.phase.RowForm.TheVariants a
 use Rattle.mysql_wire_session_packets.specs.declared.refusal.Refusal.{Refusal}
 use Rattle.mysql_wire_session_packets.specs.declared.side.Side.{Side}
 use Rattle.mysql_wire_session_packets.specs.declared.side.Side.TheVariants.{Client, Server}
-use Rattle.mysql_wire_session.specs.Grammar.{Advances, Agreed, Agrees, AreColumns, AreExchanges, ConnectionIsFollowed, FollowsEach, IsLogin, SessionIsFollowed, AreDefined, AreEnded, AreResults, Counts, EachIsFollowed, EndsRows, EndsWell, Follows, FollowsExchange, IdleAtItsEnd, IsColumnCount, IsCommand, IsAuthentication, IsDefinition, IsEntry, IsEof, IsError, IsExchange, IsFetch, IsLetIn, IsOptionCommand, IsOptionOutcome, IsFileEnd, IsFileRequest, IsOk, IsOutcome, IsPiece, IsPlainCommand, IsPrepareAnswer, IsPrepared, IsReadAs, IsResult, IsRow, IsServers, IsStatistics, IsTableColumn, IsUnanswered, MayBeColumns, MaySend, Numbered, Reaches, Said, agreed_of, called_at, form_of}
+use Rattle.mysql_wire_session.specs.Grammar.{Advances, Agreed, Agrees, AreColumns, AreExchanges, ConnectionIsFollowed, FollowsEach, IsLogin, SessionIsFollowed, AreDefined, AreEnded, AreResults, Counts, EachIsFollowed, EndsRows, EndsWell, Follows, FollowsCommandUntil, FollowsExchange, FollowsUntil, IdleAtItsEnd, IsAnyLogin, IsClosed, IsDenied, IsIdle, IsLastExchange, IsNoGreeting, LastIsFollowed, RefusalIsFollowed, IsColumnCount, IsCommand, IsAuthentication, IsDefinition, IsEntry, IsEof, IsError, IsExchange, IsFetch, IsLetIn, IsOptionCommand, IsOptionOutcome, IsFileEnd, IsFileRequest, IsOk, IsOutcome, IsPiece, IsPlainCommand, IsPrepareAnswer, IsPrepared, IsReadAs, IsResult, IsRow, IsServers, IsStatistics, IsTableColumn, IsUnanswered, MayBeColumns, MaySend, Numbered, Reaches, Said, agreed_of, called_at, form_of}
 use Rattle.mysql_wire_session.specs.Advance.{after_column, after_columns, after_definitions, applied, client_state_after, counted_phase, ended_phase, id_after, noted, opened, prepared_phase, remembered, state_after, statement_columns, status_of, without_eof}
 use Rattle.mysql_wire_session.specs.State.{SessionState, expectation_of, initial_state, statement_of}
 use Rattle.mysql_wire_session.specs.Readings.{IsEnd, IsExecution, IsExecutionOf, IsQuery as ReadsQuery, IsRead, ReadsAs, after_packet, is_ended_by_ok, statement_named}
@@ -39,6 +39,7 @@ use Rattle.mysql_wire_session.specs.contracts.payload.ComQueryPayload.TheImpl as
 use Rattle.mysql_wire_session.specs.contracts.payload.ComQueryWithAttributesPayload.TheImpl as query_type_with
 use Rattle.mysql_wire_session.specs.contracts.payload.ComStmtExecutePayload.TheImpl as execute_type
 use Rattle.mysql_wire_session.specs.contracts.payload.ComPingPayload.TheImpl as ping_type
+use Rattle.mysql_wire_session.specs.contracts.payload.ComQuitPayload.TheImpl as quit_type
 use Rattle.mysql_wire_session.specs.contracts.payload.ComStmtClosePayload.TheImpl as close_type
 use Rattle.mysql_wire_session.specs.contracts.payload.ComStmtPrepareOkPayload.TheImpl as prepared_type
 use Rattle.mysql_wire_session.specs.contracts.payload.ComStmtPreparePayload.TheImpl as prepare_type
@@ -104,34 +105,44 @@ read_or_not variant reads payload shown (inr (error, refusal, is, refuses, shown
 -- ---- a step
 
 -- whatever its type makes of a packet that is called so, the rest is followed
-abbrev Then : Agreed → SessionState → Side → PacketKind → Said → List Said → Type 0
-Then A state side called said rest =
-    (shown : Packet) → ReadsAs (opened called (length said.payload) state) called said.payload shown → Follows A (after_packet side said.id called said.payload shown state) rest
+abbrev Then : (SessionState → Type 0) → SessionState → Side → PacketKind → Said → List Said → Type 0
+Then ends state side called said rest =
+    (shown : Packet) → ReadsAs (opened called (length said.payload) state) called said.payload shown → FollowsUntil ends (after_packet side said.id called said.payload shown state) rest
 
 -- so it is after the packet
-goes_on : (A : Agreed) (state : SessionState) (side : Side) (said : Said) (rest : List Said) (called : PacketKind) → said.side ≡ side → called_at state said ≡ called
-    → Then A state side called said rest → (next : SessionState) → Advances state said next → Follows A next rest
-goes_on A state side said rest called side_is so then next on =
+goes_on : (ends : SessionState → Type 0) (state : SessionState) (side : Side) (said : Said) (rest : List Said) (called : PacketKind) → said.side ≡ side → called_at state said ≡ called
+    → Then ends state side called said rest → (next : SessionState) → Advances state said next → FollowsUntil ends next rest
+goes_on ends state side said rest called side_is so then next on =
     let reads = subst (λ (k : PacketKind). ReadsAs (opened k (length said.payload) state) k said.payload on.read) so on.reads in
     let goes : next ≡ after_packet side said.id called said.payload on.read state =
     (on.goes_on ∙ ap (λ (k : PacketKind). after_packet said.side said.id k said.payload on.read state) so
     ∙ ap (λ (s : Side). after_packet s said.id called said.payload on.read state) side_is) in
-    subst (λ (k : SessionState). Follows A k rest) (sym goes) (then on.read reads)
+    subst (λ (k : SessionState). FollowsUntil ends k rest) (sym goes) (then on.read reads)
 
 -- a server's packet of the grammar is named as it names it, and then the rest
+goes_until : (ends : SessionState → Type 0) (state : SessionState) (said : Said) (rest : List Said) (first : ℕ) (called : PacketKind) → is_idle state.phase ≡ false → MaySend (next_sender state.phase) Server
+    → IsServers first called said → called_at state said ≡ called
+    → Then ends state Server called said rest → FollowsUntil ends state (said ∷ rest)
+goes_until ends state said rest first called busy may is so then =
+    (busy, subst (λ (s : Side). MaySend (next_sender state.phase) s) (sym is.side) may, so ∙ sym is.kind_is, goes_on ends state Server said rest called is.side so then)
+
 goes : (A : Agreed) (state : SessionState) (said : Said) (rest : List Said) (first : ℕ) (called : PacketKind) → is_idle state.phase ≡ false → MaySend (next_sender state.phase) Server
     → IsServers first called said → called_at state said ≡ called
-    → Then A state Server called said rest → Follows A state (said ∷ rest)
-goes A state said rest first called busy may is so then =
-    (busy, subst (λ (s : Side). MaySend (next_sender state.phase) s) (sym is.side) may, so ∙ sym is.kind_is, goes_on A state Server said rest called is.side so then)
+    → Then (IsIdle A) state Server called said rest → Follows A state (said ∷ rest)
+goes A = goes_until (IsIdle A)
 
 -- the same of a client's packet
+client_goes_until : (ends : SessionState → Type 0) (state : SessionState) (said : Said) (rest : List Said) (called : PacketKind) → is_idle state.phase ≡ false → MaySend (next_sender state.phase) Client
+    → said.side ≡ Client → said.kind ≡ called → client_kind (expectation_of state) said.id (first_byte said.payload) (length said.payload) ≡ called
+    → Then ends state Client called said rest → FollowsUntil ends state (said ∷ rest)
+client_goes_until ends state said rest called busy may side kind_is called_so then =
+    let so : called_at state said ≡ called = rw side called_so in
+    (busy, subst (λ (s : Side). MaySend (next_sender state.phase) s) (sym side) may, so ∙ sym kind_is, goes_on ends state Client said rest called side so then)
+
 client_goes : (A : Agreed) (state : SessionState) (said : Said) (rest : List Said) (called : PacketKind) → is_idle state.phase ≡ false → MaySend (next_sender state.phase) Client
     → said.side ≡ Client → said.kind ≡ called → client_kind (expectation_of state) said.id (first_byte said.payload) (length said.payload) ≡ called
-    → Then A state Client called said rest → Follows A state (said ∷ rest)
-client_goes A state said rest called busy may side kind_is called_so then =
-    let so : called_at state said ≡ called = rw side called_so in
-    (busy, subst (λ (s : Side). MaySend (next_sender state.phase) s) (sym side) may, so ∙ sym kind_is, goes_on A state Client said rest called side so then)
+    → Then (IsIdle A) state Client called said rest → Follows A state (said ∷ rest)
+client_goes A = client_goes_until (IsIdle A)
 
 -- ---- the first packet of an answer
 
@@ -447,16 +458,20 @@ results_go agreed (result ∷ next ∷ results) (is, are) state =
 -- ---- a command
 
 -- a command, and its answer
-command_goes : (state : SessionState) (number : ℕ) (called : PacketKind) (said : Said) (answer : List Said) → state.phase ≡ phase.Command → IsCommand number called said
+command_goes_until : (ends : SessionState → Type 0) (state : SessionState) (number : ℕ) (called : PacketKind) (said : Said) (answer : List Said) → state.phase ≡ phase.Command → IsCommand number called said
     → client_kind (record (expectation_of state) { phase = phase.Command }) 0 (Some number) (length said.payload) ≡ called
-    → ((shown : Packet) → ReadsAs (opened called (length said.payload) state) called said.payload shown → Follows (agreed_of state) (after_packet Client said.id called said.payload shown state) answer)
-    → FollowsExchange state (said ∷ answer)
-command_goes state number called said answer at is called_so then =
+    → Then ends state Client called said answer → FollowsCommandUntil ends state (said ∷ answer)
+command_goes_until ends state number called said answer at is called_so then =
     let so : called_at state said ≡ called = rw (is.side, is.begins, is.first_is, at) called_so in (
       rw (at, is.side) refl,
       so ∙ sym is.kind_is,
-      goes_on (agreed_of state) state Client said answer called is.side so then,
+      goes_on ends state Client said answer called is.side so then,
     )
+
+command_goes : (state : SessionState) (number : ℕ) (called : PacketKind) (said : Said) (answer : List Said) → state.phase ≡ phase.Command → IsCommand number called said
+    → client_kind (record (expectation_of state) { phase = phase.Command }) 0 (Some number) (length said.payload) ≡ called
+    → Then (IsIdle (agreed_of state)) state Client called said answer → FollowsExchange state (said ∷ answer)
+command_goes state = command_goes_until (IsIdle (agreed_of state)) state
 
 -- what a type makes of a packet, or that it refuses it
 of_read : {X : Type 0} (variant : X → Packet) (reads : List ℕ → Result X PayloadError → Type 0) (payload : List ℕ) (shown : Packet) (P : Packet → Type 0)
@@ -735,27 +750,32 @@ abbrev attached : Agreed → SessionState → SessionState
 attached agreed state =
     record state { phase = phase.Authentication; is_eof_deprecated = agreed.is_eof_deprecated; capabilities = agreed.capabilities; mariadb = agreed.mariadb }
 
-abbrev Attends : Agreed → List Said → Type 0
-Attends agreed rest = (state : SessionState) → Follows (settled agreed) (attached agreed state) rest
+abbrev Attends : (SessionState → Type 0) → Agreed → List Said → Type 0
+Attends ends agreed rest = (state : SessionState) → FollowsUntil ends (attached agreed state) rest
 
-step_goes : (agreed : Agreed) (said : Said) (rest : List Said) → IsAuthentication said → Attends agreed rest → Attends agreed (said ∷ rest)
-step_goes agreed said rest (inl is) then state =
-    goes (settled agreed) (attached agreed state) said rest 0xfe kind.AuthSwitch refl tt is
+step_goes : (ends : SessionState → Type 0) (agreed : Agreed) (said : Said) (rest : List Said) → IsAuthentication said → Attends ends agreed rest → Attends ends agreed (said ∷ rest)
+step_goes ends agreed said rest (inl is) then state =
+    goes_until ends (attached agreed state) said rest 0xfe kind.AuthSwitch refl tt is
     (named_as (attached agreed state) said 0xfe kind.AuthSwitch is (no_report said.payload 0xfe is.first_is (λ same. omega (arith, same))))
     (λ shown reads. of_read packet.AuthSwitch (switch_type.ghosts.reads_whole tt) said.payload shown
-    (λ (p : Packet). Follows (settled agreed) (after_packet Server said.id kind.AuthSwitch said.payload p (attached agreed state)) rest) (λ read. then (numbered state said)) (λ refusal. then (numbered state said)) reads)
-step_goes agreed said rest (inr (inl is)) then state =
-    goes (settled agreed) (attached agreed state) said rest 0x01 kind.AuthMoreData refl tt is
+    (λ (p : Packet). FollowsUntil ends (after_packet Server said.id kind.AuthSwitch said.payload p (attached agreed state)) rest) (λ read. then (numbered state said)) (λ refusal. then (numbered state said)) reads)
+step_goes ends agreed said rest (inr (inl is)) then state =
+    goes_until ends (attached agreed state) said rest 0x01 kind.AuthMoreData refl tt is
     (named_as (attached agreed state) said 0x01 kind.AuthMoreData is (no_report said.payload 0x01 is.first_is (λ same. omega (arith, same))))
     (λ shown reads. of_read packet.AuthMoreData (more_type.ghosts.reads_whole tt) said.payload shown
-    (λ (p : Packet). Follows (settled agreed) (after_packet Server said.id kind.AuthMoreData said.payload p (attached agreed state)) rest) (λ read. then (numbered state said)) (λ refusal. then (numbered state said)) reads)
-step_goes agreed said rest (inr (inr (side, later, kind_is))) then state =
-    client_goes (settled agreed) (attached agreed state) said rest kind.AuthAnswer refl tt side kind_is
+    (λ (p : Packet). FollowsUntil ends (after_packet Server said.id kind.AuthMoreData said.payload p (attached agreed state)) rest) (λ read. then (numbered state said)) (λ refusal. then (numbered state said)) reads)
+step_goes ends agreed said rest (inr (inr (side, later, kind_is))) then state =
+    client_goes_until ends (attached agreed state) said rest kind.AuthAnswer refl tt side kind_is
     (rw (ne_eqb said.id 0 later) refl)
     (λ shown reads. of_read packet.AuthAnswer (answer_type.ghosts.reads_whole tt) said.payload shown
-    (λ (p : Packet). Follows (settled agreed) (after_packet Client said.id kind.AuthAnswer said.payload p (attached agreed state)) rest) (λ read. then (numbered state said)) (λ refusal. then (numbered state said)) reads)
+    (λ (p : Packet). FollowsUntil ends (after_packet Client said.id kind.AuthAnswer said.payload p (attached agreed state)) rest) (λ read. then (numbered state said)) (λ refusal. then (numbered state said)) reads)
 
-entry_goes : (agreed : Agreed) (said : Said) → IsEntry agreed said → Attends agreed (said ∷ [])
+steps_go : (ends : SessionState → Type 0) (agreed : Agreed) (steps : List Said) (last : Said) → AllByRecursion IsAuthentication steps → Attends ends agreed (last ∷ []) → Attends ends agreed (steps ++ last ∷ [])
+steps_go ends agreed [] last are then state = then state
+steps_go ends agreed (step ∷ steps) last (is, are) then state =
+    step_goes ends agreed step (steps ++ last ∷ []) is (steps_go ends agreed steps last are then) state
+
+entry_goes : (agreed : Agreed) (said : Said) → IsEntry agreed said → Attends (IsIdle (settled agreed)) agreed (said ∷ [])
 entry_goes agreed said is state =
     goes (settled agreed) (attached agreed state) said [] 0x00 kind.Ok refl tt is.is
     (named_as (attached agreed state) said 0x00 kind.Ok is.is (no_report said.payload 0x00 is.is.first_is (λ same. omega (arith, same))))
@@ -763,15 +783,22 @@ entry_goes agreed said is state =
     let read = read_is packet.Ok ((ok_type.ghosts (number 0x00)).reads_whole (ok_form agreed.capabilities)) (λ (ok : OkForm 0x00). Unit {0}) said.payload shown is.reads reads in
     rw read.2 (refl, refl))
 
-steps_go : (agreed : Agreed) (steps : List Said) (entry : Said) → AllByRecursion IsAuthentication steps → IsEntry agreed entry → Attends agreed (steps ++ entry ∷ [])
-steps_go agreed [] entry are enters state = entry_goes agreed entry enters state
-steps_go agreed (step ∷ steps) entry (is, are) enters state =
-    step_goes agreed step (steps ++ entry ∷ []) is (steps_go agreed steps entry are enters) state
-
-let_in_goes : (agreed : Agreed) (said : List Said) → IsLetIn agreed said → Attends agreed said
+let_in_goes : (agreed : Agreed) (said : List Said) → IsLetIn agreed said → Attends (IsIdle (settled agreed)) agreed said
 let_in_goes agreed said is state =
     subst (λ (said : List Said). Follows (settled agreed) (attached agreed state) said) (sym is.whole)
-    (steps_go agreed is.steps is.entry (recursion_from_All IsAuthentication is.steps is.are_steps) is.enters state)
+    (steps_go (IsIdle (settled agreed)) agreed is.steps is.entry (recursion_from_All IsAuthentication is.steps is.are_steps) (entry_goes agreed is.entry is.enters) state)
+
+denial_goes : (agreed : Agreed) (said : Said) → IsError said → Attends IsClosed agreed (said ∷ [])
+denial_goes agreed said is state =
+    goes_until IsClosed (attached agreed state) said [] 0xff kind.Error refl tt is.is
+    (named_as (attached agreed state) said 0xff kind.Error is.is is.is_no_report)
+    (λ shown reads. of_read packet.Error (error_type.ghosts.reads_whole agreed.capabilities) said.payload shown
+    (λ (p : Packet). FollowsUntil IsClosed (after_packet Server said.id kind.Error said.payload p (attached agreed state)) []) (λ read. (refl, refl)) (λ refusal. (refl, refl)) reads)
+
+denied_goes : (agreed : Agreed) (said : List Said) → IsDenied said → Attends IsClosed agreed said
+denied_goes agreed said is state =
+    subst (λ (said : List Said). FollowsUntil IsClosed (attached agreed state) said) (sym is.whole)
+    (steps_go IsClosed agreed is.steps is.denial (recursion_from_All IsAuthentication is.steps is.are_steps) (denial_goes agreed is.denial is.denies) state)
 
 -- ---- every exchange
 
@@ -873,8 +900,8 @@ greeted id = record initial_state { phase = phase.Login; next_id = id }
 
 login_goes : (agreed : Agreed) (id : ℕ) (login : Said) (rest : List Said) → IsLogin agreed login → IsLetIn agreed rest → Follows (settled agreed) (greeted id) (login ∷ rest)
 login_goes agreed id login rest is enters =
-    client_goes (settled agreed) (greeted id) login rest kind.Login refl refl is.side is.kind_is
-    (rw (ne_eqb login.id 0 is.later, ne_eqb (length login.payload) 32 is.no_tls) refl)
+    client_goes (settled agreed) (greeted id) login rest kind.Login refl refl is.is.side is.is.kind_is
+    (rw (ne_eqb login.id 0 is.is.later, ne_eqb (length login.payload) 32 is.is.no_tls) refl)
     (λ shown reads.
     let read = read_is packet.Login (login_type.ghosts.reads_whole tt) (Agrees agreed) login.payload shown is.reads reads in
     let base : SessionState = record initial_state { next_id = id_after login.id (length login.payload) } in
@@ -885,23 +912,71 @@ login_goes agreed id login rest is enters =
     subst (λ (p : Packet). Follows (settled agreed) (after_packet Client login.id kind.Login login.payload p (greeted id)) rest) (sym read.2)
     (subst (λ (k : SessionState). Follows (settled agreed) k rest) same (let_in_goes agreed rest enters base)))
 
-greeting_goes : (agreed : Agreed) (greeting login : Said) (rest : List Said) → IsServers 0x0a kind.Greeting greeting → greeting.id ≡ 0 → IsLogin agreed login → IsLetIn agreed rest
-    → Follows (settled agreed) initial_state (greeting ∷ login ∷ rest)
-greeting_goes agreed greeting login rest is begins logs_in enters =
-    goes (settled agreed) initial_state greeting (login ∷ rest) 0x0a kind.Greeting refl refl is
+greeting_goes : (ends : SessionState → Type 0) (greeting : Said) (rest : List Said) → IsServers 0x0a kind.Greeting greeting → greeting.id ≡ 0
+    → ((id : ℕ) → FollowsUntil ends (greeted id) rest) → FollowsUntil ends initial_state (greeting ∷ rest)
+greeting_goes ends greeting rest is begins then =
+    goes_until ends initial_state greeting rest 0x0a kind.Greeting refl refl is
     (named_as initial_state greeting 0x0a kind.Greeting is (no_report greeting.payload 0x0a is.first_is (λ same. omega (arith, same)))
     ∙ rw begins refl)
     (λ shown reads. of_read packet.Greeting (greeting_type.ghosts.reads_whole tt) greeting.payload shown
-    (λ (p : Packet). Follows (settled agreed) (after_packet Server greeting.id kind.Greeting greeting.payload p initial_state) (login ∷ rest))
-    (λ read. login_goes agreed (id_after greeting.id (length greeting.payload)) login rest logs_in enters)
-    (λ refusal. login_goes agreed (id_after greeting.id (length greeting.payload)) login rest logs_in enters) reads)
+    (λ (p : Packet). FollowsUntil ends (after_packet Server greeting.id kind.Greeting greeting.payload p initial_state) rest)
+    (λ read. then (id_after greeting.id (length greeting.payload)))
+    (λ refusal. then (id_after greeting.id (length greeting.payload))) reads)
 
 pub connection_is_followed : ConnectionIsFollowed
 connection_is_followed agreed said is =
     let same : settled agreed ≡ agreed = ap (λ (b : Bool). record agreed { is_binary = b }) (sym is.no_rows) in
     subst (λ (A : Agreed). Follows A initial_state said) same
     (subst (λ (said : List Said). Follows (settled agreed) initial_state said) (sym is.whole)
-    (greeting_goes agreed is.greeting is.login is.rest is.greets is.begins is.logs_in is.is_let_in))
+    (greeting_goes (IsIdle (settled agreed)) is.greeting (is.login ∷ is.rest) is.greets is.begins
+    (λ id. login_goes agreed id is.login is.rest is.logs_in is.is_let_in)))
+
+-- ---- the end of a session
+
+denied_login_goes : (id : ℕ) (login : Said) (rest : List Said) → IsAnyLogin login → IsDenied rest → FollowsUntil IsClosed (greeted id) (login ∷ rest)
+denied_login_goes id login rest is denied =
+    client_goes_until IsClosed (greeted id) login rest kind.Login refl refl is.side is.kind_is
+    (rw (ne_eqb login.id 0 is.later, ne_eqb (length login.payload) 32 is.no_tls) refl)
+    (λ shown reads. of_read packet.Login (login_type.ghosts.reads_whole tt) login.payload shown
+    (λ (p : Packet). FollowsUntil IsClosed (after_packet Client login.id kind.Login login.payload p (greeted id)) rest)
+    (λ read. let after : SessionState = after_packet Client login.id kind.Login login.payload (packet.Login read) (greeted id) in
+    denied_goes (agreed_of after) rest denied after)
+    (λ refusal. let after : SessionState = after_packet Client login.id kind.Login login.payload (packet.Refused refusal) (greeted id) in
+    denied_goes (agreed_of after) rest denied after) reads)
+
+-- an error that is read closes a session that begins
+no_greeting_goes : (said : Said) → IsNoGreeting said → FollowsUntil IsClosed initial_state (said ∷ [])
+no_greeting_goes said is =
+    goes_until IsClosed initial_state said [] 0xff kind.Error refl refl is.is.is
+    (named_as initial_state said 0xff kind.Error is.is.is is.is.is_no_report ∙ rw is.begins refl)
+    (λ shown reads.
+    let read = read_is packet.Error (error_type.ghosts.reads_whole (record { 0 = 0 })) (λ error. Unit {0}) said.payload shown is.reads reads in
+    rw read.2 (refl, refl))
+
+pub refusal_is_followed : RefusalIsFollowed
+refusal_is_followed said (inl (one, is, only)) =
+    subst (λ (said : List Said). FollowsUntil IsClosed initial_state said) (sym only) (no_greeting_goes one is)
+refusal_is_followed said (inr is) =
+    subst (λ (said : List Said). FollowsUntil IsClosed initial_state said) (sym is.whole)
+    (greeting_goes IsClosed is.greeting (is.login ∷ is.rest) is.greets is.begins
+    (λ id. denied_login_goes id is.login is.rest is.logs_in is.is_denied))
+
+last_goes : (state : SessionState) (said : List Said) → state.phase ≡ phase.Command → IsLastExchange said → FollowsCommandUntil IsClosed state said
+last_goes state [] at last = absurd last
+last_goes state (quit ∷ answer) at (inl (is, none)) =
+    subst (λ (answer : List Said). FollowsCommandUntil IsClosed state (quit ∷ answer)) (sym none)
+    (command_goes_until IsClosed state 0x01 kind.Quit quit [] at is refl
+    (λ shown reads. of_read _ (quit_type.ghosts.reads_whole tt) quit.payload shown
+    (λ (p : Packet). FollowsUntil IsClosed (after_packet Client quit.id kind.Quit quit.payload p state) []) (λ read. (refl, refl)) (λ refusal. (refl, refl)) reads))
+last_goes state (change ∷ answer) at (inr (is, denied)) =
+    command_goes_until IsClosed state 0x11 kind.ChangeUser change answer at is refl
+    (λ shown reads. of_read _ (change_type.ghosts.reads_whole state.capabilities) change.payload shown
+    (λ (p : Packet). FollowsUntil IsClosed (after_packet Client change.id kind.ChangeUser change.payload p state) answer)
+    (λ read. denied_goes (agreed_of state) answer denied (record (numbered state change) { row_form = form.Text }))
+    (λ refusal. denied_goes (agreed_of state) answer denied (record (numbered state change) { row_form = form.Text })) reads)
+
+pub last_is_followed : LastIsFollowed
+last_is_followed state said idle last = last_goes state said (is_command_phase state.phase idle) last
 
 -- ---- a session
 

@@ -94,9 +94,11 @@ client_state_after kind.File len state =
 client_state_after named len state =
     record state { phase = command_phase named; row_form = command_rows named }
 
--- after an error; a server may begin with one, and lets a client that it refuses say no more
+-- after an error; a server may begin with one, and lets a client that it refuses, or that hasn't
+-- logged in, say no more
 abbrev pub error_phase : Phase → Phase
 error_phase phase.Greeting = phase.Login
+error_phase phase.Login = phase.Closed
 error_phase phase.Authentication = phase.Closed
 error_phase at = phase.Command
 

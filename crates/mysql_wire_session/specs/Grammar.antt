@@ -6,6 +6,7 @@ use Rattle.mysql_wire_session_packets.specs.declared.packet.Packet.{Packet}
 use Rattle.mysql_wire_session.specs.Kinds.{first_byte, is_report}
 use Rattle.mysql_wire_session_packets.specs.declared.packet_kind.PacketKind.{PacketKind}
 use Rattle.mysql_wire_session_packets.specs.declared.packet_kind.PacketKind.TheVariants as kind
+use Rattle.mysql_wire_session_packets.specs.declared.phase.Phase.TheVariants as phase
 use Rattle.mysql_wire_session_packets.specs.declared.phase.RowForm.{RowForm}
 use Rattle.mysql_wire_session_packets.specs.declared.phase.RowForm.TheVariants as form
 use Rattle.mysql_wire_session_packets.specs.declared.refusal.Refusal.{Refusal}
@@ -21,6 +22,7 @@ use Rattle.mysql_wire_session_packets.specs.Refusals.{refusal_of}
 use Rattle.mysql_wire_session.specs.contracts.payload.ColumnCountPayload.TheImpl as count_type
 use Rattle.mysql_wire_session.specs.contracts.payload.ComStmtPrepareOkPayload.TheImpl as prepared_type
 use Rattle.mysql_wire_session.specs.contracts.payload.EofPacketPayload.TheImpl as eof_type
+use Rattle.mysql_wire_session.specs.contracts.payload.ErrPacketPayload.TheImpl as error_type
 use Rattle.mysql_wire_session.specs.contracts.payload.LocalInfileRequestPayload.TheImpl as file_type
 use Rattle.mysql_wire_session.specs.contracts.payload.OkFormPayload.TheImpl as ok_type
 use denote.Param.{number}
@@ -401,11 +403,15 @@ pub record Agrees (agreed : Agreed) (login : HandshakeResponse41) : Type 0 where
       ≡ mariadb_of login.client_flag.0 login.mariadb_capabilities.0 (record { 0 = 0 })
 
 -- the client logs in; 32 bytes would be a request for TLS
-pub record IsLogin (agreed : Agreed) (said : Said) : Type 0 where
+pub record IsAnyLogin (said : Said) : Type 0 where
   pub side : said.side ≡ Client
   pub later : said.id ≢ 0
   pub no_tls : length said.payload ≢ 32
   pub kind_is : said.kind ≡ kind.Login
+
+-- the same, which says what was agreed on
+pub record IsLogin (agreed : Agreed) (said : Said) : Type 0 where
+  pub is : IsAnyLogin said
   pub reads : IsReadAs (login_type.ghosts.reads_whole tt said.payload) (Agrees agreed)
 
 -- the server greets, the client logs in, and is in
@@ -419,6 +425,45 @@ pub record IsConnection (agreed : Agreed) (said : List Said) : Type 0 where
   pub logs_in : IsLogin agreed login
   pub is_let_in : IsLetIn agreed rest
   pub whole : said ≡ greeting ∷ login ∷ rest
+
+-- ---- the end of a session
+
+-- while the client authenticates itself, the server denies it
+pub record IsDenied (said : List Said) : Type 0 where
+  pub steps : List Said
+  pub denial : Said
+  pub are_steps : All IsAuthentication steps
+  pub denies : IsError denial
+  pub whole : said ≡ steps ++ denial ∷ []
+
+-- an error in place of a greeting, as of a host that is blocked; no capabilities are in force
+pub record IsNoGreeting (said : Said) : Type 0 where
+  pub is : IsError said
+  pub begins : said.id ≡ 0
+  pub reads : IsReadAs (error_type.ghosts.reads_whole (record { 0 = 0 }) said.payload)
+      (λ error. Unit {0})
+
+-- the server greets, and the client's login is denied
+pub record IsDeniedConnection (said : List Said) : Type 0 where
+  pub greeting : Said
+  pub login : Said
+  pub rest : List Said
+  pub greets : IsServers 0x0a kind.Greeting greeting
+  pub begins : greeting.id ≡ 0
+  pub logs_in : IsAnyLogin login
+  pub is_denied : IsDenied rest
+  pub whole : said ≡ greeting ∷ login ∷ rest
+
+-- a connection phase after which the server closes the connection
+abbrev pub IsRefusedConnection : List Said → Type 0
+IsRefusedConnection said = IsAlone IsNoGreeting said ⊎ IsDeniedConnection said
+
+-- what ends a session: COM_QUIT, which nothing answers, or a change of the user that is denied
+abbrev pub IsLastExchange : List Said → Type 0
+IsLastExchange [] = ⊥
+IsLastExchange (command ∷ answer) =
+    (IsCommand 0x01 kind.Quit command × (answer ≡ []))
+    ⊎ (IsCommand 0x11 kind.ChangeUser command × IsDenied answer)
 
 -- ---- a session that follows
 
@@ -450,20 +495,34 @@ agreed_of state =
     }
 
 -- before each packet the session isn't idle, and its side may send; it is taken for what the grammar
--- calls it; and after the last the session is idle, under this agreement
-abbrev pub Follows : Agreed → SessionState → List Said → Type 0
-Follows agreed state [] = (is_idle state.phase ≡ true) × (agreed_of state ≡ agreed)
-Follows agreed state (said ∷ more) =
+-- calls it; and after the last this holds
+abbrev pub FollowsUntil : (SessionState → Type 0) → SessionState → List Said → Type 0
+FollowsUntil ends state [] = ends state
+FollowsUntil ends state (said ∷ more) =
     (is_idle state.phase ≡ false) × MaySend (next_sender state.phase) said.side
     × (called_at state said ≡ said.kind)
-    × ((next : SessionState) → Advances state said next → Follows agreed next more)
+    × ((next : SessionState) → Advances state said next → FollowsUntil ends next more)
 
 -- the same from a command on, for which the session was idle
-abbrev pub FollowsExchange : SessionState → List Said → Type 0
-FollowsExchange state [] = ⊥
-FollowsExchange state (said ∷ more) =
+abbrev pub FollowsCommandUntil : (SessionState → Type 0) → SessionState → List Said → Type 0
+FollowsCommandUntil ends state [] = ⊥
+FollowsCommandUntil ends state (said ∷ more) =
     MaySend (next_sender state.phase) said.side × (called_at state said ≡ said.kind)
-    × ((next : SessionState) → Advances state said next → Follows (agreed_of state) next more)
+    × ((next : SessionState) → Advances state said next → FollowsUntil ends next more)
+
+-- the session is idle, under this agreement
+abbrev pub IsIdle : Agreed → SessionState → Type 0
+IsIdle agreed state = (is_idle state.phase ≡ true) × (agreed_of state ≡ agreed)
+
+-- the session is closed, and not idle
+abbrev pub IsClosed : SessionState → Type 0
+IsClosed state = (state.phase ≡ phase.Closed) × (is_idle state.phase ≡ false)
+
+abbrev pub Follows : Agreed → SessionState → List Said → Type 0
+Follows agreed state said = FollowsUntil (IsIdle agreed) state said
+
+abbrev pub FollowsExchange : SessionState → List Said → Type 0
+FollowsExchange state said = FollowsCommandUntil (IsIdle (agreed_of state)) state said
 
 -- an idle session follows each exchange, packet by packet
 abbrev pub EachIsFollowed : Type 0
@@ -476,6 +535,17 @@ abbrev pub ConnectionIsFollowed : Type 0
 ConnectionIsFollowed =
     (agreed : Agreed) (said : List Said) → IsConnection agreed said
     → Follows agreed initial_state said
+
+-- an idle session follows what ends it, and is closed
+abbrev pub LastIsFollowed : Type 0
+LastIsFollowed =
+    (state : SessionState) (said : List Said) → is_idle state.phase ≡ true → IsLastExchange said
+    → FollowsCommandUntil IsClosed state said
+
+-- a session that begins follows a connection phase that the server refuses, and is closed
+abbrev pub RefusalIsFollowed : Type 0
+RefusalIsFollowed =
+    (said : List Said) → IsRefusedConnection said → FollowsUntil IsClosed initial_state said
 
 -- after these packets this may be known
 abbrev pub Reaches : SessionState → List Said → SessionState → Type 0

@@ -2,7 +2,7 @@
 //!
 //! Each function does nothing: its contract is the law, and a caller has it by calling.
 
-ghost use Rattle.mysql_wire_session.specs.Grammar.{ConnectionIsFollowed, EachIsFollowed, IdleAtItsEnd, SessionIsFollowed};
+ghost use Rattle.mysql_wire_session.specs.Grammar.{ConnectionIsFollowed, EachIsFollowed, IdleAtItsEnd, LastIsFollowed, RefusalIsFollowed, SessionIsFollowed};
 
 /// An idle session takes each packet of an exchange for what MySQL's pages call it, and says whose
 /// packet is next.
@@ -27,4 +27,18 @@ pub fn connection_is_followed()
 /// A whole session, the connection phase and then exchanges, is followed packet by packet.
 pub fn session_is_followed()
     ensures { SessionIsFollowed }
+{}
+
+/// A connection phase that the server refuses, by an error in place of a greeting or after the login,
+/// is followed packet by packet, and the session is closed.
+#[tactic(auto, using(crate::proofs::AnswerLemmas::refusal_is_followed))]
+pub fn refusal_is_followed()
+    ensures { RefusalIsFollowed }
+{}
+
+/// `COM_QUIT`, and a change of the user that is denied, are followed packet by packet, and the
+/// session is closed.
+#[tactic(auto, using(crate::proofs::AnswerLemmas::last_is_followed))]
+pub fn last_is_followed()
+    ensures { LastIsFollowed }
 {}

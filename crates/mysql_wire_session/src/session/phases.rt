@@ -88,13 +88,14 @@ pub fn command_rows(kind: PacketKind) -> RowForm
     }
 }
 
-// After an error. A server may begin with one, and lets a client that it refuses say no more.
+// After an error. A server may begin with one, and lets a client that it refuses, or that hasn't
+// logged in, say no more.
 fn error_phase(phase: Phase) -> Phase
     ensures { result ≡ error_phase phase }
 {
     match phase {
         Phase::Greeting => Phase::Login,
-        Phase::Authentication => Phase::Closed,
+        Phase::Login | Phase::Authentication => Phase::Closed,
         _ => Phase::Command,
     }
 }
