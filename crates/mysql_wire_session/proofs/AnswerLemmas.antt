@@ -19,7 +19,7 @@ use Rattle.mysql_wire_session_packets.specs.declared.phase.RowForm.TheVariants a
 use Rattle.mysql_wire_session_packets.specs.declared.refusal.Refusal.{Refusal}
 use Rattle.mysql_wire_session_packets.specs.declared.side.Side.{Side}
 use Rattle.mysql_wire_session_packets.specs.declared.side.Side.TheVariants.{Client, Server}
-use Rattle.mysql_wire_session.specs.Grammar.{Advances, Agreed, Agrees, AreColumns, AreExchanges, ConnectionIsFollowed, FollowsEach, IsLogin, SessionIsFollowed, AreDefined, AreEnded, AreResults, Counts, EachIsFollowed, EndsRows, EndsWell, Follows, FollowsCommandUntil, FollowsExchange, FollowsUntil, IdleAtItsEnd, IsAnyLogin, IsClosed, IsDenied, IsIdle, IsLastExchange, IsNoGreeting, LastIsFollowed, RefusalIsFollowed, IsColumnCount, IsCommand, IsAuthentication, IsDefinition, IsEntry, IsEof, IsError, IsExchange, IsFetch, IsLetIn, IsOptionCommand, IsOptionOutcome, IsFileEnd, IsFileRequest, IsOk, IsOutcome, IsPiece, IsPlainCommand, IsPrepareAnswer, IsPrepared, IsReadAs, IsResult, IsRow, IsServers, IsStatistics, IsTableColumn, IsUnanswered, MayBeColumns, MaySend, Numbered, Reaches, Said, agreed_of, called_at, form_of}
+use Rattle.mysql_wire_session.specs.Grammar.{Advances, Agreed, Agrees, AreColumns, AreExchanges, ConnectionIsFollowed, FollowsEach, IsLogin, SessionIsFollowed, AreDefined, AreEnded, AreResults, Counts, EachIsFollowed, EndsRows, EndsWell, Follows, FollowsCommandUntil, FollowsExchange, FollowsUntil, IdleAtItsEnd, IsAnyLogin, IsClosed, IsAnswered, IsDenied, IsEncrypted, IsIdle, IsLastExchange, IsNoGreeting, LastIsFollowed, IsTlsRequest, RefusalIsFollowed, TlsIsFollowed, IsColumnCount, IsCommand, IsAuthentication, IsDefinition, IsEntry, IsEof, IsError, IsExchange, IsFetch, IsLetIn, IsOptionCommand, IsOptionOutcome, IsFileEnd, IsFileRequest, IsOk, IsOutcome, IsPiece, IsPlainCommand, IsPrepareAnswer, IsPrepared, IsReadAs, IsResult, IsRow, IsServers, IsStatistics, IsTableColumn, IsUnanswered, MayBeColumns, MaySend, Numbered, Reaches, Said, agreed_of, called_at, form_of}
 use Rattle.mysql_wire_session.specs.Advance.{after_column, after_columns, after_definitions, applied, client_state_after, counted_phase, ended_phase, id_after, noted, opened, prepared_phase, remembered, state_after, statement_columns, status_of, without_eof}
 use Rattle.mysql_wire_session.specs.State.{SessionState, expectation_of, initial_state, statement_of}
 use Rattle.mysql_wire_session.specs.Readings.{IsEnd, IsExecution, IsExecutionOf, IsQuery as ReadsQuery, IsRead, ReadsAs, after_packet, is_ended_by_ok, statement_named}
@@ -53,6 +53,9 @@ use Rattle.mysql_wire_session.specs.contracts.payload.LocalInfileRequestPayload.
 use Rattle.wire_const.specs.declared.flag_sets.capability.CapabilityFlags.{CapabilityFlags}
 use Rattle.wire_const.specs.declared.flag_sets.mariadb.MariadbCapabilities.{MariadbCapabilities}
 use Rattle.mysql_wire_session.specs.contracts.payload.OkFormPayload.TheImpl as ok_type
+use Rattle.mysql_wire_session.specs.contracts.payload.SslRequestPayload.TheImpl as tls_type
+use Rattle.mysql_wire_session.proofs.ReportLemmas.{with_reports}
+use Rattle.mysql_wire_connection.specs.declared.ssl_request.SslRequest.{SslRequest}
 use Rattle.mysql_wire_packets.specs.declared.eof_packet.EofPacket.{EofPacket}
 use Rattle.mysql_wire_packets.specs.declared.ok_packet.OkForm.{OkForm}
 use Rattle.mysql_wire_packets.specs.declared.places.PayloadError.{PayloadError}
@@ -821,53 +824,59 @@ is_command_phase phase.File idle = cc
 is_command_phase phase.Closed idle = cc
 is_command_phase phase.Encrypted idle = cc
 
-followed : (state : SessionState) (said : List Said) → state.phase ≡ phase.Command → IsExchange (agreed_of state) state.statements said → FollowsExchange state said
-followed state [] at exchange = absurd exchange
-followed state (query ∷ answer) at (inl (is, (results, are, whole))) =
+answered : (state : SessionState) (query : Said) (answer : List Said) → state.phase ≡ phase.Command → IsAnswered (agreed_of state) state.statements query answer → FollowsExchange state (query ∷ answer)
+answered state query answer at (inl (is, (results, are, whole))) =
     command_goes state 0x03 kind.Query query answer at is refl
     (query_goes (has_query_attributes state.capabilities) state query answer
     (subst (λ (answer : List Said). Leads phase.Answer (agreed_of state) answer) (sym whole) (results_go (agreed_of state) results are)))
-followed state (query ∷ answer) at (inr (inl (is, (results, are, whole)))) =
+answered state query answer at (inr (inl (is, (results, are, whole)))) =
     command_goes state 0x17 kind.Execute query answer at is refl
     (execute_goes (statement_named query.payload) state.statements state query answer
     (subst (λ (answer : List Said). Leads phase.Answer (with_rows true (agreed_of state)) answer) (sym whole) (results_go (with_rows true (agreed_of state)) results are)))
-followed state (query ∷ answer) at (inr (inr (inl (is, prepared)))) =
+answered state query answer at (inr (inr (inl (is, prepared)))) =
     command_goes state 0x16 kind.Prepare query answer at is refl
     (λ shown reads. typed_goes packet.Prepare (prepare_type.ghosts.reads_whole tt) state kind.Prepare query answer
     (λ read. prepare_answered (agreed_of state) answer prepared (numbered state query)) (λ refusal. prepare_answered (agreed_of state) answer prepared (numbered state query)) shown reads)
-followed state (query ∷ answer) at (inr (inr (inr (inl (is, (one, outcome, only)))))) =
+answered state query answer at (inr (inr (inr (inl (is, (one, outcome, only)))))) =
     plain_goes state query answer at is (subst (λ (answer : List Said). Leads phase.Answer (agreed_of state) answer) (sym only) (outcome_goes (agreed_of state) false one [] outcome (over_here (agreed_of state))))
-followed state (query ∷ answer) at (inr (inr (inr (inr (inl (is, none)))))) =
+answered state query answer at (inr (inr (inr (inr (inl (is, none)))))) =
     subst (λ (answer : List Said). FollowsExchange state (query ∷ answer)) (sym none) (unanswered_goes state query at is)
-followed state (query ∷ answer) at (inr (inr (inr (inr (inr (inl (is, inl (one, statistics, only)))))))) =
+answered state query answer at (inr (inr (inr (inr (inr (inl (is, inl (one, statistics, only)))))))) =
     command_goes state 0x09 kind.StatisticsRequest query answer at is refl (λ shown reads. rw reads.2
     (subst (λ (answer : List Said). Follows (settled (agreed_of state)) (knows phase.Statistics (agreed_of state) (numbered state query)) answer) (sym only) (statistics_go (agreed_of state) one statistics (numbered state query))))
-followed state (query ∷ answer) at (inr (inr (inr (inr (inr (inl (is, inr (one, error, only)))))))) =
+answered state query answer at (inr (inr (inr (inr (inr (inl (is, inr (one, error, only)))))))) =
     command_goes state 0x09 kind.StatisticsRequest query answer at is refl (λ shown reads. rw reads.2
     (subst (λ (answer : List Said). Follows (settled (agreed_of state)) (knows phase.Statistics (agreed_of state) (numbered state query)) answer) (sym only) (no_statistics_go (agreed_of state) one error (numbered state query))))
-followed state (query ∷ answer) at (inr (inr (inr (inr (inr (inr (inl (is, table)))))))) =
+answered state query answer at (inr (inr (inr (inr (inr (inr (inl (is, table)))))))) =
     command_goes state 0x04 kind.FieldList query answer at is refl (λ shown reads. rw reads.2
     (subst (λ (answer : List Said). Follows (settled (agreed_of state)) (knows phase.FieldList (agreed_of state) (numbered state query)) answer) (sym table.whole)
     (table_columns_go (agreed_of state) table.columns (table.end ∷ []) (recursion_from_All IsTableColumn table.columns table.are)
     (table_ends_go (agreed_of state) table.end table.ends) (numbered state query))))
-followed state (query ∷ answer) at (inr (inr (inr (inr (inr (inr (inr (inl (is, (one, outcome, only)))))))))) =
+answered state query answer at (inr (inr (inr (inr (inr (inr (inr (inl (is, (one, outcome, only)))))))))) =
     option_goes state query answer at is
     (subst (λ (answer : List Said). Leads phase.OptionAnswer (agreed_of state) answer) (sym only) (option_answered (agreed_of state) one outcome))
-followed state (query ∷ answer) at (inr (inr (inr (inr (inr (inr (inr (inr (inl (is, fetched)))))))))) =
+answered state query answer at (inr (inr (inr (inr (inr (inr (inr (inr (inl (is, fetched)))))))))) =
     fetch_goes state query answer at is
     (subst (λ (answer : List Said). Leads phase.Rows (with_rows true (agreed_of state)) answer) (sym fetched.whole)
     (rows_go (with_rows true (agreed_of state)) fetched.rows (fetched.end ∷ []) (recursion_from_All (IsRow true) fetched.rows fetched.are_rows)
     (ends_go (with_rows true (agreed_of state)) false fetched.end [] fetched.ends (over_here (with_rows true (agreed_of state))))))
-followed state (query ∷ answer) at (inr (inr (inr (inr (inr (inr (inr (inr (inr (inl (inl is, events))))))))))) =
+answered state query answer at (inr (inr (inr (inr (inr (inr (inr (inr (inr (inl (inl is, events))))))))))) =
     command_goes state 0x12 kind.BinaryLogRequest query answer at is refl (λ shown reads. rw reads.2
     (subst (λ (answer : List Said). Leads phase.BinaryLog (agreed_of state) answer) (sym events.whole) (events_go (agreed_of state) events.events events.end (recursion_from_All (IsServers 0x00 kind.BinaryLogEvent) events.events events.are_events) events.ends) (numbered state query)))
-followed state (query ∷ answer) at (inr (inr (inr (inr (inr (inr (inr (inr (inr (inl (inr is, events))))))))))) =
+answered state query answer at (inr (inr (inr (inr (inr (inr (inr (inr (inr (inl (inr is, events))))))))))) =
     command_goes state 0x1e kind.BinaryLogRequest query answer at is refl (λ shown reads. rw reads.2
     (subst (λ (answer : List Said). Leads phase.BinaryLog (agreed_of state) answer) (sym events.whole) (events_go (agreed_of state) events.events events.end (recursion_from_All (IsServers 0x00 kind.BinaryLogEvent) events.events events.are_events) events.ends) (numbered state query)))
-followed state (query ∷ answer) at (inr (inr (inr (inr (inr (inr (inr (inr (inr (inr (is, entry))))))))))) =
+answered state query answer at (inr (inr (inr (inr (inr (inr (inr (inr (inr (inr (is, entry))))))))))) =
     command_goes state 0x11 kind.ChangeUser query answer at is refl
     (λ shown reads. typed_goes _ (change_type.ghosts.reads_whole state.capabilities) state kind.ChangeUser query answer
     (λ read. let_in_goes (agreed_of state) answer entry (record (numbered state query) { row_form = form.Text })) (λ refusal. let_in_goes (agreed_of state) answer entry (record (numbered state query) { row_form = form.Text })) shown reads)
+
+-- the same with reports
+followed : (state : SessionState) (said : List Said) → state.phase ≡ phase.Command → IsExchange (agreed_of state) state.statements said → FollowsExchange state said
+followed state [] at exchange = absurd exchange
+followed state (query ∷ sent) at (answer, is, reported) =
+    let follows = answered state query answer at is in
+    (follows.0, follows.1, λ next goes. with_reports (IsIdle (agreed_of state)) (agreed_of state) next answer sent reported (follows.2 next goes))
 
 pub each_is_followed : EachIsFollowed
 each_is_followed state said idle exchange = followed state said (is_command_phase state.phase idle) exchange
@@ -930,6 +939,21 @@ connection_is_followed agreed said is =
     (subst (λ (said : List Said). Follows (settled agreed) initial_state said) (sym is.whole)
     (greeting_goes (IsIdle (settled agreed)) is.greeting (is.login ∷ is.rest) is.greets is.begins
     (λ id. login_goes agreed id is.login is.rest is.logs_in is.is_let_in)))
+
+-- ---- TLS
+
+request_goes : (id : ℕ) (request : Said) → IsTlsRequest request → FollowsUntil IsEncrypted (greeted id) (request ∷ [])
+request_goes id request is =
+    client_goes_until IsEncrypted (greeted id) request [] kind.TlsRequest refl refl is.side is.kind_is
+    (rw (ne_eqb request.id 0 is.later, is.is_tls) refl)
+    (λ shown reads.
+    let read = read_is packet.TlsRequest (tls_type.ghosts.reads_whole tt) (λ (request : SslRequest). has request.client_flag.0 0x800 ≡ true) request.payload shown is.reads reads in
+    rw read.2 refl)
+
+pub tls_is_followed : TlsIsFollowed
+tls_is_followed said is =
+    subst (λ (said : List Said). FollowsUntil IsEncrypted initial_state said) (sym is.whole)
+    (greeting_goes IsEncrypted is.greeting (is.request ∷ []) is.greets is.begins (λ id. request_goes id is.request is.asks))
 
 -- ---- the end of a session
 

@@ -25,6 +25,7 @@ use Rattle.mysql_wire_session.specs.contracts.payload.EofPacketPayload.TheImpl a
 use Rattle.mysql_wire_session.specs.contracts.payload.ErrPacketPayload.TheImpl as error_type
 use Rattle.mysql_wire_session.specs.contracts.payload.LocalInfileRequestPayload.TheImpl as file_type
 use Rattle.mysql_wire_session.specs.contracts.payload.OkFormPayload.TheImpl as ok_type
+use Rattle.mysql_wire_session.specs.contracts.payload.SslRequestPayload.TheImpl as tls_type
 use denote.Param.{number}
 use Rattle.mysql_wire_session.specs.Advance.{id_after, is_zero, mariadb_of}
 use Rattle.mysql_wire_session.specs.State.{SessionState, initial_state, statement_of}
@@ -374,10 +375,9 @@ pub record IsLetIn (agreed : Agreed) (said : List Said) : Type 0 where
 abbrev pub IsAlone : (Said → Type 0) → List Said → Type 0
 IsAlone is said = (one : Said) × is one × (said ≡ one ∷ [])
 
--- a command, and its answer, where these statements were prepared
-abbrev pub IsExchange : Agreed → List ComStmtPrepareOk → List Said → Type 0
-IsExchange agreed statements [] = ⊥
-IsExchange agreed statements (command ∷ answer) =
+-- the answer to a command, where these statements were prepared
+abbrev pub IsAnswered : Agreed → List ComStmtPrepareOk → Said → List Said → Type 0
+IsAnswered agreed statements command answer =
     (IsCommand 0x03 kind.Query command × IsAnswer (record agreed { is_binary = false }) answer)
     ⊎ (IsCommand 0x17 kind.Execute command × IsAnswer (record agreed { is_binary = true }) answer)
     ⊎ (IsCommand 0x16 kind.Prepare command × IsPrepareAnswer agreed.is_eof_deprecated answer)
@@ -391,6 +391,30 @@ IsExchange agreed statements (command ∷ answer) =
     ⊎ ((IsCommand 0x12 kind.BinaryLogRequest command ⊎ IsCommand 0x1e kind.BinaryLogRequest command)
     × AreEvents agreed answer)
     ⊎ (IsCommand 0x11 kind.ChangeUser command × IsLetIn agreed answer)
+
+-- how far a command has come: MariaDB's error 65535. https://mariadb.com/kb/en/progress-reporting/
+pub record IsReport (said : Said) : Type 0 where
+  pub side : said.side ≡ Server
+  pub reports : is_report said.payload ≡ true
+  pub kind_is : said.kind ≡ kind.Progress
+
+-- these reports may stand before a packet: before a client's none, and before a server's any, where
+-- the client takes them
+abbrev pub MayReport : Agreed → Said → List Said → Type 0
+MayReport agreed said reports = (reports ≡ [])
+    ⊎ (All IsReport reports × (said.side ≡ Server) × (has agreed.mariadb.0 0x1 ≡ true))
+
+-- the same packets, with reports before them
+abbrev pub WithReports : Agreed → List Said → List Said → Type 0
+WithReports agreed [] sent = sent ≡ []
+WithReports agreed (said ∷ more) sent = (reports : List Said) × (rest : List Said)
+    × MayReport agreed said reports × WithReports agreed more rest × (sent ≡ reports ++ said ∷ rest)
+
+-- a command, and its answer, in which reports may stand
+abbrev pub IsExchange : Agreed → List ComStmtPrepareOk → List Said → Type 0
+IsExchange agreed statements [] = ⊥
+IsExchange agreed statements (command ∷ sent) = (answer : List Said)
+    × IsAnswered agreed statements command answer × WithReports agreed answer sent
 
 -- ---- the connection phase
 -- https://dev.mysql.com/doc/dev/mysql-server/latest/page_protocol_connection_phase.html
@@ -425,6 +449,24 @@ pub record IsConnection (agreed : Agreed) (said : List Said) : Type 0 where
   pub logs_in : IsLogin agreed login
   pub is_let_in : IsLetIn agreed rest
   pub whole : said ≡ greeting ∷ login ∷ rest
+
+-- the client asks for TLS in place of its login
+pub record IsTlsRequest (said : Said) : Type 0 where
+  pub side : said.side ≡ Client
+  pub later : said.id ≢ 0
+  pub is_tls : length said.payload ≡ 32
+  pub kind_is : said.kind ≡ kind.TlsRequest
+  pub reads : IsReadAs (tls_type.ghosts.reads_whole tt said.payload)
+      (λ request. has request.client_flag.0 0x800 ≡ true)
+
+-- the server greets, and the client asks for TLS; what follows is encrypted
+pub record IsTlsConnection (said : List Said) : Type 0 where
+  pub greeting : Said
+  pub request : Said
+  pub greets : IsServers 0x0a kind.Greeting greeting
+  pub begins : greeting.id ≡ 0
+  pub asks : IsTlsRequest request
+  pub whole : said ≡ greeting ∷ request ∷ []
 
 -- ---- the end of a session
 
@@ -518,6 +560,10 @@ IsIdle agreed state = (is_idle state.phase ≡ true) × (agreed_of state ≡ agr
 abbrev pub IsClosed : SessionState → Type 0
 IsClosed state = (state.phase ≡ phase.Closed) × (is_idle state.phase ≡ false)
 
+-- what both sides send is encrypted
+abbrev pub IsEncrypted : SessionState → Type 0
+IsEncrypted state = state.phase ≡ phase.Encrypted
+
 abbrev pub Follows : Agreed → SessionState → List Said → Type 0
 Follows agreed state said = FollowsUntil (IsIdle agreed) state said
 
@@ -546,6 +592,10 @@ LastIsFollowed =
 abbrev pub RefusalIsFollowed : Type 0
 RefusalIsFollowed =
     (said : List Said) → IsRefusedConnection said → FollowsUntil IsClosed initial_state said
+
+-- a session that begins follows a greeting and a request for TLS, after which all is encrypted
+abbrev pub TlsIsFollowed : Type 0
+TlsIsFollowed = (said : List Said) → IsTlsConnection said → FollowsUntil IsEncrypted initial_state said
 
 -- after these packets this may be known
 abbrev pub Reaches : SessionState → List Said → SessionState → Type 0

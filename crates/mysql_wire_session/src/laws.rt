@@ -2,7 +2,7 @@
 //!
 //! Each function does nothing: its contract is the law, and a caller has it by calling.
 
-ghost use Rattle.mysql_wire_session.specs.Grammar.{ConnectionIsFollowed, EachIsFollowed, IdleAtItsEnd, LastIsFollowed, RefusalIsFollowed, SessionIsFollowed};
+ghost use Rattle.mysql_wire_session.specs.Grammar.{ConnectionIsFollowed, EachIsFollowed, IdleAtItsEnd, LastIsFollowed, RefusalIsFollowed, SessionIsFollowed, TlsIsFollowed};
 
 /// An idle session takes each packet of an exchange for what MySQL's pages call it, and says whose
 /// packet is next.
@@ -41,4 +41,10 @@ pub fn refusal_is_followed()
 #[tactic(auto, using(crate::proofs::AnswerLemmas::last_is_followed))]
 pub fn last_is_followed()
     ensures { LastIsFollowed }
+{}
+
+/// A greeting and a request for TLS are followed, after which all is encrypted.
+#[tactic(auto, using(crate::proofs::AnswerLemmas::tls_is_followed))]
+pub fn tls_is_followed()
+    ensures { TlsIsFollowed }
 {}
