@@ -19,7 +19,7 @@ use Rattle.mysql_wire_session_packets.specs.declared.phase.RowForm.TheVariants a
 use Rattle.mysql_wire_session_packets.specs.declared.refusal.Refusal.{Refusal}
 use Rattle.mysql_wire_session_packets.specs.declared.side.Side.{Side}
 use Rattle.mysql_wire_session_packets.specs.declared.side.Side.TheVariants.{Client, Server}
-use Rattle.mysql_wire_session.specs.Grammar.{Advances, Agreed, Agrees, AreColumns, AreExchanges, ConnectionIsFollowed, FollowsEach, IsLogin, SessionIsFollowed, AreDefined, AreEnded, AreResults, Counts, EachIsFollowed, EndsRows, EndsWell, Follows, FollowsCommandUntil, FollowsExchange, FollowsUntil, IdleAtItsEnd, IsAnyLogin, IsClosed, IsAnswered, IsDenied, IsEncrypted, IsIdle, IsLastExchange, IsNoGreeting, LastIsFollowed, IsTlsRequest, RefusalIsFollowed, TlsIsFollowed, IsColumnCount, IsCommand, IsAuthentication, IsDefinition, IsEntry, IsEof, IsError, IsExchange, IsFetch, IsLetIn, IsOptionCommand, IsOptionOutcome, IsFileEnd, IsFileRequest, IsOk, IsOutcome, IsPiece, IsPlainCommand, IsPrepareAnswer, IsPrepared, IsReadAs, IsResult, IsRow, IsServers, IsStatistics, IsTableColumn, IsUnanswered, MayBeColumns, MaySend, Numbered, Reaches, Said, agreed_of, called_at, form_of}
+use Rattle.mysql_wire_session.specs.Grammar.{Advances, Agreed, Agrees, AreColumns, AreDescribed, AreExchanges, ConnectionIsFollowed, FollowsEach, IsLogin, SessionIsFollowed, AreDefined, AreEnded, AreResults, Counts, EachIsFollowed, EndsRows, EndsWell, Follows, FollowsCommandUntil, FollowsExchange, FollowsUntil, IdleAtItsEnd, IsAnyLogin, IsClosed, IsAnswered, IsDenied, IsEncrypted, IsIdle, IsLastExchange, IsNoGreeting, LastIsFollowed, IsTlsRequest, RefusalIsFollowed, TlsIsFollowed, IsColumnCount, IsCommand, IsAuthentication, IsDefinition, IsEntry, IsEof, IsError, IsExchange, IsFetch, IsLetIn, IsOptionCommand, IsOptionOutcome, IsFileEnd, IsFileRequest, IsOk, IsOutcome, IsPiece, IsPlainCommand, IsPrepareAnswer, IsPrepared, IsReadAs, IsResult, IsRow, IsServers, IsStatistics, IsTableColumn, IsUnanswered, MayBeColumns, MaySend, Numbered, Reaches, Said, agreed_of, called_at, form_of}
 use Rattle.mysql_wire_session.specs.Advance.{after_column, after_columns, after_definitions, applied, client_state_after, counted_phase, ended_phase, id_after, noted, opened, prepared_phase, remembered, state_after, statement_columns, status_of, without_eof}
 use Rattle.mysql_wire_session.specs.State.{SessionState, expectation_of, initial_state, statement_of}
 use Rattle.mysql_wire_session.specs.Readings.{IsEnd, IsExecution, IsExecutionOf, IsQuery as ReadsQuery, IsRead, ReadsAs, after_packet, is_ended_by_ok, statement_named}
@@ -199,20 +199,27 @@ outcome_goes agreed more said rest (inr (error, none)) then = error_goes agreed 
 count_named : (rows : RowForm) (first len : ℕ) → first ≢ 0x00 → first ≢ 0xfb → first ≢ 0xff → answer_kind rows first len ≡ kind.ColumnCount
 count_named rows first len a b c = rw (ne_eqb first 0x00 a, ne_eqb first 0xfb b, ne_eqb first 0xff c) refl
 
-counted : (d : Bool) (columns : ℕ) (count : ColumnCount) → Counts columns count → 0 < columns → counted_phase d count ≡ phase.Columns columns after.Rows
-counted d columns count is some =
-    rw (is.has_definitions, is.has_all_definitions, is.columns_are, ne_eqb columns 0 (λ none. omega arith)) refl
+-- after the count of columns
+abbrev after_count : Bool → Bool → ℕ → Phase
+after_count true d columns = after_columns d after.Rows
+after_count false d columns = phase.Columns columns after.Rows
 
-count_goes : (agreed : Agreed) (columns : ℕ) (said : Said) (rest : List Said) → 0 < columns → IsColumnCount agreed columns said
-    → Leads (phase.Columns columns after.Rows) agreed rest → Leads phase.Answer agreed (said ∷ rest)
-count_goes agreed columns said rest some is then state =
+counted : (told d : Bool) (columns : ℕ) (count : ColumnCount) → Counts told columns count → 0 < columns → counted_phase d count ≡ after_count told d columns
+counted true d columns count is some =
+    rw (is.has_definitions, is.are_left_out, is.columns_are, ne_eqb columns 0 (λ none. omega arith)) refl
+counted false d columns count is some =
+    rw (is.has_definitions, is.are_left_out, is.columns_are, ne_eqb columns 0 (λ none. omega arith)) refl
+
+count_goes : (told : Bool) (agreed : Agreed) (columns : ℕ) (said : Said) (rest : List Said) → 0 < columns → IsColumnCount agreed told columns said
+    → Leads (after_count told agreed.is_eof_deprecated columns) agreed rest → Leads phase.Answer agreed (said ∷ rest)
+count_goes told agreed columns said rest some is then state =
     goes (settled agreed) (knows phase.Answer agreed state) said rest is.first kind.ColumnCount refl refl is.is
     (named_as (knows phase.Answer agreed state) said is.first kind.ColumnCount is.is (no_report said.payload is.first is.is.first_is is.is_no_error)
     ∙ count_named (form_of agreed.is_binary) is.first (length said.payload) is.is_no_ok is.is_no_file is.is_no_error)
     (λ shown reads.
-    let read = read_is packet.ColumnCount (count_type.ghosts.reads_whole (agreed.capabilities, agreed.mariadb)) (Counts columns) said.payload shown is.reads reads in
+    let read = read_is packet.ColumnCount (count_type.ghosts.reads_whole (agreed.capabilities, agreed.mariadb)) (Counts told columns) said.payload shown is.reads reads in
     rw read.2
-    (subst (λ (at : Phase). Follows (settled agreed) (knows at agreed (record (numbered state said) { columns = read.0.column_count; types = [] })) rest) (sym (counted agreed.is_eof_deprecated columns read.0 read.1 some))
+    (subst (λ (at : Phase). Follows (settled agreed) (knows at agreed (record (numbered state said) { columns = read.0.column_count; types = [] })) rest) (sym (counted told agreed.is_eof_deprecated columns read.0 read.1 some))
     (then (record (numbered state said) { columns = read.0.column_count; types = [] }))))
 
 -- ---- definitions
@@ -244,6 +251,14 @@ definitions_go agreed following left (one ∷ two ∷ more) rest are all some th
     definition_goes agreed following left one (two ∷ more ++ rest) are.0
     (λ next. subst (λ (at : Phase). Follows (settled agreed) (knows at agreed next) (two ∷ more ++ rest)) (sym (after_more agreed.is_eof_deprecated following left (omega (arith, all))))
     (definitions_go agreed following (left - 1) (two ∷ more) rest are.1 (omega (arith, all)) (omega (arith, all)) then next)) state
+
+-- the definitions after a count, where they follow
+described_go : (told : Bool) (agreed : Agreed) (columns : ℕ) (definitions rest : List Said) → AreDescribed told columns definitions → 0 < columns
+    → Leads (after_columns agreed.is_eof_deprecated after.Rows) agreed rest → Leads (after_count told agreed.is_eof_deprecated columns) agreed (definitions ++ rest)
+described_go true agreed columns definitions rest none some then state =
+    subst (λ (definitions : List Said). Follows (settled agreed) (knows (after_columns agreed.is_eof_deprecated after.Rows) agreed state) (definitions ++ rest)) (sym none) (then state)
+described_go false agreed columns definitions rest (are, all) some then state =
+    definitions_go agreed after.Rows columns definitions rest (recursion_from_All IsDefinition definitions are) all some then state
 
 -- the same agreement
 abbrev with_eof : Bool → Agreed → Agreed
@@ -429,16 +444,16 @@ result_goes agreed more said rest (inl (one, outcome, only)) then state =
 result_goes agreed more said rest (inr (inl set)) then state =
     subst (λ (said : List Said). Follows (settled agreed) (knows phase.Answer agreed state) said)
     (sym (resultset_whole set.count set.end set.definitions set.defined set.rows rest) ∙ ap (λ (packets : List Said). packets ++ rest) (sym set.whole))
-    (count_goes agreed set.columns set.count (set.definitions ++ (set.defined ++ (set.rows ++ set.end ∷ rest))) set.has_columns set.counts
-    (definitions_go agreed after.Rows set.columns set.definitions (set.defined ++ (set.rows ++ set.end ∷ rest)) (recursion_from_All IsDefinition set.definitions set.are_definitions) set.are_all set.has_columns
+    (count_goes set.are_told agreed set.columns set.count (set.definitions ++ (set.defined ++ (set.rows ++ set.end ∷ rest))) set.has_columns set.counts
+    (described_go set.are_told agreed set.columns set.definitions (set.defined ++ (set.rows ++ set.end ∷ rest)) set.described set.has_columns
     (defined_goes agreed.is_eof_deprecated agreed set.defined (set.rows ++ set.end ∷ rest) set.are_defined
     (rows_go agreed set.rows (set.end ∷ rest) (recursion_from_All (IsRow agreed.is_binary) set.rows set.are_rows)
     (ends_go agreed more set.end rest set.ends then)))) state)
 result_goes agreed more said rest (inr (inr (inl (set, none)))) then state =
     subst (λ (said : List Said). Follows (settled agreed) (knows phase.Answer agreed state) said)
     (ap (λ (packets : List Said). set.count ∷ packets) (sym (append_assoc set.definitions (set.end ∷ []) rest)) ∙ ap (λ (packets : List Said). packets ++ rest) (sym set.whole))
-    (count_goes agreed set.columns set.count (set.definitions ++ set.end ∷ rest) set.has_columns set.counts
-    (definitions_go agreed after.Rows set.columns set.definitions (set.end ∷ rest) (recursion_from_All IsDefinition set.definitions set.are_definitions) set.are_all set.has_columns
+    (count_goes set.are_told agreed set.columns set.count (set.definitions ++ set.end ∷ rest) set.has_columns set.counts
+    (described_go set.are_told agreed set.columns set.definitions (set.end ∷ rest) set.described set.has_columns
     (cursor_goes agreed.is_eof_deprecated agreed set.end rest set.has_eof set.ends
     (λ next. subst (λ (b : Bool). Follows (settled agreed) (knows (after_result b) agreed next) rest) none (then next)))) state)
 result_goes agreed more said rest (inr (inr (inr load))) then state =

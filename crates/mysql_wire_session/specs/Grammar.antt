@@ -80,25 +80,32 @@ pub record IsError (said : Said) : Type 0 where
   pub is : IsServers 0xff kind.Error said
   pub is_no_report : is_report said.payload ≡ false
 
--- how many columns follow, and that their definitions do
-pub record Counts (columns : ℕ) (count : ColumnCount) : Type 0 where
+-- how many columns there are; and whether MariaDB told their definitions before, and leaves them out
+pub record Counts (are_told : Bool) (columns : ℕ) (count : ColumnCount) : Type 0 where
   pub columns_are : count.column_count ≡ columns
   pub has_definitions : is_zero count.metadata_follows ≡ false
-  pub has_all_definitions : is_zero count.mariadb_metadata_follows ≡ false
+  pub are_left_out : is_zero count.mariadb_metadata_follows ≡ are_told
 
-pub record IsColumnCount (agreed : Agreed) (columns : ℕ) (said : Said) : Type 0 where
+pub record IsColumnCount (agreed : Agreed) (are_told : Bool) (columns : ℕ) (said : Said)
+    : Type 0 where
   pub first : ℕ
   pub is : IsServers first kind.ColumnCount said
   pub is_no_ok : first ≢ 0x00
   pub is_no_file : first ≢ 0xfb
   pub is_no_error : first ≢ 0xff
   pub reads : IsReadAs (count_type.ghosts.reads_whole (agreed.capabilities, agreed.mariadb) said.payload)
-      (Counts columns)
+      (Counts are_told columns)
 
 pub record IsDefinition (said : Said) : Type 0 where
   pub first : ℕ
   pub is : IsServers first kind.Column said
   pub is_no_error : first ≢ 0xff
+
+-- the definitions of these columns, where they were not told before
+abbrev pub AreDescribed : Bool → ℕ → List Said → Type 0
+AreDescribed true columns definitions = definitions ≡ []
+AreDescribed false columns definitions =
+    All IsDefinition definitions × (length definitions ≡ columns)
 
 -- an EOF whose flags are so
 pub record IsEof (flags : ℕ → Type 0) (said : Said) : Type 0 where
@@ -152,6 +159,7 @@ EndsRows agreed is_more said =
 
 -- a result with rows
 pub record IsResultset (agreed : Agreed) (is_more : Bool) (said : List Said) : Type 0 where
+  pub are_told : Bool
   pub columns : ℕ
   pub count : Said
   pub definitions : List Said
@@ -159,9 +167,8 @@ pub record IsResultset (agreed : Agreed) (is_more : Bool) (said : List Said) : T
   pub rows : List Said
   pub end : Said
   pub has_columns : 0 < columns
-  pub counts : IsColumnCount agreed columns count
-  pub are_definitions : All IsDefinition definitions
-  pub are_all : length definitions ≡ columns
+  pub counts : IsColumnCount agreed are_told columns count
+  pub described : AreDescribed are_told columns definitions
   pub are_defined : AreDefined agreed.is_eof_deprecated defined
   pub are_rows : All (IsRow agreed.is_binary) rows
   pub ends : EndsRows agreed is_more end
@@ -169,14 +176,14 @@ pub record IsResultset (agreed : Agreed) (is_more : Bool) (said : List Said) : T
 
 -- a result whose rows are to be fetched
 pub record IsCursor (agreed : Agreed) (said : List Said) : Type 0 where
+  pub are_told : Bool
   pub columns : ℕ
   pub count : Said
   pub definitions : List Said
   pub end : Said
   pub has_columns : 0 < columns
-  pub counts : IsColumnCount agreed columns count
-  pub are_definitions : All IsDefinition definitions
-  pub are_all : length definitions ≡ columns
+  pub counts : IsColumnCount agreed are_told columns count
+  pub described : AreDescribed are_told columns definitions
   pub has_eof : agreed.is_eof_deprecated ≡ false
   pub ends : IsEof (λ flags. has flags 0x40 ≡ true) end
   pub whole : said ≡ count ∷ (definitions ++ end ∷ [])
