@@ -1,3 +1,4 @@
 pub mod AnswerLemmas
 pub mod FrontLemmas
 pub mod ReportLemmas
+pub mod SaidLemmas

@@ -47,6 +47,15 @@ pub record Said : Type 0 where
   pub payload : List ℕ
   pub kind : PacketKind
 
+-- a server's packet, and a client's
+abbrev pub from_server : ℕ → PacketKind → List ℕ → Said
+from_server id called payload =
+    record { side = Server; id = id; payload = payload; kind = called }
+
+abbrev pub from_client : ℕ → PacketKind → List ℕ → Said
+from_client id called payload =
+    record { side = Client; id = id; payload = payload; kind = called }
+
 -- what a type makes of a payload is a value of which this holds, unless memory ran out
 abbrev pub IfRead : {X : Type 0} → (X → Type 0) → Result X PayloadError → Type 0
 IfRead holds (Ok read) = holds read

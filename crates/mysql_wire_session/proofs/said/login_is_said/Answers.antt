@@ -1,0 +1,12 @@
+use Rattle.std.proofs.Common.{◌≡◌, ◌∙◌, ℕ, ap, refl, sym}
+use Rattle.mysql_wire_packets.specs.Optional.{has}
+use Rattle.mysql_wire_session.specs.Advance.{mariadb_of}
+use Rattle.mysql_wire_session.proofs.SaidLemmas.{agrees_kept, holds_of_kept}
+use Rattle.mysql_wire_session.proofs.said.login_is_said.Goals as goal
+
+pub returns : goal.returns
+returns c = λ id agreed later agrees good other. record {
+  is = record { side = refl; later = later; no_tls = other; kind_is = refl };
+  reads = holds_of_kept _ _ _ (c.payload_back.ensures tt c.args.login.now c.known.ensures good)
+      (λ read kept. agrees_kept agreed c.args.login.now read agrees kept.client_flag kept.mariadb_capabilities);
+}
