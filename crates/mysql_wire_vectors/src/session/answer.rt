@@ -1,0 +1,74 @@
+// `count_rows` and `may_change_hands` of session_examples, with each request for memory refused.
+
+use super::MOST;
+use super::exchanges::CONNECTION;
+use mysql_wire::proto::codec::PacketCodec;
+use mysql_wire::proto::packet_io::PacketReader;
+use mysql_wire_session::session::Session;
+use mysql_wire_session::side::Side;
+use refusing_allocator::{NEVER, Refusing};
+use session_examples::client::count_rows;
+use session_examples::proxy::may_change_hands;
+use std::alloc::Global;
+use std::test::Fail;
+use test_support::facts::ensure;
+use test_support::fixture::Heap;
+
+const ASKED: &[u8] = b"\x03SELECT 1";
+
+// A column, an EOF, two rows, and an EOF that says that no index was used.
+const ANSWER: &[u8] =
+    b"\x01\0\0\x01\x01\x17\0\0\x02\x03def\0\0\0\x011\0\x0c\x3f\0\x01\0\0\0\x08\x81\0\0\0\0\
+    \x05\0\0\x03\xfe\0\0\x02\0\x02\0\0\x04\x011\x01\0\0\x05\xfb\x05\0\0\x06\xfe\0\0\x22\0";
+
+// A session after a login and a query.
+fn asked(heap: &Heap, global: Global) -> Session<&Heap> {
+    let mut session = Session::new(heap, global);
+    let mut id = 0u8;
+    for (side, payload, ..) in CONNECTION {
+        let _ = session.advance_front(*side, id, payload.len(), payload);
+        id = id.wrapping_add(1);
+    }
+    let _ = session.advance_front(Side::Client, 0, ASKED.len(), ASKED);
+    session
+}
+
+// Counts an answer's rows, with this request for memory refused, and then again. Whether there are
+// two, and whether a request was refused.
+fn counts(heap: &Heap, global: Global, refused: u64) -> Option<(bool, bool)> {
+    let mut session = asked(heap, global);
+    let mut codec = PacketCodec::default();
+    codec.set_sequence_id(1);
+    let mut reader = PacketReader::new(heap, ANSWER).ok()?;
+    heap.refuse(refused);
+    let mut rows = count_rows(&mut session, &mut reader, &mut codec).ok();
+    let is_refused = heap.has_refused();
+    if is_refused && rows.is_none() && !may_change_hands(&session) {
+        heap.refuse(NEVER);
+        rows = count_rows(&mut session, &mut reader, &mut codec).ok();
+    }
+    Some((rows == Some(2) && may_change_hands(&session), is_refused))
+}
+
+// How many requests were refused, each of which left what a second call needs.
+fn refusals(global: Global) -> Option<u64> {
+    let heap = Refusing::new(global, NEVER);
+    for refused in 0..MOST {
+        heap.refuse(NEVER);
+        match counts(&heap, global, refused) {
+            Some((true, true)) => {}
+            Some((true, false)) => return Some(refused),
+            _ => return None,
+        }
+    }
+    None
+}
+
+// The reader's buffer and the type of the column.
+#[test]
+fn an_answer_is_counted(rt: HostRuntime) -> Result<(), Fail> {
+    ensure(
+        refusals(rt.alloc()) == Some(2),
+        "other requests than two were refused",
+    )
+}

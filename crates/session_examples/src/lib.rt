@@ -1,0 +1,5 @@
+//! Callers of a session: a client that reads an answer, and a proxy or a pool that follows one.
+#![tactic(auto)]
+
+pub mod client;
+pub mod proxy;
