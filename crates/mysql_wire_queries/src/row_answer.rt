@@ -29,11 +29,12 @@ pub enum RowAnswer<'a> {
     Failed(ErrPacket<'a>),
 }
 
-// Whether a payload that begins with `fe` is an end, and no row.
-fn is_end(is_deprecated: bool, len: usize) -> bool
-    ensures { result ≡ is_short is_deprecated len }
+/// Whether a payload of this length that begins with `fe` is an end, and no row: it is shorter than 9
+/// bytes, or, where EOFs are deprecated, than a full chunk.
+pub fn is_end(is_eof_deprecated: bool, len: usize) -> bool
+    ensures { result ≡ is_short is_eof_deprecated len }
 {
-    if is_deprecated {
+    if is_eof_deprecated {
         len < 0xff_ffff
     } else {
         len < 9

@@ -6,7 +6,8 @@ use Rattle.std.proofs.lemmas.List.{append_assoc}
 use Rattle.std.proofs.lemmas.List.Elements.{recursion_from_All}
 use Rattle.mysql_wire_session_packets.specs.declared.packet.Packet.{Packet}
 use Rattle.mysql_wire_session_packets.specs.declared.packet.Packet.TheVariants as packet
-use Rattle.mysql_wire_session.specs.Kinds.{answer_kind, client_kind, done_kind, field_kind, first_byte, is_report, is_short, kind_at, row_kind, server_kind, statistics_kind, values_kind}
+use Rattle.mysql_wire_session.specs.Kinds.{answer_kind, client_kind, done_kind, field_kind, first_byte, is_report, kind_at, row_kind, server_kind, statistics_kind, values_kind}
+use Rattle.mysql_wire_packets.specs.Places.{is_short}
 use Rattle.mysql_wire_session_packets.specs.declared.packet_kind.PacketKind.{PacketKind}
 use Rattle.mysql_wire_session_packets.specs.declared.packet_kind.PacketKind.TheVariants as kind
 use Rattle.mysql_wire_session.specs.declared.classify.Expectation.{Expectation}
@@ -40,10 +41,9 @@ use Rattle.mysql_wire_session.specs.contracts.payload.ComQueryWithAttributesPayl
 use Rattle.mysql_wire_session.specs.contracts.payload.ComStmtExecutePayload.TheImpl as execute_type
 use Rattle.mysql_wire_session.specs.contracts.payload.ComPingPayload.TheImpl as ping_type
 use Rattle.mysql_wire_session.specs.contracts.payload.ComQuitPayload.TheImpl as quit_type
-use Rattle.mysql_wire_session.specs.contracts.payload.ComStmtClosePayload.TheImpl as close_type
+use Rattle.mysql_wire_session.specs.contracts.payload.StatementCommandPayload.TheImpl as statement_command
 use Rattle.mysql_wire_session.specs.contracts.payload.ComStmtPrepareOkPayload.TheImpl as prepared_type
 use Rattle.mysql_wire_session.specs.contracts.payload.ComStmtPreparePayload.TheImpl as prepare_type
-use Rattle.mysql_wire_session.specs.contracts.payload.ComStmtResetPayload.TheImpl as reset_type
 use Rattle.mysql_wire_session.specs.contracts.payload.ComStmtSendLongDataPayload.TheImpl as long_data_type
 use Rattle.mysql_wire_session.specs.contracts.payload.EofPacketPayload.TheImpl as eof_type
 use Rattle.mysql_wire_session.specs.contracts.payload.ErrPacketPayload.TheImpl as error_type
@@ -603,7 +603,7 @@ plain_goes state said answer at (inl is) then = command_goes state 0x02 kind.Ini
 plain_goes state said answer at (inr (inl is)) then = command_goes state 0x0e kind.Ping said answer at is refl
     (λ shown reads. typed_goes _ (ping_type.ghosts.reads_whole tt) state kind.Ping said answer (λ read. then (numbered state said)) (λ refusal. then (numbered state said)) shown reads)
 plain_goes state said answer at (inr (inr (inl is))) then = command_goes state 0x1a kind.ResetStatement said answer at is refl
-    (λ shown reads. typed_goes packet.ResetStatement (reset_type.ghosts.reads_whole tt) state kind.ResetStatement said answer (λ read. then (numbered state said)) (λ refusal. then (numbered state said)) shown reads)
+    (λ shown reads. typed_goes packet.ResetStatement ((statement_command.ghosts (number 0x1a)).reads_whole tt) state kind.ResetStatement said answer (λ read. then (numbered state said)) (λ refusal. then (numbered state said)) shown reads)
 plain_goes state said answer at (inr (inr (inr is))) then = command_goes state 0x1f kind.ResetConnection said answer at is refl
     (λ shown reads. rw reads.2 (then (numbered state said)))
 
@@ -611,7 +611,7 @@ unanswered_goes : (state : SessionState) (said : Said) → state.phase ≡ phase
 unanswered_goes state said at (inl is) = command_goes state 0x18 kind.LongData said [] at is refl
     (λ shown reads. typed_goes packet.LongData (long_data_type.ghosts.reads_whole tt) state kind.LongData said [] (λ read. (refl, refl)) (λ refusal. (refl, refl)) shown reads)
 unanswered_goes state said at (inr is) = command_goes state 0x19 kind.CloseStatement said [] at is refl
-    (λ shown reads. typed_goes packet.CloseStatement (close_type.ghosts.reads_whole tt) state kind.CloseStatement said [] (λ read. (refl, refl)) (λ refusal. (refl, refl)) shown reads)
+    (λ shown reads. typed_goes packet.CloseStatement ((statement_command.ghosts (number 0x19)).reads_whole tt) state kind.CloseStatement said [] (λ read. (refl, refl)) (λ refusal. (refl, refl)) shown reads)
 
 -- ---- the statistics, and the columns of a table
 

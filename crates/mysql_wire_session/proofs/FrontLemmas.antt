@@ -1,4 +1,5 @@
 -- What the front of a payload tells of what is known after it.
+use denote.Param.{number}
 use Rattle.std.proofs.Common.{◌≡◌, ◌⊎◌, ◌∙◌, ◌≤◌, ◌==◌, ℕ, zero, suc, inl, inr, Bool, true, false, List, [], ◌∷◌, length, refl, ap, sym, subst, Option, Some, None, cond, Result, Ok, Err, arith, take}
 use Rattle.std.specs.Prelude.{IfOk, OnOk}
 use Rattle.mysql_wire_packets.specs.Optional.{has_query_attributes}
@@ -20,8 +21,7 @@ use Rattle.mysql_wire_session.specs.contracts.payload.ComPingPayload.TheImpl as 
 use Rattle.mysql_wire_session.specs.contracts.payload.ComQuitPayload.TheImpl as quit_type
 use Rattle.mysql_wire_session.specs.contracts.payload.ComStmtPreparePayload.TheImpl as prepare_type
 use Rattle.mysql_wire_session.specs.contracts.payload.ComStmtSendLongDataPayload.TheImpl as long_data_type
-use Rattle.mysql_wire_session.specs.contracts.payload.ComStmtClosePayload.TheImpl as close_type
-use Rattle.mysql_wire_session.specs.contracts.payload.ComStmtResetPayload.TheImpl as reset_type
+use Rattle.mysql_wire_session.specs.contracts.payload.StatementCommandPayload.TheImpl as statement_command
 use Rattle.mysql_wire_session.specs.contracts.payload.ComChangeUserPayload.TheImpl as change_type
 use Rattle.mysql_wire_session.specs.contracts.payload.ComQueryPayload.TheImpl as query_type
 use Rattle.mysql_wire_session.specs.contracts.payload.ComQueryWithAttributesPayload.TheImpl as query_type_with
@@ -167,9 +167,9 @@ kind_silent kind.Execute state payload shown none is = execute_silent (statement
 kind_silent kind.LongData state payload shown none is =
     of_type _ (long_data_type.ghosts.reads_whole tt) payload shown (λ read state. (refl, refl)) is
 kind_silent kind.CloseStatement state payload shown none is =
-    of_type _ (close_type.ghosts.reads_whole tt) payload shown (λ read state. (refl, refl)) is
+    of_type _ ((statement_command.ghosts (number 0x19)).reads_whole tt) payload shown (λ read state. (refl, refl)) is
 kind_silent kind.ResetStatement state payload shown none is =
-    of_type _ (reset_type.ghosts.reads_whole tt) payload shown (λ read state. (refl, refl)) is
+    of_type _ ((statement_command.ghosts (number 0x1a)).reads_whole tt) payload shown (λ read state. (refl, refl)) is
 kind_silent kind.Fetch state payload shown none is = absurd cc
 kind_silent kind.FieldList state payload shown none is = subst (λ (p : Packet). Silent p) (sym is.2) (λ state. (refl, refl))
 kind_silent kind.SetOption state payload shown none is = subst (λ (p : Packet). Silent p) (sym is.2) (λ state. (refl, refl))

@@ -1,6 +1,7 @@
 -- What a packet is, by its phase, its first byte and its length.
 use Rattle.std.specs.List.{starts_with}
 use Rattle.std.specs.Prelude.{ℕ, ◌==◌, eqb, ◌&&◌, not, nat_lt, Bool, true, false, if◌then◌else◌, List, [], ◌∷◌, length, Option, Some, None}
+use Rattle.mysql_wire_packets.specs.Places.{is_short}
 use Rattle.mysql_wire_session_packets.specs.declared.packet_kind.PacketKind.{PacketKind}
 use Rattle.mysql_wire_session_packets.specs.declared.packet_kind.PacketKind.TheVariants as kind
 use Rattle.mysql_wire_session.specs.declared.classify.Expectation.{Expectation}
@@ -17,11 +18,6 @@ use Rattle.mysql_wire_session_packets.specs.declared.side.Side.TheVariants.{Clie
 abbrev pub first_byte : List ℕ → Option ℕ
 first_byte [] = None
 first_byte (byte ∷ bytes) = Some byte
-
--- a payload that begins with fe is too short for a row
-abbrev pub is_short : Bool → ℕ → Bool
-is_short true len = nat_lt len 0xffffff
-is_short false len = nat_lt len 9
 
 -- the error 65535: how far a command has come
 abbrev pub is_report : List ℕ → Bool

@@ -32,12 +32,11 @@ use Rattle.mysql_wire_session.specs.contracts.payload.ComPingPayload.TheImpl as 
 use Rattle.mysql_wire_session.specs.contracts.payload.ComQueryPayload.TheImpl as query
 use Rattle.mysql_wire_session.specs.contracts.payload.ComQueryWithAttributesPayload.TheImpl as attributed_query
 use Rattle.mysql_wire_session.specs.contracts.payload.ComQuitPayload.TheImpl as quit
-use Rattle.mysql_wire_session.specs.contracts.payload.ComStmtClosePayload.TheImpl as close
+use Rattle.mysql_wire_session.specs.contracts.payload.StatementCommandPayload.TheImpl as statement_command
 use Rattle.mysql_wire_session.specs.contracts.payload.ComStmtExecutePayload.TheImpl as execute
 use Rattle.mysql_wire_session.specs.contracts.payload.ComStmtFetchPayload.TheImpl as fetch
 use Rattle.mysql_wire_session.specs.contracts.payload.ComStmtPrepareOkPayload.TheImpl as prepared
 use Rattle.mysql_wire_session.specs.contracts.payload.ComStmtPreparePayload.TheImpl as prepare
-use Rattle.mysql_wire_session.specs.contracts.payload.ComStmtResetPayload.TheImpl as reset
 use Rattle.mysql_wire_session.specs.contracts.payload.ComStmtSendLongDataPayload.TheImpl as long_data
 use Rattle.mysql_wire_session.specs.contracts.payload.EofPacketPayload.TheImpl as eof
 use Rattle.mysql_wire_session.specs.contracts.payload.ErrPacketPayload.TheImpl as error
@@ -177,8 +176,8 @@ ReadsAs state kind.Prepare = IsRead packet.Prepare (prepare.ghosts.reads_whole t
 ReadsAs state kind.Execute = λ payload.
     IsExecution (statement_named payload) state.statements payload
 ReadsAs state kind.LongData = IsRead packet.LongData (long_data.ghosts.reads_whole tt)
-ReadsAs state kind.CloseStatement = IsRead packet.CloseStatement (close.ghosts.reads_whole tt)
-ReadsAs state kind.ResetStatement = IsRead packet.ResetStatement (reset.ghosts.reads_whole tt)
+ReadsAs state kind.CloseStatement = IsRead packet.CloseStatement ((statement_command.ghosts (number 0x19)).reads_whole tt)
+ReadsAs state kind.ResetStatement = IsRead packet.ResetStatement ((statement_command.ghosts (number 0x1a)).reads_whole tt)
 ReadsAs state kind.Fetch = IsRead packet.Fetch (fetch.ghosts.reads_whole tt)
 ReadsAs state kind.TooLarge = λ payload is. is ≡ packet.TooLarge
 ReadsAs state (kind.Refused refusal) = λ payload is. is ≡ packet.Refused refusal

@@ -1,8 +1,9 @@
 //! What a packet is, by its phase, its first byte and its length.
 
 ghost use Rattle.std.specs.Prelude.{◌≡◌};
-ghost use Rattle.mysql_wire_session.specs.Kinds.{answer_kind, client_kind, column_kind, columns_end_kind, command_kind, empty_kind, event_kind, field_kind, first_byte, greeting_kind, is_command, is_report, is_short, kind_by_front, option_kind, outcome_kind, prepare_kind, row_kind, server_kind, statistics_kind, values_kind};
+ghost use Rattle.mysql_wire_session.specs.Kinds.{answer_kind, client_kind, column_kind, columns_end_kind, command_kind, empty_kind, event_kind, field_kind, first_byte, greeting_kind, is_command, is_report, kind_by_front, option_kind, outcome_kind, prepare_kind, row_kind, server_kind, statistics_kind, values_kind};
 
+use mysql_wire_queries::row_answer::is_end;
 use mysql_wire_session_packets::packet_kind::PacketKind;
 use mysql_wire_session_packets::phase::{AfterColumns, Phase, RowForm};
 use mysql_wire_session_packets::refusal::Refusal;
@@ -25,17 +26,6 @@ pub fn first_byte(payload: &[u8]) -> Option<u8>
     match payload {
         [] => None,
         [byte, ..] => Some(*byte),
-    }
-}
-
-// Whether a payload that begins with `fe` is an end, and no row.
-fn is_short(is_eof_deprecated: bool, len: usize) -> bool
-    ensures { result ≡ is_short is_eof_deprecated len }
-{
-    if is_eof_deprecated {
-        len < 0xff_ffff
-    } else {
-        len < 9
     }
 }
 
@@ -203,7 +193,7 @@ fn field_kind(is_eof_deprecated: bool, first: u8, len: usize) -> PacketKind
 {
     if first == 0xff {
         PacketKind::Error
-    } else if first == 0xfe && is_short(is_eof_deprecated, len) {
+    } else if first == 0xfe && is_end(is_eof_deprecated, len) {
         PacketKind::Eof
     } else {
         PacketKind::Column
@@ -249,7 +239,7 @@ fn row_kind(row_form: RowForm, is_eof_deprecated: bool, first: u8, len: usize) -
 {
     if first == 0xff {
         PacketKind::Error
-    } else if first == 0xfe && is_short(is_eof_deprecated, len) {
+    } else if first == 0xfe && is_end(is_eof_deprecated, len) {
         PacketKind::Eof
     } else {
         values_kind(row_form)

@@ -25,13 +25,12 @@ use mysql_wire_queries::com_query_attributes::ComQueryWithAttributes;
 use mysql_wire_queries::com_quit::ComQuit;
 use mysql_wire_queries::local_infile::LocalInfileRequest;
 use mysql_wire_statements::binary_row::BinaryRow;
-use mysql_wire_statements::com_stmt_close::ComStmtClose;
 use mysql_wire_statements::com_stmt_execute::ComStmtExecute;
 use mysql_wire_statements::com_stmt_fetch::ComStmtFetch;
 use mysql_wire_statements::com_stmt_prepare::ComStmtPrepare;
 use mysql_wire_statements::com_stmt_prepare_ok::ComStmtPrepareOk;
-use mysql_wire_statements::com_stmt_reset::ComStmtReset;
 use mysql_wire_statements::com_stmt_send_long_data::ComStmtSendLongData;
+use mysql_wire_statements::statement_command::StatementCommand;
 use std::alloc::Global;
 use wire_buf::proto::MyDeserialize;
 
@@ -213,16 +212,9 @@ impl<'a> Payload<'a> for ComStmtPrepare<'a> {
     ghost is_read = { λ _ _ _ read. read };
 }
 
-impl<'a> Payload<'a> for ComStmtClose {
+impl<'a, const HEADER: u8> Payload<'a> for StatementCommand<HEADER> {
     ghost reads_whole = { λ ctx.
-        ReadsWhole (Parses None (⟦<ComStmtClose as MyDeserialize<'a, Global>>⟧.reads ctx)) };
-
-    ghost is_read = { λ _ _ _ read. read };
-}
-
-impl<'a> Payload<'a> for ComStmtReset {
-    ghost reads_whole = { λ ctx.
-        ReadsWhole (Parses None (⟦<ComStmtReset as MyDeserialize<'a, Global>>⟧.reads ctx)) };
+        ReadsWhole (Parses None (⟦<StatementCommand<HEADER> as MyDeserialize<'a, Global>>⟧.reads ctx)) };
 
     ghost is_read = { λ _ _ _ read. read };
 }

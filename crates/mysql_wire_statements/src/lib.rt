@@ -15,5 +15,6 @@ pub mod null_bitmap;
 pub mod params;
 pub mod prepare_answer;
 mod rest;
+pub mod statement_command;
 pub mod temporal;
 pub mod written_back;

@@ -2,13 +2,12 @@
 
 use crate::shown::{Field, Fields, Shown};
 use mysql_wire_statements::binary_row::BinaryRow;
-use mysql_wire_statements::com_stmt_close::ComStmtClose;
 use mysql_wire_statements::com_stmt_execute::ComStmtExecute;
 use mysql_wire_statements::com_stmt_fetch::ComStmtFetch;
 use mysql_wire_statements::com_stmt_prepare::ComStmtPrepare;
 use mysql_wire_statements::com_stmt_prepare_ok::ComStmtPrepareOk;
-use mysql_wire_statements::com_stmt_reset::ComStmtReset;
 use mysql_wire_statements::com_stmt_send_long_data::ComStmtSendLongData;
+use mysql_wire_statements::statement_command::StatementCommand;
 
 impl Shown for ComStmtPrepare<'_> {
     fn show(&self, fields: &mut Fields) {
@@ -57,12 +56,6 @@ impl Shown for ComStmtSendLongData<'_> {
     }
 }
 
-impl Shown for ComStmtReset {
-    fn show(&self, fields: &mut Fields) {
-        fields.put_all(&[Field::Number(0x1a), Field::Number(self.statement_id as u64)]);
-    }
-}
-
 impl Shown for ComStmtFetch {
     fn show(&self, fields: &mut Fields) {
         fields.put_all(&[
@@ -73,9 +66,12 @@ impl Shown for ComStmtFetch {
     }
 }
 
-impl Shown for ComStmtClose {
+impl<const HEADER: u8> Shown for StatementCommand<HEADER> {
     fn show(&self, fields: &mut Fields) {
-        fields.put_all(&[Field::Number(0x19), Field::Number(self.statement_id as u64)]);
+        fields.put_all(&[
+            Field::Number(HEADER as u64),
+            Field::Number(self.statement_id as u64),
+        ]);
     }
 }
 

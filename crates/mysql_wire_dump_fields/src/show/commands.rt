@@ -13,13 +13,12 @@ use mysql_wire_queries::com_ping::ComPing;
 use mysql_wire_queries::com_query::ComQuery;
 use mysql_wire_queries::com_query_attributes::ComQueryWithAttributes;
 use mysql_wire_queries::com_quit::ComQuit;
-use mysql_wire_statements::com_stmt_close::ComStmtClose;
 use mysql_wire_statements::com_stmt_execute::ComStmtExecute;
 use mysql_wire_statements::com_stmt_fetch::ComStmtFetch;
 use mysql_wire_statements::com_stmt_prepare::ComStmtPrepare;
-use mysql_wire_statements::com_stmt_reset::ComStmtReset;
 use mysql_wire_statements::com_stmt_send_long_data::ComStmtSendLongData;
 use mysql_wire_statements::params::{ParamTypes, StmtParams};
+use mysql_wire_statements::statement_command::StatementCommand;
 use std::alloc::{AllocError, Allocator};
 use wire_text::fields::Field::{Bytes, Flags, Number, Text};
 use wire_text::fields::{Field, FieldValue, Fields};
@@ -186,15 +185,7 @@ impl Show for ComStmtPrepare<'_> {
     }
 }
 
-impl Show for ComStmtClose {
-    ghost members = { λ packet. number_fields packet.statement_id };
-
-    fn show<A: Allocator + Copy>(&self, fields: &mut Fields<A>) -> Result<(), AllocError> {
-        number_of_statement(fields, self.statement_id)
-    }
-}
-
-impl Show for ComStmtReset {
+impl<const HEADER: u8> Show for StatementCommand<HEADER> {
     ghost members = { λ packet. number_fields packet.statement_id };
 
     fn show<A: Allocator + Copy>(&self, fields: &mut Fields<A>) -> Result<(), AllocError> {
