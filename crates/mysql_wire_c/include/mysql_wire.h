@@ -22,9 +22,12 @@
  *     }
  *     mysql_wire_close(&connection);
  *
+ * A `mysql_wire_session` follows both sides of a connection packet by packet: whose turn it is, and
+ * where an answer ends.
+ *
  * What a caller upholds, since C can't:
  *   - a `mysql_wire_connection` starts as NULL, and is never copied: pass its address. It is closed
- *     in the end, or its memory is lost;
+ *     in the end, or its memory is lost. The same of a `mysql_wire_session`, as of all that follows;
  *   - one call at a time on one connection. It may move between threads, where each call on it
  *     happens before the next, as under a mutex; calls on two connections may run at once;
  *   - addresses are valid for the lengths given with them (one may be NULL where its length is 0),
@@ -68,6 +71,9 @@ extern "C" {
 /* One side of a connection; NULL where it is closed. */
 typedef struct mysql_wire_connection_state *mysql_wire_connection;
 
+/* A session, followed; NULL where there is none. */
+typedef struct mysql_wire_session_state *mysql_wire_session;
+
 /* Bytes that are lent. `at` is never NULL after a call that sets it; `len` may be 0. */
 typedef struct mysql_wire_view {
     const uint8_t *at;
@@ -82,9 +88,9 @@ typedef struct mysql_wire_span {
 
 /*
  * The answers. Below 0 is a refusal; at each call stands which ones it has, and what they leave.
- * Every call at NULL (a closed connection) answers MYSQL_WIRE_CLOSED, or 0 where it answers a
- * count; it empties a view that it would set, sets a `len` or a `count` that it would set to 0, and
- * does nothing else.
+ * Every call at NULL (a closed connection, no session) answers MYSQL_WIRE_CLOSED, or 0 where it
+ * answers a count or flags of 32 bits; it empties a view that it would set, sets a number that it
+ * would set to 0, and does nothing else.
  */
 enum {
     MYSQL_WIRE_OK = 0,
@@ -92,18 +98,23 @@ enum {
     MYSQL_WIRE_PACKET = 1,          /* a packet stands whole */
     MYSQL_WIRE_SPAN = 2,            /* bytes of a packet */
     MYSQL_WIRE_NULL = 3,            /* the text is NULL */
+    MYSQL_WIRE_NEEDS_WHOLE = 4,     /* the session has to see the whole packet */
+    MYSQL_WIRE_REFUSED = 5,         /* the payload is no packet of its kind */
     MYSQL_WIRE_TOO_LARGE = -1,      /* the packet is above the limit */
     MYSQL_WIRE_OUT_OF_SYNC = -2,    /* a packet bears another number than the expected one */
     MYSQL_WIRE_NO_MEMORY = -3,      /* memory was refused: the same call may be made again */
     MYSQL_WIRE_ROOM_TOO_SMALL = -4, /* the caller's room is too small */
-    MYSQL_WIRE_CLOSED = -5,         /* the connection is NULL */
-    MYSQL_WIRE_IS_OPEN = -6,        /* the connection to open isn't NULL */
+    MYSQL_WIRE_CLOSED = -5,         /* the connection, or the session, is NULL */
+    MYSQL_WIRE_IS_OPEN = -6,        /* the connection to open, or the session, isn't NULL */
     MYSQL_WIRE_PACKET_WAITS = -7,   /* a packet must be taken first */
     MYSQL_WIRE_NO_PACKET = -8,      /* there is no packet to take */
     MYSQL_WIRE_MISSING_BYTES = -9,  /* the bytes end inside a field */
     MYSQL_WIRE_NOT_A_NUMBER = -10,  /* fb or ff where a length-encoded integer has to stand, or a
                                        width that isn't 1 to 8 */
-    MYSQL_WIRE_INVALID_STATE = -11  /* the `mysql_wire_spans` is of no stream */
+    MYSQL_WIRE_INVALID_STATE = -11, /* the `mysql_wire_spans` is of no stream */
+    MYSQL_WIRE_NOT_A_SIDE = -12,    /* the side is neither of the two */
+    MYSQL_WIRE_NOT_A_FRONT = -13,   /* neither a payload nor its first bytes, three or more */
+    MYSQL_WIRE_NO_STATEMENT = -14   /* no statement of this number is known */
 };
 
 /* The version of the library: 10000 times its first number, 100 times its second, and its third. */
@@ -373,6 +384,103 @@ int32_t mysql_wire_spans_next(mysql_wire_spans *spans, const uint8_t *bytes, siz
  */
 int32_t mysql_wire_spans_renumber(mysql_wire_spans *spans, uint8_t *bytes, size_t len,
                                   size_t *used);
+
+/*
+ * --- a session ---
+ * What each packet of a connection is, whose turn it is, and where an answer ends: a session is told
+ * of every packet that either side sends, in order, and knows what its packets have said. For
+ * proxies, pools, and who shows what was captured.
+ *
+ *     mysql_wire_session session = NULL;
+ *     mysql_wire_session_new(&session);
+ *     ..
+ *     code = mysql_wire_session_packet(&session, MYSQL_WIRE_SIDE_SERVER, id, at, len, &kind);
+ *     if (code >= 0 && mysql_wire_session_is_idle(&session) == 1) reuse(connection);
+ *
+ * mysql_wire_constants.h has the constants that are named here: `side` is a MYSQL_WIRE_SIDE, `kind` a
+ * MYSQL_WIRE_KIND, or 0 where none is told. `id` is the number of the packet's first chunk, `len` the
+ * length of its payload without the headers of chunks, of up to SIZE_MAX bytes. A packet is taken for
+ * what the phase, its length and its first three bytes make it, whichever side may be next: whether
+ * that side's turn it is, `mysql_wire_session_next_sender` says before.
+ *
+ * A session holds some 200 bytes, a byte for each column of the last answer, up to 4096, and 12 for
+ * each statement that was prepared, up to the last 64. It keeps no payload.
+ */
+
+/*
+ * A session that begins: the server's greeting comes first. It goes where `session` points, which has
+ * to be NULL there.
+ * OK; IS_OPEN and NO_MEMORY change nothing.
+ */
+int32_t mysql_wire_session_new(mysql_wire_session *session);
+
+/* Frees all, and leaves NULL; at NULL does nothing. */
+void mysql_wire_session_free(mysql_wire_session *session);
+
+/*
+ * Reads a whole payload as what it has to be, and goes on after it.
+ * OK. REFUSED: it is no packet of its kind, which `kind` is all the same; the session goes on after it
+ * as after one that says nothing. NOT_A_SIDE and NO_MEMORY change nothing, and leave a `kind` of 0.
+ */
+int32_t mysql_wire_session_packet(mysql_wire_session *session, uint32_t side, uint8_t id,
+                                  const uint8_t *payload, size_t len, uint32_t *kind);
+
+/*
+ * Goes on after a packet of `len` bytes, of which the first `front_len` have come: three of them or
+ * more, or all. Rows, pieces of files, statements and most other packets need no more.
+ * OK. NEEDS_WHOLE: what is known after a packet of this kind hangs on all of it: gather it, and call
+ * again with a `front_len` of `len`. So it is with greetings that are errors, logins, what ends an
+ * answer or its rows, counts and definitions of columns, answers to COM_STMT_PREPARE, requests for a
+ * file, and COM_STMT_FETCH. NOT_A_SIDE; NOT_A_FRONT: `front_len` is above `len`, or below it and below
+ * 3; NO_MEMORY, which only a whole payload gets. All but OK change nothing, and all but OK and
+ * NEEDS_WHOLE leave a `kind` of 0.
+ */
+int32_t mysql_wire_session_front(mysql_wire_session *session, uint32_t side, uint8_t id, size_t len,
+                                 const uint8_t *front, size_t front_len, uint32_t *kind);
+
+/*
+ * What such a packet is. Nothing changes. OK; NOT_A_SIDE, NOT_A_FRONT: `kind` is 0.
+ */
+int32_t mysql_wire_session_classify(mysql_wire_session *session, uint32_t side, uint8_t id,
+                                    size_t len, const uint8_t *front, size_t front_len,
+                                    uint32_t *kind);
+
+/*
+ * Goes on after a packet of `len` bytes that was not looked at, as one above a limit: a command of the
+ * client is answered next, whichever it was; and a definition of a column has gone by.
+ * OK; NOT_A_SIDE changes nothing.
+ */
+int32_t mysql_wire_session_pass(mysql_wire_session *session, uint32_t side, uint8_t id, size_t len);
+
+/* What is waited for, a MYSQL_WIRE_PHASE: 0 or more. CLOSED. */
+int32_t mysql_wire_session_phase(mysql_wire_session *session);
+
+/* Whose packet is next, a MYSQL_WIRE_SENDER: 0 or more. CLOSED. */
+int32_t mysql_wire_session_next_sender(mysql_wire_session *session);
+
+/*
+ * 1 where a command is waited for, so that another client may have the connection; else 0. Whether a
+ * transaction is open, `mysql_wire_session_status` says. CLOSED.
+ */
+int32_t mysql_wire_session_is_idle(mysql_wire_session *session);
+
+/* The status that the last OK or EOF told: 0 to 65535, flags as MYSQL_WIRE_SERVER_STATUS_IN_TRANS; 0
+   before the first. CLOSED. */
+int32_t mysql_wire_session_status(mysql_wire_session *session);
+
+/* What the client can do, by its login: flags as MYSQL_WIRE_CLIENT_PROTOCOL_41, which is the only one
+   before that. 0 at NULL. */
+uint32_t mysql_wire_session_capabilities(mysql_wire_session *session);
+
+/* The number that follows the last packet's last chunk: 0 to 255. CLOSED. */
+int32_t mysql_wire_session_next_id(mysql_wire_session *session);
+
+/*
+ * How many parameters and columns the newest statement of this number has, of the last 64 that were
+ * prepared. OK; NO_STATEMENT: none of them has it, or it was never prepared, and both are 0.
+ */
+int32_t mysql_wire_session_statement(mysql_wire_session *session, uint32_t number,
+                                     uint16_t *parameters, uint16_t *columns);
 
 /* A text for a code, ended by a zero that isn't counted in `len`. It is there for good. */
 void mysql_wire_message(int32_t code, mysql_wire_view *text);

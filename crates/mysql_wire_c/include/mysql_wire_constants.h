@@ -1,7 +1,8 @@
 /*
  * The constants of MySQL's client/server protocol, as crates/wire_const has them, whose
  * scripts/c_constants.py wrote this file. A constant bears its name in the protocol behind
- * MYSQL_WIRE_, but for a leading MYSQL_.
+ * MYSQL_WIRE_, but for a leading MYSQL_. At the end stand those of a session, as
+ * crates/mysql_wire_session has them.
  */
 #ifndef MYSQL_WIRE_CONSTANTS_H
 #define MYSQL_WIRE_CONSTANTS_H
@@ -484,5 +485,96 @@
 #define MYSQL_WIRE_SESSION_TRACK_TRANSACTION_CHARACTERISTICS 4
 /* What the open transaction has done so far, a letter for each kind. */
 #define MYSQL_WIRE_SESSION_TRACK_TRANSACTION_STATE 5
+
+/* Side: One of the two that a connection joins. */
+
+#define MYSQL_WIRE_SIDE_CLIENT 0u
+#define MYSQL_WIRE_SIDE_SERVER 1u
+
+/* Sender: Whose packet is next. */
+
+#define MYSQL_WIRE_SENDER_CLIENT 0
+#define MYSQL_WIRE_SENDER_SERVER 1
+/* Either side's: while the client authenticates itself; and where no packet is waited for. */
+#define MYSQL_WIRE_SENDER_EITHER 2
+
+/* Phase: What a session waits for. */
+
+/* The server's first packet. */
+#define MYSQL_WIRE_PHASE_GREETING 0
+/* The client's answer to it. */
+#define MYSQL_WIRE_PHASE_LOGIN 1
+/* What both sides send until the client is in. */
+#define MYSQL_WIRE_PHASE_AUTHENTICATION 2
+/* The client's next command: the session is idle. */
+#define MYSQL_WIRE_PHASE_COMMAND 3
+/* The first packet of an answer, which may be one with rows. */
+#define MYSQL_WIRE_PHASE_ANSWER 4
+/* The answer to COM_STMT_PREPARE. */
+#define MYSQL_WIRE_PHASE_PREPARE_ANSWER 5
+/* The answer to COM_SET_OPTION and its like, which may be an EOF. */
+#define MYSQL_WIRE_PHASE_OPTION_ANSWER 6
+/* The answer to COM_STATISTICS: a text. */
+#define MYSQL_WIRE_PHASE_STATISTICS 7
+/* The answer to COM_FIELD_LIST. */
+#define MYSQL_WIRE_PHASE_FIELD_LIST 8
+/* The events of a binary log. */
+#define MYSQL_WIRE_PHASE_BINARY_LOG 9
+/* This many definitions of columns, and what follows them. */
+#define MYSQL_WIRE_PHASE_COLUMNS 10
+/* The EOF that ends definitions. */
+#define MYSQL_WIRE_PHASE_COLUMNS_END 11
+#define MYSQL_WIRE_PHASE_ROWS 12
+/* A file of the client, which an empty packet ends. */
+#define MYSQL_WIRE_PHASE_FILE 13
+/* Nothing: the client has quit, or was refused. */
+#define MYSQL_WIRE_PHASE_CLOSED 14
+/* TLS, which hides the packets. */
+#define MYSQL_WIRE_PHASE_ENCRYPTED 15
+
+/* PacketKind: What a packet is, at its place. */
+
+#define MYSQL_WIRE_KIND_GREETING 1u
+#define MYSQL_WIRE_KIND_TLS_REQUEST 2u
+#define MYSQL_WIRE_KIND_LOGIN 3u
+#define MYSQL_WIRE_KIND_AUTH_SWITCH 4u
+#define MYSQL_WIRE_KIND_AUTH_MORE_DATA 5u
+#define MYSQL_WIRE_KIND_AUTH_ANSWER 6u
+#define MYSQL_WIRE_KIND_OK 7u
+#define MYSQL_WIRE_KIND_ERROR 8u
+/* How far a command has come. */
+#define MYSQL_WIRE_KIND_PROGRESS 9u
+#define MYSQL_WIRE_KIND_EOF 10u
+#define MYSQL_WIRE_KIND_COLUMN_COUNT 11u
+#define MYSQL_WIRE_KIND_COLUMN 12u
+#define MYSQL_WIRE_KIND_ROW 13u
+#define MYSQL_WIRE_KIND_BINARY_ROW 14u
+#define MYSQL_WIRE_KIND_LOCAL_INFILE 15u
+#define MYSQL_WIRE_KIND_FILE 16u
+#define MYSQL_WIRE_KIND_PREPARED 17u
+#define MYSQL_WIRE_KIND_STATISTICS 18u
+#define MYSQL_WIRE_KIND_BINARY_LOG_EVENT 19u
+#define MYSQL_WIRE_KIND_QUERY 20u
+#define MYSQL_WIRE_KIND_INIT_DATABASE 21u
+#define MYSQL_WIRE_KIND_PING 22u
+#define MYSQL_WIRE_KIND_QUIT 23u
+#define MYSQL_WIRE_KIND_CHANGE_USER 24u
+#define MYSQL_WIRE_KIND_PREPARE 25u
+#define MYSQL_WIRE_KIND_EXECUTE 26u
+#define MYSQL_WIRE_KIND_LONG_DATA 27u
+#define MYSQL_WIRE_KIND_CLOSE_STATEMENT 28u
+#define MYSQL_WIRE_KIND_RESET_STATEMENT 29u
+#define MYSQL_WIRE_KIND_FETCH 30u
+#define MYSQL_WIRE_KIND_FIELD_LIST 31u
+#define MYSQL_WIRE_KIND_SET_OPTION 32u
+#define MYSQL_WIRE_KIND_STATISTICS_REQUEST 33u
+#define MYSQL_WIRE_KIND_RESET_CONNECTION 34u
+#define MYSQL_WIRE_KIND_BINARY_LOG_REQUEST 35u
+/* A command that no type of packet is for. */
+#define MYSQL_WIRE_KIND_OTHER_COMMAND 36u
+/* Longer than the limit: the payload was passed over. */
+#define MYSQL_WIRE_KIND_TOO_LARGE 37u
+/* The type of its place refuses it. */
+#define MYSQL_WIRE_KIND_REFUSED 38u
 
 #endif

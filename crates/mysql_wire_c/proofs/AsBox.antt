@@ -21,7 +21,7 @@ use Rattle.std_heap.specs.contracts.GlobalAllocator.TheImpl.{ghosts, dict}
 use Rattle.std_heap.proofs.Global.TheLaws as heap
 use Rattle.mysql_wire_side.specs.contracts.connection.Connection as Connection
 use Rattle.mysql_wire_side.proofs.connection.Connection.TheLaws as connection
-use Rattle.mysql_wire_c.specs.contracts.handle.parts.Parts as Parts
+use Rattle.mysql_wire_side.specs.contracts.parts.Parts as Parts
 use Rattle.mysql_wire_c.specs.contracts.handle.Handle as Handle
 
 abbrev pub E : Bx

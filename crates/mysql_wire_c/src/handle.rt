@@ -6,10 +6,8 @@ ghost use types.Logic.{sem};
 ghost use Rattle.mysql_wire_side.specs.declared.connection.Connection.{Connection};
 ghost use Rattle.mysql_wire_c.specs.Owned.{connection_coded, handle_owns};
 
-mod parts;
-
 use mysql_wire_side::connection::Connection;
-use parts::Parts;
+use mysql_wire_side::parts::Parts;
 use std::alloc::Global;
 use std::marker::Model;
 

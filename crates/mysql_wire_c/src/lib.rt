@@ -25,6 +25,7 @@ pub mod connection;
 pub mod fields;
 pub mod handle;
 pub mod rows;
+pub mod session;
 pub mod spans;
 pub mod texts;
 pub mod view;

@@ -61,6 +61,6 @@ int main(int words, char **word) {
     int failed = run(thread_tests);
     if (words == 1)
         failed += run(call_tests) + run(stream_tests) + run(span_tests) + run(memory_tests) +
-                  run(field_tests);
+                  run(field_tests) + run(session_tests);
     return failed == 0 ? EXIT_SUCCESS : EXIT_FAILURE;
 }

@@ -18,6 +18,7 @@ extern const test stream_tests[];
 extern const test span_tests[];
 extern const test memory_tests[];
 extern const test field_tests[];
+extern const test session_tests[];
 extern const test thread_tests[];
 
 /* Says where something is not as it has to be, once for each test, and goes on. */

@@ -15,6 +15,12 @@ pub const SPAN: i32 = 2;
 /// The text is NULL.
 pub const NULL: i32 = 3;
 
+/// What is known after the packet hangs on all of it.
+pub const NEEDS_WHOLE: i32 = 4;
+
+/// The payload is no packet of its kind.
+pub const REFUSED: i32 = 5;
+
 /// The packet is above the limit.
 pub const TOO_LARGE: i32 = -1;
 
@@ -47,3 +53,12 @@ pub const NOT_A_NUMBER: i32 = -10;
 
 /// The record is of no stream, wherever it stood.
 pub const INVALID_STATE: i32 = -11;
+
+/// No side has this number.
+pub const NOT_A_SIDE: i32 = -12;
+
+/// These are not the first bytes of a payload, three of them or more, or all.
+pub const NOT_A_FRONT: i32 = -13;
+
+/// No statement of this number is known.
+pub const NO_STATEMENT: i32 = -14;

@@ -1,0 +1,4 @@
+pub mod Numbers
+pub mod Calls
+pub mod Owned
+pub mod Lent
