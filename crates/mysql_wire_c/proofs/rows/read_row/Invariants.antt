@@ -1,4 +1,4 @@
-use Rattle.std.proofs.Common.{ℕ, ◌-◌, ◌≤◌, length, take}
+use Rattle.std.proofs.Common.{◌-◌, ◌≤◌, length, take}
 use Rattle.mysql_wire_c.specs.Rows.{ReadsRow}
 use Rattle.mysql_wire_c.proofs.rows.read_row.Given as goal
 
