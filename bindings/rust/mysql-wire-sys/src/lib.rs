@@ -15,6 +15,16 @@ pub struct State {
 /// `mysql_wire_connection`: NULL where it is closed.
 pub type Handle = *mut State;
 
+/// What a session points to.
+#[repr(C)]
+pub struct SessionState {
+    opaque: [u8; 0],
+    marker: PhantomData<(*mut u8, PhantomPinned)>,
+}
+
+/// `mysql_wire_session`: NULL where there is none.
+pub type SessionHandle = *mut SessionState;
+
 /// `mysql_wire_view`: bytes that are lent.
 #[repr(C)]
 pub struct View {
@@ -113,6 +123,52 @@ extern "C" {
         bytes: *mut u8,
         len: usize,
         used: *mut usize,
+    ) -> i32;
+    pub fn mysql_wire_session_new(session: *mut SessionHandle) -> i32;
+    pub fn mysql_wire_session_free(session: *mut SessionHandle);
+    pub fn mysql_wire_session_packet(
+        session: *mut SessionHandle,
+        side: u32,
+        id: u8,
+        payload: *const u8,
+        len: usize,
+        kind: *mut u32,
+    ) -> i32;
+    pub fn mysql_wire_session_front(
+        session: *mut SessionHandle,
+        side: u32,
+        id: u8,
+        len: usize,
+        front: *const u8,
+        front_len: usize,
+        kind: *mut u32,
+    ) -> i32;
+    pub fn mysql_wire_session_classify(
+        session: *mut SessionHandle,
+        side: u32,
+        id: u8,
+        len: usize,
+        front: *const u8,
+        front_len: usize,
+        kind: *mut u32,
+    ) -> i32;
+    pub fn mysql_wire_session_pass(
+        session: *mut SessionHandle,
+        side: u32,
+        id: u8,
+        len: usize,
+    ) -> i32;
+    pub fn mysql_wire_session_phase(session: *mut SessionHandle) -> i32;
+    pub fn mysql_wire_session_next_sender(session: *mut SessionHandle) -> i32;
+    pub fn mysql_wire_session_is_idle(session: *mut SessionHandle) -> i32;
+    pub fn mysql_wire_session_status(session: *mut SessionHandle) -> i32;
+    pub fn mysql_wire_session_capabilities(session: *mut SessionHandle) -> u32;
+    pub fn mysql_wire_session_next_id(session: *mut SessionHandle) -> i32;
+    pub fn mysql_wire_session_statement(
+        session: *mut SessionHandle,
+        number: u32,
+        parameters: *mut u16,
+        columns: *mut u16,
     ) -> i32;
     pub fn mysql_wire_message(code: i32, text: *mut View);
     pub fn mysql_wire_read_int(

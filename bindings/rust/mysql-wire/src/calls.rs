@@ -29,6 +29,20 @@ impl Drop for Handle {
     }
 }
 
+/// A session's handle. It is freed where it is dropped.
+pub struct SessionHandle(UnsafeCell<c::SessionHandle>);
+
+// SAFETY: a session has no state beside its own memory, so it may move to another thread; it isn't
+// `Sync`, so that one thread makes calls at a time.
+unsafe impl Send for SessionHandle {}
+
+impl Drop for SessionHandle {
+    fn drop(&mut self) {
+        // SAFETY: the handle has a session. NULL is left.
+        unsafe { c::mysql_wire_session_free(self.0.get()) }
+    }
+}
+
 pub fn version() -> u32 {
     // SAFETY: it takes nothing.
     unsafe { c::mysql_wire_version() }
@@ -277,4 +291,103 @@ pub fn encode_header(handle: &mut Handle, len: usize) -> (i32, [u8; 4]) {
 pub fn set_sequence_id(handle: &mut Handle, id: u8) -> i32 {
     // SAFETY: the handle is open.
     unsafe { c::mysql_wire_set_sequence_id(handle.0.get(), id) }
+}
+
+pub fn new_session() -> Result<SessionHandle, i32> {
+    let mut handle = ptr::null_mut();
+    // SAFETY: the handle is NULL, as it has to be.
+    match unsafe { c::mysql_wire_session_new(&mut handle) } {
+        0 => Ok(SessionHandle(UnsafeCell::new(handle))),
+        code => Err(code),
+    }
+}
+
+/// The code, and the number of a kind, or 0.
+pub fn session_packet(handle: &mut SessionHandle, side: u32, id: u8, payload: &[u8]) -> (i32, u32) {
+    let mut kind = 0;
+    let (at, len) = (payload.as_ptr(), payload.len());
+    // SAFETY: the handle has a session, the slice is valid for its length, and `kind` is a place.
+    let code =
+        unsafe { c::mysql_wire_session_packet(handle.0.get(), side, id, at, len, &mut kind) };
+    (code, kind)
+}
+
+/// The code, and the number of a kind, or 0.
+#[inline]
+pub fn session_front(
+    handle: &mut SessionHandle,
+    side: u32,
+    id: u8,
+    len: usize,
+    front: &[u8],
+) -> (i32, u32) {
+    let mut kind = 0;
+    // SAFETY: as of `session_packet`.
+    let code = unsafe {
+        let (at, front_len) = (front.as_ptr(), front.len());
+        c::mysql_wire_session_front(handle.0.get(), side, id, len, at, front_len, &mut kind)
+    };
+    (code, kind)
+}
+
+/// The code, and the number of a kind, or 0.
+pub fn session_classify(
+    handle: &SessionHandle,
+    side: u32,
+    id: u8,
+    len: usize,
+    front: &[u8],
+) -> (i32, u32) {
+    let mut kind = 0;
+    // SAFETY: as of `session_packet`.
+    let code = unsafe {
+        let (at, front_len) = (front.as_ptr(), front.len());
+        c::mysql_wire_session_classify(handle.0.get(), side, id, len, at, front_len, &mut kind)
+    };
+    (code, kind)
+}
+
+pub fn session_pass(handle: &mut SessionHandle, side: u32, id: u8, len: usize) -> i32 {
+    // SAFETY: the handle has a session.
+    unsafe { c::mysql_wire_session_pass(handle.0.get(), side, id, len) }
+}
+
+pub fn session_phase(handle: &SessionHandle) -> i32 {
+    // SAFETY: the handle has a session.
+    unsafe { c::mysql_wire_session_phase(handle.0.get()) }
+}
+
+pub fn session_next_sender(handle: &SessionHandle) -> i32 {
+    // SAFETY: the handle has a session.
+    unsafe { c::mysql_wire_session_next_sender(handle.0.get()) }
+}
+
+pub fn session_is_idle(handle: &SessionHandle) -> i32 {
+    // SAFETY: the handle has a session.
+    unsafe { c::mysql_wire_session_is_idle(handle.0.get()) }
+}
+
+pub fn session_status(handle: &SessionHandle) -> i32 {
+    // SAFETY: the handle has a session.
+    unsafe { c::mysql_wire_session_status(handle.0.get()) }
+}
+
+pub fn session_capabilities(handle: &SessionHandle) -> u32 {
+    // SAFETY: the handle has a session.
+    unsafe { c::mysql_wire_session_capabilities(handle.0.get()) }
+}
+
+pub fn session_next_id(handle: &SessionHandle) -> i32 {
+    // SAFETY: the handle has a session.
+    unsafe { c::mysql_wire_session_next_id(handle.0.get()) }
+}
+
+/// The code, and how many parameters and columns there are.
+pub fn session_statement(handle: &SessionHandle, number: u32) -> (i32, u16, u16) {
+    let (mut parameters, mut columns) = (0, 0);
+    // SAFETY: the handle has a session, and the others are places.
+    let code = unsafe {
+        c::mysql_wire_session_statement(handle.0.get(), number, &mut parameters, &mut columns)
+    };
+    (code, parameters, columns)
 }

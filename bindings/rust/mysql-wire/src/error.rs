@@ -22,6 +22,8 @@ pub enum Error {
     MissingBytes,
     /// `fb` or `ff` where a length-encoded integer has to stand, or a width that isn't 1 to 8.
     NotANumber,
+    /// Neither a whole payload nor its first bytes, three or more.
+    NotAFront,
 }
 
 impl Error {
@@ -37,6 +39,7 @@ impl Error {
             -8 => Error::NoPacket,
             -9 => Error::MissingBytes,
             -10 => Error::NotANumber,
+            -13 => Error::NotAFront,
             _ => Error::OutOfMemory,
         }
     }
@@ -63,6 +66,7 @@ impl fmt::Display for Error {
             Error::NoPacket => "there is no packet to take",
             Error::MissingBytes => "the bytes end inside a field",
             Error::NotANumber => "no number of this width, or no length-encoded integer",
+            Error::NotAFront => "neither a payload nor its first bytes, three or more",
         })
     }
 }

@@ -21,7 +21,8 @@
 //! # }
 //! ```
 //!
-//! Packets of any size pass in constant memory as [`Spans`] of the bytes that bring them.
+//! Packets of any size pass in constant memory as [`Spans`] of the bytes that bring them. A [`Session`]
+//! says what each packet is, whose turn it is, and where an answer ends.
 //!
 //! <https://dev.mysql.com/doc/dev/mysql-server/latest/page_protocol_basic_packets.html>
 
@@ -32,12 +33,14 @@ mod calls;
 mod connection;
 mod error;
 mod fields;
+mod session;
 mod spans;
 
 pub use calls::Place;
 pub use connection::{framed_len, Connection};
 pub use error::Error;
 pub use fields::{put_int, put_lenenc_bytes, put_lenenc_int, put_null_bytes, Fields};
+pub use session::{FrontError, PacketKind, Phase, Received, Sender, Session, Side, Statement};
 pub use spans::{Span, Spans};
 
 /// The version of the library: 10000 times its first number, 100 times its second, and its third. The
