@@ -25,16 +25,20 @@ import warnings
 import weakref
 from array import array
 from ctypes import (
-    POINTER, byref, c_char_p, c_int32, c_size_t, c_uint8, c_uint32, c_uint64, c_void_p,
+    POINTER, byref, c_char_p, c_int32, c_size_t, c_uint8, c_uint16, c_uint32, c_uint64, c_void_p,
 )
+from enum import IntEnum
 from itertools import chain
 from operator import index, length_hint
-from typing import Any, Callable, Iterable, Iterator, List, Optional, Tuple, Type, Union
+from typing import (
+    Any, Callable, Iterable, Iterator, List, NamedTuple, Optional, Tuple, Type, Union,
+)
 
 __all__ = [
-    "Closed", "Connection", "Error", "Fields", "MissingBytes", "NotANumber", "OutOfMemory",
-    "PacketTooLarge", "PacketWaits", "PacketsOutOfSync", "Spans", "int_bytes", "lenenc_bytes",
-    "lenenc_int_bytes", "null_bytes", "version",
+    "Closed", "Connection", "Error", "Fields", "MissingBytes", "NeedsWhole", "NotAFront",
+    "NotANumber", "OutOfMemory", "PacketKind", "PacketTooLarge", "PacketWaits", "PacketsOutOfSync",
+    "Phase", "Received", "Sender", "Session", "Side", "Spans", "Statement", "int_bytes",
+    "lenenc_bytes", "lenenc_int_bytes", "null_bytes", "version",
 ]
 __version__ = "0.2.0"
 
@@ -58,7 +62,7 @@ class OutOfMemory(Error, MemoryError):
 
 
 class Closed(Error):
-    """The connection is closed."""
+    """The connection, or the session, is closed."""
 
 
 class PacketWaits(Error):
@@ -73,6 +77,20 @@ class NotANumber(Error, ValueError):
     """fb or ff where a length-encoded integer has to stand, or a width that isn't 1 to 8."""
 
 
+class NotAFront(Error, ValueError):
+    """Neither a payload nor its first bytes, three or more."""
+
+
+class NeedsWhole(Error):
+    """What a session knows after a packet of this `kind` hangs on all of it. Nothing has changed:
+    give the whole payload.
+    """
+
+    def __init__(self, kind: PacketKind) -> None:
+        super().__init__(f"the whole packet is needed: {kind.name}")
+        self.kind = kind
+
+
 _REFUSALS = {
     -1: PacketTooLarge,
     -2: PacketsOutOfSync,
@@ -81,9 +99,13 @@ _REFUSALS = {
     -7: PacketWaits,
     -9: MissingBytes,
     -10: NotANumber,
+    -13: NotAFront,
 }
 _OUT_OF_SYNC = -2
 _PACKET_WAITS = -7
+_NO_STATEMENT = -14
+_NEEDS_WHOLE = 4
+_REFUSED = 5
 _NOWHERE = (1 << 64) - 1  # where a text is that is NULL
 _CHUNK_HEADER = 4
 _JUDGED = 1024  # how many packets are judged by one call of the library
@@ -186,6 +208,24 @@ _spans_next = _call(
 )
 _spans_renumber = _call(
     "spans_renumber", c_int32, POINTER(_Spans), c_void_p, c_size_t, _COUNT
+)
+_session_new = _call("session_new", c_int32, _HANDLE)
+_session_free = _call("session_free", None, _HANDLE)
+_session_packet = _call(
+    "session_packet", c_int32, _HANDLE, c_uint32, c_uint8, c_char_p, c_size_t, POINTER(c_uint32)
+)
+_FRONT = (_HANDLE, c_uint32, c_uint8, c_size_t, c_char_p, c_size_t, POINTER(c_uint32))
+_session_front = _call("session_front", c_int32, *_FRONT)
+_session_classify = _call("session_classify", c_int32, *_FRONT)
+_session_pass = _call("session_pass", c_int32, _HANDLE, c_uint32, c_uint8, c_size_t)
+_session_phase = _call("session_phase", c_int32, _HANDLE)
+_session_next_sender = _call("session_next_sender", c_int32, _HANDLE)
+_session_is_idle = _call("session_is_idle", c_int32, _HANDLE)
+_session_status = _call("session_status", c_int32, _HANDLE)
+_session_capabilities = _call("session_capabilities", c_uint32, _HANDLE)
+_session_next_id = _call("session_next_id", c_int32, _HANDLE)
+_session_statement = _call(
+    "session_statement", c_int32, _HANDLE, c_uint32, POINTER(c_uint16), POINTER(c_uint16)
 )
 _message = _call("message", None, c_int32, POINTER(_View))
 _read_int = _call("read_int", c_int32, *_PLACE, c_size_t, POINTER(c_uint64))
@@ -553,6 +593,228 @@ class Spans:
     @next_id.setter
     def next_id(self, id: int) -> None:
         self._spans.next_id = _packet_id(id)
+
+
+class Side(IntEnum):
+    """One of the two that a connection joins."""
+
+    CLIENT = 0
+    SERVER = 1
+
+
+class Sender(IntEnum):
+    """Whose packet is next: either's while the client authenticates itself, and where no packet is
+    waited for.
+    """
+
+    CLIENT = 0
+    SERVER = 1
+    EITHER = 2
+
+
+class Phase(IntEnum):
+    """What a session waits for."""
+
+    GREETING = 0
+    LOGIN = 1
+    AUTHENTICATION = 2
+    COMMAND = 3
+    ANSWER = 4
+    PREPARE_ANSWER = 5
+    OPTION_ANSWER = 6
+    STATISTICS = 7
+    FIELD_LIST = 8
+    BINARY_LOG = 9
+    COLUMNS = 10
+    COLUMNS_END = 11
+    ROWS = 12
+    FILE = 13
+    CLOSED = 14
+    ENCRYPTED = 15
+
+
+class PacketKind(IntEnum):
+    """What a packet is, at its place."""
+
+    GREETING = 1
+    TLS_REQUEST = 2
+    LOGIN = 3
+    AUTH_SWITCH = 4
+    AUTH_MORE_DATA = 5
+    AUTH_ANSWER = 6
+    OK = 7
+    ERROR = 8
+    PROGRESS = 9
+    EOF = 10
+    COLUMN_COUNT = 11
+    COLUMN = 12
+    ROW = 13
+    BINARY_ROW = 14
+    LOCAL_INFILE = 15
+    FILE = 16
+    PREPARED = 17
+    STATISTICS = 18
+    BINARY_LOG_EVENT = 19
+    QUERY = 20
+    INIT_DATABASE = 21
+    PING = 22
+    QUIT = 23
+    CHANGE_USER = 24
+    PREPARE = 25
+    EXECUTE = 26
+    LONG_DATA = 27
+    CLOSE_STATEMENT = 28
+    RESET_STATEMENT = 29
+    FETCH = 30
+    FIELD_LIST = 31
+    SET_OPTION = 32
+    STATISTICS_REQUEST = 33
+    RESET_CONNECTION = 34
+    BINARY_LOG_REQUEST = 35
+    OTHER_COMMAND = 36
+    TOO_LARGE = 37
+    REFUSED = 38
+
+
+class Received(NamedTuple):
+    """What a payload was, at its place, and whether it is no packet of that kind."""
+
+    kind: PacketKind
+    is_refused: bool
+
+
+class Statement(NamedTuple):
+    """How many parameters a prepared statement takes, and how many columns its rows have."""
+
+    parameters: int
+    columns: int
+
+
+def _side(side: int) -> int:
+    number = index(side)
+    if not 0 <= number <= 1:
+        raise ValueError(f"{number} is neither Side.CLIENT nor Side.SERVER")
+    return number
+
+
+class Session:
+    """What both sides of a connection have sent so far, as far as it says what comes next: what each
+    packet is, whose turn it is, and where an answer ends. It is told of every packet of either side,
+    in order. It is used by one thread at a time, and closed in the end, as a `Connection` is.
+
+    >>> greeting = b"\\x0a8\\0" + bytes(13) + b"\\0\\x82\\x2d\\x02" + bytes(27)
+    >>> login = b"\\0\\x82" + bytes(30) + b"root\\0\\0"
+    >>> with Session() as session:
+    ...     for side, id, payload in (
+    ...         (Side.SERVER, 0, greeting), (Side.CLIENT, 1, login),
+    ...         (Side.SERVER, 2, b"\\0\\0\\0\\2\\0\\0\\0"), (Side.CLIENT, 0, b"\\x03SELECT 1"),
+    ...     ):
+    ...         kind, is_refused = session.advance(side, id, payload)
+    ...         print(kind.name, session.next_sender.name, session.is_idle)
+    GREETING CLIENT False
+    LOGIN EITHER False
+    OK CLIENT True
+    QUERY SERVER False
+    """
+
+    def __init__(self) -> None:
+        self._handle = c_void_p()
+        _checked(_session_new(byref(self._handle)))
+        self._closed = weakref.finalize(self, _session_free, byref(self._handle))
+
+    def __enter__(self) -> Session:
+        return self
+
+    def __exit__(self, *_: object) -> None:
+        self.close()
+
+    def close(self) -> None:
+        """Frees what it holds. Each later call raises `Closed`."""
+        self._closed()
+
+    def advance(self, side: int, id: int, payload: Bytes) -> Received:
+        """Reads a whole payload, whose first chunk is numbered `id`, and goes on after it; after one
+        that is no packet of its kind too, as after one that says nothing.
+        """
+        side, id, payload, kind = _side(side), _packet_id(id), _bytes_of(payload), c_uint32()
+        code = _session_packet(
+            byref(self._handle), side, id, payload, len(payload), byref(kind)
+        )
+        is_refused = _checked(code) == _REFUSED
+        return Received(PacketKind(kind.value), is_refused)
+
+    def advance_front(self, side: int, id: int, size: int, front: Bytes) -> PacketKind:
+        """Goes on after a packet of `size` bytes, of which this front has come: three of them or
+        more, or all. Rows, pieces of files, statements and most other packets need no more; of the
+        others it raises `NeedsWhole`, where the front is not all.
+        """
+        code, kind = self._told(_session_front, side, id, size, front)
+        if code == _NEEDS_WHOLE:
+            raise NeedsWhole(kind)
+        return kind
+
+    def classify(self, side: int, id: int, size: int, front: Bytes) -> PacketKind:
+        """What such a packet is. Nothing changes."""
+        return self._told(_session_classify, side, id, size, front)[1]
+
+    def _told(
+        self, call: Callable[..., int], side: int, id: int, size: int, front: Bytes
+    ) -> Tuple[int, PacketKind]:
+        side, id, size = _side(side), _packet_id(id), _within(size, 64)
+        front, kind = _bytes_of(front), c_uint32()
+        code = _checked(
+            call(byref(self._handle), side, id, size, front, len(front), byref(kind))
+        )
+        return code, PacketKind(kind.value)
+
+    def pass_over(self, side: int, id: int, size: int) -> None:
+        """Goes on after a packet of `size` bytes that was not looked at, as one above a limit."""
+        side, id, size = _side(side), _packet_id(id), _within(size, 64)
+        _checked(_session_pass(byref(self._handle), side, id, size))
+
+    @property
+    def phase(self) -> Phase:
+        """What is waited for."""
+        return Phase(_checked(_session_phase(byref(self._handle))))
+
+    @property
+    def next_sender(self) -> Sender:
+        """Whose packet is next."""
+        return Sender(_checked(_session_next_sender(byref(self._handle))))
+
+    @property
+    def is_idle(self) -> bool:
+        """Whether a command is waited for, so that another client may have the connection."""
+        return _checked(_session_is_idle(byref(self._handle))) == 1
+
+    @property
+    def status(self) -> int:
+        """The flags that the last OK or EOF told: whether a transaction is open, say. 0 before the
+        first.
+        """
+        return _checked(_session_status(byref(self._handle)))
+
+    @property
+    def capabilities(self) -> int:
+        """The flags of what the client can do, by its login; before that, `CLIENT_PROTOCOL_41`."""
+        _checked(_session_phase(byref(self._handle)))
+        return _session_capabilities(byref(self._handle))
+
+    @property
+    def next_id(self) -> int:
+        """The number that follows the last packet's last chunk."""
+        return _checked(_session_next_id(byref(self._handle)))
+
+    def statement(self, number: int) -> Optional[Statement]:
+        """The newest statement of this number, of the last 64 that were prepared."""
+        number, parameters, columns = _within(number, 32), c_uint16(), c_uint16()
+        code = _session_statement(
+            byref(self._handle), number, byref(parameters), byref(columns)
+        )
+        if code == _NO_STATEMENT:
+            return None
+        _checked(code)
+        return Statement(parameters.value, columns.value)
 
 
 class Fields:

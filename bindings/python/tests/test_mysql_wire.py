@@ -6,7 +6,7 @@ import unittest
 from array import array
 
 import mysql_wire
-from mysql_wire import Connection, Fields, Spans
+from mysql_wire import Connection, Fields, Session, Spans
 
 FULL = 16777215
 
@@ -351,6 +351,108 @@ class OfPayloads(unittest.TestCase):
                 self.assertEqual(getattr(fields, name)(2), wanted)
 
 
+GREETING = bytes.fromhex(
+    "0a 382e342e3000 05000000 6162636465666768 00 ffff ff 0200 ffdf 15 00000000000000000000"
+) + b"ijklmnopqrst\0caching_sha2_password\0"
+# It wants EOFs.
+LOGIN = bytes.fromhex("81820800 00000001 2d") + bytes(23) + b"root\0\0caching_sha2_password\0"
+DEFINITION = bytes.fromhex("03646566 00 00 00 0131 00 0c 3f00 01000000 08 8100 00 0000")
+DONE = b"\0\0\0\2\0\0\0"
+EOF = b"\xfe\0\0\2\0"
+CLIENT, SERVER = mysql_wire.Side.CLIENT, mysql_wire.Side.SERVER
+KIND, PHASE = mysql_wire.PacketKind, mysql_wire.Phase
+
+# Whose packet it is, what it is, and what is waited for after it. A statement 7 is prepared.
+CONNECTION = [
+    (SERVER, GREETING, KIND.GREETING, PHASE.LOGIN),
+    (CLIENT, LOGIN, KIND.LOGIN, PHASE.AUTHENTICATION),
+    (SERVER, DONE, KIND.OK, PHASE.COMMAND),
+]
+QUERY = [
+    (CLIENT, b"\x03SELECT 1", KIND.QUERY, PHASE.ANSWER),
+    (SERVER, b"\1", KIND.COLUMN_COUNT, PHASE.COLUMNS),
+    (SERVER, DEFINITION, KIND.COLUMN, PHASE.COLUMNS_END),
+    (SERVER, EOF, KIND.EOF, PHASE.ROWS),
+    (SERVER, b"\x011", KIND.ROW, PHASE.ROWS),
+    (SERVER, b"\xfe\0\0\x22\0", KIND.EOF, PHASE.COMMAND),
+]
+PREPARE = [
+    (CLIENT, b"\x16SELECT ?", KIND.PREPARE, PHASE.PREPARE_ANSWER),
+    (SERVER, bytes.fromhex("00 07000000 0100 0200 00 0000"), KIND.PREPARED, PHASE.COLUMNS),
+]
+
+
+class OfASession(unittest.TestCase):
+    def follow(self, session, rows, advance):
+        for id, (side, payload, kind, phase) in enumerate(rows):
+            with self.subTest(kind=kind.name):
+                self.assertIn(session.next_sender, (side, mysql_wire.Sender.EITHER))
+                front = payload[:3]
+                self.assertEqual(session.classify(side, id, len(payload), front), kind)
+                self.assertEqual(advance(session, side, id, payload), kind)
+                self.assertEqual((session.phase, session.next_id), (phase, id + 1))
+                self.assertEqual(session.is_idle, phase == PHASE.COMMAND)
+
+    def by_payload(self, session, side, id, payload):
+        received = session.advance(side, id, payload)
+        self.assertFalse(received.is_refused)
+        return received.kind
+
+    def by_front(self, session, side, id, payload):
+        try:
+            return session.advance_front(side, id, len(payload), payload[:3])
+        except mysql_wire.NeedsWhole as refusal:
+            kind = session.advance_front(side, id, len(payload), payload)
+            self.assertEqual(kind, refusal.kind)
+            return kind
+
+    def test_a_session_is_followed(self):
+        for advance in (self.by_payload, self.by_front):
+            with self.subTest(advance=advance.__name__), Session() as session:
+                self.assertEqual((session.status, session.capabilities), (0, 1 << 9))
+                self.follow(session, CONNECTION, advance)
+                self.assertEqual((session.status, session.capabilities), (2, 0x88281))
+                self.follow(session, QUERY, advance)
+                self.assertEqual((session.status, session.statement(7)), (0x22, None))
+                self.follow(session, PREPARE, advance)
+                self.assertEqual(session.statement(7), (2, 1))
+                self.assertEqual(session.statement(7).parameters, 2)
+
+    def test_a_wrong_packet_is_told(self):
+        with Session() as session:
+            self.assertEqual(session.advance(SERVER, 0, b"\x0a8"), (KIND.GREETING, True))
+            self.assertEqual(session.phase, PHASE.LOGIN)
+            self.assertEqual(session.advance(SERVER, 1, b"\x09"), (KIND.REFUSED, True))
+
+    def test_a_packet_is_passed_over(self):
+        with Session() as session:
+            self.follow(session, CONNECTION, self.by_front)
+            session.pass_over(CLIENT, 0, 20000000)
+            self.assertEqual((session.phase, session.next_id), (PHASE.ANSWER, 2))
+
+    def test_what_is_no_front_changes_nothing(self):
+        with Session() as session:
+            for call in (session.classify, session.advance_front):
+                for size, front in ((9, b"\x0a8"), (2, b"\x0a8."), (2**64 - 1, b"")):
+                    with self.assertRaises(mysql_wire.NotAFront):
+                        call(SERVER, 0, size, front)
+            self.assertEqual(session.phase, PHASE.GREETING)
+
+    def test_a_closed_session_says_so(self):
+        session = Session()
+        session.close()
+        session.close()
+        calls = (
+            lambda: session.phase, lambda: session.next_sender, lambda: session.is_idle,
+            lambda: session.status, lambda: session.capabilities, lambda: session.next_id,
+            lambda: session.statement(1), lambda: session.advance(SERVER, 0, b""),
+            lambda: session.advance_front(SERVER, 0, 0, b""),
+            lambda: session.classify(SERVER, 0, 0, b""), lambda: session.pass_over(SERVER, 0, 0),
+        )
+        for call in calls:
+            self.assertRaises(mysql_wire.Closed, call)
+
+
 # What is no number for a count of bytes, and what has no bytes.
 NO_NUMBERS = None, 1.0, "1", b"1"
 NO_BYTES = None, 5, -1, 2**64, "text", [1, 2], 1.0
@@ -429,6 +531,43 @@ class OfArguments(unittest.TestCase):
             self.refused(write, NO_NUMBERS)
         self.refused(lambda width: mysql_wire.int_bytes(1, width), (-1, 0, 9, 2**8, 2**64), ValueError)
         self.refused(lambda width: mysql_wire.int_bytes(1, width), NO_NUMBERS)
+
+    def test_arguments_of_a_session(self):
+        with Session() as session:
+
+            def at(place, call):
+                def called(argument):
+                    arguments = [SERVER, 0, 3, b"\x0a8."]
+                    arguments[place] = argument
+                    call(*arguments)
+
+                return called
+
+            def of_fronts(place):
+                return at(place, session.classify), at(place, session.advance_front)
+
+            by_side = (
+                *of_fronts(0), lambda side: session.advance(side, 0, b""),
+                lambda side: session.pass_over(side, 0, 1),
+            )
+            by_id = (
+                *of_fronts(1), lambda id: session.advance(SERVER, id, b""),
+                lambda id: session.pass_over(SERVER, id, 1),
+            )
+            by_size = *of_fronts(2), lambda size: session.pass_over(SERVER, 0, size)
+            by_bytes = *of_fronts(3), lambda payload: session.advance(SERVER, 0, payload)
+            for call in by_side:
+                self.refused(call, (-1, 2, 2**32, 2**64), ValueError)
+            for call in by_id:
+                self.refused(call, (-1, 2**8, 2**64), ValueError)
+            for call in by_size:
+                self.refused(call, (-1, 2**64), OverflowError)
+            self.refused(session.statement, (-1, 2**32), OverflowError)
+            for call in (*by_side, *by_id, *by_size, session.statement):
+                self.refused(call, NO_NUMBERS)
+            for call in by_bytes:
+                self.refused(call, NO_BYTES)
+            self.assertEqual((session.phase, session.next_id), (PHASE.GREETING, 0))
 
     def test_bytes(self):
         with Connection() as connection:
