@@ -70,11 +70,10 @@ fn show_received<A: Allocator + Copy>(
         ≡ advanced received.now (state_of session.old)) }
 {
     let types = session.column_types();
-    let kind = show_packet(global, fields, types, received.kind, &received.packet)?;
-    match session.advance(received) {
-        Ok(()) => Ok(kind),
-        Err(error) => Err(stop_of(error)),
-    }
+    let kind = show_packet(global, fields, types, received.kind, &received.packet)
+        .map_err(stop_of)?;
+    session.advance(received).map_err(stop_of)?;
+    Ok(kind)
 }
 
 // Reads a packet and puts its fields, and goes on after it.
@@ -107,11 +106,8 @@ fn show_row_of<A: Allocator + Copy>(
     ensures { IfOk result (TellsRow came.0 came.1 came.2 payload.now (state_of session.old)
         (state_of session.new) fields.old fields.new) }
 {
-    let row = match session.read_row(came.2, payload) {
-        Ok(row) => row,
-        Err(error) => return Err(stop_of(error)),
-    };
-    let kind = show_row(global, fields, session.column_types(), came.2, &row)?;
+    let row = session.read_row(came.2, payload).map_err(stop_of)?;
+    let kind = show_row(global, fields, session.column_types(), came.2, &row).map_err(stop_of)?;
     session.advance_by_kind(came.0, came.1, came.2, payload.len());
     Ok(kind)
 }
