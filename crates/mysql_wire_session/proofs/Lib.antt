@@ -1,4 +1,4 @@
 pub mod AnswerLemmas
 pub mod FrontLemmas
 pub mod ReportLemmas
-pub mod SaidLemmas
+pub mod PacketLemmas

@@ -4,12 +4,32 @@
 
 pub mod classify;
 pub mod laws;
-pub mod packet;
-pub mod packet_kind;
+pub mod packet_laws;
 pub mod payload;
-pub mod phase;
-pub mod refusal;
-pub mod said;
 pub mod session;
-pub mod side;
 mod statements;
+
+/// What a payload is read as.
+pub mod packet {
+    pub use mysql_wire_session_packets::packet::{Packet, Received, Row};
+}
+
+/// What a packet is.
+pub mod packet_kind {
+    pub use mysql_wire_session_packets::packet_kind::PacketKind;
+}
+
+/// What a session waits for.
+pub mod phase {
+    pub use mysql_wire_session_packets::phase::{AfterColumns, Phase, RowForm};
+}
+
+/// Why a payload is no packet of its phase.
+pub mod refusal {
+    pub use mysql_wire_session_packets::refusal::{Refusal, SessionError};
+}
+
+/// Who speaks.
+pub mod side {
+    pub use mysql_wire_session_packets::side::{Sender, Side};
+}

@@ -1,7 +1,7 @@
 use Rattle.std.proofs.Common.{◌≡◌, ◌∙◌, ℕ, ap, arith, refl}
 use Rattle.mysql_wire_packets.specs.Optional.{has}
-use Rattle.mysql_wire_session.proofs.SaidLemmas.{holds_of_kept, request_len}
-use Rattle.mysql_wire_session.proofs.said.tls_request_is_said.Goals as goal
+use Rattle.mysql_wire_session.proofs.PacketLemmas.{holds_of_kept, request_len}
+use Rattle.mysql_wire_session.proofs.packet_laws.tls_request_in_grammar.Goals as goal
 
 pub returns : goal.returns
 returns c = λ id later flag. record {

@@ -1,8 +1,8 @@
 use Rattle.std.proofs.Common.{◌≡◌, ℕ, ap, refl}
 use Rattle.mysql_wire_packets.specs.Oks.{ok_form}
 use Rattle.mysql_wire_packets.specs.Optional.{has}
-use Rattle.mysql_wire_session.proofs.SaidLemmas.{holds_of_kept}
-use Rattle.mysql_wire_session.proofs.said.ok_packet_is_said.Goals as goal
+use Rattle.mysql_wire_session.proofs.PacketLemmas.{holds_of_kept}
+use Rattle.mysql_wire_session.proofs.packet_laws.ok_packet_in_grammar.Goals as goal
 
 pub returns-clause-done : goal.returns-clause-done
 returns-clause-done c = λ id agreed good. record {

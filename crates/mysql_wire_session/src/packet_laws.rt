@@ -9,10 +9,9 @@ ghost use Rattle.mysql_wire_packets.specs.Oks.{ok_form};
 ghost use Rattle.mysql_wire_packets.specs.Optional.{has};
 ghost use Rattle.mysql_wire_packets.specs.Places.{ReadsWhole};
 ghost use Rattle.mysql_wire_session.specs.Advance.{is_zero};
-ghost use Rattle.mysql_wire_session.specs.Grammar.{Agreed, Agrees, IsAuthentication, IsColumnCount, IsCommand, IsDefinition, IsEntry, IsEof, IsError, IsFetch, IsFileRequest, IsLogin, IsNoGreeting, IsOk, IsOkAtEnd, IsPrepared, IsReadAs, IsReport, IsRow, IsServers, IsTlsRequest, Said, from_client, from_server};
+ghost use Rattle.mysql_wire_session.specs.Grammar.{Agreed, Agrees, IsAuthentication, IsColumnCount, IsCommand, IsDefinition, IsEntry, IsEof, IsError, IsFetch, IsFileRequest, IsLogin, IsNoGreeting, IsOk, IsOkAtEnd, IsPrepared, IsReadAs, IsReport, IsRow, IsServers, IsTlsRequest, from_client, from_server};
 ghost use Rattle.mysql_wire_session.specs.State.{statement_of};
 ghost use Rattle.mysql_wire_session_packets.specs.declared.packet_kind.PacketKind.TheVariants as kind;
-ghost use Rattle.mysql_wire_session_packets.specs.declared.side.Side.TheVariants.{Client, Server};
 
 use mysql_wire_connection::auth_more_data::AuthMoreData;
 use mysql_wire_connection::auth_switch::AuthSwitchRequest;
@@ -43,7 +42,7 @@ use mysql_wire_statements::com_stmt_prepare_ok::ComStmtPrepareOk;
 use mysql_wire_statements::com_stmt_reset::ComStmtReset;
 use mysql_wire_statements::com_stmt_send_long_data::ComStmtSendLongData;
 use std::alloc::Global;
-use wire_buf::proto::{HasSize, MyDeserialize, MySerialize};
+use wire_buf::proto::MySerialize;
 use wire_repr::wire::Wire;
 
 /// What a value is written as is read, as a whole payload, as one that its law keeps.
@@ -53,7 +52,7 @@ pub fn payload_back<'de, T: Wire<'de, Global>>()
 {}
 
 /// An `EofPacket` is an EOF with its flags.
-pub fn eof_packet_is_said(eof: &EofPacket)
+pub fn eof_packet_in_grammar(eof: &EofPacket)
     ensures { (id : ℕ) → IsEof (λ flags. flags ≡ eof.now.status_flags.0)
         (from_server id kind.Eof (⟦<EofPacket as MySerialize>⟧.bytes eof.now)) }
 {
@@ -63,7 +62,7 @@ pub fn eof_packet_is_said(eof: &EofPacket)
 
 /// An `OkPacket` that is good under the capabilities is an OK, and another result follows where its
 /// flags say so; a client that it answers is in.
-pub fn ok_packet_is_said(ok: &OkPacket<'_>)
+pub fn ok_packet_in_grammar(ok: &OkPacket<'_>)
     ensures done { (id : ℕ) (agreed : Agreed)
         → ⟦<OkPacket<'static> as Wire<'static, Global>>⟧.good (ok_form agreed.capabilities) ok.now []
         → IsOk agreed (has ok.now.status_flags.0 0x8)
@@ -79,7 +78,7 @@ pub fn ok_packet_is_said(ok: &OkPacket<'_>)
 
 /// A `RowsEnd` of less than a full chunk that is good under the capabilities is an OK in the place of
 /// an EOF.
-pub fn rows_end_is_said(end: &RowsEnd<'_>)
+pub fn rows_end_in_grammar(end: &RowsEnd<'_>)
     ensures { (id : ℕ) (agreed : Agreed)
         → ⟦<RowsEnd<'static> as Wire<'static, Global>>⟧.good (ok_form agreed.capabilities) end.now []
         → length (⟦<RowsEnd<'static> as MySerialize>⟧.bytes end.now) < 0xffffff
@@ -92,7 +91,7 @@ pub fn rows_end_is_said(end: &RowsEnd<'_>)
 
 /// An `ErrPacket` of another number than 65535 is an error; one with no state in place of a greeting
 /// too.
-pub fn err_packet_is_said(error: &ErrPacket<'_>)
+pub fn err_packet_in_grammar(error: &ErrPacket<'_>)
     ensures later { (id : ℕ) → error.now.error_code ≢ 65535 → IsError
         (from_server id kind.Error (⟦<ErrPacket<'static> as MySerialize>⟧.bytes error.now)) }
     ensures first { error.now.error_code ≢ 65535 → error.now.sql_state ≡ None → IsNoGreeting
@@ -104,7 +103,7 @@ pub fn err_packet_is_said(error: &ErrPacket<'_>)
 
 /// A `ColumnCount` that is good under the capabilities, of some columns, whose definitions follow or
 /// were told before.
-pub fn column_count_is_said(count: &ColumnCount)
+pub fn column_count_in_grammar(count: &ColumnCount)
     ensures { (id : ℕ) (agreed : Agreed)
         → ⟦<ColumnCount as Wire<'static, Global>>⟧.good (agreed.capabilities, agreed.mariadb)
         count.now []
@@ -118,7 +117,7 @@ pub fn column_count_is_said(count: &ColumnCount)
 }
 
 /// A `ComStmtPrepareOk` says how many parameters and columns the statement has.
-pub fn prepare_ok_is_said(prepared: &ComStmtPrepareOk)
+pub fn prepare_ok_in_grammar(prepared: &ComStmtPrepareOk)
     ensures { (id : ℕ) → IsPrepared prepared.now.num_params prepared.now.num_columns
         (from_server id kind.Prepared (⟦<ComStmtPrepareOk as MySerialize>⟧.bytes prepared.now)) }
 {
@@ -127,7 +126,7 @@ pub fn prepare_ok_is_said(prepared: &ComStmtPrepareOk)
 }
 
 /// A `LocalInfileRequest` is a request for a file.
-pub fn infile_request_is_said(request: &LocalInfileRequest<'_>)
+pub fn infile_request_in_grammar(request: &LocalInfileRequest<'_>)
     ensures { (id : ℕ) → IsFileRequest (from_server id kind.LocalInfile
         (⟦<LocalInfileRequest<'static> as MySerialize>⟧.bytes request.now)) }
 {
@@ -136,19 +135,19 @@ pub fn infile_request_is_said(request: &LocalInfileRequest<'_>)
 }
 
 /// A `ColumnDefinition41` is a definition of a column.
-pub fn column_definition_is_said(column: &ColumnDefinition41<'_>)
+pub fn column_definition_in_grammar(column: &ColumnDefinition41<'_>)
     ensures { (id : ℕ) → IsDefinition (from_server id kind.Column
         (⟦<ColumnDefinition41<'static> as MySerialize>⟧.bytes column.now)) }
 {}
 
 /// A `TextRow` of some values is a row of a query's answer.
-pub fn text_row_is_said(row: &TextRow<'_>)
+pub fn text_row_in_grammar(row: &TextRow<'_>)
     ensures { (id : ℕ) → cow_slice_items row.now.values.0 ≢ [] → IsRow false
         (from_server id kind.Row (⟦<TextRow<'static> as MySerialize>⟧.bytes row.now)) }
 {}
 
 /// A `HandshakeResponse41` that is good is a login that agrees on what it says.
-pub fn login_is_said(login: &HandshakeResponse41<'_>)
+pub fn login_in_grammar(login: &HandshakeResponse41<'_>)
     ensures { (id : ℕ) (agreed : Agreed) → id ≢ 0 → Agrees agreed login.now
         → ⟦<HandshakeResponse41<'static> as Wire<'static, Global>>⟧.good tt login.now []
         → length (⟦<HandshakeResponse41<'static> as MySerialize>⟧.bytes login.now) ≢ 32
@@ -160,7 +159,7 @@ pub fn login_is_said(login: &HandshakeResponse41<'_>)
 }
 
 /// An `SslRequest` with its flag is a request for TLS.
-pub fn tls_request_is_said(request: &SslRequest)
+pub fn tls_request_in_grammar(request: &SslRequest)
     ensures { (id : ℕ) → id ≢ 0 → has request.now.client_flag.0 0x800 ≡ true
         → IsTlsRequest (from_client id kind.TlsRequest
         (⟦<SslRequest as MySerialize>⟧.bytes request.now)) }
@@ -170,7 +169,7 @@ pub fn tls_request_is_said(request: &SslRequest)
 }
 
 /// A `ComStmtFetch` of a statement that is known.
-pub fn fetch_is_said(fetch: &ComStmtFetch)
+pub fn fetch_in_grammar(fetch: &ComStmtFetch)
     ensures { (statements : List ComStmtPrepareOk) (statement : ComStmtPrepareOk)
         → statement_of fetch.now.statement_id statements ≡ Some statement
         → IsFetch statements (from_client 0 kind.Fetch
@@ -181,7 +180,7 @@ pub fn fetch_is_said(fetch: &ComStmtFetch)
 }
 
 /// What both sides send until the client is in, and a `ProgressReport` and a `BinaryRow`.
-pub fn first_bytes_are_said()
+pub fn first_bytes_in_grammar()
     ensures greeting { (id : ℕ) (greeting : HandshakeV10) → IsServers 0x0a kind.Greeting
         (from_server id kind.Greeting (⟦<HandshakeV10<'static> as MySerialize>⟧.bytes greeting)) }
     ensures switch { (id : ℕ) (request : AuthSwitchRequest) → IsAuthentication
@@ -199,7 +198,7 @@ pub fn first_bytes_are_said()
 {}
 
 /// Commands, begun by their numbers.
-pub fn commands_are_said()
+pub fn commands_in_grammar()
     ensures quit { (command : ComQuit) → IsCommand 0x01 kind.Quit
         (from_client 0 kind.Quit (⟦<ComQuit as MySerialize>⟧.bytes command)) }
     ensures init_db { (command : ComInitDb) → IsCommand 0x02 kind.InitDatabase

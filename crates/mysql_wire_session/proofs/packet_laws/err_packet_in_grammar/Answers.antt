@@ -2,8 +2,8 @@ use Rattle.std.proofs.Common.{◌≡◌, ◌++◌, ◌∷◌, List, ℕ, false, 
 use Rattle.std.specs.Cow.{cow_slice_items}
 use Rattle.mysql_wire_packets.specs.Optional.{IsThere, bytes_if}
 use Rattle.mysql_wire_packets.specs.declared.err_packet.ErrPacket.{ErrPacket}
-use Rattle.mysql_wire_session.proofs.SaidLemmas.{holds_of_kept, no_report_of}
-use Rattle.mysql_wire_session.proofs.said.err_packet_is_said.Goals as goal
+use Rattle.mysql_wire_session.proofs.PacketLemmas.{holds_of_kept, no_report_of}
+use Rattle.mysql_wire_session.proofs.packet_laws.err_packet_in_grammar.Goals as goal
 
 -- what is written after its number
 abbrev rest_of : ErrPacket → List ℕ

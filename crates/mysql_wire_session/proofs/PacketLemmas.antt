@@ -143,10 +143,10 @@ abbrev count_bytes : ColumnCount → List ℕ
 count_bytes count = bytes_if (λ follows. follows ∷ []) count.metadata_follows
     ++ (lenenc_bytes count.column_count ++ bytes_if (λ follows. follows ∷ []) count.mariadb_metadata_follows)
 
-pub count_is_said : (id : ℕ) (agreed : Agreed) (count : ColumnCount) → 0 < count.column_count → (count.metadata_follows ≡ None) ⊎ (count.metadata_follows ≡ Some 1)
+pub count_in_grammar : (id : ℕ) (agreed : Agreed) (count : ColumnCount) → 0 < count.column_count → (count.metadata_follows ≡ None) ⊎ (count.metadata_follows ≡ Some 1)
     → IsReadAs (count_type.ghosts.reads_whole (agreed.capabilities, agreed.mariadb) (count_bytes count)) (KeepsCount count)
     → IsColumnCount agreed (is_zero count.mariadb_metadata_follows) count.column_count (from_server id kind.ColumnCount (count_bytes count))
-count_is_said id agreed count some follows read =
+count_in_grammar id agreed count some follows read =
     let begins = count_first count.metadata_follows count.column_count (bytes_if (λ follows. follows ∷ []) count.mariadb_metadata_follows) some follows in record {
       first = begins.0;
       is = record { side = refl; first_is = begins.1; kind_is = refl };
@@ -165,8 +165,8 @@ first_stays [] rest first none = cc none
 first_stays (byte ∷ bytes) rest first is = is
 
 -- a definition begins with a text
-pub definition_is_said : (id : ℕ) (text a b c : List ℕ) → IsDefinition (from_server id kind.Column ((((lenenc_bytes (length text) ++ text) ++ a) ++ b) ++ c))
-definition_is_said id text a b c =
+pub definition_in_grammar : (id : ℕ) (text a b c : List ℕ) → IsDefinition (from_server id kind.Column ((((lenenc_bytes (length text) ++ text) ++ a) ++ b) ++ c))
+definition_in_grammar id text a b c =
     let begins = lenenc_first (length text) text in
     let front = lenenc_bytes (length text) ++ text in record {
       first = begins.0;
@@ -196,9 +196,9 @@ value_begins id (Some text) rest =
       is_no_end = λ same. omega (arith, begins.5 same, length-append front rest, length-append (lenenc_bytes (length text)) text);
     }
 
-pub text_row_is_said : (id : ℕ) (values : List TextValue) → values ≢ [] → IsRow false (from_server id kind.Row (row_bytes values))
-text_row_is_said id [] some = absurd (some refl)
-text_row_is_said id (value ∷ more) some = value_begins id (value_of value) (row_bytes more)
+pub text_row_in_grammar : (id : ℕ) (values : List TextValue) → values ≢ [] → IsRow false (from_server id kind.Row (row_bytes values))
+text_row_in_grammar id [] some = absurd (some refl)
+text_row_in_grammar id (value ∷ more) some = value_begins id (value_of value) (row_bytes more)
 
 -- ---- a login, and a request for TLS
 

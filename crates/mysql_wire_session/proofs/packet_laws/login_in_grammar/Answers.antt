@@ -1,8 +1,8 @@
 use Rattle.std.proofs.Common.{◌≡◌, ◌∙◌, ℕ, ap, refl, sym}
 use Rattle.mysql_wire_packets.specs.Optional.{has}
 use Rattle.mysql_wire_session.specs.Advance.{mariadb_of}
-use Rattle.mysql_wire_session.proofs.SaidLemmas.{agrees_kept, holds_of_kept}
-use Rattle.mysql_wire_session.proofs.said.login_is_said.Goals as goal
+use Rattle.mysql_wire_session.proofs.PacketLemmas.{agrees_kept, holds_of_kept}
+use Rattle.mysql_wire_session.proofs.packet_laws.login_in_grammar.Goals as goal
 
 pub returns : goal.returns
 returns c = λ id agreed later agrees good other. record {

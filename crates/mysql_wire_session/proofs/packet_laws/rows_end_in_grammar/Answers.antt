@@ -1,8 +1,8 @@
 use Rattle.std.proofs.Common.{◌≡◌, ℕ, ap, refl}
 use Rattle.mysql_wire_packets.specs.Oks.{ok_form, words_bytes}
 use Rattle.mysql_wire_packets.specs.Optional.{has}
-use Rattle.mysql_wire_session.proofs.SaidLemmas.{holds_of_kept, ok_is_long}
-use Rattle.mysql_wire_session.proofs.said.rows_end_is_said.Goals as goal
+use Rattle.mysql_wire_session.proofs.PacketLemmas.{holds_of_kept, ok_is_long}
+use Rattle.mysql_wire_session.proofs.packet_laws.rows_end_in_grammar.Goals as goal
 
 pub returns : goal.returns
 returns c = λ id agreed good fits. record {

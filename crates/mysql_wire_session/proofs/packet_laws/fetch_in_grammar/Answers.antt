@@ -1,7 +1,7 @@
 use Rattle.std.proofs.Common.{◌≡◌, ◌∙◌, ℕ, ap, refl}
 use Rattle.mysql_wire_session.specs.State.{statement_of}
-use Rattle.mysql_wire_session.proofs.SaidLemmas.{holds_of_kept}
-use Rattle.mysql_wire_session.proofs.said.fetch_is_said.Goals as goal
+use Rattle.mysql_wire_session.proofs.PacketLemmas.{holds_of_kept}
+use Rattle.mysql_wire_session.proofs.packet_laws.fetch_in_grammar.Goals as goal
 
 pub returns : goal.returns
 returns c = λ statements statement known. record {

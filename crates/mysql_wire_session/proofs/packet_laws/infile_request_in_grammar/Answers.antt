@@ -1,6 +1,6 @@
 use Rattle.std.proofs.Common.{◌≡◌, refl}
-use Rattle.mysql_wire_session.proofs.SaidLemmas.{holds_of_kept}
-use Rattle.mysql_wire_session.proofs.said.infile_request_is_said.Goals as goal
+use Rattle.mysql_wire_session.proofs.PacketLemmas.{holds_of_kept}
+use Rattle.mysql_wire_session.proofs.packet_laws.infile_request_in_grammar.Goals as goal
 
 pub returns : goal.returns
 returns c = λ id. record {

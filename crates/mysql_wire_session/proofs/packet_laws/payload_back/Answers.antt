@@ -1,6 +1,6 @@
 use Rattle.std.specs.Prelude.{[]}
-use Rattle.mysql_wire_session.proofs.SaidLemmas.{read_back_is}
-use Rattle.mysql_wire_session.proofs.said.payload_back.Goals as goal
+use Rattle.mysql_wire_session.proofs.PacketLemmas.{read_back_is}
+use Rattle.mysql_wire_session.proofs.packet_laws.payload_back.Goals as goal
 
 pub returns : goal.returns
 returns g c =
