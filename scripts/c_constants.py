@@ -29,7 +29,7 @@ ENUMS = (
 HEAD = """\
 /*
  * The constants of MySQL's client/server protocol, as crates/wire_const has them, whose
- * scripts/c_constants.py wrote this file. A constant bears its name in the protocol behind
+ * scripts/c_constants.py wrote this file. A constant bears its name in the protocol after
  * MYSQL_WIRE_, but for a leading MYSQL_. At the end stand those of a session, as
  * crates/mysql_wire_session has them.
  */

@@ -21,7 +21,7 @@ fn codec(limit: usize) -> PacketCodec {
 /// What a workload answers where anything is refused.
 const REFUSED: u64 = u64::MAX;
 
-// A payload framed so many times a repetition, in the form of `in_rust::frame`.
+// A payload framed this many times a repetition, in the form of `in_rust::frame`.
 fn frame(payload: &[u8], count: usize, reps: u64) -> u64 {
     let (mut codec, mut dst) = (codec(payload.len()), BytesMut::new());
     let mut sum = 0u64;

@@ -48,7 +48,7 @@ fn copied(connection: &mut Handle, room: &mut [u8]) -> u64 {
     sum
 }
 
-// A stream fed at once, and its packets taken, so many times over one connection.
+// A stream fed at once, and its packets taken, this many times over one connection.
 fn received(stream: &[u8], size: usize, lends: bool, reps: u64) -> u64 {
     let mut connection = ptr::null_mut();
     let mut room = vec![0; size];
@@ -85,7 +85,7 @@ fn receive_row(rows: &mut Vec<Row>, size: usize, lends: bool) {
     });
 }
 
-// A stream whose packets are lent out of the caller's bytes, so many times over one connection.
+// A stream whose packets are lent out of the caller's bytes, this many times over one connection.
 fn decoded(stream: &[u8], size: usize, reps: u64) -> u64 {
     let mut connection = ptr::null_mut();
     let mut view = NOTHING;
@@ -146,7 +146,7 @@ fn decoded_many(stream: &[u8], size: usize, reps: u64) -> u64 {
     sum
 }
 
-// The same, each header by a call, and the payload copied behind it.
+// The same, each header by a call, and the payload copied after it.
 fn headed(payload: &[u8], count: usize, room: &mut [u8], reps: u64) -> u64 {
     let mut connection = ptr::null_mut();
     let mut sum = 0u64;
@@ -166,7 +166,7 @@ fn headed(payload: &[u8], count: usize, room: &mut [u8], reps: u64) -> u64 {
     sum
 }
 
-// A payload framed into the caller's room, one packet behind the other.
+// A payload framed into the caller's room, one packet after the other.
 fn encoded(payload: &[u8], count: usize, room: &mut [u8], reps: u64) -> u64 {
     let mut connection = ptr::null_mut();
     let mut sum = 0u64;

@@ -34,7 +34,7 @@ pub fn lenenc(n: u64) -> Vec<u8> {
     }
 }
 
-// Copies each part behind the one before it.
+// Copies each part after the one before it.
 fn copy_parts(parts: &[Vec<u8>]) -> Box<dyn FnMut(u64) -> u64> {
     let lens: Vec<usize> = parts.iter().map(Vec::len).collect();
     let bytes = parts.concat();
@@ -74,7 +74,7 @@ pub fn parts_row(
     }
 }
 
-// Texts of a length, each behind it.
+// Texts of a length, each after it.
 fn lenenc_rows(rows: &mut Vec<Row>, len: usize) {
     let texts = made_up_texts(len);
     let mut spelled = Vec::new();

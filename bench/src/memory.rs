@@ -19,7 +19,7 @@ const SPANS: (&str, usize) = ("spans", 64 << 10);
 /// The sizes of packets, and how many the stream has.
 const CASES: [(&str, usize, usize); 3] =
     [(DECODE.0, 1 << 10, 4096), (DECODE.0, 20 << 20, 1), (SPANS.0, 64 << 20, 1)];
-/// A loop over spans may take so many MiB.
+/// A loop over spans may take this many MiB.
 const SPANS_MAY_TAKE: f64 = 1.0;
 
 // The highest resident memory that this process had, in MiB.

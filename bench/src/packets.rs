@@ -47,7 +47,7 @@ fn frame_row(rows: &mut Vec<Row>, size: usize, form: u64) {
 }
 
 // The same bytes copied in the same steps, with the lengths of the chunks known beforehand: each
-// piece behind what is there, each chunk's payload to another buffer once it is whole, and what is
+// piece after what is there, each chunk's payload to another buffer once it is whole, and what is
 // left moved to the front where that is less than what was taken.
 fn copy_steps(
     stream: &[u8],

@@ -11,7 +11,7 @@ use crate::timing::Row;
 const PACKETS: usize = 1000;
 const ROWS: usize = 1000;
 const COLUMNS: usize = 20;
-/// A text has so many bytes, and each eighth value is NULL.
+/// A text has this many bytes, and each eighth value is NULL.
 const TEXT: usize = 8;
 
 fn lenenc_text(text: &[u8], out: &mut Vec<u8>) {

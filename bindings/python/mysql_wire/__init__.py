@@ -252,7 +252,7 @@ def _bytes_of(data: Bytes) -> bytes:
 
 
 def _within(number: int, bits: int) -> int:
-    # A number that so many bits hold.
+    # A number that this many bits hold.
     number = index(number)
     if not 0 <= number < 1 << bits:
         raise OverflowError(f"{number} is not between 0 and 2**{bits} - 1")
@@ -300,8 +300,8 @@ class Connection:
     b'abc' None 2 1
     """
 
-    # What `receive` takes stays here until it is asked for: `_data`, of which `_at` bytes are behind
-    # what the library has seen. The packets of `_judged` are accepted, and the library stands behind
+    # What `receive` takes stays here until it is asked for: `_data`, of which `_at` bytes are after
+    # what the library has seen. The packets of `_judged` are accepted, and the library stands after
     # all of them; `_ahead` hands them out. Where another call comes before all are handed out, the
     # library is set back to the next of them, and gets what is left of `_data`. `_is_lent`: the library
     # found a whole packet where the limit was to be set, and lends it.
@@ -419,7 +419,7 @@ class Connection:
         return payload
 
     def _settle(self) -> None:
-        # Sets the library behind the last packet that was handed out, and gives it all that came.
+        # Sets the library after the last packet that was handed out, and gives it all that came.
         if self._at < len(self._data) or self._judged:
             self._set_back()
 
@@ -836,7 +836,7 @@ class Fields:
         return len(self._bytes) - self._at.value
 
     def fixed_int(self, width: int) -> int:
-        """A number of so many bytes, 1 to 8, the least significant first."""
+        """A number of this many bytes, 1 to 8, the least significant first."""
         width, value = _width(width), c_uint64()
         _checked(_read_int(self._bytes, len(self._bytes), byref(self._at), width, byref(value)))
         return value.value
@@ -848,18 +848,18 @@ class Fields:
         return value.value
 
     def lenenc_bytes(self) -> bytes:
-        """A text behind its length."""
+        """A text after its length."""
         return self._text(_read_lenenc_bytes)
 
     def lenenc_bytes_or_none(self) -> Optional[bytes]:
-        """A value of a text row: a text behind its length, or None where `fb` stands for NULL."""
+        """A value of a text row: a text after its length, or None where `fb` stands for NULL."""
         if self._bytes[self._at.value : self._at.value + 1] == b"\xfb":
             self._at.value += 1
             return None
         return self.lenenc_bytes()
 
     def row(self, columns: int) -> List[Optional[bytes]]:
-        """The values of a text row, so many, by one call of the library: texts, or None for NULL.
+        """The values of a text row, this many, by one call of the library: texts, or None for NULL.
 
         >>> Fields(b"\\x03one\\xfb\\0").row(3)
         [b'one', None, b'']
@@ -925,7 +925,7 @@ def _written(call: Callable[..., int], *field: int) -> bytes:
 
 
 def int_bytes(value: int, width: int) -> bytes:
-    """A number in so many bytes, 1 to 8, the least significant first.
+    """A number in this many bytes, 1 to 8, the least significant first.
 
     >>> int_bytes(1045, 2)
     b'\\x15\\x04'
@@ -944,7 +944,7 @@ def lenenc_int_bytes(value: int) -> bytes:
 
 
 def lenenc_bytes(text: Bytes) -> bytes:
-    """A text behind its length.
+    """A text after its length.
 
     >>> lenenc_bytes(b"one")
     b'\\x03one'

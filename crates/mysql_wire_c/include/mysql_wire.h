@@ -193,10 +193,10 @@ int32_t mysql_wire_decode(mysql_wire_connection *connection, const uint8_t *byte
 
 /*
  * Takes the packet that is lent, and lends as many as `bytes` begin with, in one call: packets of one
- * chunk each that lie whole there, one behind the other, where nothing that came before is unread.
+ * chunk each that lie whole there, one after the other, where nothing that came before is unread.
  * It costs no copy and no memory. `spans` says where their payloads stand in `bytes`; there is place
  * for `room` of them. `count` is how many there are, `used` how many of the bytes they use up. The
- * connection is behind the last of them: what is encoded next follows it, and there is nothing more
+ * connection is after the last of them: what is encoded next follows it, and there is nothing more
  * to take. Where there is none, `mysql_wire_decode` goes on. So for what a read gave:
  *
  *     while (len > 0) {
@@ -221,7 +221,7 @@ int32_t mysql_wire_decode_many(mysql_wire_connection *connection, const uint8_t 
 /*
  * Sets the most bytes of a packet. A chunk's header is judged once, by the limit in force when its
  * fourth byte was fed; so the new limit holds for what is fed from now on. Where the packet in
- * front is too large, it holds for that header and all that is unread behind it. It also holds for
+ * front is too large, it holds for that header and all that is unread after it. It also holds for
  * `mysql_wire_encode`.
  * OK. PACKET_WAITS: a packet stands whole; it is lent, as by `mysql_wire_peek`, and has to be taken
  * first. NO_MEMORY; OUT_OF_SYNC: as `mysql_wire_peek`. All but OK leave the limit as it was.
@@ -251,7 +251,7 @@ int32_t mysql_wire_judge_front(mysql_wire_connection *connection);
 /* --- what goes --- */
 
 /*
- * Frames a payload behind the bytes that wait to be sent, in as many chunks as it needs. Its number
+ * Frames a payload after the bytes that wait to be sent, in as many chunks as it needs. Its number
  * follows that of the last packet, sent, taken or lent. After OUT_OF_SYNC that goes on: its number is
  * the one that was expected of the chunk that came, or follows that of the last packet sent since.
  * OK; TOO_LARGE: it is above the limit; NO_MEMORY. Both refusals change nothing.
@@ -260,7 +260,7 @@ int32_t mysql_wire_encode(mysql_wire_connection *connection, const uint8_t *payl
 
 /*
  * How many bytes a payload of `len` bytes takes with the headers of its chunks: 4 for each, and a
- * chunk more behind a full one. OK; TOO_LARGE: more than a size_t counts, and `framed` is 0.
+ * chunk more after a full one. OK; TOO_LARGE: more than a size_t counts, and `framed` is 0.
  */
 int32_t mysql_wire_framed_len(size_t len, size_t *framed);
 
@@ -277,7 +277,7 @@ int32_t mysql_wire_encode_to(mysql_wire_connection *connection, const uint8_t *p
 
 /*
  * The header of a packet of `len` bytes, in the 4 bytes at `header`, for who sends it by `writev`, or
- * copies the payload behind it: both together are what `mysql_wire_encode_to` frames. The payload is
+ * copies the payload after it: both together are what `mysql_wire_encode_to` frames. The payload is
  * to follow.
  * OK; TOO_LARGE: it is above the limit, or has 16777215 bytes or more, for which `mysql_wire_encode_to`
  * is there; NO_MEMORY (only where a packet is lent). Each refusal changes nothing.
@@ -513,7 +513,7 @@ int32_t mysql_wire_read_bytes(const uint8_t *bytes, size_t len, size_t *at, size
 /* Moves past `count` bytes. OK, MISSING_BYTES. */
 int32_t mysql_wire_skip(const uint8_t *bytes, size_t len, size_t *at, size_t count);
 
-/* string<EOF>: where the bytes up to the end stand. OK; MISSING_BYTES: `at` is behind the end. */
+/* string<EOF>: where the bytes up to the end stand. OK; MISSING_BYTES: `at` is past the end. */
 int32_t mysql_wire_read_rest(const uint8_t *bytes, size_t len, size_t *at, mysql_wire_span *text);
 
 /*

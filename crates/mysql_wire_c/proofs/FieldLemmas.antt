@@ -35,7 +35,7 @@ reads_at bytes at n new fits (spelling, is, whole) =
     let place = place_of bytes at spelling new fits whole in
     ((spelling, is, whole ∙ ap (λ l. spelling ++ l) (sym place.0)), place.1, omega arith)
 
--- bytes written one behind the other
+-- bytes written one after the other
 pub writes_on : (old : List ℕ) (at : ℕ) (a mid : List ℕ) (m : ℕ) (b new : List ℕ) (end : ℕ)
     → WritesAt old at a mid m → WritesAt mid m b new end → WritesAt old at (a ++ b) new end
 writes_on old at a mid m b new end (mid_is, m_is, m_fits) (new_is, end_is, end_fits) =

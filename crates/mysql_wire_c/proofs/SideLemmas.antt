@@ -11,7 +11,7 @@ use Rattle.mysql_wire_side.specs.declared.codes.TheConstants.{OK}
 use Rattle.mysql_wire_side.specs.Side.{Side, side_of, IsReady}
 use Rattle.mysql_wire_c.specs.Calls.{EncodesHeader}
 
--- what is unread behind a packet that lies in front
+-- what is unread after a packet that lies in front
 abbrev Unread : CodecState → Side → List ℕ → Type 0
 Unread state side packet =
     (4 + length packet ≤ length state.unread)

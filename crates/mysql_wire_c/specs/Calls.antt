@@ -66,7 +66,7 @@ pub record EncodesTo (payload old_room room : List ℕ) (written : ℕ) (answer 
   pub answers : (answer ≡ OK) ⊎ (answer ≡ ROOM_TOO_SMALL) ⊎ (answer ≡ TOO_LARGE)
       ⊎ (answer ≡ NO_MEMORY)
 
--- this is the header of a packet of so many bytes, which the next one is: its framing is the header
+-- this is the header of a packet of this many bytes, which the next one is: its framing is the header
 -- and the payload
 pub record EncodesHeader (len : ℕ) (old_header header : List ℕ) (answer : ℤ) (before after : Side)
     : Type 0 where
@@ -83,7 +83,7 @@ pub record EncodesHeader (len : ℕ) (old_header header : List ℕ) (answer : �
   pub refused : (answer ≡ OK) ⊎ ((after ≡ before) × (header ≡ old_header))
   pub answers : (answer ≡ OK) ⊎ (answer ≡ TOO_LARGE) ⊎ (answer ≡ NO_MEMORY)
 
--- so many of the bytes that wait go
+-- this many of the bytes that wait go
 pub record Sends (count : ℕ) (before after : Side) : Type 0 where
   pub bound : count ≤ length before.pending
   pub rest : after ≡ record before { pending = drop count before.pending }

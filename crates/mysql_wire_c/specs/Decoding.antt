@@ -26,7 +26,7 @@ HasPacketIn bytes side =
     (side.is_lost ≡ false) × (side.state.unread ≡ []) × (side.state.held ≡ [])
     × HasFront (appended side.state bytes)
 
--- the packet is lent from the bytes, of which so many are its chunk: as if they were fed, and it was
+-- the packet is lent from the bytes, of which this many are its chunk: as if they were fed, and it was
 -- peeked and taken
 pub record LendsFrom (bytes : List ℕ) (used len : ℕ) (answer : ℤ) (before after : Side) : Type 0 where
   pub packet : answer ≡ PACKET
@@ -79,7 +79,7 @@ LendsInTurn bytes at (span ∷ spans) end before after =
     × LendsFrom (drop at bytes) (4 + span.len) span.len PACKET before between
     × LendsInTurn bytes (at + 4 + span.len) spans end between after
 
--- the packet that was lent is taken, and so many are lent from the bytes: till the places for them
+-- the packet that was lent is taken, and this many are lent from the bytes: till the places for them
 -- are used up, or no other lies there
 pub record DecodesMany (bytes : List ℕ) (old_spans spans : List Span) (count used : ℕ) (answer : ℤ)
     (before after : Side) : Type 0 where

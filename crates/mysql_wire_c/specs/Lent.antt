@@ -10,6 +10,6 @@ use Rattle.mysql_wire_c.specs.contracts.handle.Handle as handle
 abbrev pub with_connection : Handle → Connection → Handle
 with_connection h w = record { at = h.at; alloc = h.alloc; connection = Some w }
 
--- once the borrow r ends, the connection behind h is the last value written through r
+-- once the borrow r ends, the connection after h is the last value written through r
 abbrev pub lends_connection : MutBor Handle → MutBor Connection → Fml
 lends_connection h r = Lends handle.the_row connection.the_row h r (with_connection h.now)

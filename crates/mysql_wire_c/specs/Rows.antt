@@ -29,7 +29,7 @@ IsRefused answer bytes at =
     ((answer ≡ MISSING_BYTES) × IsCutShort bytes at)
     ⊎ ((answer ≡ NOT_A_NUMBER) × (slice_get (drop at bytes) 0 ≡ Some 0xff))
 
--- so many values are read, and the next one is refused
+-- this many values are read, and the next one is refused
 abbrev pub StopsRow : ℤ → List ℕ → ℕ → List Span → Type 0
 StopsRow answer bytes at texts =
     (count : ℕ) × (end : ℕ) × (count < length texts) × ReadsRow bytes at (take count texts) end

@@ -24,7 +24,7 @@ parts_of spans =
 abbrev pub state_of : Spans → SpanState
 state_of spans = parts_state (parts_of spans)
 
--- it stands for one: a decoder stands so behind some stream
+-- it stands for one: a decoder stands so after some stream
 abbrev pub IsValid : Spans → Type 0
 IsValid spans = IsTidy (parts_of spans) × CanStand (state_of spans)
 
@@ -33,7 +33,7 @@ abbrev pub error_code : SpanError → ℤ
 error_code PacketTooLarge = TOO_LARGE
 error_code PacketsOutOfSync = OUT_OF_SYNC
 
--- so many bytes were eaten, and their last ones are a span
+-- this many bytes were eaten, and their last ones are a span
 pub record NextSpan (bytes : List ℕ) (used len ends : ℕ) (answer : ℤ)
     (before after : Spans) : Type 0 where
   pub span : answer ≡ SPAN → SpansOn (state_of before) (take used bytes)
@@ -55,7 +55,7 @@ pub record NextSpan (bytes : List ℕ) (used len ends : ℕ) (answer : ℤ)
   pub answers : (answer ≡ SPAN) ⊎ (answer ≡ WAITS) ⊎ (answer ≡ TOO_LARGE)
       ⊎ (answer ≡ OUT_OF_SYNC) ⊎ (answer ≡ INVALID_STATE)
 
--- so many bytes went, with other ids
+-- this many bytes went, with other ids
 pub record Renumbers (old new : List ℕ) (used : ℕ) (answer : ℤ)
     (before after : Spans) : Type 0 where
   pub went : answer ≢ INVALID_STATE → RenumbersFront (state_of before) before.next_id old new used

@@ -59,7 +59,7 @@ pub fn unread(connection: &Connection) -> usize
     }
 }
 
-/// Frames a payload behind the bytes that wait to be sent, numbered on from the packet that was
+/// Frames a payload after the bytes that wait to be sent, numbered on from the packet that was
 /// lent or sent last. `TOO_LARGE` and `NO_MEMORY` change nothing.
 pub fn encode(connection: &mut Connection, payload: &[u8]) -> i32
     ensures { Encodes payload.now result connection.old.side connection.new.side }
@@ -105,7 +105,7 @@ pub fn pending(connection: &Connection) -> &[u8]
     connection.output.as_slice()
 }
 
-/// Drops so many of the bytes that wait to be sent, or all where there are fewer. The answer is
+/// Drops this many of the bytes that wait to be sent, or all where there are fewer. The answer is
 /// how many.
 pub fn sent(connection: &mut Connection, count: usize) -> usize
     ensures count { result ≡ min count (length connection.old.side.pending) }
@@ -190,7 +190,7 @@ pub fn encode_to(
     }
 }
 
-/// The header of a packet of so many bytes, numbered as by `encode`; its payload goes behind it.
+/// The header of a packet of this many bytes, numbered as by `encode`; its payload goes after it.
 /// `TOO_LARGE`: it is above the limit, or has 16777215 bytes or more, which one chunk doesn't
 /// hold. Every refusal changes nothing.
 ///
@@ -260,8 +260,8 @@ pub fn decode(connection: &mut Connection, bytes: &[u8], used: &mut usize, packe
 }
 
 /// Takes the packet that is lent, and lends as many as lie whole in these bytes, in one chunk
-/// each, one behind the other, where nothing came before them: at most one for each place in
-/// `spans`. The connection is behind all of them. `count` is how many they are, `used` how many
+/// each, one after the other, where nothing came before them: at most one for each place in
+/// `spans`. The connection is after all of them. `count` is how many they are, `used` how many
 /// of the bytes. `WAITS`: none lies so, and `decode` is to be called.
 pub fn decode_many(
     connection: &mut Connection,
@@ -311,7 +311,7 @@ fn lend_many(
     connection.codec.set_sequence_id(id);
 }
 
-// The packet in front of these bytes, where nothing came before it: the connection is behind it
+// The packet in front of these bytes, where nothing came before it: the connection is after it
 // then.
 fn lend_from<'a>(connection: &mut Connection, bytes: &'a [u8]) -> Option<&'a [u8]>
     requires { connection.old.side.lent ≡ None }
@@ -365,7 +365,7 @@ fn fill(connection: &mut Connection, bytes: &[u8], used: &mut usize) -> i32
 }
 
 // Lends the packets in front of these bytes, as a codec of this limit between two packets has them,
-// which expects this number: how many they are, how many of the bytes, and the number behind them.
+// which expects this number: how many they are, how many of the bytes, and the number after them.
 // The codec is a local, so that nothing of it is stored for each packet.
 #[inline(always)]
 fn lend_all(limit: usize, id: u8, bytes: &[u8], spans: &mut [Span]) -> (usize, usize, u8)
@@ -445,7 +445,7 @@ pub fn judge_front(connection: &Connection) -> i32
     }
 }
 
-// Puts a packet that is lent where it lies apart, so that the codec goes on behind it.
+// Puts a packet that is lent where it lies apart, so that the codec goes on after it.
 #[inline(always)]
 fn set_aside(
     codec: &mut PacketCodec,

@@ -33,7 +33,7 @@ fn rest(bytes: &[u8], at: usize) -> Option<ParseBuf<'_>>
     }
 }
 
-// A number of so many bytes.
+// A number of this many bytes.
 fn eat_int(buf: &mut ParseBuf<'_>, width: usize) -> Option<u64>
     requires { (1 ≤ width) × (width ≤ 8) }
     ensures { EatsIfThere width le_number buf.old.0.now result buf.new.0.now }
@@ -113,7 +113,7 @@ pub fn read_lenenc_int(bytes: &[u8], at: &mut usize, value: &mut u64) -> i32
     }
 }
 
-/// Reads a `string<lenenc>`: where the text behind an `int<lenenc>` stands. It answers as
+/// Reads a `string<lenenc>`: where the text after an `int<lenenc>` stands. It answers as
 /// `read_lenenc_int`, and `MISSING_BYTES` where the text is cut short.
 ///
 /// <https://dev.mysql.com/doc/dev/mysql-server/latest/page_protocol_basic_dt_strings.html>
@@ -165,7 +165,7 @@ pub fn read_null_bytes(bytes: &[u8], at: &mut usize, text: &mut Span) -> i32
     OK
 }
 
-/// Reads so many bytes: where they stand. `MISSING_BYTES`: there are fewer.
+/// Reads this many bytes: where they stand. `MISSING_BYTES`: there are fewer.
 ///
 /// <https://dev.mysql.com/doc/dev/mysql-server/latest/page_protocol_basic_dt_strings.html>
 pub fn read_bytes(bytes: &[u8], at: &mut usize, count: usize, text: &mut Span) -> i32
@@ -186,7 +186,7 @@ pub fn read_bytes(bytes: &[u8], at: &mut usize, count: usize, text: &mut Span) -
     code
 }
 
-/// Moves past so many bytes. `MISSING_BYTES`: there are fewer.
+/// Moves past this many bytes. `MISSING_BYTES`: there are fewer.
 pub fn skip(bytes: &[u8], at: &mut usize, count: usize) -> i32
     ensures past { result ≡ OK → (at.new ≡ at.old + count) × (at.new ≤ length bytes.now) }
     ensures missing { result ≡ MISSING_BYTES → length bytes.now < at.old + count }
@@ -200,7 +200,7 @@ pub fn skip(bytes: &[u8], at: &mut usize, count: usize) -> i32
     OK
 }
 
-/// Reads a `string<EOF>`: where the bytes up to the end stand. `MISSING_BYTES`: the place is behind
+/// Reads a `string<EOF>`: where the bytes up to the end stand. `MISSING_BYTES`: the place is after
 /// the end.
 ///
 /// <https://dev.mysql.com/doc/dev/mysql-server/latest/page_protocol_basic_dt_strings.html>
@@ -275,7 +275,7 @@ fn write(room: &mut [u8], at: &mut usize, bytes: &[u8]) -> i32
     OK
 }
 
-// Writes bytes at a place, and more behind them, or nothing.
+// Writes bytes at a place, and more after them, or nothing.
 #[tactic(auto, using(crate::proofs::FieldLemmas::writes_on))]
 fn write_both(room: &mut [u8], at: &mut usize, front: &[u8], back: &[u8]) -> i32
     ensures written { result ≡ OK
@@ -344,7 +344,7 @@ pub fn write_lenenc_int(room: &mut [u8], at: &mut usize, value: u64) -> i32
     write(room, at, &bytes[..len])
 }
 
-/// Writes a `string<lenenc>`: the text behind its length as an `int<lenenc>`. `ROOM_TOO_SMALL`:
+/// Writes a `string<lenenc>`: the text after its length as an `int<lenenc>`. `ROOM_TOO_SMALL`:
 /// there is less room, and nothing is written.
 ///
 /// <https://dev.mysql.com/doc/dev/mysql-server/latest/page_protocol_basic_dt_strings.html>

@@ -1,4 +1,4 @@
-//! The packet layer for C: one side of a connection behind a handle, and fields in bytes.
+//! The packet layer for C: one side of a connection after a handle, and fields in bytes.
 //!
 //! `include/mysql_wire.h` has the same calls for C.
 #![tactic(auto)]
@@ -177,7 +177,7 @@ pub extern "C" fn mysql_wire_decode(
     connection::decode(handle.connection(), bytes, used, packet)
 }
 
-/// Takes the packet that is lent, and lends as many as lie whole in `bytes`, one behind the other,
+/// Takes the packet that is lent, and lends as many as lie whole in `bytes`, one after the other,
 /// where nothing came before them.
 #[unsafe(no_mangle)]
 pub extern "C" fn mysql_wire_decode_many(
@@ -228,7 +228,7 @@ pub extern "C" fn mysql_wire_unread(handle: &mut Handle) -> usize
     connection::unread(handle.connection())
 }
 
-/// Frames a payload behind the bytes that wait to be sent.
+/// Frames a payload after the bytes that wait to be sent.
 #[unsafe(no_mangle)]
 pub extern "C" fn mysql_wire_encode(handle: &mut Handle, payload: &[u8]) -> i32
     ensures open { is_some handle.new.connection ≡ is_some handle.old.connection }
@@ -289,7 +289,7 @@ pub extern "C" fn mysql_wire_encode_to(
     connection::encode_to(handle.connection(), payload, room, written)
 }
 
-/// The header of a packet of so many bytes, which go behind it.
+/// The header of a packet of this many bytes, which go after it.
 #[unsafe(no_mangle)]
 pub extern "C" fn mysql_wire_encode_header(
     handle: &mut Handle,
@@ -501,7 +501,7 @@ pub extern "C" fn mysql_wire_read_lenenc_int(bytes: &[u8], at: &mut usize, value
     fields::read_lenenc_int(bytes, at, value)
 }
 
-/// Reads a `string<lenenc>`: where the text behind an `int<lenenc>` stands. It answers as
+/// Reads a `string<lenenc>`: where the text after an `int<lenenc>` stands. It answers as
 /// `read_lenenc_int`, and `MISSING_BYTES` where the text is cut short.
 ///
 /// <https://dev.mysql.com/doc/dev/mysql-server/latest/page_protocol_basic_dt_strings.html>
@@ -534,7 +534,7 @@ pub extern "C" fn mysql_wire_read_null_bytes(bytes: &[u8], at: &mut usize, text:
     fields::read_null_bytes(bytes, at, text)
 }
 
-/// Reads so many bytes: where they stand. `MISSING_BYTES`: there are fewer.
+/// Reads this many bytes: where they stand. `MISSING_BYTES`: there are fewer.
 ///
 /// <https://dev.mysql.com/doc/dev/mysql-server/latest/page_protocol_basic_dt_strings.html>
 #[unsafe(no_mangle)]
@@ -553,7 +553,7 @@ pub extern "C" fn mysql_wire_read_bytes(
     fields::read_bytes(bytes, at, count, text)
 }
 
-/// Moves past so many bytes. `MISSING_BYTES`: there are fewer.
+/// Moves past this many bytes. `MISSING_BYTES`: there are fewer.
 #[unsafe(no_mangle)]
 pub extern "C" fn mysql_wire_skip(bytes: &[u8], at: &mut usize, count: usize) -> i32
     ensures past { result ≡ OK → (at.new ≡ at.old + count) × (at.new ≤ length bytes.now) }
@@ -564,7 +564,7 @@ pub extern "C" fn mysql_wire_skip(bytes: &[u8], at: &mut usize, count: usize) ->
     fields::skip(bytes, at, count)
 }
 
-/// Reads a `string<EOF>`: where the bytes up to the end stand. `MISSING_BYTES`: the place is behind
+/// Reads a `string<EOF>`: where the bytes up to the end stand. `MISSING_BYTES`: the place is after
 /// the end.
 ///
 /// <https://dev.mysql.com/doc/dev/mysql-server/latest/page_protocol_basic_dt_strings.html>
@@ -606,7 +606,7 @@ pub extern "C" fn mysql_wire_read_nullable_bytes(
 }
 
 /// Reads the values of a row of a text result, as many as there are places for: where each stands.
-/// A value that is NULL has no bytes, and stands behind all places.
+/// A value that is NULL has no bytes, and stands after all places.
 ///
 /// <https://dev.mysql.com/doc/dev/mysql-server/latest/page_protocol_com_query_response_text_resultset_row.html>
 #[unsafe(no_mangle)]
@@ -653,7 +653,7 @@ pub extern "C" fn mysql_wire_write_lenenc_int(room: &mut [u8], at: &mut usize, v
     fields::write_lenenc_int(room, at, value)
 }
 
-/// Writes a `string<lenenc>`: the text behind its length as an `int<lenenc>`. `ROOM_TOO_SMALL`:
+/// Writes a `string<lenenc>`: the text after its length as an `int<lenenc>`. `ROOM_TOO_SMALL`:
 /// there is less room, and nothing is written.
 ///
 /// <https://dev.mysql.com/doc/dev/mysql-server/latest/page_protocol_basic_dt_strings.html>

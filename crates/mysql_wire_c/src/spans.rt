@@ -140,7 +140,7 @@ pub fn next_span(
 }
 
 /// Writes other ids over those of the bytes, as `Renumber::renumber` does: `WAITS` where all may
-/// go, else so many may.
+/// go, else this many may.
 pub fn renumber(spans: &mut Spans, bytes: &mut [u8], used: &mut usize) -> i32
     ensures { Renumbers bytes.old bytes.new used.new result spans.old spans.new }
 {

@@ -92,7 +92,7 @@ static bool a_packet_is_lent_until_it_is_taken(void) {
     return true;
 }
 
-/* Two packets that were fed at once lie in one buffer, the second behind the header of its own. */
+/* Two packets that were fed at once lie in one buffer, the second after the header of its own. */
 static bool a_packet_is_lent_where_it_came(void) {
     static const uint8_t two[] = {3, 0, 0, 0, '1', '2', '3', 2, 0, 0, 1, 'a', 'b'};
     mysql_wire_connection one = opened(16);
@@ -304,7 +304,7 @@ static bool what_is_encoded_goes_out_in_parts(void) {
     return true;
 }
 
-static bool numbers_go_on_behind_a_packet_that_is_lent(void) {
+static bool numbers_go_on_after_a_packet_that_is_lent(void) {
     mysql_wire_connection one = opened(3);
     mysql_wire_view view;
     uint8_t room[8];
@@ -368,7 +368,7 @@ static bool another_number_is_told_at_the_fourth_byte(void) {
     CHECK(refused_after(long_other, 6) == 4 && refused_after(long_expected, 6) == 99);
     CHECK(refused_after(second_other, 11) == 9 && refused_after(second_expected, 11) == 99);
     CHECK(refused_after(full, 4) == 4);
-    /* (nothing changes, and a packet that is lent isn't behind the front) */
+    /* (nothing changes, and a packet that is lent isn't after the front) */
     CHECK(mysql_wire_judge_front(&one) == MYSQL_WIRE_OK);
     CHECK(mysql_wire_feed(&one, second_other, 10) == MYSQL_WIRE_OK);
     CHECK(mysql_wire_judge_front(&one) == MYSQL_WIRE_OK);
@@ -554,7 +554,7 @@ static bool none_is_lent_that_decode_does_not_lend(void) {
     return true;
 }
 
-/* A header alone, and behind a packet that is lent. */
+/* A header alone, and after a packet that is lent. */
 static bool a_header_is_that_of_the_framing(void) {
     static const size_t lens[] = {0, 1, 255, 256, 65535, 65536, 16777214};
     mysql_wire_connection one = opened(16777214), other = opened(16777214);
@@ -615,7 +615,7 @@ static bool a_packet_that_is_cut_is_put_together(void) {
 }
 
 /* What was fed before comes first, and what is refused stays in the connection. */
-static bool decoding_goes_on_behind_what_was_fed(void) {
+static bool decoding_goes_on_after_what_was_fed(void) {
     static const uint8_t other[] = {1, 0, 0, 7, 'x'};
     mysql_wire_connection one = opened(3);
     mysql_wire_view view;
@@ -703,7 +703,7 @@ const test call_tests[] = {
     {"a lost connection numbers on", a_lost_connection_numbers_on},
     {"an address of nothing may be NULL", an_address_of_nothing_may_be_null},
     {"what is encoded goes out in parts", what_is_encoded_goes_out_in_parts},
-    {"numbers go on behind a packet that is lent", numbers_go_on_behind_a_packet_that_is_lent},
+    {"numbers go on after a packet that is lent", numbers_go_on_after_a_packet_that_is_lent},
     {"the number of a packet is the one before", the_number_of_a_packet_is_the_one_before},
     {"another number is told at the fourth byte", another_number_is_told_at_the_fourth_byte},
     {"the numbers are those of the chunks", the_numbers_are_those_of_the_chunks},
@@ -715,7 +715,7 @@ const test call_tests[] = {
     {"none is lent that decode does not lend", none_is_lent_that_decode_does_not_lend},
     {"a header is that of the framing", a_header_is_that_of_the_framing},
     {"a packet that is cut is put together", a_packet_that_is_cut_is_put_together},
-    {"decoding goes on behind what was fed", decoding_goes_on_behind_what_was_fed},
+    {"decoding goes on after what was fed", decoding_goes_on_after_what_was_fed},
     {"each code has its text", each_code_has_its_text},
     {"the version is that of the header", the_version_is_that_of_the_header},
     {NULL, NULL},

@@ -3,7 +3,7 @@
 
 enum { FULL = 16777215, HEADER = 4 };
 
-/* What came: the bytes of all packets, and how many there were behind each packet. */
+/* What came: the bytes of all packets, and how many there were after each packet. */
 typedef struct gathered {
     uint8_t bytes[4096];
     size_t len;

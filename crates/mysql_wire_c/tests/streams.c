@@ -85,7 +85,7 @@ static const example EXAMPLES[] = {
     {0, 9, "\0\0\0\0\0\0\0\1\1", MYSQL_WIRE_WAITS, 2},
 };
 
-/* One cutting: the bits say behind which bytes the stream is cut. */
+/* One cutting: the bits say after which bytes the stream is cut. */
 static bool cut_is_as_the_whole(const example *of, uint64_t cuts, bool lends) {
     size_t limits[16];
     uint8_t packet[16];

@@ -10,6 +10,6 @@ use Rattle.mysql_wire_c_session.specs.contracts.handle.SessionHandle as handle
 abbrev pub with_session : SessionHandle → FollowedSession → SessionHandle
 with_session h w = record { at = h.at; alloc = h.alloc; session = Some w }
 
--- once the borrow r ends, the session behind h is the last value written through r
+-- once the borrow r ends, the session after h is the last value written through r
 abbrev pub lends_session : MutBor SessionHandle → MutBor FollowedSession → Fml
 lends_session h r = Lends handle.the_row session.the_row h r (with_session h.now)

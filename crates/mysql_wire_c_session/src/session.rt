@@ -52,7 +52,7 @@ fn is_refused(packet: &Packet<'_>) -> bool
     matches!(packet, Packet::Refused(_) | Packet::Row(Row::Refused(_)))
 }
 
-// Whether so many bytes may be the front of a payload of this length.
+// Whether this many bytes may be the front of a payload of this length.
 fn is_front(len: usize, count: usize) -> bool
     ensures { result ≡ is_front len count }
 {

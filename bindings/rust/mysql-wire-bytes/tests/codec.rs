@@ -209,7 +209,7 @@ fn other_calls_between_two_packets() {
     assert_eq!(drained(&mut codec, &mut src), (vec![], Err(Error::PacketTooLarge)));
     codec.max_allowed_packet = 2;
     assert_eq!(drained(&mut codec, &mut src), (vec![b"bc".to_vec(), b"d".to_vec()], Ok(())));
-    // a packet that is sent, whose number is the one behind the first
+    // a packet that is sent, whose number is the one after the first
     let mut codec = PacketCodec::default();
     let (mut src, mut wire) = (after_the_first(&mut codec), BytesMut::new());
     codec.encode(&mut b"x".as_slice(), &mut wire).unwrap();

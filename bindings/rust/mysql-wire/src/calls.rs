@@ -222,7 +222,7 @@ pub fn decode<'a>(handle: &'a mut Handle, bytes: &'a [u8]) -> (i32, usize, &'a [
 pub struct Place(c::Span);
 
 impl Place {
-    /// Where no packet is, since no bytes are so many: for
+    /// Where no packet is, since no bytes are this many: for
     /// [`Connection::decode_many`](crate::Connection::decode_many) to write over.
     pub const NOWHERE: Place = Place(c::Span { at: 0, len: usize::MAX });
 

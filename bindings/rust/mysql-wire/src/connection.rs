@@ -60,8 +60,8 @@ impl Connection {
 
     /// Takes the packet that is lent, and says where as many packets stand as `bytes` begin with, at
     /// most one for each of these places, with one call of the library: packets of one chunk each that
-    /// lie whole there, one behind the other, where nothing that came before is unread. The connection
-    /// is behind all of them; the count says how many bytes were used. Where there is none, `decode`
+    /// lie whole there, one after the other, where nothing that came before is unread. The connection
+    /// is after all of them; the count says how many bytes were used. Where there is none, `decode`
     /// goes on.
     ///
     /// ```
@@ -116,7 +116,7 @@ impl Connection {
         calls::unread(&self.0)
     }
 
-    /// Frames a payload behind the bytes that wait to be sent. Its number follows that of the last
+    /// Frames a payload after the bytes that wait to be sent. Its number follows that of the last
     /// packet. A refusal changes nothing.
     pub fn encode(&mut self, payload: &[u8]) -> Result<(), Error> {
         checked(calls::encode(&mut self.0, payload)).map(drop)
@@ -135,7 +135,7 @@ impl Connection {
         checked(code).map(|_| written)
     }
 
-    /// The header of a packet of `len` bytes, numbered as by `encode`, for who puts the payload behind
+    /// The header of a packet of `len` bytes, numbered as by `encode`, for who puts the payload after
     /// it: both together are what `encode_to` frames. `PacketTooLarge` also from 16777215 bytes on, for
     /// which `encode_to` is there. A refusal changes nothing.
     #[inline]

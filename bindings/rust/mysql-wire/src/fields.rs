@@ -52,14 +52,14 @@ impl<'a> Fields<'a> {
         Ok(value)
     }
 
-    /// A text behind its length.
+    /// A text after its length.
     pub fn lenenc_bytes(&mut self) -> Result<&'a [u8], Error> {
         let mut text = c::Span { at: 0, len: 0 };
         checked(calls::read_lenenc_bytes(self.bytes, &mut self.at, &mut text))?;
         Ok(self.text(text))
     }
 
-    /// A value of a text row: a text behind its length, or `None` where `fb` stands for NULL.
+    /// A value of a text row: a text after its length, or `None` where `fb` stands for NULL.
     pub fn lenenc_bytes_or_null(&mut self) -> Result<Option<&'a [u8]>, Error> {
         if self.rest().first() == Some(&0xfb) {
             self.at += 1;
@@ -68,7 +68,7 @@ impl<'a> Fields<'a> {
         self.lenenc_bytes().map(Some)
     }
 
-    /// The values of a text row, so many, by one call of the library: each a text, or `None` for NULL.
+    /// The values of a text row, this many, by one call of the library: each a text, or `None` for NULL.
     ///
     /// ```
     /// # fn main() -> Result<(), mysql_wire::Error> {
@@ -117,7 +117,7 @@ pub fn put_lenenc_int(out: &mut Vec<u8>, value: u64) {
     out.extend_from_slice(&room[..at]);
 }
 
-/// Appends a text behind its length.
+/// Appends a text after its length.
 pub fn put_lenenc_bytes(out: &mut Vec<u8>, text: &[u8]) {
     put_lenenc_int(out, text.len() as u64);
     out.extend_from_slice(text);

@@ -35,7 +35,7 @@ pub struct PacketCodec {
     judged: Judged,
 }
 
-// The packets that the connection accepted and that weren't handed out. It is behind all of them; so
+// The packets that the connection accepted and that weren't handed out. It is after all of them; so
 // where another call comes than one that hands out the next of them, it is set back to its number.
 #[derive(Debug)]
 struct Judged {
@@ -142,7 +142,7 @@ impl PacketCodec {
         (fits && is_next).then_some(len)
     }
 
-    // Sets the connection behind the last packet that was handed out.
+    // Sets the connection after the last packet that was handed out.
     #[inline]
     fn forget_judged(&mut self) {
         if self.judged.next < self.judged.end {
@@ -159,7 +159,7 @@ impl PacketCodec {
         }
     }
 
-    // The length of the packet in front, where the connection accepts it, with those behind it.
+    // The length of the packet in front, where the connection accepts it, with those after it.
     #[inline]
     fn judge(&mut self, src: &[u8]) -> Result<Option<usize>, Error> {
         self.connection()?;
@@ -247,7 +247,7 @@ impl PacketCodec {
         }
     }
 
-    /// Frames a packet behind what `dst` holds, and empties it. After a refusal nothing has changed.
+    /// Frames a packet after what `dst` holds, and empties it. After a refusal nothing has changed.
     #[inline]
     pub fn encode<T: Buf>(
         &mut self,
@@ -303,7 +303,7 @@ impl PacketCodec {
     pub fn sync_seq_id(&mut self) {}
 }
 
-/// Takes room for the bytes that a packet lacks and what a read brings behind them, or for eight times
+/// Takes room for the bytes that a packet lacks and what a read brings after them, or for eight times
 /// what has come. `BytesMut` moves what it holds where room is short: now that is the least of the
 /// packet.
 #[inline]
@@ -315,18 +315,18 @@ fn make_room(missing: usize, came: usize, src: &mut BytesMut) {
     }
 }
 
-/// Puts a header and a payload behind what is there, into room that was reserved.
+/// Puts a header and a payload after what is there, into room that was reserved.
 #[inline]
 fn put_packet(header: [u8; HEADER_LEN], payload: &[u8], dst: &mut BytesMut) {
     let len = HEADER_LEN + payload.len();
     let room = &mut dst.chunk_mut()[..len];
     room[..HEADER_LEN].copy_from_slice(&header);
     room[HEADER_LEN..].copy_from_slice(payload);
-    // SAFETY: so many bytes of the room were written.
+    // SAFETY: this many bytes of the room were written.
     unsafe { dst.advance_mut(len) };
 }
 
-/// Frames a payload behind what is there, in room that was taken.
+/// Frames a payload after what is there, in room that was taken.
 #[inline]
 fn append(connection: &mut Connection, payload: &[u8], dst: &mut BytesMut) -> Result<(), Error> {
     let room = dst.chunk_mut();
@@ -335,7 +335,7 @@ fn append(connection: &mut Connection, payload: &[u8], dst: &mut BytesMut) -> Re
         slice::from_raw_parts_mut(room.as_mut_ptr().cast::<MaybeUninit<u8>>(), room.len())
     };
     let written = connection.encode_to(payload, room)?;
-    // SAFETY: so many bytes of the room were written.
+    // SAFETY: this many bytes of the room were written.
     unsafe { dst.advance_mut(written) };
     Ok(())
 }
