@@ -115,7 +115,7 @@ SESSIONS = [
       "server 4 2 row", "server 5 1 row", "server 6 5 eof", "client end at 13",
       "server end at 61"]),
     # the OK that ends no rows shows that the client wants no EOF after definitions
-    ("no rows, and an OK behind the definitions", "", None, ROWS[:32] + b"\7\0\0\3\xfe\0\0\2\0\0\0", 0,
+    ("no rows, and an OK after the definitions", "", None, ROWS[:32] + b"\7\0\0\3\xfe\0\0\2\0\0\0", 0,
      ["server 1 1 column count", "server 2 23 column", "server 3 7 eof", "server end at 43"]),
     # the second command's answer begins with the id that would follow the first
     ("a command without an answer", "", b"\5\0\0\0\x19\1\0\0\0" + PING, DONE, 0,
@@ -135,7 +135,7 @@ SESSIONS = [
      ["client 0 34 init db", "client unfinished at 38"]),
     ("a packet past the limit", "--limit 4 --fields", b"\5\0\0\0\3abcd" + PING, None, 0,
      ["client 0 5 too large", "client 0 1 ping", "client end at 14"]),
-    ("bytes behind a packet", "--json", None, b"\x22\0\0\1\0\1\1" + bytes(31), 0,
+    ("bytes after a packet", "--json", None, b"\x22\0\0\1\0\1\1" + bytes(31), 0,
      ['{"from":"server","id":1,"length":34,"packet":"bytes","bytes":'
       '"0001010000000000000000000000000000000000000000000000000000000000..",'
       '"refusal":"trailing bytes"}',

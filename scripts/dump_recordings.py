@@ -1,6 +1,6 @@
 #!/usr/bin/env python3
 """Dumps the recorded sessions of crates/recording_tests, or those of another file of this form. The
-rows behind them are left out.
+rows after them are left out.
 
     scripts/dump_recordings.py [RECORDINGS]
 

@@ -12,8 +12,8 @@ command. fields.jsonl lists some of the payloads field by field, as other progra
 number, a text in hex, or null for reserved bytes; `eaten` says up to which byte the list goes.
 Each payload and each list becomes a record as crates/recording_tests/README.md says.
 
-A statement of rows.txt is a line, and the indented ones behind it. Texts are written as byte strings
-of Rust, numbers in decimal or behind `0x`.
+A statement of rows.txt is a line, and the indented ones after it. Texts are written as byte strings
+of Rust, numbers in decimal or after `0x`.
 
     session NAME                       begins a session
     greeting                           a server's greeting
@@ -21,15 +21,15 @@ of Rust, numbers in decimal or behind `0x`.
     reset                              the client begins a new command
     prepared ID COLUMNS PARAMETERS     a statement, and its answer
     columns TYPE ..                    a count of columns, their definitions, and the end of these
-    client PAYLOAD, server PAYLOAD     a payload; behind it:
+    client PAYLOAD, server PAYLOAD     a payload; after it:
         = FIELD ..                     all of its fields
         refused                        in place of fields: it is none of its place
         least COUNT                    of the shorter payloads those of COUNT bytes and more are read
                                        too, with as much of the last text as is left; the others are
                                        refused. `least all`: no shorter one is read
-        but COUNT                      of so many bytes it is another packet, and is left out
+        but COUNT                      of this many bytes it is another packet, and is left out
 
-A shorter payload stands behind the same records as the payload itself: those from the last `reset`
+A shorter payload stands after the same records as the payload itself: those from the last `reset`
 on, or from the session's beginning.
 """
 

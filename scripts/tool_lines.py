@@ -139,12 +139,12 @@ def run(line, data, folder):
 def messages(data, step, at):
     """What each read is to ask for: a step, or where that would pass this place from before it,
     what is left up to there. A read takes one message, and the rest of it is lost: where it asks
-    for less, bytes are missing, and where it asks for more, it gets bytes that stand behind."""
+    for less, bytes are missing, and where it asks for more, it gets bytes that stand after."""
     place = 0
     while place < len(data):
         asked = min(step, at - place) if place < at else step
         piece = data[place:place + asked]
-        yield piece + b"behind" if len(piece) == asked else piece
+        yield piece + b"after" if len(piece) == asked else piece
         place += asked
 
 
@@ -207,18 +207,18 @@ def of_many(folder):
     """The same of many packets, also where the last one has another id."""
     for lengths in MANY:
         data, text = many(lengths)
-        behind = b"\0\0\0" + bytes([(len(lengths) + 1) % 256])
+        after = b"\0\0\0" + bytes([(len(lengths) + 1) % 256])
         found = []
         for step in [100, 8192, 16384, 65536]:
             line = "unframe %d 70000" % step
             found.append((line, goes(line, data, 0, text + b"rest 0\n", folder)))
-            found.append((line, goes(line, data + behind, 5, text + b"out of sync\n", folder)))
+            found.append((line, goes(line, data + after, 5, text + b"out of sync\n", folder)))
         yield "unframe STEP 70000 of %d packets" % len(lengths), joined(found)
 
 
 def asks_right(line, data, text, step, at):
     """What goes otherwise, or None where each read asks for a step, and none from before this place
-    for bytes behind it."""
+    for bytes after it."""
     found = run_on_messages(line, messages(data, step, at))
     return None if found == (0, text, "") else shown(found)
 
@@ -312,9 +312,9 @@ def is_out(given, text):
 
 def of_waits():
     """The same where `reframe` waits for more, between two packets and inside one."""
-    for behind in [b"", b"\1\0", b"\1\0\0\2", b"\2\0\0\2c"]:
+    for after in [b"", b"\1\0", b"\1\0\0\2", b"\2\0\0\2c"]:
         text = b"\1\0\0\0a\1\0\0\1b"
-        yield "reframe waits behind %s" % (behind.hex() or "a packet"), is_out(text + behind, text)
+        yield "reframe waits after %s" % (after.hex() or "a packet"), is_out(text + after, text)
 
 
 def of_other_lines(folder):

@@ -54,7 +54,7 @@ def main():
         text = read(path)
         found = re.findall(f"{front}({form})(?={back})", text, re.M)
         if not found:
-            wrong.append(f"{path} has no version behind {front!r}")
+            wrong.append(f"{path} has no version after {front!r}")
         elif checks and set(found) != {wanted}:
             wrong.append(f"{path} has {', '.join(sorted(set(found)))} in place of {wanted}")
         elif not checks:
