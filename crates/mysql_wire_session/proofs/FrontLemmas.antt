@@ -1,10 +1,10 @@
 -- What the front of a payload tells of what is known after it.
 use denote.Param.{number}
-use Rattle.std.proofs.Common.{◌≡◌, ◌⊎◌, ◌∙◌, ◌≤◌, ◌==◌, ℕ, zero, suc, inl, inr, Bool, true, false, List, [], ◌∷◌, length, refl, ap, sym, subst, Option, Some, None, cond, Result, Ok, Err, arith, take}
+use Rattle.std.proofs.Common.{◌≡◌, ◌⊎◌, ◌∙◌, ◌≤◌, ℕ, zero, suc, inl, inr, Bool, true, false, List, [], ◌∷◌, length, refl, ap, sym, subst, Option, Some, None, Result, Ok, Err, arith, take}
 use Rattle.std.specs.Prelude.{IfOk, OnOk}
 use Rattle.mysql_wire_packets.specs.Optional.{has_query_attributes}
 use Rattle.mysql_wire_packets.specs.declared.places.PayloadError.{PayloadError}
-use Rattle.mysql_wire_session.specs.Advance.{applied, id_after, opened, remembered, state_after, without_eof}
+use Rattle.mysql_wire_session.specs.Advance.{applied, id_after, opened, remembered, state_after}
 use Rattle.mysql_wire_session.specs.Fronts.{IsFront, KnownAfter, TakesFront, are_columns, says_more}
 use Rattle.mysql_wire_session.specs.Kinds.{first_byte, is_report, kind_at, kind_by_front}
 use Rattle.mysql_wire_session.specs.Opening.{opened_state}
@@ -34,7 +34,6 @@ use Rattle.mysql_wire_session_packets.specs.declared.packet_kind.PacketKind.{Pac
 use Rattle.mysql_wire_session_packets.specs.declared.packet_kind.PacketKind.TheVariants as kind
 use Rattle.mysql_wire_session_packets.specs.declared.phase.Phase.{Phase}
 use Rattle.mysql_wire_session_packets.specs.declared.phase.Phase.TheVariants as phase
-use Rattle.mysql_wire_session_packets.specs.declared.refusal.Refusal.{Refusal}
 use Rattle.mysql_wire_session_packets.specs.declared.refusal.SessionError.{SessionError}
 use Rattle.mysql_wire_session_packets.specs.declared.side.Side.{Side}
 use Rattle.mysql_wire_session_packets.specs.declared.side.Side.TheVariants.{Client, Server}

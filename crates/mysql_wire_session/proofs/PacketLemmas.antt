@@ -1,5 +1,5 @@
 -- That what packets are written as is what the grammar has.
-use Rattle.std.proofs.Common.{◌≡◌, ◌≢◌, ◌⊎◌, ◌∙◌, ◌<◌, ◌≤◌, ◌-◌, ◌^◌, ◌/◌, ◌%◌, ℕ, inl, inr, Bool, true, false, List, [], ◌∷◌, ◌++◌, length, refl, ap, sym, subst, Option, Some, None, Result, Ok, Err, arith, append-nil}
+use Rattle.std.proofs.Common.{◌≡◌, ◌≢◌, ◌⊎◌, ◌∙◌, ◌<◌, ◌≤◌, ◌-◌, ◌^◌, ◌/◌, ◌%◌, ℕ, inl, inr, false, List, [], ◌∷◌, ◌++◌, length, refl, ap, sym, subst, Option, Some, None, Result, Ok, Err, arith, append-nil}
 use Rattle.std.proofs.lemmas.Bool.{cases_eq, cases_lt, le-ltb, lt-ltb, ne_eqb}
 use Rattle.std.proofs.lemmas.List.{length-append}
 use Rattle.wire_buf.specs.Lenenc.{lenenc_bytes}
@@ -18,7 +18,7 @@ use Rattle.mysql_wire_queries.specs.TextValues.{row_bytes, value_bytes, value_of
 use Rattle.mysql_wire_queries.specs.declared.text_row.TextValue.{TextValue}
 use Rattle.mysql_wire_queries.specs.declared.column_count.ColumnCount.{ColumnCount}
 use Rattle.mysql_wire_session.specs.Advance.{is_zero, mariadb_of}
-use Rattle.mysql_wire_session.specs.Grammar.{Agreed, Agrees, Counts, IfRead, IsColumnCount, IsDefinition, IsReadAs, IsRow, IsServers, from_server}
+use Rattle.mysql_wire_session.specs.Grammar.{Agreed, Agrees, IsColumnCount, IsDefinition, IsReadAs, IsRow, from_server}
 use Rattle.mysql_wire_session.specs.Kinds.{first_byte, is_report}
 use Rattle.mysql_wire_session.specs.contracts.payload.ColumnCountPayload.TheImpl as count_type
 use Rattle.mysql_wire_session_packets.specs.declared.packet_kind.PacketKind.TheVariants as kind

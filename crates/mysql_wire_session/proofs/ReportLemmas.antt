@@ -5,10 +5,9 @@ use Rattle.std.proofs.lemmas.List.Elements.{recursion_from_All}
 use Rattle.mysql_wire_session.specs.Advance.{applied, fetched, id_after, opened, remembered, server_phase, without_eof}
 use Rattle.mysql_wire_session.specs.Grammar.{Advances, Agreed, FollowsUntil, IsReport, MayReport, MaySend, Said, WithReports, called_at}
 use Rattle.mysql_wire_session.specs.Kinds.{any_server_kind, first_byte, is_report}
-use Rattle.mysql_wire_session.specs.Readings.{IsRead, ReadsAs, after_packet, kind_of}
-use Rattle.mysql_wire_session.specs.Senders.{is_idle, next_sender}
+use Rattle.mysql_wire_session.specs.Readings.{ReadsAs, after_packet, kind_of}
+use Rattle.mysql_wire_session.specs.Senders.{next_sender}
 use Rattle.mysql_wire_session.specs.State.{SessionState, expectation_of, statement_of}
-use Rattle.mysql_wire_session.specs.contracts.payload.ProgressReportPayload.TheImpl as progress_type
 use Rattle.mysql_wire_session.specs.declared.classify.Expectation.{Expectation}
 use Rattle.mysql_wire_session_packets.specs.declared.packet.Packet.{Packet}
 use Rattle.mysql_wire_session_packets.specs.declared.packet.Packet.TheVariants as packet

@@ -1,4 +1,3 @@
-use Rattle.std.proofs.Common.{◌≡◌, refl}
 use Rattle.mysql_wire_session.proofs.PacketLemmas.{count_in_grammar}
 use Rattle.mysql_wire_session.proofs.packet_laws.column_count_in_grammar.Goals as goal
 

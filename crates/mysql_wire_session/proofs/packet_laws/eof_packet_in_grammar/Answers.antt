@@ -1,4 +1,4 @@
-use Rattle.std.proofs.Common.{◌≡◌, refl}
+use Rattle.std.proofs.Common.{refl}
 use Rattle.mysql_wire_session.proofs.PacketLemmas.{holds_of_kept}
 use Rattle.mysql_wire_session.proofs.packet_laws.eof_packet_in_grammar.Goals as goal
 

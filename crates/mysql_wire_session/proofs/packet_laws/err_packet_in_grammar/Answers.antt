@@ -1,4 +1,4 @@
-use Rattle.std.proofs.Common.{◌≡◌, ◌++◌, ◌∷◌, List, ℕ, false, refl, subst, sym}
+use Rattle.std.proofs.Common.{◌++◌, ◌∷◌, List, ℕ, false, refl, subst, sym}
 use Rattle.std.specs.Cow.{cow_slice_items}
 use Rattle.mysql_wire_packets.specs.Optional.{IsThere, bytes_if}
 use Rattle.mysql_wire_packets.specs.declared.err_packet.ErrPacket.{ErrPacket}

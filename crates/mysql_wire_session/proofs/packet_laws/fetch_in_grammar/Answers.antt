@@ -1,4 +1,4 @@
-use Rattle.std.proofs.Common.{◌≡◌, ◌∙◌, ℕ, ap, refl}
+use Rattle.std.proofs.Common.{◌∙◌, ℕ, ap, refl}
 use Rattle.mysql_wire_session.specs.State.{statement_of}
 use Rattle.mysql_wire_session.proofs.PacketLemmas.{holds_of_kept}
 use Rattle.mysql_wire_session.proofs.packet_laws.fetch_in_grammar.Goals as goal

@@ -1,6 +1,4 @@
-use Rattle.std.proofs.Common.{◌≡◌, ◌∙◌, ℕ, ap, refl, sym}
-use Rattle.mysql_wire_packets.specs.Optional.{has}
-use Rattle.mysql_wire_session.specs.Advance.{mariadb_of}
+use Rattle.std.proofs.Common.{refl}
 use Rattle.mysql_wire_session.proofs.PacketLemmas.{agrees_kept, holds_of_kept}
 use Rattle.mysql_wire_session.proofs.packet_laws.login_in_grammar.Goals as goal
 

@@ -1,4 +1,4 @@
-use Rattle.std.proofs.Common.{◌≡◌, ℕ, ap, refl}
+use Rattle.std.proofs.Common.{ℕ, ap, refl}
 use Rattle.mysql_wire_packets.specs.Oks.{ok_form, words_bytes}
 use Rattle.mysql_wire_packets.specs.Optional.{has}
 use Rattle.mysql_wire_session.proofs.PacketLemmas.{holds_of_kept, ok_is_long}

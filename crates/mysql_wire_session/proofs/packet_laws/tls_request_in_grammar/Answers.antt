@@ -1,4 +1,4 @@
-use Rattle.std.proofs.Common.{◌≡◌, ◌∙◌, ℕ, ap, arith, refl}
+use Rattle.std.proofs.Common.{◌∙◌, ℕ, ap, refl}
 use Rattle.mysql_wire_packets.specs.Optional.{has}
 use Rattle.mysql_wire_session.proofs.PacketLemmas.{holds_of_kept, request_len}
 use Rattle.mysql_wire_session.proofs.packet_laws.tls_request_in_grammar.Goals as goal
