@@ -3,8 +3,8 @@ use Rattle.std.proofs.Common.{◌≡◌, ◌∙◌, ℕ, List, [], length, refl,
 use Rattle.std.specs.Prelude.{IfOk, OnOk}
 use Rattle.mysql_wire_dump.specs.Dumped.{AreFields}
 use Rattle.mysql_wire_dump.specs.Dumping.{NamesOne, PassesOver, Tells, TellsRow}
-use Rattle.mysql_wire_dump_fields.specs.Packets.{PutsPacket}
-use Rattle.mysql_wire_session.specs.Readings.{IsRowKind, ReadsAs, Receives, RowReads, advanced, after_kind, after_packet, kind_of, passed}
+use Rattle.mysql_wire_dump_fields.specs.Packets.{PutsPacket, PutsRowFields}
+use Rattle.mysql_wire_session.specs.Readings.{ReadsAs, Receives, RowReads, advanced, after_kind, after_packet, kind_of, passed}
 use Rattle.mysql_wire_session.specs.Advance.{opened, without_eof}
 use Rattle.mysql_wire_session_packets.specs.declared.packet.Row.{Row}
 use Rattle.mysql_wire_session_packets.specs.declared.phase.Phase.{Phase}
@@ -25,7 +25,7 @@ use Rattle.wire_text.specs.declared.fields.FieldForm.TheVariants.{Hidden, Text, 
 
 -- no fields were put
 no_fields : (form : FieldForm) (types : List ℕ) (begun : Written) → begun ≡ nothing form
-    → AreFields form types TooLarge packet.TooLarge TooLarge begun.text
+    → AreFields form types TooLarge [] packet.TooLarge TooLarge begun.text
 no_fields Hidden types begun is = record { members = []; has = (refl, refl); is = ap (λ (written : Written). written.text) is }
 no_fields Text types begun is = record { members = []; has = (refl, refl); is = ap (λ (written : Written). written.text) is }
 no_fields Json types begun is = record { members = []; has = (refl, refl); is = ap (λ (written : Written). written.text) is }
@@ -37,15 +37,20 @@ passed_over form side id len known next begun is goes_on = (goes_on, no_fields f
 
 -- a packet that came was read and shown
 pub came_and_shown : (side : Side) (id : ℕ) (payload : List ℕ) (known next : SessionState) (received : Received) (old new : Written) (result : Result PacketKind Stop)
-    → Receives side id payload known received → IfOk result (PutsPacket known.types received.kind received.packet old new) → OnOk result (next ≡ advanced received known)
+    → Receives side id payload known received → IfOk result (PutsPacket known.types received.kind received.payload.now received.packet old new) → OnOk result (next ≡ advanced received known)
     → IfOk result (Tells side id payload known next old new)
 came_and_shown side id payload known next received old new (Ok named) came put goes_on = record {
   packet = received.packet;
   reads = came.reads;
-  puts = subst (λ (k : PacketKind). PutsPacket known.types k received.packet old new named) came.kind_is put;
+  puts = subst (λ (k : PacketKind). PutsPacket known.types k payload received.packet old new named) came.kind_is
+      (subst (λ (p : List ℕ). PutsPacket known.types received.kind p received.packet old new named) came.payload_is put);
   goes_on = goes_on ∙ came_so side id payload known received came;
 }
 came_and_shown side id payload known next received old new (Err stop) came put goes_on = tt
+
+-- one of both kinds of rows
+abbrev IsRow : PacketKind → Type 0
+IsRow called = (called ≡ kind.Row) ⊎ (called ≡ kind.BinaryRow)
 
 -- a row is read where no EOF stood before it as where one did
 text_opens : (at : Phase) (payload : List ℕ) (known : SessionState) (read : Row) → RowReads known kind.Row payload read
@@ -86,63 +91,36 @@ binary_opens phase.File payload known read reads = reads
 binary_opens phase.Closed payload known read reads = reads
 binary_opens phase.Encrypted payload known read reads = reads
 
-row_reads : (called : PacketKind) (payload : List ℕ) (known : SessionState) (read : Row) → IsRowKind called → RowReads known called payload read
+row_reads : (called : PacketKind) (payload : List ℕ) (known : SessionState) (read : Row) → IsRow called → RowReads known called payload read
     → ReadsAs (opened called (length payload) known) called payload (packet.Row read)
-row_reads kind.Row payload known read is reads = (read, text_opens known.phase payload known read reads, refl)
-row_reads kind.BinaryRow payload known read is reads = (read, binary_opens known.phase payload known read reads, refl)
-row_reads kind.Greeting payload known read is reads = absurd is
-row_reads kind.TlsRequest payload known read is reads = absurd is
-row_reads kind.Login payload known read is reads = absurd is
-row_reads kind.AuthSwitch payload known read is reads = absurd is
-row_reads kind.AuthMoreData payload known read is reads = absurd is
-row_reads kind.AuthAnswer payload known read is reads = absurd is
-row_reads kind.Ok payload known read is reads = absurd is
-row_reads kind.Error payload known read is reads = absurd is
-row_reads kind.Progress payload known read is reads = absurd is
-row_reads kind.Eof payload known read is reads = absurd is
-row_reads kind.ColumnCount payload known read is reads = absurd is
-row_reads kind.Column payload known read is reads = absurd is
-row_reads kind.LocalInfile payload known read is reads = absurd is
-row_reads kind.File payload known read is reads = absurd is
-row_reads kind.Prepared payload known read is reads = absurd is
-row_reads kind.Statistics payload known read is reads = absurd is
-row_reads kind.BinaryLogEvent payload known read is reads = absurd is
-row_reads kind.Query payload known read is reads = absurd is
-row_reads kind.InitDatabase payload known read is reads = absurd is
-row_reads kind.Ping payload known read is reads = absurd is
-row_reads kind.Quit payload known read is reads = absurd is
-row_reads kind.ChangeUser payload known read is reads = absurd is
-row_reads kind.Prepare payload known read is reads = absurd is
-row_reads kind.Execute payload known read is reads = absurd is
-row_reads kind.LongData payload known read is reads = absurd is
-row_reads kind.CloseStatement payload known read is reads = absurd is
-row_reads kind.ResetStatement payload known read is reads = absurd is
-row_reads kind.Fetch payload known read is reads = absurd is
-row_reads kind.FieldList payload known read is reads = absurd is
-row_reads kind.SetOption payload known read is reads = absurd is
-row_reads kind.StatisticsRequest payload known read is reads = absurd is
-row_reads kind.ResetConnection payload known read is reads = absurd is
-row_reads kind.BinaryLogRequest payload known read is reads = absurd is
-row_reads kind.OtherCommand payload known read is reads = absurd is
-row_reads kind.TooLarge payload known read is reads = absurd is
-row_reads (kind.Refused refusal) payload known read is reads = absurd is
+row_reads called payload known read (inl is) reads =
+    subst (λ (k : PacketKind). ReadsAs (opened k (length payload) known) k payload (packet.Row read)) (sym is)
+    (read, text_opens known.phase payload known read (subst (λ (k : PacketKind). RowReads known k payload read) is reads), refl)
+row_reads called payload known read (inr is) reads =
+    subst (λ (k : PacketKind). ReadsAs (opened k (length payload) known) k payload (packet.Row read)) (sym is)
+    (read, binary_opens known.phase payload known read (subst (λ (k : PacketKind). RowReads known k payload read) is reads), refl)
 
--- one of both kinds of rows
-pub is_row : (called named : PacketKind) → called ≡ named → (called ≡ kind.Row) ⊎ (called ≡ kind.BinaryRow) → IsRowKind named
-is_row called named same (inl row) = subst (λ (k : PacketKind). IsRowKind k) (sym row ∙ same) tt
-is_row called named same (inr row) = subst (λ (k : PacketKind). IsRowKind k) (sym row ∙ same) tt
+-- a row's fields are its packet's
+row_puts : (types : List ℕ) (called : PacketKind) (payload : List ℕ) (read : Row) (old new : Written) (named : PacketKind) → IsRow called
+    → PutsRowFields types called read old new named → PutsPacket types called payload (packet.Row read) old new named
+row_puts types called payload read old new named (inl is) put =
+    subst (λ (k : PacketKind). PutsPacket types k payload (packet.Row read) old new named) (sym is)
+    (let puts = subst (λ (k : PacketKind). PutsRowFields types k read old new named) is put in record { members = puts.members; has = puts.has; puts = puts.puts })
+row_puts types called payload read old new named (inr is) put =
+    subst (λ (k : PacketKind). PutsPacket types k payload (packet.Row read) old new named) (sym is)
+    (let puts = subst (λ (k : PacketKind). PutsRowFields types k read old new named) is put in record { members = puts.members; has = puts.has; puts = puts.puts })
 
 -- a row that came was read and shown
 pub row_shown : (side : Side) (id : ℕ) (payload : List ℕ) (called : PacketKind) (known next : SessionState) (old new : Written) (result : Result PacketKind Stop)
-    → called ≡ kind_of side id payload known → IsRowKind called → IfOk result (TellsRow side id called payload known next old new)
+    → called ≡ kind_of side id payload known → IsRow called → IfOk result (TellsRow side id called payload known next old new)
     → IfOk result (Tells side id payload known next old new)
 row_shown side id payload called known next old new (Err stop) called_so is told = tt
 row_shown side id payload called known next old new (Ok named) called_so is told = record {
   packet = packet.Row told.row;
   reads = subst (λ (k : PacketKind). ReadsAs (opened k (length payload) known) k payload (packet.Row told.row)) called_so
       (row_reads called payload known told.row is told.reads);
-  puts = subst (λ (k : PacketKind). PutsPacket known.types k (packet.Row told.row) old new named) called_so
-      (record { members = told.puts.members; has = told.puts.has; puts = told.puts.puts });
+  puts = subst (λ (k : PacketKind). PutsPacket known.types k payload (packet.Row told.row) old new named) called_so
+      (row_puts known.types called payload told.row old new named is told.puts);
   goes_on = told.goes_on ∙ ap (λ (k : PacketKind). after_kind side id k (length payload) known) called_so;
 }
 

@@ -48,11 +48,12 @@ form_if true line.Json = Json
 abbrev pub field_form : Options → FieldForm
 field_form options = form_if options.has_fields options.form
 
--- a packet of this kind is shown as this; its fields as text, which is empty where none are asked for
-pub record AreFields (form : FieldForm) (types : List ℕ) (wanted : PacketKind) (packet : Packet)
-    (named : PacketKind) (text : List ℕ) : Type 0 where
+-- a packet of this kind and payload, which is read as this, is shown as this; its fields as text, which
+-- is empty where none are asked for
+pub record AreFields (form : FieldForm) (types : List ℕ) (wanted : PacketKind) (payload : List ℕ)
+    (packet : Packet) (named : PacketKind) (text : List ℕ) : Type 0 where
   pub members : List Member
-  pub has : HasFields types wanted packet named members
+  pub has : HasFields types wanted payload packet named members
   pub is : text ≡ fields_text form members
 
 -- what a packet is named by, and what was known where it was read
@@ -68,11 +69,11 @@ pub record IsShown (options : Options) (shown : Shown) : Type 0 where
   pub len : shown.seen.len ≡ length shown.payload
   pub large : options.limit < length shown.payload
       → (shown.packet ≡ packet.TooLarge)
-      × AreFields (field_form options) shown.at.types TooLarge shown.packet shown.seen.kind
+      × AreFields (field_form options) shown.at.types TooLarge [] shown.packet shown.seen.kind
       shown.fields
   pub reads : length shown.payload ≤ options.limit
       → ReadsAs (known_at shown) (wanted_of shown) shown.payload shown.packet
-      × AreFields (field_form options) shown.at.types (wanted_of shown) shown.packet
+      × AreFields (field_form options) shown.at.types (wanted_of shown) shown.payload shown.packet
       shown.seen.kind shown.fields
 
 -- what is known after it

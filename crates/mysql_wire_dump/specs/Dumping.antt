@@ -66,7 +66,7 @@ abbrev pub PassesOver : FieldForm → Side → ℕ → ℕ → SessionState → 
     → PacketKind → Type 0
 PassesOver form side id len known next fields named =
     (next ≡ passed side id len known)
-    × AreFields form known.types TooLarge packet.TooLarge named fields
+    × AreFields form known.types TooLarge [] packet.TooLarge named fields
 
 -- a packet came, was read and shown as this, and its fields were put
 pub record Tells (side : Side) (id : ℕ) (payload : List ℕ) (known next : SessionState)
@@ -74,7 +74,7 @@ pub record Tells (side : Side) (id : ℕ) (payload : List ℕ) (known next : Ses
   pub packet : Packet
   pub reads : ReadsAs (opened_at side id payload known) (kind_of side id payload known) payload
       packet
-  pub puts : PutsPacket known.types (kind_of side id payload known) packet old new named
+  pub puts : PutsPacket known.types (kind_of side id payload known) payload packet old new named
   pub goes_on : next ≡ after_packet side id (kind_of side id payload known) payload packet known
 
 -- the same of a row of this kind
@@ -92,7 +92,8 @@ pub record NamesOne (form : FieldForm) (side : Side) (id : ℕ) (payload : List 
   pub reads : ReadsAs (opened_at side id payload known) (kind_of side id payload known) payload
       packet
   pub goes_on : next ≡ after_packet side id (kind_of side id payload known) payload packet known
-  pub fields_are : AreFields form known.types (kind_of side id payload known) packet named fields
+  pub fields_are : AreFields form known.types (kind_of side id payload known) payload packet named
+      fields
 
 -- the line of a stream's next packet is appended, and the session goes on after it
 pub record PushesNext {A : Type 0} (side : Side) (source : PacketStream A)

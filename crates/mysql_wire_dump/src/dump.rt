@@ -5,7 +5,7 @@ ghost use Rattle.std.specs.Io.KnownBytes.{Appends};
 ghost use Rattle.mysql_wire_dump.specs.Dumped.{DumpEnds, Dumps, DumpsOver, ending_lines, field_form, status_of};
 ghost use Rattle.mysql_wire_dump.specs.Dumping.{GoesOver, NamesOne, PassesOver, StartsDump, Tells, TellsRow};
 ghost use Rattle.mysql_wire_dump_fields.specs.Packets.{PutsPacket};
-ghost use Rattle.mysql_wire_session.specs.Readings.{IsRowKind, advanced};
+ghost use Rattle.mysql_wire_session.specs.Readings.{advanced};
 ghost use Rattle.mysql_wire_session.specs.State.{state_of};
 ghost use Rattle.mysql_wire_dump_lines.specs.Status.{end_status};
 
@@ -65,13 +65,12 @@ fn show_received<A: Allocator + Copy>(
     received: &Received<'_>,
 ) -> Result<PacketKind, Stop>
     ensures puts { IfOk result (PutsPacket session.old.types.items received.now.kind
-        received.now.packet fields.old fields.new) }
+        received.now.payload.now received.now.packet fields.old fields.new) }
     ensures goes { OnOk result (state_of session.new
         ≡ advanced received.now (state_of session.old)) }
 {
     let types = session.column_types();
-    let kind = show_packet(global, fields, types, received.kind, &received.packet)
-        .map_err(stop_of)?;
+    let kind = show_packet(global, fields, types, received).map_err(stop_of)?;
     session.advance(received).map_err(stop_of)?;
     Ok(kind)
 }
@@ -102,7 +101,6 @@ fn show_row_of<A: Allocator + Copy>(
     came: (Side, u8, PacketKind),
     payload: &[u8],
 ) -> Result<PacketKind, Stop>
-    requires { IsRowKind came.2 }
     ensures { IfOk result (TellsRow came.0 came.1 came.2 payload.now (state_of session.old)
         (state_of session.new) fields.old fields.new) }
 {

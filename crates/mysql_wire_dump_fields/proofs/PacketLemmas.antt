@@ -1,7 +1,7 @@
 -- The fields of packets.
-use Rattle.std.proofs.Common.{◌≡◌, ◌++◌, ℕ, List, refl, subst, inl, inr, Bor, Option, Result, Ok, Err}
+use Rattle.std.proofs.Common.{◌≡◌, ◌++◌, ℕ, List, refl, subst, inl, inr, Option, Result, Ok, Err}
 use Rattle.std.specs.Prelude.{IfOk, OnOk}
-use Rattle.mysql_wire_dump_fields.specs.Packets.{HasFields, PutsPacket, PutsRowFields, packet_fields, shown_kind}
+use Rattle.mysql_wire_dump_fields.specs.Packets.{HasOwnFields, PutsOwn, PutsRowFields, packet_fields, shown_kind}
 use Rattle.mysql_wire_dump_fields.specs.ValueFields.{AreRowFields, PutsRow, rest_if, row_bytes_fields}
 use Rattle.mysql_wire_session_packets.specs.declared.packet.Packet.{Packet}
 use Rattle.mysql_wire_session_packets.specs.declared.packet.Packet.TheVariants as packet
@@ -29,7 +29,7 @@ puts_row columns types row refusal old new (inr other) = (row_bytes_fields row, 
 -- a packet that is no row of values has its own fields
 pub own_fields : (types : List ℕ) (wanted : PacketKind) (shown : Packet)
     → ((row : Row) → shown ≡ packet.Row row → ⊥)
-    → HasFields types wanted shown (shown_kind wanted shown) (packet_fields shown)
+    → HasOwnFields types wanted shown (shown_kind wanted shown) (packet_fields shown)
 own_fields types wanted (packet.Row row) not_row = absurd (not_row row refl)
 own_fields types wanted (packet.Greeting one) not_row = (refl, refl)
 own_fields types wanted (packet.TlsRequest one) not_row = (refl, refl)
@@ -58,12 +58,21 @@ own_fields types wanted (packet.LongData one) not_row = (refl, refl)
 own_fields types wanted (packet.CloseStatement one) not_row = (refl, refl)
 own_fields types wanted (packet.ResetStatement one) not_row = (refl, refl)
 own_fields types wanted (packet.Fetch one) not_row = (refl, refl)
+own_fields types wanted (packet.FieldList one) not_row = (refl, refl)
+own_fields types wanted (packet.SetOption one) not_row = (refl, refl)
+own_fields types wanted (packet.StatisticsRequest one) not_row = (refl, refl)
+own_fields types wanted (packet.ResetConnection one) not_row = (refl, refl)
+own_fields types wanted (packet.ProcessKill one) not_row = (refl, refl)
+own_fields types wanted (packet.Debug one) not_row = (refl, refl)
+own_fields types wanted (packet.RegisterSlave one) not_row = (refl, refl)
+own_fields types wanted (packet.BinlogDump one) not_row = (refl, refl)
+own_fields types wanted (packet.BinlogDumpGtid one) not_row = (refl, refl)
 own_fields types wanted (packet.OtherCommand one) not_row = (refl, refl)
 own_fields types wanted packet.TooLarge not_row = (refl, refl)
 own_fields types wanted (packet.Refused one) not_row = (refl, refl)
 
 -- a row's fields are its packet's
 pub row_put : {E : Type 0} (result : Result PacketKind E) (types : List ℕ) (wanted : PacketKind) (row : Row) (old new : Written)
-    → IfOk result (PutsRowFields types wanted row old new) → IfOk result (PutsPacket types wanted (packet.Row row) old new)
+    → IfOk result (PutsRowFields types wanted row old new) → IfOk result (PutsOwn types wanted (packet.Row row) old new)
 row_put (Ok named) types wanted row old new put = record { members = put.members; has = put.has; puts = put.puts }
 row_put (Err error) types wanted row old new put = tt

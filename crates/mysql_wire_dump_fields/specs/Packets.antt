@@ -1,5 +1,6 @@
 -- The fields of each packet.
-use Rattle.std.specs.Prelude.{◌≡◌, ℕ, List, [], ◌∷◌, codes, Option, Some, None}
+use Rattle.std.specs.Cow.{cow_slice_items}
+use Rattle.std.specs.Prelude.{◌≡◌, ℕ, Bool, true, false, List, [], ◌∷◌, codes, Option, Some, None}
 use Rattle.mysql_wire_dump_fields.specs.AnswerFields.{column_count_fields, column_fields, eof_fields, error_fields, local_infile_fields, ok_fields, prepared_fields, progress_fields}
 use Rattle.mysql_wire_dump_fields.specs.CommandFields.{execute_fields, fetch_fields, long_data_fields, number_fields, plain_fields, prepare_fields}
 use Rattle.mysql_wire_dump_fields.specs.ConnectionFields.{auth_answer_fields, auth_more_data_fields, auth_switch_fields, greeting_fields, login_fields, tls_request_fields}
@@ -45,7 +46,8 @@ packet_fields (packet.LongData command) = long_data_fields command
 packet_fields (packet.CloseStatement command) = number_fields command.statement_id
 packet_fields (packet.ResetStatement command) = number_fields command.statement_id
 packet_fields (packet.Fetch command) = fetch_fields command
-packet_fields (packet.Statistics text) = as_text (codes "statistics") text.now
+packet_fields (packet.Statistics statistics) =
+    as_text (codes "statistics") (cow_slice_items statistics.text.0)
 packet_fields (packet.OtherCommand command) = as_bytes (codes "payload") command.now
 packet_fields (packet.TableColumn column) = as_bytes (codes "column") column.now
 packet_fields (packet.BinaryLogEvent event) = as_bytes (codes "event") event.now
@@ -76,11 +78,34 @@ HasRowFields types wanted (row.Unread payload) named members =
 HasRowFields types wanted (row.Refused refusal) named members =
     (named ≡ kind.Refused refusal) × (members ≡ [])
 
--- a packet of this kind is shown as this, with these fields
-abbrev pub HasFields : List ℕ → PacketKind → Packet → PacketKind → List Member → Type 0
-HasFields types wanted (packet.Row read) named members = HasRowFields types wanted read named members
-HasFields types wanted other named members =
+-- a packet of this kind is shown as this, with the fields of what it is read as
+abbrev pub HasOwnFields : List ℕ → PacketKind → Packet → PacketKind → List Member → Type 0
+HasOwnFields types wanted (packet.Row read) named members =
+    HasRowFields types wanted read named members
+HasOwnFields types wanted other named members =
     (named ≡ shown_kind wanted other) × (members ≡ packet_fields other)
+
+-- packets of this kind are shown as they came, whatever they are read as
+abbrev pub is_shown_whole : PacketKind → Bool
+is_shown_whole kind.FieldList = true
+is_shown_whole kind.SetOption = true
+is_shown_whole kind.StatisticsRequest = true
+is_shown_whole kind.ResetConnection = true
+is_shown_whole kind.BinaryLogRequest = true
+is_shown_whole kind.OtherCommand = true
+is_shown_whole other = false
+
+abbrev pub HasFieldsIf : Bool → List ℕ → PacketKind → List ℕ → Packet → PacketKind → List Member
+    → Type 0
+HasFieldsIf true types wanted payload read named members =
+    (named ≡ wanted) × (members ≡ as_bytes (codes "payload") payload)
+HasFieldsIf false types wanted payload read named members =
+    HasOwnFields types wanted read named members
+
+-- a packet of this kind and payload, which is read as this, is shown as this, with these fields
+abbrev pub HasFields : List ℕ → PacketKind → List ℕ → Packet → PacketKind → List Member → Type 0
+HasFields types wanted payload read named members =
+    HasFieldsIf (is_shown_whole wanted) types wanted payload read named members
 
 -- a row's fields were put
 pub record PutsRowFields (types : List ℕ) (wanted : PacketKind) (read : Row) (old new : Written)
@@ -89,9 +114,16 @@ pub record PutsRowFields (types : List ℕ) (wanted : PacketKind) (read : Row) (
   pub has : HasRowFields types wanted read named members
   pub puts : Puts members old new
 
--- they were put
-pub record PutsPacket (types : List ℕ) (wanted : PacketKind) (packet : Packet) (old new : Written)
+-- the fields of what a packet is read as were put
+pub record PutsOwn (types : List ℕ) (wanted : PacketKind) (read : Packet) (old new : Written)
     (named : PacketKind) : Type 0 where
   pub members : List Member
-  pub has : HasFields types wanted packet named members
+  pub has : HasOwnFields types wanted read named members
+  pub puts : Puts members old new
+
+-- a packet's fields were put
+pub record PutsPacket (types : List ℕ) (wanted : PacketKind) (payload : List ℕ) (read : Packet)
+    (old new : Written) (named : PacketKind) : Type 0 where
+  pub members : List Member
+  pub has : HasFields types wanted payload read named members
   pub puts : Puts members old new

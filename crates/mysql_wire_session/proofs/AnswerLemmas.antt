@@ -23,7 +23,7 @@ use Rattle.mysql_wire_session_packets.specs.declared.side.Side.TheVariants.{Clie
 use Rattle.mysql_wire_session.specs.Grammar.{Advances, Agreed, Agrees, AreColumns, AreDescribed, AreExchanges, ConnectionIsFollowed, FollowsEach, IsLogin, SessionIsFollowed, AreDefined, AreEnded, AreResults, Counts, EachIsFollowed, EndsRows, EndsWell, Follows, FollowsCommandUntil, FollowsExchange, FollowsUntil, IdleAtItsEnd, IsAnyLogin, IsClosed, IsAnswered, IsDenied, IsEncrypted, IsIdle, IsLastExchange, IsNoGreeting, LastIsFollowed, IsTlsRequest, RefusalIsFollowed, TlsIsFollowed, IsColumnCount, IsCommand, IsAuthentication, IsDefinition, IsEntry, IsEof, IsError, IsExchange, IsFetch, IsLetIn, IsOptionCommand, IsOptionOutcome, IsFileEnd, IsFileRequest, IsOk, IsOutcome, IsPiece, IsPlainCommand, IsPrepareAnswer, IsPrepared, IsReadAs, IsResult, IsRow, IsServers, IsStatistics, IsTableColumn, IsUnanswered, MayBeColumns, MaySend, Numbered, Reaches, Said, agreed_of, called_at, form_of}
 use Rattle.mysql_wire_session.specs.Advance.{after_column, after_columns, after_definitions, applied, client_state_after, counted_phase, ended_phase, id_after, noted, opened, prepared_phase, remembered, state_after, statement_columns, status_of, without_eof}
 use Rattle.mysql_wire_session.specs.State.{SessionState, expectation_of, initial_state, statement_of}
-use Rattle.mysql_wire_session.specs.Readings.{IsEnd, IsExecution, IsExecutionOf, IsQuery as ReadsQuery, IsRead, ReadsAs, after_packet, is_ended_by_ok, statement_named}
+use Rattle.mysql_wire_session.specs.Readings.{IsEnd, IsExecution, IsExecutionOf, IsQuery as ReadsQuery, IsRead, ReadsAs, after_kind, after_packet, is_ended_by_ok, statement_named}
 use Rattle.mysql_wire_session.specs.Senders.{is_idle, next_sender}
 use Rattle.mysql_wire_packets.specs.Oks.{ok_form}
 use Rattle.mysql_wire_packets.specs.Optional.{has_query_attributes, has}
@@ -56,6 +56,9 @@ use Rattle.mysql_wire_session.specs.contracts.payload.OkFormPayload.TheImpl as o
 use Rattle.mysql_wire_session.specs.contracts.payload.SslRequestPayload.TheImpl as tls_type
 use Rattle.mysql_wire_session.proofs.ReportLemmas.{with_reports}
 use Rattle.mysql_wire_connection.specs.declared.ssl_request.SslRequest.{SslRequest}
+use Rattle.mysql_wire_session.specs.contracts.payload.StatisticsTextPayload.TheImpl as statistics_type
+use Rattle.mysql_wire_session.specs.Fronts.{says_more}
+use Rattle.mysql_wire_session.proofs.FrontLemmas.{kind_silent, silent}
 use Rattle.mysql_wire_packets.specs.declared.eof_packet.EofPacket.{EofPacket}
 use Rattle.mysql_wire_packets.specs.declared.ok_packet.OkForm.{OkForm}
 use Rattle.mysql_wire_packets.specs.declared.places.PayloadError.{PayloadError}
@@ -507,6 +510,15 @@ typed_goes : {X : Type 0} (variant : X → Packet) (reads : List ℕ → Result 
 typed_goes variant reads state called said answer there not_there shown is =
     of_read variant reads said.payload shown (λ (p : Packet). Follows (agreed_of state) (after_packet Client said.id called said.payload p state) answer) there not_there is
 
+-- a command that says no more of the session than its kind
+quiet_goes : (state : SessionState) (number : ℕ) (called : PacketKind) (said : Said) (answer : List Said) → state.phase ≡ phase.Command → IsCommand number called said
+    → client_kind (record (expectation_of state) { phase = phase.Command }) 0 (Some number) (length said.payload) ≡ called
+    → says_more called (opened called (length said.payload) state).phase ≡ false
+    → Follows (agreed_of state) (after_kind Client said.id called (length said.payload) state) answer → FollowsExchange state (said ∷ answer)
+quiet_goes state number called said answer at is called_so quiet then = command_goes state number called said answer at is called_so
+    (λ shown reads. subst (λ (next : SessionState). Follows (agreed_of state) next answer)
+    (silent Client said.id called said.payload shown state (kind_silent called (opened called (length said.payload) state) said.payload shown quiet reads)) then)
+
 -- ---- a query, and an execution
 
 query_goes : (has_attributes : Bool) (state : SessionState) (said : Said) (answer : List Said) → Leads phase.Answer (agreed_of state) answer
@@ -604,8 +616,7 @@ plain_goes state said answer at (inr (inl is)) then = command_goes state 0x0e ki
     (λ shown reads. typed_goes _ (ping_type.ghosts.reads_whole tt) state kind.Ping said answer (λ read. then (numbered state said)) (λ refusal. then (numbered state said)) shown reads)
 plain_goes state said answer at (inr (inr (inl is))) then = command_goes state 0x1a kind.ResetStatement said answer at is refl
     (λ shown reads. typed_goes packet.ResetStatement ((statement_command.ghosts (number 0x1a)).reads_whole tt) state kind.ResetStatement said answer (λ read. then (numbered state said)) (λ refusal. then (numbered state said)) shown reads)
-plain_goes state said answer at (inr (inr (inr is))) then = command_goes state 0x1f kind.ResetConnection said answer at is refl
-    (λ shown reads. rw reads.2 (then (numbered state said)))
+plain_goes state said answer at (inr (inr (inr is))) then = quiet_goes state 0x1f kind.ResetConnection said answer at is refl refl (then (numbered state said))
 
 unanswered_goes : (state : SessionState) (said : Said) → state.phase ≡ phase.Command → IsUnanswered said → FollowsExchange state (said ∷ [])
 unanswered_goes state said at (inl is) = command_goes state 0x18 kind.LongData said [] at is refl
@@ -624,7 +635,8 @@ statistics_go agreed said is state =
     goes (settled agreed) (knows phase.Statistics agreed state) said [] is.first kind.Statistics refl refl from
     (named_as (knows phase.Statistics agreed state) said is.first kind.Statistics from (no_report said.payload is.first is.first_is is.is_no_error)
     ∙ statistics_named is.first is.is_no_error)
-    (λ shown reads. rw reads.2 (refl, refl))
+    (λ shown reads. of_read packet.Statistics (statistics_type.ghosts.reads_whole tt) said.payload shown
+    (λ (p : Packet). Follows (settled agreed) (after_packet Server said.id kind.Statistics said.payload p (knows phase.Statistics agreed state)) []) (λ read. (refl, refl)) (λ refusal. (refl, refl)) reads)
 
 no_statistics_go : (agreed : Agreed) (said : Said) → IsError said → Leads phase.Statistics agreed (said ∷ [])
 no_statistics_go agreed said is state =
@@ -711,10 +723,10 @@ option_answered agreed said (inl (inr (is, none))) state =
 option_answered agreed said (inr is) state = option_ends agreed.is_eof_deprecated agreed said is state
 
 option_goes : (state : SessionState) (said : Said) (answer : List Said) → state.phase ≡ phase.Command → IsOptionCommand said → Leads phase.OptionAnswer (agreed_of state) answer → FollowsExchange state (said ∷ answer)
-option_goes state said answer at (inl is) then = command_goes state 0x1b kind.SetOption said answer at is refl (λ shown reads. rw reads.2 (then (numbered state said)))
-option_goes state said answer at (inr (inl is)) then = command_goes state 0x0c kind.OtherCommand said answer at is refl (λ shown reads. rw reads.2 (then (numbered state said)))
-option_goes state said answer at (inr (inr (inl is))) then = command_goes state 0x0d kind.OtherCommand said answer at is refl (λ shown reads. rw reads.2 (then (numbered state said)))
-option_goes state said answer at (inr (inr (inr is))) then = command_goes state 0x15 kind.OtherCommand said answer at is refl (λ shown reads. rw reads.2 (then (numbered state said)))
+option_goes state said answer at (inl is) then = quiet_goes state 0x1b kind.SetOption said answer at is refl refl (then (numbered state said))
+option_goes state said answer at (inr (inl is)) then = quiet_goes state 0x0c kind.OtherCommand said answer at is refl refl (then (numbered state said))
+option_goes state said answer at (inr (inr (inl is))) then = quiet_goes state 0x0d kind.OtherCommand said answer at is refl refl (then (numbered state said))
+option_goes state said answer at (inr (inr (inr is))) then = quiet_goes state 0x15 kind.OtherCommand said answer at is refl refl (then (numbered state said))
 
 -- ---- rows that are fetched
 
@@ -857,16 +869,16 @@ answered state query answer at (inr (inr (inr (inl (is, (one, outcome, only)))))
 answered state query answer at (inr (inr (inr (inr (inl (is, none)))))) =
     subst (λ (answer : List Said). FollowsExchange state (query ∷ answer)) (sym none) (unanswered_goes state query at is)
 answered state query answer at (inr (inr (inr (inr (inr (inl (is, inl (one, statistics, only)))))))) =
-    command_goes state 0x09 kind.StatisticsRequest query answer at is refl (λ shown reads. rw reads.2
-    (subst (λ (answer : List Said). Follows (settled (agreed_of state)) (knows phase.Statistics (agreed_of state) (numbered state query)) answer) (sym only) (statistics_go (agreed_of state) one statistics (numbered state query))))
+    quiet_goes state 0x09 kind.StatisticsRequest query answer at is refl refl
+    (subst (λ (answer : List Said). Follows (settled (agreed_of state)) (knows phase.Statistics (agreed_of state) (numbered state query)) answer) (sym only) (statistics_go (agreed_of state) one statistics (numbered state query)))
 answered state query answer at (inr (inr (inr (inr (inr (inl (is, inr (one, error, only)))))))) =
-    command_goes state 0x09 kind.StatisticsRequest query answer at is refl (λ shown reads. rw reads.2
-    (subst (λ (answer : List Said). Follows (settled (agreed_of state)) (knows phase.Statistics (agreed_of state) (numbered state query)) answer) (sym only) (no_statistics_go (agreed_of state) one error (numbered state query))))
+    quiet_goes state 0x09 kind.StatisticsRequest query answer at is refl refl
+    (subst (λ (answer : List Said). Follows (settled (agreed_of state)) (knows phase.Statistics (agreed_of state) (numbered state query)) answer) (sym only) (no_statistics_go (agreed_of state) one error (numbered state query)))
 answered state query answer at (inr (inr (inr (inr (inr (inr (inl (is, table)))))))) =
-    command_goes state 0x04 kind.FieldList query answer at is refl (λ shown reads. rw reads.2
+    quiet_goes state 0x04 kind.FieldList query answer at is refl refl
     (subst (λ (answer : List Said). Follows (settled (agreed_of state)) (knows phase.FieldList (agreed_of state) (numbered state query)) answer) (sym table.whole)
     (table_columns_go (agreed_of state) table.columns (table.end ∷ []) (recursion_from_All IsTableColumn table.columns table.are)
-    (table_ends_go (agreed_of state) table.end table.ends) (numbered state query))))
+    (table_ends_go (agreed_of state) table.end table.ends) (numbered state query)))
 answered state query answer at (inr (inr (inr (inr (inr (inr (inr (inl (is, (one, outcome, only)))))))))) =
     option_goes state query answer at is
     (subst (λ (answer : List Said). Leads phase.OptionAnswer (agreed_of state) answer) (sym only) (option_answered (agreed_of state) one outcome))
@@ -876,11 +888,11 @@ answered state query answer at (inr (inr (inr (inr (inr (inr (inr (inr (inl (is,
     (rows_go (with_rows true (agreed_of state)) fetched.rows (fetched.end ∷ []) (recursion_from_All (IsRow true) fetched.rows fetched.are_rows)
     (ends_go (with_rows true (agreed_of state)) false fetched.end [] fetched.ends (over_here (with_rows true (agreed_of state))))))
 answered state query answer at (inr (inr (inr (inr (inr (inr (inr (inr (inr (inl (inl is, events))))))))))) =
-    command_goes state 0x12 kind.BinaryLogRequest query answer at is refl (λ shown reads. rw reads.2
-    (subst (λ (answer : List Said). Leads phase.BinaryLog (agreed_of state) answer) (sym events.whole) (events_go (agreed_of state) events.events events.end (recursion_from_All (IsServers 0x00 kind.BinaryLogEvent) events.events events.are_events) events.ends) (numbered state query)))
+    quiet_goes state 0x12 kind.BinaryLogRequest query answer at is refl refl
+    (subst (λ (answer : List Said). Leads phase.BinaryLog (agreed_of state) answer) (sym events.whole) (events_go (agreed_of state) events.events events.end (recursion_from_All (IsServers 0x00 kind.BinaryLogEvent) events.events events.are_events) events.ends) (numbered state query))
 answered state query answer at (inr (inr (inr (inr (inr (inr (inr (inr (inr (inl (inr is, events))))))))))) =
-    command_goes state 0x1e kind.BinaryLogRequest query answer at is refl (λ shown reads. rw reads.2
-    (subst (λ (answer : List Said). Leads phase.BinaryLog (agreed_of state) answer) (sym events.whole) (events_go (agreed_of state) events.events events.end (recursion_from_All (IsServers 0x00 kind.BinaryLogEvent) events.events events.are_events) events.ends) (numbered state query)))
+    quiet_goes state 0x1e kind.BinaryLogRequest query answer at is refl refl
+    (subst (λ (answer : List Said). Leads phase.BinaryLog (agreed_of state) answer) (sym events.whole) (events_go (agreed_of state) events.events events.end (recursion_from_All (IsServers 0x00 kind.BinaryLogEvent) events.events events.are_events) events.ends) (numbered state query))
 answered state query answer at (inr (inr (inr (inr (inr (inr (inr (inr (inr (inr (is, entry))))))))))) =
     command_goes state 0x11 kind.ChangeUser query answer at is refl
     (λ shown reads. typed_goes _ (change_type.ghosts.reads_whole state.capabilities) state kind.ChangeUser query answer

@@ -1,15 +1,15 @@
 -- What the front of a payload tells of what is known after it.
 use denote.Param.{number}
 use Rattle.std.proofs.Common.{◌≡◌, ◌⊎◌, ◌∙◌, ◌≤◌, ℕ, zero, suc, inl, inr, Bool, true, false, List, [], ◌∷◌, length, refl, ap, sym, subst, Option, Some, None, Result, Ok, Err, arith, take}
-use Rattle.std.specs.Prelude.{IfOk, OnOk}
 use Rattle.mysql_wire_packets.specs.Optional.{has_query_attributes}
 use Rattle.mysql_wire_packets.specs.declared.places.PayloadError.{PayloadError}
-use Rattle.mysql_wire_session.specs.Advance.{applied, id_after, opened, remembered, state_after}
-use Rattle.mysql_wire_session.specs.Fronts.{IsFront, KnownAfter, TakesFront, are_columns, says_more}
+use Rattle.std.specs.Prelude.{IfErr, IfOk, OnOk}
+use Rattle.mysql_wire_session.specs.Advance.{IsRefusedMemory, applied, id_after, opened, remembered, state_after}
+use Rattle.mysql_wire_session.specs.Fronts.{FailsWhole, IsFront, KnownAfter, TakesFront, are_columns, says_more}
 use Rattle.mysql_wire_session.specs.Kinds.{first_byte, is_report, kind_at, kind_by_front}
 use Rattle.mysql_wire_session.specs.Opening.{opened_state}
 use Rattle.mysql_wire_session.specs.declared.session.read.Opened.{Opened}
-use Rattle.mysql_wire_session.specs.Readings.{IsColumn, IsExecution, IsExecutionOf, IsQuery, IsRead, ReadsAs, Receives, advanced, after_kind, after_packet, kind_of, opened_at, statement_named}
+use Rattle.mysql_wire_session.specs.Readings.{IsColumn, IsExecution, IsExecutionOf, IsQuery, IsRead, LogRequestGives, OtherCommandGives, ReadsAs, Receives, advanced, after_kind, after_packet, is_numbered, kind_of, opened_at, statement_named}
 use Rattle.mysql_wire_session.specs.State.{SessionState, expectation_of, statement_of}
 use Rattle.mysql_wire_session.specs.contracts.payload.HandshakeV10Payload.TheImpl as greeting_type
 use Rattle.mysql_wire_session.specs.contracts.payload.AuthSwitchRequestPayload.TheImpl as switch_type
@@ -26,6 +26,16 @@ use Rattle.mysql_wire_session.specs.contracts.payload.ComChangeUserPayload.TheIm
 use Rattle.mysql_wire_session.specs.contracts.payload.ComQueryPayload.TheImpl as query_type
 use Rattle.mysql_wire_session.specs.contracts.payload.ComQueryWithAttributesPayload.TheImpl as query_type_with
 use Rattle.mysql_wire_session.specs.contracts.payload.ComStmtExecutePayload.TheImpl as execute_type
+use Rattle.mysql_wire_session.specs.contracts.payload.ComBinlogDumpPayload.TheImpl as dump_type
+use Rattle.mysql_wire_session.specs.contracts.payload.ComBinlogDumpGtidPayload.TheImpl as dump_gtid_type
+use Rattle.mysql_wire_session.specs.contracts.payload.ComDebugPayload.TheImpl as debug_type
+use Rattle.mysql_wire_session.specs.contracts.payload.ComFieldListPayload.TheImpl as field_list_type
+use Rattle.mysql_wire_session.specs.contracts.payload.ComProcessKillPayload.TheImpl as kill_type
+use Rattle.mysql_wire_session.specs.contracts.payload.ComRegisterSlavePayload.TheImpl as replica_type
+use Rattle.mysql_wire_session.specs.contracts.payload.ComResetConnectionPayload.TheImpl as reset_connection_type
+use Rattle.mysql_wire_session.specs.contracts.payload.ComSetOptionPayload.TheImpl as set_option_type
+use Rattle.mysql_wire_session.specs.contracts.payload.ComStatisticsPayload.TheImpl as statistics_type
+use Rattle.mysql_wire_session.specs.contracts.payload.StatisticsTextPayload.TheImpl as text_type
 use Rattle.mysql_wire_session.specs.declared.classify.Expectation.{Expectation}
 use Rattle.mysql_wire_session_packets.specs.declared.packet.Packet.{Packet}
 use Rattle.mysql_wire_session_packets.specs.declared.packet.Packet.TheVariants as packet
@@ -77,10 +87,10 @@ same_kind expected Server id front payload is =
 -- ---- a packet that says no more
 
 -- what is read says nothing of what is known
-abbrev Silent : Packet → Type 0
+abbrev pub Silent : Packet → Type 0
 Silent shown = (state : SessionState) → (remembered shown state ≡ state) × (applied shown state ≡ state)
 
-silent : (side : Side) (id : ℕ) (called : PacketKind) (payload : List ℕ) (shown : Packet) (state : SessionState) → Silent shown
+pub silent : (side : Side) (id : ℕ) (called : PacketKind) (payload : List ℕ) (shown : Packet) (state : SessionState) → Silent shown
     → after_kind side id called (length payload) state ≡ after_packet side id called payload shown state
 silent side id called payload shown state quiet =
     let len = length payload in
@@ -124,8 +134,23 @@ column_silent phase.File state payload shown none is = subst (λ (p : Packet). S
 column_silent phase.Closed state payload shown none is = subst (λ (p : Packet). Silent p) (sym is.2) (λ state. (refl, refl))
 column_silent phase.Encrypted state payload shown none is = subst (λ (p : Packet). Silent p) (sym is.2) (λ state. (refl, refl))
 
+log_request_silent : (by_transactions : Bool) (payload : List ℕ) (shown : Packet) → LogRequestGives by_transactions payload (Ok shown) → Silent shown
+log_request_silent true payload shown is =
+    of_type _ (dump_gtid_type.ghosts.reads_whole tt) payload shown (λ read state. (refl, refl)) is
+log_request_silent false payload shown is =
+    of_type _ (dump_type.ghosts.reads_whole tt) payload shown (λ read state. (refl, refl)) is
+
+other_silent : (is_kill is_debug is_replica : Bool) (payload : List ℕ) (shown : Packet) → OtherCommandGives is_kill is_debug is_replica payload (Ok shown) → Silent shown
+other_silent true is_debug is_replica payload shown is =
+    of_type _ (kill_type.ghosts.reads_whole tt) payload shown (λ read state. (refl, refl)) is
+other_silent false true is_replica payload shown is =
+    of_type _ (debug_type.ghosts.reads_whole tt) payload shown (λ read state. (refl, refl)) is
+other_silent false false true payload shown is =
+    of_type _ (replica_type.ghosts.reads_whole tt) payload shown (λ read state. (refl, refl)) is
+other_silent false false false payload shown is = subst (λ (p : Packet). Silent p) (sym is.2) (λ state. (refl, refl))
+
 -- what a kind that says no more is read as
-kind_silent : (called : PacketKind) (state : SessionState) (payload : List ℕ) (shown : Packet) → says_more called state.phase ≡ false
+pub kind_silent : (called : PacketKind) (state : SessionState) (payload : List ℕ) (shown : Packet) → says_more called state.phase ≡ false
     → ReadsAs state called payload shown → Silent shown
 kind_silent kind.Greeting state payload shown none is =
     of_type _ (greeting_type.ghosts.reads_whole tt) payload shown (λ read state. (refl, refl)) is
@@ -149,7 +174,8 @@ kind_silent kind.BinaryRow state payload shown none is = subst (λ (p : Packet).
 kind_silent kind.LocalInfile state payload shown none is = absurd cc
 kind_silent kind.File state payload shown none is = subst (λ (p : Packet). Silent p) (sym is.2) (λ state. (refl, refl))
 kind_silent kind.Prepared state payload shown none is = absurd cc
-kind_silent kind.Statistics state payload shown none is = subst (λ (p : Packet). Silent p) (sym is.2) (λ state. (refl, refl))
+kind_silent kind.Statistics state payload shown none is =
+    of_type _ (text_type.ghosts.reads_whole tt) payload shown (λ read state. (refl, refl)) is
 kind_silent kind.BinaryLogEvent state payload shown none is = subst (λ (p : Packet). Silent p) (sym is.2) (λ state. (refl, refl))
 kind_silent kind.Query state payload shown none is = query_silent (has_query_attributes state.capabilities) payload shown is
 kind_silent kind.InitDatabase state payload shown none is =
@@ -170,12 +196,17 @@ kind_silent kind.CloseStatement state payload shown none is =
 kind_silent kind.ResetStatement state payload shown none is =
     of_type _ ((statement_command.ghosts (number 0x1a)).reads_whole tt) payload shown (λ read state. (refl, refl)) is
 kind_silent kind.Fetch state payload shown none is = absurd cc
-kind_silent kind.FieldList state payload shown none is = subst (λ (p : Packet). Silent p) (sym is.2) (λ state. (refl, refl))
-kind_silent kind.SetOption state payload shown none is = subst (λ (p : Packet). Silent p) (sym is.2) (λ state. (refl, refl))
-kind_silent kind.StatisticsRequest state payload shown none is = subst (λ (p : Packet). Silent p) (sym is.2) (λ state. (refl, refl))
-kind_silent kind.ResetConnection state payload shown none is = subst (λ (p : Packet). Silent p) (sym is.2) (λ state. (refl, refl))
-kind_silent kind.BinaryLogRequest state payload shown none is = subst (λ (p : Packet). Silent p) (sym is.2) (λ state. (refl, refl))
-kind_silent kind.OtherCommand state payload shown none is = subst (λ (p : Packet). Silent p) (sym is.2) (λ state. (refl, refl))
+kind_silent kind.FieldList state payload shown none is =
+    of_type _ (field_list_type.ghosts.reads_whole tt) payload shown (λ read state. (refl, refl)) is
+kind_silent kind.SetOption state payload shown none is =
+    of_type _ (set_option_type.ghosts.reads_whole tt) payload shown (λ read state. (refl, refl)) is
+kind_silent kind.StatisticsRequest state payload shown none is =
+    of_type _ (statistics_type.ghosts.reads_whole tt) payload shown (λ read state. (refl, refl)) is
+kind_silent kind.ResetConnection state payload shown none is =
+    of_type _ (reset_connection_type.ghosts.reads_whole tt) payload shown (λ read state. (refl, refl)) is
+kind_silent kind.BinaryLogRequest state payload shown none is = log_request_silent (is_numbered 0x1e payload) payload shown is
+kind_silent kind.OtherCommand state payload shown none is =
+    other_silent (is_numbered 0x0c payload) (is_numbered 0x0d payload) (is_numbered 0x15 payload) payload shown is
 kind_silent kind.TooLarge state payload shown none is = subst (λ (p : Packet). Silent p) (sym is) (λ state. (refl, refl))
 kind_silent (kind.Refused refusal) state payload shown none is = subst (λ (p : Packet). Silent p) (sym is) (λ state. (refl, refl))
 
@@ -227,6 +258,12 @@ taken_whole side id front state next received (Ok called) came kind_is goes =
     subst (λ (k : PacketKind). TakesFront side id (length front) front state next k) (sym kind_is)
     (whole_told side id (length front) front state next received refl came goes)
 taken_whole side id front state next received (Err error) came kind_is goes = tt
+
+-- the same where it was: nothing is known after it
+pub refused_after : (side : Side) (id : ℕ) (payload : List ℕ) (state : SessionState) (received : Received) (result : Result PacketKind SessionError)
+    → Receives side id payload state received → IfErr result (IsRefusedMemory received.packet state) → IfErr result (FailsWhole side id payload state)
+refused_after side id payload state received (Ok called) came refused = tt
+refused_after side id payload state received (Err why) came refused = inr (received, came, refused)
 
 -- what is not said more of in the phase that is opened
 pub quiet_there : (says : Bool) (called : PacketKind) (len : ℕ) (state : SessionState) (there : Opened) → says ≡ says_more called there.phase → says ≡ false

@@ -2,3 +2,4 @@ pub mod AnswerLemmas
 pub mod FrontLemmas
 pub mod ReportLemmas
 pub mod PacketLemmas
+pub mod OpeningLemmas

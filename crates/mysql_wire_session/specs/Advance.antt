@@ -1,5 +1,5 @@
 -- What a session knows after a packet.
-use Rattle.std.specs.Prelude.{ℕ, ◌==◌, ◌-◌, ◌+◌, ◌/◌, ◌%◌, nat_lt, Bool, true, false, if◌then◌else◌, List, [], ◌∷◌, ◌++◌, length, take, Option, Some, None}
+use Rattle.std.specs.Prelude.{ℕ, ◌≡◌, ◌<◌, ◌==◌, ◌-◌, ◌+◌, ◌/◌, ◌%◌, nat_lt, Bool, true, false, if◌then◌else◌, List, [], ◌∷◌, ◌++◌, length, take, Option, Some, None}
 use Rattle.wire_const.specs.declared.flag_sets.mariadb.MariadbCapabilities.{MariadbCapabilities}
 use Rattle.wire_const.specs.declared.flag_sets.status.StatusFlags.{StatusFlags}
 use Rattle.mysql_wire_connection.specs.declared.handshake_response.HandshakeResponse41.{HandshakeResponse41}
@@ -11,6 +11,8 @@ use Rattle.mysql_wire_session_packets.specs.declared.phase.Phase.{Phase}
 use Rattle.mysql_wire_session_packets.specs.declared.phase.Phase.TheVariants as phase
 use Rattle.mysql_wire_session_packets.specs.declared.phase.RowForm.{RowForm}
 use Rattle.mysql_wire_session_packets.specs.declared.phase.RowForm.TheVariants as form
+use Rattle.mysql_wire_session_packets.specs.declared.refusal.SessionError.{SessionError}
+use Rattle.mysql_wire_session_packets.specs.declared.refusal.SessionError.TheVariants.{OutOfMemory}
 use Rattle.mysql_wire_session_packets.specs.declared.side.Side.{Side}
 use Rattle.mysql_wire_session_packets.specs.declared.side.Side.TheVariants.{Client, Server}
 use Rattle.mysql_wire_session.specs.Kinds.{is_command}
@@ -222,6 +224,14 @@ remembered (packet.ColumnCount count) state = record state { types = [] }
 remembered (packet.Prepared statement) state =
     record state { types = []; statements = take 64 (statement ∷ state.statements) }
 remembered other state = state
+
+-- this takes memory, which was refused: the type of a column, where fewer than the most are kept, and
+-- a statement
+abbrev pub IsRefusedMemory : Packet → SessionState → SessionError → Type 0
+IsRefusedMemory (packet.Column column) state why =
+    (length state.types < 4096) × (why ≡ OutOfMemory)
+IsRefusedMemory (packet.Prepared statement) state why = why ≡ OutOfMemory
+IsRefusedMemory other state why = ⊥
 
 -- what else is known after it
 abbrev pub applied : Packet → SessionState → SessionState

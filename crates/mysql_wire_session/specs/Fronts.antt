@@ -1,16 +1,18 @@
 -- What the front of a payload tells.
 use Rattle.std.specs.Prelude.{◌≡◌, ◌≢◌, ◌⊎◌, ◌≤◌, ℕ, Bool, true, false, List, length, take}
-use Rattle.mysql_wire_session.specs.Readings.{ReadsAs, after_packet, kind_of, opened_at}
-use Rattle.mysql_wire_session.specs.Advance.{opened}
+use Rattle.mysql_wire_session.specs.Readings.{Fails, ReadsAs, Receives, after_packet, kind_of, opened_at}
+use Rattle.mysql_wire_session.specs.Advance.{IsRefusedMemory, opened}
 use Rattle.mysql_wire_session.specs.Kinds.{kind_by_front}
 use Rattle.mysql_wire_session.specs.State.{SessionState, expectation_of}
 use Rattle.mysql_wire_session.specs.declared.session.front.FrontError.{FrontError}
 use Rattle.mysql_wire_session.specs.declared.session.front.FrontError.TheVariants as failed
 use Rattle.mysql_wire_session_packets.specs.declared.packet.Packet.{Packet}
+use Rattle.mysql_wire_session_packets.specs.declared.packet.Received.{Received}
 use Rattle.mysql_wire_session_packets.specs.declared.packet_kind.PacketKind.{PacketKind}
 use Rattle.mysql_wire_session_packets.specs.declared.packet_kind.PacketKind.TheVariants as kind
 use Rattle.mysql_wire_session_packets.specs.declared.phase.Phase.{Phase}
 use Rattle.mysql_wire_session_packets.specs.declared.phase.Phase.TheVariants as phase
+use Rattle.mysql_wire_session_packets.specs.declared.refusal.SessionError.{SessionError}
 use Rattle.mysql_wire_session_packets.specs.declared.side.Side.{Side}
 
 -- these are the first bytes of a payload, three of them or more, or all
@@ -54,10 +56,18 @@ TakesFront side id len front state next called =
     (payload : List ℕ) → length payload ≡ len → IsFront front payload
     → (called ≡ kind_of side id payload state) × KnownAfter side id payload state next
 
+-- why nothing is known after a packet that came whole: its type came to no answer, or memory for what
+-- it says was refused
+abbrev pub FailsWhole : Side → ℕ → List ℕ → SessionState → SessionError → Type 0
+FailsWhole side id payload state why = Fails side id payload state why
+    ⊎ ((received : Received) × Receives side id payload state received
+    × IsRefusedMemory received.packet state why)
+
 -- why nothing is known after it: more than this front is wanted; or it has come whole, and was not
 -- read or gone on after
 abbrev pub FailsFront : Side → ℕ → ℕ → List ℕ → SessionState → FrontError → Type 0
 FailsFront side id len front state (failed.NeedsWhole called) =
     (called ≡ kind_by_front (expectation_of state) side id len front) × (length front ≢ len)
     × (says_more called (opened called len state).phase ≡ true)
-FailsFront side id len front state (failed.Session error) = length front ≡ len
+FailsFront side id len front state (failed.Session why) =
+    (length front ≡ len) × FailsWhole side id front state why

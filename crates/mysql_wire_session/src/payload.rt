@@ -31,6 +31,15 @@ use mysql_wire_statements::com_stmt_prepare::ComStmtPrepare;
 use mysql_wire_statements::com_stmt_prepare_ok::ComStmtPrepareOk;
 use mysql_wire_statements::com_stmt_send_long_data::ComStmtSendLongData;
 use mysql_wire_statements::statement_command::StatementCommand;
+use mysql_wire_utility::com_binlog_dump::ComBinlogDump;
+use mysql_wire_utility::com_binlog_dump_gtid::ComBinlogDumpGtid;
+use mysql_wire_utility::com_debug::ComDebug;
+use mysql_wire_utility::com_field_list::ComFieldList;
+use mysql_wire_utility::com_process_kill::ComProcessKill;
+use mysql_wire_utility::com_register_slave::ComRegisterSlave;
+use mysql_wire_utility::com_reset_connection::ComResetConnection;
+use mysql_wire_utility::com_set_option::ComSetOption;
+use mysql_wire_utility::com_statistics::{ComStatistics, StatisticsText};
 use std::alloc::Global;
 use wire_buf::proto::MyDeserialize;
 
@@ -222,6 +231,76 @@ impl<'a, const HEADER: u8> Payload<'a> for StatementCommand<HEADER> {
 impl<'a> Payload<'a> for BinaryRow<'a> {
     ghost reads_whole = { λ ctx.
         ReadsWhole (Parses None (⟦<BinaryRow<'a> as MyDeserialize<'a, Global>>⟧.reads ctx)) };
+
+    ghost is_read = { λ _ _ _ read. read };
+}
+
+impl<'a> Payload<'a> for ComFieldList<'a> {
+    ghost reads_whole = { λ ctx.
+        ReadsWhole (Parses None (⟦<ComFieldList<'a> as MyDeserialize<'a, Global>>⟧.reads ctx)) };
+
+    ghost is_read = { λ _ _ _ read. read };
+}
+
+impl<'a> Payload<'a> for ComSetOption {
+    ghost reads_whole = { λ ctx.
+        ReadsWhole (Parses None (⟦<ComSetOption as MyDeserialize<'a, Global>>⟧.reads ctx)) };
+
+    ghost is_read = { λ _ _ _ read. read };
+}
+
+impl<'a> Payload<'a> for ComStatistics {
+    ghost reads_whole = { λ ctx.
+        ReadsWhole (Parses (Some 1) (⟦<ComStatistics as MyDeserialize<'a, Global>>⟧.reads ctx)) };
+
+    ghost is_read = { λ _ _ _ read. read };
+}
+
+impl<'a> Payload<'a> for StatisticsText<'a> {
+    ghost reads_whole = { λ ctx.
+        ReadsWhole (Parses None (⟦<StatisticsText<'a> as MyDeserialize<'a, Global>>⟧.reads ctx)) };
+
+    ghost is_read = { λ _ _ _ read. read };
+}
+
+impl<'a> Payload<'a> for ComProcessKill {
+    ghost reads_whole = { λ ctx.
+        ReadsWhole (Parses None (⟦<ComProcessKill as MyDeserialize<'a, Global>>⟧.reads ctx)) };
+
+    ghost is_read = { λ _ _ _ read. read };
+}
+
+impl<'a> Payload<'a> for ComDebug {
+    ghost reads_whole = { λ ctx.
+        ReadsWhole (Parses (Some 1) (⟦<ComDebug as MyDeserialize<'a, Global>>⟧.reads ctx)) };
+
+    ghost is_read = { λ _ _ _ read. read };
+}
+
+impl<'a> Payload<'a> for ComResetConnection {
+    ghost reads_whole = { λ ctx.
+        ReadsWhole (Parses (Some 1) (⟦<ComResetConnection as MyDeserialize<'a, Global>>⟧.reads ctx)) };
+
+    ghost is_read = { λ _ _ _ read. read };
+}
+
+impl<'a> Payload<'a> for ComRegisterSlave<'a> {
+    ghost reads_whole = { λ ctx.
+        ReadsWhole (Parses None (⟦<ComRegisterSlave<'a> as MyDeserialize<'a, Global>>⟧.reads ctx)) };
+
+    ghost is_read = { λ _ _ _ read. read };
+}
+
+impl<'a> Payload<'a> for ComBinlogDump<'a> {
+    ghost reads_whole = { λ ctx.
+        ReadsWhole (Parses None (⟦<ComBinlogDump<'a> as MyDeserialize<'a, Global>>⟧.reads ctx)) };
+
+    ghost is_read = { λ _ _ _ read. read };
+}
+
+impl<'a> Payload<'a> for ComBinlogDumpGtid<'a> {
+    ghost reads_whole = { λ ctx.
+        ReadsWhole (Parses None (⟦<ComBinlogDumpGtid<'a> as MyDeserialize<'a, Global>>⟧.reads ctx)) };
 
     ghost is_read = { λ _ _ _ read. read };
 }

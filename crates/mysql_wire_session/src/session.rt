@@ -5,10 +5,10 @@ mod front;
 mod phases;
 mod read;
 
-ghost use Rattle.std.specs.Prelude.{◌≡◌, IfOk, OnErr, OnOk, length, option_copied};
-ghost use Rattle.mysql_wire_session.specs.Advance.{id_after};
+ghost use Rattle.std.specs.Prelude.{◌≡◌, IfErr, IfOk, OnErr, OnOk, length, option_copied};
+ghost use Rattle.mysql_wire_session.specs.Advance.{IsRefusedMemory, id_after};
 ghost use Rattle.mysql_wire_session.specs.Kinds.{kind_by_front};
-ghost use Rattle.mysql_wire_session.specs.Readings.{Receives, advanced, after_kind, passed};
+ghost use Rattle.mysql_wire_session.specs.Readings.{Fails, Receives, advanced, after_kind, passed};
 ghost use Rattle.mysql_wire_session.specs.Senders.{is_idle, next_sender};
 ghost use Rattle.mysql_wire_session.specs.State.{expectation_of, initial_state, state_of, statement_of};
 
@@ -161,14 +161,16 @@ impl<A: Allocator + Copy> Session<A> {
     }
 
     /// What a packet is read as, whose first chunk bears this id. The session is as before; `advance`
-    /// goes on after it.
+    /// goes on after it. There is a `SessionError` only where the type of its kind answers one: that
+    /// memory was refused, or that its reader failed.
     pub fn read<'a>(
         &self,
         side: Side,
         id: u8,
         payload: &'a [u8],
     ) -> Result<Received<'a>, SessionError>
-        ensures { IfOk result (Receives side id payload.entry.now (state_of self.now)) }
+        ensures receives { IfOk result (Receives side id payload.entry.now (state_of self.now)) }
+        ensures fails { IfErr result (Fails side id payload.entry.now (state_of self.now)) }
     {
         let kind = self.classify(side, id, payload.len(), payload);
         let packet = self.read_packet(kind, self.opened(kind, payload.len()), payload)?;
@@ -181,10 +183,13 @@ impl<A: Allocator + Copy> Session<A> {
         })
     }
 
-    /// Goes on after a packet that was read. Where memory is refused, the session is as before.
+    /// Goes on after a packet that was read. Only the type of a column, up to 4,096 of an answer, and
+    /// a statement that was prepared take memory. Where it is refused, that is `OutOfMemory`, and the
+    /// session is as before.
     pub fn advance(&mut self, received: &Received<'_>) -> Result<(), SessionError>
         ensures goes { OnOk result (state_of self.new
             ≡ advanced received.now (state_of self.old)) }
+        ensures fails { IfErr result (IsRefusedMemory received.now.packet (state_of self.old)) }
         ensures stays { OnErr result (state_of self.new ≡ state_of self.old) }
     {
         self.remember(&received.packet)?;

@@ -25,6 +25,15 @@ use mysql_wire_statements::com_stmt_prepare::ComStmtPrepare;
 use mysql_wire_statements::com_stmt_prepare_ok::ComStmtPrepareOk;
 use mysql_wire_statements::com_stmt_reset::ComStmtReset;
 use mysql_wire_statements::com_stmt_send_long_data::ComStmtSendLongData;
+use mysql_wire_utility::com_binlog_dump::ComBinlogDump;
+use mysql_wire_utility::com_binlog_dump_gtid::ComBinlogDumpGtid;
+use mysql_wire_utility::com_debug::ComDebug;
+use mysql_wire_utility::com_field_list::ComFieldList;
+use mysql_wire_utility::com_process_kill::ComProcessKill;
+use mysql_wire_utility::com_register_slave::ComRegisterSlave;
+use mysql_wire_utility::com_reset_connection::ComResetConnection;
+use mysql_wire_utility::com_set_option::ComSetOption;
+use mysql_wire_utility::com_statistics::{ComStatistics, StatisticsText};
 
 /// A row of an answer.
 #[derive(Clone, Copy)]
@@ -64,8 +73,8 @@ pub enum Packet<'a> {
     /// A piece of a file; an empty one ends it.
     File(&'a [u8]),
     Prepared(ComStmtPrepareOk),
-    /// What a server says of itself: a text.
-    Statistics(&'a [u8]),
+    /// What a server says of itself.
+    Statistics(StatisticsText<'a>),
     BinaryLogEvent(&'a [u8]),
     /// A command without a prepared statement.
     Command(ClientCommand<'a>),
@@ -77,7 +86,16 @@ pub enum Packet<'a> {
     CloseStatement(ComStmtClose),
     ResetStatement(ComStmtReset),
     Fetch(ComStmtFetch),
-    /// Another command: the payload.
+    FieldList(ComFieldList<'a>),
+    SetOption(ComSetOption),
+    StatisticsRequest(ComStatistics),
+    ResetConnection(ComResetConnection),
+    ProcessKill(ComProcessKill),
+    Debug(ComDebug),
+    RegisterSlave(ComRegisterSlave<'a>),
+    BinlogDump(ComBinlogDump<'a>),
+    BinlogDumpGtid(ComBinlogDumpGtid<'a>),
+    /// A command that no type is for: the payload.
     OtherCommand(&'a [u8]),
     /// Longer than the limit: the payload was passed over.
     TooLarge,

@@ -43,8 +43,10 @@ pub enum PacketKind {
     SetOption,
     StatisticsRequest,
     ResetConnection,
+    /// `COM_BINLOG_DUMP`, `COM_BINLOG_DUMP_GTID`.
     BinaryLogRequest,
-    /// A command that no type of packet is for.
+    /// Another command: `COM_PROCESS_KILL`, `COM_DEBUG`, `COM_REGISTER_SLAVE`, or one that no type of
+    /// packet is for.
     OtherCommand,
     /// Longer than the limit: the payload was passed over.
     TooLarge,

@@ -2,7 +2,7 @@
 
 ghost use Rattle.std.specs.Prelude.{◌≡◌, IfOk, OnOk};
 ghost use Rattle.mysql_wire_dump_fields.specs.CommandFields.{plain_fields};
-ghost use Rattle.mysql_wire_dump_fields.specs.Packets.{PutsPacket, PutsRowFields, packet_fields, row_kind, shown_kind};
+ghost use Rattle.mysql_wire_dump_fields.specs.Packets.{PutsOwn, PutsPacket, PutsRowFields, is_shown_whole, packet_fields, row_kind, shown_kind};
 ghost use Rattle.wire_text.specs.Fields.{Puts};
 
 use super::{
@@ -10,7 +10,7 @@ use super::{
     statistics, text_row,
 };
 use mysql_wire_queries::client_command::ClientCommand;
-use mysql_wire_session_packets::packet::{Packet, Row};
+use mysql_wire_session_packets::packet::{Packet, Received, Row};
 use mysql_wire_session_packets::packet_kind::PacketKind;
 use mysql_wire_session_packets::refusal::{Refusal, SessionError};
 use std::alloc::{AllocError, Allocator, Global};
@@ -56,7 +56,9 @@ fn show_typed<A: Allocator + Copy>(
         Packet::TableColumn(column) => column_bytes(fields, column),
         Packet::LocalInfile(request) => request.show(fields),
         Packet::Prepared(statement) => statement.show(fields),
-        Packet::Statistics(text) => statistics(fields, text),
+        Packet::Statistics(statistics_text) => {
+            statistics(fields, statistics_text.text.0.as_slice())
+        }
         Packet::BinaryLogEvent(payload) => event(fields, payload),
         Packet::Command(command) => show_command(fields, command),
         Packet::Prepare(command) => command.show(fields),
@@ -67,7 +69,19 @@ fn show_typed<A: Allocator + Copy>(
         Packet::ResetStatement(command) => command.show(fields),
         Packet::Fetch(command) => command.show(fields),
         Packet::OtherCommand(payload) => other_command(fields, payload),
-        Packet::Row(_) | Packet::File(_) | Packet::TooLarge | Packet::Refused(_) => Ok(()),
+        Packet::FieldList(_)
+        | Packet::SetOption(_)
+        | Packet::StatisticsRequest(_)
+        | Packet::ResetConnection(_)
+        | Packet::ProcessKill(_)
+        | Packet::Debug(_)
+        | Packet::RegisterSlave(_)
+        | Packet::BinlogDump(_)
+        | Packet::BinlogDumpGtid(_)
+        | Packet::Row(_)
+        | Packet::File(_)
+        | Packet::TooLarge
+        | Packet::Refused(_) => Ok(()),
     }
 }
 
@@ -121,17 +135,15 @@ pub fn show_row<A: Allocator + Copy>(
     }
 }
 
-/// Puts the fields of a packet of this kind, a row's under these types of its columns. The answer is
-/// what it is shown as: a payload that its type refuses, and a row with a value that is refused, as
-/// `Refused`. With `global` values are read, which takes no memory.
-pub fn show_packet<A: Allocator + Copy>(
+// Puts the fields of what a packet of this kind is read as.
+fn show_own<A: Allocator + Copy>(
     global: Global,
     fields: &mut Fields<A>,
     types: &[u8],
     kind: PacketKind,
     packet: &Packet<'_>,
 ) -> Result<PacketKind, SessionError>
-    ensures { IfOk result (PutsPacket types.now kind packet.now fields.old fields.new) }
+    ensures { IfOk result (PutsOwn types.now kind packet.now fields.old fields.new) }
 {
     match packet {
         Packet::Row(row) => show_row(global, fields, types, kind, row),
@@ -139,5 +151,41 @@ pub fn show_packet<A: Allocator + Copy>(
             show_typed(fields, packet)?;
             Ok(shown_kind(kind, packet))
         }
+    }
+}
+
+// Whether packets of this kind are shown as they came, whatever they are read as.
+fn is_shown_whole(kind: PacketKind) -> bool
+    ensures { result ≡ is_shown_whole kind }
+{
+    matches!(
+        kind,
+        PacketKind::FieldList
+            | PacketKind::SetOption
+            | PacketKind::StatisticsRequest
+            | PacketKind::ResetConnection
+            | PacketKind::BinaryLogRequest
+            | PacketKind::OtherCommand
+    )
+}
+
+/// Puts the fields of a packet that came, a row's under these types of its columns. The answer is what
+/// it is shown as: a payload that its type refuses, and a row with a value that is refused, as
+/// `Refused`. A command about the connection or the server is shown as it came. With `global` values
+/// are read, which takes no memory.
+pub fn show_packet<A: Allocator + Copy>(
+    global: Global,
+    fields: &mut Fields<A>,
+    types: &[u8],
+    received: &Received<'_>,
+) -> Result<PacketKind, SessionError>
+    ensures { IfOk result (PutsPacket types.now received.now.kind received.now.payload.now
+        received.now.packet fields.old fields.new) }
+{
+    if is_shown_whole(received.kind) {
+        other_command(fields, received.payload)?;
+        Ok(received.kind)
+    } else {
+        show_own(global, fields, types, received.kind, &received.packet)
     }
 }

@@ -1,8 +1,9 @@
 //! How a session goes on after a packet.
 
-ghost use Rattle.std.specs.Prelude.{◌≡◌, OnErr, OnOk};
-ghost use Rattle.mysql_wire_session.specs.Advance.{after_login, answered, applied, client_state_after, fetched, mariadb_of, noted, opened, remembered, state_after, without_eof};
+ghost use Rattle.std.specs.Prelude.{◌≡◌, ◌<◌, IfErr, OnErr, OnOk, length};
+ghost use Rattle.mysql_wire_session.specs.Advance.{IsRefusedMemory, after_login, answered, applied, client_state_after, fetched, mariadb_of, noted, opened, remembered, state_after, without_eof};
 ghost use Rattle.mysql_wire_session.specs.State.{state_of, statement_of};
+ghost use Rattle.mysql_wire_session_packets.specs.declared.refusal.SessionError.TheVariants.{OutOfMemory};
 
 use super::Session;
 use super::phases::{
@@ -40,6 +41,8 @@ fn mariadb_of(
 // Keeps the type of one more column.
 fn note_type<A: Allocator>(types: &mut Vec<u8, A>, number: u8) -> Result<(), SessionError>
     ensures keeps { OnOk result (types.new.items ≡ noted number types.old.items) }
+    ensures fails { IfErr result (λ error. (length types.old.items < 4096)
+        × (error ≡ OutOfMemory)) }
     ensures stays { OnErr result (types.new.items ≡ types.old.items) }
 {
     if types.len() < MOST_COLUMNS {
@@ -53,6 +56,7 @@ impl<A: Allocator + Copy> Session<A> {
     pub(super) fn remember(&mut self, packet: &Packet<'_>) -> Result<(), SessionError>
         ensures keeps { OnOk result (state_of self.new
             ≡ remembered packet.now (state_of self.old)) }
+        ensures fails { IfErr result (IsRefusedMemory packet.now (state_of self.old)) }
         ensures stays { OnErr result (state_of self.new ≡ state_of self.old) }
     {
         match packet {

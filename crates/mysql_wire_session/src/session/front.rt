@@ -1,7 +1,8 @@
 //! A packet of which only the front has come.
 
 ghost use Rattle.std.specs.Prelude.{◌≡◌, IfErr, IfOk, OnErr, OnOk, length};
-ghost use Rattle.mysql_wire_session.specs.Fronts.{FailsFront, TakesFront, says_more};
+ghost use Rattle.mysql_wire_session.specs.Advance.{IsRefusedMemory};
+ghost use Rattle.mysql_wire_session.specs.Fronts.{FailsFront, FailsWhole, TakesFront, says_more};
 ghost use Rattle.mysql_wire_session.specs.Readings.{advanced};
 ghost use Rattle.mysql_wire_session.specs.State.{state_of};
 
@@ -18,7 +19,7 @@ use std::alloc::Allocator;
 pub enum FrontError {
     /// What is known after a packet of this kind hangs on all of it: give the whole payload.
     NeedsWhole(PacketKind),
-    /// The payload has come whole, and was not read.
+    /// The payload has come whole, and was not read, or memory was refused after it.
     Session(SessionError),
 }
 
@@ -48,6 +49,7 @@ impl<A: Allocator + Copy> Session<A> {
         ensures kind { IfOk result (λ kind. kind ≡ received.now.kind) }
         ensures goes { OnOk result (state_of self.new
             ≡ advanced received.now (state_of self.old)) }
+        ensures fails { IfErr result (IsRefusedMemory received.now.packet (state_of self.old)) }
         ensures stays { OnErr result (state_of self.new ≡ state_of self.old) }
     {
         self.advance(received)?;
@@ -58,6 +60,7 @@ impl<A: Allocator + Copy> Session<A> {
     fn take_whole(&mut self, side: Side, id: u8, payload: &[u8]) -> Result<PacketKind, SessionError>
         ensures takes { IfOk result (TakesFront side id (length payload.now) payload.now
             (state_of self.old) (state_of self.new)) }
+        ensures fails { IfErr result (FailsWhole side id payload.now (state_of self.old)) }
         ensures stays { OnErr result (state_of self.new ≡ state_of self.old) }
     {
         match self.read(side, id, payload) {

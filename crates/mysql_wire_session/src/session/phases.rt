@@ -160,7 +160,7 @@ pub fn done_phase(phase: Phase, status: StatusFlags) -> Phase
     }
 }
 
-/// After an EOF that was read. AfterColumns the end of definitions are no rows where a cursor has them.
+/// After an EOF that was read. After the end of definitions are no rows where a cursor has them.
 pub fn ended_phase(phase: Phase, status: StatusFlags) -> Phase
     ensures { result ≡ ended_phase phase status.0 }
 {

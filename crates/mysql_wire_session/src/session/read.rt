@@ -1,17 +1,18 @@
 //! What a payload is read as.
 
-ghost use Rattle.std.specs.Prelude.{◌≡◌, IfOk, length};
+ghost use Rattle.std.specs.Prelude.{◌≡◌, length};
 ghost use Rattle.mysql_wire_packets.specs.Optional.{has_query_attributes};
 ghost use Rattle.mysql_wire_queries.specs.declared.client_command.ClientCommand.TheVariants.{AttributedQuery, ChangeUser, InitDb, Ping, Query, Quit};
 ghost use Rattle.mysql_wire_session_packets.specs.declared.packet.Packet.TheVariants.{Command};
 ghost use Rattle.mysql_wire_session.specs.Advance.{opened, without_eof};
 ghost use Rattle.mysql_wire_session.specs.Opening.{opened_state};
 ghost use Rattle.mysql_wire_session_packets.specs.declared.packet_kind.PacketKind.TheVariants as kinds;
-ghost use Rattle.mysql_wire_session.specs.Readings.{IsColumn, IsCommand, IsEnd, IsMade, IsPlain, IsQuery, IsRowKind, IsTextRow, ReadsAs, RowReads, error_capabilities, is_ended_by_ok, statement_named};
+ghost use Rattle.mysql_wire_session.specs.Readings.{BinaryRowGives, ColumnGives, EndGives, Gives, IsCommand, IsPlain, IsTextRow, IsUtility, LogRequestGives, Makes, OtherCommandGives, QueryGives, ReadsAs, RowGives, error_capabilities, is_ended_by_ok, is_numbered, statement_named};
 ghost use Rattle.mysql_wire_session.specs.State.{SessionState, state_of};
 
 use super::Session;
 use super::phases::after_definitions;
+use crate::classify::first_byte;
 use crate::payload::Payload;
 use mysql_wire_packets::ok_packet::InfoForm;
 use mysql_wire_packets::places::read_whole;
@@ -38,7 +39,7 @@ fn read_as<'a, T: Payload<'a>, F: FnOnce(T) -> Packet<'a>>(
     make: F,
 ) -> Result<Packet<'a>, SessionError>
     requires { (read : T) → F.pre make read }
-    ensures { IfOk result (IsMade (F.post make) (T.reads_whole ctx) payload.entry.now) }
+    ensures { Makes (F.post make) (T.reads_whole ctx) payload.entry.now result }
 {
     match read_whole::<T>(global, ctx, payload) {
         Ok(packet) => Ok(make(packet)),
@@ -63,6 +64,16 @@ fn error_capabilities(phase: Phase, capabilities: CapabilityFlags) -> Capability
     match phase {
         Phase::Greeting => CapabilityFlags::empty(),
         _ => capabilities,
+    }
+}
+
+// Whether this is the number of the command.
+fn is_numbered(number: u8, payload: &[u8]) -> bool
+    ensures { result ≡ is_numbered number payload.now }
+{
+    match first_byte(payload) {
+        Some(first) => first == number,
+        None => false,
     }
 }
 
@@ -120,8 +131,7 @@ impl<A: Allocator + Copy> Session<A> {
         opened: Opened,
         payload: &'a [u8],
     ) -> Result<Packet<'a>, SessionError>
-        ensures { IfOk result (ReadsAs (opened_state opened (state_of self.now)) kind
-            payload.entry.now) }
+        ensures { Gives (opened_state opened (state_of self.now)) kind payload.entry.now result }
     {
         let global = self.global;
         match kind {
@@ -161,9 +171,8 @@ impl<A: Allocator + Copy> Session<A> {
         is_eof_deprecated: bool,
         payload: &'a [u8],
     ) -> Result<Packet<'a>, SessionError>
-        ensures { IfOk result (IsEnd
-            (is_ended_by_ok is_eof_deprecated (length payload.entry.now))
-            self.now.capabilities payload.entry.now) }
+        ensures { EndGives (is_ended_by_ok is_eof_deprecated (length payload.entry.now))
+            self.now.capabilities payload.entry.now result }
     {
         if is_ended_by_ok(is_eof_deprecated, payload.len()) {
             let form = InfoForm::of(self.capabilities);
@@ -176,7 +185,7 @@ impl<A: Allocator + Copy> Session<A> {
     // A definition of a column; where none is waited for it is one of the columns of a table, whose
     // default follows it.
     fn read_column<'a>(&self, phase: Phase, payload: &'a [u8]) -> Result<Packet<'a>, SessionError>
-        ensures { IfOk result (IsColumn phase self.now.mariadb payload.entry.now) }
+        ensures { ColumnGives phase self.now.mariadb payload.entry.now result }
     {
         match phase {
             Phase::Columns { .. } => { read_as(self.global, self.mariadb, payload, Packet::Column) }
@@ -198,7 +207,7 @@ impl<A: Allocator + Copy> Session<A> {
     }
 
     fn binary_row<'a>(&self, payload: &'a [u8]) -> Result<Row<'a>, SessionError>
-        ensures { IfOk result (RowReads (state_of self.now) kinds.BinaryRow payload.entry.now) }
+        ensures { BinaryRowGives self.now.columns payload.entry.now result }
     {
         let columns = self.columns;
         match read_whole::<BinaryRow<'_>>(self.global, columns as usize, payload) {
@@ -207,16 +216,16 @@ impl<A: Allocator + Copy> Session<A> {
         }
     }
 
-    /// What a payload of this kind, `Row` or `BinaryRow`, is read as. The session is as before;
-    /// `advance_by_kind` goes on after it.
+    /// What a payload of this kind, `Row` or `BinaryRow`, is read as; one of another kind is not, and
+    /// is `Unread`. The session is as before; `advance_by_kind` goes on after a row.
     #[inline(always)]
     pub fn read_row<'a>(&self, kind: PacketKind, payload: &'a [u8]) -> Result<Row<'a>, SessionError>
-        requires { IsRowKind kind }
-        ensures { IfOk result (RowReads (state_of self.now) kind payload.entry.now) }
+        ensures { RowGives (state_of self.now) kind payload.entry.now result }
     {
         match kind {
             PacketKind::BinaryRow => self.binary_row(payload),
-            _ => Ok(self.text_row(payload)),
+            PacketKind::Row => Ok(self.text_row(payload)),
+            _ => Ok(Row::Unread(payload)),
         }
     }
 
@@ -227,7 +236,7 @@ impl<A: Allocator + Copy> Session<A> {
         payload: &'a [u8],
     ) -> Result<Packet<'a>, SessionError>
         requires { IsCommand kind }
-        ensures { IfOk result (ReadsAs (state_of self.now) kind payload.entry.now) }
+        ensures { Gives (state_of self.now) kind payload.entry.now result }
     {
         let global = self.global;
         match kind {
@@ -242,13 +251,64 @@ impl<A: Allocator + Copy> Session<A> {
             PacketKind::CloseStatement => read_as(global, (), payload, Packet::CloseStatement),
             PacketKind::ResetStatement => read_as(global, (), payload, Packet::ResetStatement),
             PacketKind::Fetch => read_as(global, (), payload, Packet::Fetch),
+            _ => self.read_utility(kind, payload),
+        }
+    }
+
+    // A command about the connection or the server, or what no type is for.
+    fn read_utility<'a>(
+        &self,
+        kind: PacketKind,
+        payload: &'a [u8],
+    ) -> Result<Packet<'a>, SessionError>
+        requires { IsUtility kind }
+        ensures { Gives (state_of self.now) kind payload.entry.now result }
+    {
+        let global = self.global;
+        match kind {
+            PacketKind::FieldList => read_as(global, (), payload, Packet::FieldList),
+            PacketKind::SetOption => read_as(global, (), payload, Packet::SetOption),
+            PacketKind::StatisticsRequest => {
+                read_as(global, (), payload, Packet::StatisticsRequest)
+            }
+            PacketKind::Statistics => read_as(global, (), payload, Packet::Statistics),
+            PacketKind::ResetConnection => read_as(global, (), payload, Packet::ResetConnection),
+            PacketKind::BinaryLogRequest => self.read_log_request(payload),
+            PacketKind::OtherCommand => self.read_other(payload),
             _ => Ok(as_it_is(kind, payload)),
         }
     }
 
+    // A request for a binary log, from a position on or by transactions.
+    fn read_log_request<'a>(&self, payload: &'a [u8]) -> Result<Packet<'a>, SessionError>
+        ensures { LogRequestGives (is_numbered 0x1e payload.entry.now) payload.entry.now result }
+    {
+        if is_numbered(0x1e, payload) {
+            read_as(self.global, (), payload, Packet::BinlogDumpGtid)
+        } else {
+            read_as(self.global, (), payload, Packet::BinlogDump)
+        }
+    }
+
+    // A command whose kind is none of its own.
+    fn read_other<'a>(&self, payload: &'a [u8]) -> Result<Packet<'a>, SessionError>
+        ensures { OtherCommandGives (is_numbered 0x0c payload.entry.now)
+            (is_numbered 0x0d payload.entry.now) (is_numbered 0x15 payload.entry.now)
+            payload.entry.now result }
+    {
+        if is_numbered(0x0c, payload) {
+            read_as(self.global, (), payload, Packet::ProcessKill)
+        } else if is_numbered(0x0d, payload) {
+            read_as(self.global, (), payload, Packet::Debug)
+        } else if is_numbered(0x15, payload) {
+            read_as(self.global, (), payload, Packet::RegisterSlave)
+        } else {
+            Ok(Packet::OtherCommand(payload))
+        }
+    }
+
     fn read_query<'a>(&self, payload: &'a [u8]) -> Result<Packet<'a>, SessionError>
-        ensures { IfOk result (IsQuery (has_query_attributes self.now.capabilities)
-            payload.entry.now) }
+        ensures { QueryGives (has_query_attributes self.now.capabilities) payload.entry.now result }
     {
         if self
             .capabilities
@@ -262,7 +322,7 @@ impl<A: Allocator + Copy> Session<A> {
 
     // An execution. Of a statement that is not known, its number.
     fn read_execute<'a>(&self, payload: &'a [u8]) -> Result<Packet<'a>, SessionError>
-        ensures { IfOk result (ReadsAs (state_of self.now) kinds.Execute payload.entry.now) }
+        ensures { Gives (state_of self.now) kinds.Execute payload.entry.now result }
     {
         let Some(number) = statement_named(payload) else {
             return Ok(Packet::Refused(Refusal::OtherHeader));
@@ -285,9 +345,7 @@ fn as_it_is<'a>(kind: PacketKind, payload: &'a [u8]) -> Packet<'a>
         PacketKind::File => Packet::File(payload),
         PacketKind::TooLarge => Packet::TooLarge,
         PacketKind::Refused(refusal) => Packet::Refused(refusal),
-        PacketKind::Statistics => Packet::Statistics(payload),
-        PacketKind::BinaryLogEvent => Packet::BinaryLogEvent(payload),
-        _ => Packet::OtherCommand(payload),
+        _ => Packet::BinaryLogEvent(payload),
     }
 }
 

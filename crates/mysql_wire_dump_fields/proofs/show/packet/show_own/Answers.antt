@@ -1,7 +1,7 @@
 use Rattle.std.proofs.Common.{subst, sym}
-use Rattle.mysql_wire_dump_fields.specs.Packets.{PutsPacket, packet_fields}
+use Rattle.mysql_wire_dump_fields.specs.Packets.{PutsOwn, packet_fields}
 use Rattle.mysql_wire_dump_fields.proofs.PacketLemmas.{own_fields, row_put}
-use Rattle.mysql_wire_dump_fields.proofs.show.packet.show_packet.Goals as goal
+use Rattle.mysql_wire_dump_fields.proofs.show.packet.show_own.Goals as goal
 
 pub returns-in-Row : goal.returns-in-Row
 returns-in-Row g c =
@@ -9,7 +9,7 @@ returns-in-Row g c =
 
 pub returns-in_ok-show_typed-in_default : goal.returns-in_ok-show_typed-in_default
 returns-in_ok-show_typed-in_default g c =
-    subst (λ named. PutsPacket c.args.types.now c.args.kind c.args.packet.now c.args.fields.now c.show_typed.new.fields named) (sym c.shown_kind.ensures)
+    subst (λ named. PutsOwn c.args.types.now c.args.kind c.args.packet.now c.args.fields.now c.show_typed.new.fields named) (sym c.shown_kind.ensures)
     (record {
       members = packet_fields c.args.packet.now;
       has = own_fields c.args.types.now c.args.kind c.args.packet.now c.in_default.not-Row;
