@@ -63,7 +63,12 @@ impl<A: Allocator + Copy> Model for Fields<A> {
 }
 
 impl<A: Allocator + Copy> Fields<A> {
-    pub fn new(alloc: A) -> Self {
+    ghost use Rattle.wire_text.specs.declared.fields.FieldForm.TheVariants.{Hidden};
+
+    /// No fields, which are not shown before `begin`.
+    pub fn new(alloc: A) -> Self
+        ensures { result ≡ nothing Hidden }
+    {
         Fields {
             form: FieldForm::Hidden,
             text: String::new(alloc),
