@@ -111,7 +111,8 @@ page_begins_well() {
 # The examples by their own Makefile.
 examples_run() {
     quiet without_kit make -C examples/c &&
-        dumps "$release/examples/c/out/dump" && quiet without_kit make -C examples/c check &&
+        dumps "$release/examples/c/out/dump" && follows "$release/examples/c/out/session" &&
+        quiet without_kit make -C examples/c check &&
         quiet without_kit make -C examples/c clean
 }
 

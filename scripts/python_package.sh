@@ -86,6 +86,8 @@ mkdir "$work/tests" && cp "$release"/bindings/python/tests/*.py "$work/tests"
 check 'its tests pass in an empty folder' quiet in_site "$python" -m unittest discover "$work/tests"
 check 'they pass with the examples' quiet in_site "$python" -m unittest discover \
     "$release/bindings/python/tests"
+check 'an example follows a session' follows in_site "$python" \
+    "$release/examples/python/session.py"
 check 'the source is packed' source_archive
 check 'it says what it needs' source_says_what_it_needs
 module=$release/bindings/python/mysql_wire

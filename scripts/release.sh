@@ -1,5 +1,5 @@
-# For scripts that try the release: it, unpacked in an empty folder, and commands that don't see the
-# kit. `top` is the repository, `work` a folder of the script's own.
+# For scripts that try the release: it, unpacked in an empty folder, commands that don't see the kit,
+# and a session for the examples. `top` is the repository, `work` a folder of the script's own.
 release=
 
 # Packs the release, and unpacks it. Its folder is `release`.
@@ -21,4 +21,27 @@ without_kit() {
         shift 2
     fi
     env -i -C "$folder" PATH="$path" HOME="$HOME" LC_ALL=C.UTF-8 PYTHONDONTWRITEBYTECODE=1 "$@"
+}
+
+# follows COMMAND..: a program that follows a session says of its two directions that it is idle, and,
+# once the client has sent one more command, that it waits for the server.
+follows() {
+    {
+        printf '\x2f\0\0\0\x0a8\0'; head -c 13 /dev/zero
+        printf '\0\x82\x2d\x02'; head -c 27 /dev/zero
+        printf '\x07\0\0\x02\0\0\0\x02\0\0\0'
+    } > "$work/from_server"
+    {
+        printf '\x26\0\0\x01\0\x82'; head -c 30 /dev/zero
+        printf 'root\0\0'
+    } > "$work/from_client"
+    "$@" "$work/from_client" "$work/from_server" > "$work/printed" || return
+    printf '\x01\0\0\0\x0e' >> "$work/from_client"
+    "$@" "$work/from_client" "$work/from_server" >> "$work/printed" || return
+    printf '\x01\0\0\x01' >> "$work/from_server"
+    if "$@" "$work/from_client" "$work/from_server" >> "$work/printed"; then
+        return 1
+    fi
+    printf '%s\n' idle 'waits for the server' 'waits for the server' '4 bytes were not followed' |
+        diff - "$work/printed"
 }
