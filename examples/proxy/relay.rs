@@ -57,7 +57,8 @@ impl Relay {
         Ok(Relay {
             client: Side::new("client", client, limit.min(LOGIN_LIMIT))?,
             server: Side::new("server", server, limit)?,
-            exchange: Exchange::new(log.clone()),
+            exchange: Exchange::new(log.clone())
+                .map_err(|refusal| Fault::Wire("proxy", refusal))?,
             log,
             limit,
             patience,

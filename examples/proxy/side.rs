@@ -125,11 +125,12 @@ impl Side {
     }
 
     /// Passes what came of one packet: of the open one, or of the next, which begins only where it
-    /// may, and is heard before it goes. Whether its end passed.
+    /// may, and is heard before it goes: by its front, or, where that isn't enough, once it has come
+    /// whole. Whether its end passed.
     pub fn pass(
         &mut self,
         may_begin: bool,
-        hear: impl FnOnce(&mut Front) -> Result<(), Misread>,
+        hear: impl FnOnce(&mut Front) -> Result<bool, Misread>,
     ) -> Result<bool, Fault> {
         let name = self.name;
         let refused = |refusal| Fault::Wire(name, refusal);
@@ -141,11 +142,20 @@ impl Side {
         }
         let Some(coming) = self.stream.coming().map_err(refused)? else { return Ok(false) };
         let ended = self.stream.pass().map_err(refused)?;
-        if let Err(misread) = hear(&mut self.stream.front(&coming)) {
-            self.stream.hold(coming);
-            return Err(Fault::Malformed(name, misread));
+        match hear(&mut self.stream.front(&coming)) {
+            Ok(true) => {
+                self.stream.let_go();
+                Ok(ended)
+            }
+            Ok(false) => {
+                self.stream.hold_for_whole(coming);
+                Ok(false)
+            }
+            Err(misread) => {
+                self.stream.hold(coming);
+                Err(Fault::Malformed(name, misread))
+            }
         }
-        Ok(ended)
     }
 
     /// What to wait for here. While it isn't this side's turn it may only hang up.

@@ -5,10 +5,13 @@ use mysql_wire::{Error, Spans};
 // The bytes of a chunk's header, of which the first three are its length.
 const HEADER: usize = 4;
 const LENGTH: usize = 3;
-// The most bytes of a packet that are looked at. All that has to be known of one stands there, but
-// for the greeting of a server whose version is longer.
+// The most bytes of a packet that are looked at, where it isn't asked for whole.
 const FRONT: usize = 512;
-// The most bytes that wait for the other side. A front has to fit.
+// The most that are looked at then: those of a login. What else may be asked for whole begins with all
+// that has to be known of it.
+const WHOLE: usize = 1 << 16;
+// The most bytes that wait for the other side, but for a packet that is asked for whole. A front has
+// to fit.
 const ROOM: usize = 1 << 14;
 
 /// The front of a packet, before it goes on. What is written to it goes on in its place.
@@ -16,6 +19,10 @@ pub struct Front<'a> {
     pub bytes: &'a mut [u8],
     /// How many bytes the packet's first chunk has.
     pub len: usize,
+    /// The number of that chunk.
+    pub number: u8,
+    /// Whether these are all bytes, or as many as are looked at of any packet.
+    pub is_whole: bool,
 }
 
 /// A packet that comes next.
@@ -36,17 +43,19 @@ impl Front<'_> {
 /// The bytes of one side that came and haven't gone to the other: those that may go, and behind them
 /// those that may not yet.
 pub struct Stream {
-    room: Box<[u8]>,
+    room: Vec<u8>,
     came: usize,
     passed: usize,
     spans: Spans,
+    /// How many bytes of the next packet are looked at.
+    wanted: usize,
 }
 
 impl Stream {
     /// For packets of at most `limit` bytes.
     pub fn new(limit: usize) -> Stream {
-        let room = vec![0; ROOM].into_boxed_slice();
-        Stream { room, came: 0, passed: 0, spans: Spans::new(limit, 0) }
+        let spans = Spans::new(limit, 0);
+        Stream { room: vec![0; ROOM], came: 0, passed: 0, spans, wanted: FRONT }
     }
 
     /// Where the next bytes are read to.
@@ -124,7 +133,7 @@ impl Stream {
         let waiting = &self.room[self.passed..self.came];
         let Some((header, payload)) = waiting.split_at_checked(HEADER) else { return Ok(None) };
         let len = header[..LENGTH].iter().rev().fold(0, |len, &byte| len << 8 | usize::from(byte));
-        let front = len.min(FRONT);
+        let front = len.min(self.wanted);
         if payload.len() < front {
             self.spans.clone().next_span(&mut &*header)?;
             return Ok(None);
@@ -134,14 +143,31 @@ impl Stream {
 
     /// The front of a packet of which nothing has gone yet.
     pub fn front(&mut self, coming: &Coming) -> Front<'_> {
-        let at = coming.at + HEADER;
-        Front { bytes: &mut self.room[at..at + coming.front], len: coming.len }
+        let (at, len) = (coming.at + HEADER, coming.len);
+        let number = self.room[coming.at + LENGTH];
+        let is_whole = coming.front == len.min(WHOLE);
+        Front { bytes: &mut self.room[at..at + coming.front], len, number, is_whole }
     }
 
     /// Holds it back, though it was passed.
     pub fn hold(&mut self, coming: Coming) {
         self.passed = coming.at;
         self.spans = coming.spans;
+    }
+
+    /// Holds it back until it has come whole, or as many of its bytes as are looked at then.
+    pub fn hold_for_whole(&mut self, coming: Coming) {
+        self.wanted = WHOLE;
+        let room = HEADER + coming.len.min(WHOLE);
+        if self.room.len() < room {
+            self.room.resize(room, 0);
+        }
+        self.hold(coming);
+    }
+
+    /// It was looked at, and goes.
+    pub fn let_go(&mut self) {
+        self.wanted = FRONT;
     }
 
     /// Lets go what came of the packet in front. Whether that was its end. Where a chunk is refused,
