@@ -46,7 +46,7 @@ pub enum Request {
 }
 
 impl Request {
-    /// Reads the words behind the program's name. The error is what is wrong with them.
+    /// Reads the words after the program's name. The error is what is wrong with them.
     pub fn read(words: impl IntoIterator<Item = String>) -> Result<Request, String> {
         let mut words = words.into_iter();
         let (mut limit, mut clients, mut logs_statements) = (64 << 20, 1000, false);

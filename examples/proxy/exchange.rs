@@ -121,7 +121,7 @@ impl Exchange {
     }
 
     /// Whether the next packet of the client may be looked at. What a client sends before that
-    /// waits, such as a command behind another one that isn't answered yet.
+    /// waits, such as a command after another one that isn't answered yet.
     pub fn client_speaks(&self) -> bool {
         !self.server_owes() || self.is_authenticating() || self.is_dumping()
     }
@@ -219,7 +219,7 @@ impl Exchange {
     /// hasn't come.
     fn tell(&mut self, side: Side, packet: &Front) -> Result<Option<Received>, Misread> {
         let received = self.advance(side, packet)?;
-        // (most packets are rows, and behind a row another one is waited for)
+        // (most packets are rows, and after a row another one is waited for)
         let is_row = received.is_some_and(|received| is_row(received.kind));
         if !(is_row && self.phase == Phase::Rows) {
             self.phase = self.session.phase();

@@ -34,7 +34,7 @@ pub enum Fault {
     Left,
     /// The server hung up before anything of the answer that was due.
     Unanswered,
-    /// The server hung up behind a part of the answer that was due.
+    /// The server hung up after a part of the answer that was due.
     HalfAnswered,
     Late(Late),
     /// The proxy ends.

@@ -2,7 +2,7 @@
 //!
 //! They are gathered in a text of bounded length, which a thread of its own writes: who doesn't
 //! read the log stops no traffic. Lines for which there is no room are dropped, and counted in the
-//! next one. The thread sleeps for a moment behind each write, so that no line of many wakes it.
+//! next one. The thread sleeps for a moment after each write, so that no line of many wakes it.
 
 use std::fmt::{self, Write as _};
 use std::io::{self, Write as _};
@@ -150,7 +150,7 @@ impl ClientLog {
         self.log.queue.put(&self.client, line);
     }
 
-    /// The front of a statement behind a space, where statements are asked for.
+    /// The front of a statement after a space, where statements are asked for.
     pub fn statement(&self, text: &[u8]) -> String {
         if self.log.logs_statements {
             format!(" {}", front(text))
@@ -206,7 +206,7 @@ fn date(mut day: u64) -> (u64, usize, u64) {
 }
 
 /// The front of a text, on one line. What would end the line, or turn the order of what stands
-/// behind it, is written as its number.
+/// after it, is written as its number.
 pub fn front(text: &[u8]) -> String {
     let cut = &text[..text.len().min(4 * FRONT)];
     let text = String::from_utf8_lossy(cut);

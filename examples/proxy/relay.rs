@@ -81,7 +81,7 @@ impl Relay {
         let mut last = server.stream.pending().to_vec();
         if let Err(fault) = &end {
             let answer = fault.answer().filter(|_| server.stream.is_between_packets());
-            // It stands behind the client's chunk that was refused, or in the server's place.
+            // It stands after the client's chunk that was refused, or in the server's place.
             let behind = u8::from(fault.refuses(client.name));
             let number = client.stream.number().wrapping_add(behind);
             last.extend(answer.into_iter().flat_map(|packet| fault::framed(number, packet)));
@@ -169,7 +169,7 @@ impl Relay {
         exchange.server_speaks() && is_turn
     }
 
-    /// Gives the next packet of both sides its number, behind one of either. A command's is 0.
+    /// Gives the next packet of both sides its number, after one of either. A command's is 0.
     fn go_on_with(&mut self, number: u8) {
         let number = if self.exchange.is_between_commands() { 0 } else { number };
         for side in [&mut self.client, &mut self.server] {

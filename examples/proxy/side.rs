@@ -22,7 +22,7 @@ pub struct Side {
     pub ended: bool,
     /// It takes no more.
     pub closed: bool,
-    /// When it last took bytes behind others that it didn't take at once.
+    /// When it last took bytes after others that it didn't take at once.
     pub took: Instant,
     /// Since when it takes none of the bytes that wait for it.
     pub stalled: Option<Instant>,
@@ -50,7 +50,7 @@ impl Side {
     }
 
     /// Reads once, where something came and there is room for it. Whether it did. The end of this
-    /// side stands behind all that it sent, so nothing but a read tells it.
+    /// side stands after all that it sent, so nothing but a read tells it.
     pub fn hear(&mut self, ready: Ready) -> Result<bool, Fault> {
         if self.stream.is_full() {
             self.hung_up |= ready.hung_up;

@@ -40,7 +40,7 @@ impl Front<'_> {
     }
 }
 
-/// The bytes of one side that came and haven't gone to the other: those that may go, and behind them
+/// The bytes of one side that came and haven't gone to the other: those that may go, and after them
 /// those that may not yet.
 pub struct Stream {
     room: Vec<u8>,
@@ -128,7 +128,7 @@ impl Stream {
     }
 
     /// Where the packet begins that comes next, once its front came. A header that is refused is so
-    /// at once, whatever came behind it.
+    /// at once, whatever came after it.
     pub fn coming(&self) -> Result<Option<Coming>, Error> {
         let waiting = &self.room[self.passed..self.came];
         let Some((header, payload)) = waiting.split_at_checked(HEADER) else { return Ok(None) };

@@ -18,7 +18,7 @@ ERROR = b"\xff"
 
 
 def receive(stream):
-    """The next packet, which is printed behind its number."""
+    """The next packet, which is printed after its number."""
     header = stream.recv(4, socket.MSG_WAITALL)
     packet = stream.recv(int.from_bytes(header[:3], "little"), socket.MSG_WAITALL)
     print(header[3], packet[:1].hex(), packet[5:])
