@@ -41,6 +41,7 @@ use mysql_wire_statements::com_stmt_prepare::ComStmtPrepare;
 use mysql_wire_statements::com_stmt_prepare_ok::ComStmtPrepareOk;
 use mysql_wire_statements::com_stmt_reset::ComStmtReset;
 use mysql_wire_statements::com_stmt_send_long_data::ComStmtSendLongData;
+use mysql_wire_statements::statement_command::StatementCommand;
 use std::alloc::Global;
 use wire_buf::proto::MySerialize;
 use wire_repr::wire::Wire;
@@ -219,8 +220,8 @@ pub fn commands_in_grammar()
     ensures long_data { (command : ComStmtSendLongData) → IsCommand 0x18 kind.LongData
         (from_client 0 kind.LongData
         (⟦<ComStmtSendLongData<'static> as MySerialize>⟧.bytes command)) }
-    ensures close { (command : ComStmtClose) → IsCommand 0x19 kind.CloseStatement
+    ensures close { (command : StatementCommand) → IsCommand 0x19 kind.CloseStatement
         (from_client 0 kind.CloseStatement (⟦<ComStmtClose as MySerialize>⟧.bytes command)) }
-    ensures reset { (command : ComStmtReset) → IsCommand 0x1a kind.ResetStatement
+    ensures reset { (command : StatementCommand) → IsCommand 0x1a kind.ResetStatement
         (from_client 0 kind.ResetStatement (⟦<ComStmtReset as MySerialize>⟧.bytes command)) }
 {}
