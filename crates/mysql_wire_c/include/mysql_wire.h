@@ -403,8 +403,8 @@ int32_t mysql_wire_spans_renumber(mysql_wire_spans *spans, uint8_t *bytes, size_
  * what the phase, its length and its first three bytes make it, whichever side may be next: whether
  * that side's turn it is, `mysql_wire_session_next_sender` says before.
  *
- * A session holds some 200 bytes, a byte for each column of the last answer, up to 4096, and 12 for
- * each statement that was prepared, up to the last 64. It keeps no payload.
+ * A session holds some 100 bytes, the types of an answer's columns in up to 4096, and the last 64
+ * statements that were prepared in up to 1536. It keeps no payload.
  */
 
 /*

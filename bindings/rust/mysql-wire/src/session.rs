@@ -38,8 +38,8 @@ const NEEDS_WHOLE: i32 = 4;
 /// # }
 /// ```
 ///
-/// It holds some 200 bytes, a byte for each column of the last answer, up to 4096, and 12 for each
-/// statement that was prepared, up to the last 64. It keeps no payload.
+/// It holds some 100 bytes, the types of an answer's columns in up to 4096, and the last 64 statements
+/// that were prepared in up to 1536. It keeps no payload.
 pub struct Session(SessionHandle);
 
 /// A payload that was read, and gone on after.
