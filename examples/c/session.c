@@ -1,7 +1,6 @@
 /*
- * Follows a captured session, and says whether it is idle at its end, and else whose packet it waits
- * for. The two files have what the client and what the server sent, as examples/python/pcap.py writes
- * them.
+ * Follows a captured session, and says how it ends: idle, over, or waiting for a packet, and whose.
+ * The two files have what the client and what the server sent, as examples/python/pcap.py writes them.
  *
  *     make -C examples/c && examples/c/out/session CLIENT_FILE SERVER_FILE
  *
@@ -65,15 +64,24 @@ static int32_t go_on(mysql_wire_session *session, uint32_t side, const packet *n
 
 /* Follows both sides as far as each has the packet that is next. */
 static int32_t follow(mysql_wire_session *session, stream sides[2]) {
-    int32_t code = MYSQL_WIRE_OK;
-    for (int side = 0; side < 2 && code == MYSQL_WIRE_OK; side++) {
+    for (;;) {
+        int side = 0;
         packet next;
-        if (!next_of(&sides[side], &next) || !is_next(session, side, &next)) continue;
-        code = go_on(session, (uint32_t)side, &next);
+        while (side < 2 && !(next_of(&sides[side], &next) && is_next(session, side, &next))) side++;
+        if (side == 2) return MYSQL_WIRE_OK;
+        int32_t code = go_on(session, (uint32_t)side, &next);
+        if (code != MYSQL_WIRE_OK) return code;
         sides[side].at = next.end;
-        side = -1;
     }
-    return code;
+}
+
+/* How it stands with a session. */
+static const char *state_of(mysql_wire_session *session) {
+    static const char *const waits[] = {"waits for the client", "waits for the server",
+                                        "waits for either side"};
+    if (mysql_wire_session_is_idle(session) == 1) return "idle";
+    if (mysql_wire_session_phase(session) == MYSQL_WIRE_PHASE_CLOSED) return "over";
+    return waits[mysql_wire_session_next_sender(session)];
 }
 
 static int read_all(const char *name, stream *to) {
@@ -89,7 +97,6 @@ static int read_all(const char *name, stream *to) {
 }
 
 int main(int words, char **word) {
-    static const char *const waits_for[] = {"the client", "the server", "either side"};
     stream sides[2] = {{NULL, 0, 0}, {NULL, 0, 0}};
     mysql_wire_session session = NULL;
     if (words != 3 || !read_all(word[1], &sides[0]) || !read_all(word[2], &sides[1])) {
@@ -98,10 +105,7 @@ int main(int words, char **word) {
     }
     int32_t code = mysql_wire_session_new(&session);
     if (code == MYSQL_WIRE_OK) code = follow(&session, sides);
-    if (code == MYSQL_WIRE_OK && mysql_wire_session_is_idle(&session) == 1)
-        puts("idle");
-    else if (code == MYSQL_WIRE_OK)
-        printf("waits for %s\n", waits_for[mysql_wire_session_next_sender(&session)]);
+    if (code == MYSQL_WIRE_OK) puts(state_of(&session));
     mysql_wire_session_free(&session);
     size_t left = sides[0].len - sides[0].at + sides[1].len - sides[1].at;
     if (left > 0) printf("%zu bytes were not followed\n", left);

@@ -1,5 +1,4 @@
-"""Follows a captured session, and says whether it is idle at its end, and else whose packet it waits
-for.
+"""Follows a captured session, and says how it ends: idle, over, or waiting for a packet, and whose.
 
     python3 session.py CLIENT_FILE SERVER_FILE
 
@@ -9,7 +8,7 @@ where both were followed to their ends, and 1 otherwise.
 
 import sys
 
-from mysql_wire import Sender, Session, Side
+from mysql_wire import Phase, Sender, Session, Side
 
 FULL = 0xFFFFFF  # the bytes of a chunk that another one follows
 HEADER = 4
@@ -57,6 +56,16 @@ def follow(session, streams):
     return taken
 
 
+def state_of(session):
+    """How it stands with a session."""
+    if session.is_idle:
+        return "idle"
+    if session.phase == Phase.CLOSED:
+        return "over"
+    names = {Sender.CLIENT: "the client", Sender.SERVER: "the server"}
+    return f"waits for {names.get(session.next_sender, 'either side')}"
+
+
 def main():
     if len(sys.argv) != 3:
         sys.exit("usage: session.py CLIENT_FILE SERVER_FILE")
@@ -66,9 +75,7 @@ def main():
             streams[side] = file.read()
     with Session() as session:
         left = sum(map(len, streams.values())) - follow(session, streams)
-        sender = {Sender.CLIENT: "the client", Sender.SERVER: "the server"}
-        waits_for = sender.get(session.next_sender, "either side")
-        print("idle" if session.is_idle else f"waits for {waits_for}")
+        print(state_of(session))
     if left > 0:
         print(f"{left} bytes were not followed")
         return 1
