@@ -12,6 +12,7 @@ ghost use Rattle.mysql_wire_session.specs.Advance.{is_zero};
 ghost use Rattle.mysql_wire_session.specs.Grammar.{Agreed, Agrees, IsAuthentication, IsColumnCount, IsCommand, IsDefinition, IsEntry, IsEof, IsError, IsFetch, IsFileRequest, IsLogin, IsNoGreeting, IsOk, IsOkAtEnd, IsPrepared, IsReadAs, IsReport, IsRow, IsServers, IsTlsRequest, from_client, from_server};
 ghost use Rattle.mysql_wire_session.specs.State.{statement_of};
 ghost use Rattle.mysql_wire_session_packets.specs.declared.packet_kind.PacketKind.TheVariants as kind;
+ghost use Rattle.mysql_wire_statements.specs.declared.statement_command.StatementCommand.{StatementCommand};
 
 use mysql_wire_connection::auth_more_data::AuthMoreData;
 use mysql_wire_connection::auth_switch::AuthSwitchRequest;
@@ -41,7 +42,6 @@ use mysql_wire_statements::com_stmt_prepare::ComStmtPrepare;
 use mysql_wire_statements::com_stmt_prepare_ok::ComStmtPrepareOk;
 use mysql_wire_statements::com_stmt_reset::ComStmtReset;
 use mysql_wire_statements::com_stmt_send_long_data::ComStmtSendLongData;
-use mysql_wire_statements::statement_command::StatementCommand;
 use std::alloc::Global;
 use wire_buf::proto::MySerialize;
 use wire_repr::wire::Wire;
@@ -220,8 +220,8 @@ pub fn commands_in_grammar()
     ensures long_data { (command : ComStmtSendLongData) → IsCommand 0x18 kind.LongData
         (from_client 0 kind.LongData
         (⟦<ComStmtSendLongData<'static> as MySerialize>⟧.bytes command)) }
-    ensures close { (command : StatementCommand) → IsCommand 0x19 kind.CloseStatement
+    ensures close { (command : StatementCommand 0x19) → IsCommand 0x19 kind.CloseStatement
         (from_client 0 kind.CloseStatement (⟦<ComStmtClose as MySerialize>⟧.bytes command)) }
-    ensures reset { (command : StatementCommand) → IsCommand 0x1a kind.ResetStatement
+    ensures reset { (command : StatementCommand 0x1a) → IsCommand 0x1a kind.ResetStatement
         (from_client 0 kind.ResetStatement (⟦<ComStmtReset as MySerialize>⟧.bytes command)) }
 {}
