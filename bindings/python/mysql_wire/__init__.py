@@ -734,7 +734,7 @@ class Session:
 
     def advance(self, side: int, id: int, payload: Bytes) -> Received:
         """Reads a whole payload, whose first chunk is numbered `id`, and goes on after it; after one
-        that is no packet of its kind too, as after one that says nothing.
+        that is no packet of its kind too, by its kind and length alone.
         """
         side, id, payload, kind = _side(side), _packet_id(id), _bytes_of(payload), c_uint32()
         code = _session_packet(
@@ -746,7 +746,8 @@ class Session:
     def advance_front(self, side: int, id: int, size: int, front: Bytes) -> PacketKind:
         """Goes on after a packet of `size` bytes, of which this front has come: three of them or
         more, or all. Rows, pieces of files, statements and most other packets need no more; of the
-        others it raises `NeedsWhole`, where the front is not all.
+        others it raises `NeedsWhole`, where the front is not all. Whether it is a packet of its kind,
+        only `advance` says.
         """
         code, kind = self._told(_session_front, side, id, size, front)
         if code == _NEEDS_WHOLE:

@@ -420,18 +420,19 @@ void mysql_wire_session_free(mysql_wire_session *session);
 /*
  * Reads a whole payload as what it has to be, and goes on after it.
  * OK. REFUSED: it is no packet of its kind, which `kind` is all the same; the session goes on after it
- * as after one that says nothing. NOT_A_SIDE and NO_MEMORY change nothing, and leave a `kind` of 0.
+ * by its kind and length alone. NOT_A_SIDE and NO_MEMORY change nothing, and leave a `kind` of 0.
  */
 int32_t mysql_wire_session_packet(mysql_wire_session *session, uint32_t side, uint8_t id,
                                   const uint8_t *payload, size_t len, uint32_t *kind);
 
 /*
  * Goes on after a packet of `len` bytes, of which the first `front_len` have come: three of them or
- * more, or all. Rows, pieces of files, statements and most other packets need no more.
+ * more, or all. Rows, pieces of files, statements and most other packets need no more. Whether it is a
+ * packet of its kind, `mysql_wire_session_packet` alone says.
  * OK. NEEDS_WHOLE: what is known after a packet of this kind hangs on all of it: gather it, and call
- * again with a `front_len` of `len`. So it is with greetings that are errors, logins, what ends an
- * answer or its rows, counts and definitions of columns, answers to COM_STMT_PREPARE, requests for a
- * file, and COM_STMT_FETCH. NOT_A_SIDE; NOT_A_FRONT: `front_len` is above `len`, or below it and below
+ * again with a `front_len` of `len`, or `mysql_wire_session_packet`. So it is with logins, requests for
+ * TLS, OKs, EOFs, errors, counts and definitions of columns, answers to COM_STMT_PREPARE, requests for
+ * a file, and COM_STMT_FETCH. NOT_A_SIDE; NOT_A_FRONT: `front_len` is above `len`, or below it and below
  * 3; NO_MEMORY, which only a whole payload gets. All but OK change nothing, and all but OK and
  * NEEDS_WHOLE leave a `kind` of 0.
  */

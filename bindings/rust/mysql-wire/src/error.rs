@@ -28,7 +28,7 @@ pub enum Error {
 
 impl Error {
     /// A code below 0, as `mysql_wire.h` lists them. Those of a closed connection, of one that is
-    /// opened twice and of an invalid place in a stream don't come here.
+    /// opened twice, of an invalid place in a stream, of a side and of a statement don't come here.
     #[cold]
     pub(crate) fn of(code: i32) -> Error {
         match code {

@@ -23,11 +23,11 @@ const NEEDS_WHOLE: i32 = 4;
 /// let mut session = Session::new()?;
 /// # let greeting = [&b"\x0a8\0"[..], &[0; 13], b"\0\x82\x2d\x02", &[0; 27]].concat();
 /// # let login = [&b"\0\x82"[..], &[0; 30], b"root\0\0"].concat();
-/// # let ok = b"\0\0\0\x02\0\0\0";
 /// # assert!(!session.advance(Side::Server, 0, &greeting)?.is_refused);
 /// # assert!(!session.advance(Side::Client, 1, &login)?.is_refused);
-/// # session.advance(Side::Server, 2, ok)?;
-/// // .. a greeting, a login and the OK after them, then a command and its answer:
+/// let ok = b"\0\0\0\x02\0\0\0";
+/// // .. the greeting, the login, and the OK that ends both
+/// session.advance(Side::Server, 2, ok)?;
 /// assert!(session.is_idle());
 /// let sent = session.advance(Side::Client, 0, b"\x0e")?;
 /// assert_eq!(sent.kind, PacketKind::Ping);
@@ -47,8 +47,7 @@ pub struct Session(SessionHandle);
 pub struct Received {
     /// What it is, at its place.
     pub kind: PacketKind,
-    /// Whether it is no packet of that kind. The session goes on after it as after one that says
-    /// nothing.
+    /// Whether it is no packet of that kind. The session goes on after it by its kind and length alone.
     pub is_refused: bool,
 }
 
@@ -89,7 +88,8 @@ impl Session {
 
     /// Goes on after a packet of `len` bytes, of which this front has come: three bytes or more, or
     /// all. Rows, pieces of files, statements and most other packets need no more; of the others that
-    /// is `NeedsWhole`, where the front is not all.
+    /// is `NeedsWhole`, where the front is not all. Whether it is a packet of its kind, only `advance`
+    /// says.
     #[inline]
     pub fn advance_front(
         &mut self,
