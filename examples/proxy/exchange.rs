@@ -199,6 +199,8 @@ impl Exchange {
         let is_wrong = match kind {
             // (nothing hangs on what these say)
             PacketKind::Column | PacketKind::Error => false,
+            // (the words behind an OK's status may have another form, but it is done all the same)
+            PacketKind::Ok | PacketKind::Eof => is_refused && self.phase == before,
             // (ways to log in have packets of their own)
             PacketKind::Refused => before != Phase::Authentication,
             _ => is_refused,

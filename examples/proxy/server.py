@@ -5,6 +5,7 @@
 - `wait N`: OK after so many seconds
 - `watch N`: the same, but where its client sends no more the connection is closed
 - `set ..`: OK
+- `long N`: OK with a text of so many bytes; `fail N`: an error with one
 - `row N`: one row, of a text of so many zeros
 - `nulls`: a row of NULL and one of an empty text
 - `half N`: a row of so many zeros, cut in the middle; `leave`: nothing; then the connection is
@@ -35,6 +36,7 @@ OK = bytes([0, 0, 0, 2, 0, 0, 0])
 EOF = bytes([0xFE, 0, 0, 2, 0])
 TOO_LONG, MUCH_TOO_LONG = 1 << 20, 12 << 20
 REFUSED = b"\xff\x81\x04#08S01Refused"
+FAILED = b"\xff\x28\x04#42000"
 PING, QUIT = b"\x0e", b"\x01"
 DUMP, ACKNOWLEDGED = b"\x12", b"\xef" + bytes(8) + b"log.1"
 
@@ -58,6 +60,10 @@ def login(flags=PLAIN, mariadb=0):
 
 def text(value):
     return bytes([len(value)]) + value
+
+
+def long_ok(count):
+    return OK + b"\xfd" + count.to_bytes(3, "little") + b"x" * count
 
 
 def column():
@@ -178,6 +184,10 @@ class Server:
             if ends(peer.stream, float(value)):
                 return False
             peer.send(OK)
+        elif word == b"long":
+            peer.send(long_ok(int(value)))
+        elif word == b"fail":
+            peer.send(FAILED + b"x" * int(value))
         elif word == b"row":
             peer.send(b"\x01", column(), EOF)
             peer.send_long(b"\xfe" + struct.pack("<Q", int(value)), int(value) + 9)

@@ -130,7 +130,7 @@ impl Side {
     pub fn pass(
         &mut self,
         may_begin: bool,
-        hear: impl FnOnce(&mut Front) -> Result<bool, Misread>,
+        mut hear: impl FnMut(&mut Front) -> Result<bool, Misread>,
     ) -> Result<bool, Fault> {
         let name = self.name;
         let refused = |refusal| Fault::Wire(name, refusal);
@@ -140,22 +140,22 @@ impl Side {
         if !may_begin {
             return Ok(false);
         }
-        let Some(coming) = self.stream.coming().map_err(refused)? else { return Ok(false) };
-        let ended = self.stream.pass().map_err(refused)?;
-        match hear(&mut self.stream.front(&coming)) {
-            Ok(true) => {
-                self.stream.let_go();
-                Ok(ended)
-            }
-            Ok(false) => {
-                self.stream.hold_for_whole(coming);
-                Ok(false)
-            }
-            Err(misread) => {
-                self.stream.hold(coming);
-                Err(Fault::Malformed(name, misread))
+        while let Some(coming) = self.stream.coming().map_err(refused)? {
+            let ended = self.stream.pass().map_err(refused)?;
+            match hear(&mut self.stream.front(&coming)) {
+                Ok(true) => {
+                    self.stream.let_go();
+                    return Ok(ended);
+                }
+                // (the whole may have come)
+                Ok(false) => self.stream.hold_for_whole(coming),
+                Err(misread) => {
+                    self.stream.hold(coming);
+                    return Err(Fault::Malformed(name, misread));
+                }
             }
         }
+        Ok(false)
     }
 
     /// What to wait for here. While it isn't this side's turn it may only hang up.

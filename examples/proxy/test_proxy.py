@@ -23,8 +23,8 @@ import unittest
 
 from server import CACHE_METADATA, COMPRESS, OPTIONAL_METADATA, PLAIN, SSL, ZSTD
 import debian_clients
-from server import ACKNOWLEDGED, DUMP, EOF, OK, PING, QUIT, REFUSED
-from server import Greeter, Peer, Server, column, login, text
+from server import ACKNOWLEDGED, DUMP, EOF, FAILED, OK, PING, QUIT, REFUSED
+from server import Greeter, Peer, Server, column, login, long_ok, text
 
 PROXY = os.environ.get("PROXY", "target/release/proxy")
 PATIENCE = 20
@@ -180,6 +180,16 @@ class Packets(ProxyTests):
             self.assert_row(client, statement)
         client.command(PING)
         self.assertEqual(client.receive(), OK)
+
+    def test_long_ends_of_answers_pass(self):
+        client = self.logged_in(self.proxy())
+        for count in [500, 600, 20000, 100000]:
+            client.command(b"\x03long %d" % count)
+            self.assertEqual(client.receive(), long_ok(count))
+            client.command(b"\x03fail %d" % count)
+            self.assertEqual(client.receive(), FAILED + b"x" * count)
+        client.command(b"\x03select")
+        self.assert_row(client, b"select")
 
     def test_bytes_pass_one_by_one(self):
         client = self.logged_in(self.proxy())
@@ -343,6 +353,18 @@ class Logins(ProxyTests):
         proxy = self.proxy()
         for count in [1, 3, 4, 31]:
             self.assert_error(self.client(proxy, login()[:count]), 1043)
+
+    def test_a_long_login(self):
+        proxy = self.proxy()
+        for count in [600, 20000, 65000]:
+            packet = login().replace(b"user", b"u" * count)
+            self.assertEqual(self.client(proxy, packet).receive(), OK)
+            self.assertEqual(self.server.logins.pop(), packet)
+
+    def test_a_login_that_says_more_than_its_flags(self):
+        proxy = self.proxy()
+        self.assert_error(self.client(proxy, login() + b"more"), 1043)
+        self.assertEqual(self.server.logins, [])
 
     def test_bytes_that_are_no_packets(self):
         proxy = self.proxy()
