@@ -3,16 +3,15 @@
 ghost use Rattle.std.specs.Prelude.{◌≡◌, true, IfOk};
 ghost use Rattle.mysql_wire_session.specs.Senders.{is_idle};
 ghost use Rattle.mysql_wire_session.specs.State.{state_of};
-ghost use Rattle.session_examples.specs.Answers.{CountsRows, TakesPacket};
+ghost use Rattle.session_examples.specs.Answers.{CountsRows, TakesPacket, is_row};
 
 use mysql_wire_session::packet_kind::PacketKind;
 use mysql_wire_session::session::{FrontError, Session};
 use mysql_wire_session::side::Side;
 use std::alloc::Allocator;
 use std::io::Read;
-use wire_codec::codec::packet::PacketCodec;
-use wire_packet_io::error::PacketIoError;
-use wire_packet_io::reader::PacketReader;
+use wire_codec::codec::PacketCodec;
+use wire_packet_io::{PacketIoError, PacketReader};
 
 /// Why an answer was not read to its end.
 #[derive(Drop)]
@@ -42,6 +41,16 @@ impl From<FrontError> for AnswerError {
 
     fn from(error: FrontError) -> Self {
         AnswerError::Session(error)
+    }
+}
+
+// How many rows a packet is.
+fn rows_of(kind: PacketKind) -> u64
+    ensures { result ≡ is_row kind }
+{
+    match kind {
+        PacketKind::Row | PacketKind::BinaryRow => 1,
+        _ => 0,
     }
 }
 
@@ -81,9 +90,11 @@ pub fn count_rows<R: Read, A: Allocator + Copy>(
         if session.is_idle() {
             return Ok(rows);
         }
-        if let PacketKind::Row | PacketKind::BinaryRow = read_packet(session, reader, codec)? {
-            rows += 1;
-        }
+        let kind = read_packet(session, reader, codec)?;
+        let Some(sum) = rows.checked_add(rows_of(kind)) else {
+            return Err(AnswerError::NoEnd);
+        };
+        rows = sum;
     }
     Err(AnswerError::NoEnd)
 }
