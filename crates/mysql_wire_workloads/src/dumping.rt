@@ -108,14 +108,14 @@ fn show_all(shown: &mut Shown, stream: &[u8]) -> Option<u64> {
     let mut input = stream;
     let mut source = PacketStream::new(shown.alloc, LIMIT);
     'packets: for place in 0..u64::MAX {
-        source.look(&mut input).ok()?;
+        source.peek(&mut input).ok()?;
         let Next::Packet(id) = source.next() else {
             shown.sink.write_all(shown.text.as_bytes()).ok()?;
             shown.text.clear();
             return Some(shown.sink.value());
         };
         show(shown, place, id, source.payload()?)?;
-        source.pass().ok()?;
+        source.advance().ok()?;
     }
     None
 }
