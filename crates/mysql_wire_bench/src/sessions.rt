@@ -34,11 +34,14 @@ fn follow(session: &mut Session, form: Form, id: u8, payload: &[u8]) -> Result<u
     Ok(1 + session.is_idle() as u64)
 }
 
-// Follows a session, packet by packet.
+// Follows a session, packet by packet, up to the first that is not whole.
 fn follow_all(session: &mut Session, form: Form, bytes: &[u8]) -> Result<u64, FrontError> {
     let mut sum = 0u64;
     let mut rest = bytes;
-    'packets: while let Some(header) = Header::read(rest) {
+    'packets: for _ in 0..bytes.len() {
+        let Some(header) = Header::read(rest) else {
+            return Ok(sum);
+        };
         let (_, after) = rest.split_at(HEADER_LEN);
         if after.len() < header.len {
             return Ok(sum);

@@ -234,19 +234,31 @@ impl<A: Allocator + Copy> Dump<A> {
         )
     }
 
+    // Shows the client's next packet, and goes on after it.
+    fn show_client(&mut self) -> Result<(), Stop>
+        ensures { OnOk result (ShowsPacket Client self.old self.new) }
+    {
+        self.lines.push_next(Side::Client, &self.client)?;
+        self.client.advance()?;
+        Ok(())
+    }
+
+    // Shows the server's next packet, and goes on after it.
+    fn show_server(&mut self) -> Result<(), Stop>
+        ensures { OnOk result (ShowsPacket Server self.old self.new) }
+    {
+        self.lines.push_next(Side::Server, &self.server)?;
+        self.server.advance()?;
+        Ok(())
+    }
+
     // Shows the next packet of a side.
     fn show(&mut self, side: Side) -> Result<(), Stop>
         ensures { OnOk result (ShowsPacket side self.old self.new) }
     {
         match side {
-            Side::Client => {
-                self.lines.push_next(side, &self.client)?;
-                self.client.advance()
-            }
-            Side::Server => {
-                self.lines.push_next(side, &self.server)?;
-                self.server.advance()
-            }
+            Side::Client => self.show_client(),
+            Side::Server => self.show_server(),
         }
     }
 
