@@ -569,8 +569,10 @@
 #define MYSQL_WIRE_KIND_SET_OPTION 32u
 #define MYSQL_WIRE_KIND_STATISTICS_REQUEST 33u
 #define MYSQL_WIRE_KIND_RESET_CONNECTION 34u
+/* COM_BINLOG_DUMP, COM_BINLOG_DUMP_GTID. */
 #define MYSQL_WIRE_KIND_BINARY_LOG_REQUEST 35u
-/* A command that no type of packet is for. */
+/* Another command: COM_PROCESS_KILL, COM_DEBUG, COM_REGISTER_SLAVE, or one that no type of packet
+   is for. */
 #define MYSQL_WIRE_KIND_OTHER_COMMAND 36u
 /* Longer than the limit: the payload was passed over. */
 #define MYSQL_WIRE_KIND_TOO_LARGE 37u
