@@ -202,6 +202,7 @@ impl<'de, const HEADER: u8> MyDeserialize<'de, Global> for OkForm<'de, HEADER> {
         (λ counts input. ⟦<Words<'de> as MyDeserialize<'de, Global>>⟧.reads
         (words_ctx form counts.1.1.1.0 input) input) };
 
+    #[inline(always)]
     fn deserialize(
         alloc: Global,
         form: InfoForm,

@@ -5,3 +5,4 @@
 pub mod error;
 pub mod io;
 pub mod proto;
+pub mod zero;

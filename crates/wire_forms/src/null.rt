@@ -7,11 +7,11 @@ ghost use Rattle.wire_forms.specs.NullTexts.{HasNoZero, ReadsNull};
 ghost use Rattle.wire_forms.specs.NullTextLemmas.{null-back};
 ghost use Rattle.wire_forms.specs.Spelled.{Leaves};
 
-use memchr::memchr;
 use std::alloc::Allocator;
 use std::borrow::CowSlice;
 use wire_buf::error::{InvalidReason, WireError};
 use wire_buf::io::ParseBuf;
+use wire_buf::zero::first_zero;
 use wire_repr::append::all_or_nothing;
 use wire_repr::text::BytesRepr;
 
@@ -26,7 +26,7 @@ pub struct NullBytes;
 fn before_first_zero(text: &[u8]) -> &[u8]
     ensures { result.now ≡ before_first is_zero text.now }
 {
-    match memchr(0, text) {
+    match first_zero(text) {
         Some(end) => &text[..end],
         None => text,
     }
@@ -38,7 +38,7 @@ fn eat_null<'a>(buf: &mut ParseBuf<'a>) -> Option<&'a [u8]>
         (HasNoZero buf.old.0.now × (buf.new.0.now ≡ buf.old.0.now))
         (λ text. (buf.old.0.now ≡ text.now ++ 0 ∷ buf.new.0.now) × HasNoZero text.now) }
 {
-    match memchr(0, buf.0) {
+    match first_zero(buf.0) {
         Some(end) => {
             let text = buf.eat(end);
             buf.skip(1);

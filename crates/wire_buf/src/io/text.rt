@@ -5,7 +5,7 @@ ghost use Rattle.std.specs.List.{before_first, after_first};
 ghost use Rattle.wire_buf.specs.NullText.{is_zero};
 
 use crate::io::ParseBuf;
-use memchr::memchr;
+use crate::zero::first_zero;
 
 impl<'a> ParseBuf<'a> {
     /// Eats a text (a byte string) and the zero that ends it, a `string<NUL>`. Without a zero the
@@ -16,7 +16,7 @@ impl<'a> ParseBuf<'a> {
         ensures text { result.now ≡ before_first is_zero self.old.0.now }
         ensures rest { self.new.0.now ≡ after_first is_zero self.old.0.now }
     {
-        match memchr(0, self.0) {
+        match first_zero(self.0) {
             Some(end) => {
                 let text = self.eat(end);
                 self.skip(1);
