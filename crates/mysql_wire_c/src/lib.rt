@@ -12,29 +12,23 @@ ghost use Rattle.wire_buf.specs.Lenenc.{IsLenenc, IsLenencOrMark, lenenc_bytes};
 ghost use Rattle.mysql_wire_side.specs.declared.codes.TheConstants.{MISSING_BYTES, NOT_A_NUMBER, NULL, ROOM_TOO_SMALL};
 ghost use Rattle.mysql_wire_side.specs.Answers.{new_connection};
 ghost use Rattle.mysql_wire_side.specs.Calls.{Feeds, Peeks, LendsInPlace, Takes, CopiesNext};
-ghost use Rattle.mysql_wire_c.specs.Calls.{Both, BothStates, SetsLimit, unread_count, Encodes, EncodesTo, EncodesHeader, MovesPending, Sends, Resets, SetsId, Numbers, LastNumbers, JudgesFront};
-ghost use Rattle.mysql_wire_c.specs.Decoding.{Decodes, DecodesMany};
+ghost use Rattle.mysql_wire_c_calls.specs.Calls.{Both, BothStates, SetsLimit, unread_count, Encodes, EncodesTo, EncodesHeader, MovesPending, Sends, Resets, SetsId, Numbers, LastNumbers, JudgesFront};
+ghost use Rattle.mysql_wire_c_calls.specs.Decoding.{Decodes, DecodesMany};
 ghost use Rattle.wire_codec.specs.Framing.{framing};
-ghost use Rattle.mysql_wire_c.specs.Messages.{message};
+ghost use Rattle.mysql_wire_c_calls.specs.Messages.{message};
 ghost use Rattle.wire_span.specs.Spans.{IsBetween};
-ghost use Rattle.mysql_wire_c.specs.Spans.{state_of, IsValid, NextSpan, Renumbers};
-ghost use Rattle.mysql_wire_c.specs.Rows.{ReadsRow, StopsRow};
-ghost use Rattle.mysql_wire_c.specs.Fields.{IsCutShort, IsMark, ReadsAt, WritesAt, text_at};
+ghost use Rattle.mysql_wire_c_calls.specs.Spans.{state_of, IsValid, NextSpan, Renumbers};
+ghost use Rattle.mysql_wire_c_calls.specs.Rows.{ReadsRow, StopsRow};
+ghost use Rattle.mysql_wire_c_calls.specs.Fields.{IsCutShort, IsMark, ReadsAt, WritesAt, text_at};
 
-pub mod connection;
-pub mod fields;
-pub mod handle;
-pub mod rows;
 pub mod session;
-pub mod spans;
-pub mod texts;
-pub mod view;
 
-use crate::connection::boxed;
-use crate::fields::Span;
-use crate::handle::Handle;
-use crate::spans::Spans;
-use crate::view::View;
+use mysql_wire_c_calls::connection::boxed;
+use mysql_wire_c_calls::fields::Span;
+use mysql_wire_c_calls::handle::Handle;
+use mysql_wire_c_calls::spans::Spans;
+use mysql_wire_c_calls::view::View;
+use mysql_wire_c_calls::{connection, fields, rows, spans, texts};
 use mysql_wire_side::codes::{CLOSED, IS_OPEN, NO_MEMORY, OK, PACKET, TOO_LARGE};
 use std::alloc::Global;
 use std::mem;
@@ -460,8 +454,7 @@ pub extern "C" fn mysql_wire_spans_renumber(
 pub extern "C" fn mysql_wire_message(code: i32, text: &mut View)
     ensures { text.new.len ≡ length (message code) }
 {
-    text.show(texts::text(code));
-    text.len = text.len.saturating_sub(1);
+    texts::show_text(code, text)
 }
 
 /// Reads a number of `width` bytes, 1 to 8, the least significant first. `NOT_A_NUMBER`: another
