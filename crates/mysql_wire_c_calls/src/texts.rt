@@ -40,9 +40,9 @@ fn text(code: i32) -> &'static [u8]
 }
 
 /// Points at the text for a code, which is ended by a zero that isn't counted.
-pub fn show_text(code: i32, text_view: &mut View)
-    ensures { text_view.new.len ≡ length (message code) }
+pub fn show_text(code: i32, shown: &mut View)
+    ensures { shown.new.len ≡ length (message code) }
 {
-    text_view.show(text(code));
-    text_view.len = text_view.len.saturating_sub(1);
+    shown.show(text(code));
+    shown.len = shown.len.saturating_sub(1);
 }

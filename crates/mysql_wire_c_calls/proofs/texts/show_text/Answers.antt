@@ -5,5 +5,5 @@ use Rattle.mysql_wire_c_calls.proofs.texts.show_text.Goals as goal
 
 pub returns : goal.returns
 returns c =
-    without_end c.show.new.self.len c.saturating_sub-text.result c.text.result.now (message c.args.code)
-    (c.text.ensures ∙ ap (λ (n : ℤ). message n ++ 0 ∷ []) (to_z-of_z c.ranges.code)) c.show.ensures c.saturating_sub-text.ensures
+    without_end c.show.new.self.len c.saturating_sub-shown.result c.text.result.now (message c.args.code)
+    (c.text.ensures ∙ ap (λ (n : ℤ). message n ++ 0 ∷ []) (to_z-of_z c.ranges.code)) c.show.ensures c.saturating_sub-shown.ensures
