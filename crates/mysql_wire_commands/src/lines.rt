@@ -1,19 +1,25 @@
 //! The lines of text that the program writes.
 
-ghost use Rattle.std.specs.Prelude.{◌≡◌, ◌++◌, IfOk, OnOk, string_bytes};
+ghost use Rattle.std.specs.Prelude.{◌≡◌, ◌++◌, OnOk, string_bytes};
 ghost use Rattle.mysql_wire_commands.specs.Texts.{chunk_line, hex_or_dash, payload_line, rest_line};
 
 use std::alloc::{AllocError, Allocator};
 use wire_codec::codec::ChunkInfo;
+use wire_text::digits::push_digits_to;
+use wire_text::put::push_number;
 
-// Two digits a byte, or a dash where there are no bytes.
-fn hex_or_dash<A: Allocator>(alloc: A, bytes: &[u8]) -> Result<String<A>, AllocError>
-    ensures { IfOk result (λ text. string_bytes text ≡ hex_or_dash bytes.now) }
+// Appends two digits a byte, or a dash where there are no bytes.
+fn push_hex_or_dash<A: Allocator + Copy>(
+    text: &mut String<A>,
+    bytes: &[u8],
+) -> Result<(), AllocError>
+    ensures { OnOk result
+        (string_bytes text.new ≡ string_bytes text.old ++ hex_or_dash bytes.now) }
 {
     if bytes.is_empty() {
-        return String::from_str(alloc, "-");
+        return text.push_str("-");
     }
-    hex::encode(alloc, bytes)
+    push_digits_to(text, bytes)
 }
 
 /// Appends how many bytes the payload has, and their digits.
@@ -24,8 +30,10 @@ pub fn push_payload<A: Allocator + Copy>(
     ensures { OnOk result
         (string_bytes text.new ≡ string_bytes text.old ++ payload_line payload.now) }
 {
-    let digits = hex_or_dash(*text.allocator(), payload)?;
-    writeln!(text, "{} {digits}", payload.len())
+    push_number(text, payload.len() as u64)?;
+    text.push_str(" ")?;
+    push_hex_or_dash(text, payload)?;
+    text.push_str("\n")
 }
 
 /// Appends the line of a chunk, or of none.
