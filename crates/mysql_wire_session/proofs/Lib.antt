@@ -1,5 +1,2 @@
-pub mod AnswerLemmas
 pub mod FrontLemmas
-pub mod ReportLemmas
-pub mod PacketLemmas
 pub mod OpeningLemmas

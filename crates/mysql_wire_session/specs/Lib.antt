@@ -4,5 +4,5 @@ pub mod Advance
 pub mod Opening
 pub mod Readings
 pub mod Senders
-pub mod Grammar
 pub mod Fronts
+pub mod SilentLemmas

@@ -3,8 +3,6 @@
 #![tactic(auto)]
 
 pub mod classify;
-pub mod laws;
-pub mod packet_laws;
 pub mod payload;
 pub mod session;
 mod statements;
