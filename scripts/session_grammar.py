@@ -1,6 +1,6 @@
 #!/usr/bin/env python3
 """Derives the recorded sessions of crates/recording_tests by the grammar that
-crates/mysql_wire_session/specs/Grammar.antt has, record by record, and compares the kind that it
+crates/mysql_wire_session_laws/specs/Grammar.antt has, record by record, and compares the kind that it
 gives each packet with the one that the built dump names. Then changes one packet of a session, a
 hundred times: it is left out, doubled, sent by the other side, or a byte of its header, or its
 payload's first, is another.
