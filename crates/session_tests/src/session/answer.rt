@@ -2,8 +2,6 @@
 
 use super::MOST;
 use super::exchanges::CONNECTION;
-use mysql_wire::proto::codec::PacketCodec;
-use mysql_wire::proto::packet_io::PacketReader;
 use mysql_wire_session::session::Session;
 use mysql_wire_session::side::Side;
 use refusing_allocator::{NEVER, Refusing};
@@ -13,6 +11,8 @@ use std::alloc::Global;
 use std::test::Fail;
 use test_support::facts::ensure;
 use test_support::fixture::Heap;
+use wire_codec::codec::PacketCodec;
+use wire_packet_io::PacketReader;
 
 const ASKED: &[u8] = b"\x03SELECT 1";
 

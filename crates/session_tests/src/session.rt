@@ -8,7 +8,6 @@ use exchanges::{
     CONNECTION, DONE, EXECUTE, FETCH, LOAD, PIECE, PIECES_END, PREPARE, QUERY, QUIT, REQUEST,
     RESULTS, Row,
 };
-use mysql_wire::constants::Flags;
 use mysql_wire_session::packet::Packet;
 use mysql_wire_session::phase::Phase;
 use mysql_wire_session::session::{FrontError, Session};
@@ -19,6 +18,7 @@ use std::alloc::{Allocator, Global};
 use std::test::Fail;
 use test_support::facts::{all_hold, ensure, no_row, same};
 use test_support::fixture::Heap;
+use wire_const::Flags;
 
 const STATEMENT: ComStmtPrepareOk = ComStmtPrepareOk {
     statement_id: 7,
