@@ -16,7 +16,7 @@ pub(crate) mod whole;
 
 use crate::error::PacketIoError;
 use bytes::BytesMut;
-use std::alloc::Allocator;
+use std::alloc::{AllocError, Allocator};
 use std::io::Read;
 use std::mem;
 use wire_codec::codec::error::PacketCodecError;
@@ -26,6 +26,12 @@ use wire_const::MAX_PAYLOAD_LEN;
 
 // The most bytes of one read.
 const READ_SIZE: usize = 8192;
+
+// So many bytes are moved with less.
+const FEW: usize = 256;
+
+// After a packet of this many bytes few are unread, and its room is to be had for the next one.
+const LARGE: usize = 2 * READ_SIZE;
 
 /// A packet that was found.
 #[derive(Debug, Drop)]
@@ -46,6 +52,43 @@ pub struct Input<R: Read, A: Allocator + Copy> {
     pub reads: u64,
 }
 
+// Moves the bytes to the front of their block by way of the stack.
+#[inline(never)]
+fn move_by_stack<const N: usize, A: Allocator + Copy>(src: &mut BytesMut<A>)
+    requires fits { length src.old.items ≤ N }
+    requires small { N ≤ 8192 }
+    ensures { src.new.items ≡ src.old.items }
+{
+    let len = src.len();
+    let mut bytes = [0; N];
+    bytes[..len].copy_from_slice(src.as_slice());
+    src.clear();
+    src.extend_reserved(&bytes[..len]);
+}
+
+// Moves the bytes to the front of their block, where they are no more than one read brings. `reserve`
+// would move them one by one.
+fn move_to_front<A: Allocator + Copy>(src: &mut BytesMut<A>)
+    ensures { src.new.items ≡ src.old.items }
+{
+    if src.len() <= FEW {
+        move_by_stack::<FEW, A>(src);
+    } else if src.len() <= READ_SIZE {
+        move_by_stack::<READ_SIZE, A>(src);
+    }
+}
+
+// Room for one read after the bytes.
+fn make_read_room<A: Allocator + Copy>(src: &mut BytesMut<A>) -> Result<(), AllocError>
+    ensures room { OnOk result (8192 ≤ src.new.spare) }
+    ensures items { src.new.items ≡ src.old.items }
+{
+    if src.capacity() - src.len() < READ_SIZE {
+        move_to_front(src);
+    }
+    src.reserve(READ_SIZE)
+}
+
 impl<R: Read, A: Allocator + Copy> Input<R, A> {
     // One read of at most 8192 bytes. The answer is how many came.
     fn read_more(&mut self) -> Result<usize, PacketIoError>
@@ -62,7 +105,7 @@ impl<R: Read, A: Allocator + Copy> Input<R, A> {
         ensures dst { self.new.dst ≡ self.old.dst }
         ensures lost { self.new.lost ≡ self.old.lost }
     {
-        if self.src.reserve(READ_SIZE).is_err() {
+        if make_read_room(&mut self.src).is_err() {
             return Err(PacketIoError::OutOfMemory);
         }
         let len = self.src.len();
@@ -114,6 +157,9 @@ impl<R: Read, A: Allocator + Copy> Input<R, A> {
             Ok(true) => {
                 let alloc = *self.dst.allocator();
                 let packet = mem::replace(&mut self.dst, Vec::new(alloc));
+                if packet.len() >= LARGE {
+                    move_to_front(&mut self.src);
+                }
                 Ok(Some(Found::Copied(packet)))
             }
             Ok(false) => Ok(None),
@@ -213,6 +259,9 @@ impl<R: Read, A: Allocator + Copy> Input<R, A> {
     {
         if let Some(header) = Header::read(self.src.as_slice()) {
             self.src.advance(HEADER_LEN + header.len);
+            if header.len >= LARGE {
+                move_to_front(&mut self.src);
+            }
         }
     }
 }
