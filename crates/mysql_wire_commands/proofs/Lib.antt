@@ -4,5 +4,6 @@ pub mod UnframeLemmas
 pub mod NumberLemmas
 pub mod ArgumentLemmas
 pub mod ReframeLemmas
+pub mod SenderLemmas
 pub mod PacketLineLemmas
 pub mod PartLemmas

@@ -181,13 +181,13 @@ sent_on text pending left before between after so_far sends = (
   Appends-trans _ _ _ so_far.0 sends.0 so_far.2 sends.2,
 )
 
-pub queued_on : (text pending more left : List ℕ) (before now : Option (List ℕ)) → SoWritten text pending before now → left ≡ pending ++ more
-    → SoWritten (text ++ more) left before now
-queued_on text pending more left before now so_far is = (
-  so_far.0,
-  ap (λ (z : List ℕ). z ++ more) so_far.1 ∙ append_assoc so_far.0 pending more ∙ ap (λ (z : List ℕ). so_far.0 ++ z) (sym is),
-  so_far.2,
-)
+-- a packet more, of which, and of what is pending, a front was written
+pub passed_on : (text pending more left : List ℕ) (before between after : Option (List ℕ)) → SoWritten text pending before between
+    → Sends between after (pending ++ more) left → SoWritten (text ++ more) left before after
+passed_on text pending more left before between after so_far sends =
+    let queued : SoWritten (text ++ more) (pending ++ more) before between =
+    (so_far.0, ap (λ (z : List ℕ). z ++ more) so_far.1 ∙ append_assoc so_far.0 pending more, so_far.2) in
+    sent_on (text ++ more) (pending ++ more) left before between after queued sends
 
 pub all_sent : (text pending : List ℕ) (before between after : Option (List ℕ)) → SoWritten text pending before between → Appends between after pending → Appends before after text
 all_sent text pending before between after so_far sends =

@@ -16,17 +16,24 @@ pub struct ChunkWriter<W> {
     left: usize,
 }
 
-// How many of these bytes the chunk in front has, of which this many are left where a part went out.
+// How many bytes the chunk in front has, of which this many are left where a part went out: those
+// that are here, where its header hasn't come whole.
+fn chunk_len(left: usize, bytes: &[u8]) -> usize
+    ensures { 0 < length bytes.now → 0 < result }
+{
+    match Header::read(bytes) {
+        _ if left > 0 => left,
+        Some(header) => HEADER_LEN + header.len,
+        None => bytes.len(),
+    }
+}
+
+// How many of these bytes are of it.
 fn front_len(left: usize, bytes: &[u8]) -> usize
     ensures within { result ≤ length bytes.now }
     ensures some { 0 < length bytes.now → 0 < result }
 {
-    let len = match Header::read(bytes) {
-        _ if left > 0 => left,
-        Some(header) => HEADER_LEN + header.len,
-        None => bytes.len(),
-    };
-    len.min(bytes.len())
+    chunk_len(left, bytes).min(bytes.len())
 }
 
 // How many bytes are left of the chunk in front, once this many of these went out.
@@ -36,12 +43,12 @@ fn left_behind(mut left: usize, bytes: &[u8], count: usize) -> usize
     let mut gone = &bytes[..count];
     let mut rest = bytes;
     while !gone.is_empty() {
-        let front = front_len(left, rest);
-        if gone.len() < front {
-            return front - gone.len();
+        let len = chunk_len(left, rest);
+        if gone.len() < len {
+            return len - gone.len();
         }
-        gone = &gone[front..];
-        rest = &rest[front..];
+        gone = &gone[len..];
+        rest = &rest[len..];
         left = 0;
     }
     left
@@ -93,7 +100,10 @@ impl<W: Write> Write for ChunkWriter<W> {
     fn write(&mut self, buf: &[u8]) -> io::Result<usize> {
         match self.writer.write(buf) {
             Ok(count) if count == buf.len() => {
-                self.left = 0;
+                // Chunks go whole, but for a header alone, and bytes of one of which a part went out.
+                if self.left > 0 || count == HEADER_LEN {
+                    self.left = left_behind(self.left, buf, count);
+                }
                 Ok(count)
             }
             answer => self.go_on(buf, answer),

@@ -7,13 +7,13 @@ ghost use Rattle.wire_codec.specs.Framing.{framing, next_id};
 ghost use Rattle.wire_text.specs.declared.stop.Stop.{Stop};
 ghost use Rattle.mysql_wire_commands.specs.Reframe.{ReframeEnds, Sends, StartsReading};
 
-use crate::chunk_writer::ChunkWriter;
+use crate::sender::Sender;
 use crate::status::{Stop, exit_status};
 use std::alloc::Allocator;
 use std::io::{Read, Write};
 use wire_codec::codec::PacketCodec;
 use wire_codec::laws;
-use wire_packet_io::{PacketIoError, PacketReader, PacketWriter};
+use wire_packet_io::{PacketIoError, PacketReader};
 
 // How many bytes wait for the next packet, at most; a larger packet is written at once.
 const MOST_HELD_BACK: usize = 8192;
@@ -29,71 +29,13 @@ fn codec_under(limit: usize) -> PacketCodec
     codec
 }
 
-// Writes what is pending.
-#[inline(never)]
-fn write_out<A: Allocator + Copy, W: Write>(to: &mut PacketWriter<W, A>) -> Result<(), Stop>
-    ensures sent { OnOk result (Sends (W.contents to.old.writer) (W.contents to.new.writer)
-        to.old.pending to.new.pending) }
-    ensures idle { OnOk result (to.new.pending ≡ []) }
-    ensures errors { IfErr result (λ error. error ≡ Stop.Io) }
-{
-    match to.write_pending() {
-        Ok(()) => Ok(()),
-        Err(_) => Err(Stop::Io),
-    }
-}
-
-// The same, but for what is held back. No call: each packet asks for it.
-#[inline(always)]
-fn send<A: Allocator + Copy, W: Write>(
-    to: &mut PacketWriter<W, A>,
-    is_held_back: bool,
-) -> Result<(), Stop>
-    ensures sent { OnOk result (Sends (W.contents to.old.writer) (W.contents to.new.writer)
-        to.old.pending to.new.pending) }
-    ensures idle { OnOk result (IsFalse is_held_back → to.new.pending ≡ []) }
-    ensures errors { IfErr result (λ error. error ≡ Stop.Io) }
-{
-    if is_held_back || to.pending().is_empty() {
-        return Ok(());
-    }
-    write_out(to)
-}
-
 // Ends with this status, once all is written.
-fn end<A: Allocator + Copy, W: Write>(to: &mut PacketWriter<W, A>, status: u8) -> Result<u8, Stop>
-    ensures { IfOk result (λ ended. (ended ≡ status) × Appends (W.contents to.old.writer)
-        (W.contents to.new.writer) to.old.pending) }
+fn end<A: Allocator + Copy, W: Write>(to: &mut Sender<W, A>, status: u8) -> Result<u8, Stop>
+    ensures { IfOk result (λ ended. (ended ≡ status) × Appends (W.contents to.old.chunks.writer)
+        (W.contents to.new.chunks.writer) to.old.pending.items) }
 {
-    send(to, false)?;
+    to.send(false)?;
     Ok(status)
-}
-
-// Frames a packet after what is pending, which is written where memory is refused.
-fn queue<A: Allocator + Copy, W: Write>(
-    encoder: &mut PacketCodec,
-    to: &mut PacketWriter<W, A>,
-    packet: &[u8],
-) -> Result<(), Stop>
-    requires fits { length packet.now ≤ encoder.old.max_allowed_packet }
-    ensures queued { OnOk result (to.new.pending
-        ≡ to.old.pending ++ framing (expected_id encoder.old) packet.now) }
-    ensures writer { OnOk result (to.new.writer ≡ to.old.writer) }
-    ensures next { OnOk result
-        (expected_id encoder.new ≡ next_id (expected_id encoder.old) packet.now) }
-    ensures limit { encoder.new.max_allowed_packet ≡ encoder.old.max_allowed_packet }
-    ensures refused { (result ≡ Err Stop.Memory) → Appends (W.contents to.old.writer)
-        (W.contents to.new.writer) to.old.pending }
-{
-    let mut packet = packet;
-    match to.queue(encoder, &mut packet) {
-        Ok(()) => Ok(()),
-        Err(PacketIoError::OutOfMemory) => {
-            send(to, false)?;
-            Err(Stop::Memory)
-        }
-        Err(_) => unreachable!(),
-    }
 }
 
 // Copies whole packets, framed from id 0 on. What is framed waits while the next packet is there
@@ -101,14 +43,14 @@ fn queue<A: Allocator + Copy, W: Write>(
 fn copy_packets<A: Allocator + Copy, R: Read, W: Write>(
     limit: usize,
     from: &mut PacketReader<R, A>,
-    to: &mut PacketWriter<W, A>,
+    to: &mut Sender<W, A>,
 ) -> Result<u8, Stop>
     requires reader { StartsReading from.old.unread from.old.held from.old.is_lost }
     requires lent { IsNone from.old.lent }
-    requires writer { to.old.pending ≡ [] }
+    requires writer { to.old.pending.items ≡ [] }
     ensures { IfOk result (λ status. ReframeEnds limit status
         (R.remaining from.old.reader) (R.remaining from.new.reader)
-        (W.contents to.old.writer) (W.contents to.new.writer)) }
+        (W.contents to.old.chunks.writer) (W.contents to.new.chunks.writer)) }
 {
     laws::nothing_read();
     laws::joined_runs();
@@ -119,13 +61,13 @@ fn copy_packets<A: Allocator + Copy, R: Read, W: Write>(
     let mut decoder = codec_under(limit);
     let mut encoder = codec_under(limit);
     'packets: for _ in 0..u64::MAX {
-        let is_more_kept = to.pending().len() < MOST_HELD_BACK && from.reads() < u64::MAX;
-        send(to, is_more_kept && from.is_ready(&decoder))?;
+        let is_more_kept = to.pending.len() < MOST_HELD_BACK && from.reads() < u64::MAX;
+        to.send(is_more_kept && from.is_ready(&decoder))?;
         if from.reads() == u64::MAX {
             return Err(Stop::Io);
         }
         match from.fill_packet(&mut decoder) {
-            Ok(true) => queue(&mut encoder, to, from.packet())?,
+            Ok(true) => to.pass_on(&mut encoder, from.packet())?,
             Ok(false) => return end(to, 0),
             Err(PacketIoError::UnexpectedEnd) => return end(to, 3),
             Err(PacketIoError::PacketTooLarge) => return end(to, 4),
@@ -155,9 +97,7 @@ pub fn run_reframe<A: Allocator + Copy, R: Read, W: Write>(
     let Ok(mut from) = PacketReader::new(alloc, input) else {
         unreachable!();
     };
-    let Ok(mut to) = PacketWriter::new(alloc, ChunkWriter::new(output)) else {
-        unreachable!();
-    };
+    let mut to = Sender::new(alloc, output);
     let status = exit_status(copy_packets(limit, &mut from, &mut to));
-    (status, from.into_inner(), to.into_inner().into_inner())
+    (status, from.into_inner(), to.into_inner())
 }

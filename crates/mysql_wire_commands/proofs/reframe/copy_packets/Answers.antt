@@ -3,7 +3,7 @@ use Rattle.std.proofs.KnownBytes.{Consumes-nil, Consumes-trans}
 use Rattle.wire_codec.specs.Codec.{codec_state, expected_id}
 use Rattle.wire_codec.specs.Framing.{framing}
 use Rattle.wire_packet_io.specs.PacketIo.{joined_reads}
-use Rattle.mysql_wire_commands.proofs.ReframeLemmas.{reframing_start, reframing_more, reframed_whole, reframed_short, reframed_too_large, reframed_out_of_sync, none_written, sent_on, queued_on, all_sent, ended_with, some_lent, none_lent}
+use Rattle.mysql_wire_commands.proofs.ReframeLemmas.{reframing_start, reframing_more, reframed_whole, reframed_short, reframed_too_large, reframed_out_of_sync, none_written, sent_on, passed_on, all_sent, ended_with, some_lent, none_lent}
 use Rattle.mysql_wire_commands.proofs.reframe.copy_packets.Goals as goal
 
 pub packets-init : goal.packets-init
@@ -21,7 +21,7 @@ packets-init g c =
         reframing_start c.nothing_read.ensures c.args.limit (codec_state c.codec_under-decoder.result c.args.from.now.unread c.args.from.now.held)
             (expected_id c.codec_under-encoder.result) decoder.id decoder.header reader.0 reader.1 decoder.limit encoder.id,
         Consumes-nil _,
-        none_written c.args.to.now.pending _ c.requires.writer,
+        none_written c.args.to.now.pending.items _ c.requires.writer,
       );
     }
 
@@ -34,24 +34,24 @@ packets-preserved g c =
     let packet : List ℕ = lent.0 in
     let came = (rw lent.1 at c.in-Ok-true.ensures.fills) c.packets.invariant.found c.packets.invariant.lent in
     let more : List ℕ = joined_reads came.reads in
-    let put = c.in_ok-queue-in-Ok-true.ensures in
+    let put = c.in_ok-pass_on-in-Ok-true.ensures in
     let shown : c.packet.result.now ≡ packet = rw lent.1 at c.packet.ensures in
     let first = expected_id c.packets.encoder in
-    let queued = rw shown at put.queued in
+    let passed = rw shown at put.sent in
     let next = rw shown at put.next in
     let taken = c.take_packet.ensures in
-    let sent = sent_on old.1 c.packets.to.pending c.send.new.to.pending _ _ _ old.4 c.in_ok-send.ensures.sent in
+    let sent = sent_on old.1 c.packets.to.pending.items c.send.new.self.pending.items _ _ _ old.4 c.in_ok-send.ensures.sent in
     record {
       found = ap (λ z. z.is_lost) taken ∙ c.in-Ok-true.ensures.lends.1;
       lent = rw (ap (λ z. z.lent) taken) refl;
       encoder = put.limit ∙ c.packets.invariant.encoder;
-      so_far = rw (ap (λ z. z.unread) taken, ap (λ z. z.held) taken, ap (λ z. z.reader) taken, put.writer) (
+      so_far = rw (ap (λ z. z.unread) taken, ap (λ z. z.held) taken, ap (λ z. z.reader) taken) (
         old.0 ++ more,
         old.1 ++ framing first packet,
-        reframing_more c.joined_splits.ensures c.stream_append.ensures c.id_after_append.ensures c.between_packets.ensures c.args.limit before after first (expected_id c.queue.new.encoder)
+        reframing_more c.joined_splits.ensures c.stream_append.ensures c.id_after_append.ensures c.between_packets.ensures c.args.limit before after first (expected_id c.pass_on.new.encoder)
             old.0 old.1 more packet old.2 came.answers.0 came.answers.1 c.fill_packet.ensures.rest.2 next,
         Consumes-trans _ _ _ old.0 more old.3 came.consumed,
-        queued_on old.1 c.send.new.to.pending (framing first packet) c.queue.new.to.pending _ _ sent queued,
+        passed_on old.1 c.send.new.self.pending.items (framing first packet) c.pass_on.new.self.pending.items _ _ _ sent passed,
       );
     }
 
@@ -63,7 +63,7 @@ returns-in-Ok-false g c =
     let none = none_lent c.fill_packet.new.self.lent (search rules) in
     let came = (rw none at c.in-Ok-false.ensures.fills) c.packets.invariant.found c.packets.invariant.lent in
     let more : List ℕ = joined_reads came.reads in
-    let sent = sent_on old.1 c.packets.to.pending c.send.new.to.pending _ _ _ old.4 c.in_ok-send.ensures.sent in
+    let sent = sent_on old.1 c.packets.to.pending.items c.send.new.self.pending.items _ _ _ old.4 c.in_ok-send.ensures.sent in
     ended_with c.end.result 0 c.args.limit _ _ _ _ _ c.end.ensures (λ written. record {
       cases = search rules;
       text = λ _. (
@@ -71,7 +71,7 @@ returns-in-Ok-false g c =
         old.1,
         Consumes-trans _ _ _ old.0 more old.3 came.consumed,
         reframed_whole c.joined_runs.ensures c.args.limit before after (expected_id c.packets.encoder) old.0 old.1 more old.2 came.answers.0 came.answers.1,
-        all_sent old.1 c.send.new.to.pending _ _ _ sent written,
+        all_sent old.1 c.send.new.self.pending.items _ _ _ sent written,
       );
       all_read = λ _. came.sees_end.1;
     })
@@ -83,7 +83,7 @@ returns-in-Err-UnexpectedEnd g c =
     let after = codec_state c.fill_packet.new.codec c.fill_packet.new.self.unread c.fill_packet.new.self.held in
     let came = (rw c.in-Err-UnexpectedEnd.field-0-is at c.in-Err-UnexpectedEnd.ensures.fills) c.packets.invariant.found c.packets.invariant.lent in
     let more : List ℕ = joined_reads came.reads in
-    let sent = sent_on old.1 c.packets.to.pending c.send.new.to.pending _ _ _ old.4 c.in_ok-send.ensures.sent in
+    let sent = sent_on old.1 c.packets.to.pending.items c.send.new.self.pending.items _ _ _ old.4 c.in_ok-send.ensures.sent in
     ended_with c.end-in-Err-UnexpectedEnd.result 3 c.args.limit _ _ _ _ _ c.end-in-Err-UnexpectedEnd.ensures (λ written. record {
       cases = search rules;
       text = λ _. (
@@ -91,7 +91,7 @@ returns-in-Err-UnexpectedEnd g c =
         old.1,
         Consumes-trans _ _ _ old.0 more old.3 came.consumed,
         reframed_short c.joined_runs.ensures c.args.limit before after (expected_id c.packets.encoder) old.0 old.1 more old.2 came.answers.0 came.answers.1,
-        all_sent old.1 c.send.new.to.pending _ _ _ sent written,
+        all_sent old.1 c.send.new.self.pending.items _ _ _ sent written,
       );
       all_read = λ _. came.sees_end.1;
     })
@@ -103,7 +103,7 @@ returns-in-Err-PacketTooLarge g c =
     let after = codec_state c.fill_packet.new.codec c.fill_packet.new.self.unread c.fill_packet.new.self.held in
     let came = (rw c.in-Err-PacketTooLarge.field-0-is at c.in-Err-PacketTooLarge.ensures.fills) c.packets.invariant.found c.packets.invariant.lent in
     let more : List ℕ = joined_reads came.reads in
-    let sent = sent_on old.1 c.packets.to.pending c.send.new.to.pending _ _ _ old.4 c.in_ok-send.ensures.sent in
+    let sent = sent_on old.1 c.packets.to.pending.items c.send.new.self.pending.items _ _ _ old.4 c.in_ok-send.ensures.sent in
     ended_with c.end-in-Err-PacketTooLarge.result 4 c.args.limit _ _ _ _ _ c.end-in-Err-PacketTooLarge.ensures (λ written. record {
       cases = search rules;
       text = λ _. (
@@ -111,7 +111,7 @@ returns-in-Err-PacketTooLarge g c =
         old.1,
         Consumes-trans _ _ _ old.0 more old.3 came.consumed,
         reframed_too_large c.joined_runs.ensures c.args.limit before (expected_id c.packets.encoder) old.0 old.1 more _ _ old.2 came.answers.0,
-        all_sent old.1 c.send.new.to.pending _ _ _ sent written,
+        all_sent old.1 c.send.new.self.pending.items _ _ _ sent written,
       );
       all_read = search rules;
     })
@@ -123,7 +123,7 @@ returns-in-Err-PacketsOutOfSync g c =
     let after = codec_state c.fill_packet.new.codec c.fill_packet.new.self.unread c.fill_packet.new.self.held in
     let came = (rw c.in-Err-PacketsOutOfSync.field-0-is at c.in-Err-PacketsOutOfSync.ensures.fills) c.packets.invariant.found c.packets.invariant.lent in
     let more : List ℕ = joined_reads came.reads in
-    let sent = sent_on old.1 c.packets.to.pending c.send.new.to.pending _ _ _ old.4 c.in_ok-send.ensures.sent in
+    let sent = sent_on old.1 c.packets.to.pending.items c.send.new.self.pending.items _ _ _ old.4 c.in_ok-send.ensures.sent in
     ended_with c.end-in-Err-PacketsOutOfSync.result 5 c.args.limit _ _ _ _ _ c.end-in-Err-PacketsOutOfSync.ensures (λ written. record {
       cases = search rules;
       text = λ _. (
@@ -131,7 +131,7 @@ returns-in-Err-PacketsOutOfSync g c =
         old.1,
         Consumes-trans _ _ _ old.0 more old.3 came.consumed,
         reframed_out_of_sync c.joined_runs.ensures c.args.limit before (expected_id c.packets.encoder) old.0 old.1 more came.answers.0 came.answers.1 old.2 came.answers.2,
-        all_sent old.1 c.send.new.to.pending _ _ _ sent written,
+        all_sent old.1 c.send.new.self.pending.items _ _ _ sent written,
       );
       all_read = search rules;
     })

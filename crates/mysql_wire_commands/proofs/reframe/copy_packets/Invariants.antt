@@ -13,5 +13,5 @@ invariant-packets g l = record {
   so_far : (input : List ℕ) × (text : List ℕ)
       × Reframing l.fn.limit (codec_state l.decoder l.from.unread l.from.held) (expected_id l.encoder) input text
       × Consumes (g.R.Read.remaining l.fn.from.reader) (g.R.Read.remaining l.from.reader) input
-      × SoWritten text l.to.pending (g.W.Write.contents l.fn.to.writer) (g.W.Write.contents l.to.writer);
+      × SoWritten text l.to.pending.items (g.W.Write.contents l.fn.to.chunks.writer) (g.W.Write.contents l.to.chunks.writer);
 }

@@ -7,8 +7,8 @@ returns g c =
     let ended = reframe_status c.args.limit c.copy_packets.result _ _ _ _ c.copy_packets.ensures in
     rw (
       ap (λ z. z.reader) c.in-Ok.ensures.new,
-      ap (λ z. z.writer.writer) c.in-Ok-new.ensures.new ∙ c.new-2.ensures,
+      c.new-to.ensures.writer,
       sym c.into_inner.ensures,
-      ap (λ z. z.writer) (sym c.into_inner-2.ensures) ∙ sym c.into_inner-3.ensures,
+      sym c.into_inner-2.ensures,
       sym c.exit_status-status.ensures,
     ) at ended
