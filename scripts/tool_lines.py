@@ -113,6 +113,9 @@ MANY = [
     [16356] + [0] * 20,
 ]
 
+# The lengths of packets of one chunk and of several.
+LONG = [16777214, 16777215, 16777216, 2 * 16777215, 2 * 16777215 + 9]
+
 # The most bytes of a write of these: lines that are shorter than 32768 bytes, and 8192 digits with
 # what stands in front of them and after.
 MOST_AT_ONCE = 41000
@@ -256,6 +259,20 @@ def of_writes(folder):
         yield "writes of unframe of %d packets" % len(lengths), fault
 
 
+def of_long_packets(folder):
+    """The same of packets that `reframe` writes from where they lie, between short ones."""
+    for length in LONG:
+        lengths = [1, *[16777215] * (length // 16777215), length % 16777215, 2]
+        data = b"".join(size.to_bytes(3, "little") + bytes([index]) + b"D" * size
+                        for index, size in enumerate(lengths))
+        line = "reframe %d" % length
+        found = [(line, goes(line, data, 0, data, folder))]
+        found.append((line, goes(line, data[:-1], 3, data[:-6], folder)))
+        line = "reframe %d" % (length - 1)
+        found.append((line, goes(line, data, 4, data[:5], folder)))
+        yield "reframe of a packet of %d bytes" % length, joined(found)
+
+
 def packets(count):
     """This many packets of 300 bytes, framed."""
     return b"".join(b"\x2c\1\0" + bytes([index]) + b"P" * 300 for index in range(count))
@@ -332,7 +349,7 @@ def main():
         folder = pathlib.Path(name)
         found = [*of_rows(folder), *of_streams(folder), *of_many(folder), *of_writes(folder)]
         found += [*of_reads(), *of_waits(), *of_refused_writes(folder)]
-        found += of_other_lines(folder)
+        found += [*of_long_packets(folder), *of_other_lines(folder)]
     for name, fault in found:
         print("FAILED %s: %s" % (name, fault) if fault else "ok " + name)
     failed = sum(1 for _, fault in found if fault)

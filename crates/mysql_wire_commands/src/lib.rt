@@ -11,6 +11,7 @@ mod output;
 mod packet_lines;
 mod piece_lines;
 pub mod reframe;
+mod room;
 mod sender;
 pub mod status;
 mod std_readers;

@@ -8,6 +8,7 @@ use crate::lines::push_rest;
 use crate::output::write_whole;
 use crate::packet_lines::{TEXT_AT_ONCE, write_packets};
 use crate::piece_lines::PieceLines;
+use crate::room::make_room;
 use crate::status::{Stop, exit_status};
 use crate::traced_read::TracedRead;
 use bytes::BytesMut;
@@ -139,6 +140,7 @@ impl<A: Allocator + Copy> Run<A> {
             × (self.new.ahead ≡ self.old.ahead) }
     {
         self.lines.clear();
+        make_room(&mut self.src, len);
         let is_small = self.dst.is_empty() && self.src.len() < MOST_UNREAD && len < MOST_AT_ONCE;
         let (codec, src, dst) = (&mut self.codec, &mut self.src, &mut self.dst);
         if is_small {

@@ -1,4 +1,4 @@
-use Rattle.std.proofs.Common.{ap, sym, ◌∙◌}
+use Rattle.std.proofs.Common.{ap, sym}
 use Rattle.mysql_wire_commands.proofs.ReframeLemmas.{reframe_status}
 use Rattle.mysql_wire_commands.proofs.reframe.run_reframe.Goals as goal
 

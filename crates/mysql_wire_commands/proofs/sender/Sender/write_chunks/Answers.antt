@@ -1,5 +1,4 @@
-use Rattle.std.proofs.Common.{◌≡◌, ◌++◌, length, refl, ap, ◌∙◌, sym, subst, List, ℕ}
-use Rattle.std.specs.Io.KnownBytes.{Appends}
+use Rattle.std.proofs.Common.{◌≡◌, length, refl, ap, ◌∙◌, sym, subst}
 use Rattle.wire_codec.specs.Codec.{expected_id}
 use Rattle.wire_span.specs.Framed.{FrameState, frame_state, begun, IsBetweenPackets}
 use Rattle.mysql_wire_commands.proofs.SenderLemmas.{begun_is, one_went, all_written}
