@@ -3,9 +3,9 @@ use Rattle.std.proofs.Common.{◌≡◌, ℕ, zero, suc, ◌+◌, ◌*◌, ◌/�
 use Rattle.std.proofs.lemmas.Bool.{and_parts, eqb-true}
 use Rattle.std.proofs.lemmas.Bool.Decides.{leb_tells}
 use Rattle.std.proofs.lemmas.Grind.{flat_map-append}
-use Rattle.std.proofs.lemmas.List.{length-append, length-drop, length-take, take_more, take-append-le, take_all}
+use Rattle.std.proofs.lemmas.List.{drop_all, length-append, length-drop, length-take, take_more, take-append-le, take_all}
 use Rattle.std.specs.Prelude.{◌&&◌, slice_index_or, slice_set}
-use Rattle.json.specs.Print.{escape, escape_byte}
+use Rattle.json.specs.Print.{escape, escape_byte, quoted}
 use Rattle.wire_text.specs.Fields.{escape_mark}
 use Rattle.wire_text.proofs.FieldLemmas.{is_false}
 
@@ -125,3 +125,32 @@ filled_on words place at len room block new filled inside within long short is n
       ap (take (at + len)) parted ∙ block_in at len room block (omega (arith, within, filled.0)) long (omega (arith, short))
           ∙ ap₂ (λ (a b : List ℕ). a ++ b) filled.3 is ∙ ap (λ (z : List ℕ). 34 ∷ z) (sym (escape_more place words inside)),
     )
+
+-- ---- block by block
+
+-- the escapes of what is done of some bytes stand after a quote, and this is left of them
+abbrev pub Escaped : List ℕ → List ℕ → List ℕ → List ℕ → Type 0
+Escaped words rest held text = (done : List ℕ) × (done ++ rest ≡ words) × (text ≡ held ++ 34 ∷ escape done)
+
+-- one block more
+pub block_escaped : (n : ℕ) (words rest block behind held text left : List ℕ) → Escaped words rest held text → block ≡ take n rest → behind ≡ drop n rest
+    → left ≡ text ++ escape block → Escaped words behind held left
+block_escaped n words rest block behind held text left so_far block_is behind_is left_is = (
+  so_far.0 ++ block,
+  append_assoc so_far.0 block behind
+      ∙ ap (λ (z : List ℕ). so_far.0 ++ z) (ap₂ (λ (a b : List ℕ). a ++ b) block_is behind_is ∙ take-append-drop n rest) ∙ so_far.1,
+  left_is ∙ ap (λ (z : List ℕ). z ++ escape block) so_far.2 ∙ append_assoc held (34 ∷ escape so_far.0) (escape block)
+      ∙ ap (λ (z : List ℕ). held ++ 34 ∷ z) (sym (flat_map-append escape_byte so_far.0 block)),
+)
+
+-- the last block, and the quote after it
+pub all_escaped : (words rest held text left new : List ℕ) → Escaped words rest held text → left ≡ text ++ escape rest → new ≡ left ++ 34 ∷ []
+    → new ≡ held ++ quoted words
+all_escaped words rest held text left new so_far left_is new_is =
+    let last = block_escaped (length rest) words rest rest [] held text left so_far (sym (take_all (length rest) rest (omega arith))) (sym (drop_all (length rest) rest (omega arith))) left_is in
+    new_is ∙ ap (λ (z : List ℕ). z ++ 34 ∷ []) (last.2 ∙ ap (λ (z : List ℕ). held ++ 34 ∷ escape z) (sym (append-nil last.0) ∙ last.1)) ∙ append_assoc held (34 ∷ escape words) (34 ∷ [])
+
+-- what was held stands in front
+pub held_first : (held more text : List ℕ) → text ≡ held ++ more → take (length held) text ≡ held
+held_first held more text is =
+    ap (take (length held)) is ∙ take-append-le (length held) held more (omega arith) ∙ take_all (length held) held (omega arith)

@@ -1,7 +1,7 @@
 -- The text of fields.
-use Rattle.std.proofs.Common.{rules, ◌≡◌, ℕ, zero, suc, ap₂, drop, take-append-drop, List, [], ◌∷◌, ◌++◌, Bool, true, false, refl, ap, sym, ◌∙◌, append_assoc, arith, ◌+◌, ◌<◌, length, take, get_or}
+use Rattle.std.proofs.Common.{◌≡◌, ℕ, zero, suc, ap₂, drop, take-append-drop, List, [], ◌∷◌, ◌++◌, Bool, true, false, refl, ap, sym, ◌∙◌, append_assoc, arith, ◌+◌, ◌<◌, length, take, get_or}
 use Rattle.std.proofs.lemmas.Grind.{common_steps}
-use Rattle.std.specs.Prelude.{◌==◌, ◌&&◌, ◌⊎◌, codes, nat_lt, not, slice_index_or, ◌≤◌}
+use Rattle.std.specs.Prelude.{◌==◌, ◌&&◌, codes, nat_lt, not, slice_index_or, ◌≤◌}
 use Rattle.std.proofs.lemmas.Bool.{and_from, and_left, and_parts, eqb-false, leb-true, ltb-true, not-true}
 use Rattle.json.specs.Print.{escape, escape_byte}
 use Rattle.json.proofs.Printed.Strings.{escape_byte_plain}

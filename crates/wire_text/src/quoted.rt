@@ -1,14 +1,14 @@
 //! A text between quotes, with JSON's escapes.
 
-ghost use Rattle.std.specs.Prelude.{◌≡◌, ◌≤◌, ◌+◌, ◌++◌, length, take, drop, IfOk, OnOk, string_bytes};
-ghost use Rattle.json.specs.Print.{escape_byte, quoted};
+ghost use Rattle.std.specs.Prelude.{◌≡◌, ◌≤◌, ◌+◌, ◌∷◌, ◌++◌, length, take, drop, OnErr, OnOk, string_bytes};
+ghost use Rattle.json.specs.Print.{escape, escape_byte, quoted};
 ghost use Rattle.wire_text.specs.Fields.{escape_mark, in_quotes};
 
 use crate::digits::DIGITS;
 use crate::plain::none_needs_escape;
 use crate::put::{push_between, push_few};
-use json::Writer;
 use std::alloc::{AllocError, Allocator};
+use std::mem;
 
 // A text between quotes, as it is.
 #[inline(always)]
@@ -19,20 +19,6 @@ pub(crate) fn push_in_quotes<A: Allocator>(
     ensures { OnOk result (string_bytes text.new ≡ string_bytes text.old ++ in_quotes words.now) }
 {
     push_between(text, "\"", words, "\"")
-}
-
-// Room beside a text's own bytes, for its quotes and its escapes.
-const QUOTED_ROOM: usize = 64;
-
-// A text as JSON quotes it.
-#[tactic(auto, unfolding(json::specs::Print::print_from))]
-fn quoted<A: Allocator>(alloc: A, words: &str) -> Result<String<A>, AllocError>
-    ensures { IfOk result (λ text. string_bytes text ≡ quoted words.now) }
-{
-    let room = words.len().saturating_add(QUOTED_ROOM);
-    let mut writer = Writer::new(Vec::with_capacity(alloc, room)?);
-    writer.string(words)?;
-    Ok(unsafe { String::from_utf8_unchecked(writer.into_inner()) })
 }
 
 // The letter of each byte's escape: `u` where that is in hex digits, 0 where there is none.
@@ -74,8 +60,8 @@ fn escape_of(byte: u8) -> ([u8; 8], usize)
     ([b'\\', letter, b'0', b'0', high, low, 0, 0], 6)
 }
 
-// The most bytes of a text that is quoted in a room of its own, and that room: six bytes for each,
-// the quotes, and what is written after the last.
+// The most bytes that are quoted at once, and the room for them: six bytes for each, the quotes, and
+// what is written after the last.
 const FEW: usize = 64;
 
 const ROOM: usize = 400;
@@ -88,10 +74,12 @@ fn put_block(room: &mut [u8; 400], at: usize, block: &[u8; 8])
     room[at..at + 8].copy_from_slice(block);
 }
 
-// Quotes a few bytes at the front of the room. The answer is how many bytes they take.
-fn quote_few(room: &mut [u8; 400], words: &[u8]) -> usize
+// Quotes a few bytes at the front of the room, but for the quote after them. The answer is how many
+// bytes they take.
+#[inline(always)]
+fn escape_few(room: &mut [u8; 400], words: &[u8]) -> usize
     requires { length words.now ≤ 64 }
-    ensures { (result ≤ 400) × (take result room.new ≡ quoted words.now) }
+    ensures { (1 ≤ result) × (result ≤ 385) × (take result room.new ≡ 34 ∷ escape words.now) }
 {
     room[0] = b'"';
     let mut at = 1;
@@ -100,6 +88,15 @@ fn quote_few(room: &mut [u8; 400], words: &[u8]) -> usize
         put_block(room, at, &block);
         at += len;
     }
+    at
+}
+
+// Quotes a few bytes at the front of the room. The answer is how many bytes they take.
+fn quote_few(room: &mut [u8; 400], words: &[u8]) -> usize
+    requires { length words.now ≤ 64 }
+    ensures { (result ≤ 400) × (take result room.new ≡ quoted words.now) }
+{
+    let at = escape_few(room, words);
     room[at] = b'"';
     at + 1
 }
@@ -115,16 +112,58 @@ fn push_few_escaped<A: Allocator>(text: &mut String<A>, words: &str) -> Result<(
     push_few(text, &room[..len])
 }
 
-// A text of which some bytes may need escapes.
+// Some of the bytes of a text that is quoted.
+fn push_block<A: Allocator>(text: &mut Vec<u8, A>, block: &[u8]) -> Result<(), AllocError>
+    requires { length block.now ≤ 64 }
+    ensures ok { OnOk result (text.new.items ≡ text.old.items ++ escape block.now) }
+    ensures err { OnErr result (text.new.items ≡ text.old.items) }
+{
+    if none_needs_escape(block) {
+        return text.extend_from_slice(block);
+    }
+    let mut room = [0; ROOM];
+    let len = escape_few(&mut room, block);
+    text.extend_from_slice(&room[1..len])
+}
+
+// A text between quotes, block by block.
+fn push_blocks<A: Allocator>(text: &mut Vec<u8, A>, words: &[u8]) -> Result<(), AllocError>
+    ensures ok { OnOk result (text.new.items ≡ text.old.items ++ quoted words.now) }
+    ensures front { take (length text.old.items) text.new.items ≡ text.old.items }
+{
+    text.push(b'"')?;
+    let mut rest = words;
+    'rounds: while let Some((block, after)) = rest.split_first_chunk::<64>() {
+        push_block(text, block)?;
+        rest = after;
+    }
+    push_block(text, rest)?;
+    text.extend_from_slice(b"\"")
+}
+
+// A text of any length, of which some bytes need escapes.
 #[inline(never)]
-fn push_escaped<A: Allocator + Copy>(text: &mut String<A>, words: &str) -> Result<(), AllocError>
+fn push_long_escaped<A: Allocator + Copy>(
+    text: &mut String<A>,
+    words: &str,
+) -> Result<(), AllocError>
     ensures { OnOk result (string_bytes text.new ≡ string_bytes text.old ++ quoted words.now) }
 {
-    if words.len() <= FEW {
-        return push_few_escaped(text, words);
+    let alloc = *text.allocator();
+    let mut all = mem::replace(text, String::new(alloc)).into_bytes();
+    let len = all.len();
+    // (what is quoted is UTF-8, and so is what stood there before)
+    match push_blocks(&mut all, words.as_bytes()) {
+        Ok(()) => {
+            *text = unsafe { String::from_utf8_unchecked(all) };
+            Ok(())
+        }
+        Err(error) => {
+            all.truncate(len);
+            *text = unsafe { String::from_utf8_unchecked(all) };
+            Err(error)
+        }
     }
-    let quoted = quoted(*text.allocator(), words)?;
-    text.push_str(quoted.as_str())
 }
 
 pub(crate) fn push_quoted<A: Allocator + Copy>(
@@ -135,7 +174,9 @@ pub(crate) fn push_quoted<A: Allocator + Copy>(
 {
     if none_needs_escape(words.as_bytes()) {
         push_in_quotes(text, words)
+    } else if words.len() <= FEW {
+        push_few_escaped(text, words)
     } else {
-        push_escaped(text, words)
+        push_long_escaped(text, words)
     }
 }

@@ -1,6 +1,6 @@
 use Rattle.std.proofs.Common.{arith}
 use Rattle.wire_text.proofs.EscapeLemmas.{filled_begins, filled_on}
-use Rattle.wire_text.proofs.quoted.quote_few.Goals as goal
+use Rattle.wire_text.proofs.quoted.escape_few.Goals as goal
 
 pub bytes-init : goal.bytes-init
 bytes-init c = filled_begins c.args.words.now c.args.room.now c.told-room
