@@ -1,11 +1,11 @@
 -- The text of fields.
-use Rattle.std.proofs.Common.{◌≡◌, ℕ, zero, suc, ap₂, drop, take-append-drop, List, [], ◌∷◌, ◌++◌, Bool, true, false, refl, ap, sym, ◌∙◌, append_assoc, arith, ◌+◌, ◌<◌, length, take, get_or}
+use Rattle.std.proofs.Common.{◌≡◌, ℕ, zero, suc, ap₂, drop, take-append-drop, List, [], ◌∷◌, ◌++◌, Bool, true, false, refl, ap, subst, sym, ◌∙◌, append_assoc, arith, Option, Some, None, Result, Ok, Err, OnOk, ◌+◌, ◌<◌, length, take, get_or}
 use Rattle.std.proofs.lemmas.Grind.{common_steps}
 use Rattle.std.specs.Prelude.{◌==◌, ◌&&◌, codes, nat_lt, not, slice_index_or, ◌≤◌}
-use Rattle.std.proofs.lemmas.Bool.{and_from, and_left, and_parts, eqb-false, leb-true, ltb-true, not-true}
+use Rattle.std.proofs.lemmas.Bool.{and_from, and_left, and_parts, eq-eqb, eqb-false, eqb-true, leb-true, ltb-true, not-true}
 use Rattle.json.specs.Print.{escape, escape_byte}
 use Rattle.json.proofs.Printed.Strings.{escape_byte_plain}
-use Rattle.std.proofs.lemmas.List.{append-nil, take_more}
+use Rattle.std.proofs.lemmas.List.{append-nil, drop-append-le, length-drop, take-append-le, take_more}
 use Rattle.std.proofs.lemmas.List.Folds.{list_all-append}
 use Rattle.std.specs.List.{flat_map, list_all}
 use Rattle.std.specs.Str.{IsAscii, IsUtf8, is_utf8}
@@ -15,7 +15,7 @@ use Rattle.wire_text.specs.declared.fields.Field.{Field}
 use Rattle.wire_text.specs.declared.fields.FieldForm.TheVariants.{Hidden, Text, Json}
 use Rattle.wire_text.specs.declared.members.MemberForm.{MemberForm}
 use Rattle.wire_text.specs.declared.members.MemberForm.TheVariants as member
-use Rattle.wire_text.specs.Fields.{Member, Puts, Written, all_plain, none_needs_escape, ended, fields_text, line, nothing, pair, plain, put, puts, needs_no_escape, value_text, with_member, with_name, Value, Word, Words}
+use Rattle.wire_text.specs.Fields.{Member, Puts, Written, all_plain, none_needs_escape, end_part, ended, ended_after, fields_text, line, member_form, member_part, name_part, nothing_after, pair, plain, put, puts, needs_no_escape, shown_after, value_text, with_end, with_member, Value, Word, Words}
 use Rattle.wire_text.specs.FieldTables.{members_in, members_of}
 
 pub is_false : (test : Bool) → (test ≡ true → ⊥) → test ≡ false
@@ -25,39 +25,39 @@ is_false false never = refl
 pub is_utf8-false : (text : List ℕ) → (IsUtf8 text → ⊥) → is_utf8 text ≡ false
 is_utf8-false text never = is_false (is_utf8 text) (λ is. never (IsUtf8-from_is_utf8 text is))
 
-puts-hidden : (text : List ℕ) (members : List Member)
-    → puts (record { form = Hidden; text = text }) members
-    ≡ record { form = Hidden; text = text }
+puts-hidden : (before text : List ℕ) (members : List Member)
+    → puts (record { form = Hidden; before = before; text = text }) members
+    ≡ record { form = Hidden; before = before; text = text }
 unfolding put
-puts-hidden text [] = refl
-puts-hidden text (member ∷ members) = puts-hidden text members
+puts-hidden before text [] = refl
+puts-hidden before text (member ∷ members) = puts-hidden before text members
 
-puts-lines : (text : List ℕ) (members : List Member)
-    → puts (record { form = Text; text = text }) members
-    ≡ record { form = Text; text = text ++ flat_map line members }
+puts-lines : (before text : List ℕ) (members : List Member)
+    → puts (record { form = Text; before = before; text = text }) members
+    ≡ record { form = Text; before = before; text = text ++ flat_map line members }
 unfolding put
-puts-lines text [] = rw append-nil refl
-puts-lines text (member ∷ members) = puts-lines (text ++ line member) members ∙ simp append_assoc
+puts-lines before text [] = rw append-nil refl
+puts-lines before text (member ∷ members) = puts-lines before (text ++ line member) members ∙ simp append_assoc
 
-puts-pairs : (byte : ℕ) (text : List ℕ) (members : List Member)
-    → puts (record { form = Json; text = byte ∷ text }) members
-    ≡ record { form = Json; text = (byte ∷ text) ++ flat_map (λ member. 44 ∷ pair member) members }
+puts-pairs : (byte : ℕ) (before text : List ℕ) (members : List Member)
+    → puts (record { form = Json; before = before; text = byte ∷ text }) members
+    ≡ record { form = Json; before = before; text = (byte ∷ text) ++ flat_map (λ member. 44 ∷ pair member) members }
 unfolding put
-puts-pairs byte text [] = rw append-nil refl
-puts-pairs byte text (member ∷ members) =
-    puts-pairs byte (text ++ 44 ∷ pair member) members
-    ∙ ap (λ (all : List ℕ). record { form = Json; text = byte ∷ all })
+puts-pairs byte before text [] = rw append-nil refl
+puts-pairs byte before text (member ∷ members) =
+    puts-pairs byte before (text ++ 44 ∷ pair member) members
+    ∙ ap (λ (all : List ℕ). record { form = Json; before = before; text = byte ∷ all })
     (append_assoc text (44 ∷ pair member) (flat_map (λ member. 44 ∷ pair member) members))
 
--- the fields that were put and ended are their text
-pub fields_text-is : (form : FieldForm) (members : List Member)
-    → ended (puts (nothing form) members)
-    ≡ record { form = form; text = fields_text form members }
+-- the fields that were put after a text and ended are their text
+pub fields_text-is : (form : FieldForm) (before : List ℕ) (members : List Member)
+    → ended (puts (nothing_after form before) members)
+    ≡ record { form = form; before = before; text = fields_text form members }
 unfolding put ended
-fields_text-is Hidden members = rw (puts-hidden [] members) refl
-fields_text-is Text members = rw (puts-lines [] members) refl
-fields_text-is Json [] = refl
-fields_text-is Json (first ∷ others) = rw (puts-pairs 44 _ others) (simp append_assoc)
+fields_text-is Hidden before members = rw (puts-hidden before [] members) refl
+fields_text-is Text before members = rw (puts-lines before [] members) refl
+fields_text-is Json before [] = refl
+fields_text-is Json before (first ∷ others) = rw (puts-pairs 44 before _ others) (simp append_assoc)
 
 pub puts_append : (written : Written) (front back : List Member)
     → puts written (front ++ back) ≡ puts (puts written front) back
@@ -177,20 +177,115 @@ two_between front back (one ∷ two ∷ three ∷ more) front_is back_is name_is
 plain_words : (form : MemberForm) (words : List ℕ) → all_plain words ≡ true → value_text form (Words words) ≡ value_text form (Word words)
 plain_words form words is = rw (is_utf8-from_IsUtf8 words (plain_utf8 words is), escape-none_needs_escape words (plain_stand words is)) refl
 
-with_value : (form : MemberForm) (text name : List ℕ) (one other : Value) → value_text form one ≡ value_text form other
-    → with_member form text (name, one) ≡ with_member form text (name, other)
-with_value member.Text text name one other same = ap (λ (z : List ℕ). text ++ (codes "\n  " ++ name ++ codes " " ++ z)) same
-with_value member.Json [] name one other same = ap (λ (z : List ℕ). codes ",\"fields\":{" ++ (codes "\"" ++ name ++ codes "\":" ++ z)) same
-with_value member.Json (byte ∷ text) name one other same = ap (λ (z : List ℕ). (byte ∷ text) ++ (codes "," ++ (codes "\"" ++ name ++ codes "\":" ++ z))) same
+with_value : (form : MemberForm) (first : Bool) (name : List ℕ) (one other : Value) → value_text form one ≡ value_text form other
+    → member_part form first (name, one) ≡ member_part form first (name, other)
+with_value member.Text first name one other same = ap (λ (z : List ℕ). codes "\n  " ++ name ++ codes " " ++ z) same
+with_value member.Json true name one other same = ap (λ (z : List ℕ). codes ",\"fields\":{" ++ (codes "\"" ++ name ++ codes "\":" ++ z)) same
+with_value member.Json false name one other same = ap (λ (z : List ℕ). codes "," ++ (codes "\"" ++ name ++ codes "\":" ++ z)) same
 
 -- plain letters are a text as they are
-pub plain_member : (form : MemberForm) (text name words : List ℕ) → all_plain words ≡ true
-    → with_member form text (name, Words words) ≡ with_member form text (name, Word words)
-plain_member form text name words is = with_value form text name (Words words) (Word words) (plain_words form words is)
+pub plain_member : (form : MemberForm) (first : Bool) (name words : List ℕ) → all_plain words ≡ true
+    → member_part form first (name, Words words) ≡ member_part form first (name, Word words)
+plain_member form first name words is = with_value form first name (Words words) (Word words) (plain_words form words is)
 
 -- a name, and the value after it
-pub member_named : (form : MemberForm) (text name : List ℕ) (value : Value)
-    → with_member form text (name, value) ≡ with_name form text name ++ value_text form value
-member_named member.Text text name value = simp append_assoc
-member_named member.Json [] name value = simp append_assoc
-member_named member.Json (byte ∷ text) name value = simp append_assoc
+pub member_named : (form : MemberForm) (first : Bool) (name : List ℕ) (value : Value)
+    → member_part form first (name, value) ≡ name_part form first name ++ value_text form value
+member_named member.Text first name value = simp append_assoc
+member_named member.Json true name value = simp append_assoc
+member_named member.Json false name value = simp append_assoc
+
+-- the first name of an object, and the quote after it
+pub first_front : (form : MemberForm) (first : Bool) (name : List ℕ) → form ≡ member.Json → first ≡ true
+    → codes ",\"fields\":{\"" ++ name ++ codes "\":\"" ≡ name_part form first name ++ codes "\""
+first_front form first name form_is first_is =
+    ap (λ (z : List ℕ). codes ",\"fields\":{\"" ++ z) (sym (append_assoc name (codes "\":") (codes "\"")))
+    ∙ ap₂ (λ (f : MemberForm) (b : Bool). name_part f b name ++ codes "\"") (sym form_is) (sym first_is)
+
+-- two parts, one after the other
+pub joined : {T E : Type 0} (result : Result T E) (old middle new front back whole : List ℕ) → middle ≡ old ++ front → OnOk result (new ≡ middle ++ back)
+    → whole ≡ front ++ back → OnOk result (new ≡ old ++ whole)
+joined (Ok _) old middle new front back whole middle_is new_is whole_is =
+    new_is ∙ ap (λ (z : List ℕ). z ++ back) middle_is ∙ append_assoc old front back ∙ ap (λ (z : List ℕ). old ++ z) (sym whole_is)
+joined (Err _) old middle new front back whole middle_is new_is whole_is = tt
+
+-- ---- after a text
+
+-- fields that begin at this place of a text
+abbrev pub from_place : FieldForm → ℕ → List ℕ → Written
+from_place form begin all = record { form = form; before = take begin all; text = drop begin all }
+
+abbrev is_none : List ℕ → Bool
+is_none [] = true
+is_none (byte ∷ text) = false
+
+part_of : (form : MemberForm) (text : List ℕ) (one : Member) → text ++ member_part form (is_none text) one ≡ with_member form text one
+part_of member.Text text one = refl
+part_of member.Json [] one = refl
+part_of member.Json (byte ∷ text) one = refl
+
+end_of : (form : MemberForm) (text : List ℕ) → text ++ end_part form (is_none text) ≡ with_end form text
+end_of member.Text text = append-nil text
+end_of member.Json [] = refl
+end_of member.Json (byte ∷ text) = refl
+
+none_if : (text : List ℕ) (all begin : ℕ) → all ≡ length text + begin → (all == begin) ≡ is_none text
+none_if [] all begin is = eq-eqb all begin (omega (arith, is))
+none_if (byte ∷ text) all begin is = is_false (all == begin) (λ same. omega (arith, is, eqb-true all begin same))
+
+-- none stand there yet where the text ends where they begin
+none_there : (begin : ℕ) (all : List ℕ) → begin ≤ length all → (length all == begin) ≡ is_none (drop begin all)
+none_there begin all within = none_if (drop begin all) (length all) begin (omega (arith, within, length-drop begin all))
+
+grown : (form : FieldForm) (begin : ℕ) (all more new text : List ℕ) → begin ≤ length all → new ≡ all ++ more → drop begin all ++ more ≡ text
+    → from_place form begin new ≡ record { form = form; before = take begin all; text = text }
+grown form begin all more new text within new_is text_is =
+    ap (from_place form begin) new_is
+    ∙ ap₂ (λ (a b : List ℕ). record { form = form; before = a; text = b }) (take-append-le begin all more within) (drop-append-le begin all more within ∙ text_is)
+
+-- one field more
+pub put_after : (form : FieldForm) (shown : MemberForm) (begin : ℕ) (all new : List ℕ) (one : Member) (first : Bool) → member_form form ≡ Some shown → begin ≤ length all
+    → first ≡ (length all == begin) → new ≡ all ++ member_part shown first one → Puts (one ∷ []) (from_place form begin all) (from_place form begin new)
+unfolding put
+put_after form shown begin all new one first form_is within first_is new_is =
+    let test = first_is ∙ none_there begin all within in
+    record {
+      are = grown form begin all (member_part shown first one) new _ within new_is
+          (ap (λ (t : Bool). drop begin all ++ member_part shown t one) test ∙ part_of shown (drop begin all) one ∙ sym (ap (λ (f : Option MemberForm). shown_after f (drop begin all) one) form_is));
+    }
+
+-- and their end
+pub end_after : (form : FieldForm) (shown : MemberForm) (begin : ℕ) (all new : List ℕ) (none : Bool) → member_form form ≡ Some shown → begin ≤ length all
+    → none ≡ (length all == begin) → new ≡ all ++ end_part shown none → from_place form begin new ≡ ended (from_place form begin all)
+unfolding ended
+end_after form shown begin all new none form_is within none_is new_is =
+    let test = none_is ∙ none_there begin all within in
+    grown form begin all (end_part shown none) new _ within new_is
+    (ap (λ (t : Bool). drop begin all ++ end_part shown t) test ∙ end_of shown (drop begin all) ∙ sym (ap (λ (f : Option MemberForm). ended_after f (drop begin all)) form_is))
+
+-- where none are shown
+pub put_hidden : (form : FieldForm) (written : Written) (one : Member) → written.form ≡ form → member_form form ≡ None → Puts (one ∷ []) written written
+unfolding put
+put_hidden form written one is hidden = record {
+  are = sym (ap (λ (f : Option MemberForm). record { form = written.form; before = written.before; text = shown_after f written.text one }) (ap member_form is ∙ hidden));
+}
+
+pub end_hidden : (form : FieldForm) (written : Written) → written.form ≡ form → member_form form ≡ None → written ≡ ended written
+unfolding ended
+end_hidden form written is hidden = sym (ap (λ (f : Option MemberForm). record { form = written.form; before = written.before; text = ended_after f written.text }) (ap member_form is ∙ hidden))
+
+-- a call that appended one
+pub put_pushed : {T E : Type 0} (result : Result T E) (form : FieldForm) (shown : MemberForm) (begin len : ℕ) (all new : List ℕ) (old : Written) (one : Member)
+    → old ≡ from_place form begin all → member_form form ≡ Some shown → begin ≤ length all → len ≡ length all → OnOk result (new ≡ all ++ member_part shown (len == begin) one)
+    → OnOk result (Puts (one ∷ []) old (from_place form begin new))
+put_pushed (Ok _) form shown begin len all new old one old_is form_is within long new_is =
+    subst (λ (w : Written). Puts (one ∷ []) w (from_place form begin new)) (sym old_is)
+    (put_after form shown begin all new one (len == begin) form_is within (ap (λ (n : ℕ). n == begin) long) new_is)
+put_pushed (Err _) form shown begin len all new old one old_is form_is within long new_is = tt
+
+pub end_pushed : {T E : Type 0} (result : Result T E) (form : FieldForm) (shown : MemberForm) (begin len : ℕ) (all new : List ℕ) (old : Written)
+    → old ≡ from_place form begin all → member_form form ≡ Some shown → begin ≤ length all → len ≡ length all → OnOk result (new ≡ all ++ end_part shown (len == begin))
+    → OnOk result (from_place form begin new ≡ ended old)
+end_pushed (Ok _) form shown begin len all new old old_is form_is within long new_is =
+    end_after form shown begin all new (len == begin) form_is within (ap (λ (n : ℕ). n == begin) long) new_is ∙ ap ended (sym old_is)
+end_pushed (Err _) form shown begin len all new old old_is form_is within long new_is = tt

@@ -1,7 +1,7 @@
 -- The text of fields.
 use Rattle.std.specs.Fmt.{decimal, digits}
 use Rattle.std.specs.List.{flat_map, list_all}
-use Rattle.std.specs.Prelude.{◌≡◌, ◌==◌, ◌&&◌, ℕ, nat_le, nat_lt, Bool, false, not, List, [], ◌∷◌, ◌++◌, Option, Some, None, codes, if◌then◌else◌}
+use Rattle.std.specs.Prelude.{◌≡◌, ◌==◌, ◌&&◌, ℕ, nat_le, nat_lt, Bool, true, false, not, List, [], ◌∷◌, ◌++◌, Option, Some, None, codes, if◌then◌else◌}
 use Rattle.std.specs.Str.{is_utf8}
 use Rattle.hex.specs.Hex.{encode_lower}
 use Rattle.json.specs.Print.{escape_letter, quoted}
@@ -92,9 +92,10 @@ fields_text Json (first ∷ others) =
 
 -- ---- as they are put, one after another
 
--- how they are shown, and the text so far
+-- how they are shown, the text before them, and theirs so far
 pub record Written : Type 0 where
   pub form : FieldForm
+  pub before : List ℕ
   pub text : List ℕ
 
 -- one more after this text
@@ -103,11 +104,17 @@ with_member member.Text text one = text ++ line one
 with_member member.Json [] one = codes ",\"fields\":{" ++ pair one
 with_member member.Json (byte ∷ text) one = (byte ∷ text) ++ (codes "," ++ pair one)
 
--- a name after this text, and what stands between it and its value
-abbrev pub with_name : MemberForm → List ℕ → List ℕ → List ℕ
-with_name member.Text text name = text ++ codes "\n  " ++ name ++ codes " "
-with_name member.Json [] name = codes ",\"fields\":{\"" ++ name ++ codes "\":"
-with_name member.Json (byte ∷ text) name = (byte ∷ text) ++ codes ",\"" ++ name ++ codes "\":"
+-- what is appended for one, the first of them or another
+abbrev pub member_part : MemberForm → Bool → Member → List ℕ
+member_part member.Text first one = line one
+member_part member.Json true one = codes ",\"fields\":{" ++ pair one
+member_part member.Json false one = codes "," ++ pair one
+
+-- its name, and what stands between that and its value
+abbrev pub name_part : MemberForm → Bool → List ℕ → List ℕ
+name_part member.Text first name = codes "\n  " ++ name ++ codes " "
+name_part member.Json true name = codes ",\"fields\":{\"" ++ name ++ codes "\":"
+name_part member.Json false name = codes ",\"" ++ name ++ codes "\":"
 
 -- how members are shown, where they are
 abbrev pub member_form : FieldForm → Option MemberForm
@@ -121,8 +128,11 @@ shown_after None text one = text
 shown_after (Some form) text one = with_member form text one
 
 unfoldable pub put : Written → Member → Written
-put written one =
-    record { form = written.form; text = shown_after (member_form written.form) written.text one }
+put written one = record {
+  form = written.form;
+  before = written.before;
+  text = shown_after (member_form written.form) written.text one;
+}
 
 abbrev pub puts : Written → List Member → Written
 puts written [] = written
@@ -137,17 +147,30 @@ with_end member.Text text = text
 with_end member.Json [] = []
 with_end member.Json (byte ∷ text) = (byte ∷ text) ++ codes "}"
 
+-- what is appended after them, where there are none or some
+abbrev pub end_part : MemberForm → Bool → List ℕ
+end_part member.Text none = []
+end_part member.Json true = []
+end_part member.Json false = codes "}"
+
 abbrev pub ended_after : Option MemberForm → List ℕ → List ℕ
 ended_after None text = text
 ended_after (Some form) text = with_end form text
 
 unfoldable pub ended : Written → Written
-ended written =
-    record { form = written.form; text = ended_after (member_form written.form) written.text }
+ended written = record {
+  form = written.form;
+  before = written.before;
+  text = ended_after (member_form written.form) written.text;
+}
+
+-- nothing was put after this text
+abbrev pub nothing_after : FieldForm → List ℕ → Written
+nothing_after form before = record { form = form; before = before; text = [] }
 
 -- nothing was put
 abbrev pub nothing : FieldForm → Written
-nothing form = record { form = form; text = [] }
+nothing form = nothing_after form []
 
 abbrev pub value_of : FieldValue → Value
 value_of given.Null = Null

@@ -1,9 +1,9 @@
 //! The fields of a packet, as text or as members of a JSON object.
 
-ghost use Rattle.std.specs.Prelude.{◌≡◌, ◌∷◌, [], OnOk};
+ghost use Rattle.std.specs.Prelude.{◌≡◌, ◌∷◌, ◌++◌, [], OnOk, string_bytes};
 ghost use Rattle.std.specs.Fmt.{decimal};
 ghost use Rattle.wire_text.specs.FieldTables.{members_in, members_of};
-ghost use Rattle.wire_text.specs.Fields.{Puts, ended, member_form, nothing, value_of};
+ghost use Rattle.wire_text.specs.Fields.{Puts, Words, ended, member_form, nothing, nothing_after, value_of};
 
 pub use crate::members::FieldValue;
 use crate::members::{MemberForm, push_closing, push_member, push_text_at};
@@ -46,20 +46,30 @@ pub enum Field<'a> {
     Bytes(&'a str, &'a [u8]),
 }
 
-/// The fields of one packet.
+/// The fields of one packet, alone or after a text.
 #[derive(Drop)]
 pub struct Fields<A: Allocator + Copy = Global> {
     form: FieldForm,
+    // How many bytes stand before the fields.
+    begin: usize,
     text: String<A>,
 }
 
 impl<A: Allocator + Copy> Model for Fields<A> {
-    ghost use Rattle.std.specs.Prelude.{string_bytes};
+    ghost use Rattle.std.specs.Prelude.{◌≤◌, drop, length, string_bytes, take};
+    ghost use Rattle.std.specs.Str.{IsUtf8};
     ghost use Rattle.wire_text.specs.Fields.{Written};
 
     ghost Value = { Written };
 
-    ghost view = { λ fields. record { form = fields.form; text = string_bytes fields.text } };
+    ghost view = { λ fields. record {
+      form = fields.form;
+      before = take fields.begin (string_bytes fields.text);
+      text = drop fields.begin (string_bytes fields.text);
+    } };
+
+    ghost invariant = { λ fields. (fields.begin ≤ length (string_bytes fields.text))
+        × IsUtf8 (take fields.begin (string_bytes fields.text)) };
 }
 
 impl<A: Allocator + Copy> Fields<A> {
@@ -71,8 +81,27 @@ impl<A: Allocator + Copy> Fields<A> {
     {
         Fields {
             form: FieldForm::Hidden,
+            begin: 0,
             text: String::new(alloc),
         }
+    }
+
+    /// No fields, which stand after this text.
+    pub fn after(form: FieldForm, text: String<A>) -> Self
+        ensures { result ≡ nothing_after form (string_bytes text) }
+    {
+        Fields {
+            form,
+            begin: text.len(),
+            text,
+        }
+    }
+
+    /// The text before the fields, and theirs.
+    pub fn into_text(self) -> String<A>
+        ensures { string_bytes result ≡ self.before ++ self.text }
+    {
+        self.text
     }
 
     /// The allocator of the text.
@@ -84,27 +113,32 @@ impl<A: Allocator + Copy> Fields<A> {
     pub fn text(&self) -> &str
         ensures { result.now ≡ self.now.text }
     {
-        self.text.as_str()
+        &self.text.as_str()[self.begin..]
     }
 
-    /// Begins the fields of another packet.
+    /// Begins the fields of another packet, after no text.
     pub fn begin(&mut self, form: FieldForm)
         ensures { self.new ≡ nothing form }
     {
         self.form = form;
+        self.begin = 0;
         self.text.clear();
     }
 
     /// Puts a field.
     #[inline(always)]
-    #[tactic(auto, unfolding(crate::specs::Fields::put))]
     pub fn put(&mut self, name: &str, value: FieldValue<'_>) -> Result<(), AllocError>
         ensures { OnOk result (Puts ((name.now, value_of value.entry) ∷ []) self.old self.new) }
     {
-        match self.form.members() {
-            Some(form) => push_member(&mut self.text, form, name, value),
-            None => Ok(()),
+        let Some(form) = self.form.members() else {
+            return Ok(());
+        };
+        let is_first = self.text.len() == self.begin;
+        let pushed = push_member(&mut self.text, form, is_first, name, value);
+        if pushed.is_err() {
+            self.begin = 0;
         }
+        pushed
     }
 
     // Puts a field, where there is one.
@@ -130,31 +164,47 @@ impl<A: Allocator + Copy> Fields<A> {
         Ok(())
     }
 
-    /// Puts a value that has no name but its place, counted from 0.
+    // Puts a text that has no name but its place.
     #[inline(always)]
-    #[tactic(auto, unfolding(crate::specs::Fields::put))]
-    pub fn put_at(&mut self, place: u64, value: FieldValue<'_>) -> Result<(), AllocError>
-        ensures { OnOk result (Puts ((decimal place, value_of value.entry) ∷ [])
-            self.old self.new) }
+    fn put_text_at(&mut self, place: u64, bytes: &[u8]) -> Result<(), AllocError>
+        ensures { OnOk result (Puts ((decimal place, Words bytes.now) ∷ []) self.old self.new) }
     {
         let Some(form) = self.form.members() else {
             return Ok(());
         };
+        let is_first = self.text.len() == self.begin;
+        let pushed = push_text_at(&mut self.text, form, is_first, place, bytes);
+        if pushed.is_err() {
+            self.begin = 0;
+        }
+        pushed
+    }
+
+    /// Puts a value that has no name but its place, counted from 0.
+    #[inline(always)]
+    pub fn put_at(&mut self, place: u64, value: FieldValue<'_>) -> Result<(), AllocError>
+        ensures { OnOk result (Puts ((decimal place, value_of value.entry) ∷ [])
+            self.old self.new) }
+    {
         if let FieldValue::Text(bytes) = value {
-            return push_text_at(&mut self.text, form, place, bytes);
+            return self.put_text_at(place, bytes);
         }
         let mut digits = itoa::Buffer::new();
         self.put(digits.format(place), value)
     }
 
     /// Ends the fields of the packet.
-    #[tactic(auto, unfolding(crate::specs::Fields::ended))]
     pub fn end(&mut self) -> Result<(), AllocError>
         ensures { OnOk result (self.new ≡ ended self.old) }
     {
-        match self.form.members() {
-            Some(form) => push_closing(&mut self.text, form),
-            None => Ok(()),
+        let Some(form) = self.form.members() else {
+            return Ok(());
+        };
+        let is_none = self.text.len() == self.begin;
+        let pushed = push_closing(&mut self.text, form, is_none);
+        if pushed.is_err() {
+            self.begin = 0;
         }
+        pushed
     }
 }

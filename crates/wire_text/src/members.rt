@@ -2,7 +2,7 @@
 
 ghost use Rattle.std.specs.Prelude.{◌≡◌, ◌++◌, codes, OnOk, string_bytes};
 ghost use Rattle.std.specs.Fmt.{decimal};
-ghost use Rattle.wire_text.specs.Fields.{flags_text, octets_text, value_of, value_text, with_end, with_member, with_name, words_text, Word, Words};
+ghost use Rattle.wire_text.specs.Fields.{end_part, flags_text, member_part, name_part, octets_text, value_of, value_text, words_text, Word, Words};
 
 use crate::digits::push_digits_to;
 use crate::plain::is_plain;
@@ -144,27 +144,42 @@ fn push_pair_front<A: Allocator>(text: &mut String<A>, name: &str) -> Result<(),
     }
 }
 
+// The name of a field, and the quote after it.
+#[inline(always)]
+fn push_plain_front<A: Allocator>(
+    text: &mut String<A>,
+    form: MemberForm,
+    is_first: bool,
+    name: &str,
+) -> Result<(), AllocError>
+    ensures { OnOk result (string_bytes text.new
+        ≡ string_bytes text.old ++ (name_part form is_first name.now ++ codes "\"")) }
+{
+    match form {
+        MemberForm::Text => push_line_front(text, name),
+        MemberForm::Json => {
+            if is_first {
+                push_between(text, ",\"fields\":{\"", name, "\":\"")
+            } else {
+                push_pair_front(text, name)
+            }
+        }
+    }
+}
+
 // A field of plain letters.
 #[inline(always)]
 fn push_plain<A: Allocator>(
     text: &mut String<A>,
     form: MemberForm,
+    is_first: bool,
     name: &str,
     words: &str,
 ) -> Result<(), AllocError>
     ensures { OnOk result (string_bytes text.new
-        ≡ with_member form (string_bytes text.old) (name.now, Word words.now)) }
+        ≡ string_bytes text.old ++ member_part form is_first (name.now, Word words.now)) }
 {
-    match form {
-        MemberForm::Text => push_line_front(text, name)?,
-        MemberForm::Json => {
-            if text.is_empty() {
-                push_between(text, ",\"fields\":{\"", name, "\":\"")?;
-            } else {
-                push_pair_front(text, name)?;
-            }
-        }
-    }
+    push_plain_front(text, form, is_first, name)?;
     text.push_str(words)?;
     text.push_str("\"")
 }
@@ -173,18 +188,16 @@ fn push_plain<A: Allocator>(
 fn push_name<A: Allocator>(
     text: &mut String<A>,
     form: MemberForm,
+    is_first: bool,
     name: &str,
 ) -> Result<(), AllocError>
-    ensures { OnOk result (string_bytes text.new ≡ with_name form (string_bytes text.old) name.now) }
+    ensures { OnOk result (string_bytes text.new
+        ≡ string_bytes text.old ++ name_part form is_first name.now) }
 {
     match form {
         MemberForm::Text => push_between(text, "\n  ", name, " "),
         MemberForm::Json => {
-            let before = if text.is_empty() {
-                ",\"fields\":{\""
-            } else {
-                ",\""
-            };
+            let before = if is_first { ",\"fields\":{\"" } else { ",\"" };
             push_between(text, before, name, "\":")
         }
     }
@@ -195,13 +208,14 @@ fn push_name<A: Allocator>(
 fn push_other_text<A: Allocator + Copy>(
     text: &mut String<A>,
     form: MemberForm,
+    is_first: bool,
     name: &str,
     bytes: &[u8],
 ) -> Result<(), AllocError>
     ensures { OnOk result (string_bytes text.new
-        ≡ with_member form (string_bytes text.old) (name.now, Words bytes.now)) }
+        ≡ string_bytes text.old ++ member_part form is_first (name.now, Words bytes.now)) }
 {
-    push_name(text, form, name)?;
+    push_name(text, form, is_first, name)?;
     push_words(text, form, bytes)
 }
 
@@ -210,33 +224,35 @@ fn push_other_text<A: Allocator + Copy>(
 pub(crate) fn push_text_at<A: Allocator + Copy>(
     text: &mut String<A>,
     form: MemberForm,
+    is_first: bool,
     place: u64,
     bytes: &[u8],
 ) -> Result<(), AllocError>
     ensures { OnOk result (string_bytes text.new
-        ≡ with_member form (string_bytes text.old) (decimal place, Words bytes.now)) }
+        ≡ string_bytes text.old ++ member_part form is_first (decimal place, Words bytes.now)) }
 {
     let mut digits = itoa::Buffer::new();
     let name = digits.format(place);
     if is_plain(bytes) {
         // What is of ASCII is UTF-8.
         let words = unsafe { std::str::from_utf8_unchecked(bytes) };
-        push_plain(text, form, name, words)
+        push_plain(text, form, is_first, name, words)
     } else {
-        push_other_text(text, form, name, bytes)
+        push_other_text(text, form, is_first, name, bytes)
     }
 }
 
 pub(crate) fn push_member<A: Allocator + Copy>(
     text: &mut String<A>,
     form: MemberForm,
+    is_first: bool,
     name: &str,
     value: FieldValue<'_>,
 ) -> Result<(), AllocError>
     ensures { OnOk result (string_bytes text.new
-        ≡ with_member form (string_bytes text.old) (name.now, value_of value.entry)) }
+        ≡ string_bytes text.old ++ member_part form is_first (name.now, value_of value.entry)) }
 {
-    push_name(text, form, name)?;
+    push_name(text, form, is_first, name)?;
     push_value(text, form, value)
 }
 
@@ -244,11 +260,12 @@ pub(crate) fn push_member<A: Allocator + Copy>(
 pub(crate) fn push_closing<A: Allocator>(
     text: &mut String<A>,
     form: MemberForm,
+    is_none: bool,
 ) -> Result<(), AllocError>
-    ensures { OnOk result (string_bytes text.new ≡ with_end form (string_bytes text.old)) }
+    ensures { OnOk result (string_bytes text.new ≡ string_bytes text.old ++ end_part form is_none) }
 {
     match form {
-        MemberForm::Json if !text.is_empty() => text.push_str("}"),
+        MemberForm::Json if !is_none => text.push_str("}"),
         _ => Ok(()),
     }
 }

@@ -1,6 +1,5 @@
-use Rattle.wire_text.proofs.FieldLemmas.{member_named}
+use Rattle.wire_text.proofs.FieldLemmas.{joined, member_named}
 use Rattle.wire_text.proofs.members.push_member.Goals as goal
 
 pub returns : goal.returns
-returns g c =
-    rw (member_named c.args.form _ c.args.name.now _, ← c.in_ok-push_name.ensures) c.push_value.ensures
+returns g c = joined c.push_value.result _ _ _ _ _ _ c.in_ok-push_name.ensures c.push_value.ensures (member_named c.args.form c.args.is_first c.args.name.now _)

@@ -8,4 +8,4 @@ from_utf8_unchecked-words-requires g c =
 
 pub returns-then-is_plain : goal.returns-then-is_plain
 returns-then-is_plain g c =
-    rw (← c.format-name.ensures.text, plain_member c.args.form _ c.format-name.result.now c.args.bytes.now (sym c.is_plain.ensures ∙ c.if-is_plain.true), ← c.from_utf8_unchecked-words.ensures) c.push_plain.ensures
+    rw (← c.format-name.ensures.text, plain_member c.args.form c.args.is_first c.format-name.result.now c.args.bytes.now (sym c.is_plain.ensures ∙ c.if-is_plain.true), ← c.from_utf8_unchecked-words.ensures) c.push_plain.ensures
