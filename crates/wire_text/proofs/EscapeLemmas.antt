@@ -3,8 +3,8 @@ use Rattle.std.proofs.Common.{◌≡◌, ℕ, zero, suc, ◌+◌, ◌*◌, ◌/�
 use Rattle.std.proofs.lemmas.Bool.{and_parts, eqb-true}
 use Rattle.std.proofs.lemmas.Bool.Decides.{leb_tells}
 use Rattle.std.proofs.lemmas.Grind.{flat_map-append}
-use Rattle.std.proofs.lemmas.List.{drop_all, length-append, length-drop, length-take, take_more, take-append-le, take_all}
-use Rattle.std.specs.Prelude.{◌&&◌, slice_index_or, slice_set}
+use Rattle.std.proofs.lemmas.List.{drop_all, length-append, length-take, take_more, take-append-le, take_all}
+use Rattle.std.specs.Prelude.{◌&&◌, slice_index_or}
 use Rattle.json.specs.Print.{escape, escape_byte, quoted}
 use Rattle.wire_text.specs.Fields.{escape_mark}
 use Rattle.wire_text.proofs.FieldLemmas.{is_false}
@@ -89,13 +89,12 @@ hex_letter byte letter below is same =
 
 -- ---- in a room
 
--- so much of the room is filled
-abbrev pub FilledTo : List ℕ → ℕ → ℕ → List ℕ → Type 0
-FilledTo words place at room = (length room ≡ 400) × (1 ≤ at) × (at ≤ 1 + 6 * place) × (take at room ≡ 34 ∷ escape (take place words))
+-- so much of the room is filled, after what stood there
+abbrev pub FilledTo : List ℕ → ℕ → List ℕ → ℕ → ℕ → List ℕ → Type 0
+FilledTo front begin words place at room = (length room ≡ 400) × (at ≤ begin + 6 * place) × (take at room ≡ front ++ escape (take place words))
 
-pub filled_begins : (words room : List ℕ) → length room ≡ 400 → FilledTo words 0 1 (slice_set room 0 34)
-filled_begins words [] long = absurd (omega (arith, long))
-filled_begins words (byte ∷ room) long = (long, omega arith, omega arith, refl)
+pub filled_begins : (front words room : List ℕ) (begin : ℕ) → length room ≡ 400 → front ≡ take begin room → FilledTo front begin words 0 begin room
+filled_begins front words room begin long front_is = (long, omega arith, sym front_is ∙ sym (append-nil front))
 
 block_in : (at len : ℕ) (room block : List ℕ) → at + 8 ≤ length room → length block ≡ 8 → len ≤ 8
     → take (at + len) (take at room ++ (block ++ drop (at + 8) room)) ≡ take at room ++ take len block
@@ -114,17 +113,22 @@ escape_more place words inside =
     ap escape (take_more words place 0 inside) ∙ flat_map-append escape_byte (take place words) (get_or words place 0 ∷ [])
     ∙ ap (λ (z : List ℕ). escape (take place words) ++ z) (append-nil (escape_byte (get_or words place 0)))
 
+-- a block of a few bytes in the room
+pub block_put : (at len : ℕ) (room block new bytes : List ℕ) → at + 8 ≤ length room → length block ≡ 8 → len ≤ 6 → take len block ≡ bytes
+    → new ≡ take at room ++ block ++ drop (at + 8) room → take (at + len) new ≡ take at room ++ bytes
+block_put at len room block new bytes within long short is new_is =
+    ap (take (at + len)) (new_is ∙ append_assoc (take at room) block (drop (at + 8) room)) ∙ block_in at len room block within long (omega (arith, short))
+    ∙ ap (λ (z : List ℕ). take at room ++ z) is
+
 -- one byte more
-pub filled_on : (words : List ℕ) (place at len : ℕ) (room block new : List ℕ) → FilledTo words place at room → place < length words → at + 8 ≤ 400 → length block ≡ 8
-    → len ≤ 6 → take len block ≡ escape_byte (get_or words place 0) → new ≡ take at room ++ block ++ drop (at + 8) room → FilledTo words (place + 1) (at + len) new
-filled_on words place at len room block new filled inside within long short is new_is =
-    let parted : new ≡ take at room ++ (block ++ drop (at + 8) room) = new_is ∙ append_assoc (take at room) block (drop (at + 8) room) in (
-      ap length parted ∙ omega (arith, length-append (take at room) (block ++ drop (at + 8) room), length-append block (drop (at + 8) room), length-take at room, length-drop (at + 8) room, long, within, filled.0),
-      omega (arith, filled.1),
-      omega (arith, filled.2, short),
-      ap (take (at + len)) parted ∙ block_in at len room block (omega (arith, within, filled.0)) long (omega (arith, short))
-          ∙ ap₂ (λ (a b : List ℕ). a ++ b) filled.3 is ∙ ap (λ (z : List ℕ). 34 ∷ z) (sym (escape_more place words inside)),
-    )
+pub filled_on : (front words : List ℕ) (begin place at next : ℕ) (room new : List ℕ) → FilledTo front begin words place at room → place < length words → length new ≡ 400
+    → next ≤ at + 6 → take next new ≡ take at room ++ escape_byte (get_or words place 0) → FilledTo front begin words (place + 1) next new
+filled_on front words begin place at next room new filled inside long short is = (
+  long,
+  omega (arith, filled.1, short),
+  is ∙ ap (λ (z : List ℕ). z ++ escape_byte (get_or words place 0)) filled.2 ∙ append_assoc front (escape (take place words)) (escape_byte (get_or words place 0))
+      ∙ ap (λ (z : List ℕ). front ++ z) (sym (escape_more place words inside)),
+)
 
 -- ---- block by block
 

@@ -184,6 +184,32 @@ fn push_plain<A: Allocator>(
     text.push_str("\"")
 }
 
+// A name on a line of its own. One of one or two bytes goes in one append with what stands around it.
+#[inline(always)]
+fn push_line_name<A: Allocator>(text: &mut String<A>, name: &str) -> Result<(), AllocError>
+    ensures { OnOk result (string_bytes text.new
+        ≡ string_bytes text.old ++ (codes "\n  " ++ name.now ++ codes " ")) }
+{
+    match name.as_bytes() {
+        [one] => push_few(text, &[b'\n', b' ', b' ', *one, b' ']),
+        [one, two] => push_few(text, &[b'\n', b' ', b' ', *one, *two, b' ']),
+        _ => push_between(text, "\n  ", name, " "),
+    }
+}
+
+// The same after another member of an object.
+#[inline(always)]
+fn push_pair_name<A: Allocator>(text: &mut String<A>, name: &str) -> Result<(), AllocError>
+    ensures { OnOk result (string_bytes text.new
+        ≡ string_bytes text.old ++ (codes ",\"" ++ name.now ++ codes "\":")) }
+{
+    match name.as_bytes() {
+        [one] => push_few(text, &[b',', b'"', *one, b'"', b':']),
+        [one, two] => push_few(text, &[b',', b'"', *one, *two, b'"', b':']),
+        _ => push_between(text, ",\"", name, "\":"),
+    }
+}
+
 // The name of a field, with what stands around it.
 fn push_name<A: Allocator>(
     text: &mut String<A>,
@@ -195,10 +221,13 @@ fn push_name<A: Allocator>(
         ≡ string_bytes text.old ++ name_part form is_first name.now) }
 {
     match form {
-        MemberForm::Text => push_between(text, "\n  ", name, " "),
+        MemberForm::Text => push_line_name(text, name),
         MemberForm::Json => {
-            let before = if is_first { ",\"fields\":{\"" } else { ",\"" };
-            push_between(text, before, name, "\":")
+            if is_first {
+                push_between(text, ",\"fields\":{\"", name, "\":")
+            } else {
+                push_pair_name(text, name)
+            }
         }
     }
 }

@@ -1,6 +1,6 @@
 //! A text between quotes, with JSON's escapes.
 
-ghost use Rattle.std.specs.Prelude.{◌≡◌, ◌≤◌, ◌+◌, ◌∷◌, ◌++◌, length, take, drop, OnErr, OnOk, string_bytes};
+ghost use Rattle.std.specs.Prelude.{◌≡◌, ◌≤◌, ◌+◌, ◌∷◌, ◌++◌, [], length, take, drop, OnErr, OnOk, string_bytes};
 ghost use Rattle.json.specs.Print.{escape, escape_byte, quoted};
 ghost use Rattle.wire_text.specs.Fields.{escape_mark, in_quotes};
 
@@ -60,8 +60,8 @@ fn escape_of(byte: u8) -> ([u8; 8], usize)
     ([b'\\', letter, b'0', b'0', high, low, 0, 0], 6)
 }
 
-// The most bytes that are quoted at once, and the room for them: six bytes for each, the quotes, and
-// what is written after the last.
+// The most bytes that are quoted at once, and the room for them: six bytes for each, what stands
+// before the first, and what is written after the last.
 const FEW: usize = 64;
 
 const ROOM: usize = 400;
@@ -74,29 +74,43 @@ fn put_block(room: &mut [u8; 400], at: usize, block: &[u8; 8])
     room[at..at + 8].copy_from_slice(block);
 }
 
-// Quotes a few bytes at the front of the room, but for the quote after them. The answer is how many
-// bytes they take.
+// Puts what stands for a byte into the room. The answer is the place after it.
 #[inline(always)]
-fn escape_few(room: &mut [u8; 400], words: &[u8]) -> usize
-    requires { length words.now ≤ 64 }
-    ensures { (1 ≤ result) × (result ≤ 385) × (take result room.new ≡ 34 ∷ escape words.now) }
+fn put_escaped(room: &mut [u8; 400], at: usize, byte: u8) -> usize
+    requires { at + 8 ≤ 400 }
+    ensures { (result ≤ at + 6) × (take result room.new ≡ take at room.old ++ escape_byte byte) }
 {
-    room[0] = b'"';
-    let mut at = 1;
+    if escape_letter_of(byte) == 0 {
+        room[at] = byte;
+        return at + 1;
+    }
+    let (block, len) = escape_of(byte);
+    put_block(room, at, &block);
+    at + len
+}
+
+// Puts what stands for a few bytes into the room. The answer is the place after it.
+#[inline(always)]
+fn escape_few(room: &mut [u8; 400], begin: usize, words: &[u8]) -> usize
+    requires { (begin ≤ 8) × (length words.now ≤ 64) }
+    ensures { (result ≤ begin + 384)
+        × (take result room.new ≡ take begin room.old ++ escape words.now) }
+{
+    let mut at = begin;
     'bytes: for byte in words {
-        let (block, len) = escape_of(*byte);
-        put_block(room, at, &block);
-        at += len;
+        at = put_escaped(room, at, *byte);
     }
     at
 }
 
-// Quotes a few bytes at the front of the room. The answer is how many bytes they take.
-fn quote_few(room: &mut [u8; 400], words: &[u8]) -> usize
-    requires { length words.now ≤ 64 }
-    ensures { (result ≤ 400) × (take result room.new ≡ quoted words.now) }
+// The same, and a quote after it.
+#[inline(always)]
+fn quote_few(room: &mut [u8; 400], begin: usize, words: &[u8]) -> usize
+    requires { (begin ≤ 8) × (length words.now ≤ 64) }
+    ensures { (result ≤ 400)
+        × (take result room.new ≡ take begin room.old ++ (escape words.now ++ 34 ∷ [])) }
 {
-    let at = escape_few(room, words);
+    let at = escape_few(room, begin, words);
     room[at] = b'"';
     at + 1
 }
@@ -108,7 +122,8 @@ fn push_few_escaped<A: Allocator>(text: &mut String<A>, words: &str) -> Result<(
     ensures { OnOk result (string_bytes text.new ≡ string_bytes text.old ++ quoted words.now) }
 {
     let mut room = [0; ROOM];
-    let len = quote_few(&mut room, words.as_bytes());
+    room[0] = b'"';
+    let len = quote_few(&mut room, 1, words.as_bytes());
     push_few(text, &room[..len])
 }
 
@@ -122,8 +137,8 @@ fn push_block<A: Allocator>(text: &mut Vec<u8, A>, block: &[u8]) -> Result<(), A
         return text.extend_from_slice(block);
     }
     let mut room = [0; ROOM];
-    let len = escape_few(&mut room, block);
-    text.extend_from_slice(&room[1..len])
+    let len = escape_few(&mut room, 0, block);
+    text.extend_from_slice(&room[..len])
 }
 
 // A text between quotes, block by block.

@@ -1,11 +1,11 @@
-use Rattle.std.proofs.Common.{arith}
+use Rattle.std.proofs.Common.{arith, refl, take}
 use Rattle.wire_text.proofs.EscapeLemmas.{filled_begins, filled_on}
 use Rattle.wire_text.proofs.quoted.escape_few.Goals as goal
 
 pub bytes-init : goal.bytes-init
-bytes-init c = filled_begins c.args.words.now c.args.room.now c.told-room
+bytes-init c = filled_begins (take c.args.begin c.args.room.now) c.args.words.now c.args.room.now c.args.begin c.told-room refl
 
 pub bytes-preserved : goal.bytes-preserved
 bytes-preserved c =
-    filled_on c.args.words.now c.bytes.byte-index c.bytes.at c.escape_of-len.result.1 c.bytes.room c.escape_of-len.result.0 c.put_block.new.room c.bytes.invariant
-    c.bytes-test.true (omega (arith, c.bytes.invariant.2, c.bytes-test.true, c.requires)) c.escape_of-len.ensures.0 c.escape_of-len.ensures.1 c.escape_of-len.ensures.2 c.put_block.ensures
+    filled_on (take c.args.begin c.args.room.now) c.args.words.now c.args.begin c.bytes.byte-index c.bytes.at c.put_escaped-at.result c.bytes.room c.put_escaped-at.new.room c.bytes.invariant
+    c.bytes-test.true (omega (arith)) c.put_escaped-at.ensures.0 c.put_escaped-at.ensures.1

@@ -1,5 +1,6 @@
+use Rattle.std.proofs.Common.{take}
 use Rattle.wire_text.proofs.EscapeLemmas.{FilledTo}
 use Rattle.wire_text.proofs.quoted.escape_few.Given as goal
 
 abbrev pub invariant-bytes : goal.invariant-bytes
-invariant-bytes l = FilledTo l.words l.byte-index l.at l.room
+invariant-bytes l = FilledTo (take l.begin l.fn.room) l.begin l.words l.byte-index l.at l.room
