@@ -1,2 +1,3 @@
 pub mod ValueLemmas
 pub mod PacketLemmas
+pub mod TemporalLemmas

@@ -1,18 +1,46 @@
 //! Dates and times as people write them.
 
-ghost use Rattle.std.specs.Prelude.{◌≡◌, ◌++◌, OnOk, string_bytes};
-ghost use Rattle.mysql_wire_dump_fields.specs.TemporalTexts.{clock_text, date_text, day_text, moment_text, span_text, time_text};
+ghost use Rattle.std.specs.Prelude.{◌≡◌, ◌++◌, OnOk, codes, string_bytes};
+ghost use Rattle.mysql_wire_dump_fields.specs.TemporalTexts.{AreLetters, clock_text, date_text, day_text, moment_text, span_text, time_text, zeros};
 
 use mysql_wire_statements::temporal::{BinaryDate, BinaryTime, Clock, Day, Span};
 use std::alloc::{AllocError, Allocator};
 
+// Appends a few letters of ASCII at once.
+#[inline(always)]
+fn push_letters<A: Allocator>(text: &mut String<A>, letters: &[u8]) -> Result<(), AllocError>
+    requires { AreLetters letters.now }
+    ensures { OnOk result (string_bytes text.new ≡ string_bytes text.old ++ letters.now) }
+{
+    text.push_str(unsafe { std::str::from_utf8_unchecked(letters) })
+}
+
+// A day of a year of five digits, or of a month or a day of three, is written as any number is.
 fn push_day<A: Allocator>(text: &mut String<A>, day: &Day) -> Result<(), AllocError>
     ensures { OnOk result (string_bytes text.new ≡ string_bytes text.old ++ day_text day.now) }
 {
-    let Day { year, month, day } = day;
-    write!(text, "{year:04}-{month:02}-{day:02}")
+    let Day { year, month, day } = *day;
+    if year >= 10000 || month >= 100 || day >= 100 {
+        return write!(text, "{year:04}-{month:02}-{day:02}");
+    }
+    push_letters(
+        text,
+        &[
+            b'0' + (year / 1000) as u8,
+            b'0' + (year / 100 % 10) as u8,
+            b'0' + (year / 10 % 10) as u8,
+            b'0' + (year % 10) as u8,
+            b'-',
+            b'0' + month / 10,
+            b'0' + month % 10,
+            b'-',
+            b'0' + day / 10,
+            b'0' + day % 10,
+        ],
+    )
 }
 
+// The same of a time.
 fn push_clock<A: Allocator>(
     text: &mut String<A>,
     hours: u64,
@@ -21,8 +49,45 @@ fn push_clock<A: Allocator>(
     ensures { OnOk result (string_bytes text.new
         ≡ string_bytes text.old ++ clock_text hours clock.now) }
 {
-    let Clock { minute, second, .. } = clock;
-    write!(text, "{hours:02}:{minute:02}:{second:02}")
+    let Clock { minute, second, .. } = *clock;
+    if hours >= 100 || minute >= 100 || second >= 100 {
+        return write!(text, "{hours:02}:{minute:02}:{second:02}");
+    }
+    push_letters(
+        text,
+        &[
+            b'0' + (hours / 10) as u8,
+            b'0' + (hours % 10) as u8,
+            b':',
+            b'0' + minute / 10,
+            b'0' + minute % 10,
+            b':',
+            b'0' + second / 10,
+            b'0' + second % 10,
+        ],
+    )
+}
+
+// The same of a part of a second.
+fn push_micros<A: Allocator>(text: &mut String<A>, micros: u32) -> Result<(), AllocError>
+    ensures { OnOk result (string_bytes text.new
+        ≡ string_bytes text.old ++ (codes "." ++ zeros 6 micros)) }
+{
+    if micros >= 1_000_000 {
+        return write!(text, ".{micros:06}");
+    }
+    push_letters(
+        text,
+        &[
+            b'.',
+            b'0' + (micros / 100_000) as u8,
+            b'0' + (micros / 10_000 % 10) as u8,
+            b'0' + (micros / 1000 % 10) as u8,
+            b'0' + (micros / 100 % 10) as u8,
+            b'0' + (micros / 10 % 10) as u8,
+            b'0' + (micros % 10) as u8,
+        ],
+    )
 }
 
 fn push_moment<A: Allocator>(
@@ -48,7 +113,7 @@ pub fn push_date<A: Allocator>(text: &mut String<A>, date: &BinaryDate) -> Resul
         BinaryDate::Seconds(day, clock) => push_moment(text, day, clock),
         BinaryDate::Micros(day, clock, micros) => {
             push_moment(text, day, clock)?;
-            write!(text, ".{micros:06}")
+            push_micros(text, *micros)
         }
     }
 }
@@ -76,7 +141,7 @@ pub fn push_time<A: Allocator>(text: &mut String<A>, time: &BinaryTime) -> Resul
         BinaryTime::Seconds(span) => push_span(text, span),
         BinaryTime::Micros(span, micros) => {
             push_span(text, span)?;
-            write!(text, ".{micros:06}")
+            push_micros(text, *micros)
         }
     }
 }

@@ -44,6 +44,10 @@ abbrev pub line_end : LineForm → List ℕ
 line_end Text = codes "\n"
 line_end Json = codes "}\n"
 
+-- a packet's line as far as its fields
+abbrev pub packet_head : LineForm → Seen → List ℕ → List ℕ
+packet_head form seen payload = packet_front form seen ++ bytes_part form seen.kind payload
+
 -- a packet's line, with its fields
 abbrev pub packet_line : LineForm → Seen → List ℕ → List ℕ → List ℕ
 packet_line form seen payload fields =

@@ -2,7 +2,7 @@
 
 ghost use Rattle.std.specs.Prelude.{◌≡◌, ◌++◌, IfOk, OnOk, string_bytes};
 ghost use Rattle.std.specs.Fmt.{decimal};
-ghost use Rattle.mysql_wire_dump_lines.specs.Lines.{bytes_part, ending_line, line_end, packet_front, packet_line, refused_words, shown_bytes};
+ghost use Rattle.mysql_wire_dump_lines.specs.Lines.{bytes_part, ending_line, line_end, packet_front, packet_head, packet_line, refused_words, shown_bytes};
 ghost use Rattle.mysql_wire_dump_lines.specs.Names.{end_name};
 ghost use Rattle.mysql_wire_session_packets.specs.Names.{refusal_name};
 
@@ -145,8 +145,22 @@ fn push_front<A: Allocator + Copy>(
     }
 }
 
-// The end of a line.
-fn push_end<A: Allocator + Copy>(text: &mut String<A>, form: LineForm) -> Result<(), AllocError>
+/// Appends the line of a packet as far as its fields.
+pub fn push_head<A: Allocator + Copy>(
+    text: &mut String<A>,
+    form: LineForm,
+    seen: &Seen,
+    payload: &[u8],
+) -> Result<(), AllocError>
+    ensures { OnOk result (string_bytes text.new
+        ≡ string_bytes text.old ++ packet_head form seen.now payload.now) }
+{
+    push_front(text, form, seen)?;
+    push_bytes(text, form, seen.kind, payload)
+}
+
+/// Appends the end of a packet's line.
+pub fn push_end<A: Allocator + Copy>(text: &mut String<A>, form: LineForm) -> Result<(), AllocError>
     ensures { OnOk result (string_bytes text.new ≡ string_bytes text.old ++ line_end form) }
 {
     match form {
@@ -166,8 +180,7 @@ pub fn push_packet<A: Allocator + Copy>(
     ensures { OnOk result (string_bytes text.new
         ≡ string_bytes text.old ++ packet_line form seen.now payload.now fields.now) }
 {
-    push_front(text, form, seen)?;
-    push_bytes(text, form, seen.kind, payload)?;
+    push_head(text, form, seen, payload)?;
     text.push_str(fields)?;
     push_end(text, form)
 }

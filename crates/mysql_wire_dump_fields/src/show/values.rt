@@ -118,6 +118,9 @@ fn put_double<A: Allocator + Copy>(
     }
 }
 
+// Room for most dates and spans of time.
+const TEMPORAL_ROOM: usize = 32;
+
 // Puts a date, in quotes.
 fn put_date<A: Allocator + Copy>(
     fields: &mut Fields<A>,
@@ -127,7 +130,7 @@ fn put_date<A: Allocator + Copy>(
     ensures { OnOk result (Puts ((decimal place, Word (date_text date.now)) ∷ [])
         fields.old fields.new) }
 {
-    let mut text = String::new(fields.alloc());
+    let mut text = String::with_capacity(fields.alloc(), TEMPORAL_ROOM)?;
     push_date(&mut text, date)?;
     fields.put_at(place, FieldValue::Word(text.as_str()))
 }
@@ -141,7 +144,7 @@ fn put_time<A: Allocator + Copy>(
     ensures { OnOk result (Puts ((decimal place, Word (time_text time.now)) ∷ [])
         fields.old fields.new) }
 {
-    let mut text = String::new(fields.alloc());
+    let mut text = String::with_capacity(fields.alloc(), TEMPORAL_ROOM)?;
     push_time(&mut text, time)?;
     fields.put_at(place, FieldValue::Word(text.as_str()))
 }
