@@ -5,7 +5,6 @@ use Rattle.std.proofs.lemmas.Bool.{cases_lt, cond_above, cond_below}
 use Rattle.std.specs.Io.KnownBytes.{Appends, Consumes}
 use Rattle.std.proofs.lemmas.Grind.{flat_map-append}
 use Rattle.std.proofs.lemmas.List.Elements.{All-append, All-cons, All-nil}
-use Rattle.wire_span.specs.Spans.{span_state}
 use Rattle.mysql_wire_dump.specs.declared.dump.Dump.{Dump}
 use Rattle.mysql_wire_dump_lines.specs.declared.options.Options.{Options}
 use Rattle.mysql_wire_dump_lines.specs.declared.options.Sides.{Sides}

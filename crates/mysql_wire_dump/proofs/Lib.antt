@@ -1,3 +1,4 @@
 pub mod DumpLemmas
 pub mod ReadLemmas
 pub mod FileLemmas
+pub mod LineLemmas

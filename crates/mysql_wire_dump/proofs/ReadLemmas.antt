@@ -1,10 +1,10 @@
 -- The fields of a packet as text.
-use Rattle.std.proofs.Common.{◌≡◌, ◌∙◌, ℕ, List, [], length, refl, sym, ap, subst, inl, inr, ◌⊎◌, Result, Ok, Err}
+use Rattle.std.proofs.Common.{◌≡◌, ◌∙◌, ℕ, List, [], ◌∷◌, length, refl, sym, ap, subst, inl, inr, ◌⊎◌, Result, Ok, Err}
 use Rattle.std.specs.Prelude.{IfOk, OnOk}
 use Rattle.mysql_wire_dump.specs.Dumped.{AreFields}
-use Rattle.mysql_wire_dump.specs.Dumping.{NamesOne, PassesOver, Tells, TellsRow}
+use Rattle.mysql_wire_dump.specs.Dumping.{NamesOne, PassesOver, ShowsFields, Tells, TellsRow}
 use Rattle.mysql_wire_dump_fields.specs.Packets.{PutsPacket, PutsRowFields}
-use Rattle.mysql_wire_session.specs.Readings.{ReadsAs, Receives, RowReads, advanced, after_kind, after_packet, kind_of, passed}
+use Rattle.mysql_wire_session.specs.Readings.{ReadsAs, Receives, RowReads, advanced, after_kind, kind_of, passed}
 use Rattle.mysql_wire_session.specs.Advance.{opened, without_eof}
 use Rattle.mysql_wire_session_packets.specs.declared.packet.Row.{Row}
 use Rattle.mysql_wire_session_packets.specs.declared.phase.Phase.{Phase}
@@ -19,21 +19,20 @@ use Rattle.mysql_wire_session_packets.specs.declared.packet_kind.PacketKind.TheV
 use Rattle.mysql_wire_session_packets.specs.declared.side.Side.{Side}
 use Rattle.mysql_wire_session.proofs.FrontLemmas.{came_so}
 use Rattle.wire_text.proofs.FieldLemmas.{fields_text-is}
-use Rattle.wire_text.specs.Fields.{Written, ended, nothing, puts}
+use Rattle.wire_text.specs.Fields.{Member, Written, ended, nothing_after, put, puts}
 use Rattle.wire_text.specs.declared.fields.FieldForm.{FieldForm}
 use Rattle.wire_text.specs.declared.fields.FieldForm.TheVariants.{Hidden, Text, Json}
 
 -- no fields were put
-no_fields : (form : FieldForm) (types : List ℕ) (begun : Written) → begun ≡ nothing form
-    → AreFields form types TooLarge [] packet.TooLarge TooLarge begun.text
-no_fields Hidden types begun is = record { members = []; has = (refl, refl); is = ap (λ (written : Written). written.text) is }
-no_fields Text types begun is = record { members = []; has = (refl, refl); is = ap (λ (written : Written). written.text) is }
-no_fields Json types begun is = record { members = []; has = (refl, refl); is = ap (λ (written : Written). written.text) is }
+no_fields : (form : FieldForm) (types : List ℕ) → AreFields form types TooLarge [] packet.TooLarge TooLarge []
+no_fields Hidden types = record { members = []; has = (refl, refl); is = refl }
+no_fields Text types = record { members = []; has = (refl, refl); is = refl }
+no_fields Json types = record { members = []; has = (refl, refl); is = refl }
 
 -- a packet was passed over
-pub passed_over : (form : FieldForm) (side : Side) (id len : ℕ) (known next : SessionState) (begun : Written) → begun ≡ nothing form
-    → next ≡ passed side id len known → PassesOver form side id len known next begun.text TooLarge
-passed_over form side id len known next begun is goes_on = (goes_on, no_fields form known.types begun is)
+pub passed_over : (form : FieldForm) (side : Side) (id len : ℕ) (known next : SessionState)
+    → next ≡ passed side id len known → PassesOver form side id len known next [] TooLarge
+passed_over form side id len known next goes_on = (goes_on, no_fields form known.types)
 
 -- a packet that came was read and shown
 pub came_and_shown : (side : Side) (id : ℕ) (payload : List ℕ) (known next : SessionState) (received : Received) (old new : Written) (result : Result PacketKind Stop)
@@ -124,10 +123,20 @@ row_shown side id payload called known next old new (Ok named) called_so is told
   goes_on = told.goes_on ∙ ap (λ (k : PacketKind). after_kind side id k (length payload) known) called_so;
 }
 
--- one was read: its fields were begun, put and ended
-pub names_one : (form : FieldForm) (side : Side) (id : ℕ) (payload : List ℕ) (known next : SessionState) (named : PacketKind) (begun all new : Written)
-    → begun ≡ nothing form → Tells side id payload known next begun all named → new ≡ ended all → NamesOne form side id payload known next new.text named
-names_one form side id payload known next named begun all new begins told ends = record {
+-- fields that are put leave what is before them
+puts_before : (written : Written) (members : List Member) → (puts written members).before ≡ written.before
+unfolding put
+puts_before written [] = refl
+puts_before written (member ∷ members) = puts_before (put written member) members
+
+ended_before : (written : Written) → (ended written).before ≡ written.before
+unfolding ended
+ended_before written = refl
+
+-- one was read: its fields were put and ended
+names_one : (form : FieldForm) (side : Side) (id : ℕ) (payload : List ℕ) (known next : SessionState) (named : PacketKind) (before : List ℕ) (begun all new : Written)
+    → begun ≡ nothing_after form before → Tells side id payload known next begun all named → new ≡ ended all → NamesOne form side id payload known next new.text named
+names_one form side id payload known next named before begun all new begins told ends = record {
   packet = told.packet;
   reads = told.reads;
   goes_on = told.goes_on;
@@ -136,6 +145,14 @@ names_one form side id payload known next named begun all new begins told ends =
     has = told.puts.has;
     is = ap (λ (written : Written). written.text)
         (ends ∙ ap ended (told.puts.puts.are ∙ ap (λ (written : Written). puts written told.puts.members) begins)
-        ∙ fields_text-is form told.puts.members);
+        ∙ fields_text-is form before told.puts.members);
   };
+}
+
+pub fields_shown : (side : Side) (id : ℕ) (payload : List ℕ) (known next : SessionState) (named : PacketKind) (begun all new : Written)
+    → Tells side id payload known next begun all named → new ≡ ended all → ShowsFields side id payload known next begun new named
+fields_shown side id payload known next named begun all new told ends = record {
+  names = λ form before begins. names_one form side id payload known next named before begun all new begins told ends;
+  before = ap (λ (written : Written). written.before) ends ∙ ended_before all
+      ∙ ap (λ (written : Written). written.before) told.puts.puts.are ∙ puts_before begun told.puts.members;
 }

@@ -8,6 +8,7 @@ use Rattle.mysql_wire_dump_lines.specs.declared.packet_stream.PacketStream.{Pack
 use Rattle.wire_text.specs.declared.fields.FieldForm.{FieldForm}
 use Rattle.mysql_wire_session_packets.specs.declared.packet_kind.PacketKind.{PacketKind}
 use Rattle.mysql_wire_session_packets.specs.declared.packet_kind.PacketKind.TheVariants.{TooLarge}
+use Rattle.mysql_wire_session_packets.specs.declared.packet_kind.PacketKind.TheVariants as kind
 use Rattle.mysql_wire_dump_lines.specs.declared.options.Options.{Options}
 use Rattle.mysql_wire_session_packets.specs.declared.phase.Phase.TheVariants as phase
 use Rattle.mysql_wire_session_packets.specs.declared.side.Side.{Side}
@@ -22,7 +23,7 @@ use Rattle.mysql_wire_session.specs.State.{SessionState, state_of, initial_state
 use Rattle.mysql_wire_session.specs.Readings.{ReadsAs, RowReads, after_kind, after_packet, kind_of, opened_at, passed}
 use Rattle.mysql_wire_session_packets.specs.declared.packet.Row.{Row}
 use Rattle.mysql_wire_dump_fields.specs.Packets.{PutsPacket, PutsRowFields}
-use Rattle.wire_text.specs.Fields.{Written}
+use Rattle.wire_text.specs.Fields.{Written, nothing_after}
 use Rattle.mysql_wire_session_packets.specs.declared.packet.Packet.{Packet}
 use Rattle.mysql_wire_session_packets.specs.declared.packet.Packet.TheVariants as packet
 use Rattle.mysql_wire_dump_lines.specs.PacketStreams.{AtEnd, Stands, id_of}
@@ -85,6 +86,15 @@ pub record TellsRow (side : Side) (id : ℕ) (called : PacketKind) (payload : Li
   pub puts : PutsRowFields known.types called row old new named
   pub goes_on : next ≡ after_kind side id called (length payload) known
 
+-- a packet is called this where it came
+abbrev pub IsCalled : Side × ℕ × PacketKind → List ℕ → SessionState → Type 0
+IsCalled came payload known = came.2 ≡ kind_of came.0 came.1 payload known
+
+-- whether a packet is shown as one that the type of its place refuses
+abbrev pub is_refused : PacketKind → Bool
+is_refused (kind.Refused refusal) = true
+is_refused other = false
+
 -- a packet was named and read, and these are its fields as text
 pub record NamesOne (form : FieldForm) (side : Side) (id : ℕ) (payload : List ℕ)
     (known next : SessionState) (fields : List ℕ) (named : PacketKind) : Type 0 where
@@ -94,6 +104,32 @@ pub record NamesOne (form : FieldForm) (side : Side) (id : ℕ) (payload : List 
   pub goes_on : next ≡ after_packet side id (kind_of side id payload known) payload packet known
   pub fields_are : AreFields form known.types (kind_of side id payload known) payload packet named
       fields
+
+-- so was it, and its fields stand after a text, which is as it was
+pub record ShowsFields (side : Side) (id : ℕ) (payload : List ℕ) (known next : SessionState)
+    (old new : Written) (named : PacketKind) : Type 0 where
+  pub names : (form : FieldForm) (before : List ℕ) → old ≡ nothing_after form before
+      → NamesOne form side id payload known next new.text named
+  pub before : new.before ≡ old.before
+
+-- so was it, and its fields are appended
+pub record PushesFields {A : Type 0} (side : Side) (id : ℕ) (payload : List ℕ)
+    (old new : SessionLines A) (named : PacketKind) : Type 0 where
+  pub fields : List ℕ
+  pub names : NamesOne (field_form old.options) side id payload (state_of old.session)
+      (state_of new.session) fields named
+  pub text : string_bytes new.text ≡ string_bytes old.text ++ fields
+
+-- so was it, and its line is appended
+pub record PushesRead {A : Type 0} (side : Side) (id len : ℕ) (payload : List ℕ)
+    (old new : SessionLines A) : Type 0 where
+  pub kind : PacketKind
+  pub fields : List ℕ
+  pub names : NamesOne (field_form old.options) side id payload (state_of old.session)
+      (state_of new.session) fields kind
+  pub line : string_bytes new.text ≡ string_bytes old.text ++ packet_line old.options.form
+      (record { side = side; id = id; len = len; kind = kind }) payload fields
+  pub options_are : new.options ≡ old.options
 
 -- the line of a stream's next packet is appended, and the session goes on after it
 pub record PushesNext {A : Type 0} (side : Side) (source : PacketStream A)

@@ -1,16 +1,18 @@
 //! A session, packet by packet.
 
-ghost use Rattle.std.specs.Prelude.{◌≡◌, ◌≢◌, ◌<◌, ◌≤◌, ◌⊎◌, ◌++◌, ◌∷◌, ℕ, List, [], length, IfOk, IfSome, OnOk, string_bytes, false};
+ghost use Rattle.std.specs.Prelude.{◌≡◌, ◌≢◌, ◌<◌, ◌≤◌, ◌⊎◌, ◌++◌, ◌∷◌, ℕ, List, [], length, take, drop, IfOk, IfSome, OnOk, string_bytes, false};
+ghost use Rattle.std.specs.Str.{IsUtf8};
 ghost use Rattle.std.specs.Io.KnownBytes.{Appends};
 ghost use Rattle.mysql_wire_dump.specs.Dumped.{DumpEnds, Dumps, DumpsOver, ending_lines, field_form, status_of};
-ghost use Rattle.mysql_wire_dump.specs.Dumping.{GoesOver, NamesOne, PassesOver, StartsDump, Tells, TellsRow};
+ghost use Rattle.mysql_wire_dump.specs.Dumping.{GoesOver, IsCalled, ShowsFields, StartsDump, Tells, TellsRow, is_refused};
 ghost use Rattle.mysql_wire_dump_fields.specs.Packets.{PutsPacket};
 ghost use Rattle.mysql_wire_session.specs.Readings.{advanced};
 ghost use Rattle.mysql_wire_session.specs.State.{state_of};
+ghost use Rattle.mysql_wire_dump_lines.specs.Lines.{packet_line};
 ghost use Rattle.mysql_wire_dump_lines.specs.Status.{end_status};
 
 use mysql_wire_dump_fields::show::{show_packet, show_row};
-use mysql_wire_dump_lines::lines::{LineForm, Seen, push_ending, push_packet};
+use mysql_wire_dump_lines::lines::{LineForm, Seen, push_end, push_ending, push_head, push_packet};
 use mysql_wire_dump_lines::next_sender::next_sender;
 use mysql_wire_dump_lines::options::{Options, Sides};
 use mysql_wire_dump_lines::packet_stream::{End, Next, PacketStream};
@@ -22,6 +24,7 @@ use mysql_wire_session::session::Session;
 use mysql_wire_session::side::Side;
 use std::alloc::{AllocError, Allocator, Global};
 use std::io::{Read, Write};
+use std::mem;
 use wire_text::fields::{FieldForm, Fields};
 
 // How many bytes of text are written at a time.
@@ -34,7 +37,6 @@ struct SessionLines<A: Allocator + Copy> {
     global: Global,
     options: Options,
     session: Session<A>,
-    fields: Fields<A>,
     text: String<A>,
 }
 
@@ -55,6 +57,13 @@ fn field_form(options: Options) -> FieldForm
         (true, LineForm::Text) => FieldForm::Text,
         (true, LineForm::Json) => FieldForm::Json,
     }
+}
+
+// Whether a packet is shown as one that the type of its place refuses.
+fn is_refused(kind: PacketKind) -> bool
+    ensures { result ≡ is_refused kind }
+{
+    matches!(kind, PacketKind::Refused(_))
 }
 
 // Puts the fields of a packet that came, and goes on after it.
@@ -110,64 +119,131 @@ fn show_row_of<A: Allocator + Copy>(
     Ok(kind)
 }
 
-// Reads a packet and puts its fields, and goes on after it.
+// Reads a packet that is called this and puts its fields, and goes on after it.
 fn read_and_show<A: Allocator + Copy>(
     global: Global,
     session: &mut Session<A>,
     fields: &mut Fields<A>,
-    side: Side,
-    id: u8,
+    came: (Side, u8, PacketKind),
     payload: &[u8],
 ) -> Result<PacketKind, Stop>
-    ensures { IfOk result (Tells side id payload.now (state_of session.old)
+    ensures { IsCalled came payload.now (state_of session.old)
+        → IfOk result (Tells came.0 came.1 payload.now (state_of session.old)
         (state_of session.new) fields.old fields.new) }
 {
-    match session.classify(side, id, payload.len(), payload) {
-        kind @ (PacketKind::Row | PacketKind::BinaryRow) => {
-            show_row_of(global, session, fields, (side, id, kind), payload)
+    match came.2 {
+        PacketKind::Row | PacketKind::BinaryRow => {
+            show_row_of(global, session, fields, came, payload)
         }
-        _ => show_other(global, session, fields, (side, id), payload),
+        _ => show_other(global, session, fields, (came.0, came.1), payload),
     }
 }
 
-// What a source's next packet is: its fields are put, and the session goes on after it.
-#[tactic(auto, using(crate::proofs::ReadLemmas::passed_over, crate::proofs::ReadLemmas::names_one))]
-fn name_packet<A: Allocator + Copy>(
+// All fields of a packet that is called this, after a text; the session goes on after it.
+fn show_fields<A: Allocator + Copy>(
     global: Global,
-    side: Side,
-    id: u8,
-    source: &PacketStream<A>,
     session: &mut Session<A>,
     fields: &mut Fields<A>,
-    form: FieldForm,
+    came: (Side, u8, PacketKind),
+    payload: &[u8],
 ) -> Result<PacketKind, Stop>
-    ensures large { IfOk result (λ kind. source.now.limit < source.now.len → PassesOver form side id
-        source.now.len (state_of session.old) (state_of session.new) fields.new.text kind) }
-    ensures named { IfOk result (λ kind. source.now.len ≤ source.now.limit → NamesOne form side id
-        source.now.held.items (state_of session.old) (state_of session.new) fields.new.text kind) }
+    ensures { IsCalled came payload.now (state_of session.old)
+        → IfOk result (ShowsFields came.0 came.1 payload.now (state_of session.old)
+        (state_of session.new) fields.old fields.new) }
 {
-    fields.begin(form);
-    let Some(payload) = source.payload() else {
-        session.pass(side, id, source.payload_len());
-        return Ok(PacketKind::TooLarge);
-    };
-    let kind = read_and_show(global, session, fields, side, id, payload)?;
+    let kind = read_and_show(global, session, fields, came, payload)?;
     fields.end()?;
     Ok(kind)
 }
 
-// The payload of which bytes may be shown.
-fn shown_payload<A: Allocator + Copy>(source: &PacketStream<A>) -> &[u8]
-    ensures { source.now.len ≤ source.now.limit → result.now ≡ source.now.held.items }
+// Makes the line of a packet that is refused, of which a text has all but the end as of one that is
+// none: it begins at one place, and its fields at another.
+fn push_again<A: Allocator + Copy>(
+    text: &mut String<A>,
+    begun: usize,
+    head: usize,
+    form: LineForm,
+    seen: &Seen,
+    payload: &[u8],
+) -> Result<(), AllocError>
+    requires begun { IsUtf8 (take begun (string_bytes text.old)) }
+    requires head { IsUtf8 (take head (string_bytes text.old)) }
+    requires order { begun ≤ head }
+    requires within { head ≤ length (string_bytes text.old) }
+    ensures { OnOk result (string_bytes text.new ≡ take begun (string_bytes text.old)
+        ++ packet_line form seen.now payload.now (drop head (string_bytes text.old))) }
 {
-    match source.payload() {
-        Some(payload) => payload,
-        None => &[],
-    }
+    let fields = text.split_off(head)?;
+    text.truncate(begun);
+    push_packet(text, form, seen, payload, fields.as_str())
 }
 
 impl<A: Allocator + Copy> SessionLines<A> {
-    ghost use Rattle.mysql_wire_dump.specs.Dumping.{PushesNext};
+    ghost use Rattle.mysql_wire_dump.specs.Dumping.{PushesFields, PushesNext, PushesRead};
+    ghost use Rattle.mysql_wire_session.specs.Readings.{passed};
+    ghost use Rattle.mysql_wire_session_packets.specs.declared.packet_kind.PacketKind.TheVariants.{TooLarge};
+
+    // Appends the line of a packet that is passed over.
+    fn push_passed(&mut self, side: Side, id: u8, len: usize) -> Result<(), AllocError>
+        ensures goes { state_of self.new.session ≡ passed side id len (state_of self.old.session) }
+        ensures line { OnOk result (string_bytes self.new.text ≡ string_bytes self.old.text
+            ++ packet_line self.old.options.form
+            (record { side = side; id = id; len = len; kind = TooLarge }) [] []) }
+        ensures options { self.new.options ≡ self.old.options }
+    {
+        self.session.pass(side, id, len);
+        let seen = Seen {
+            side,
+            id,
+            len,
+            kind: PacketKind::TooLarge,
+        };
+        push_packet(&mut self.text, self.options.form, &seen, &[], "")
+    }
+
+    // Appends the fields of a packet that is called this, and goes on after it. The answer is what it
+    // is shown as.
+    fn push_fields(
+        &mut self,
+        came: (Side, u8, PacketKind),
+        payload: &[u8],
+    ) -> Result<PacketKind, Stop>
+        ensures shows { IsCalled came payload.now (state_of self.old.session)
+            → IfOk result (PushesFields came.0 came.1 payload.now self.old self.new) }
+        ensures options { self.new.options ≡ self.old.options }
+    {
+        let alloc = *self.text.allocator();
+        let text = mem::replace(&mut self.text, String::new(alloc));
+        let mut fields = Fields::after(field_form(self.options), text);
+        let shown = show_fields(self.global, &mut self.session, &mut fields, came, payload);
+        self.text = fields.into_text();
+        shown
+    }
+
+    // Appends the line of a packet that came, and goes on after it.
+    fn push_read(&mut self, side: Side, id: u8, len: usize, payload: &[u8]) -> Result<(), Stop>
+        ensures { OnOk result (PushesRead side id len payload.now self.old self.new) }
+    {
+        let kind = self.session.classify(side, id, payload.len(), payload);
+        let seen = Seen {
+            side,
+            id,
+            len,
+            kind,
+        };
+        let form = self.options.form;
+        let begun = self.text.len();
+        push_head(&mut self.text, form, &seen, payload)?;
+        let head = self.text.len();
+        let kind = self.push_fields((side, id, kind), payload)?;
+        if is_refused(kind) {
+            let seen = Seen { kind, ..seen };
+            push_again(&mut self.text, begun, head, form, &seen, payload)?;
+        } else {
+            push_end(&mut self.text, form)?;
+        }
+        Ok(())
+    }
 
     // Appends the line of a stream's next packet, and goes on after it.
     fn push_next(&mut self, side: Side, source: &PacketStream<A>) -> Result<(), Stop>
@@ -176,25 +252,11 @@ impl<A: Allocator + Copy> SessionLines<A> {
         let Some(id) = source.next_id() else {
             return Err(Stop::Io);
         };
-        let kind = name_packet(
-            self.global,
-            side,
-            id,
-            source,
-            &mut self.session,
-            &mut self.fields,
-            field_form(self.options),
-        )?;
-        let seen = Seen {
-            side,
-            id,
-            len: source.payload_len(),
-            kind,
-        };
-        let fields = self.fields.text();
-        let payload = shown_payload(source);
-        push_packet(&mut self.text, self.options.form, &seen, payload, fields)?;
-        Ok(())
+        let len = source.payload_len();
+        match source.payload() {
+            Some(payload) => self.push_read(side, id, len, payload),
+            None => Ok(self.push_passed(side, id, len)?),
+        }
     }
 }
 
@@ -215,7 +277,6 @@ impl<A: Allocator + Copy> Dump<A> {
                 global,
                 options,
                 session: Session::new(alloc, global),
-                fields: Fields::new(alloc),
                 text: String::new(alloc),
             },
         }
