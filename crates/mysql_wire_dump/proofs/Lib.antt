@@ -1,4 +1,1 @@
-pub mod DumpLemmas
-pub mod ReadLemmas
 pub mod FileLemmas
-pub mod LineLemmas

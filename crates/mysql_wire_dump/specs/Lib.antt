@@ -1,3 +1,1 @@
-pub mod Dumped
-pub mod Dumping
 pub mod Files

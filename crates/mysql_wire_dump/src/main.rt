@@ -1,7 +1,6 @@
 //! Shows a captured session of MySQL's protocol, packet by packet.
 #![tactic(auto)]
 
-mod dump;
 mod files;
 
 use files::run_words;

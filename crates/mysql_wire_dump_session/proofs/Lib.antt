@@ -1,0 +1,3 @@
+pub mod DumpLemmas
+pub mod ReadLemmas
+pub mod LineLemmas

@@ -1,0 +1,10 @@
+use Rattle.std.proofs.Common.{sym, ◌∙◌}
+use Rattle.mysql_wire_dump_session.proofs.DumpLemmas.{packet_of}
+use Rattle.mysql_wire_dump_session.proofs.LineLemmas.{next_read}
+use Rattle.mysql_wire_dump_session.proofs.dump.SessionLines.push_next.Goals as goal
+
+pub returns-in-Some-payload : goal.returns-in-Some-payload
+returns-in-Some-payload g c =
+    let source = c.args.source.now in
+    next_read c.push_read.result c.args.side source c.args.self.now c.push_read.new.self c.in-Some.id c.payload_len-len.result c.in-Some-payload.payload.now
+    (packet_of source.next c.in-Some.id (sym c.next_id.ensures ∙ c.in-Some.is)) c.payload_len-len.ensures c.in-Some-payload.ensures.0 c.in-Some-payload.ensures.1 c.push_read.ensures

@@ -1,0 +1,2 @@
+pub mod Dumped
+pub mod Dumping
