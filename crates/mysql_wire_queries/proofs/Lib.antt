@@ -1,1 +1,2 @@
+pub mod RowLemmas
 pub mod TextReads

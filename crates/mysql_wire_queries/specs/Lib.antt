@@ -1,5 +1,6 @@
 pub mod Changes
 pub mod Columns
 pub mod Payloads
+pub mod RowValues
 pub mod ShortestRows
 pub mod TextValues

@@ -16,4 +16,5 @@ pub mod local_infile;
 pub mod query_answer;
 pub mod row_answer;
 pub mod text_row;
+pub mod text_values;
 pub mod type_detail;

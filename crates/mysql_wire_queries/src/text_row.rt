@@ -1,7 +1,8 @@
 //! A row of a text resultset.
 
-ghost use Rattle.std.specs.Prelude.{◌≡◌, ◌<◌, ◌^◌, ◌++◌, length};
+ghost use Rattle.std.specs.Prelude.{◌≡◌, ◌≢◌, ◌<◌, ◌^◌, [], ◌∷◌, ◌++◌, length, take};
 ghost use Rattle.wire_buf.specs.Reading.{Reads, Through};
+ghost use Rattle.mysql_wire_queries.specs.RowValues.{error_of, told, ReadsTextValue};
 ghost use Rattle.wire_repr.specs.Texts.{IsText};
 ghost use Rattle.mysql_wire_packets.specs.Optional.{OnIf};
 ghost use Rattle.mysql_wire_queries.specs.TextValues.{value_of, value_bytes, ReadsValue, SameValue, row_bytes, value-back, row-back};
@@ -27,20 +28,60 @@ pub enum TextValue<'a> {
     Text(&'a [u8]),
 }
 
-// Reads a value that is NULL, none, or a text of 251 bytes and more.
-fn long_value<'a>(buf: &mut ParseBuf<'a>) -> Result<TextValue<'a>, WireError>
-    ensures { Reads (λ input. Through value_of (ReadsValue input)) buf.old.0.now result
-        buf.new.0.now }
+/// Why the bytes of a row's values are refused.
+#[derive(Clone, Copy, Debug, PartialEq, Eq)]
+pub enum TextFault {
+    /// Bytes are missing.
+    UnexpectedEof,
+    /// The byte `ff`, which begins no value.
+    InvalidLength,
+}
+
+impl From<TextFault> for WireError {
+    ghost from_gives = { λ fault error. error ≡ error_of fault };
+
+    fn from(fault: TextFault) -> Self {
+        match fault {
+            TextFault::UnexpectedEof => WireError::UnexpectedEof,
+            TextFault::InvalidLength => WireError::Other(InvalidLengthEncodedInteger),
+        }
+    }
+}
+
+// Reads a text of 251 bytes and more, or what is none. The buffer is handed over and back, so that a
+// caller keeps its own in registers.
+#[inline(never)]
+fn long_text<'a>(mut buf: ParseBuf<'a>) -> (Result<TextValue<'a>, TextFault>, ParseBuf<'a>)
+    requires { take 1 buf.0.now ≢ 0xfb ∷ [] }
+    ensures { Reads ReadsTextValue buf.entry.0.now (told result.0) result.1.0.now }
+{
+    match buf.0.first() {
+        Some(0xff) => (Err(TextFault::InvalidLength), buf),
+        _ => match buf.checked_eat_lenenc_str() {
+            Some(text) => (Ok(TextValue::Text(text)), buf),
+            None => (Err(TextFault::UnexpectedEof), buf),
+        },
+    }
+}
+
+// Reads a value.
+#[inline(always)]
+pub(crate) fn read_value<'a>(buf: &mut ParseBuf<'a>) -> Result<TextValue<'a>, TextFault>
+    ensures { Reads ReadsTextValue buf.old.0.now (told result) buf.new.0.now }
 {
     match buf.0.first() {
         Some(0xfb) => {
             buf.skip(1);
             Ok(TextValue::Null)
         }
-        Some(0xff) => Err(WireError::Other(InvalidLengthEncodedInteger)),
+        Some(0xfc..) => {
+            let (answer, rest) = long_text(*buf);
+            *buf = rest;
+            answer
+        }
         _ => match buf.checked_eat_lenenc_str() {
             Some(text) => Ok(TextValue::Text(text)),
-            None => Err(WireError::UnexpectedEof),
+            None => Err(TextFault::UnexpectedEof),
         },
     }
 }
@@ -76,13 +117,9 @@ impl<'de> MyDeserialize<'de, Global> for TextValue<'de> {
     /// The byte `ff`, which begins no value, is refused.
     #[inline(always)]
     fn deserialize(_: Global, _: (), buf: &mut ParseBuf<'de>) -> Result<Self, WireError> {
-        match buf.0.first() {
-            // (most texts are short, and one test tells them from all else)
-            Some(0xfb..) => long_value(buf),
-            _ => match buf.checked_eat_lenenc_str() {
-                Some(text) => Ok(TextValue::Text(text)),
-                None => Err(WireError::UnexpectedEof),
-            },
+        match read_value(buf) {
+            Ok(value) => Ok(value),
+            Err(fault) => Err(fault.into()),
         }
     }
 }
