@@ -4,13 +4,15 @@ ghost use Rattle.std.specs.Prelude.{◌≡◌, ◌+◌, [], length, Ok};
 ghost use Rattle.wire_buf.specs.Reading.{Reads, Through};
 ghost use Rattle.mysql_wire_packets.specs.InOrder.{packet, both, const_u8};
 ghost use Rattle.mysql_wire_statements.specs.Again.{packet_again, both_again, const_again, rest_again, slice_again};
-ghost use Rattle.mysql_wire_statements.specs.BinaryRows.{row_bytes, IsRowOf};
+ghost use Rattle.mysql_wire_statements.specs.BinaryRows.{row_bytes, IsRowOf, ReadsColumn};
+ghost use Rattle.mysql_wire_statements.specs.Faults.{told};
 ghost use Rattle.mysql_wire_statements.specs.Bitmaps.{bitmap_len, IsSet};
 ghost use Rattle.mysql_wire_statements.specs.InOrder.{rest_of, slice_of};
 ghost use Rattle.mysql_wire_statements.specs.Values.{form_of, ReadsForm};
 ghost use Rattle.mysql_wire_statements.specs.declared.binary_value.BinaryValue.TheVariants.{Null};
 
-use crate::binary_value::BinaryValue;
+use crate::binary_fault::BinaryFault;
+use crate::binary_value::{BinaryValue, ValueForm, read_value};
 use crate::null_bitmap::RowNulls;
 use crate::rest::Rest;
 use crate::written_back::WrittenBack;
@@ -38,6 +40,24 @@ pub struct BinaryRow<'a> {
     pub values: &'a [u8],
 }
 
+// The value of the column at this place.
+#[inline(always)]
+pub(crate) fn read_column<'a>(
+    nulls: RowNulls<'_>,
+    column: usize,
+    column_type: ColumnType,
+    rest: &mut ParseBuf<'a>,
+) -> Result<BinaryValue<'a>, BinaryFault>
+    ensures { ReadsColumn nulls.entry.0.now column column_type rest.old.0.now (told result)
+        rest.new.0.now }
+{
+    if nulls.is_null(column) {
+        Ok(BinaryValue::Null)
+    } else {
+        read_value(ValueForm::of(column_type), rest)
+    }
+}
+
 impl<'a> BinaryRow<'a> {
     /// The value of the column at this place, from 0 on, which has this type. In `rest` stands what
     /// the values of the columns before it left of `values`; of a column that is NULL nothing is
@@ -45,7 +65,7 @@ impl<'a> BinaryRow<'a> {
     #[inline(always)]
     pub fn value(
         &self,
-        alloc: Global,
+        _: Global,
         column: usize,
         column_type: ColumnType,
         rest: &mut ParseBuf<'a>,
@@ -55,10 +75,9 @@ impl<'a> BinaryRow<'a> {
         ensures there { ¬ (IsSet self.now.nulls.0.now (2 + column))
             → Reads (ReadsForm (form_of column_type)) rest.old.0.now result rest.new.0.now }
     {
-        if self.nulls.is_null(column) {
-            Ok(BinaryValue::Null)
-        } else {
-            rest.parse(alloc, column_type)
+        match read_column(self.nulls, column, column_type, rest) {
+            Ok(value) => Ok(value),
+            Err(fault) => Err(fault.into()),
         }
     }
 }

@@ -3,14 +3,15 @@
 ghost use Rattle.std.specs.Prelude.{◌≡◌, ◌++◌};
 ghost use Rattle.std.proofs.Common.{subst};
 ghost use Rattle.wire_buf.specs.Reading.{Reads, Through};
+ghost use Rattle.mysql_wire_statements.specs.Faults.{told};
 ghost use Rattle.mysql_wire_statements.specs.Values.{form_of, value_bytes, written_form, IsPlain, IsShortest, IsValue, ReadsForm, ReadsText, SameValue};
 ghost use Rattle.mysql_wire_statements.specs.ValuesBack.{value-back, value_law};
 
-use crate::temporal::{BinaryDate, BinaryTime};
+use crate::binary_fault::BinaryFault;
+use crate::temporal::{BinaryDate, BinaryTime, read_date, read_time};
 use crate::written_back::WrittenBack;
 use std::alloc::{Allocator, Global};
-use std::borrow::CowSlice;
-use wire_buf::error::{InvalidLengthEncodedInteger, InvalidReason, WireError};
+use wire_buf::error::WireError;
 use wire_buf::io::ParseBuf;
 use wire_buf::proto::{HasSize, MyDeserialize, MySerialize, Varying};
 use wire_const::ColumnType;
@@ -115,56 +116,78 @@ impl MySerialize for BinaryValue<'_> {
 
 // A number, or the refusal of a form that has no bytes. Where bytes are missing, none is eaten.
 #[inline(always)]
-fn eat_plain<'a>(form: ValueForm, buf: &mut ParseBuf<'a>) -> Result<BinaryValue<'a>, WireError>
+fn eat_plain<'a>(form: ValueForm, buf: &mut ParseBuf<'a>) -> Result<BinaryValue<'a>, BinaryFault>
     requires { IsPlain form }
-    ensures { Reads (ReadsForm form) buf.old.0.now result buf.new.0.now }
+    ensures { Reads (ReadsForm form) buf.old.0.now (told result) buf.new.0.now }
 {
     match form {
         ValueForm::Null => Ok(BinaryValue::Null),
         ValueForm::Tiny => match buf.checked_eat_u8() {
             Some(number) => Ok(BinaryValue::Tiny(number)),
-            None => Err(WireError::UnexpectedEof),
+            None => Err(BinaryFault::UnexpectedEof),
         },
         ValueForm::Short => match buf.checked_eat_u16_le() {
             Some(number) => Ok(BinaryValue::Short(number)),
-            None => Err(WireError::UnexpectedEof),
+            None => Err(BinaryFault::UnexpectedEof),
         },
         ValueForm::Long => match buf.checked_eat_u32_le() {
             Some(number) => Ok(BinaryValue::Long(number)),
-            None => Err(WireError::UnexpectedEof),
+            None => Err(BinaryFault::UnexpectedEof),
         },
         ValueForm::LongLong => match buf.checked_eat_u64_le() {
             Some(number) => Ok(BinaryValue::LongLong(number)),
-            None => Err(WireError::UnexpectedEof),
+            None => Err(BinaryFault::UnexpectedEof),
         },
         ValueForm::Float => match buf.checked_eat_u32_le() {
             Some(number) => Ok(BinaryValue::Float(number)),
-            None => Err(WireError::UnexpectedEof),
+            None => Err(BinaryFault::UnexpectedEof),
         },
         ValueForm::Double => match buf.checked_eat_u64_le() {
             Some(number) => Ok(BinaryValue::Double(number)),
-            None => Err(WireError::UnexpectedEof),
+            None => Err(BinaryFault::UnexpectedEof),
         },
-        _ => Err(WireError::InvalidData(InvalidReason::UnknownValue)),
+        _ => Err(BinaryFault::UnknownValue),
     }
 }
 
 // The next text. Its length does not begin with `fb` or `ff`.
 #[inline(always)]
-fn eat_text<'a>(alloc: Global, buf: &mut ParseBuf<'a>) -> Result<&'a [u8], WireError>
-    ensures { Reads (λ input. Through (λ text. text.now) (ReadsText input)) buf.old.0.now result
-        buf.new.0.now }
+fn eat_text<'a>(buf: &mut ParseBuf<'a>) -> Result<&'a [u8], BinaryFault>
+    ensures { Reads (λ input. Through (λ text. text.now) (ReadsText input)) buf.old.0.now
+        (told result) buf.new.0.now }
 {
     match buf.0.first() {
-        Some(0xfb) => Err(WireError::Other(InvalidLengthEncodedInteger)),
-        Some(0xff) => Err(WireError::Other(InvalidLengthEncodedInteger)),
-        _ => match buf.parse::<RawBytes<'a, LenEnc>>(alloc, ()) {
-            Ok(text) => match text.0 {
-                CowSlice::Borrowed(text) => Ok(text),
-                CowSlice::Owned(_) => unreachable!(),
-            },
-            Err(error) => Err(error),
+        Some(0xfb) => Err(BinaryFault::InvalidLength),
+        Some(0xff) => Err(BinaryFault::InvalidLength),
+        _ => match buf.checked_eat_lenenc_str() {
+            Some(text) => Ok(text),
+            None => Err(BinaryFault::UnexpectedEof),
         },
+    }
+}
+
+// Reads a value of this form.
+#[inline(always)]
+pub(crate) fn read_value<'a>(
+    form: ValueForm,
+    buf: &mut ParseBuf<'a>,
+) -> Result<BinaryValue<'a>, BinaryFault>
+    ensures { Reads (ReadsForm form) buf.old.0.now (told result) buf.new.0.now }
+{
+    match form {
+        ValueForm::Date => match read_date(buf) {
+            Ok(date) => Ok(BinaryValue::Date(date)),
+            Err(fault) => Err(fault),
+        },
+        ValueForm::Time => match read_time(buf) {
+            Ok(time) => Ok(BinaryValue::Time(time)),
+            Err(fault) => Err(fault),
+        },
+        ValueForm::Text => match eat_text(buf) {
+            Ok(text) => Ok(BinaryValue::Text(text)),
+            Err(fault) => Err(fault),
+        },
+        plain => eat_plain(plain, buf),
     }
 }
 
@@ -182,24 +205,13 @@ impl<'de> MyDeserialize<'de, Global> for BinaryValue<'de> {
     // No call: an answer has room for an `io::Error`, and would be handed on through memory.
     #[inline(always)]
     fn deserialize(
-        alloc: Global,
+        _: Global,
         column_type: ColumnType,
         buf: &mut ParseBuf<'de>,
     ) -> Result<Self, WireError> {
-        match ValueForm::of(column_type) {
-            ValueForm::Date => match buf.parse::<BinaryDate>(alloc, ()) {
-                Ok(date) => Ok(BinaryValue::Date(date)),
-                Err(error) => Err(error),
-            },
-            ValueForm::Time => match buf.parse::<BinaryTime>(alloc, ()) {
-                Ok(time) => Ok(BinaryValue::Time(time)),
-                Err(error) => Err(error),
-            },
-            ValueForm::Text => match eat_text(alloc, buf) {
-                Ok(text) => Ok(BinaryValue::Text(text)),
-                Err(error) => Err(error),
-            },
-            plain => eat_plain(plain, buf),
+        match read_value(ValueForm::of(column_type), buf) {
+            Ok(value) => Ok(value),
+            Err(fault) => Err(fault.into()),
         }
     }
 }

@@ -1,8 +1,10 @@
 //! Packets of prepared statements, made of the wire types of `mysql_wire`.
 #![tactic(auto)]
 
+pub mod binary_fault;
 pub mod binary_row;
 pub mod binary_value;
+pub mod binary_values;
 pub mod com_stmt_close;
 pub mod com_stmt_execute;
 pub mod com_stmt_fetch;

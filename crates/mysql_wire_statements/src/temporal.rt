@@ -1,12 +1,15 @@
 //! Dates and times in their binary form.
 
 ghost use Rattle.std.specs.Prelude.{◌≡◌, ◌<◌, ◌≤◌, ◌+◌, ◌^◌, [], ◌∷◌, length, take, MatchOption};
+ghost use Rattle.wire_buf.specs.Reading.{Reads};
+ghost use Rattle.mysql_wire_statements.specs.Faults.{told};
 ghost use Rattle.mysql_wire_statements.specs.TemporalValues.{clock_at, clock_bytes, date_bytes, day_at, day_bytes, micros_at, span_at, span_bytes, time_bytes, ReadsDate, ReadsTime};
 ghost use Rattle.mysql_wire_statements.specs.TemporalValuesBack.{date-back, date_law, time-back, time_law, IsDate, IsTime};
 
+use crate::binary_fault::BinaryFault;
 use crate::written_back::WrittenBack;
 use std::alloc::Allocator;
-use wire_buf::error::{InvalidReason, WireError};
+use wire_buf::error::WireError;
 use wire_buf::io::ParseBuf;
 use wire_buf::proto::{HasSize, MyDeserialize, MySerialize, Varying};
 use wire_field::row::Both;
@@ -218,6 +221,37 @@ fn eat_micros(at: usize, bytes: &[u8]) -> u32
     ParseBuf(&bytes[at..]).eat_u32_le()
 }
 
+// Reads a date.
+#[inline(always)]
+pub(crate) fn read_date(buf: &mut ParseBuf<'_>) -> Result<BinaryDate, BinaryFault>
+    ensures { Reads ReadsDate buf.old.0.now (told result) buf.new.0.now }
+{
+    match first_byte(buf) {
+        None => Err(BinaryFault::UnexpectedEof),
+        Some(0) => {
+            buf.skip(1);
+            Ok(BinaryDate::Zero)
+        }
+        Some(4) => match buf.checked_eat(5) {
+            Some(bytes) => Ok(BinaryDate::Date(eat_day(bytes))),
+            None => Err(BinaryFault::UnexpectedEof),
+        },
+        Some(7) => match buf.checked_eat(8) {
+            Some(bytes) => Ok(BinaryDate::Seconds(eat_day(bytes), eat_clock(5, bytes))),
+            None => Err(BinaryFault::UnexpectedEof),
+        },
+        Some(11) => match buf.checked_eat(12) {
+            Some(bytes) => Ok(BinaryDate::Micros(
+                eat_day(bytes),
+                eat_clock(5, bytes),
+                eat_micros(8, bytes),
+            )),
+            None => Err(BinaryFault::UnexpectedEof),
+        },
+        Some(_) => Err(BinaryFault::UnknownValue),
+    }
+}
+
 impl HasSize for BinaryDate {
     type Size = Varying;
 }
@@ -229,30 +263,33 @@ impl<'de, A: Allocator + Copy> MyDeserialize<'de, A> for BinaryDate {
 
     #[inline(always)]
     fn deserialize(_: A, _: (), buf: &mut ParseBuf<'de>) -> Result<Self, WireError> {
-        match first_byte(buf) {
-            None => Err(WireError::UnexpectedEof),
-            Some(0) => {
-                buf.skip(1);
-                Ok(BinaryDate::Zero)
-            }
-            Some(4) => match buf.checked_eat(5) {
-                Some(bytes) => Ok(BinaryDate::Date(eat_day(bytes))),
-                None => Err(WireError::UnexpectedEof),
-            },
-            Some(7) => match buf.checked_eat(8) {
-                Some(bytes) => Ok(BinaryDate::Seconds(eat_day(bytes), eat_clock(5, bytes))),
-                None => Err(WireError::UnexpectedEof),
-            },
-            Some(11) => match buf.checked_eat(12) {
-                Some(bytes) => Ok(BinaryDate::Micros(
-                    eat_day(bytes),
-                    eat_clock(5, bytes),
-                    eat_micros(8, bytes),
-                )),
-                None => Err(WireError::UnexpectedEof),
-            },
-            Some(_) => Err(WireError::InvalidData(InvalidReason::UnknownValue)),
+        match read_date(buf) {
+            Ok(value) => Ok(value),
+            Err(fault) => Err(fault.into()),
         }
+    }
+}
+
+// Reads a time.
+#[inline(always)]
+pub(crate) fn read_time(buf: &mut ParseBuf<'_>) -> Result<BinaryTime, BinaryFault>
+    ensures { Reads ReadsTime buf.old.0.now (told result) buf.new.0.now }
+{
+    match first_byte(buf) {
+        None => Err(BinaryFault::UnexpectedEof),
+        Some(0) => {
+            buf.skip(1);
+            Ok(BinaryTime::Zero)
+        }
+        Some(8) => match buf.checked_eat(9) {
+            Some(bytes) => Ok(BinaryTime::Seconds(eat_span(bytes))),
+            None => Err(BinaryFault::UnexpectedEof),
+        },
+        Some(12) => match buf.checked_eat(13) {
+            Some(bytes) => Ok(BinaryTime::Micros(eat_span(bytes), eat_micros(9, bytes))),
+            None => Err(BinaryFault::UnexpectedEof),
+        },
+        Some(_) => Err(BinaryFault::UnknownValue),
     }
 }
 
@@ -267,21 +304,9 @@ impl<'de, A: Allocator + Copy> MyDeserialize<'de, A> for BinaryTime {
 
     #[inline(always)]
     fn deserialize(_: A, _: (), buf: &mut ParseBuf<'de>) -> Result<Self, WireError> {
-        match first_byte(buf) {
-            None => Err(WireError::UnexpectedEof),
-            Some(0) => {
-                buf.skip(1);
-                Ok(BinaryTime::Zero)
-            }
-            Some(8) => match buf.checked_eat(9) {
-                Some(bytes) => Ok(BinaryTime::Seconds(eat_span(bytes))),
-                None => Err(WireError::UnexpectedEof),
-            },
-            Some(12) => match buf.checked_eat(13) {
-                Some(bytes) => Ok(BinaryTime::Micros(eat_span(bytes), eat_micros(9, bytes))),
-                None => Err(WireError::UnexpectedEof),
-            },
-            Some(_) => Err(WireError::InvalidData(InvalidReason::UnknownValue)),
+        match read_time(buf) {
+            Ok(value) => Ok(value),
+            Err(fault) => Err(fault.into()),
         }
     }
 }

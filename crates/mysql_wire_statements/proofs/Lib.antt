@@ -1,0 +1,2 @@
+pub mod ColumnLemmas
+pub mod TextReads
