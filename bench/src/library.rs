@@ -22,6 +22,15 @@ unsafe extern "C" {
     fn mw_eat_lenenc(ptr: *const u8, len: usize, reps: u64) -> u64;
     fn mw_ok(ptr: *const u8, len: usize, form: u64, reps: u64) -> u64;
     fn mw_values(ptr: *const u8, len: usize, form: u64, reps: u64) -> u64;
+    fn mw_text_rows(
+        ptr: *const u8,
+        len: usize,
+        row: u64,
+        columns: u64,
+        form: u64,
+        reps: u64,
+    ) -> u64;
+    fn mw_binary_rows(ptr: *const u8, len: usize, row: u64, form: u64, reps: u64) -> u64;
     fn mw_coldef(ptr: *const u8, len: usize, reps: u64) -> u64;
     fn mw_coldef_by_hand(ptr: *const u8, len: usize, reps: u64) -> u64;
     fn mw_coldef_copy(ptr: *const u8, len: usize, form: u64, reps: u64) -> u64;
@@ -145,4 +154,16 @@ pub fn ok(bytes: &[u8], form: u64, reps: u64) -> u64 {
 /// Values of rows one after another, form 0 by `TextValue`, form 1 by hand.
 pub fn values(bytes: &[u8], form: u64, reps: u64) -> u64 {
     unsafe { mw_values(bytes.as_ptr(), bytes.len(), form, reps) }
+}
+
+/// Rows of `row` bytes each, of texts: form 0 by `TextValues`, form 1 by `checked_eat_lenenc_str`,
+/// form 2 by `TextRow`.
+pub fn text_rows(bytes: &[u8], row: u64, columns: u64, form: u64, reps: u64) -> u64 {
+    unsafe { mw_text_rows(bytes.as_ptr(), bytes.len(), row, columns, form, reps) }
+}
+
+/// Rows in the binary form, of `row` bytes each, after a bitmap of two: form 0 by `BinaryValues`,
+/// form 1 by `BinaryRow::value`, form 2 by hand.
+pub fn binary_rows(bytes: &[u8], row: u64, form: u64, reps: u64) -> u64 {
+    unsafe { mw_binary_rows(bytes.as_ptr(), bytes.len(), row, form, reps) }
 }

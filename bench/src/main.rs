@@ -52,6 +52,7 @@ mod memory;
 mod packets;
 mod place;
 mod plot;
+mod rows;
 mod sessions;
 mod spans;
 mod streams;
@@ -89,6 +90,7 @@ fn measure_rows(word: &str, run: &mut Run) -> bool {
     fields::rows(&mut rows);
     columns::rows(&mut rows);
     typed::rows(&mut rows);
+    rows::rows(&mut rows);
     connections::rows(&mut rows);
     #[cfg(with_bytes)]
     cargo_crate::rows(&mut rows);

@@ -8,6 +8,7 @@ mod columns;
 mod fields;
 mod in_place;
 mod packets;
+mod rows;
 mod sessions;
 mod spans;
 mod streams;

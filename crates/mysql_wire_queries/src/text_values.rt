@@ -16,8 +16,8 @@ use wire_buf::io::ParseBuf;
 use wire_buf::proto::MyDeserialize;
 
 /// The values of a row of texts, read from its payload one by one. They take no memory, and borrow
-/// from the payload. After the last byte none comes, and none after a refusal: how many there are,
-/// the count of the columns says.
+/// from the payload. None comes after the last byte, nor after a refusal. A row has as many as it
+/// has columns.
 ///
 /// <https://dev.mysql.com/doc/dev/mysql-server/latest/page_protocol_com_query_response_text_resultset_row.html>
 #[derive(Clone, Copy, Debug, PartialEq, Eq)]

@@ -8,7 +8,7 @@ mod values;
 use forms::{is_count_alone, is_ok_to_the_end};
 use mysql_wire::proto::{MyDeserialize, MySerialize};
 use refusing_allocator::Refusing;
-use rows::{are_nulls, are_types, is_read_through};
+use rows::{are_nulls, are_types, columns_come, is_read_through, texts_come};
 use std::alloc::Global;
 use std::test::Fail;
 use test_support::facts::all_hold;
@@ -33,13 +33,15 @@ where
     is_written & gives::<T, C, Global>(alloc, ctx, payload, &packet, 0)
 }
 
-fn are_packets(heap: &Heap, alloc: Global) -> [bool; 8] {
+fn are_packets(heap: &Heap, alloc: Global) -> [bool; 10] {
     [
         is_ok_to_the_end(heap, alloc),
         is_count_alone(heap, alloc),
         are_types(),
         are_nulls(),
         is_read_through(alloc),
+        columns_come(),
+        texts_come(),
         are_values(heap, alloc),
         are_refused(alloc),
         are_commands(heap, alloc),

@@ -2,8 +2,12 @@
 
 use mysql_wire::constants::ColumnType;
 use mysql_wire::io::ParseBuf;
+use mysql_wire_queries::text_row::{TextFault, TextValue};
+use mysql_wire_queries::text_values::TextValues;
+use mysql_wire_statements::binary_fault::BinaryFault;
 use mysql_wire_statements::binary_row::BinaryRow;
 use mysql_wire_statements::binary_value::BinaryValue;
+use mysql_wire_statements::binary_values::BinaryValues;
 use mysql_wire_statements::null_bitmap::{NullBitmap, ParamNulls, RowNulls};
 use mysql_wire_statements::params::ParamTypes;
 use mysql_wire_statements::temporal::{BinaryDate, Clock, Day};
@@ -93,12 +97,14 @@ const VALUES: [BinaryValue<'static>; 3] = [
     )),
 ];
 
+const ROW: BinaryRow<'static> = BinaryRow {
+    nulls: NullBitmap(b"\x08"),
+    values: b"\x02\0\0\0\x07\xea\x07\x0b\x16\x06\x34\x03",
+};
+
 // Whether the values of a row are these, one after another, and nothing is left.
 pub fn is_read_through(alloc: Global) -> bool {
-    let row = BinaryRow {
-        nulls: NullBitmap(b"\x08"),
-        values: b"\x02\0\0\0\x07\xea\x07\x0b\x16\x06\x34\x03",
-    };
+    let row = ROW;
     let mut rest = ParseBuf(row.values);
     let mut all = true;
     for column in 0..COLUMNS.len() {
@@ -108,4 +114,38 @@ pub fn is_read_through(alloc: Global) -> bool {
         };
     }
     all & rest.is_empty()
+}
+
+// Whether they come one by one, and nothing is left; of a date that is cut short nothing is eaten.
+pub fn columns_come() -> bool {
+    let mut values = BinaryValues::new(&ROW, &COLUMNS);
+    let mut all = true;
+    for value in VALUES {
+        all &= matches!(values.next(), Some(Ok(read)) if read == value);
+    }
+    all &= values.next().is_none() & values.rest().is_empty();
+    let cut = BinaryRow {
+        nulls: NullBitmap(b"\0"),
+        values: b"\x07\xea",
+    };
+    let mut values = BinaryValues::new(&cut, &[ColumnType::MYSQL_TYPE_DATE]);
+    all &= matches!(values.next(), Some(Err(BinaryFault::UnexpectedEof)));
+    all & values.next().is_none() & (values.rest() == b"\x07\xea".as_slice())
+}
+
+const TEXTS: [TextValue<'static>; 3] = [
+    TextValue::Text(b"a"),
+    TextValue::Null,
+    TextValue::Text(b"bc"),
+];
+
+// Whether the values of a row come one by one; of a text that is cut short nothing is eaten.
+pub fn texts_come() -> bool {
+    let mut values = TextValues::new(b"\x01a\xfb\xfc\x02\0bc\x03d");
+    let mut all = true;
+    for text in TEXTS {
+        all &= matches!(values.next(), Some(Ok(read)) if read == text);
+    }
+    all &= matches!(values.next(), Some(Err(TextFault::UnexpectedEof)));
+    all & values.next().is_none() & (values.rest() == b"\x03d".as_slice())
 }
