@@ -4,7 +4,8 @@
 Each line of the file is NAME CRATE WORD..: the program crates/CRATE/out/CRATE is run with these
 words in the folder bench/ of its checkout, and OLD and NEW begin by turns; SEED stands for the
 seed, and a last word <FILE for the standard input. It stops where two outputs of a job differ, and
-prints both medians of the seconds, and OLD's over NEW's.
+prints both medians of the seconds, and OLD's over NEW's. A job whose program one of both lacks is
+passed over, and named.
 """
 import os
 import statistics
@@ -23,10 +24,14 @@ def jobs(path, seed):
                 yield name, crate, [str(seed) if word == "SEED" else word for word in words]
 
 
+def program_of(top, crate):
+    return os.path.join(top, "crates", crate, "out", crate)
+
+
 def run(top, crate, words):
     """The seconds that a job takes, and what it prints."""
     folder = os.path.join(top, "bench")
-    program = os.path.join(top, "crates", crate, "out", crate)
+    program = program_of(top, crate)
     source = subprocess.DEVNULL
     if words and words[-1].startswith("<"):
         source = open(os.path.join(folder, words[-1][1:]), "rb")
@@ -45,6 +50,10 @@ def main():
     here = os.path.dirname(os.path.abspath(__file__))
     print(f"{'job':<12} {'old, s':>8} {'new, s':>8} {'old/new':>8}")
     for name, crate, words in jobs(os.path.join(here, "workloads.txt"), seed):
+        lacking = [top for top in tops if not os.path.isfile(program_of(top, crate))]
+        if lacking:
+            print(f"{name:<12} passed over: no {crate} in {', '.join(lacking)}", flush=True)
+            continue
         times = ([], [])
         outputs = set()
         for turn in range(TURNS):
