@@ -4,13 +4,11 @@ ghost use Rattle.std.specs.Prelude.{◌≡◌, ◌<◌, ◌^◌};
 ghost use Rattle.std.specs.Cow.{cow_slice_items};
 ghost use Rattle.wire_buf.specs.Reading.{Through};
 ghost use Rattle.wire_repr.specs.Texts.{IsBorrowedText};
-ghost use Rattle.mysql_wire_packets.specs.Again.{packet_again, both_again, const_again, number_again};
 ghost use Rattle.mysql_wire_packets.specs.InOrder.{packet, both, const_u8, number};
-ghost use Rattle.mysql_wire_utility.specs.LongTexts.{u32_cut, u32_text, u32_text_again};
+ghost use Rattle.mysql_wire_utility.specs.LongTexts.{u32_cut, u32_text};
 ghost use Rattle.mysql_wire_utility.specs.Replicas.{dump_gtid_bytes, dump_gtid_fields};
 
 use mysql_wire_packets::by_ref::ByRef;
-use mysql_wire_statements::written_back::WrittenBack;
 use std::alloc::{Allocator, Global};
 use wire_buf::error::WireError;
 use wire_buf::io::ParseBuf;
@@ -126,16 +124,4 @@ impl<'de> Wire<'de, Global> for ComBinlogDumpGtid<'de> {
         answer eaten read };
 
     ghost of_size = { λ command size _ stated. Prim.cc };
-}
-
-impl<'de> WrittenBack<'de, Global> for ComBinlogDumpGtid<'de> {
-    ghost shortest = { λ _ _. Unit {0} };
-
-    ghost again = { λ ctx input command eaten are shortest read.
-        (packet_again dump_gtid_fields
-        (both_again (both_again (const_again 0x1e)
-        (both_again (number_again (λ n. n) 2) (number_again (λ n. n) 4)))
-        (both_again (u32_text_again (λ text. text.0))
-        (both_again (number_again (λ n. n) 8) (u32_text_again (λ text. text.0)))))).law
-        input are command eaten read };
 }

@@ -4,12 +4,10 @@ ghost use Rattle.std.specs.Prelude.{◌≡◌, ◌∷◌, ◌++◌, []};
 ghost use Rattle.std.specs.Cow.{cow_slice_items};
 ghost use Rattle.wire_buf.specs.Reading.{Through};
 ghost use Rattle.wire_repr.specs.Texts.{IsBorrowedText};
-ghost use Rattle.mysql_wire_packets.specs.Again.{packet_again, both_again, const_again, eof_text_again, null_text_again};
 ghost use Rattle.mysql_wire_packets.specs.InOrder.{packet, both, const_u8, eof_text};
 ghost use Rattle.mysql_wire_packets.specs.NullTexts.{clean, null_text};
 
 use mysql_wire_packets::by_ref::ByRef;
-use mysql_wire_statements::written_back::WrittenBack;
 use std::alloc::{Allocator, Global};
 use wire_buf::error::WireError;
 use wire_buf::io::ParseBuf;
@@ -84,14 +82,4 @@ impl<'de> Wire<'de, Global> for ComFieldList<'de> {
         answer eaten read };
 
     ghost of_size = { λ command size _ stated. Prim.cc };
-}
-
-impl<'de> WrittenBack<'de, Global> for ComFieldList<'de> {
-    ghost shortest = { λ _ _. Unit {0} };
-
-    ghost again = { λ ctx input command eaten are shortest read.
-        (packet_again (λ command. (_, (command.table, command.wildcard)))
-        (both_again (const_again 0x04) (both_again (null_text_again (λ text. text.0))
-        (eof_text_again (λ text. text.0))))).law
-        input are command eaten read };
 }

@@ -3,10 +3,8 @@
 ghost use Rattle.std.specs.Prelude.{◌≡◌, ◌<◌, ◌^◌, ◌∷◌};
 ghost use Rattle.wire_buf.specs.Numbers.{le_bytes};
 ghost use Rattle.wire_buf.specs.Reading.{Through};
-ghost use Rattle.mysql_wire_packets.specs.Again.{packet_again, both_again, const_again, number_again};
 ghost use Rattle.mysql_wire_packets.specs.InOrder.{packet, both, const_u8, number};
 
-use mysql_wire_statements::written_back::WrittenBack;
 use std::alloc::Allocator;
 use wire_buf::error::WireError;
 use wire_buf::io::ParseBuf;
@@ -71,13 +69,4 @@ impl<'de, A: Allocator + Copy> Wire<'de, A> for ComProcessKill {
         (both const_u8 (number (λ n. n) 4 command.connection_id value)) answer eaten read };
 
     ghost of_size = { λ command size _ stated. Prim.cc };
-}
-
-impl<'de, A: Allocator + Copy> WrittenBack<'de, A> for ComProcessKill {
-    ghost shortest = { λ _ _. Unit {0} };
-
-    ghost again = { λ ctx input command eaten are shortest read.
-        (packet_again (λ command. (_, command.connection_id))
-        (both_again (const_again 0x0c) (number_again (λ n. n) 4))).law
-        input are command eaten read };
 }

@@ -4,13 +4,10 @@ ghost use Rattle.std.specs.Prelude.{◌≡◌, ◌<◌, ◌^◌};
 ghost use Rattle.std.specs.Cow.{cow_slice_items};
 ghost use Rattle.wire_buf.specs.Reading.{Through};
 ghost use Rattle.wire_repr.specs.Texts.{IsBorrowedText};
-ghost use Rattle.mysql_wire_packets.specs.Again.{packet_again, both_again, const_again, number_again};
 ghost use Rattle.mysql_wire_packets.specs.InOrder.{packet, both, const_u8, number, u8_cut, u8_text};
-ghost use Rattle.mysql_wire_packets.specs.Shortest.{u8_text_again};
 ghost use Rattle.mysql_wire_utility.specs.Replicas.{register_bytes, register_fields};
 
 use mysql_wire_packets::by_ref::ByRef;
-use mysql_wire_statements::written_back::WrittenBack;
 use std::alloc::{Allocator, Global};
 use wire_buf::error::WireError;
 use wire_buf::io::ParseBuf;
@@ -146,17 +143,4 @@ impl<'de> Wire<'de, Global> for ComRegisterSlave<'de> {
         answer eaten read };
 
     ghost of_size = { λ command size _ stated. Prim.cc };
-}
-
-impl<'de> WrittenBack<'de, Global> for ComRegisterSlave<'de> {
-    ghost shortest = { λ _ _. Unit {0} };
-
-    ghost again = { λ ctx input command eaten are shortest read.
-        (packet_again register_fields
-        (both_again (both_again (const_again 0x15) (number_again (λ n. n) 4))
-        (both_again (both_again (u8_text_again (λ text. text.0))
-        (both_again (u8_text_again (λ text. text.0)) (u8_text_again (λ text. text.0))))
-        (both_again (number_again (λ n. n) 2)
-        (both_again (number_again (λ n. n) 4) (number_again (λ n. n) 4)))))).law
-        input are command eaten read };
 }

@@ -3,9 +3,7 @@
 ghost use Rattle.std.specs.Prelude.{◌∷◌, [], refl};
 ghost use Rattle.wire_repr.specs.Law.{size-is};
 ghost use Rattle.wire_forms.specs.Constants.{ReadsConst, ReadsConst-back};
-ghost use Rattle.mysql_wire_packets.specs.Again.{const_again};
 
-use mysql_wire_statements::written_back::WrittenBack;
 use std::alloc::Allocator;
 use wire_buf::error::{InvalidReason, WireError};
 use wire_buf::io::ParseBuf;
@@ -60,11 +58,4 @@ impl<'de, A: Allocator + Copy> Wire<'de, A> for ComResetConnection {
         ReadsConst-back 1 (0x1f ∷ []) rest refl answer eaten read };
 
     ghost of_size = { λ command size value stated. size-is 1 size 1 stated refl };
-}
-
-impl<'de, A: Allocator + Copy> WrittenBack<'de, A> for ComResetConnection {
-    ghost shortest = { λ _ _. Unit {0} };
-
-    ghost again = { λ ctx input command eaten are shortest read.
-        (const_again 0x1f).law input are command eaten read };
 }

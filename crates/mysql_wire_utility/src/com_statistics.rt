@@ -6,11 +6,9 @@ ghost use Rattle.wire_buf.specs.Reading.{Through};
 ghost use Rattle.wire_repr.specs.Law.{size-is};
 ghost use Rattle.wire_repr.specs.Texts.{IsBorrowedText};
 ghost use Rattle.wire_forms.specs.Constants.{ReadsConst, ReadsConst-back};
-ghost use Rattle.mysql_wire_packets.specs.Again.{packet_again, const_again, eof_text_again};
 ghost use Rattle.mysql_wire_packets.specs.InOrder.{packet, eof_text};
 
 use mysql_wire_packets::by_ref::ByRef;
-use mysql_wire_statements::written_back::WrittenBack;
 use std::alloc::{Allocator, Global};
 use wire_buf::error::{InvalidReason, WireError};
 use wire_buf::io::ParseBuf;
@@ -68,13 +66,6 @@ impl<'de, A: Allocator + Copy> Wire<'de, A> for ComStatistics {
     ghost of_size = { λ command size value stated. size-is 1 size 1 stated refl };
 }
 
-impl<'de, A: Allocator + Copy> WrittenBack<'de, A> for ComStatistics {
-    ghost shortest = { λ _ _. Unit {0} };
-
-    ghost again = { λ ctx input command eaten are shortest read.
-        (const_again 0x09).law input are command eaten read };
-}
-
 /// The statistics, for people to read. The text is all the payload.
 ///
 /// <https://dev.mysql.com/doc/dev/mysql-server/latest/page_protocol_com_statistics.html>
@@ -129,12 +120,4 @@ impl<'de> Wire<'de, Global> for StatisticsText<'de> {
         answer eaten read };
 
     ghost of_size = { λ statistics size _ stated. Prim.cc };
-}
-
-impl<'de> WrittenBack<'de, Global> for StatisticsText<'de> {
-    ghost shortest = { λ _ _. Unit {0} };
-
-    ghost again = { λ ctx input statistics eaten are shortest read.
-        (packet_again (λ statistics. statistics.text) (eof_text_again (λ text. text.0))).law
-        input are statistics eaten read };
 }

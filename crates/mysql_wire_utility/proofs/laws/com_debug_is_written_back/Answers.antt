@@ -1,5 +1,5 @@
-use Rattle.mysql_wire_statements.specs.Again.{always}
+use Rattle.std.proofs.Common.{ap, sym, take, ◌∙◌}
 use Rattle.mysql_wire_utility.proofs.laws.com_debug_is_written_back.Goals as goal
 
 pub returns : goal.returns
-returns c = always _ _ c.is_written_back.ensures.again
+returns c = λ input command eaten are read. sym (ap (λ count. take count input) read.1 ∙ read.0)

@@ -1,5 +1,8 @@
-use Rattle.mysql_wire_statements.specs.Again.{always}
+use Rattle.mysql_wire_packets.specs.Again.{both_again, const_again, number_again, packet_again}
 use Rattle.mysql_wire_utility.proofs.laws.com_set_option_is_written_back.Goals as goal
 
 pub returns : goal.returns
-returns c = always _ _ c.is_written_back.ensures.again
+returns c = λ input command eaten are read.
+    (packet_again (λ command. (_, command.operation))
+    (both_again (const_again 0x1b) (number_again (λ n. n) 2))).law
+    input are command eaten read
