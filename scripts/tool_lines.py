@@ -113,8 +113,8 @@ MANY = [
     [16356] + [0] * 20,
 ]
 
-# The lengths of packets of one chunk and of several.
-LONG = [16777214, 16777215, 16777216, 2 * 16777215, 2 * 16777215 + 9]
+# The lengths of packets of one chunk and of several. From 1 MiB on they are not copied.
+LONG = [1048575, 1048576, 16777214, 16777215, 16777216, 2 * 16777215, 2 * 16777215 + 9]
 
 # The most bytes of a write of these: lines that are shorter than 32768 bytes, and 8192 digits with
 # what stands in front of them and after.

@@ -15,8 +15,11 @@ use std::alloc::Allocator;
 use std::io::Write;
 use wire_codec::codec::PacketCodec;
 use wire_codec::codec::error::PacketCodecError;
-use wire_const::MAX_PAYLOAD_LEN;
 use wire_span::{FramePart, FrameWriter, laws};
+
+// A packet of this many bytes is not copied: its headers go by writes of their own. By Linux's default
+// limits no socket takes as many as one message.
+const LARGE: usize = 1 << 20;
 
 /// Frames packets, and writes them.
 #[derive(Drop)]
@@ -185,8 +188,8 @@ impl<W: Write, A: Allocator + Copy> Sender<W, A> {
         Ok(())
     }
 
-    /// Frames a packet after what is pending, which is written where memory is refused. One of
-    /// several chunks is written at once, from where it lies.
+    /// Frames a packet after what is pending, which is written where memory is refused. A large one
+    /// is written at once, from where it lies.
     #[inline(always)]
     pub fn pass_on(&mut self, encoder: &mut PacketCodec, packet: &[u8]) -> Result<(), Stop>
         requires fits { length packet.now ≤ encoder.old.max_allowed_packet }
@@ -200,7 +203,7 @@ impl<W: Write, A: Allocator + Copy> Sender<W, A> {
         ensures refused { (result ≡ Err Stop.Memory) → Appends (W.contents self.old.chunks.writer)
             (W.contents self.new.chunks.writer) self.old.pending.items }
     {
-        if packet.len() < MAX_PAYLOAD_LEN {
+        if packet.len() < LARGE {
             self.queue(encoder, packet)
         } else {
             self.write_chunks(encoder, packet)
