@@ -13,7 +13,7 @@ use Rattle.mysql_wire_dump_lines.specs.Names.{end_name}
 use Rattle.mysql_wire_session_packets.specs.Names.{side_name, kind_name, refusal_name}
 
 -- at most 32 bytes in digits, and two dots for those after them
-abbrev pub shown_bytes : List ℕ → List ℕ
+unfoldable pub shown_bytes : List ℕ → List ℕ
 shown_bytes payload =
     if nat_lt 32 (length payload) then encode_lower (take 32 payload) ++ codes ".."
     else encode_lower payload

@@ -1,6 +1,6 @@
 //! The lines that are written.
 
-ghost use Rattle.std.specs.Prelude.{◌≡◌, ◌++◌, IfOk, OnOk, string_bytes};
+ghost use Rattle.std.specs.Prelude.{◌≡◌, ◌++◌, OnOk, string_bytes};
 ghost use Rattle.std.specs.Fmt.{decimal};
 ghost use Rattle.mysql_wire_dump_lines.specs.Lines.{bytes_part, ending_line, line_end, packet_front, packet_head, packet_line, refused_words, shown_bytes};
 ghost use Rattle.mysql_wire_dump_lines.specs.Names.{end_name};
@@ -11,6 +11,7 @@ use mysql_wire_session_packets::packet_kind::PacketKind;
 use mysql_wire_session_packets::refusal::Refusal;
 use mysql_wire_session_packets::side::Side;
 use std::alloc::{AllocError, Allocator};
+use wire_text::digits::push_digits_to;
 use wire_text::put::{push_between, push_number};
 
 /// How packets are shown.
@@ -31,41 +32,34 @@ pub struct Seen {
     pub kind: PacketKind,
 }
 
-// At most 32 bytes in digits, and two dots for those after them.
-fn shown_bytes<A: Allocator>(alloc: A, payload: &[u8]) -> Result<String<A>, AllocError>
-    ensures { IfOk result (λ text. string_bytes text ≡ shown_bytes payload.now) }
+// Appends at most 32 bytes in digits, and two dots for those after them.
+#[tactic(auto, unfolding(crate::specs::Lines::shown_bytes))]
+fn push_shown<A: Allocator + Copy>(text: &mut String<A>, payload: &[u8]) -> Result<(), AllocError>
+    ensures { OnOk result
+        (string_bytes text.new ≡ string_bytes text.old ++ shown_bytes payload.now) }
 {
     if payload.len() > 32 {
         let (front, _) = payload.split_at(32);
-        let mut text = hex::encode(alloc, front)?;
-        text.push_str("..")?;
-        Ok(text)
+        push_digits_to(text, front)?;
+        text.push_str("..")
     } else {
-        hex::encode(alloc, payload)
+        push_digits_to(text, payload)
     }
 }
 
-// The digits of a payload's bytes, and the name of a refusal.
-fn push_words<A: Allocator + Copy>(
+// The same between two words.
+fn push_shown_between<A: Allocator + Copy>(
     text: &mut String<A>,
-    form: LineForm,
-    digits: &str,
-    name: &str,
+    before: &str,
+    payload: &[u8],
+    after: &str,
 ) -> Result<(), AllocError>
-    ensures { OnOk result (string_bytes text.new
-        ≡ string_bytes text.old ++ refused_words form digits.now name.now) }
+    ensures { OnOk result (string_bytes text.new ≡ string_bytes text.old
+        ++ (before.now ++ shown_bytes payload.now ++ after.now)) }
 {
-    match form {
-        LineForm::Text => {
-            push_between(text, " ", digits, " ")?;
-            text.push_str(name)
-        }
-        LineForm::Json => {
-            push_between(text, ",\"bytes\":\"", digits, "\",\"refusal\":\"")?;
-            text.push_str(name)?;
-            text.push_str("\"")
-        }
-    }
+    text.push_str(before)?;
+    push_shown(text, payload)?;
+    text.push_str(after)
 }
 
 // Why a payload is no packet of its place, after its bytes.
@@ -78,8 +72,17 @@ fn push_refused<A: Allocator + Copy>(
     ensures { OnOk result (string_bytes text.new ≡ string_bytes text.old
         ++ refused_words form (shown_bytes payload.now) (refusal_name refusal)) }
 {
-    let digits = shown_bytes(*text.allocator(), payload)?;
-    push_words(text, form, digits.as_str(), refusal.name())
+    match form {
+        LineForm::Text => {
+            push_shown_between(text, " ", payload, " ")?;
+            text.push_str(refusal.name())
+        }
+        LineForm::Json => {
+            push_shown_between(text, ",\"bytes\":\"", payload, "\",\"refusal\":\"")?;
+            text.push_str(refusal.name())?;
+            text.push_str("\"")
+        }
+    }
 }
 
 // The bytes of a payload that its place's type refuses, and why.
