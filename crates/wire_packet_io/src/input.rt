@@ -27,7 +27,7 @@ use wire_const::MAX_PAYLOAD_LEN;
 // The most bytes of one read.
 const READ_SIZE: usize = 8192;
 
-// So many bytes are moved with less.
+// At most this many bytes are moved by way of the stack.
 const FEW: usize = 256;
 
 // After a packet of this many bytes few are unread, and its room is to be had for the next one.
@@ -52,30 +52,19 @@ pub struct Input<R: Read, A: Allocator + Copy> {
     pub reads: u64,
 }
 
-// Moves the bytes to the front of their block by way of the stack.
-#[inline(never)]
-fn move_by_stack<const N: usize, A: Allocator + Copy>(src: &mut BytesMut<A>)
-    requires fits { length src.old.items ≤ N }
-    requires small { N ≤ 8192 }
-    ensures { src.new.items ≡ src.old.items }
-{
-    let len = src.len();
-    let mut bytes = [0; N];
-    bytes[..len].copy_from_slice(src.as_slice());
-    src.clear();
-    src.extend_reserved(&bytes[..len]);
-}
-
-// Moves the bytes to the front of their block, where they are no more than one read brings. `reserve`
-// would move them one by one.
+// Moves the bytes to the front of their block by way of the stack, where they are few. `reserve` would
+// move them one by one.
 fn move_to_front<A: Allocator + Copy>(src: &mut BytesMut<A>)
     ensures { src.new.items ≡ src.old.items }
 {
-    if src.len() <= FEW {
-        move_by_stack::<FEW, A>(src);
-    } else if src.len() <= READ_SIZE {
-        move_by_stack::<READ_SIZE, A>(src);
+    let len = src.len();
+    if len > FEW {
+        return;
     }
+    let mut bytes = [0; FEW];
+    bytes[..len].copy_from_slice(src.as_slice());
+    src.clear();
+    src.extend_reserved(&bytes[..len]);
 }
 
 // Room for one read after the bytes.
