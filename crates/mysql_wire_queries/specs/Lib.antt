@@ -1,4 +1,3 @@
-pub mod Changes
 pub mod Columns
 pub mod Payloads
 pub mod RowValues

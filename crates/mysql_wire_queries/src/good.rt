@@ -2,21 +2,15 @@
 //!
 //! Each function does nothing: its contract is the law, and a caller has it by calling.
 
-ghost use Rattle.std.specs.Prelude.{◌++◌, ℕ, List, [], length, true};
+ghost use Rattle.std.specs.Prelude.{ℕ, List, [], length};
 ghost use Rattle.std.specs.Cow.{cow_slice_items};
 ghost use Rattle.wire_const.specs.FlagSets.{capability_flags_bits, mariadb_capabilities_bits};
-ghost use Rattle.mysql_wire_packets.specs.More.{there_if};
 ghost use Rattle.mysql_wire_packets.specs.Optional.{IsThere, has};
-ghost use Rattle.mysql_wire_queries.specs.Changes.{attrs_bytes, name_bytes, set_bytes};
 
 use crate::column_count::ColumnCount;
 use crate::column_definition::ColumnDefinition41;
-use crate::com_change_user::ComChangeUser;
-use crate::com_init_db::ComInitDb;
-use crate::com_ping::ComPing;
 use crate::com_query::ComQuery;
 use crate::com_query_attributes::ComQueryWithAttributes;
-use crate::com_quit::ComQuit;
 use crate::local_infile::LocalInfileRequest;
 use crate::text_row::{TextRow, TextValue};
 use crate::type_detail::TypeDetail;
@@ -29,11 +23,6 @@ pub fn com_query_is_good(_packet: &ComQuery<'_>)
     ensures { ⟦<ComQuery<'static> as Wire<'static, Global>>⟧.good tt _packet.now [] }
 {}
 
-/// A `ComInitDb` comes back before nothing.
-pub fn com_init_db_is_good(_packet: &ComInitDb<'_>)
-    ensures { ⟦<ComInitDb<'static> as Wire<'static, Global>>⟧.good tt _packet.now [] }
-{}
-
 /// A `LocalInfileRequest` comes back before nothing.
 pub fn local_infile_request_is_good(_packet: &LocalInfileRequest<'_>)
     ensures { ⟦<LocalInfileRequest<'static> as Wire<'static, Global>>⟧.good tt _packet.now [] }
@@ -42,18 +31,6 @@ pub fn local_infile_request_is_good(_packet: &LocalInfileRequest<'_>)
 /// A `ComQueryWithAttributes` comes back before nothing.
 pub fn com_query_with_attributes_is_good(_packet: &ComQueryWithAttributes<'_>)
     ensures { ⟦<ComQueryWithAttributes<'static> as Wire<'static, Global>>⟧.good tt _packet.now [] }
-{}
-
-/// A `ComPing` comes back whatever follows.
-pub fn com_ping_is_good(_packet: &ComPing)
-    ensures { (rest : List ℕ)
-        → ⟦<ComPing as Wire<'static, Global>>⟧.good tt _packet.now rest }
-{}
-
-/// A `ComQuit` comes back whatever follows.
-pub fn com_quit_is_good(_packet: &ComQuit)
-    ensures { (rest : List ℕ)
-        → ⟦<ComQuit as Wire<'static, Global>>⟧.good tt _packet.now rest }
 {}
 
 /// A `ColumnCount` comes back whatever follows, where its parts are there just as both sides'
@@ -90,19 +67,4 @@ pub fn text_value_is_good(_packet: &TextValue<'_>)
 pub fn text_row_is_good(_packet: &TextRow<'_>)
     ensures { (rest : List ℕ)
         → ⟦<TextRow<'static> as Wire<'static, Global>>⟧.good (length (cow_slice_items _packet.now.values.0)) _packet.now rest }
-{}
-
-/// A `ComChangeUser` comes back where its parts are there just as the capabilities and what follows
-/// each say.
-pub fn com_change_user_is_good(_packet: &ComChangeUser<'_>)
-    ensures { (capabilities : CapabilityFlags) (rest : List ℕ)
-        → IsThere (there_if true (set_bytes _packet.now
-        ++ ((name_bytes _packet.now ++ attrs_bytes _packet.now) ++ rest)))
-        _packet.now.character_set
-        → IsThere (there_if (has (capability_flags_bits capabilities) 0x80000)
-        (name_bytes _packet.now ++ (attrs_bytes _packet.now ++ rest)))
-        _packet.now.auth_plugin_name
-        → IsThere (there_if (has (capability_flags_bits capabilities) 0x100000)
-        (attrs_bytes _packet.now ++ rest)) _packet.now.connect_attrs
-        → ⟦<ComChangeUser<'static> as Wire<'static, Global>>⟧.good capabilities _packet.now rest }
 {}

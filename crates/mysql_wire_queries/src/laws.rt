@@ -9,12 +9,8 @@ ghost use Rattle.mysql_wire_packets.specs.Written.{WritesBack, WritesSame};
 
 use crate::column_count::ColumnCount;
 use crate::column_definition::ColumnDefinition41;
-use crate::com_change_user::ComChangeUser;
-use crate::com_init_db::ComInitDb;
-use crate::com_ping::ComPing;
 use crate::com_query::ComQuery;
 use crate::com_query_attributes::ComQueryWithAttributes;
-use crate::com_quit::ComQuit;
 use crate::local_infile::LocalInfileRequest;
 use crate::text_row::{TextRow, TextValue};
 use crate::type_detail::TypeDetail;
@@ -28,28 +24,10 @@ pub fn com_query_is_written_back()
         ⟦<ComQuery<'static> as MySerialize>⟧.bytes }
 {}
 
-/// Of `ComInitDb`.
-pub fn com_init_db_is_written_back()
-    ensures { WritesSame (⟦<ComInitDb<'static> as MyDeserialize<'static, Global>>⟧.reads tt)
-        ⟦<ComInitDb<'static> as MySerialize>⟧.bytes }
-{}
-
 /// Of `LocalInfileRequest`.
 pub fn local_infile_request_is_written_back()
     ensures { WritesSame (⟦<LocalInfileRequest<'static> as MyDeserialize<'static, Global>>⟧.reads tt)
         ⟦<LocalInfileRequest<'static> as MySerialize>⟧.bytes }
-{}
-
-/// Of `ComPing`.
-pub fn com_ping_is_written_back()
-    ensures { WritesSame (⟦<ComPing as MyDeserialize<'static, Global>>⟧.reads tt)
-        ⟦<ComPing as MySerialize>⟧.bytes }
-{}
-
-/// Of `ComQuit`.
-pub fn com_quit_is_written_back()
-    ensures { WritesSame (⟦<ComQuit as MyDeserialize<'static, Global>>⟧.reads tt)
-        ⟦<ComQuit as MySerialize>⟧.bytes }
 {}
 
 /// Of `ColumnCount`.
@@ -89,11 +67,4 @@ pub fn text_row_is_written_back()
 pub fn com_query_with_attributes_is_written_back()
     ensures { WritesBack (⟦<ComQueryWithAttributes<'static> as MyDeserialize<'static, Global>>⟧.reads tt)
         ⟦<ComQueryWithAttributes<'static> as MySerialize>⟧.bytes }
-{}
-
-/// Of `ComChangeUser`.
-pub fn com_change_user_is_written_back()
-    ensures { (capabilities : CapabilityFlags) →
-        WritesBack (⟦<ComChangeUser<'static> as MyDeserialize<'static, Global>>⟧.reads capabilities)
-        ⟦<ComChangeUser<'static> as MySerialize>⟧.bytes }
 {}

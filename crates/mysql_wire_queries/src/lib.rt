@@ -1,15 +1,10 @@
-//! Commands but those of prepared statements, and their answers: columns and rows of text.
+//! Queries, and their answers: columns and rows of text.
 #![tactic(auto)]
 
-pub mod client_command;
 pub mod column_count;
 pub mod column_definition;
-pub mod com_change_user;
-pub mod com_init_db;
-pub mod com_ping;
 pub mod com_query;
 pub mod com_query_attributes;
-pub mod com_quit;
 pub mod good;
 pub mod laws;
 pub mod local_infile;

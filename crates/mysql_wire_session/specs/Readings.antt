@@ -3,7 +3,7 @@
 use Rattle.std.specs.Prelude.{◌≡◌, ◌⊎◌, ◌&&◌, ◌==◌, not, if◌then◌else◌, nat_lt, ℕ, ⊤, Bool, true, false, List, take, drop, length, Option, Some, None, Result, Ok, Err}
 use denote.Param.{number}
 use Rattle.wire_buf.specs.Numbers.{le_number}
-use Rattle.mysql_wire_queries.specs.declared.client_command.ClientCommand.TheVariants as command
+use Rattle.mysql_wire_session_packets.specs.declared.client_command.ClientCommand.TheVariants as command
 use Rattle.mysql_wire_session_packets.specs.declared.packet_kind.PacketKind.{PacketKind}
 use Rattle.mysql_wire_session_packets.specs.declared.packet_kind.PacketKind.TheVariants as kind
 use Rattle.mysql_wire_session_packets.specs.declared.phase.Phase.{Phase}

@@ -1,2 +1,3 @@
+pub mod Changes
 pub mod LongTexts
 pub mod Replicas

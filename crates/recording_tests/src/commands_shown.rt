@@ -1,12 +1,12 @@
 //! The fields of commands.
 
 use crate::shown::{Field, Fields, Shown, text_if, texts_if};
-use mysql_wire_queries::com_change_user::ComChangeUser;
-use mysql_wire_queries::com_init_db::ComInitDb;
-use mysql_wire_queries::com_ping::ComPing;
 use mysql_wire_queries::com_query::ComQuery;
 use mysql_wire_queries::com_query_attributes::ComQueryWithAttributes;
-use mysql_wire_queries::com_quit::ComQuit;
+use mysql_wire_utility::com_change_user::ComChangeUser;
+use mysql_wire_utility::com_init_db::ComInitDb;
+use mysql_wire_utility::com_ping::ComPing;
+use mysql_wire_utility::com_quit::ComQuit;
 use mysql_wire_utility::com_set_option::ComSetOption;
 use mysql_wire_utility::com_statistics::{ComStatistics, StatisticsText};
 

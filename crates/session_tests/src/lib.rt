@@ -1,4 +1,4 @@
-//! `Session` of mysql_wire_session, followed packet by packet, and its callers in `session_examples`.
+//! `Session` of mysql_wire_session, followed packet by packet.
 #![tactic(auto)]
 
 #[cfg(test)]

@@ -1,7 +1,6 @@
 // `Session` of mysql_wire_session, packet by packet: with all memory, and with each request for it
 // refused in turn.
 
-mod answer;
 mod exchanges;
 
 use exchanges::{

@@ -1,24 +1,24 @@
 //! Commands.
 
 ghost use Rattle.std.specs.Prelude.{◌≡◌, ◌∷◌, [], OnOk};
-ghost use Rattle.mysql_wire_queries.specs.declared.client_command.ClientCommand.TheVariants.{AttributedQuery, ChangeUser, InitDb, Ping, Query, Quit};
+ghost use Rattle.mysql_wire_session_packets.specs.declared.client_command.ClientCommand.TheVariants.{AttributedQuery, ChangeUser, InitDb, Ping, Query, Quit};
 ghost use Rattle.mysql_wire_dump_fields.specs.CommandFields.{attributes_and_query, execute_fields, fetch_fields, long_data_fields, number_fields, params_fields, plain_fields, prepare_fields};
 ghost use Rattle.wire_text.specs.FieldTables.{members_in, row_if};
 ghost use Rattle.wire_text.specs.Fields.{Number, Octets, Puts};
 
 use super::{Show, bytes_if, words_if};
-use mysql_wire_queries::com_change_user::ComChangeUser;
-use mysql_wire_queries::com_init_db::ComInitDb;
-use mysql_wire_queries::com_ping::ComPing;
 use mysql_wire_queries::com_query::ComQuery;
 use mysql_wire_queries::com_query_attributes::ComQueryWithAttributes;
-use mysql_wire_queries::com_quit::ComQuit;
 use mysql_wire_statements::com_stmt_execute::ComStmtExecute;
 use mysql_wire_statements::com_stmt_fetch::ComStmtFetch;
 use mysql_wire_statements::com_stmt_prepare::ComStmtPrepare;
 use mysql_wire_statements::com_stmt_send_long_data::ComStmtSendLongData;
 use mysql_wire_statements::params::{ParamTypes, StmtParams};
 use mysql_wire_statements::statement_command::StatementCommand;
+use mysql_wire_utility::com_change_user::ComChangeUser;
+use mysql_wire_utility::com_init_db::ComInitDb;
+use mysql_wire_utility::com_ping::ComPing;
+use mysql_wire_utility::com_quit::ComQuit;
 use std::alloc::{AllocError, Allocator};
 use wire_text::fields::Field::{Bytes, Flags, Number, Text};
 use wire_text::fields::{Field, FieldValue, Fields};

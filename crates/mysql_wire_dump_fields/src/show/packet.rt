@@ -9,7 +9,7 @@ use super::{
     Show, binary_row, column_bytes, event, number_of_statement, other_command, row_bytes,
     statistics, text_row,
 };
-use mysql_wire_queries::client_command::ClientCommand;
+use mysql_wire_session_packets::client_command::ClientCommand;
 use mysql_wire_session_packets::packet::{Packet, Received, Row};
 use mysql_wire_session_packets::packet_kind::PacketKind;
 use mysql_wire_session_packets::refusal::{Refusal, SessionError};

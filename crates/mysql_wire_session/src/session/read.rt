@@ -2,7 +2,7 @@
 
 ghost use Rattle.std.specs.Prelude.{◌≡◌, length};
 ghost use Rattle.mysql_wire_packets.specs.Optional.{has_query_attributes};
-ghost use Rattle.mysql_wire_queries.specs.declared.client_command.ClientCommand.TheVariants.{AttributedQuery, ChangeUser, InitDb, Ping, Query, Quit};
+ghost use Rattle.mysql_wire_session_packets.specs.declared.client_command.ClientCommand.TheVariants.{AttributedQuery, ChangeUser, InitDb, Ping, Query, Quit};
 ghost use Rattle.mysql_wire_session_packets.specs.declared.packet.Packet.TheVariants.{Command};
 ghost use Rattle.mysql_wire_session.specs.Advance.{opened, without_eof};
 ghost use Rattle.mysql_wire_session.specs.Opening.{opened_state};
@@ -16,18 +16,18 @@ use crate::classify::first_byte;
 use crate::payload::Payload;
 use mysql_wire_packets::ok_packet::InfoForm;
 use mysql_wire_packets::places::read_whole;
-use mysql_wire_queries::client_command::ClientCommand;
-use mysql_wire_queries::com_change_user::ComChangeUser;
-use mysql_wire_queries::com_init_db::ComInitDb;
-use mysql_wire_queries::com_ping::ComPing;
 use mysql_wire_queries::com_query::ComQuery;
 use mysql_wire_queries::com_query_attributes::ComQueryWithAttributes;
-use mysql_wire_queries::com_quit::ComQuit;
+use mysql_wire_session_packets::client_command::ClientCommand;
 use mysql_wire_session_packets::packet::{Packet, Row};
 use mysql_wire_session_packets::packet_kind::PacketKind;
 use mysql_wire_session_packets::phase::{Phase, RowForm};
 use mysql_wire_session_packets::refusal::{Refusal, SessionError};
 use mysql_wire_statements::binary_row::BinaryRow;
+use mysql_wire_utility::com_change_user::ComChangeUser;
+use mysql_wire_utility::com_init_db::ComInitDb;
+use mysql_wire_utility::com_ping::ComPing;
+use mysql_wire_utility::com_quit::ComQuit;
 use std::alloc::{Allocator, Global};
 use wire_const::{CapabilityFlags, Flags};
 

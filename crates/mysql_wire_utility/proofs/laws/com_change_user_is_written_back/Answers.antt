@@ -4,7 +4,7 @@ use Rattle.mysql_wire_packets.specs.Again.{both_again, const_again, null_text_ag
 use Rattle.mysql_wire_packets.specs.More.{if_more}
 use Rattle.mysql_wire_packets.specs.Optional.{has, side}
 use Rattle.mysql_wire_packets.specs.Shortest.{u8_text_again, written_back, at_input_of, both_of, exact, optional_of, part_of, text_of}
-use Rattle.mysql_wire_queries.proofs.laws.com_change_user_is_written_back.Goals as goal
+use Rattle.mysql_wire_utility.proofs.laws.com_change_user_is_written_back.Goals as goal
 
 pub returns : goal.returns
 returns c = λ capabilities input packet eaten is read.

@@ -1,5 +1,5 @@
 use Rattle.std.proofs.Common.{ap, sym, take, ◌∙◌}
-use Rattle.mysql_wire_queries.proofs.laws.com_ping_is_written_back.Goals as goal
+use Rattle.mysql_wire_utility.proofs.laws.com_quit_is_written_back.Goals as goal
 
 pub returns : goal.returns
 returns c = λ input packet eaten is read.

@@ -10,7 +10,7 @@ use Rattle.mysql_wire_packets.specs.InOrder.{text_bytes, u8_text_bytes}
 use Rattle.mysql_wire_packets.specs.NullTexts.{clean}
 use Rattle.mysql_wire_packets.specs.Optional.{bytes_if, field}
 use Rattle.mysql_wire_packets.specs.declared.optional.IfMore.{IfMore}
-use Rattle.mysql_wire_queries.specs.declared.com_change_user.ComChangeUser.{ComChangeUser}
+use Rattle.mysql_wire_utility.specs.declared.com_change_user.ComChangeUser.{ComChangeUser}
 
 -- up to the name of the database
 abbrev pub user_bytes : ComChangeUser → List ℕ

@@ -1,7 +1,8 @@
 // `count_rows` and `may_change_hands` of session_examples, with each request for memory refused.
 
-use super::MOST;
-use super::exchanges::CONNECTION;
+use mysql_wire::proto::codec::PacketCodec;
+use mysql_wire::proto::packet_io::PacketReader;
+use mysql_wire_session::packet_kind::PacketKind;
 use mysql_wire_session::session::Session;
 use mysql_wire_session::side::Side;
 use refusing_allocator::{NEVER, Refusing};
@@ -11,25 +12,22 @@ use std::alloc::Global;
 use std::test::Fail;
 use test_support::facts::ensure;
 use test_support::fixture::Heap;
-use wire_codec::codec::PacketCodec;
-use wire_packet_io::PacketReader;
 
-const ASKED: &[u8] = b"\x03SELECT 1";
+// No call asks for memory so often.
+const MOST: u64 = 10;
 
 // A column, an EOF, two rows, and an EOF that says that no index was used.
 const ANSWER: &[u8] =
     b"\x01\0\0\x01\x01\x17\0\0\x02\x03def\0\0\0\x011\0\x0c\x3f\0\x01\0\0\0\x08\x81\0\0\0\0\
     \x05\0\0\x03\xfe\0\0\x02\0\x02\0\0\x04\x011\x01\0\0\x05\xfb\x05\0\0\x06\xfe\0\0\x22\0";
 
-// A session after a login and a query.
+// A session after a login, without a flag but that of the protocol, and a query.
 fn asked(heap: &Heap, global: Global) -> Session<&Heap> {
     let mut session = Session::new(heap, global);
-    let mut id = 0u8;
-    for (side, payload, ..) in CONNECTION {
-        let _ = session.advance_front(*side, id, payload.len(), payload);
-        id = id.wrapping_add(1);
-    }
-    let _ = session.advance_front(Side::Client, 0, ASKED.len(), ASKED);
+    session.advance_by_kind(Side::Server, 0, PacketKind::Greeting, 80);
+    session.advance_by_kind(Side::Client, 1, PacketKind::Login, 60);
+    session.advance_by_kind(Side::Server, 2, PacketKind::Ok, 8);
+    session.advance_by_kind(Side::Client, 0, PacketKind::Query, 9);
     session
 }
 

@@ -1,5 +1,5 @@
 use Rattle.std.proofs.Common.{sym}
-use Rattle.mysql_wire_queries.proofs.com_change_user.ComChangeUserMyDeserializeGlobal.deserialize.Goals as goal
+use Rattle.mysql_wire_utility.proofs.com_change_user.ComChangeUserMyDeserializeGlobal.deserialize.Goals as goal
 
 pub returns-in-Ok : goal.returns-in-Ok
 returns-in-Ok c = rw (

@@ -7,7 +7,7 @@ ghost use Rattle.wire_const.specs.FlagSets.{capability_flags_bits};
 ghost use Rattle.wire_buf.specs.Numbers.{le_bytes};
 ghost use Rattle.wire_repr.specs.Texts.{IsText, IsBorrowedText};
 ghost use Rattle.wire_buf.specs.Reading.{Parses, Through};
-ghost use Rattle.mysql_wire_queries.specs.Changes.{attrs_bytes, change_fields, name_bytes, set_bytes, user_bytes};
+ghost use Rattle.mysql_wire_utility.specs.Changes.{attrs_bytes, change_fields, name_bytes, set_bytes, user_bytes};
 ghost use Rattle.mysql_wire_packets.specs.InOrder.{packet, both, const_u8, lenenc_text, number, text_bytes, u8_cut, u8_text};
 ghost use Rattle.mysql_wire_packets.specs.More.{more, there_if};
 ghost use Rattle.mysql_wire_packets.specs.NullTexts.{clean, null_text};

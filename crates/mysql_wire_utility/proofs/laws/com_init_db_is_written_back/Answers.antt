@@ -1,5 +1,5 @@
 use Rattle.mysql_wire_packets.specs.Again.{both_again, const_again, eof_text_again, packet_again}
-use Rattle.mysql_wire_queries.proofs.laws.com_init_db_is_written_back.Goals as goal
+use Rattle.mysql_wire_utility.proofs.laws.com_init_db_is_written_back.Goals as goal
 
 pub returns : goal.returns
 returns c = λ input packet eaten is read. (packet_again (λ command. (_, command.schema))
