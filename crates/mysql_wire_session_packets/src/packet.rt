@@ -1,5 +1,6 @@
 //! What a payload is read as.
 
+use crate::client_command::ClientCommand;
 use crate::packet_kind::PacketKind;
 use crate::refusal::Refusal;
 use crate::side::Side;
@@ -16,7 +17,6 @@ use mysql_wire_packets::progress_report::ProgressReport;
 use mysql_wire_queries::column_count::ColumnCount;
 use mysql_wire_queries::column_definition::ColumnDefinition41;
 use mysql_wire_queries::local_infile::LocalInfileRequest;
-use mysql_wire_session_packets::client_command::ClientCommand;
 use mysql_wire_statements::binary_row::BinaryRow;
 use mysql_wire_statements::com_stmt_close::ComStmtClose;
 use mysql_wire_statements::com_stmt_execute::ComStmtExecute;
