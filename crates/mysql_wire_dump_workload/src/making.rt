@@ -11,8 +11,14 @@ use mysql_wire::proto::codec::PacketCodec;
 use mysql_wire_queries::column_definition::ColumnDefinition41;
 use std::alloc::Global;
 
-// `CLIENT_PROTOCOL_41`, `CLIENT_SECURE_CONNECTION` and `CLIENT_PLUGIN_AUTH`, in their bytes.
-const CAPABILITIES: [u8; 4] = [0x00, 0x82, 0x08, 0x00];
+// Both sides have `CLIENT_PROTOCOL_41`, `CLIENT_SECURE_CONNECTION` and `CLIENT_PLUGIN_AUTH`.
+const GREETING: &[u8] =
+    b"\x0a8.0.36\0\x07\0\0\0abcdefgh\0\0\x82\x2d\x02\0\x08\0\x15\0\0\0\0\0\0\0\0\0\0\
+    ijklmnopqrst\0mysql_native_password\0";
+
+const LOGIN: &[u8] =
+    b"\0\x82\x08\0\0\0\0\x01\x2d\0\0\0\0\0\0\0\0\0\0\0\0\0\0\0\0\0\0\0\0\0\0\0root\0\
+    \x14abcdefghijklmnopqrstmysql_native_password\0";
 
 const END: &[u8] = &[0xfe, 0, 0, 2, 0];
 
@@ -72,15 +78,8 @@ impl Session {
 }
 
 fn log_in(session: &mut Session) -> Option<()> {
-    let [low, middle, high, highest] = CAPABILITIES;
-    session.put(b"\x0a8.0.36\0\x07\0\0\0abcdefgh\0")?;
-    session.put(&[low, middle, 45, 2, 0, high, highest, 21])?;
-    session.put(&[0; 10])?;
-    session.answer(b"ijklmnopqrst\0mysql_native_password\0")?;
-    session.put(&CAPABILITIES)?;
-    session.put(&[0, 0, 0, 1, 45])?;
-    session.put(&[0; 23])?;
-    session.put(b"root\0\x14abcdefghijklmnopqrstmysql_native_password\0")?;
+    session.answer(GREETING)?;
+    session.put(LOGIN)?;
     session.send(true)?;
     session.answer(OK)
 }
@@ -159,20 +158,30 @@ fn execute(session: &mut Session, draws: &mut Draws, letters: &Letters, rows: us
     result(session, draws, letters, rows, true)
 }
 
+// 100 small commands, a query of 100 rows and a statement of 100 rows.
+fn work(session: &mut Session, draws: &mut Draws, letters: &Letters) -> Option<()> {
+    for _ in 0..100 {
+        small(session, draws, letters)?;
+    }
+    let len = 70 + draws.below(200);
+    session.command(0x03, letters.text(draws, Script::Quoted, len))?;
+    result(session, draws, letters, 100, false)?;
+    execute(session, draws, letters, 100)
+}
+
+// A login, work four times, and the end.
+fn put_all(session: &mut Session, draws: &mut Draws, letters: &Letters) -> Option<()> {
+    log_in(session)?;
+    for _ in 0..4 {
+        work(session, draws, letters)?;
+    }
+    session.command(0x01, b"")
+}
+
 /// A login, 400 small commands, four queries of 100 rows and four statements of 100 rows, among
 /// each other.
 pub fn make_session(alloc: Global, draws: &mut Draws, letters: &Letters) -> Option<Session> {
     let mut session = Session::new(alloc);
-    log_in(&mut session)?;
-    for _ in 0..4 {
-        for _ in 0..100 {
-            small(&mut session, draws, letters)?;
-        }
-        let len = 70 + draws.below(200);
-        session.command(0x03, letters.text(draws, Script::Quoted, len))?;
-        result(&mut session, draws, letters, 100, false)?;
-        execute(&mut session, draws, letters, 100)?;
-    }
-    session.command(0x01, b"")?;
+    put_all(&mut session, draws, letters)?;
     Some(session)
 }
