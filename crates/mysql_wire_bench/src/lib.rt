@@ -9,7 +9,6 @@ mod fields;
 mod in_place;
 mod packets;
 mod rows;
-mod sessions;
 mod spans;
 mod streams;
 mod typed;

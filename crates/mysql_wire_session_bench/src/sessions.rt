@@ -1,11 +1,13 @@
 //! Sessions that are followed.
 
-use crate::check::REFUSED;
 use mysql_wire_session::packet_kind::PacketKind;
 use mysql_wire_session::session::{FrontError, Session};
 use mysql_wire_session::side::{Sender, Side};
 use std::alloc::Global;
 use wire_codec::codec::header::{HEADER_LEN, Header};
+
+// The answer where a packet can't stand where it does.
+const REFUSED: u64 = u64::MAX;
 
 // How a packet is followed.
 #[derive(Clone, Copy)]
