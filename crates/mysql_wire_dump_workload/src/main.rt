@@ -2,15 +2,11 @@
 //! all that `run_dump` wrote, and how many bytes were read and written.
 #![tactic(auto)]
 
-mod draws;
-mod making;
-mod values;
-
-use draws::{Draws, Letters};
-use making::{Session, make_session};
 use mysql_wire_dump_lines::lines::LineForm;
 use mysql_wire_dump_lines::options::{Options, Sides};
 use mysql_wire_dump_session::dump::run_dump;
+use session_inputs::draws::{Draws, Letters};
+use session_inputs::making::{Session, make_session};
 use std::alloc::Global;
 use std::env;
 use std::process::ExitCode;

@@ -16,18 +16,21 @@ const QUOTED: &[u8; 64] =
 // How many letters of each kind stand by.
 const LETTERS: usize = 24576;
 
+/// What numbers are drawn from.
 #[derive(Drop)]
 pub struct Draws {
     rng: Xoshiro256PlusPlus,
 }
 
 impl Draws {
+    /// The numbers of this seed.
     pub fn new(seed: u64) -> Self {
         Draws {
             rng: Xoshiro256PlusPlus::seed_from_u64(seed),
         }
     }
 
+    /// A number of 64 bits.
     pub fn word(&mut self) -> u64 {
         self.rng.next_u64()
     }

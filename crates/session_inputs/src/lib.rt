@@ -1,0 +1,6 @@
+//! Sessions that a seed makes.
+#![tactic(auto)]
+
+pub mod draws;
+pub mod making;
+mod values;
