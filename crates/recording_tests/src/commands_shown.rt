@@ -3,10 +3,17 @@
 use crate::shown::{Field, Fields, Shown, text_if, texts_if};
 use mysql_wire_queries::com_query::ComQuery;
 use mysql_wire_queries::com_query_attributes::ComQueryWithAttributes;
+use mysql_wire_utility::com_binlog_dump::ComBinlogDump;
+use mysql_wire_utility::com_binlog_dump_gtid::ComBinlogDumpGtid;
 use mysql_wire_utility::com_change_user::ComChangeUser;
+use mysql_wire_utility::com_debug::ComDebug;
+use mysql_wire_utility::com_field_list::ComFieldList;
 use mysql_wire_utility::com_init_db::ComInitDb;
 use mysql_wire_utility::com_ping::ComPing;
+use mysql_wire_utility::com_process_kill::ComProcessKill;
 use mysql_wire_utility::com_quit::ComQuit;
+use mysql_wire_utility::com_register_slave::ComRegisterSlave;
+use mysql_wire_utility::com_reset_connection::ComResetConnection;
 use mysql_wire_utility::com_set_option::ComSetOption;
 use mysql_wire_utility::com_statistics::{ComStatistics, StatisticsText};
 
@@ -78,5 +85,76 @@ impl Shown for ComStatistics {
 impl Shown for StatisticsText<'_> {
     fn show(&self, fields: &mut Fields) {
         fields.put(Field::Text(self.text.as_bytes()));
+    }
+}
+
+impl Shown for ComFieldList<'_> {
+    fn show(&self, fields: &mut Fields) {
+        fields.put_all(&[
+            Field::Number(0x04),
+            Field::Text(self.table.as_bytes()),
+            Field::Text(self.wildcard.as_bytes()),
+        ]);
+    }
+}
+
+impl Shown for ComProcessKill {
+    fn show(&self, fields: &mut Fields) {
+        fields.put_all(&[
+            Field::Number(0x0c),
+            Field::Number(self.connection_id as u64),
+        ]);
+    }
+}
+
+impl Shown for ComDebug {
+    fn show(&self, fields: &mut Fields) {
+        fields.put(Field::Number(0x0d));
+    }
+}
+
+impl Shown for ComResetConnection {
+    fn show(&self, fields: &mut Fields) {
+        fields.put(Field::Number(0x1f));
+    }
+}
+
+impl Shown for ComRegisterSlave<'_> {
+    fn show(&self, fields: &mut Fields) {
+        fields.put_all(&[
+            Field::Number(0x15),
+            Field::Number(self.server_id as u64),
+            Field::Text(self.hostname.as_bytes()),
+            Field::Text(self.user.as_bytes()),
+            Field::Text(self.password.as_bytes()),
+            Field::Number(self.port as u64),
+            Field::Number(self.replication_rank as u64),
+            Field::Number(self.master_id as u64),
+        ]);
+    }
+}
+
+impl Shown for ComBinlogDump<'_> {
+    fn show(&self, fields: &mut Fields) {
+        fields.put_all(&[
+            Field::Number(0x12),
+            Field::Number(self.pos as u64),
+            Field::Number(self.flags as u64),
+            Field::Number(self.server_id as u64),
+            Field::Text(self.filename.as_bytes()),
+        ]);
+    }
+}
+
+impl Shown for ComBinlogDumpGtid<'_> {
+    fn show(&self, fields: &mut Fields) {
+        fields.put_all(&[
+            Field::Number(0x1e),
+            Field::Number(self.flags as u64),
+            Field::Number(self.server_id as u64),
+            Field::Text(self.filename.as_bytes()),
+            Field::Number(self.pos),
+            Field::Text(self.sid_block.as_bytes()),
+        ]);
     }
 }

@@ -14,7 +14,7 @@ pub enum Place {
     /// This many definitions.
     Definitions(Defined, u64),
     DefinitionsEnd(Defined),
-    /// The answer to `COM_SET_OPTION`.
+    /// The answer to `COM_SET_OPTION` or `COM_DEBUG`.
     Option,
     /// The answer to `COM_STATISTICS`.
     Statistics,
@@ -72,12 +72,20 @@ pub enum Kind {
     Progress = 27,
     TlsRequest = 28,
     MoreData = 29,
+    FieldList = 30,
+    ProcessKill = 31,
+    Debug = 32,
+    ResetConnection = 33,
+    RegisterReplica = 34,
+    BinaryLog = 35,
+    /// The same by transactions.
+    BinaryLogGtid = 36,
     /// What its place does not allow.
-    Unexpected = 30,
+    Unexpected = 37,
 }
 
 /// How many kinds there are.
-pub const KINDS: usize = 31;
+pub const KINDS: usize = 38;
 
 /// The names of the kinds, in order.
 pub const NAMES: [&str; KINDS] = [
@@ -111,5 +119,12 @@ pub const NAMES: [&str; KINDS] = [
     "progress",
     "ssl request",
     "auth more data",
+    "field list",
+    "process kill",
+    "debug",
+    "reset connection",
+    "register replica",
+    "binary log",
+    "binary log by transactions",
     "unexpected",
 ];

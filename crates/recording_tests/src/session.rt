@@ -18,6 +18,13 @@ use mysql_wire_statements::binary_row::BinaryRow;
 use mysql_wire_statements::com_stmt_fetch::ComStmtFetch;
 use mysql_wire_statements::com_stmt_prepare::ComStmtPrepare;
 use mysql_wire_statements::prepare_answer::PrepareAnswer;
+use mysql_wire_utility::com_binlog_dump::ComBinlogDump;
+use mysql_wire_utility::com_binlog_dump_gtid::ComBinlogDumpGtid;
+use mysql_wire_utility::com_debug::ComDebug;
+use mysql_wire_utility::com_field_list::ComFieldList;
+use mysql_wire_utility::com_process_kill::ComProcessKill;
+use mysql_wire_utility::com_register_slave::ComRegisterSlave;
+use mysql_wire_utility::com_reset_connection::ComResetConnection;
 use mysql_wire_utility::com_set_option::ComSetOption;
 use mysql_wire_utility::com_statistics::{ComStatistics, StatisticsText};
 use std::alloc::Global;
@@ -202,6 +209,13 @@ impl Session {
                 self.place = Place::Rows;
                 Found::exact::<ComStmtFetch>(alloc, Kind::Fetch, (), payload)
             }
+            _ => self.server_command(alloc, header, payload),
+        }
+    }
+
+    // The commands of the server, of which a column of a table and an event of a log have no type.
+    fn server_command(&mut self, alloc: Global, header: u8, payload: Payload<'_>) -> Found {
+        match header {
             0x1b => {
                 self.place = Place::Option;
                 Found::exact::<ComSetOption>(alloc, Kind::SetOption, (), payload)
@@ -209,6 +223,34 @@ impl Session {
             0x09 => {
                 self.place = Place::Statistics;
                 Found::exact::<ComStatistics>(alloc, Kind::Statistics, (), payload)
+            }
+            0x04 => {
+                self.place = Place::End;
+                Found::exact::<ComFieldList<'_>>(alloc, Kind::FieldList, (), payload)
+            }
+            0x0c => Found::exact::<ComProcessKill>(alloc, Kind::ProcessKill, (), payload),
+            0x0d => {
+                self.place = Place::Option;
+                Found::exact::<ComDebug>(alloc, Kind::Debug, (), payload)
+            }
+            0x1f => Found::exact::<ComResetConnection>(alloc, Kind::ResetConnection, (), payload),
+            _ => self.replica_command(alloc, header, payload),
+        }
+    }
+
+    // The commands of a replica.
+    fn replica_command(&mut self, alloc: Global, header: u8, payload: Payload<'_>) -> Found {
+        match header {
+            0x15 => {
+                Found::exact::<ComRegisterSlave<'_>>(alloc, Kind::RegisterReplica, (), payload)
+            }
+            0x12 => {
+                self.place = Place::End;
+                Found::exact::<ComBinlogDump<'_>>(alloc, Kind::BinaryLog, (), payload)
+            }
+            0x1e => {
+                self.place = Place::End;
+                Found::exact::<ComBinlogDumpGtid<'_>>(alloc, Kind::BinaryLogGtid, (), payload)
             }
             _ => Found::refused(Kind::Unexpected, payload),
         }
