@@ -1,6 +1,6 @@
 //! A client that reads the answer to a command.
 
-ghost use Rattle.std.specs.Prelude.{◌≡◌, true, IfOk};
+ghost use Rattle.std.specs.Prelude.{◌≡◌, true, false, IfOk, OnErr};
 ghost use Rattle.mysql_wire_session.specs.Senders.{is_idle};
 ghost use Rattle.mysql_wire_session.specs.State.{state_of};
 ghost use Rattle.session_examples.specs.Answers.{CountsRows, TakesPacket, is_row};
@@ -75,9 +75,8 @@ fn read_packet<R: Read, A: Allocator + Copy>(
     Ok(kind)
 }
 
-/// Reads a server's packets up to the end of the answer, when the session is idle again, and counts
-/// the rows. The command was sent, and the session went on after it.
-pub fn count_rows<R: Read, A: Allocator + Copy>(
+// Reads a server's packets until the session is idle, and counts the rows.
+fn read_answer<R: Read, A: Allocator + Copy>(
     session: &mut Session<A>,
     reader: &mut PacketReader<R, A>,
     codec: &mut PacketCodec,
@@ -97,4 +96,24 @@ pub fn count_rows<R: Read, A: Allocator + Copy>(
         rows = sum;
     }
     Err(AnswerError::NoEnd)
+}
+
+/// Reads a server's packets up to the end of the answer, when the session is idle again, and counts
+/// the rows. The command was sent, and the session went on after it. Of a session that is idle
+/// nothing is read.
+pub fn count_rows<R: Read, A: Allocator + Copy>(
+    session: &mut Session<A>,
+    reader: &mut PacketReader<R, A>,
+    codec: &mut PacketCodec,
+) -> Result<u64, AnswerError>
+    ensures counts { IfOk result (λ rows. (is_idle session.new.phase ≡ true)
+        × CountsRows rows (state_of session.old) (state_of session.new)) }
+    ensures fails { OnErr result (is_idle session.old.phase ≡ false) }
+    ensures waits { is_idle session.old.phase ≡ true → (reader.new ≡ reader.old)
+        × (codec.new ≡ codec.old) }
+{
+    if session.is_idle() {
+        return Ok(0);
+    }
+    read_answer(session, reader, codec)
 }
