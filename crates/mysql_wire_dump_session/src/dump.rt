@@ -96,12 +96,7 @@ fn show_other<A: Allocator + Copy>(
         (state_of session.new) fields.old fields.new) }
 {
     match session.read(came.0, came.1, payload) {
-        Ok(received) => {
-            let shown = show_received(global, session, fields, &received);
-            // (a drop where the call ends takes four times as long to prove)
-            drop(received);
-            shown
-        }
+        Ok(received) => show_received(global, session, fields, &received),
         Err(error) => Err(stop_of(error)),
     }
 }
