@@ -1,7 +1,7 @@
 #!/usr/bin/env python3
 """Writes the protocol's constants for C, crates/mysql_wire_c/include/mysql_wire_constants.h: the
 lengths, collations, flags and enums of wire_const, by their names and numbers, and the sides, senders,
-phases and kinds of packets of a session, by the numbers that mysql_wire_c_session gives them. With
+phases and kinds of packets of a session, by the numbers that mysql_wire_c gives them. With
 --check it writes nothing, and fails where the file is another.
 """
 import os
@@ -12,7 +12,7 @@ from glob import glob
 
 TOP = os.path.dirname(os.path.dirname(os.path.abspath(__file__)))
 SOURCES = os.path.join(TOP, "crates", "wire_const", "src")
-NUMBERS = os.path.join(TOP, "crates", "mysql_wire_c_session", "src", "numbers.rt")
+NUMBERS = os.path.join(TOP, "crates", "mysql_wire_c", "src", "numbers.rt")
 HEADER = os.path.join(TOP, "crates", "mysql_wire_c", "include", "mysql_wire_constants.h")
 
 RUST = os.path.join(TOP, "bindings", "rust", "mysql-wire", "src", "session", "numbers.rs")

@@ -1,4 +1,4 @@
-//! The packet layer for C: one side of a connection after a handle, and fields in bytes.
+//! The packet layer for C: one side of a connection after a handle, a session, and fields in bytes.
 //!
 //! `include/mysql_wire.h` has the same calls for C.
 #![tactic(auto)]
@@ -21,7 +21,10 @@ ghost use Rattle.mysql_wire_c_calls.specs.Spans.{state_of, IsValid, NextSpan, Re
 ghost use Rattle.mysql_wire_c_calls.specs.Rows.{ReadsRow, StopsRow};
 ghost use Rattle.mysql_wire_c_calls.specs.Fields.{IsCutShort, IsMark, ReadsAt, WritesAt, text_at};
 
+pub mod handle;
+pub mod numbers;
 pub mod session;
+pub mod session_calls;
 
 use mysql_wire_c_calls::connection::boxed;
 use mysql_wire_c_calls::fields::Span;

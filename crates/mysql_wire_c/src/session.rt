@@ -1,225 +1,271 @@
-//! The calls of a session.
+//! A session over the library's memory, and what its calls answer.
 
-ghost use Rattle.std.specs.Prelude.{◌≡◌, ◌↔◌, ◌⊎◌, IsSome, MatchOption, None, Some, is_some};
-ghost use Rattle.mysql_wire_c_session.specs.Calls.{BothSessions, Classifies, FollowsFront, FollowsPacket, Passes, TellsStatement, idle_number, new_session, next_id_of, phase_of, sender_of, status_of};
+ghost use Rattle.std.specs.Prelude.{◌≡◌, ◌⊎◌, IfOk, IfSome, OnErr, OnOk, length};
+ghost use Rattle.mysql_wire_session.specs.Readings.{Receives, advanced};
+ghost use Rattle.mysql_wire_session.specs.State.{state_of};
+ghost use Rattle.mysql_wire_side.specs.declared.codes.TheConstants.{NEEDS_WHOLE, NO_MEMORY, OK};
+ghost use Rattle.mysql_wire_c.specs.Calls.{Classifies, FollowsFront, FollowsPacket, Passes, TellsStatement, Took, TookFront, WantsWhole, idle_number, is_front, is_refused, new_session, next_id_of, phase_of, sender_of, status_of};
+ghost use Rattle.mysql_wire_c.specs.Numbers.{kind_number};
 
-use mysql_wire_c_session::handle::SessionHandle;
-use mysql_wire_c_session::session::boxed;
-use mysql_wire_side::codes::{CLOSED, IS_OPEN, NO_MEMORY, OK};
+use crate::numbers::{kind_number, phase_number, sender_number, side_of};
+use mysql_wire_session::packet::{Packet, Received, Row};
+use mysql_wire_session::refusal::SessionError;
+use mysql_wire_session::session::{FrontError, Session};
+use mysql_wire_session::side::Side;
+use mysql_wire_side::codes::{
+    NEEDS_WHOLE, NO_MEMORY, NO_STATEMENT, NOT_A_FRONT, NOT_A_SIDE, OK, REFUSED,
+};
 use std::alloc::Global;
-use std::mem;
+use std::marker::Model;
+use wire_const::Flags;
 
-/// Puts a session that begins into a handle of nothing.
-#[unsafe(no_mangle)]
-pub extern "C" fn mysql_wire_session_new(alloc: Global, handle: &mut SessionHandle) -> i32
-    ensures begins { result ≡ OK → (handle.old.session ≡ None)
-        × (handle.new.session ≡ Some new_session) }
-    ensures refused { (result ≡ OK) ⊎ (handle.new ≡ handle.old) }
-    ensures answers { (result ≡ OK) ⊎ (result ≡ IS_OPEN) ⊎ (result ≡ NO_MEMORY) }
-    ensures is_open { (result ≡ IS_OPEN) ↔ IsSome handle.old.session }
-{
-    if !handle.is_closed() {
-        return IS_OPEN;
-    }
-    match boxed(alloc) {
-        Some(session) => {
-            *handle = SessionHandle::of(session);
-            OK
-        }
-        None => NO_MEMORY,
-    }
+// The least bytes of a front that is not the whole payload.
+const FRONT_LEN: usize = 3;
+
+// A packet after which a session went on.
+#[derive(Clone, Copy)]
+struct Taken {
+    kind: u8,
+    is_refused: bool,
 }
 
-/// Frees the session, where there is one, and leaves the handle without one.
-#[unsafe(no_mangle)]
-pub extern "C" fn mysql_wire_session_free(alloc: Global, handle: &mut SessionHandle)
-    ensures { handle.new.session ≡ None }
-{
-    if handle.is_closed() {
-        return;
-    }
-    let old = mem::replace(handle, SessionHandle::closed(alloc));
-    drop(old.into_box())
+/// A session over the library's memory.
+///
+/// Contracts see what it knows: its `SessionState`.
+#[derive(Drop)]
+pub struct FollowedSession {
+    session: Session<Global>,
 }
 
-/// Reads a whole payload, and goes on after it.
-#[unsafe(no_mangle)]
-pub extern "C" fn mysql_wire_session_packet(
-    handle: &mut SessionHandle,
-    side: u32,
+impl Model for FollowedSession {
+    ghost use Rattle.mysql_wire_session.specs.State.{SessionState, state_of};
+
+    ghost Value = { SessionState };
+
+    ghost view = { λ followed. state_of followed.session };
+}
+
+// Whether the type of its place refuses a payload.
+fn is_refused(packet: &Packet<'_>) -> bool
+    ensures { result ≡ is_refused packet.now }
+{
+    matches!(packet, Packet::Refused(_) | Packet::Row(Row::Refused(_)))
+}
+
+// Whether this many bytes may be the front of a payload of this length.
+fn is_front(len: usize, count: usize) -> bool
+    ensures { result ≡ is_front len count }
+{
+    count == len || (count < len && FRONT_LEN <= count)
+}
+
+// Goes on after a packet that was read.
+fn advance_past(
+    session: &mut Session<Global>,
+    received: &Received<'_>,
+) -> Result<Taken, SessionError>
+    ensures taken { IfOk result (λ taken. (taken.kind ≡ kind_number received.now.kind)
+        × (taken.is_refused ≡ is_refused received.now.packet)) }
+    ensures goes { OnOk result (state_of session.new
+        ≡ advanced received.now (state_of session.old)) }
+    ensures stays { OnErr result (state_of session.new ≡ state_of session.old) }
+{
+    session.advance(received)?;
+    Ok(Taken {
+        kind: kind_number(received.kind),
+        is_refused: is_refused(&received.packet),
+    })
+}
+
+// Reads a whole payload, and goes on after it.
+fn take(
+    session: &mut Session<Global>,
+    side: Side,
     id: u8,
     payload: &[u8],
-    kind: &mut u32,
-) -> i32
-    ensures open { is_some handle.new.session ≡ is_some handle.old.session }
-    ensures closed { handle.old.session ≡ None → (result ≡ CLOSED) × (kind.new ≡ 0) }
-    ensures follows { BothSessions handle.old.session handle.new.session
-        (FollowsPacket side id payload.now kind.new result) }
+) -> Result<Taken, SessionError>
+    ensures takes { IfOk result (λ taken. Took side id payload.now taken.kind taken.is_refused
+        (state_of session.old) (state_of session.new)) }
+    ensures stays { OnErr result (state_of session.new ≡ state_of session.old) }
 {
-    *kind = 0;
-    if handle.is_closed() {
-        return CLOSED;
+    match session.read(side, id, payload) {
+        Ok(received) => advance_past(session, &received),
+        Err(error) => Err(error),
     }
-    handle.session().packet(side, id, payload, kind)
 }
 
-/// Goes on after a packet of this length, of which this front has come.
-#[unsafe(no_mangle)]
-pub extern "C" fn mysql_wire_session_front(
-    handle: &mut SessionHandle,
-    side: u32,
+// Goes on after a front, or says why not; `kind` is the number of a kind, or 0.
+fn take_front(
+    session: &mut Session<Global>,
+    side: Side,
     id: u8,
     len: usize,
     front: &[u8],
     kind: &mut u32,
 ) -> i32
-    ensures open { is_some handle.new.session ≡ is_some handle.old.session }
-    ensures closed { handle.old.session ≡ None → (result ≡ CLOSED) × (kind.new ≡ 0) }
-    ensures follows { BothSessions handle.old.session handle.new.session
-        (FollowsFront side id len front.now kind.new result) }
+    ensures takes { result ≡ OK → TookFront side id len front.now kind.new
+        (state_of session.old) (state_of session.new) }
+    ensures needs { result ≡ NEEDS_WHOLE → WantsWhole side id len front.now kind.new
+        (state_of session.old) }
+    ensures memory { result ≡ NO_MEMORY → length front.now ≡ len }
+    ensures stays { (result ≡ OK) ⊎ (state_of session.new ≡ state_of session.old) }
+    ensures none { (result ≡ OK) ⊎ (result ≡ NEEDS_WHOLE) ⊎ (kind.new ≡ 0) }
+    ensures answers { (result ≡ OK) ⊎ (result ≡ NEEDS_WHOLE) ⊎ (result ≡ NO_MEMORY) }
 {
     *kind = 0;
-    if handle.is_closed() {
-        return CLOSED;
+    match session.advance_front(side, id, len, front) {
+        Ok(called) => {
+            *kind = kind_number(called) as u32;
+            OK
+        }
+        Err(FrontError::NeedsWhole(called)) => {
+            *kind = kind_number(called) as u32;
+            NEEDS_WHOLE
+        }
+        Err(FrontError::Session(_)) => NO_MEMORY,
     }
-    handle.session().front(side, id, len, front, kind)
 }
 
-/// What a packet of this length is, of which this front has come.
-#[unsafe(no_mangle)]
-pub extern "C" fn mysql_wire_session_classify(
-    handle: &mut SessionHandle,
-    side: u32,
-    id: u8,
-    len: usize,
-    front: &[u8],
-    kind: &mut u32,
-) -> i32
-    ensures same { handle.new.session ≡ handle.old.session }
-    ensures classifies { MatchOption handle.old.session ((result ≡ CLOSED) × (kind.new ≡ 0))
-        (Classifies side id len front.now kind.new result) }
-{
-    *kind = 0;
-    if handle.is_closed() {
-        return CLOSED;
+impl FollowedSession {
+    /// A session that begins.
+    pub fn new(alloc: Global) -> FollowedSession
+        ensures { result ≡ new_session }
+    {
+        FollowedSession {
+            session: Session::new(alloc, alloc),
+        }
     }
-    handle.session().classify(side, id, len, front, kind)
+
+    /// Reads a whole payload, and goes on after it; `kind` is what it is in its phase. `REFUSED`: it
+    /// is no packet of that kind, and the session went on all the same. `NOT_A_SIDE` and `NO_MEMORY`
+    /// change nothing.
+    pub fn packet(&mut self, side: u32, id: u8, payload: &[u8], kind: &mut u32) -> i32
+        ensures { FollowsPacket side id payload.now kind.new result self.old self.new }
+    {
+        *kind = 0;
+        let Some(side) = side_of(side) else {
+            return NOT_A_SIDE;
+        };
+        match take(&mut self.session, side, id, payload) {
+            Ok(taken) => {
+                *kind = taken.kind as u32;
+                if taken.is_refused { REFUSED } else { OK }
+            }
+            Err(_) => NO_MEMORY,
+        }
+    }
+
+    /// Goes on after a packet of this length, of which this front has come; `kind` is what it is.
+    /// `NEEDS_WHOLE`: what is known after a packet of this kind hangs on all of it. It, `NOT_A_SIDE`,
+    /// `NOT_A_FRONT` and `NO_MEMORY` change nothing.
+    pub fn front(&mut self, side: u32, id: u8, len: usize, front: &[u8], kind: &mut u32) -> i32
+        ensures { FollowsFront side id len front.now kind.new result self.old self.new }
+    {
+        *kind = 0;
+        let Some(side) = side_of(side) else {
+            return NOT_A_SIDE;
+        };
+        if !is_front(len, front.len()) {
+            return NOT_A_FRONT;
+        }
+        take_front(&mut self.session, side, id, len, front, kind)
+    }
+
+    /// What a packet of this length is, of which this front has come. `NOT_A_SIDE`, `NOT_A_FRONT`.
+    pub fn classify(&self, side: u32, id: u8, len: usize, front: &[u8], kind: &mut u32) -> i32
+        ensures { Classifies side id len front.now kind.new result self.now }
+    {
+        *kind = 0;
+        let Some(side) = side_of(side) else {
+            return NOT_A_SIDE;
+        };
+        if !is_front(len, front.len()) {
+            return NOT_A_FRONT;
+        }
+        *kind = kind_number(self.session.classify(side, id, len, front)) as u32;
+        OK
+    }
+
+    /// Goes on after a packet of this length whose payload was passed over. `NOT_A_SIDE` changes
+    /// nothing.
+    pub fn pass(&mut self, side: u32, id: u8, len: usize) -> i32
+        ensures { Passes side id len result self.old self.new }
+    {
+        let Some(side) = side_of(side) else {
+            return NOT_A_SIDE;
+        };
+        self.session.pass(side, id, len);
+        OK
+    }
+
+    /// The number of the phase.
+    pub fn phase(&self) -> i32
+        ensures { result ≡ phase_of self.now }
+    {
+        phase_number(self.session.phase()) as i32
+    }
+
+    /// The number of whose packet is next.
+    pub fn next_sender(&self) -> i32
+        ensures { result ≡ sender_of self.now }
+    {
+        sender_number(self.session.next_sender()) as i32
+    }
+
+    /// 1 where a command is waited for, else 0.
+    pub fn is_idle(&self) -> i32
+        ensures { result ≡ idle_number self.now }
+    {
+        if self.session.is_idle() { 1 } else { 0 }
+    }
+
+    /// The flags that the last OK or EOF told.
+    pub fn status(&self) -> i32
+        ensures { result ≡ status_of self.now }
+    {
+        self.session.status().bits() as i32
+    }
+
+    /// The flags of what the client can do.
+    pub fn capabilities(&self) -> u32
+        ensures { result ≡ self.now.capabilities.0 }
+    {
+        self.session.capabilities().bits()
+    }
+
+    /// The id that follows the last packet's.
+    pub fn next_id(&self) -> i32
+        ensures { result ≡ next_id_of self.now }
+    {
+        self.session.next_id() as i32
+    }
+
+    /// How many parameters and columns the newest statement of this number has. `NO_STATEMENT`: none
+    /// is known, and both are 0.
+    pub fn statement(&self, number: u32, parameters: &mut u16, columns: &mut u16) -> i32
+        ensures { TellsStatement number parameters.new columns.new result self.now }
+    {
+        match self.session.statement(number) {
+            Some(statement) => {
+                *parameters = statement.num_params;
+                *columns = statement.num_columns;
+                OK
+            }
+            None => {
+                *parameters = 0;
+                *columns = 0;
+                NO_STATEMENT
+            }
+        }
+    }
 }
 
-/// Goes on after a packet of this length whose payload was passed over.
-#[unsafe(no_mangle)]
-pub extern "C" fn mysql_wire_session_pass(
-    handle: &mut SessionHandle,
-    side: u32,
-    id: u8,
-    len: usize,
-) -> i32
-    ensures open { is_some handle.new.session ≡ is_some handle.old.session }
-    ensures closed { handle.old.session ≡ None → result ≡ CLOSED }
-    ensures passes { BothSessions handle.old.session handle.new.session
-        (Passes side id len result) }
+/// A session that begins, on the heap.
+pub fn boxed(alloc: Global) -> Option<Box<FollowedSession, Global>>
+    ensures { IfSome result (λ session. session.value ≡ new_session) }
 {
-    if handle.is_closed() {
-        return CLOSED;
+    match Box::new(alloc, FollowedSession::new(alloc)) {
+        Ok(session) => Some(session),
+        Err(_) => None,
     }
-    handle.session().pass(side, id, len)
-}
-
-/// The number of what is waited for.
-#[unsafe(no_mangle)]
-pub extern "C" fn mysql_wire_session_phase(handle: &mut SessionHandle) -> i32
-    ensures same { handle.new.session ≡ handle.old.session }
-    ensures number { MatchOption handle.old.session (result ≡ CLOSED)
-        (λ state. result ≡ phase_of state) }
-{
-    if handle.is_closed() {
-        return CLOSED;
-    }
-    handle.session().phase()
-}
-
-/// The number of whose packet is next.
-#[unsafe(no_mangle)]
-pub extern "C" fn mysql_wire_session_next_sender(handle: &mut SessionHandle) -> i32
-    ensures same { handle.new.session ≡ handle.old.session }
-    ensures number { MatchOption handle.old.session (result ≡ CLOSED)
-        (λ state. result ≡ sender_of state) }
-{
-    if handle.is_closed() {
-        return CLOSED;
-    }
-    handle.session().next_sender()
-}
-
-/// 1 where a command is waited for, else 0.
-#[unsafe(no_mangle)]
-pub extern "C" fn mysql_wire_session_is_idle(handle: &mut SessionHandle) -> i32
-    ensures same { handle.new.session ≡ handle.old.session }
-    ensures number { MatchOption handle.old.session (result ≡ CLOSED)
-        (λ state. result ≡ idle_number state) }
-{
-    if handle.is_closed() {
-        return CLOSED;
-    }
-    handle.session().is_idle()
-}
-
-/// The flags that the last OK or EOF told.
-#[unsafe(no_mangle)]
-pub extern "C" fn mysql_wire_session_status(handle: &mut SessionHandle) -> i32
-    ensures same { handle.new.session ≡ handle.old.session }
-    ensures flags { MatchOption handle.old.session (result ≡ CLOSED)
-        (λ state. result ≡ status_of state) }
-{
-    if handle.is_closed() {
-        return CLOSED;
-    }
-    handle.session().status()
-}
-
-/// The flags of what the client can do.
-#[unsafe(no_mangle)]
-pub extern "C" fn mysql_wire_session_capabilities(handle: &mut SessionHandle) -> u32
-    ensures same { handle.new.session ≡ handle.old.session }
-    ensures flags { MatchOption handle.old.session (result ≡ 0)
-        (λ state. result ≡ state.capabilities.0) }
-{
-    if handle.is_closed() {
-        return 0;
-    }
-    handle.session().capabilities()
-}
-
-/// The id that follows the last packet's.
-#[unsafe(no_mangle)]
-pub extern "C" fn mysql_wire_session_next_id(handle: &mut SessionHandle) -> i32
-    ensures same { handle.new.session ≡ handle.old.session }
-    ensures number { MatchOption handle.old.session (result ≡ CLOSED)
-        (λ state. result ≡ next_id_of state) }
-{
-    if handle.is_closed() {
-        return CLOSED;
-    }
-    handle.session().next_id()
-}
-
-/// How many parameters and columns the newest statement of this number has.
-#[unsafe(no_mangle)]
-pub extern "C" fn mysql_wire_session_statement(
-    handle: &mut SessionHandle,
-    number: u32,
-    parameters: &mut u16,
-    columns: &mut u16,
-) -> i32
-    ensures same { handle.new.session ≡ handle.old.session }
-    ensures tells { MatchOption handle.old.session
-        ((result ≡ CLOSED) × (parameters.new ≡ 0) × (columns.new ≡ 0))
-        (TellsStatement number parameters.new columns.new result) }
-{
-    *parameters = 0;
-    *columns = 0;
-    if handle.is_closed() {
-        return CLOSED;
-    }
-    handle.session().statement(number, parameters, columns)
 }

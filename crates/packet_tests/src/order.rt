@@ -76,43 +76,63 @@ fn reader_below(wire: &Wire, kept: usize) -> Watched<'_> {
     }
 }
 
+// Whether this many bytes were written, and all that came before each read.
+fn is_on_time(wire: &Wire, written: usize) -> bool {
+    (wire.written.get() == written) & !wire.is_late.get()
+}
+
+// Whether the next packet's bytes are copied.
+fn copies(reader: &mut PacketReader<Watched<'_>>, writer: &mut Counted<'_>) -> bool {
+    let mut codec = PacketCodec::default();
+    reader.can_copy(&codec) && matches!(reader.copy_packet(&mut codec, writer), Ok(true))
+}
+
 // Whether the packet's bytes go as they come, and then all are there.
 fn is_copied(alloc: Global) -> bool {
     let wire = Wire::new();
-    let Ok(mut reader) = PacketReader::new(alloc, reader_below(&wire, 4)) else {
-        return false;
+    let went = match PacketReader::new(alloc, reader_below(&wire, 4)) {
+        Ok(mut reader) => copies(&mut reader, &mut Counted(&wire)),
+        Err(_) => false,
     };
-    let mut codec = PacketCodec::default();
-    let mut writer = Counted(&wire);
-    if !reader.can_copy(&codec) {
-        return false;
-    }
-    let went = matches!(reader.copy_packet(&mut codec, &mut writer), Ok(true));
-    went & (wire.written.get() == 9) & !wire.is_late.get()
+    went & is_on_time(&wire, 9)
 }
 
-// The same with headers, and with the end after the packet, in front of which the last go.
-fn is_passed_on(alloc: Global) -> bool {
-    let wire = Wire::new();
-    let Ok(mut reader) = PacketReader::new(alloc, reader_below(&wire, 0)) else {
-        return false;
-    };
-    let Ok(mut writer) = PacketWriter::new(alloc, Counted(&wire)) else {
-        return false;
-    };
+// Whether the next packet is passed on, and then the end is found.
+fn passes_on(
+    reader: &mut PacketReader<Watched<'_>>,
+    writer: &mut PacketWriter<Counted<'_>>,
+) -> bool {
     let mut codec = PacketCodec::default();
     let mut writer_codec = PacketCodec::default();
     let mut all = true;
     for ended in [true, false] {
-        if !reader.can_copy(&codec) {
-            return false;
-        }
-        all &= match reader.relay_packet(&mut codec, &mut writer, &mut writer_codec) {
-            Ok(answer) => answer == ended,
-            Err(_) => false,
-        };
+        all = all
+            && reader.can_copy(&codec)
+            && match reader.relay_packet(&mut codec, writer, &mut writer_codec) {
+                Ok(answer) => answer == ended,
+                Err(_) => false,
+            };
     }
-    all & (wire.written.get() == 13) & !wire.is_late.get()
+    all
+}
+
+// The same to a writer of packets.
+fn is_passed_to(alloc: Global, reader: &mut PacketReader<Watched<'_>>, wire: &Wire) -> bool {
+    match PacketWriter::new(alloc, Counted(wire)) {
+        Ok(mut writer) => passes_on(reader, &mut writer),
+        Err(_) => false,
+    }
+}
+
+// Whether a packet's bytes go with headers, and with the end after the packet, in front of which the
+// last go.
+fn is_passed_on(alloc: Global) -> bool {
+    let wire = Wire::new();
+    let went = match PacketReader::new(alloc, reader_below(&wire, 0)) {
+        Ok(mut reader) => is_passed_to(alloc, &mut reader, &wire),
+        Err(_) => false,
+    };
+    went & is_on_time(&wire, 13)
 }
 
 #[test]

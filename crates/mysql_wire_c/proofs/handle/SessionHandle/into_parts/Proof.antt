@@ -25,12 +25,12 @@ use denote.Triple.Walked.{says, Stays, stay_dropped, walk_of, ends_at, Goes-drop
 use Rattle.std.specs.Prelude.{IsSome}
 use Rattle.std.proofs.BoxSteps.Form.{D, B, word, box_typed}
 use Rattle.std.proofs.BoxSteps.Steps.{box_out, box_in}
-use Rattle.mysql_wire_c_session.proofs.AsBox.{E, FromHandle as From, as_box, opened, to_box}
-use Rattle.mysql_wire_c_session.specs.contracts.handle.SessionHandle as SessionHandle
-use Rattle.mysql_wire_c_session.specs.contracts.handle.SessionHandle.into_parts as F
-use Rattle.mysql_wire_c_session.specs.contracts.handle.SessionHandle.into_parts.Key.{name as #self}
-use Rattle.mysql_wire_c_session.proofs.handle.SessionHandle.into_parts.Statement as stated
-use Rattle.mysql_wire_c_session.proofs.handle.SessionHandle.into_parts.Code as code
+use Rattle.mysql_wire_c.proofs.AsBox.{E, FromHandle as From, as_box, opened, to_box}
+use Rattle.mysql_wire_c.specs.contracts.handle.SessionHandle as SessionHandle
+use Rattle.mysql_wire_c.specs.contracts.handle.SessionHandle.into_parts as F
+use Rattle.mysql_wire_c.specs.contracts.handle.SessionHandle.into_parts.Key.{name as #self}
+use Rattle.mysql_wire_c.proofs.handle.SessionHandle.into_parts.Statement as stated
+use Rattle.mysql_wire_c.proofs.handle.SessionHandle.into_parts.Code as code
 
 abbrev stayed : Stays (F.ended).signature.params (F.ended).kept
 stayed = (stay_dropped From yes, tt)

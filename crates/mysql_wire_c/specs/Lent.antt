@@ -1,10 +1,10 @@
 -- How a `SessionHandle` lends its session.
 use Rattle.std.specs.Borrow.{Lends, MutBor, Fml}
 use Rattle.std.specs.declared.option.Option.TheVariants.{Some}
-use Rattle.mysql_wire_c_session.specs.declared.session.FollowedSession.{FollowedSession}
-use Rattle.mysql_wire_c_session.specs.declared.handle.SessionHandle.{SessionHandle}
-use Rattle.mysql_wire_c_session.specs.contracts.session.FollowedSession as session
-use Rattle.mysql_wire_c_session.specs.contracts.handle.SessionHandle as handle
+use Rattle.mysql_wire_c.specs.declared.session.FollowedSession.{FollowedSession}
+use Rattle.mysql_wire_c.specs.declared.handle.SessionHandle.{SessionHandle}
+use Rattle.mysql_wire_c.specs.contracts.session.FollowedSession as session
+use Rattle.mysql_wire_c.specs.contracts.handle.SessionHandle as handle
 
 -- h after `*h.session() = w`
 abbrev pub with_session : SessionHandle → FollowedSession → SessionHandle

@@ -8,7 +8,7 @@ use Rattle.std.specs.Global.{Global}
 use Rattle.std.specs.declared.option.Option.{Option}
 use Rattle.std.specs.declared.option.Option.TheVariants.{Some, None}
 use Rattle.std_heap.specs.contracts.GlobalAllocator.TheImpl.{ghosts}
-use Rattle.mysql_wire_c_session.specs.contracts.session.FollowedSession.{the_row}
+use Rattle.mysql_wire_c.specs.contracts.session.FollowedSession.{the_row}
 
 -- what a `Box<FollowedSession>` of x owns, or that p is null
 abbrev pub handle_owns : Global → Ptr → Option the_row.Denot → Fml

@@ -31,13 +31,13 @@ use Rattle.std.specs.Global.{Global}
 use Rattle.std.specs.declared.option.Option.{Option}
 use Rattle.std.specs.declared.option.Option.TheVariants.{Some, None}
 use Rattle.std_heap.specs.contracts.GlobalAllocator.TheImpl.{ghosts}
-use Rattle.mysql_wire_c_session.specs.Owned.{handle_owns}
-use Rattle.mysql_wire_c_session.specs.contracts.session.FollowedSession as FollowedSession
-use Rattle.mysql_wire_c_session.specs.contracts.handle.SessionHandle as SessionHandle
-use Rattle.mysql_wire_c_session.proofs.handle.SessionHandle.TheLaws.{lowers}
-use Rattle.mysql_wire_c_session.specs.contracts.handle.SessionHandle.is_closed as f
-use Rattle.mysql_wire_c_session.proofs.handle.SessionHandle.is_closed.Statement.{statement}
-use Rattle.mysql_wire_c_session.proofs.handle.SessionHandle.is_closed.Code as code
+use Rattle.mysql_wire_c.specs.Owned.{handle_owns}
+use Rattle.mysql_wire_c.specs.contracts.session.FollowedSession as FollowedSession
+use Rattle.mysql_wire_c.specs.contracts.handle.SessionHandle as SessionHandle
+use Rattle.mysql_wire_c.proofs.handle.SessionHandle.TheLaws.{lowers}
+use Rattle.mysql_wire_c.specs.contracts.handle.SessionHandle.is_closed as f
+use Rattle.mysql_wire_c.proofs.handle.SessionHandle.is_closed.Statement.{statement}
+use Rattle.mysql_wire_c.proofs.handle.SessionHandle.is_closed.Code as code
 
 abbrev R : RattleType
 R = SessionHandle.the_row

@@ -25,11 +25,11 @@ use denote.Triple.Walked.{says, Stays, stay_dropped, walk_of, ends_at, Goes-drop
 use Rattle.std.specs.declared.option.Option.TheVariants.{Some}
 use Rattle.std.proofs.BoxSteps.Form.{D, B, word, box_typed}
 use Rattle.std.proofs.BoxSteps.Steps.{box_out, box_in}
-use Rattle.mysql_wire_c_session.proofs.AsBox.{E, FromParts as From}
-use Rattle.mysql_wire_c_session.specs.contracts.handle.SessionHandle.of_parts as F
-use Rattle.mysql_wire_c_session.specs.contracts.handle.SessionHandle.of_parts.Key.{name as #self}
-use Rattle.mysql_wire_c_session.proofs.handle.SessionHandle.of_parts.Statement as stated
-use Rattle.mysql_wire_c_session.proofs.handle.SessionHandle.of_parts.Code as code
+use Rattle.mysql_wire_c.proofs.AsBox.{E, FromParts as From}
+use Rattle.mysql_wire_c.specs.contracts.handle.SessionHandle.of_parts as F
+use Rattle.mysql_wire_c.specs.contracts.handle.SessionHandle.of_parts.Key.{name as #self}
+use Rattle.mysql_wire_c.proofs.handle.SessionHandle.of_parts.Statement as stated
+use Rattle.mysql_wire_c.proofs.handle.SessionHandle.of_parts.Code as code
 
 abbrev stayed : Stays (F.ended).signature.params (F.ended).kept
 stayed = (stay_dropped From yes, tt)

@@ -7,9 +7,9 @@ use Rattle.mysql_wire_session_packets.specs.declared.packet.Received.{Received}
 use Rattle.mysql_wire_session_packets.specs.declared.refusal.SessionError.{SessionError}
 use Rattle.mysql_wire_session_packets.specs.declared.side.Side.{Side}
 use Rattle.mysql_wire_side.specs.declared.codes.TheConstants.{NEEDS_WHOLE, NO_MEMORY, OK}
-use Rattle.mysql_wire_c_session.specs.Calls.{FollowsFront, Took, TookFront, WantsWhole, is_front, is_refused}
-use Rattle.mysql_wire_c_session.specs.Numbers.{kind_number, side_of}
-use Rattle.mysql_wire_c_session.specs.declared.session.Taken.{Taken}
+use Rattle.mysql_wire_c.specs.Calls.{FollowsFront, Took, TookFront, WantsWhole, is_front, is_refused}
+use Rattle.mysql_wire_c.specs.Numbers.{kind_number, side_of}
+use Rattle.mysql_wire_c.specs.declared.session.Taken.{Taken}
 
 pub taken_past : (side : Side) (id : ℕ) (payload : List ℕ) (state next : SessionState) (received : Received) (result : Result Taken SessionError)
     → Receives side id payload state received

@@ -38,14 +38,14 @@ use Rattle.std.proofs.alloc.Calls.{token}
 use Rattle.std.proofs.VecSteps.Shapes.{after}
 use Rattle.std.proofs.BoxSteps.Form as box
 use Rattle.std.proofs.BoxSteps.Steps.{box_out, box_in}
-use Rattle.mysql_wire_c_session.proofs.AsBox.{E, as_box, opened, to_box, of_box}
-use Rattle.mysql_wire_c_session.specs.Lent.{with_session}
-use Rattle.mysql_wire_c_session.specs.contracts.session.FollowedSession as FollowedSession
-use Rattle.mysql_wire_c_session.specs.contracts.handle.SessionHandle as SessionHandle
-use Rattle.mysql_wire_c_session.specs.contracts.handle.SessionHandle.session as F
-use Rattle.mysql_wire_c_session.specs.contracts.handle.SessionHandle.session.Key.{name as #self}
-use Rattle.mysql_wire_c_session.proofs.handle.SessionHandle.session.Statement as stated
-use Rattle.mysql_wire_c_session.proofs.handle.SessionHandle.session.Code as code
+use Rattle.mysql_wire_c.proofs.AsBox.{E, as_box, opened, to_box, of_box}
+use Rattle.mysql_wire_c.specs.Lent.{with_session}
+use Rattle.mysql_wire_c.specs.contracts.session.FollowedSession as FollowedSession
+use Rattle.mysql_wire_c.specs.contracts.handle.SessionHandle as SessionHandle
+use Rattle.mysql_wire_c.specs.contracts.handle.SessionHandle.session as F
+use Rattle.mysql_wire_c.specs.contracts.handle.SessionHandle.session.Key.{name as #self}
+use Rattle.mysql_wire_c.proofs.handle.SessionHandle.session.Statement as stated
+use Rattle.mysql_wire_c.proofs.handle.SessionHandle.session.Code as code
 
 abbrev B : RattleType
 B = SessionHandle.the_row

@@ -3,7 +3,7 @@
 //! `scripts/c_constants.py` writes the constants of C's header of these functions.
 
 ghost use Rattle.std.specs.Prelude.{◌≡◌};
-ghost use Rattle.mysql_wire_c_session.specs.Numbers.{kind_number, phase_number, sender_number, side_of};
+ghost use Rattle.mysql_wire_c.specs.Numbers.{kind_number, phase_number, sender_number, side_of};
 
 use mysql_wire_session::packet_kind::PacketKind;
 use mysql_wire_session::phase::Phase;

@@ -1,6 +1,6 @@
-use Rattle.mysql_wire_c_session.proofs.SessionLemmas.{taken_past}
+use Rattle.mysql_wire_c.proofs.SessionLemmas.{taken_past}
 use Rattle.mysql_wire_session.specs.State.{state_of}
-use Rattle.mysql_wire_c_session.proofs.session.take.Goals as goal
+use Rattle.mysql_wire_c.proofs.session.take.Goals as goal
 
 pub returns-in-Ok-clause-takes : goal.returns-in-Ok-clause-takes
 returns-in-Ok-clause-takes c =

@@ -1,8 +1,8 @@
 use Rattle.std.proofs.Common.{◌≡◌, ◌∙◌, sym, subst, true, length, rules, ℤ, to_z-of_z, w32}
-use Rattle.mysql_wire_c_session.proofs.SessionLemmas.{answered_front}
-use Rattle.mysql_wire_c_session.specs.Calls.{FollowsFront, is_front}
+use Rattle.mysql_wire_c.proofs.SessionLemmas.{answered_front}
+use Rattle.mysql_wire_c.specs.Calls.{FollowsFront, is_front}
 use Rattle.mysql_wire_session.specs.State.{SessionState, state_of}
-use Rattle.mysql_wire_c_session.proofs.session.FollowedSession.front.Goals as goal
+use Rattle.mysql_wire_c.proofs.session.FollowedSession.front.Goals as goal
 
 pub returns : goal.returns
 returns c =

@@ -15,14 +15,14 @@ use Rattle.std.specs.declared.option.Option.{Option}
 use Rattle.std.specs.declared.option.Option.TheVariants.{Some, None}
 use Rattle.std.proofs.BoxSteps.Form as box
 use Rattle.std.proofs.BoxSteps.Form.{Bx}
-use Rattle.mysql_wire_c_session.specs.Owned.{handle_owns}
+use Rattle.mysql_wire_c.specs.Owned.{handle_owns}
 use Rattle.std_heap.specs.contracts.Global as Heap
 use Rattle.std_heap.specs.contracts.GlobalAllocator.TheImpl.{ghosts, dict}
 use Rattle.std_heap.proofs.Global.TheLaws as heap
-use Rattle.mysql_wire_c_session.specs.contracts.session.FollowedSession as FollowedSession
-use Rattle.mysql_wire_c_session.proofs.session.FollowedSession.TheLaws as session
+use Rattle.mysql_wire_c.specs.contracts.session.FollowedSession as FollowedSession
+use Rattle.mysql_wire_c.proofs.session.FollowedSession.TheLaws as session
 use Rattle.mysql_wire_side.specs.contracts.parts.Parts as Parts
-use Rattle.mysql_wire_c_session.specs.contracts.handle.SessionHandle as SessionHandle
+use Rattle.mysql_wire_c.specs.contracts.handle.SessionHandle as SessionHandle
 
 abbrev pub E : Bx
 E = record { row = FollowedSession.the_row; laws = session.the_row_laws; al = record { row = Heap.the_row; laws = heap.the_row_laws; g = ghosts; d = dict; drops = impl [] tnil dnil } }

@@ -31,12 +31,12 @@ use Rattle.std.proofs.ResultValues.{and_tt}
 use Rattle.std.specs.declared.option.Option.TheVariants.{None}
 use Rattle.std_heap.specs.contracts.Global as Heap
 use Rattle.std.proofs.BoxSteps.Form as box
-use Rattle.mysql_wire_c_session.proofs.AsBox.{E}
-use Rattle.mysql_wire_c_session.specs.contracts.handle.SessionHandle as SessionHandle
-use Rattle.mysql_wire_c_session.specs.contracts.handle.SessionHandle.closed as F
-use Rattle.mysql_wire_c_session.specs.contracts.handle.SessionHandle.closed.Key.{name as #self}
-use Rattle.mysql_wire_c_session.proofs.handle.SessionHandle.closed.Statement as stated
-use Rattle.mysql_wire_c_session.proofs.handle.SessionHandle.closed.Code as code
+use Rattle.mysql_wire_c.proofs.AsBox.{E}
+use Rattle.mysql_wire_c.specs.contracts.handle.SessionHandle as SessionHandle
+use Rattle.mysql_wire_c.specs.contracts.handle.SessionHandle.closed as F
+use Rattle.mysql_wire_c.specs.contracts.handle.SessionHandle.closed.Key.{name as #self}
+use Rattle.mysql_wire_c.proofs.handle.SessionHandle.closed.Statement as stated
+use Rattle.mysql_wire_c.proofs.handle.SessionHandle.closed.Code as code
 
 abbrev From : Slot 0
 From = plain (λ _. Heap.the_row)

@@ -3,8 +3,8 @@
 ghost use Rattle.std.specs.Prelude.{◌≡◌, IsSome, Some, None, is_none};
 ghost use Rattle.std.specs.declared.option.Option.{Option};
 ghost use types.Logic.{sem};
-ghost use Rattle.mysql_wire_c_session.specs.declared.session.FollowedSession.{FollowedSession};
-ghost use Rattle.mysql_wire_c_session.specs.Owned.{session_coded, handle_owns};
+ghost use Rattle.mysql_wire_c.specs.declared.session.FollowedSession.{FollowedSession};
+ghost use Rattle.mysql_wire_c.specs.Owned.{session_coded, handle_owns};
 
 use crate::session::FollowedSession;
 use mysql_wire_side::parts::Parts;
@@ -25,7 +25,7 @@ impl Model for SessionHandle {
 }
 
 impl SessionHandle {
-    ghost use Rattle.mysql_wire_c_session.specs.Lent.{lends_session};
+    ghost use Rattle.mysql_wire_c.specs.Lent.{lends_session};
 
     /// A handle of this session.
     pub fn of(session: Box<FollowedSession, Global>) -> SessionHandle
