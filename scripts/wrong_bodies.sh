@@ -2,15 +2,14 @@
 # Tries the wrong bodies of wrong-bodies/, which stand beside the gate's own edits: the prover must
 # refuse each. Words are crates, or single edits as CRATE/NAME; with none, all are tried; with
 # `--changed SINCE` those of the crates that differ from the commit SINCE. It works on a copy of the
-# repository, on as many processors as there are, four at most. It names each that is not refused,
-# and the last line is 'N refused, M not'.
+# repository, on as many processors as there are, four at most. It says of each what refuses it; the
+# last line is 'N refused, M not'.
 set -eu
 top=$(cd "$(dirname "$0")/.." && pwd)
 source "$top/scripts/start.sh"
 work=$(mktemp -d)
 trap 'rm -rf "$work"' EXIT
-cp -a "$top/crates" "$top/crates.txt" "$top/HANDLES" "$work/"
-rm -rf "$work"/crates/*/must-fail
+cp -a "$top/crates" "$top/crates.txt" "$top/HANDLES" "$top/wrong-bodies" "$work/"
 
 cd "$top/wrong-bodies"
 if [ "${1:-}" = --changed ]; then
@@ -27,25 +26,13 @@ if [ "${1:-}" = --changed ]; then
     fi
 fi
 [ $# -gt 0 ] || set -- */
-tried=0
-crates=()
+tried=()
 for word in "$@"; do
-    crate=${word%%/*}
-    edits=("$crate"/*.edit)
+    edits=("${word%/}"/*.edit)
     case $word in */?*) edits=("$word.edit") ;; esac
-    [ -f "${edits[0]}" ] || continue
-    mkdir -p "$work/crates/$crate/must-fail"
-    cp "${edits[@]}" "$work/crates/$crate/must-fail/"
-    tried=$((tried + ${#edits[@]}))
-    case " ${crates[*]-} " in *" $crate "*) ;; *) crates+=("$crate") ;; esac
+    for edit in "${edits[@]}"; do
+        [ ! -f "$edit" ] || tried+=("${edit%.edit}")
+    done
 done
-
-cd "$work"
-git init -q .
 processors=$(nproc)
-export RT_JOBS=${RT_JOBS:-$((processors < 4 ? processors : 4))}
-rt must-fail "${crates[@]}" 2>&1 | tee "$work/log" || true
-refused=$(grep -c '^rt: must-fail .*: refused' "$work/log" || true)
-grep '^rt: must-fail ' "$work/log" | grep -v ': refused' || true
-echo "$refused refused, $((tried - refused)) not"
-[ "$refused" -eq "$tried" ]
+python3 "$top/scripts/wrong_bodies.py" "$work" $((processors < 4 ? processors : 4)) "${tried[@]}"

@@ -1,2 +1,0 @@
-mod TextListLemmas
-mod KeyedLemmas

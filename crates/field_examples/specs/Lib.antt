@@ -1,5 +1,0 @@
-pub mod Commands
-pub mod OwnFields
-pub mod Parameters
-pub mod TextLists
-pub mod Keyed
