@@ -8,16 +8,6 @@ source "$top/scripts/start.sh"
 work=$(mktemp -d)
 trap 'rm -rf "$work"' EXIT
 
-# Runs a program in the background: its crate, a file for what it writes, and its words.
-try() {
-    local crate=$1 shown=$2
-    shift 2
-    (cd "$top/crates/$crate" && rt try --steps 1000 "$@" > "$work/$shown" 2> "$work/$shown.log") || {
-        tail -n 3 "$work/$shown.log" >&2
-        return 1
-    }
-}
-
 (cd "$top/scripts" && python3 - "$work") << 'END'
 import pathlib
 import sys
@@ -28,21 +18,40 @@ for side in ("client", "server"):
     (pathlib.Path(sys.argv[1]) / side).write_bytes(framed(packets, side))
 END
 
-jobs=()
-printf 123 | try mysql_wire_tool frame -- frame 0 & jobs+=($!)
-printf '\3\0\0\000123' | try mysql_wire_tool chunk -- chunk & jobs+=($!)
-printf '\1\0\0\0a\0\0\0\1' | try mysql_wire_tool unframe -- unframe 8192 100 & jobs+=($!)
-try mysql_wire_dump dump --data "client=$work/client" --data "server=$work/server" \
-    -- client client server server < /dev/null & jobs+=($!)
-for job in "${jobs[@]}"; do
-    wait "$job"
-done
+mkdir "$work/cases"
+printf 123 > "$work/cases/frame"
+printf 'frame\n0\n' > "$work/cases/frame.args"
+printf '\3\0\0\000123' > "$work/cases/chunk"
+printf 'chunk\n' > "$work/cases/chunk.args"
+printf '\1\0\0\0a\0\0\0\1' > "$work/cases/unframe"
+printf 'unframe\n8192\n100\n' > "$work/cases/unframe.args"
+
+# Tries a crate's program on these words in the background, and shows its log where that fails.
+try() {
+    local crate=$1
+    shift
+    (cd "$top/crates/$crate" && rt try --steps 1000 "$@" < /dev/null > "$work/$crate" 2> "$work/log.$crate") || {
+        tail -n 3 "$work/log.$crate" >&2
+        return 1
+    }
+}
+
+try mysql_wire_tool --cases "$work/cases" & tool=$!
+try mysql_wire_dump --data "client=$work/client" --data "server=$work/server" \
+    -- client client server server & dump=$!
+wait "$tool"
+wait "$dump"
+
+# What the tool wrote in a case.
+written() {
+    sed -n "/^== $1\$/,/^== /{/^== /d;p}" "$work/mysql_wire_tool"
+}
 
 echo 'frame 0, of the bytes 123:'
-od -An -tx1 "$work/frame"
+written frame | head -c 7 | od -An -tx1
 echo 'chunk, of these:'
-cat "$work/chunk"
+written chunk
 echo 'unframe 8192 100, of two packets:'
-cat "$work/unframe"
+written unframe
 echo 'mysql_wire_dump, of a recorded session, its first lines:'
-head -n 3 "$work/dump"
+head -n 3 "$work/mysql_wire_dump"
