@@ -33,19 +33,31 @@ fn asked(heap: &Heap, global: Global) -> Session<&Heap> {
 
 // Counts an answer's rows, with this request for memory refused, and then again. Whether there are
 // two, and whether a request was refused.
-fn counts(heap: &Heap, global: Global, refused: u64) -> Option<(bool, bool)> {
-    let mut session = asked(heap, global);
+fn counts_of<'h>(
+    heap: &'h Heap,
+    session: &mut Session<&'h Heap>,
+    reader: &mut PacketReader<&'static [u8], &'h Heap>,
+    refused: u64,
+) -> (bool, bool) {
     let mut codec = PacketCodec::default();
     codec.set_sequence_id(1);
-    let mut reader = PacketReader::new(heap, ANSWER).ok()?;
     heap.refuse(refused);
-    let mut rows = count_rows(&mut session, &mut reader, &mut codec).ok();
+    let mut rows = count_rows(session, reader, &mut codec).ok();
     let is_refused = heap.has_refused();
-    if is_refused && rows.is_none() && !may_change_hands(&session) {
+    if is_refused && rows.is_none() && !may_change_hands(session) {
         heap.refuse(NEVER);
-        rows = count_rows(&mut session, &mut reader, &mut codec).ok();
+        rows = count_rows(session, reader, &mut codec).ok();
     }
-    Some((rows == Some(2) && may_change_hands(&session), is_refused))
+    (rows == Some(2) && may_change_hands(session), is_refused)
+}
+
+// The same of a new session.
+fn counts(heap: &Heap, global: Global, refused: u64) -> Option<(bool, bool)> {
+    let mut session = asked(heap, global);
+    match PacketReader::new(heap, ANSWER) {
+        Ok(mut reader) => Some(counts_of(heap, &mut session, &mut reader, refused)),
+        Err(_) => None,
+    }
 }
 
 // How many requests were refused, each of which left what a second call needs.

@@ -96,7 +96,11 @@ fn show_other<A: Allocator + Copy>(
         (state_of session.new) fields.old fields.new) }
 {
     match session.read(came.0, came.1, payload) {
-        Ok(received) => show_received(global, session, fields, &received),
+        Ok(received) => {
+            let told = show_received(global, session, fields, &received);
+            drop(received);
+            told
+        }
         Err(error) => Err(stop_of(error)),
     }
 }

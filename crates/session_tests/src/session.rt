@@ -7,7 +7,8 @@ use exchanges::{
     CONNECTION, DONE, EXECUTE, FETCH, LOAD, PIECE, PIECES_END, PREPARE, QUERY, QUIT, REQUEST,
     RESULTS, Row,
 };
-use mysql_wire_session::packet::Packet;
+use mysql_wire_session::packet::{Packet, Received};
+use mysql_wire_session::packet_kind::PacketKind;
 use mysql_wire_session::phase::Phase;
 use mysql_wire_session::session::{FrontError, Session};
 use mysql_wire_session::side::{Sender, Side};
@@ -88,15 +89,45 @@ fn is_awaited<A: Allocator + Copy>(session: &Session<A>, id: u8, row: Row<'_>) -
     may_send(session.next_sender(), side) & same(named.as_bytes(), kind.as_bytes())
 }
 
+// Of what kind a packet is, by which type it was read, and whether that refused it.
+#[derive(Clone, Copy)]
+struct Seen {
+    kind: PacketKind,
+    type_of: u8,
+    is_refused: bool,
+}
+
+fn look_at(received: &Received<'_>) -> Seen {
+    Seen {
+        kind: received.kind,
+        type_of: type_of(&received.packet),
+        is_refused: matches!(&received.packet, Packet::Refused(_)),
+    }
+}
+
+// What a payload is read as, if it is. One function drops a packet: that costs its proof 25 s.
+fn reads<A: Allocator + Copy>(
+    session: &Session<A>,
+    side: Side,
+    id: u8,
+    payload: &[u8],
+) -> Option<Seen> {
+    match session.read(side, id, payload) {
+        Ok(received) => {
+            let seen = look_at(&received);
+            drop(received);
+            Some(seen)
+        }
+        Err(_) => None,
+    }
+}
+
 // Whether a packet is read as what it is.
 fn is_read<A: Allocator + Copy>(session: &Session<A>, id: u8, row: Row<'_>) -> bool {
     let (side, payload, kind, ..) = row;
-    match session.read(side, id, payload) {
-        Ok(received) => {
-            let is_refused = matches!(&received.packet, Packet::Refused(_));
-            same(received.kind.name().as_bytes(), kind.as_bytes()) & !is_refused
-        }
-        Err(_) => false,
+    match reads(session, side, id, payload) {
+        Some(seen) => same(seen.kind.name().as_bytes(), kind.as_bytes()) & !seen.is_refused,
+        None => false,
     }
 }
 
@@ -330,9 +361,9 @@ fn type_of(packet: &Packet<'_>) -> u8 {
 }
 
 fn is_read_by<A: Allocator + Copy>(session: &Session<A>, row: (&[u8], u8)) -> bool {
-    match session.read(Side::Client, 0, row.0) {
-        Ok(received) => type_of(&received.packet) == row.1,
-        Err(_) => false,
+    match reads(session, Side::Client, 0, row.0) {
+        Some(seen) => seen.type_of == row.1,
+        None => false,
     }
 }
 
