@@ -8,3 +8,5 @@ mod MeasuredLemmas
 pub mod SessionLemmas
 pub mod BothEndsLemmas
 pub mod LongPacketLemmas
+mod TextListLemmas
+mod KeyedLemmas

@@ -15,7 +15,7 @@ use Rattle.mysql_wire.specs.RawTexts.{IsText, IsBorrowedText, Borrows, Borrows-b
 use Rattle.mysql_wire.specs.Reading.{Parses, Through}
 use Rattle.mysql_wire.specs.Rows.{ReadsBoth, both-back}
 use Rattle.mysql_wire.specs.Spelled.{Leaves, NumberOrEof, TextBehind}
-use Rattle.field_examples.specs.declared.parameters.Parameter.{Parameter}
+use Rattle.mysql_wire_examples.specs.declared.parameters.Parameter.{Parameter}
 
 abbrev name_bytes : List ℕ → List ℕ
 name_bytes name = lenenc_bytes (length name) ++ name

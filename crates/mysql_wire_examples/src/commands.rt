@@ -3,7 +3,7 @@
 ghost use Rattle.std.specs.Prelude.{◌≡◌, ◌<◌, ◌^◌, ◌++◌, [], List, ℕ, length, IfOk, IfErr};
 ghost use Rattle.mysql_wire.specs.Law.{LeavesRest, Through-back, size-is};
 ghost use Rattle.mysql_wire.specs.Reading.{Answers, Through};
-ghost use Rattle.field_examples.specs.Commands.{close_bytes, close_at, close_bytes-back, length-close_bytes, init_db_bytes, init_db_at, init_db_bytes-back};
+ghost use Rattle.mysql_wire_examples.specs.Commands.{close_bytes, close_at, close_bytes-back, length-close_bytes, init_db_bytes, init_db_at, init_db_bytes-back};
 
 use mysql_wire::io::{InvalidReason, ParseBuf, WireError};
 use mysql_wire::misc::raw::field_laws::parse_back;

@@ -6,7 +6,7 @@ ghost use Rattle.std.specs.Cow.{cow_slice_items};
 ghost use Rattle.std.specs.HashMap as hash;
 ghost use Rattle.std.specs.Option.{option_copied};
 ghost use Rattle.mysql_wire.specs.WireError.TheVariants.{OutOfMemory};
-ghost use Rattle.field_examples.specs.Keyed.{at_bytes, at_int};
+ghost use Rattle.mysql_wire_examples.specs.Keyed.{at_bytes, at_int};
 
 use mysql_wire::io::WireError;
 use mysql_wire::misc::raw::bytes::{EofBytes, RawBytes};

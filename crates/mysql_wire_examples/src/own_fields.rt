@@ -6,7 +6,7 @@ ghost use Rattle.mysql_wire.specs.Law.{ReadsFixed, ParsesFixed, ComesBackFrom, s
 ghost use Rattle.mysql_wire.specs.Numbers.{be_number};
 ghost use Rattle.mysql_wire.specs.RawTexts.{IsText, IsBorrowedText, Borrows};
 ghost use Rattle.mysql_wire.specs.Reading.{Reads, Answers};
-ghost use Rattle.field_examples.specs.OwnFields.{be_u16_bytes, u16_text_bytes, u16_text_at, length-be_u16_bytes, be_u16_bytes-back, u16_text_bytes-back};
+ghost use Rattle.mysql_wire_examples.specs.OwnFields.{be_u16_bytes, u16_text_bytes, u16_text_at, length-be_u16_bytes, be_u16_bytes-back, u16_text_bytes-back};
 
 use mysql_wire::io::{ParseBuf, WireError};
 use mysql_wire::misc::raw::bytes::{BytesRepr, RawBytes};

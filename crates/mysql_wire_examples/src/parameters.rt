@@ -6,8 +6,8 @@ ghost use Rattle.mysql_wire.specs.CountedLists.{ReadsCounted};
 ghost use Rattle.mysql_wire.specs.Elements.{ReadsAll};
 ghost use Rattle.mysql_wire.specs.Law.{ComesBackFrom};
 ghost use Rattle.mysql_wire.specs.Reading.{Reads};
-ghost use Rattle.field_examples.specs.Parameters.{parameter_bytes, AreParameters, IsParameter, SameParameter, SameParameters, ReadsParameter, parameter-back};
-ghost use Rattle.field_examples.specs.declared.parameters.Parameter.{Parameter};
+ghost use Rattle.mysql_wire_examples.specs.Parameters.{parameter_bytes, AreParameters, IsParameter, SameParameter, SameParameters, ReadsParameter, parameter-back};
+ghost use Rattle.mysql_wire_examples.specs.declared.parameters.Parameter.{Parameter};
 
 use mysql_wire::io::{ParseBuf, WireError};
 use mysql_wire::misc::raw::Both;

@@ -4,7 +4,7 @@ ghost use Rattle.std.specs.Prelude.{◌≡◌, Ok, OnOk, IfOk, IfErr};
 ghost use Rattle.std.specs.Cow.{cow_slice_items};
 ghost use Rattle.mysql_wire.specs.RawTexts.{IsOwned, IsNotOwned};
 ghost use Rattle.mysql_wire.specs.Reading.{Reads};
-ghost use Rattle.field_examples.specs.TextLists.{GainsText, texts_of};
+ghost use Rattle.mysql_wire_examples.specs.TextLists.{GainsText, texts_of};
 ghost use Rattle.mysql_wire.specs.WireError.TheVariants.{OutOfMemory};
 
 use mysql_wire::io::{ParseBuf, WireError};

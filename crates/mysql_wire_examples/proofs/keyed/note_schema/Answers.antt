@@ -4,9 +4,9 @@ use Rattle.std.specs.Cmp.Lexicographic.{slice_cmp}
 use Rattle.std.specs.Cow.{cow_slice_items}
 use Rattle.std.specs.Ordering.{nat_cmp}
 use Rattle.std.specs.declared.borrow.CowSlice.TheVariants as slice
-use Rattle.field_examples.proofs.KeyedLemmas.{one_order, texts_apart}
-use Rattle.field_examples.proofs.keyed.note_schema.Goals as goal
-use Rattle.field_examples.proofs.keyed.note_schema.Goals.{in-Ok, in-Err}
+use Rattle.mysql_wire_examples.proofs.KeyedLemmas.{one_order, texts_apart}
+use Rattle.mysql_wire_examples.proofs.keyed.note_schema.Goals as goal
+use Rattle.mysql_wire_examples.proofs.keyed.note_schema.Goals.{in-Ok, in-Err}
 
 pub returns-clause-others : goal.returns-clause-others
 returns-clause-others c = elim c.match-insert.branch [

@@ -1,7 +1,7 @@
 use Rattle.std.proofs.Common.{◌≡◌, subst, nat_eq}
 use Rattle.std.specs.HashMap as hash
-use Rattle.field_examples.proofs.KeyedLemmas.{one_test, numbers_apart}
-use Rattle.field_examples.proofs.keyed.note_statement.Goals as goal
+use Rattle.mysql_wire_examples.proofs.KeyedLemmas.{one_test, numbers_apart}
+use Rattle.mysql_wire_examples.proofs.keyed.note_statement.Goals as goal
 
 pub returns-in-Ok-clause-others : goal.returns-in-Ok-clause-others
 returns-in-Ok-clause-others c =

@@ -1,5 +1,5 @@
 use Rattle.std.specs.declared.borrow.CowSlice.TheVariants as slice
-use Rattle.field_examples.proofs.own_fields.read_name.Goals as goal
+use Rattle.mysql_wire_examples.proofs.own_fields.read_name.Goals as goal
 
 pub returns-clause-back : goal.returns-clause-back
 returns-clause-back c = λ name is rest at. c.parse_back.ensures.back

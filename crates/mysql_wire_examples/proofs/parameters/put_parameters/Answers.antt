@@ -2,8 +2,8 @@ use Rattle.std.proofs.Common.{[], ◌≡◌, ◌≤◌, ◌++◌, ◌∙◌, len
 use Rattle.std.specs.Cow.{cow_slice_items}
 use Rattle.std.specs.List.{flat_map}
 use Rattle.mysql_wire.specs.CountedLists.{whole-list}
-use Rattle.field_examples.specs.Parameters.{parameter_bytes}
-use Rattle.field_examples.proofs.parameters.put_parameters.Goals as goal
+use Rattle.mysql_wire_examples.specs.Parameters.{parameter_bytes}
+use Rattle.mysql_wire_examples.proofs.parameters.put_parameters.Goals as goal
 
 pub returns : goal.returns
 returns c =

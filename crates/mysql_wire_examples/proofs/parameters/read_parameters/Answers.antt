@@ -1,8 +1,8 @@
 use Rattle.std.proofs.Common.{[], ◌≤◌, ◌++◌, length, sym, ap, ◌∙◌, arith}
 use Rattle.std.specs.declared.borrow.CowSlice.TheVariants as slice
 use Rattle.mysql_wire.specs.CountedLists.{whole-list}
-use Rattle.field_examples.specs.Parameters.{parameter_bytes}
-use Rattle.field_examples.proofs.parameters.read_parameters.Goals as goal
+use Rattle.mysql_wire_examples.specs.Parameters.{parameter_bytes}
+use Rattle.mysql_wire_examples.proofs.parameters.read_parameters.Goals as goal
 
 pub returns-clause-back : goal.returns-clause-back
 returns-clause-back c =

@@ -1,7 +1,7 @@
 use Rattle.std.specs.Cow.{cow_slice_items}
 use Rattle.std.proofs.lemmas.Result.{IfOk-weaker}
-use Rattle.field_examples.proofs.TextListLemmas.{same_bytes, owned_texts}
-use Rattle.field_examples.proofs.text_lists.own_texts.Goals as goal
+use Rattle.mysql_wire_examples.proofs.TextListLemmas.{same_bytes, owned_texts}
+use Rattle.mysql_wire_examples.proofs.text_lists.own_texts.Goals as goal
 
 pub returns-clause-ok : goal.returns-clause-ok
 returns-clause-ok c =

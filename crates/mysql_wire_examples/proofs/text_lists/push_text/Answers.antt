@@ -1,8 +1,8 @@
 use Rattle.std.proofs.Common.{◌≡◌, [], ◌∷◌, ◌++◌, map, subst, OnOk}
 use Rattle.std.proofs.lemmas.Result.{on_ok_weaker}
 use Rattle.std.specs.Cow.{cow_slice_items}
-use Rattle.field_examples.proofs.TextListLemmas.{borrowed_text, same_bytes, pushed_texts}
-use Rattle.field_examples.proofs.text_lists.push_text.Goals as goal
+use Rattle.mysql_wire_examples.proofs.TextListLemmas.{borrowed_text, same_bytes, pushed_texts}
+use Rattle.mysql_wire_examples.proofs.text_lists.push_text.Goals as goal
 
 pub returns-clause-ok : goal.returns-clause-ok
 returns-clause-ok c =
