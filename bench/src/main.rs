@@ -6,8 +6,9 @@
 //!
 //! `driver` runs all, `driver WORD` the rows whose name holds the word. Before the word,
 //! `--ratios FILE` writes the ratios, and `--against FILE` lists the rows that are a fifth slower
-//! than those of such a file. `driver memory` is the measurement of memory alone, and
-//! `driver plot FILE` draws times by packet size.
+//! than those of such a file. `driver memory` is the measurement of memory alone,
+//! `driver plot FILE` draws times by packet size, and `driver instructions WORD` counts instructions
+//! under callgrind.
 #![cfg_attr(not(with_bytes), allow(unused))]
 
 /// The same work in Rust, where the crate `bytes` was found.
@@ -43,6 +44,7 @@ mod cargo_crate;
 mod check;
 mod columns;
 mod connections;
+mod counts;
 mod fields;
 #[cfg(with_bytes)]
 mod in_rust;
@@ -61,6 +63,7 @@ mod timing;
 mod typed;
 
 use crate::summary::Run;
+use crate::timing::Row;
 use std::env;
 use std::error::Error;
 use std::fs;
@@ -75,12 +78,8 @@ fn machine() -> Result<String, Box<dyn Error>> {
     Ok(format!("{name}, {} processors", 1 + names.count()))
 }
 
-// Measures the rows whose name holds the word. Whether all answers were right is answered.
-fn measure_rows(word: &str, run: &mut Run) -> bool {
-    println!(
-        "{:<44} {:>12} {:>8} {:>8} {:>8} {:>7}",
-        "workload", "ns an item", "GB/s", "of copy", "of Rust", "spread"
-    );
+// The rows whose name holds the word.
+fn rows_of(word: &str) -> impl Iterator<Item = Row> {
     let mut rows = Vec::new();
     packets::rows(&mut rows);
     place::rows(&mut rows);
@@ -94,8 +93,17 @@ fn measure_rows(word: &str, run: &mut Run) -> bool {
     connections::rows(&mut rows);
     #[cfg(with_bytes)]
     cargo_crate::rows(&mut rows);
+    rows.into_iter().filter(move |row| row.name.contains(word))
+}
+
+// Measures the rows whose name holds the word. Whether all answers were right is answered.
+fn measure_rows(word: &str, run: &mut Run) -> bool {
+    println!(
+        "{:<44} {:>12} {:>8} {:>8} {:>8} {:>7}",
+        "workload", "ns an item", "GB/s", "of copy", "of Rust", "spread"
+    );
     let mut passed = true;
-    for mut row in rows.into_iter().filter(|row| row.name.contains(word)) {
+    for mut row in rows_of(word) {
         match timing::measure(&mut row) {
             Ok(took) => {
                 let of_rust = took.of_rust.map_or(String::new(), |ratio| format!("{ratio:.2}"));
@@ -151,6 +159,10 @@ fn run(words: &[&str]) -> Result<bool, Box<dyn Error>> {
             Ok(true)
         }
         ["plot", path] => plot::draw(path).map(|()| true),
+        ["instructions", word] => {
+            rows_of(word).for_each(|mut row| counts::row(&mut row));
+            Ok(true)
+        }
         words => rows(words),
     }
 }
