@@ -6,6 +6,8 @@ mod both_ends;
 #[cfg(test)]
 mod callers;
 #[cfg(test)]
+mod constant_calls;
+#[cfg(test)]
 mod field_callers;
 #[cfg(test)]
 mod in_place;
@@ -14,10 +16,14 @@ mod long_packet;
 #[cfg(test)]
 mod measured;
 #[cfg(test)]
+mod own_fields;
+#[cfg(test)]
 mod recorded;
 #[cfg(test)]
 mod session;
 #[cfg(test)]
 mod sockets;
+#[cfg(test)]
+mod text_lists;
 #[cfg(test)]
 mod values;

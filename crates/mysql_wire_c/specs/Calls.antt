@@ -5,11 +5,11 @@ use Rattle.mysql_wire_session_packets.specs.declared.packet.Packet.TheVariants a
 use Rattle.mysql_wire_session_packets.specs.declared.packet.Received.{Received}
 use Rattle.mysql_wire_session_packets.specs.declared.packet.Row.{Row}
 use Rattle.mysql_wire_session_packets.specs.declared.packet.Row.TheVariants as row
-use Rattle.mysql_wire_session_packets.specs.declared.packet_kind.PacketKind.{PacketKind}
+use Rattle.mysql_wire_session_phases.specs.declared.packet_kind.PacketKind.{PacketKind}
 use Rattle.mysql_wire_session.specs.declared.session.front.FrontError.TheVariants.{NeedsWhole}
-use Rattle.mysql_wire_session_packets.specs.declared.side.Side.{Side}
+use Rattle.mysql_wire_session_phases.specs.declared.side.Side.{Side}
 use Rattle.mysql_wire_session.specs.Fronts.{FailsFront, TakesFront}
-use Rattle.mysql_wire_session.specs.Kinds.{kind_by_front}
+use Rattle.mysql_wire_session_phases.specs.Kinds.{kind_by_front}
 use Rattle.mysql_wire_session.specs.Readings.{Receives, advanced, passed}
 use Rattle.mysql_wire_session.specs.Senders.{is_idle, next_sender}
 use Rattle.mysql_wire_session.specs.State.{SessionState, expectation_of, initial_state, statement_of}

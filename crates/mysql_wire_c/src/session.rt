@@ -89,7 +89,11 @@ fn take(
     ensures stays { OnErr result (state_of session.new ≡ state_of session.old) }
 {
     match session.read(side, id, payload) {
-        Ok(received) => advance_past(session, &received),
+        Ok(received) => {
+            let taken = advance_past(session, &received);
+            received.forget();
+            taken
+        }
         Err(error) => Err(error),
     }
 }

@@ -2,8 +2,8 @@
 use Rattle.std.proofs.Common.{◌≡◌, ◌≢◌, ◌<◌, ℕ, ◌+◌, true, false, List, [], ◌∷◌, ◌++◌, length, get_or, take, refl, sym, ap, ◌∙◌, inl, inr, append-nil, append_assoc, length-append, arith, Some, None}
 use Rattle.wire_text.specs.Fields.{Member, Octets, Puts, Written, put, puts}
 use Rattle.mysql_wire_dump_fields.specs.ValueFields.{AreTexts, AreValues, IsNoText, IsNoValueAt, PutsColumn, PutsText, PutsTexts, PutsValues, rest_if}
-use Rattle.mysql_wire_session_packets.specs.declared.refusal.Refusal.{Refusal}
-use Rattle.mysql_wire_session_packets.specs.declared.refusal.Refusal.TheVariants.{TrailingBytes}
+use Rattle.mysql_wire_session_phases.specs.declared.refusal.Refusal.{Refusal}
+use Rattle.mysql_wire_session_phases.specs.declared.refusal.Refusal.TheVariants.{TrailingBytes}
 use Rattle.mysql_wire_statements.specs.declared.binary_row.BinaryRow.{BinaryRow}
 use Rattle.std.proofs.lemmas.List.{take_all}
 use Rattle.std.proofs.lemmas.Grind.{common_steps}

@@ -9,9 +9,9 @@ use Rattle.mysql_wire_session_packets.specs.declared.packet.Packet.{Packet}
 use Rattle.mysql_wire_session_packets.specs.declared.packet.Packet.TheVariants as packet
 use Rattle.mysql_wire_session_packets.specs.declared.packet.Row.{Row}
 use Rattle.mysql_wire_session_packets.specs.declared.packet.Row.TheVariants as row
-use Rattle.mysql_wire_session_packets.specs.declared.packet_kind.PacketKind.{PacketKind}
-use Rattle.mysql_wire_session_packets.specs.declared.packet_kind.PacketKind.TheVariants as kind
-use Rattle.mysql_wire_session_packets.specs.declared.refusal.Refusal.{Refusal}
+use Rattle.mysql_wire_session_phases.specs.declared.packet_kind.PacketKind.{PacketKind}
+use Rattle.mysql_wire_session_phases.specs.declared.packet_kind.PacketKind.TheVariants as kind
+use Rattle.mysql_wire_session_phases.specs.declared.refusal.Refusal.{Refusal}
 use Rattle.wire_text.specs.Fields.{Member, Octets, Puts, Words, Written}
 
 -- bytes that are not read further

@@ -16,9 +16,9 @@ use Rattle.mysql_wire_statements.specs.declared.binary_row.BinaryRow.{BinaryRow}
 use Rattle.mysql_wire_statements.specs.declared.binary_value.BinaryValue.{BinaryValue}
 use Rattle.mysql_wire_statements.specs.declared.binary_value.BinaryValue.TheVariants as binary
 use Rattle.wire_text.specs.Fields.{Member, Null, Number, Octets, Printed, Value, Puts, Word, Words, Written}
-use Rattle.mysql_wire_session_packets.specs.Refusals.{refusal_of_wire}
-use Rattle.mysql_wire_session_packets.specs.declared.refusal.Refusal.{Refusal}
-use Rattle.mysql_wire_session_packets.specs.declared.refusal.Refusal.TheVariants.{TrailingBytes}
+use Rattle.mysql_wire_session_phases.specs.Refusals.{refusal_of_wire}
+use Rattle.mysql_wire_session_phases.specs.declared.refusal.Refusal.{Refusal}
+use Rattle.mysql_wire_session_phases.specs.declared.refusal.Refusal.TheVariants.{TrailingBytes}
 use Rattle.mysql_wire_dump_fields.specs.TemporalTexts.{date_text, time_text}
 
 abbrev pub text_shown : Option (List ℕ) → Value

@@ -6,13 +6,13 @@ use Rattle.mysql_wire_dump_session.specs.declared.dump.SessionLines.{SessionLine
 use Rattle.mysql_wire_dump_lines.specs.Lines.{packet_line}
 use Rattle.mysql_wire_dump_lines.specs.declared.packet_stream.PacketStream.{PacketStream}
 use Rattle.wire_text.specs.declared.fields.FieldForm.{FieldForm}
-use Rattle.mysql_wire_session_packets.specs.declared.packet_kind.PacketKind.{PacketKind}
-use Rattle.mysql_wire_session_packets.specs.declared.packet_kind.PacketKind.TheVariants.{TooLarge}
-use Rattle.mysql_wire_session_packets.specs.declared.packet_kind.PacketKind.TheVariants as kind
+use Rattle.mysql_wire_session_phases.specs.declared.packet_kind.PacketKind.{PacketKind}
+use Rattle.mysql_wire_session_phases.specs.declared.packet_kind.PacketKind.TheVariants.{TooLarge}
+use Rattle.mysql_wire_session_phases.specs.declared.packet_kind.PacketKind.TheVariants as kind
 use Rattle.mysql_wire_dump_lines.specs.declared.options.Options.{Options}
-use Rattle.mysql_wire_session_packets.specs.declared.phase.Phase.TheVariants as phase
-use Rattle.mysql_wire_session_packets.specs.declared.side.Side.{Side}
-use Rattle.mysql_wire_session_packets.specs.declared.side.Side.TheVariants.{Client, Server}
+use Rattle.mysql_wire_session_phases.specs.declared.phase.Phase.TheVariants as phase
+use Rattle.mysql_wire_session_phases.specs.declared.side.Side.{Side}
+use Rattle.mysql_wire_session_phases.specs.declared.side.Side.TheVariants.{Client, Server}
 use Rattle.mysql_wire_dump_lines.specs.declared.packet_stream.End.TheVariants.{Encrypted}
 use Rattle.mysql_wire_dump_lines.specs.declared.packet_stream.Next.{Next}
 use Rattle.mysql_wire_dump_lines.specs.declared.packet_stream.Next.TheVariants.{Unread, Ended}

@@ -98,7 +98,7 @@ fn show_other<A: Allocator + Copy>(
     match session.read(came.0, came.1, payload) {
         Ok(received) => {
             let told = show_received(global, session, fields, &received);
-            drop(received);
+            received.forget();
             told
         }
         Err(error) => Err(stop_of(error)),
@@ -185,7 +185,7 @@ fn push_again<A: Allocator + Copy>(
 impl<A: Allocator + Copy> SessionLines<A> {
     ghost use Rattle.mysql_wire_dump_session.specs.Dumping.{PushesFields, PushesNext, PushesRead};
     ghost use Rattle.mysql_wire_session.specs.Readings.{passed};
-    ghost use Rattle.mysql_wire_session_packets.specs.declared.packet_kind.PacketKind.TheVariants.{TooLarge};
+    ghost use Rattle.mysql_wire_session_phases.specs.declared.packet_kind.PacketKind.TheVariants.{TooLarge};
 
     // Appends the line of a packet that is passed over.
     fn push_passed(&mut self, side: Side, id: u8, len: usize) -> Result<(), AllocError>
@@ -267,7 +267,7 @@ impl<A: Allocator + Copy> SessionLines<A> {
 impl<A: Allocator + Copy> Dump<A> {
     ghost use Rattle.mysql_wire_dump_session.specs.Dumping.{ShowsPacket, WritesMuch};
     ghost use Rattle.mysql_wire_dump_lines.specs.NextSenders.{next_sender};
-    ghost use Rattle.mysql_wire_session_packets.specs.declared.side.Side.TheVariants.{Client, Server};
+    ghost use Rattle.mysql_wire_session_phases.specs.declared.side.Side.TheVariants.{Client, Server};
     ghost use Rattle.mysql_wire_dump_lines.specs.PacketStreams.{id_of};
     ghost use Rattle.mysql_wire_dump_lines.specs.declared.packet_stream.Next.TheVariants.{Ended};
 

@@ -1,4 +1,3 @@
-pub mod Kinds
 pub mod State
 pub mod Advance
 pub mod Opening

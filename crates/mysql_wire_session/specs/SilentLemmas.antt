@@ -6,7 +6,7 @@ use Rattle.mysql_wire_packets.specs.declared.places.PayloadError.{PayloadError}
 use Rattle.std.specs.Prelude.{IfErr, IfOk, OnOk}
 use Rattle.mysql_wire_session.specs.Advance.{IsRefusedMemory, applied, id_after, opened, remembered, state_after}
 use Rattle.mysql_wire_session.specs.Fronts.{FailsWhole, IsFront, KnownAfter, TakesFront, are_columns, says_more}
-use Rattle.mysql_wire_session.specs.Kinds.{first_byte, is_report, kind_at, kind_by_front}
+use Rattle.mysql_wire_session_phases.specs.Kinds.{first_byte, is_report, kind_at, kind_by_front}
 use Rattle.mysql_wire_session.specs.Opening.{opened_state}
 use Rattle.mysql_wire_session.specs.declared.session.read.Opened.{Opened}
 use Rattle.mysql_wire_session.specs.Readings.{IsColumn, IsExecution, IsExecutionOf, IsQuery, IsRead, LogRequestGives, OtherCommandGives, ReadsAs, Receives, advanced, after_kind, after_packet, is_numbered, kind_of, opened_at, statement_named}
@@ -36,17 +36,17 @@ use Rattle.mysql_wire_session.specs.contracts.payload.ComResetConnectionPayload.
 use Rattle.mysql_wire_session.specs.contracts.payload.ComSetOptionPayload.TheImpl as set_option_type
 use Rattle.mysql_wire_session.specs.contracts.payload.ComStatisticsPayload.TheImpl as statistics_type
 use Rattle.mysql_wire_session.specs.contracts.payload.StatisticsTextPayload.TheImpl as text_type
-use Rattle.mysql_wire_session.specs.declared.classify.Expectation.{Expectation}
+use Rattle.mysql_wire_session_phases.specs.declared.classify.Expectation.{Expectation}
 use Rattle.mysql_wire_session_packets.specs.declared.packet.Packet.{Packet}
 use Rattle.mysql_wire_session_packets.specs.declared.packet.Packet.TheVariants as packet
 use Rattle.mysql_wire_session_packets.specs.declared.packet.Received.{Received}
-use Rattle.mysql_wire_session_packets.specs.declared.packet_kind.PacketKind.{PacketKind}
-use Rattle.mysql_wire_session_packets.specs.declared.packet_kind.PacketKind.TheVariants as kind
-use Rattle.mysql_wire_session_packets.specs.declared.phase.Phase.{Phase}
-use Rattle.mysql_wire_session_packets.specs.declared.phase.Phase.TheVariants as phase
-use Rattle.mysql_wire_session_packets.specs.declared.refusal.SessionError.{SessionError}
-use Rattle.mysql_wire_session_packets.specs.declared.side.Side.{Side}
-use Rattle.mysql_wire_session_packets.specs.declared.side.Side.TheVariants.{Client, Server}
+use Rattle.mysql_wire_session_phases.specs.declared.packet_kind.PacketKind.{PacketKind}
+use Rattle.mysql_wire_session_phases.specs.declared.packet_kind.PacketKind.TheVariants as kind
+use Rattle.mysql_wire_session_phases.specs.declared.phase.Phase.{Phase}
+use Rattle.mysql_wire_session_phases.specs.declared.phase.Phase.TheVariants as phase
+use Rattle.mysql_wire_session_phases.specs.declared.refusal.SessionError.{SessionError}
+use Rattle.mysql_wire_session_phases.specs.declared.side.Side.{Side}
+use Rattle.mysql_wire_session_phases.specs.declared.side.Side.TheVariants.{Client, Server}
 use Rattle.mysql_wire_statements.specs.declared.com_stmt_prepare_ok.ComStmtPrepareOk.{ComStmtPrepareOk}
 
 -- what is read says nothing of what is known

@@ -2,10 +2,16 @@
 //! ends.
 #![tactic(auto)]
 
-pub mod classify;
 pub mod payload;
 pub mod session;
 mod statements;
+
+/// What a packet is, by its phase, its first bytes and its length.
+pub mod classify {
+    pub use mysql_wire_session_phases::classify::{
+        Expectation, first_byte, is_command, kind_by_front,
+    };
+}
 
 /// What a payload is read as.
 pub mod packet {
@@ -14,20 +20,20 @@ pub mod packet {
 
 /// What a packet is.
 pub mod packet_kind {
-    pub use mysql_wire_session_packets::packet_kind::PacketKind;
+    pub use mysql_wire_session_phases::packet_kind::PacketKind;
 }
 
 /// What a session waits for.
 pub mod phase {
-    pub use mysql_wire_session_packets::phase::{AfterColumns, Phase, RowForm};
+    pub use mysql_wire_session_phases::phase::{AfterColumns, Phase, RowForm};
 }
 
 /// Why a payload is no packet of its phase.
 pub mod refusal {
-    pub use mysql_wire_session_packets::refusal::{Refusal, SessionError};
+    pub use mysql_wire_session_phases::refusal::{Refusal, SessionError};
 }
 
 /// Who speaks.
 pub mod side {
-    pub use mysql_wire_session_packets::side::{Sender, Side};
+    pub use mysql_wire_session_phases::side::{Sender, Side};
 }

@@ -7,21 +7,21 @@ mod read;
 
 ghost use Rattle.std.specs.Prelude.{◌≡◌, IfErr, IfOk, OnErr, OnOk, length, option_copied};
 ghost use Rattle.mysql_wire_session.specs.Advance.{IsRefusedMemory, id_after};
-ghost use Rattle.mysql_wire_session.specs.Kinds.{kind_by_front};
+ghost use Rattle.mysql_wire_session_phases.specs.Kinds.{kind_by_front};
 ghost use Rattle.mysql_wire_session.specs.Readings.{Fails, Receives, advanced, after_kind, passed};
 ghost use Rattle.mysql_wire_session.specs.Senders.{is_idle, next_sender};
 ghost use Rattle.mysql_wire_session.specs.State.{expectation_of, initial_state, state_of, statement_of};
 
-use crate::classify::{Expectation, is_command, kind_by_front};
 use crate::statements::Statements;
 pub use front::FrontError;
 use mysql_wire_session_packets::packet::Received;
-use mysql_wire_session_packets::packet_kind::PacketKind;
-use mysql_wire_session_packets::phase::{Phase, RowForm};
-use mysql_wire_session_packets::refusal::SessionError;
-use mysql_wire_session_packets::side::{Sender, Side};
+use mysql_wire_session_phases::classify::{Expectation, is_command, kind_by_front};
+use mysql_wire_session_phases::next_phase::past_column;
+use mysql_wire_session_phases::packet_kind::PacketKind;
+use mysql_wire_session_phases::phase::{Phase, RowForm};
+use mysql_wire_session_phases::refusal::SessionError;
+use mysql_wire_session_phases::side::{Sender, Side};
 use mysql_wire_statements::com_stmt_prepare_ok::ComStmtPrepareOk;
-use phases::past_column;
 use std::alloc::{Allocator, Global};
 use wire_const::{CapabilityFlags, Flags, MAX_PAYLOAD_LEN, MariadbCapabilities, StatusFlags};
 

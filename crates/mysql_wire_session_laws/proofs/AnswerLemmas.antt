@@ -6,22 +6,23 @@ use Rattle.std.proofs.lemmas.List.{append_assoc}
 use Rattle.std.proofs.lemmas.List.Elements.{recursion_from_All}
 use Rattle.mysql_wire_session_packets.specs.declared.packet.Packet.{Packet}
 use Rattle.mysql_wire_session_packets.specs.declared.packet.Packet.TheVariants as packet
-use Rattle.mysql_wire_session.specs.Kinds.{answer_kind, client_kind, done_kind, field_kind, first_byte, is_report, kind_at, row_kind, server_kind, statistics_kind, values_kind}
+use Rattle.mysql_wire_session_phases.specs.Kinds.{answer_kind, client_kind, done_kind, field_kind, first_byte, is_report, kind_at, row_kind, server_kind, statistics_kind, values_kind}
 use Rattle.mysql_wire_packets.specs.Places.{is_short}
-use Rattle.mysql_wire_session_packets.specs.declared.packet_kind.PacketKind.{PacketKind}
-use Rattle.mysql_wire_session_packets.specs.declared.packet_kind.PacketKind.TheVariants as kind
-use Rattle.mysql_wire_session.specs.declared.classify.Expectation.{Expectation}
-use Rattle.mysql_wire_session_packets.specs.declared.phase.AfterColumns.{AfterColumns}
-use Rattle.mysql_wire_session_packets.specs.declared.phase.AfterColumns.TheVariants as after
-use Rattle.mysql_wire_session_packets.specs.declared.phase.Phase.{Phase}
-use Rattle.mysql_wire_session_packets.specs.declared.phase.Phase.TheVariants as phase
-use Rattle.mysql_wire_session_packets.specs.declared.phase.RowForm.{RowForm}
-use Rattle.mysql_wire_session_packets.specs.declared.phase.RowForm.TheVariants as form
-use Rattle.mysql_wire_session_packets.specs.declared.refusal.Refusal.{Refusal}
-use Rattle.mysql_wire_session_packets.specs.declared.side.Side.{Side}
-use Rattle.mysql_wire_session_packets.specs.declared.side.Side.TheVariants.{Client, Server}
+use Rattle.mysql_wire_session_phases.specs.declared.packet_kind.PacketKind.{PacketKind}
+use Rattle.mysql_wire_session_phases.specs.declared.packet_kind.PacketKind.TheVariants as kind
+use Rattle.mysql_wire_session_phases.specs.declared.classify.Expectation.{Expectation}
+use Rattle.mysql_wire_session_phases.specs.declared.phase.AfterColumns.{AfterColumns}
+use Rattle.mysql_wire_session_phases.specs.declared.phase.AfterColumns.TheVariants as after
+use Rattle.mysql_wire_session_phases.specs.declared.phase.Phase.{Phase}
+use Rattle.mysql_wire_session_phases.specs.declared.phase.Phase.TheVariants as phase
+use Rattle.mysql_wire_session_phases.specs.declared.phase.RowForm.{RowForm}
+use Rattle.mysql_wire_session_phases.specs.declared.phase.RowForm.TheVariants as form
+use Rattle.mysql_wire_session_phases.specs.declared.refusal.Refusal.{Refusal}
+use Rattle.mysql_wire_session_phases.specs.declared.side.Side.{Side}
+use Rattle.mysql_wire_session_phases.specs.declared.side.Side.TheVariants.{Client, Server}
 use Rattle.mysql_wire_session_laws.specs.Grammar.{Advances, Agreed, Agrees, AreColumns, AreDescribed, AreExchanges, ConnectionIsFollowed, FollowsEach, IsLogin, SessionIsFollowed, AreDefined, AreEnded, AreResults, Counts, EachIsFollowed, EndsRows, EndsWell, Follows, FollowsCommandUntil, FollowsExchange, FollowsUntil, IdleAtItsEnd, IsAnyLogin, IsClosed, IsAnswered, IsDenied, IsEncrypted, IsIdle, IsLastExchange, IsNoGreeting, LastIsFollowed, IsTlsRequest, RefusalIsFollowed, TlsIsFollowed, IsColumnCount, IsCommand, IsAuthentication, IsDefinition, IsEntry, IsEof, IsError, IsExchange, IsFetch, IsLetIn, IsOptionCommand, IsOptionOutcome, IsFileEnd, IsFileRequest, IsOk, IsOutcome, IsPiece, IsPlainCommand, IsPrepareAnswer, IsPrepared, IsReadAs, IsResult, IsRow, IsServers, IsStatistics, IsTableColumn, IsUnanswered, MayBeColumns, MaySend, Numbered, Reaches, Said, agreed_of, called_at, form_of}
-use Rattle.mysql_wire_session.specs.Advance.{after_column, after_columns, after_definitions, applied, client_state_after, counted_phase, ended_phase, id_after, noted, opened, prepared_phase, remembered, state_after, statement_columns, status_of, without_eof}
+use Rattle.mysql_wire_session.specs.Advance.{applied, client_state_after, counted_phase, id_after, noted, opened, prepared_phase, remembered, state_after, status_of, without_eof}
+use Rattle.mysql_wire_session_phases.specs.Phases.{after_column, after_columns, after_definitions, ended_phase, statement_columns}
 use Rattle.mysql_wire_session.specs.State.{SessionState, expectation_of, initial_state, statement_of}
 use Rattle.mysql_wire_session.specs.Readings.{IsEnd, IsExecution, IsExecutionOf, IsQuery as ReadsQuery, IsRead, ReadsAs, after_kind, after_packet, is_ended_by_ok, statement_named}
 use Rattle.mysql_wire_session.specs.Senders.{is_idle, next_sender}

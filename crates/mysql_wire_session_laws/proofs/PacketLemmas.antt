@@ -19,11 +19,11 @@ use Rattle.mysql_wire_queries.specs.declared.text_row.TextValue.{TextValue}
 use Rattle.mysql_wire_queries.specs.declared.column_count.ColumnCount.{ColumnCount}
 use Rattle.mysql_wire_session.specs.Advance.{is_zero, mariadb_of}
 use Rattle.mysql_wire_session_laws.specs.Grammar.{Agreed, Agrees, IsColumnCount, IsDefinition, IsReadAs, IsRow, from_server}
-use Rattle.mysql_wire_session.specs.Kinds.{first_byte, is_report}
+use Rattle.mysql_wire_session_phases.specs.Kinds.{first_byte, is_report}
 use Rattle.mysql_wire_session.specs.contracts.payload.ColumnCountPayload.TheImpl as count_type
-use Rattle.mysql_wire_session_packets.specs.declared.packet_kind.PacketKind.TheVariants as kind
-use Rattle.mysql_wire_session_packets.specs.Refusals.{refusal_of}
-use Rattle.mysql_wire_session_packets.specs.declared.refusal.Refusal.{Refusal}
+use Rattle.mysql_wire_session_phases.specs.declared.packet_kind.PacketKind.TheVariants as kind
+use Rattle.mysql_wire_session_phases.specs.Refusals.{refusal_of}
+use Rattle.mysql_wire_session_phases.specs.declared.refusal.Refusal.{Refusal}
 
 none_seen : (stated : Option ℕ) → seen stated [] ≡ []
 none_seen None = refl

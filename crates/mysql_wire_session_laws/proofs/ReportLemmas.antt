@@ -2,21 +2,22 @@
 use Rattle.std.proofs.Common.{◌≡◌, ℕ, inl, inr, Bool, true, false, List, [], ◌∷◌, ◌++◌, ◌∙◌, ◌==◌, cond, length, refl, ap, sym, subst, Option, Some, None}
 use Rattle.std.specs.List.{AllByRecursion}
 use Rattle.std.proofs.lemmas.List.Elements.{recursion_from_All}
-use Rattle.mysql_wire_session.specs.Advance.{applied, fetched, id_after, opened, remembered, server_phase, without_eof}
+use Rattle.mysql_wire_session.specs.Advance.{applied, fetched, id_after, opened, remembered, without_eof}
+use Rattle.mysql_wire_session_phases.specs.Phases.{server_phase}
 use Rattle.mysql_wire_session_laws.specs.Grammar.{Advances, Agreed, FollowsUntil, IsReport, MayReport, MaySend, Said, WithReports, called_at}
-use Rattle.mysql_wire_session.specs.Kinds.{any_server_kind, first_byte, is_report}
+use Rattle.mysql_wire_session_phases.specs.Kinds.{any_server_kind, first_byte, is_report}
 use Rattle.mysql_wire_session.specs.Readings.{ReadsAs, after_packet, kind_of}
 use Rattle.mysql_wire_session.specs.Senders.{next_sender}
 use Rattle.mysql_wire_session.specs.State.{SessionState, expectation_of, statement_of}
-use Rattle.mysql_wire_session.specs.declared.classify.Expectation.{Expectation}
+use Rattle.mysql_wire_session_phases.specs.declared.classify.Expectation.{Expectation}
 use Rattle.mysql_wire_session_packets.specs.declared.packet.Packet.{Packet}
 use Rattle.mysql_wire_session_packets.specs.declared.packet.Packet.TheVariants as packet
-use Rattle.mysql_wire_session_packets.specs.declared.packet_kind.PacketKind.{PacketKind}
-use Rattle.mysql_wire_session_packets.specs.declared.packet_kind.PacketKind.TheVariants as kind
-use Rattle.mysql_wire_session_packets.specs.declared.phase.Phase.{Phase}
-use Rattle.mysql_wire_session_packets.specs.declared.phase.Phase.TheVariants as phase
-use Rattle.mysql_wire_session_packets.specs.declared.side.Side.{Side}
-use Rattle.mysql_wire_session_packets.specs.declared.side.Side.TheVariants.{Client, Server}
+use Rattle.mysql_wire_session_phases.specs.declared.packet_kind.PacketKind.{PacketKind}
+use Rattle.mysql_wire_session_phases.specs.declared.packet_kind.PacketKind.TheVariants as kind
+use Rattle.mysql_wire_session_phases.specs.declared.phase.Phase.{Phase}
+use Rattle.mysql_wire_session_phases.specs.declared.phase.Phase.TheVariants as phase
+use Rattle.mysql_wire_session_phases.specs.declared.side.Side.{Side}
+use Rattle.mysql_wire_session_phases.specs.declared.side.Side.TheVariants.{Client, Server}
 use Rattle.mysql_wire_statements.specs.declared.com_stmt_prepare_ok.ComStmtPrepareOk.{ComStmtPrepareOk}
 
 -- ---- another id follows

@@ -3,22 +3,22 @@
 use Rattle.std.specs.List.{All, flat_map}
 use Rattle.std.specs.Prelude.{◌≡◌, ◌≢◌, ◌⊎◌, ◌<◌, ◌≤◌, ⊤, ℕ, Bool, true, false, List, [], ◌∷◌, ◌++◌, length, Some, Result, Ok, Err}
 use Rattle.mysql_wire_session_packets.specs.declared.packet.Packet.{Packet}
-use Rattle.mysql_wire_session.specs.Kinds.{first_byte, is_report}
-use Rattle.mysql_wire_session_packets.specs.declared.packet_kind.PacketKind.{PacketKind}
-use Rattle.mysql_wire_session_packets.specs.declared.packet_kind.PacketKind.TheVariants as kind
-use Rattle.mysql_wire_session_packets.specs.declared.phase.Phase.TheVariants as phase
-use Rattle.mysql_wire_session_packets.specs.declared.phase.RowForm.{RowForm}
-use Rattle.mysql_wire_session_packets.specs.declared.phase.RowForm.TheVariants as form
-use Rattle.mysql_wire_session_packets.specs.declared.refusal.Refusal.{Refusal}
-use Rattle.mysql_wire_session_packets.specs.declared.side.Side.{Side}
-use Rattle.mysql_wire_session_packets.specs.declared.side.Side.TheVariants.{Client, Server}
+use Rattle.mysql_wire_session_phases.specs.Kinds.{first_byte, is_report}
+use Rattle.mysql_wire_session_phases.specs.declared.packet_kind.PacketKind.{PacketKind}
+use Rattle.mysql_wire_session_phases.specs.declared.packet_kind.PacketKind.TheVariants as kind
+use Rattle.mysql_wire_session_phases.specs.declared.phase.Phase.TheVariants as phase
+use Rattle.mysql_wire_session_phases.specs.declared.phase.RowForm.{RowForm}
+use Rattle.mysql_wire_session_phases.specs.declared.phase.RowForm.TheVariants as form
+use Rattle.mysql_wire_session_phases.specs.declared.refusal.Refusal.{Refusal}
+use Rattle.mysql_wire_session_phases.specs.declared.side.Side.{Side}
+use Rattle.mysql_wire_session_phases.specs.declared.side.Side.TheVariants.{Client, Server}
 use Rattle.mysql_wire_packets.specs.Optional.{has}
 use Rattle.mysql_wire_packets.specs.Oks.{ok_form}
 use Rattle.mysql_wire_packets.specs.declared.places.PayloadError.{PayloadError}
 use Rattle.mysql_wire_queries.specs.declared.column_count.ColumnCount.{ColumnCount}
 use Rattle.wire_const.specs.declared.flag_sets.capability.CapabilityFlags.{CapabilityFlags}
 use Rattle.wire_const.specs.declared.flag_sets.mariadb.MariadbCapabilities.{MariadbCapabilities}
-use Rattle.mysql_wire_session_packets.specs.Refusals.{refusal_of}
+use Rattle.mysql_wire_session_phases.specs.Refusals.{refusal_of}
 use Rattle.mysql_wire_session.specs.contracts.payload.ColumnCountPayload.TheImpl as count_type
 use Rattle.mysql_wire_session.specs.contracts.payload.ComStmtPrepareOkPayload.TheImpl as prepared_type
 use Rattle.mysql_wire_session.specs.contracts.payload.EofPacketPayload.TheImpl as eof_type
@@ -35,8 +35,8 @@ use Rattle.mysql_wire_session.specs.contracts.payload.ComStmtFetchPayload.TheImp
 use Rattle.mysql_wire_session.specs.contracts.payload.HandshakeResponse41Payload.TheImpl as login_type
 use Rattle.mysql_wire_session.specs.Readings.{ReadsAs, after_packet, kind_of, opened_at}
 use Rattle.mysql_wire_session.specs.Senders.{is_idle, next_sender}
-use Rattle.mysql_wire_session_packets.specs.declared.side.Sender.{Sender}
-use Rattle.mysql_wire_session_packets.specs.declared.side.Sender.TheVariants as sender
+use Rattle.mysql_wire_session_phases.specs.declared.side.Sender.{Sender}
+use Rattle.mysql_wire_session_phases.specs.declared.side.Sender.TheVariants as sender
 
 -- ---- the grammar
 

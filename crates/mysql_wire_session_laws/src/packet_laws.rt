@@ -11,7 +11,7 @@ ghost use Rattle.mysql_wire_packets.specs.Places.{ReadsWhole};
 ghost use Rattle.mysql_wire_session.specs.Advance.{is_zero};
 ghost use Rattle.mysql_wire_session_laws.specs.Grammar.{Agreed, Agrees, IsAuthentication, IsColumnCount, IsCommand, IsDefinition, IsEntry, IsEof, IsError, IsFetch, IsFileRequest, IsLogin, IsNoGreeting, IsOk, IsOkAtEnd, IsPrepared, IsReadAs, IsReport, IsRow, IsServers, IsTlsRequest, from_client, from_server};
 ghost use Rattle.mysql_wire_session.specs.State.{statement_of};
-ghost use Rattle.mysql_wire_session_packets.specs.declared.packet_kind.PacketKind.TheVariants as kind;
+ghost use Rattle.mysql_wire_session_phases.specs.declared.packet_kind.PacketKind.TheVariants as kind;
 ghost use Rattle.mysql_wire_statements.specs.declared.statement_command.StatementCommand.{StatementCommand};
 
 use mysql_wire_connection::auth_more_data::AuthMoreData;

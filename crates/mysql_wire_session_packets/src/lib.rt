@@ -3,7 +3,23 @@
 
 pub mod client_command;
 pub mod packet;
-pub mod packet_kind;
-pub mod phase;
-pub mod refusal;
-pub mod side;
+
+/// What a packet is.
+pub mod packet_kind {
+    pub use mysql_wire_session_phases::packet_kind::PacketKind;
+}
+
+/// What a session waits for.
+pub mod phase {
+    pub use mysql_wire_session_phases::phase::{AfterColumns, Phase, RowForm};
+}
+
+/// Why a payload is no packet of its phase.
+pub mod refusal {
+    pub use mysql_wire_session_phases::refusal::{Refusal, SessionError};
+}
+
+/// Who speaks.
+pub mod side {
+    pub use mysql_wire_session_phases::side::{Sender, Side};
+}

@@ -1,9 +1,6 @@
 //! What a payload is read as.
 
 use crate::client_command::ClientCommand;
-use crate::packet_kind::PacketKind;
-use crate::refusal::Refusal;
-use crate::side::Side;
 use mysql_wire_connection::auth_more_data::AuthMoreData;
 use mysql_wire_connection::auth_switch::AuthSwitchRequest;
 use mysql_wire_connection::auth_switch_response::AuthSwitchResponse;
@@ -17,6 +14,9 @@ use mysql_wire_packets::progress_report::ProgressReport;
 use mysql_wire_queries::column_count::ColumnCount;
 use mysql_wire_queries::column_definition::ColumnDefinition41;
 use mysql_wire_queries::local_infile::LocalInfileRequest;
+use mysql_wire_session_phases::packet_kind::PacketKind;
+use mysql_wire_session_phases::refusal::Refusal;
+use mysql_wire_session_phases::side::Side;
 use mysql_wire_statements::binary_row::BinaryRow;
 use mysql_wire_statements::com_stmt_close::ComStmtClose;
 use mysql_wire_statements::com_stmt_execute::ComStmtExecute;
@@ -34,6 +34,7 @@ use mysql_wire_utility::com_register_slave::ComRegisterSlave;
 use mysql_wire_utility::com_reset_connection::ComResetConnection;
 use mysql_wire_utility::com_set_option::ComSetOption;
 use mysql_wire_utility::com_statistics::{ComStatistics, StatisticsText};
+use std::mem;
 
 /// A row of an answer.
 #[derive(Clone, Copy)]
@@ -113,4 +114,12 @@ pub struct Received<'a> {
     pub kind: PacketKind,
     pub payload: &'a [u8],
     pub packet: Packet<'a>,
+}
+
+impl Received<'_> {
+    /// Gives up a packet that `Session::read` of `mysql_wire_session` gave. It owns no memory, so that
+    /// there is nothing to drop.
+    pub fn forget(self) {
+        mem::forget(self);
+    }
 }

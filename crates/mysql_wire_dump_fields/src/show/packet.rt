@@ -11,8 +11,8 @@ use super::{
 };
 use mysql_wire_session_packets::client_command::ClientCommand;
 use mysql_wire_session_packets::packet::{Packet, Received, Row};
-use mysql_wire_session_packets::packet_kind::PacketKind;
-use mysql_wire_session_packets::refusal::{Refusal, SessionError};
+use mysql_wire_session_phases::packet_kind::PacketKind;
+use mysql_wire_session_phases::refusal::{Refusal, SessionError};
 use std::alloc::{AllocError, Allocator, Global};
 use wire_text::fields::Fields;
 

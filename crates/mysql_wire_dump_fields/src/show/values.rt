@@ -10,7 +10,7 @@ ghost use Rattle.mysql_wire_dump_fields.specs.ValueFields.{IsTypeOf, row_bytes_f
 use super::Show;
 use crate::temporal::{push_date, push_time};
 use mysql_wire_queries::text_row::TextValue;
-use mysql_wire_session_packets::refusal::{Refusal, SessionError};
+use mysql_wire_session_phases::refusal::{Refusal, SessionError};
 use mysql_wire_statements::binary_row::BinaryRow;
 use mysql_wire_statements::binary_value::BinaryValue;
 use mysql_wire_statements::temporal::{BinaryDate, BinaryTime};

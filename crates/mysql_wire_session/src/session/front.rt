@@ -8,10 +8,10 @@ ghost use Rattle.mysql_wire_session.specs.State.{state_of};
 
 use super::Session;
 use mysql_wire_session_packets::packet::Received;
-use mysql_wire_session_packets::packet_kind::PacketKind;
-use mysql_wire_session_packets::phase::Phase;
-use mysql_wire_session_packets::refusal::SessionError;
-use mysql_wire_session_packets::side::Side;
+use mysql_wire_session_phases::packet_kind::PacketKind;
+use mysql_wire_session_phases::phase::Phase;
+use mysql_wire_session_phases::refusal::SessionError;
+use mysql_wire_session_phases::side::Side;
 use std::alloc::Allocator;
 
 /// Why a session did not go on after the front of a packet. It is as it was.
@@ -64,7 +64,11 @@ impl<A: Allocator + Copy> Session<A> {
         ensures stays { OnErr result (state_of self.new ≡ state_of self.old) }
     {
         match self.read(side, id, payload) {
-            Ok(received) => self.advance_past(&received),
+            Ok(received) => {
+                let taken = self.advance_past(&received);
+                received.forget();
+                taken
+            }
             Err(error) => Err(error),
         }
     }

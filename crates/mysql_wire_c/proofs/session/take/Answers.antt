@@ -4,5 +4,5 @@ use Rattle.mysql_wire_c.proofs.session.take.Goals as goal
 
 pub returns-in-Ok-clause-takes : goal.returns-in-Ok-clause-takes
 returns-in-Ok-clause-takes c =
-    taken_past c.args.side c.args.id c.args.payload.now (state_of c.args.session.now) (state_of c.advance_past.new.session) c.in-Ok.received c.advance_past.result
-    c.in-Ok.ensures.receives c.advance_past.ensures.taken c.advance_past.ensures.goes
+    taken_past c.args.side c.args.id c.args.payload.now (state_of c.args.session.now) (state_of c.advance_past-taken.new.session) c.in-Ok.received c.advance_past-taken.result
+    c.in-Ok.ensures.receives c.advance_past-taken.ensures.taken c.advance_past-taken.ensures.goes

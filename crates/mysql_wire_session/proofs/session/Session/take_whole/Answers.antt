@@ -4,10 +4,10 @@ use Rattle.mysql_wire_session.proofs.session.Session.take_whole.Goals as goal
 
 pub returns-in-Ok-clause-takes : goal.returns-in-Ok-clause-takes
 returns-in-Ok-clause-takes g c =
-    taken_whole c.args.side c.args.id c.args.payload.now (state_of c.args.self.now) (state_of c.advance_past.new.self) c.in-Ok.received c.advance_past.result
-    c.in-Ok.ensures.receives c.advance_past.ensures.kind c.advance_past.ensures.goes
+    taken_whole c.args.side c.args.id c.args.payload.now (state_of c.args.self.now) (state_of c.advance_past-taken.new.self) c.in-Ok.received c.advance_past-taken.result
+    c.in-Ok.ensures.receives c.advance_past-taken.ensures.kind c.advance_past-taken.ensures.goes
 
 pub returns-in-Ok-clause-fails : goal.returns-in-Ok-clause-fails
 returns-in-Ok-clause-fails g c =
-    refused_after c.args.side c.args.id c.args.payload.now (state_of c.args.self.now) c.in-Ok.received c.advance_past.result
-    c.in-Ok.ensures.receives c.advance_past.ensures.fails
+    refused_after c.args.side c.args.id c.args.payload.now (state_of c.args.self.now) c.in-Ok.received c.advance_past-taken.result
+    c.in-Ok.ensures.receives c.advance_past-taken.ensures.fails

@@ -1,7 +1,7 @@
 //! What a packet is.
 
 ghost use Rattle.std.specs.Prelude.{◌≡◌};
-ghost use Rattle.mysql_wire_session_packets.specs.Names.{kind_name};
+ghost use Rattle.mysql_wire_session_phases.specs.Names.{kind_name};
 
 use crate::refusal::Refusal;
 

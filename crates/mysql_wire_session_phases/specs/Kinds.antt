@@ -2,18 +2,18 @@
 use Rattle.std.specs.List.{starts_with}
 use Rattle.std.specs.Prelude.{ℕ, ◌==◌, eqb, ◌&&◌, not, nat_lt, Bool, true, false, if◌then◌else◌, List, [], ◌∷◌, length, Option, Some, None}
 use Rattle.mysql_wire_packets.specs.Places.{is_short}
-use Rattle.mysql_wire_session_packets.specs.declared.packet_kind.PacketKind.{PacketKind}
-use Rattle.mysql_wire_session_packets.specs.declared.packet_kind.PacketKind.TheVariants as kind
-use Rattle.mysql_wire_session.specs.declared.classify.Expectation.{Expectation}
-use Rattle.mysql_wire_session_packets.specs.declared.phase.AfterColumns.{AfterColumns}
-use Rattle.mysql_wire_session_packets.specs.declared.phase.AfterColumns.TheVariants as after
-use Rattle.mysql_wire_session_packets.specs.declared.phase.Phase.{Phase}
-use Rattle.mysql_wire_session_packets.specs.declared.phase.Phase.TheVariants as phase
-use Rattle.mysql_wire_session_packets.specs.declared.phase.RowForm.{RowForm}
-use Rattle.mysql_wire_session_packets.specs.declared.phase.RowForm.TheVariants as form
-use Rattle.mysql_wire_session_packets.specs.declared.refusal.Refusal.TheVariants.{UnexpectedEnd, OtherHeader}
-use Rattle.mysql_wire_session_packets.specs.declared.side.Side.{Side}
-use Rattle.mysql_wire_session_packets.specs.declared.side.Side.TheVariants.{Client, Server}
+use Rattle.mysql_wire_session_phases.specs.declared.packet_kind.PacketKind.{PacketKind}
+use Rattle.mysql_wire_session_phases.specs.declared.packet_kind.PacketKind.TheVariants as kind
+use Rattle.mysql_wire_session_phases.specs.declared.classify.Expectation.{Expectation}
+use Rattle.mysql_wire_session_phases.specs.declared.phase.AfterColumns.{AfterColumns}
+use Rattle.mysql_wire_session_phases.specs.declared.phase.AfterColumns.TheVariants as after
+use Rattle.mysql_wire_session_phases.specs.declared.phase.Phase.{Phase}
+use Rattle.mysql_wire_session_phases.specs.declared.phase.Phase.TheVariants as phase
+use Rattle.mysql_wire_session_phases.specs.declared.phase.RowForm.{RowForm}
+use Rattle.mysql_wire_session_phases.specs.declared.phase.RowForm.TheVariants as form
+use Rattle.mysql_wire_session_phases.specs.declared.refusal.Refusal.TheVariants.{UnexpectedEnd, OtherHeader}
+use Rattle.mysql_wire_session_phases.specs.declared.side.Side.{Side}
+use Rattle.mysql_wire_session_phases.specs.declared.side.Side.TheVariants.{Client, Server}
 
 abbrev pub first_byte : List ℕ → Option ℕ
 first_byte [] = None

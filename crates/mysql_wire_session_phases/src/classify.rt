@@ -1,13 +1,13 @@
 //! What a packet is, by its phase, its first byte and its length.
 
 ghost use Rattle.std.specs.Prelude.{◌≡◌};
-ghost use Rattle.mysql_wire_session.specs.Kinds.{answer_kind, client_kind, column_kind, columns_end_kind, command_kind, empty_kind, event_kind, field_kind, first_byte, greeting_kind, is_command, is_report, kind_by_front, option_kind, outcome_kind, prepare_kind, row_kind, server_kind, statistics_kind, values_kind};
+ghost use Rattle.mysql_wire_packets.specs.Places.{is_short};
+ghost use Rattle.mysql_wire_session_phases.specs.Kinds.{answer_kind, client_kind, column_kind, columns_end_kind, command_kind, empty_kind, event_kind, field_kind, first_byte, greeting_kind, is_command, is_report, kind_by_front, option_kind, outcome_kind, prepare_kind, row_kind, server_kind, statistics_kind, values_kind};
 
-use mysql_wire_queries::row_answer::is_end;
-use mysql_wire_session_packets::packet_kind::PacketKind;
-use mysql_wire_session_packets::phase::{AfterColumns, Phase, RowForm};
-use mysql_wire_session_packets::refusal::Refusal;
-use mysql_wire_session_packets::side::Side;
+use crate::packet_kind::PacketKind;
+use crate::phase::{AfterColumns, Phase, RowForm};
+use crate::refusal::Refusal;
+use crate::side::Side;
 
 /// What a session knows of the next packet: its phase, the id that follows the last packet's, whether
 /// rows end without an EOF after the definitions of columns, and how their values are written.
@@ -184,6 +184,18 @@ fn statistics_kind(first: u8) -> PacketKind
         PacketKind::Error
     } else {
         PacketKind::Statistics
+    }
+}
+
+// Whether a packet of this length that begins with `fe` is an end: it is shorter than 9 bytes, or,
+// where EOFs are deprecated, than a full chunk.
+fn is_end(is_eof_deprecated: bool, len: usize) -> bool
+    ensures { result ≡ is_short is_eof_deprecated len }
+{
+    if is_eof_deprecated {
+        len < 0xff_ffff
+    } else {
+        len < 9
     }
 }
 

@@ -6,10 +6,10 @@ use Rattle.wire_buf.specs.declared.error.WireError.{WireError}
 use Rattle.wire_buf.specs.declared.error.WireError.TheVariants as error
 use Rattle.mysql_wire_packets.specs.declared.places.PayloadError.{PayloadError}
 use Rattle.mysql_wire_packets.specs.declared.places.PayloadError.TheVariants as payload
-use Rattle.mysql_wire_session_packets.specs.declared.refusal.Refusal.{Refusal}
-use Rattle.mysql_wire_session_packets.specs.declared.refusal.Refusal.TheVariants as refusal
-use Rattle.mysql_wire_session_packets.specs.declared.refusal.SessionError.{SessionError}
-use Rattle.mysql_wire_session_packets.specs.declared.refusal.SessionError.TheVariants as session
+use Rattle.mysql_wire_session_phases.specs.declared.refusal.Refusal.{Refusal}
+use Rattle.mysql_wire_session_phases.specs.declared.refusal.Refusal.TheVariants as refusal
+use Rattle.mysql_wire_session_phases.specs.declared.refusal.SessionError.{SessionError}
+use Rattle.mysql_wire_session_phases.specs.declared.refusal.SessionError.TheVariants as session
 
 -- bytes that are there, and say what they must not
 abbrev pub refusal_of_reason : InvalidReason → Refusal

@@ -1,2 +1,4 @@
 pub mod Names
 pub mod Refusals
+pub mod Kinds
+pub mod Phases

@@ -1,7 +1,7 @@
 //! Who speaks.
 
 ghost use Rattle.std.specs.Prelude.{◌≡◌};
-ghost use Rattle.mysql_wire_session_packets.specs.Names.{side_name};
+ghost use Rattle.mysql_wire_session_phases.specs.Names.{side_name};
 
 /// One of the two that a connection joins.
 #[derive(Clone, Copy)]

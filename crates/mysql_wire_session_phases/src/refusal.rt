@@ -1,8 +1,8 @@
 //! Why a payload is no packet of its phase.
 
 ghost use Rattle.std.specs.Prelude.{◌≡◌};
-ghost use Rattle.mysql_wire_session_packets.specs.Names.{refusal_name};
-ghost use Rattle.mysql_wire_session_packets.specs.Refusals.{refusal_of, refusal_of_wire};
+ghost use Rattle.mysql_wire_session_phases.specs.Names.{refusal_name};
+ghost use Rattle.mysql_wire_session_phases.specs.Refusals.{refusal_of, refusal_of_wire};
 
 use mysql_wire_packets::places::PayloadError;
 use std::alloc::{AllocError, AllocFailed};
@@ -30,7 +30,7 @@ pub enum SessionError {
 }
 
 impl From<AllocError> for SessionError {
-    ghost use Rattle.mysql_wire_session_packets.specs.declared.refusal.SessionError.TheVariants.{OutOfMemory};
+    ghost use Rattle.mysql_wire_session_phases.specs.declared.refusal.SessionError.TheVariants.{OutOfMemory};
 
     ghost from_gives = { λ _ error. error ≡ OutOfMemory };
 
@@ -40,7 +40,7 @@ impl From<AllocError> for SessionError {
 }
 
 impl From<AllocFailed<u8>> for SessionError {
-    ghost use Rattle.mysql_wire_session_packets.specs.declared.refusal.SessionError.TheVariants.{OutOfMemory};
+    ghost use Rattle.mysql_wire_session_phases.specs.declared.refusal.SessionError.TheVariants.{OutOfMemory};
 
     ghost from_gives = { λ _ error. error ≡ OutOfMemory };
 

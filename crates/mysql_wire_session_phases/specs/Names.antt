@@ -1,11 +1,11 @@
 -- The names of sides, kinds and refusals.
 use Rattle.std.specs.Prelude.{ℕ, List, codes}
-use Rattle.mysql_wire_session_packets.specs.declared.side.Side.{Side}
-use Rattle.mysql_wire_session_packets.specs.declared.side.Side.TheVariants.{Client, Server}
-use Rattle.mysql_wire_session_packets.specs.declared.refusal.Refusal.{Refusal}
-use Rattle.mysql_wire_session_packets.specs.declared.refusal.Refusal.TheVariants as refusal
-use Rattle.mysql_wire_session_packets.specs.declared.packet_kind.PacketKind.{PacketKind}
-use Rattle.mysql_wire_session_packets.specs.declared.packet_kind.PacketKind.TheVariants as kind
+use Rattle.mysql_wire_session_phases.specs.declared.side.Side.{Side}
+use Rattle.mysql_wire_session_phases.specs.declared.side.Side.TheVariants.{Client, Server}
+use Rattle.mysql_wire_session_phases.specs.declared.refusal.Refusal.{Refusal}
+use Rattle.mysql_wire_session_phases.specs.declared.refusal.Refusal.TheVariants as refusal
+use Rattle.mysql_wire_session_phases.specs.declared.packet_kind.PacketKind.{PacketKind}
+use Rattle.mysql_wire_session_phases.specs.declared.packet_kind.PacketKind.TheVariants as kind
 
 abbrev pub side_name : Side → List ℕ
 side_name Client = codes "client"
