@@ -1,8 +1,9 @@
 //! One side of a connection: a codec with its buffers, and the packets that come.
 
-ghost use Rattle.std.specs.Prelude.{◌≡◌, None, IfSome, IsSome};
+ghost use Rattle.std.specs.Prelude.{◌≡◌, ◌≤◌, ◌+◌, None, IfSome, IsSome, length};
 ghost use Rattle.wire_codec.specs.Codec.{codec_state, Stands};
-ghost use Rattle.wire_codec.specs.InPlace.{HasFront};
+ghost use Rattle.wire_codec.specs.Delivery.{chunk_len};
+ghost use Rattle.wire_codec.specs.InPlace.{HasFront, front_payload};
 ghost use Rattle.mysql_wire_side.specs.Side.{IsReady};
 ghost use Rattle.mysql_wire_side.specs.Answers.{new_connection};
 ghost use Rattle.mysql_wire_side.specs.Finding.{Finds};
@@ -16,6 +17,7 @@ use std::alloc::Global;
 use std::marker::Model;
 use wire_codec::codec::PacketCodec;
 use wire_codec::codec::error::PacketCodecError;
+use wire_codec::codec::header::{HEADER_LEN, Header};
 
 /// What stands in front.
 #[derive(Clone, Copy, Drop)]
@@ -90,6 +92,7 @@ impl Connection {
     }
 
     /// Lends the next packet, where it stands whole; one that is lent already is lent again.
+    #[inline(always)]
     pub fn peek(&mut self) -> i32
         ensures peeks { Peeks result self.old.side self.new.side }
         ensures in_place { LendsInPlace result self.old self.new }
@@ -111,12 +114,9 @@ impl Connection {
         ensures { IfSome self.now.side.lent (λ packet. result.now ≡ packet) }
     {
         match self.front {
-            Front::InPlace => match self.codec.front_packet(&self.src, self.dst.as_slice()) {
-                Some(packet) => packet,
-                None => &[],
-            },
+            Front::InPlace => front_payload(self.src.as_slice()),
             Front::Copied => self.dst.as_slice(),
-            Front::Unfinished | Front::Lost => &[],
+            _ => &[],
         }
     }
 
@@ -129,15 +129,29 @@ impl Connection {
                 self.codec.take_front(&mut self.src);
             }
             Front::Copied => self.dst.clear(),
-            Front::Unfinished | Front::Lost => return NO_PACKET,
+            _ => return NO_PACKET,
         }
         self.front = Front::Unfinished;
         OK
     }
 }
 
-// Looks for a packet that stands whole.
-fn find(
+// The payload of the chunk in front, where it has come whole.
+#[inline(always)]
+fn front_payload(src: &[u8]) -> &[u8]
+    ensures { 4 + chunk_len src.now ≤ length src.now → result.now ≡ front_payload src.now }
+{
+    match Header::read(src) {
+        Some(header) if header.len <= src.len() - HEADER_LEN => {
+            &src[HEADER_LEN..HEADER_LEN + header.len]
+        }
+        _ => &[],
+    }
+}
+
+// Puts a packet together apart, where one has come whole.
+#[inline(never)]
+fn find_apart(
     codec: &mut PacketCodec,
     src: &mut BytesMut<Global>,
     dst: &mut Vec<u8, Global>,
@@ -146,18 +160,10 @@ fn find(
     requires ready { IsReady front.old (codec_state codec.old src.old.items dst.old.items) }
     requires found { front.old ≡ Front.Unfinished }
     ensures ready { IsReady front.new (codec_state codec.new src.new.items dst.new.items) }
-
     ensures finds { Finds result (codec_state codec.old src.old.items dst.old.items)
         front.new (codec_state codec.new src.new.items dst.new.items) }
-    // A packet that lies in front is lent there.
-    ensures in_place { let before = codec_state codec.old src.old.items dst.old.items in
-        Stands before → HasFront before → (result ≡ PACKET) × (front.new ≡ Front.InPlace) }
     ensures limit { codec.new.max_allowed_packet ≡ codec.old.max_allowed_packet }
 {
-    if codec.stands_at(src, dst) && codec.front_packet(src, dst).is_some() {
-        *front = Front::InPlace;
-        return PACKET;
-    }
     match codec.decode(src, dst) {
         Ok(true) => {
             *front = Front::Copied;
@@ -171,6 +177,31 @@ fn find(
         }
         Err(_) => NO_MEMORY,
     }
+}
+
+// Looks for a packet that stands whole.
+#[inline(always)]
+fn find(
+    codec: &mut PacketCodec,
+    src: &mut BytesMut<Global>,
+    dst: &mut Vec<u8, Global>,
+    front: &mut Front,
+) -> i32
+    requires ready { IsReady front.old (codec_state codec.old src.old.items dst.old.items) }
+    requires found { front.old ≡ Front.Unfinished }
+    ensures ready { IsReady front.new (codec_state codec.new src.new.items dst.new.items) }
+    ensures finds { Finds result (codec_state codec.old src.old.items dst.old.items)
+        front.new (codec_state codec.new src.new.items dst.new.items) }
+    // A packet that lies in front is lent there.
+    ensures in_place { let before = codec_state codec.old src.old.items dst.old.items in
+        Stands before → HasFront before → (result ≡ PACKET) × (front.new ≡ Front.InPlace) }
+    ensures limit { codec.new.max_allowed_packet ≡ codec.old.max_allowed_packet }
+{
+    if codec.stands_at(src, dst) && codec.front_packet(src, dst).is_some() {
+        *front = Front::InPlace;
+        return PACKET;
+    }
+    find_apart(codec, src, dst, front)
 }
 
 impl Connection {

@@ -1,7 +1,7 @@
 use Rattle.std.proofs.Common.{rules}
 use Rattle.wire_codec.specs.Codec.{codec_state}
 use Rattle.mysql_wire_side.proofs.FindLemmas.{finds_packet, finds_none, finds_too_large, finds_lost}
-use Rattle.mysql_wire_side.proofs.connection.find.Goals as goal
+use Rattle.mysql_wire_side.proofs.connection.find_apart.Goals as goal
 
 pub returns-in-Ok-true-clause-finds : goal.returns-in-Ok-true-clause-finds
 returns-in-Ok-true-clause-finds c =
