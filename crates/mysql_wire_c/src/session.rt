@@ -8,7 +8,7 @@ ghost use Rattle.mysql_wire_c.specs.Calls.{Classifies, FollowsFront, FollowsPack
 ghost use Rattle.mysql_wire_c.specs.Numbers.{kind_number};
 
 use crate::numbers::{kind_number, phase_number, sender_number, side_of};
-use mysql_wire_session::packet::{Packet, Received, Row};
+use mysql_wire_session::packet::{Packet, Received, Row, forget};
 use mysql_wire_session::refusal::SessionError;
 use mysql_wire_session::session::{FrontError, Session};
 use mysql_wire_session::side::Side;
@@ -91,7 +91,7 @@ fn take(
     match session.read(side, id, payload) {
         Ok(received) => {
             let taken = advance_past(session, &received);
-            received.forget();
+            forget(received);
             taken
         }
         Err(error) => Err(error),

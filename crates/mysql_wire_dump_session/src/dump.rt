@@ -17,7 +17,7 @@ use mysql_wire_dump_lines::next_sender::next_sender;
 use mysql_wire_dump_lines::options::{Options, Sides};
 use mysql_wire_dump_lines::packet_stream::{End, Next, PacketStream};
 use mysql_wire_dump_lines::status::{Stop, exit_status, stop_of};
-use mysql_wire_session::packet::Received;
+use mysql_wire_session::packet::{Received, forget};
 use mysql_wire_session::packet_kind::PacketKind;
 use mysql_wire_session::phase::Phase;
 use mysql_wire_session::session::Session;
@@ -98,7 +98,7 @@ fn show_other<A: Allocator + Copy>(
     match session.read(came.0, came.1, payload) {
         Ok(received) => {
             let told = show_received(global, session, fields, &received);
-            received.forget();
+            forget(received);
             told
         }
         Err(error) => Err(stop_of(error)),

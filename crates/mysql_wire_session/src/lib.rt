@@ -15,6 +15,7 @@ pub mod classify {
 
 /// What a payload is read as.
 pub mod packet {
+    pub use crate::session::forget;
     pub use mysql_wire_session_packets::packet::{Packet, Received, Row};
 }
 

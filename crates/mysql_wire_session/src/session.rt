@@ -23,6 +23,7 @@ use mysql_wire_session_phases::refusal::SessionError;
 use mysql_wire_session_phases::side::{Sender, Side};
 use mysql_wire_statements::com_stmt_prepare_ok::ComStmtPrepareOk;
 use std::alloc::{Allocator, Global};
+use std::mem;
 use wire_const::{CapabilityFlags, Flags, MAX_PAYLOAD_LEN, MariadbCapabilities, StatusFlags};
 
 // The id that follows a packet of this length, whose first chunk bears this id.
@@ -30,6 +31,11 @@ fn id_after(id: u8, len: usize) -> u8
     ensures { result ≡ id_after id len }
 {
     ((id as usize + len / MAX_PAYLOAD_LEN + 1) % 256) as u8
+}
+
+/// Gives up a packet that `Session::read` gave. It owns no memory, so that there is nothing to drop.
+pub fn forget(received: Received<'_>) {
+    mem::forget(received);
 }
 
 /// What both sides of a connection have sent so far, as far as it says what comes next.

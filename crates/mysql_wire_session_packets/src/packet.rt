@@ -34,7 +34,6 @@ use mysql_wire_utility::com_register_slave::ComRegisterSlave;
 use mysql_wire_utility::com_reset_connection::ComResetConnection;
 use mysql_wire_utility::com_set_option::ComSetOption;
 use mysql_wire_utility::com_statistics::{ComStatistics, StatisticsText};
-use std::mem;
 
 /// A row of an answer.
 #[derive(Clone, Copy)]
@@ -114,12 +113,4 @@ pub struct Received<'a> {
     pub kind: PacketKind,
     pub payload: &'a [u8],
     pub packet: Packet<'a>,
-}
-
-impl Received<'_> {
-    /// Gives up a packet that `Session::read` of `mysql_wire_session` gave. It owns no memory, so that
-    /// there is nothing to drop.
-    pub fn forget(self) {
-        mem::forget(self);
-    }
 }

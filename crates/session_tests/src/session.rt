@@ -7,7 +7,7 @@ use exchanges::{
     CONNECTION, DONE, EXECUTE, FETCH, LOAD, PIECE, PIECES_END, PREPARE, QUERY, QUIT, REQUEST,
     RESULTS, Row,
 };
-use mysql_wire_session::packet::{Packet, Received};
+use mysql_wire_session::packet::{Packet, Received, forget};
 use mysql_wire_session::packet_kind::PacketKind;
 use mysql_wire_session::phase::Phase;
 use mysql_wire_session::session::{FrontError, Session};
@@ -115,7 +115,7 @@ fn reads<A: Allocator + Copy>(
     match session.read(side, id, payload) {
         Ok(received) => {
             let seen = look_at(&received);
-            received.forget();
+            forget(received);
             Some(seen)
         }
         Err(_) => None,

@@ -6,7 +6,7 @@ ghost use Rattle.mysql_wire_session.specs.Fronts.{FailsFront, FailsWhole, TakesF
 ghost use Rattle.mysql_wire_session.specs.Readings.{advanced};
 ghost use Rattle.mysql_wire_session.specs.State.{state_of};
 
-use super::Session;
+use super::{Session, forget};
 use mysql_wire_session_packets::packet::Received;
 use mysql_wire_session_phases::packet_kind::PacketKind;
 use mysql_wire_session_phases::phase::Phase;
@@ -66,7 +66,7 @@ impl<A: Allocator + Copy> Session<A> {
         match self.read(side, id, payload) {
             Ok(received) => {
                 let taken = self.advance_past(&received);
-                received.forget();
+                forget(received);
                 taken
             }
             Err(error) => Err(error),
