@@ -1,8 +1,8 @@
 #!/usr/bin/env python3
 """Writes the protocol's constants for C, crates/mysql_wire_c/include/mysql_wire_constants.h: the
-lengths, collations, flags and enums of wire_const, by their names and numbers, and the sides, senders,
-phases and kinds of packets of a session, by the numbers that mysql_wire_c gives them. With
---check it writes nothing, and fails where the file is another.
+lengths of wire_buf, and the collations, flags and enums of wire_const, by their names and numbers,
+and the sides, senders, phases and kinds of packets of a session, by the numbers that mysql_wire_c
+gives them. With --check it writes nothing, and fails where the file is another.
 """
 import os
 import re
@@ -12,6 +12,7 @@ from glob import glob
 
 TOP = os.path.dirname(os.path.dirname(os.path.abspath(__file__)))
 SOURCES = os.path.join(TOP, "crates", "wire_const", "src")
+LENGTHS = os.path.join(TOP, "crates", "wire_buf", "src", "lengths.rt")
 NUMBERS = os.path.join(TOP, "crates", "mysql_wire_c", "src", "numbers.rt")
 HEADER = os.path.join(TOP, "crates", "mysql_wire_c", "include", "mysql_wire_constants.h")
 
@@ -127,8 +128,11 @@ def of_enum(enum, file, begins, suffix):
 
 def header():
     parts = [HEAD]
-    with open(os.path.join(SOURCES, "lib.rt"), encoding="utf-8") as file:
-        parts.append("\n".join(lines(CONST.finditer(file.read()), "u")) + "\n")
+    numbers = []
+    for path in (LENGTHS, os.path.join(SOURCES, "lib.rt")):
+        with open(path, encoding="utf-8") as file:
+            numbers += lines(CONST.finditer(file.read()), "u")
+    parts.append("\n".join(numbers) + "\n")
     for path in sorted(glob(f"{SOURCES}/flag_sets/*.rt")) + sorted(glob(f"{SOURCES}/*.rt")):
         with open(path, encoding="utf-8") as file:
             text = file.read()

@@ -4,10 +4,10 @@ use std::error::Error;
 use std::fmt::Debug;
 use std::hash::Hash;
 use std::marker::PhantomData;
+use wire_buf::lengths::{DEFAULT_MAX_ALLOWED_PACKET, MAX_PAYLOAD_LEN, MIN_COMPRESS_LENGTH};
 use wire_const::{
-    CapabilityFlags, ColumnFlags, ColumnType, Command, CursorType, DEFAULT_MAX_ALLOWED_PACKET,
-    Flags, Flags2, GeometryType, ItemResult, MAX_PAYLOAD_LEN, MIN_COMPRESS_LENGTH,
-    MariadbBulkIndicator, MariadbCapabilities, SessionStateType, SqlMode, StatusFlags,
+    CapabilityFlags, ColumnFlags, ColumnType, Command, CursorType, Flags, Flags2, GeometryType,
+    ItemResult, MariadbBulkIndicator, MariadbCapabilities, SessionStateType, SqlMode, StatusFlags,
     StmtBulkExecuteFlags, StmtExecuteParamFlags, StmtExecuteParamsFlags, UTF8_GENERAL_CI,
     UTF8MB4_GENERAL_CI, UnknownCapabilityFlags, UnknownColumnFlags, UnknownColumnType,
     UnknownCursorType, UnknownFlags2, UnknownGeometryType, UnknownItemResultType,

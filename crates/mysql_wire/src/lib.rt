@@ -1,7 +1,6 @@
 //! MySQL's packet codec and wire primitives, under the paths of `mysql_common`.
 #![tactic(auto)]
 
-pub mod field_laws;
 pub mod laws;
 
 /// Buffers, readers and writers, and errors.
@@ -31,8 +30,7 @@ pub mod misc {
 
         /// What was written is read back, and how wrappers are compared, as functions.
         pub mod field_laws {
-            pub use crate::field_laws::{constants, converted, numbers, rows};
-            pub use wire_forms::field_laws::texts;
+            pub use wire_laws::{constants, converted, numbers, rows, texts};
             pub use wire_list::field_laws::{compared, lists};
             pub use wire_repr::field_laws::{
                 number_back, number_comes_back, parse_back, text_comes_back,
@@ -83,16 +81,17 @@ pub mod misc {
 
 /// The numbers that packets are written in.
 pub mod constants {
+    pub use wire_buf::lengths::{DEFAULT_MAX_ALLOWED_PACKET, MAX_PAYLOAD_LEN, MIN_COMPRESS_LENGTH};
     pub use wire_const::{
-        CapabilityFlags, ColumnFlags, ColumnType, Command, CursorType, DEFAULT_MAX_ALLOWED_PACKET,
-        Flags, Flags2, GeometryType, ItemResult, MAX_PAYLOAD_LEN, MIN_COMPRESS_LENGTH,
-        MariadbBulkIndicator, MariadbCapabilities, SessionStateType, SqlMode, StatusFlags,
-        StmtBulkExecuteFlags, StmtExecuteParamFlags, StmtExecuteParamsFlags, UTF8_GENERAL_CI,
-        UTF8MB4_GENERAL_CI, UnknownCapabilityFlags, UnknownColumnFlags, UnknownColumnType,
-        UnknownCursorType, UnknownFlags2, UnknownGeometryType, UnknownItemResultType,
-        UnknownMariadbBulkIndicator, UnknownMariadbCapabilityFlags, UnknownSessionStateType,
-        UnknownSqlMode, UnknownStatusFlags, UnknownStmtBulkExecuteParamsFlags,
-        UnknownStmtExecuteParamFlags, UnknownStmtExecuteParamsFlags,
+        CapabilityFlags, ColumnFlags, ColumnType, Command, CursorType, Flags, Flags2, GeometryType,
+        ItemResult, MariadbBulkIndicator, MariadbCapabilities, SessionStateType, SqlMode,
+        StatusFlags, StmtBulkExecuteFlags, StmtExecuteParamFlags, StmtExecuteParamsFlags,
+        UTF8_GENERAL_CI, UTF8MB4_GENERAL_CI, UnknownCapabilityFlags, UnknownColumnFlags,
+        UnknownColumnType, UnknownCursorType, UnknownFlags2, UnknownGeometryType,
+        UnknownItemResultType, UnknownMariadbBulkIndicator, UnknownMariadbCapabilityFlags,
+        UnknownSessionStateType, UnknownSqlMode, UnknownStatusFlags,
+        UnknownStmtBulkExecuteParamsFlags, UnknownStmtExecuteParamFlags,
+        UnknownStmtExecuteParamsFlags,
     };
 }
 

@@ -19,11 +19,11 @@ use mysql_wire_side::codes::{
 use mysql_wire_side::connection::{Connection, Front};
 use std::alloc::{AllocError, Global};
 use wire_buf::io::ParseBuf;
+use wire_buf::lengths::MAX_PAYLOAD_LEN;
 use wire_codec::codec::error::PacketCodecError;
 use wire_codec::codec::header::{HEADER_LEN, Header};
 use wire_codec::codec::{PacketCodec, framed_len, is_out_of_step, packet_to_slice};
 use wire_codec::laws;
-use wire_const::MAX_PAYLOAD_LEN;
 
 /// Sets the most bytes of a packet, for the headers that end in bytes that are fed from now on;
 /// where the packet in front is too large, for all that is unread. `PACKET_WAITS`: a packet

@@ -10,9 +10,9 @@ use crate::status::{Stop, exit_status};
 use bytes::BytesMut;
 use std::alloc::{AllocError, Allocator};
 use std::io::{Read, Write};
+use wire_buf::lengths::MAX_PAYLOAD_LEN;
 use wire_codec::codec::error::PacketCodecError;
 use wire_codec::codec::{ChunkDecoder, ChunkInfo};
-use wire_const::MAX_PAYLOAD_LEN;
 
 // The status of `chunk`.
 fn chunk_status(info: Option<ChunkInfo>, rest: &[u8]) -> u8

@@ -14,10 +14,10 @@ use crate::traced_read::TracedRead;
 use bytes::BytesMut;
 use std::alloc::{AllocError, Allocator};
 use std::io::Write;
+use wire_buf::lengths::MAX_PAYLOAD_LEN;
 use wire_codec::codec::error::PacketCodecError;
 use wire_codec::codec::{PacketCodec, deliver_each_limited, deliver_limited};
 use wire_codec::laws;
-use wire_const::MAX_PAYLOAD_LEN;
 
 // Packets are visited where they lie where fewer bytes than these are unread, and fewer than those
 // come: together they hold no full chunk. This many bytes take lines that are held, but for one.

@@ -8,7 +8,7 @@ ghost use Rattle.mysql_wire_dump_lines.specs.Arguments.{IsNumber};
 use crate::lines::LineForm;
 use crate::options::{Options, Sides};
 use std::alloc::Allocator;
-use wire_const::DEFAULT_MAX_ALLOWED_PACKET;
+use wire_buf::lengths::DEFAULT_MAX_ALLOWED_PACKET;
 
 /// A session to be shown: how, and the files of its directions.
 #[derive(Clone, Copy)]

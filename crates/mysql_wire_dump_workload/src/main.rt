@@ -5,8 +5,8 @@
 use mysql_wire_dump_lines::lines::LineForm;
 use mysql_wire_dump_lines::options::{Options, Sides};
 use mysql_wire_dump_session::dump::run_dump;
-use session_inputs::draws::{Draws, Letters};
-use session_inputs::making::{Session, make_session};
+use mysql_wire_jobs::draws::{Draws, Letters};
+use mysql_wire_jobs::making::{Session, make_session};
 use std::alloc::Global;
 use std::env;
 use std::process::ExitCode;

@@ -24,7 +24,8 @@ use mysql_wire_session_phases::side::{Sender, Side};
 use mysql_wire_statements::com_stmt_prepare_ok::ComStmtPrepareOk;
 use std::alloc::{Allocator, Global};
 use std::mem;
-use wire_const::{CapabilityFlags, Flags, MAX_PAYLOAD_LEN, MariadbCapabilities, StatusFlags};
+use wire_buf::lengths::MAX_PAYLOAD_LEN;
+use wire_const::{CapabilityFlags, Flags, MariadbCapabilities, StatusFlags};
 
 // The id that follows a packet of this length, whose first chunk bears this id.
 fn id_after(id: u8, len: usize) -> u8

@@ -2,17 +2,11 @@
 //! ROUNDS` prints a digest of all results, and `all` in place of a name one of each job.
 #![tactic(auto)]
 
-mod answers;
-mod digest;
-mod draws;
 mod dumping;
-mod passing;
-mod reading;
-mod serving;
-mod statements;
-mod streams;
+mod showing;
 
-use draws::{Draws, Letters};
+use mysql_wire_jobs::draws::{Draws, Letters};
+use mysql_wire_jobs::{passing, reading, serving, statements};
 use std::alloc::Global;
 use std::env;
 use std::process::ExitCode;
@@ -36,7 +30,7 @@ fn run(alloc: Global, name: &str, seed: u64, rounds: usize) -> Option<u64> {
         "server" => serving::serve_answers(alloc, &mut draws, &letters, rounds),
         "dump" => dumping::dump(alloc, &mut draws, &letters, rounds),
         "proxy" => passing::pass_on(alloc, &mut draws, &letters, rounds),
-        "streams" => streams::show_streams(alloc, &mut draws, &letters, rounds),
+        "streams" => showing::show_streams(alloc, &mut draws, &letters, rounds),
         _ => None,
     }
 }

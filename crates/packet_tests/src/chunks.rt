@@ -6,7 +6,7 @@ use test_support::answers::Answer;
 use test_support::facts::{no_row, wrong_row};
 use test_support::fixture::Remembered;
 use test_support::script::{Step, first_fault};
-use wire_const::MAX_PAYLOAD_LEN;
+use wire_buf::lengths::MAX_PAYLOAD_LEN;
 
 // A state, what is to be read, what is held and a limit; and the same after the call, with its
 // answer.

@@ -6,7 +6,7 @@ use test_support::answers::Answer;
 use test_support::facts::{no_row, wrong_row};
 use test_support::reference::framed_len;
 use test_support::script::{Script, Step, first_fault, play};
-use wire_const::MAX_PAYLOAD_LEN;
+use wire_buf::lengths::MAX_PAYLOAD_LEN;
 
 // What each call answers, takes and leaves.
 const CALLS: &[Script] = &[

@@ -8,7 +8,7 @@ use test_support::case::{Case, Wanted};
 use test_support::facts::{no_row, wrong_row};
 use test_support::fixture::FILL;
 use test_support::reference::{between, low_byte};
-use wire_const::MAX_PAYLOAD_LEN;
+use wire_buf::lengths::MAX_PAYLOAD_LEN;
 
 // The stream, cut after its byte number i + 1 where bit i of the number is set, and an empty piece
 // after each piece where they are spaced. A piece that no memory is left for is missing, which no

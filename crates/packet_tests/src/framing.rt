@@ -11,7 +11,7 @@ use test_support::facts::{no_row, same, same_if_any, wrong_row};
 use test_support::receiver::Receiver;
 use test_support::reference::{between, chunk_count, low_byte, put_framing};
 use test_support::targets::Trickle;
-use wire_const::MAX_PAYLOAD_LEN;
+use wire_buf::lengths::MAX_PAYLOAD_LEN;
 
 // What a payload must become, from its first id on, and the id after it.
 #[derive(Clone, Copy)]

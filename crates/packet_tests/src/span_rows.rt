@@ -9,7 +9,7 @@ use test_support::answers::Answer;
 use test_support::facts::{all_hold, same};
 use test_support::receiver::{Receiver, are_packets};
 use test_support::reference::{between, low_byte};
-use wire_const::MAX_PAYLOAD_LEN;
+use wire_buf::lengths::MAX_PAYLOAD_LEN;
 use wire_span::{Renumber, SpanDecoder, SpanError, SpanParts};
 
 // What comes to a decoder, and what comes of it in spans and with other ids.

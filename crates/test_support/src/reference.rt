@@ -7,7 +7,7 @@
 use crate::answers::Answer;
 use std::alloc::{AllocError, Global};
 use std::mem;
-use wire_const::MAX_PAYLOAD_LEN;
+use wire_buf::lengths::MAX_PAYLOAD_LEN;
 
 /// The bytes from `start` to `end`, as far as there are any.
 pub fn between(bytes: &[u8], start: usize, end: usize) -> &[u8] {

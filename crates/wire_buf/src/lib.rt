@@ -4,5 +4,6 @@
 
 pub mod error;
 pub mod io;
+pub mod lengths;
 pub mod proto;
 pub mod zero;

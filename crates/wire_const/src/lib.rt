@@ -1,4 +1,4 @@
-//! The numbers that packets are written in: lengths, collations, sets of flags and enums.
+//! The numbers that packets are written in: collations, sets of flags and enums.
 //!
 //! A raw number is converted by `try_from`, which refuses what it doesn't know and hands the number
 //! back in its error. `from` gives the number of a value. The calls on a set of flags are those of
@@ -27,19 +27,6 @@ pub use flag_sets::{
 pub use geometry::{GeometryType, UnknownGeometryType};
 pub use item_result::{ItemResult, UnknownItemResultType};
 pub use session_state::{SessionStateType, UnknownSessionStateType};
-
-/// The most payload bytes that one chunk carries: the length in a chunk's header has three bytes.
-///
-/// <https://dev.mysql.com/doc/dev/mysql-server/latest/page_protocol_basic_packets.html>
-pub const MAX_PAYLOAD_LEN: usize = 16777215;
-
-/// The limit of a packet, in payload bytes, where none is set.
-pub const DEFAULT_MAX_ALLOWED_PACKET: usize = 4194304;
-
-/// A payload of fewer bytes is not worth compressing.
-///
-/// <https://dev.mysql.com/doc/dev/mysql-server/latest/page_protocol_basic_compression.html>
-pub const MIN_COMPRESS_LENGTH: usize = 50;
 
 /// The number of the collation `utf8_general_ci`.
 ///

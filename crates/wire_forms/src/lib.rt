@@ -3,7 +3,6 @@
 #![tactic(auto)]
 
 pub mod constant;
-pub mod field_laws;
 pub mod halves;
 pub mod lenenc;
 pub mod null;

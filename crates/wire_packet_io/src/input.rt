@@ -19,10 +19,10 @@ use bytes::BytesMut;
 use std::alloc::{AllocError, Allocator};
 use std::io::Read;
 use std::mem;
+use wire_buf::lengths::MAX_PAYLOAD_LEN;
 use wire_codec::codec::error::PacketCodecError;
 use wire_codec::codec::header::{HEADER_LEN, Header};
 use wire_codec::codec::{PacketCodec, Skipped};
-use wire_const::MAX_PAYLOAD_LEN;
 
 // The most bytes of one read.
 const READ_SIZE: usize = 8192;

@@ -4,8 +4,8 @@
 ghost use Rattle.std.specs.Prelude.{◌≡◌, ℕ, ◌+◌, ◌^◌, ◌<◌, ◌≤◌, ◌↔◌, ◌⊎◌, [], ◌++◌, length, Some, IsTrue, IsSome, OnOk, OnErr, IfSome, IfNone, unwrap_or};
 
 use thiserror::Error;
+use wire_buf::lengths::MAX_PAYLOAD_LEN;
 use wire_codec::codec::header::{HEADER_LEN, Header};
-use wire_const::MAX_PAYLOAD_LEN;
 
 /// A packet isn't begun inside another one.
 #[derive(Debug, Clone, Copy, PartialEq, Eq, Error)]

@@ -7,9 +7,9 @@ ghost use Rattle.wire_span.specs.SpanSteps.{TakesSpan, RefusesChunk};
 
 use std::num::NonZeroUsize;
 use thiserror::Error;
+use wire_buf::lengths::{DEFAULT_MAX_ALLOWED_PACKET, MAX_PAYLOAD_LEN};
 use wire_codec::codec::error::PacketCodecError;
 use wire_codec::codec::header::{HEADER_LEN, Header};
-use wire_const::{DEFAULT_MAX_ALLOWED_PACKET, MAX_PAYLOAD_LEN};
 
 pub(crate) mod parts;
 mod passing;

@@ -15,7 +15,7 @@ use bytes::{Buf, BytesMut};
 pub use skip::Skipped;
 use std::alloc::Allocator;
 use std::num::NonZeroUsize;
-use wire_const::DEFAULT_MAX_ALLOWED_PACKET;
+use wire_buf::lengths::DEFAULT_MAX_ALLOWED_PACKET;
 
 /// Packets from chunks, and chunks from packets, under one sequence id, as a connection has it.
 ///

@@ -6,7 +6,7 @@ ghost use Rattle.wire_span.specs.Parts.{place_at, parts_state, IsInChunk, IsPlac
 
 use super::{HeaderFront, Place, SpanDecoder};
 use std::num::NonZeroUsize;
-use wire_const::MAX_PAYLOAD_LEN;
+use wire_buf::lengths::MAX_PAYLOAD_LEN;
 
 /// Where a `SpanDecoder` stands, in plain numbers, for callers that keep it in a memory or a
 /// language of their own.

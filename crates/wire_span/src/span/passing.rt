@@ -7,8 +7,8 @@ ghost use Rattle.wire_span.specs.Renumbering.{sent};
 ghost use Rattle.wire_span.specs.Passing.{left_in, most_bytes};
 
 use super::{Place, SpanDecoder, SpanError};
+use wire_buf::lengths::MAX_PAYLOAD_LEN;
 use wire_codec::codec::header::Header;
-use wire_const::MAX_PAYLOAD_LEN;
 
 impl SpanDecoder {
     /// How many bytes of the open chunk are to come; 0 in front of a header.

@@ -8,7 +8,7 @@ ghost use Rattle.wire_span.specs.Renumbering.{RenumbersFront};
 
 use super::{HeaderFront, Place, SpanDecoder, SpanError};
 use std::num::NonZeroUsize;
-use wire_const::MAX_PAYLOAD_LEN;
+use wire_buf::lengths::MAX_PAYLOAD_LEN;
 
 impl SpanDecoder {
     // This many bytes of the open chunk came, of which this many were to come: whether they end their

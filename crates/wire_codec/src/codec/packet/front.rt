@@ -12,7 +12,7 @@ use crate::codec::header::{HEADER_LEN, Header};
 use crate::codec::packet::PacketCodec;
 use bytes::BytesMut;
 use std::alloc::Allocator;
-use wire_const::MAX_PAYLOAD_LEN;
+use wire_buf::lengths::MAX_PAYLOAD_LEN;
 
 impl PacketCodec {
     // Whether a packet may begin with this header: it is within the limit, or it is the one that

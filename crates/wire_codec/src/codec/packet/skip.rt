@@ -15,7 +15,7 @@ use crate::codec::room::{fits, is_full_chunks};
 use bytes::BytesMut;
 use std::alloc::Allocator;
 use std::num::NonZeroUsize;
-use wire_const::MAX_PAYLOAD_LEN;
+use wire_buf::lengths::MAX_PAYLOAD_LEN;
 
 // A chunk whose header was dropped, and not all of its bytes.
 #[derive(Debug, Clone, Copy, PartialEq, Eq)]

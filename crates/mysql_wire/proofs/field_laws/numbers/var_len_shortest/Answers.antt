@@ -1,5 +1,0 @@
-use Rattle.wire_forms.specs.GroupsLemmas.{groups_bytes-shortest}
-use Rattle.mysql_wire.proofs.field_laws.numbers.var_len_shortest.Goals as goal
-
-pub returns : goal.returns
-returns c = groups_bytes-shortest c.args.number.now.0 c.known.ensures

@@ -1,5 +1,0 @@
-use Rattle.std.proofs.Common.{rules}
-use Rattle.wire_forms.proofs.field_laws.texts.u32_text_comes_back.Goals as goal
-
-pub returns-clause-good : goal.returns-clause-good
-returns-clause-good c = search rules
