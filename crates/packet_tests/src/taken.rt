@@ -174,62 +174,83 @@ fn keeps<A: Allocator>(out: &mut Vec<u8>, packet: Option<Vec<u8, A>>) -> Answer 
     }
 }
 
-// Generic in the reader and the writer: that `Parts` is a reader and `Narrow` a writer is proved anew
-// in each function that calls through them.
+// What follows is generic in the reader and the writer: that `Parts` is a reader and `Narrow` a writer
+// is proved anew in each function that calls through them.
+
+// Takes a packet by `next_packet`, after the others.
+fn hands_out<R: Read, A: Allocator + Copy>(
+    reader: &mut PacketReader<R, A>,
+    codec: &mut PacketCodec,
+    out: &mut Vec<u8>,
+) -> Answer {
+    if !reader.fits(codec) {
+        return Answer::Fallen;
+    }
+    match reader.next_packet(codec) {
+        Ok(packet) => keeps(out, packet),
+        Err(error) => answer_of(&error),
+    }
+}
+
+// Has a packet ready by `fill_packet`.
+fn fills<R: Read, A: Allocator + Copy>(
+    reader: &mut PacketReader<R, A>,
+    codec: &mut PacketCodec,
+) -> Answer {
+    if !reader.fits(codec) {
+        return Answer::Fallen;
+    }
+    answer_if(reader.fill_packet(codec))
+}
+
+// Has a packet ready, and takes it after the others.
+fn lends<R: Read, A: Allocator + Copy>(
+    reader: &mut PacketReader<R, A>,
+    codec: &mut PacketCodec,
+    out: &mut Vec<u8>,
+) -> Answer {
+    let answer = fills(reader, codec);
+    if answer == Answer::Packet {
+        let _ = out.extend_from_slice(reader.packet());
+        reader.take_packet();
+    }
+    answer
+}
+
+fn skips<R: Read, A: Allocator + Copy>(
+    reader: &mut PacketReader<R, A>,
+    codec: &mut PacketCodec,
+) -> Answer {
+    if !reader.can_skip(codec) {
+        return Answer::Fallen;
+    }
+    answer_if(reader.skip_packet(codec))
+}
+
+fn copies<R: Read, W: Write, A: Allocator + Copy>(
+    reader: &mut PacketReader<R, A>,
+    codec: &mut PacketCodec,
+    out: &mut W,
+) -> Answer {
+    if !reader.can_copy(codec) {
+        return Answer::Fallen;
+    }
+    answer_if(reader.copy_packet(codec, out))
+}
+
+fn passes_on<R: Read, W: Write, A: Allocator + Copy>(
+    reader: &mut PacketReader<R, A>,
+    codec: &mut PacketCodec,
+    writer: &mut PacketWriter<W, A>,
+    writer_codec: &mut PacketCodec,
+) -> Answer {
+    if !reader.can_copy(codec) {
+        return Answer::Fallen;
+    }
+    answer_if(reader.relay_packet(codec, writer, writer_codec))
+}
+
 impl<R: Read, W: Write, A: Allocator + Copy> Taker<'_, R, W, A> {
-    // Takes a packet by `next_packet`, after the others.
-    fn hands_out(&mut self) -> Answer {
-        if !self.reader.fits(&self.codec) {
-            return Answer::Fallen;
-        }
-        match self.reader.next_packet(&mut self.codec) {
-            Ok(packet) => keeps(&mut self.out.taken, packet),
-            Err(error) => answer_of(&error),
-        }
-    }
-
-    // Has a packet ready by `fill_packet`.
-    fn fills(&mut self) -> Answer {
-        if !self.reader.fits(&self.codec) {
-            return Answer::Fallen;
-        }
-        answer_if(self.reader.fill_packet(&mut self.codec))
-    }
-
-    // Has a packet ready, and takes it after the others.
-    fn lends(&mut self) -> Answer {
-        let answer = self.fills();
-        if answer == Answer::Packet {
-            let _ = self.out.taken.extend_from_slice(self.reader.packet());
-            self.reader.take_packet();
-        }
-        answer
-    }
-
-    fn skips(&mut self) -> Answer {
-        if !self.reader.can_skip(&self.codec) {
-            return Answer::Fallen;
-        }
-        answer_if(self.reader.skip_packet(&mut self.codec))
-    }
-
-    fn copies(&mut self) -> Answer {
-        if !self.reader.can_copy(&self.codec) {
-            return Answer::Fallen;
-        }
-        answer_if(self.reader.copy_packet(&mut self.codec, &mut self.out))
-    }
-
-    fn passes_on(&mut self) -> Answer {
-        if !self.reader.can_copy(&self.codec) {
-            return Answer::Fallen;
-        }
-        answer_if(
-            self.reader
-                .relay_packet(&mut self.codec, &mut self.writer, &mut self.writer_codec),
-        )
-    }
-
     // Puts a packet into the writer. One that is refused stays as it is.
     fn queues(&mut self, bytes: &[u8]) -> Answer {
         let mut packet = bytes;
@@ -249,12 +270,17 @@ impl<R: Read, W: Write, A: Allocator + Copy> Taker<'_, R, W, A> {
     // One call.
     fn says(&mut self, way: Way) -> Answer {
         match way {
-            Way::HandedOut => self.hands_out(),
-            Way::Lent => self.lends(),
-            Way::Filled => self.fills(),
-            Way::Skipped => self.skips(),
-            Way::Copied => self.copies(),
-            Way::PassedOn => self.passes_on(),
+            Way::HandedOut => hands_out(&mut self.reader, &mut self.codec, &mut self.out.taken),
+            Way::Lent => lends(&mut self.reader, &mut self.codec, &mut self.out.taken),
+            Way::Filled => fills(&mut self.reader, &mut self.codec),
+            Way::Skipped => skips(&mut self.reader, &mut self.codec),
+            Way::Copied => copies(&mut self.reader, &mut self.codec, &mut self.out),
+            Way::PassedOn => passes_on(
+                &mut self.reader,
+                &mut self.codec,
+                &mut self.writer,
+                &mut self.writer_codec,
+            ),
         }
     }
 

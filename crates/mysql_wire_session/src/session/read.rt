@@ -2,7 +2,6 @@
 
 ghost use Rattle.std.specs.Prelude.{◌≡◌, length};
 ghost use Rattle.mysql_wire_packets.specs.Optional.{has_query_attributes};
-ghost use Rattle.mysql_wire_session_packets.specs.declared.client_command.ClientCommand.TheVariants.{AttributedQuery, ChangeUser, InitDb, Ping, Query, Quit};
 ghost use Rattle.mysql_wire_session_packets.specs.declared.packet.Packet.TheVariants.{Command};
 ghost use Rattle.mysql_wire_session.specs.Advance.{opened, without_eof};
 ghost use Rattle.mysql_wire_session.specs.Opening.{opened_state};
@@ -11,12 +10,11 @@ ghost use Rattle.mysql_wire_session.specs.Readings.{BinaryRowGives, ColumnGives,
 ghost use Rattle.mysql_wire_session.specs.State.{SessionState, state_of};
 
 use super::Session;
-use crate::payload::Payload;
+use crate::payload::{CommandPayload, Payload};
 use mysql_wire_packets::ok_packet::InfoForm;
 use mysql_wire_packets::places::read_whole;
 use mysql_wire_queries::com_query::ComQuery;
 use mysql_wire_queries::com_query_attributes::ComQueryWithAttributes;
-use mysql_wire_session_packets::client_command::ClientCommand;
 use mysql_wire_session_packets::packet::{Packet, Row};
 use mysql_wire_session_phases::classify::first_byte;
 use mysql_wire_session_phases::next_phase::after_definitions;
@@ -44,6 +42,21 @@ fn read_as<'a, T: Payload<'a>, F: FnOnce(T) -> Packet<'a>>(
     match read_whole::<T>(global, ctx, payload) {
         Ok(packet) => Ok(make(packet)),
         Err(error) => Ok(Packet::Refused(Refusal::of(error)?)),
+    }
+}
+
+// The same of a type that is a command without a prepared statement.
+fn read_client_command<'a, T: CommandPayload<'a>>(
+    global: Global,
+    ctx: T::Ctx,
+    payload: &'a [u8],
+) -> Result<Packet<'a>, SessionError>
+    ensures { Makes (λ read is. is ≡ Command (T.command read)) (T.reads_whole ctx) payload.entry.now
+        result }
+{
+    match read_whole::<T>(global, ctx, payload) {
+        Ok(command) => Ok(Packet::Command(command.into_command())),
+        Err(why) => Ok(Packet::Refused(Refusal::of(why)?)),
     }
 }
 
@@ -240,11 +253,13 @@ impl<A: Allocator + Copy> Session<A> {
     {
         let global = self.global;
         match kind {
-            PacketKind::Quit => read_as(global, (), payload, quit),
-            PacketKind::InitDatabase => read_as(global, (), payload, init_db),
+            PacketKind::Quit => read_client_command::<ComQuit>(global, (), payload),
+            PacketKind::InitDatabase => read_client_command::<ComInitDb<'a>>(global, (), payload),
             PacketKind::Query => self.read_query(payload),
-            PacketKind::Ping => read_as(global, (), payload, ping),
-            PacketKind::ChangeUser => { read_as(global, self.capabilities, payload, change_user) }
+            PacketKind::Ping => read_client_command::<ComPing>(global, (), payload),
+            PacketKind::ChangeUser => {
+                read_client_command::<ComChangeUser<'a>>(global, self.capabilities, payload)
+            }
             PacketKind::Prepare => read_as(global, (), payload, Packet::Prepare),
             PacketKind::Execute => self.read_execute(payload),
             PacketKind::LongData => read_as(global, (), payload, Packet::LongData),
@@ -314,9 +329,9 @@ impl<A: Allocator + Copy> Session<A> {
             .capabilities
             .contains(CapabilityFlags::CLIENT_QUERY_ATTRIBUTES)
         {
-            read_as(self.global, (), payload, attributed_query)
+            read_client_command::<ComQueryWithAttributes<'a>>(self.global, (), payload)
         } else {
-            read_as(self.global, (), payload, query)
+            read_client_command::<ComQuery<'a>>(self.global, (), payload)
         }
     }
 
@@ -347,40 +362,4 @@ fn as_it_is<'a>(kind: PacketKind, payload: &'a [u8]) -> Packet<'a>
         PacketKind::Refused(refusal) => Packet::Refused(refusal),
         _ => Packet::BinaryLogEvent(payload),
     }
-}
-
-fn quit<'a>(read: ComQuit) -> Packet<'a>
-    ensures { result ≡ Command (Quit read) }
-{
-    Packet::Command(ClientCommand::Quit(read))
-}
-
-fn init_db<'a>(read: ComInitDb<'a>) -> Packet<'a>
-    ensures { result ≡ Command (InitDb read.entry) }
-{
-    Packet::Command(ClientCommand::InitDb(read))
-}
-
-fn ping<'a>(read: ComPing) -> Packet<'a>
-    ensures { result ≡ Command (Ping read) }
-{
-    Packet::Command(ClientCommand::Ping(read))
-}
-
-fn change_user<'a>(read: ComChangeUser<'a>) -> Packet<'a>
-    ensures { result ≡ Command (ChangeUser read.entry) }
-{
-    Packet::Command(ClientCommand::ChangeUser(read))
-}
-
-fn query<'a>(read: ComQuery<'a>) -> Packet<'a>
-    ensures { result ≡ Command (Query read.entry) }
-{
-    Packet::Command(ClientCommand::Query(read))
-}
-
-fn attributed_query<'a>(read: ComQueryWithAttributes<'a>) -> Packet<'a>
-    ensures { result ≡ Command (AttributedQuery read.entry) }
-{
-    Packet::Command(ClientCommand::AttributedQuery(read))
 }

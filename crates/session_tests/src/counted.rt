@@ -1,7 +1,5 @@
 // `count_rows` and `may_change_hands` of session_examples, with each request for memory refused.
 
-use mysql_wire::proto::codec::PacketCodec;
-use mysql_wire::proto::packet_io::PacketReader;
 use mysql_wire_session::packet_kind::PacketKind;
 use mysql_wire_session::session::Session;
 use mysql_wire_session::side::Side;
@@ -12,6 +10,8 @@ use std::alloc::Global;
 use std::test::Fail;
 use test_support::facts::ensure;
 use test_support::fixture::Heap;
+use wire_codec::codec::PacketCodec;
+use wire_packet_io::PacketReader;
 
 // No call asks for memory so often.
 const MOST: u64 = 10;
