@@ -87,12 +87,70 @@ pub fn definition<'a>(draws: &mut Draws, letters: &'a Letters) -> ColumnDefiniti
     }
 }
 
-// Frames a payload, and empties it.
-fn frame(codec: &mut PacketCodec, payload: &mut Vec<u8>, stream: &mut BytesMut) -> Option<()> {
-    let mut packet = payload.as_slice();
-    codec.encode(&mut packet, stream).ok()?;
-    payload.clear();
-    Some(())
+// An answer that is made, and the room for a payload.
+#[derive(Drop)]
+struct Maker {
+    codec: PacketCodec,
+    payload: Vec<u8>,
+    stream: BytesMut,
+}
+
+impl Maker {
+    fn new(alloc: Global) -> Self {
+        let mut codec = PacketCodec::default();
+        codec.max_allowed_packet = LIMIT;
+        Maker {
+            codec,
+            payload: Vec::new(alloc),
+            stream: BytesMut::new(alloc),
+        }
+    }
+
+    // Frames the payload, and empties it.
+    fn frame(&mut self) -> Option<()> {
+        let mut packet = self.payload.as_slice();
+        self.codec.encode(&mut packet, &mut self.stream).ok()?;
+        self.payload.clear();
+        Some(())
+    }
+
+    // What ends definitions, and rows.
+    fn end(&mut self) -> Option<()> {
+        self.payload.extend_from_slice(&[0xfe, 0, 0, 2, 0]).ok()?;
+        self.frame()
+    }
+
+    // How many columns there are, and their definitions.
+    fn put_definitions(
+        &mut self,
+        draws: &mut Draws,
+        letters: &Letters,
+        columns: usize,
+    ) -> Option<()> {
+        self.payload.put_lenenc_int(columns as u64).ok()?;
+        self.frame()?;
+        for _ in 0..columns {
+            definition(draws, letters)
+                .serialize(&mut self.payload)
+                .ok()?;
+            self.frame()?;
+        }
+        self.end()
+    }
+
+    fn put_rows(
+        &mut self,
+        draws: &mut Draws,
+        letters: &Letters,
+        columns: usize,
+        rows: usize,
+    ) -> Option<()> {
+        for _ in 0..rows {
+            put_row(draws, letters, columns, &mut self.payload)?;
+            self.frame()?;
+        }
+        self.end()
+    }
 }
 
 /// An answer of this many rows.
@@ -103,23 +161,9 @@ pub fn make_answer(
     columns: usize,
     rows: usize,
 ) -> Option<Answer> {
-    let mut codec = PacketCodec::default();
-    codec.max_allowed_packet = LIMIT;
-    let mut stream = BytesMut::new(alloc);
-    let mut payload = Vec::new(alloc);
-    payload.put_lenenc_int(columns as u64).ok()?;
-    frame(&mut codec, &mut payload, &mut stream)?;
-    for _ in 0..columns {
-        definition(draws, letters).serialize(&mut payload).ok()?;
-        frame(&mut codec, &mut payload, &mut stream)?;
-    }
-    payload.extend_from_slice(&[0xfe, 0, 0, 2, 0]).ok()?;
-    frame(&mut codec, &mut payload, &mut stream)?;
-    for _ in 0..rows {
-        put_row(draws, letters, columns, &mut payload)?;
-        frame(&mut codec, &mut payload, &mut stream)?;
-    }
-    payload.extend_from_slice(&[0xfe, 0, 0, 2, 0]).ok()?;
-    frame(&mut codec, &mut payload, &mut stream)?;
+    let mut maker = Maker::new(alloc);
+    maker.put_definitions(draws, letters, columns)?;
+    maker.put_rows(draws, letters, columns, rows)?;
+    let Maker { stream, .. } = maker;
     Some(Answer { columns, stream })
 }

@@ -5,6 +5,7 @@ use crate::digest::{Digest, Sink};
 use crate::draws::{Draws, Letters};
 use crate::reading::{Pieces, codec_under, step_of};
 use crate::streams::{full_chunks, stream};
+use bytes::BytesMut;
 use mysql_wire::proto::codec::{Renumber, SpanDecoder};
 use mysql_wire::proto::packet_io::{PacketReader, PacketWriter};
 use std::alloc::Global;
@@ -97,22 +98,33 @@ fn passed(alloc: Global, bytes: &[u8], turn: usize) -> Option<u64> {
     Some(digest.value())
 }
 
+// Passes a stream on, if there is one.
+fn pass(alloc: Global, made: Option<BytesMut>, turn: usize, digest: &mut Digest) -> Option<()> {
+    let stream = made?;
+    digest.add(passed(alloc, stream.as_slice(), turn)?);
+    Some(())
+}
+
 /// Questions, answers and rows of 8 to 450 bytes, in one round of four a value of some MB, and once
 /// a packet of full chunks.
 pub fn pass_on(alloc: Global, draws: &mut Draws, letters: &Letters, rounds: usize) -> Option<u64> {
     let mut digest = Digest::new();
     for round in 0..rounds {
         for len in [16, 150, 300] {
-            let small = stream(alloc, draws, letters, len, 6000 * len)?;
-            digest.add(passed(alloc, small.as_slice(), round)?);
+            let small = stream(alloc, draws, letters, len, 6000 * len);
+            pass(alloc, small, round, &mut digest)?;
         }
         if round % 4 == 0 {
-            let large = stream(alloc, draws, letters, 3000000, 3000000)?;
-            digest.add(passed(alloc, large.as_slice(), round)?);
+            let large = stream(alloc, draws, letters, 3000000, 3000000);
+            pass(alloc, large, round, &mut digest)?;
         }
         if round == 0 {
-            let full = full_chunks(alloc, draws, letters)?;
-            digest.add(passed(alloc, full.as_slice(), round)?);
+            pass(
+                alloc,
+                full_chunks(alloc, draws, letters),
+                round,
+                &mut digest,
+            )?;
         }
     }
     Some(digest.value())

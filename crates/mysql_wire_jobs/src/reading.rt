@@ -274,6 +274,37 @@ pub fn step_of(turn: usize) -> usize {
 // How many rows the answers of a round have.
 const ROWS: [usize; 8] = [1, 3, 10, 30, 100, 300, 1000, 8000];
 
+// Answers of this many rows, of which each way reads one.
+fn read_each(
+    alloc: Global,
+    draws: &mut Draws,
+    letters: &Letters,
+    rows: usize,
+    turn: usize,
+    digest: &mut Digest,
+) -> Option<()> {
+    for way in 0..4 {
+        let columns = 5 + draws.below(16);
+        let answer = make_answer(alloc, draws, letters, columns, rows)?;
+        digest.add(read_answer(alloc, &answer, way, turn)?);
+    }
+    Some(())
+}
+
+// Two answers of 1,000 columns, whose bytes come one at a time.
+fn read_wide(
+    alloc: Global,
+    draws: &mut Draws,
+    letters: &Letters,
+    digest: &mut Digest,
+) -> Option<()> {
+    let wide = make_answer(alloc, draws, letters, 1000, 2)?;
+    digest.add(by_decode(alloc, &wide, 1)?);
+    let wide = make_answer(alloc, draws, letters, 1000, 2)?;
+    digest.add(by_fill_packet(alloc, &wide, 1)?);
+    Some(())
+}
+
 /// Answers of 1 to 8,000 rows, of 5 to 20 columns; two of few rows have 1,000, and their bytes come
 /// one at a time.
 pub fn read_answers(
@@ -285,16 +316,9 @@ pub fn read_answers(
     let mut digest = Digest::new();
     for round in 0..rounds {
         for rows in ROWS {
-            for way in 0..4 {
-                let columns = 5 + draws.below(16);
-                let answer = make_answer(alloc, draws, letters, columns, rows)?;
-                digest.add(read_answer(alloc, &answer, way, round)?);
-            }
+            read_each(alloc, draws, letters, rows, round, &mut digest)?;
         }
-        let wide = make_answer(alloc, draws, letters, 1000, 2)?;
-        digest.add(by_decode(alloc, &wide, 1)?);
-        let wide = make_answer(alloc, draws, letters, 1000, 2)?;
-        digest.add(by_fill_packet(alloc, &wide, 1)?);
+        read_wide(alloc, draws, letters, &mut digest)?;
     }
     Some(digest.value())
 }

@@ -92,7 +92,25 @@ fn done<'a>(draws: &mut Draws, letters: &'a Letters) -> OkPacket<'a> {
     }
 }
 
-// An answer of this many rows, each as a type by turns with one put text by text.
+// A row, as a type by turns with one put text by text.
+fn serve_row(
+    server: &mut Server,
+    alloc: Global,
+    draws: &mut Draws,
+    letters: &Letters,
+    columns: usize,
+    place: usize,
+) -> Option<()> {
+    if place % 2 == 0 {
+        server.queue_value(&typed_row(alloc, draws, letters, columns)?)?;
+    } else {
+        put_row(draws, letters, columns, &mut server.payload)?;
+        server.queue()?;
+    }
+    server.write_much()
+}
+
+// An answer of this many rows.
 fn serve(
     server: &mut Server,
     alloc: Global,
@@ -105,13 +123,7 @@ fn serve(
         server.queue_value(&definition(draws, letters))?;
     }
     for place in 0..rows {
-        if place % 2 == 0 {
-            server.queue_value(&typed_row(alloc, draws, letters, columns)?)?;
-        } else {
-            put_row(draws, letters, columns, &mut server.payload)?;
-            server.queue()?;
-        }
-        server.write_much()?;
+        serve_row(server, alloc, draws, letters, columns, place)?;
     }
     server.queue_value(&done(draws, letters))?;
     server.writer.write_pending().ok()

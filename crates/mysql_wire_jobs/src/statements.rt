@@ -4,6 +4,7 @@ use crate::answers::LIMIT;
 use crate::digest::Digest;
 use crate::draws::{Draws, Letters, Script};
 use crate::reading::{codec_under, step_of};
+use crate::values::{date, time};
 use bytes::BytesMut;
 use mysql_wire::constants::ColumnType;
 use mysql_wire::io::ParseBuf;
@@ -40,41 +41,6 @@ pub const TYPE_NUMBERS: [u8; 10] = [8, 253, 3, 12, 5, 253, 1, 11, 2, 246];
 const BOUND: [u8; 20] = [
     8, 0, 253, 0, 3, 0, 12, 0, 5, 0, 253, 0, 1, 128, 11, 0, 2, 0, 246, 0,
 ];
-
-fn clock(draws: &mut Draws) -> Clock {
-    Clock {
-        hour: draws.byte() % 24,
-        minute: draws.byte() % 60,
-        second: draws.byte() % 60,
-    }
-}
-
-fn date(draws: &mut Draws) -> BinaryDate {
-    let day = Day {
-        year: 1970 + draws.byte() as u16,
-        month: 1 + draws.byte() % 12,
-        day: 1 + draws.byte() % 28,
-    };
-    match draws.below(8) {
-        0 => BinaryDate::Zero,
-        1 | 2 => BinaryDate::Date(day),
-        3 => BinaryDate::Micros(day, clock(draws), draws.byte() as u32),
-        _ => BinaryDate::Seconds(day, clock(draws)),
-    }
-}
-
-fn time(draws: &mut Draws) -> BinaryTime {
-    let span = Span {
-        sign: draws.byte() % 2,
-        days: draws.byte() as u32,
-        clock: clock(draws),
-    };
-    match draws.below(8) {
-        0 => BinaryTime::Zero,
-        1 => BinaryTime::Micros(span, draws.byte() as u32),
-        _ => BinaryTime::Seconds(span),
-    }
-}
 
 // A value of a type.
 fn value<'a>(draws: &mut Draws, letters: &'a Letters, column_type: ColumnType) -> BinaryValue<'a> {

@@ -91,7 +91,8 @@ fn clock(draws: &mut Draws) -> Clock {
     }
 }
 
-fn date(draws: &mut Draws) -> BinaryDate {
+/// A date.
+pub fn date(draws: &mut Draws) -> BinaryDate {
     let day = Day {
         year: 1970 + draws.byte() as u16,
         month: 1 + draws.byte() % 12,
@@ -105,7 +106,8 @@ fn date(draws: &mut Draws) -> BinaryDate {
     }
 }
 
-fn time(draws: &mut Draws) -> BinaryTime {
+/// A span of time.
+pub fn time(draws: &mut Draws) -> BinaryTime {
     let span = Span {
         sign: draws.byte() % 2,
         days: draws.byte() as u32,
