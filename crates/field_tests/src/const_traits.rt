@@ -1,10 +1,10 @@
 //! The constants that are plain numbers, and the traits of the types.
 
+use mysql_wire::constants::{DEFAULT_MAX_ALLOWED_PACKET, MAX_PAYLOAD_LEN, MIN_COMPRESS_LENGTH};
 use std::error::Error;
 use std::fmt::Debug;
 use std::hash::Hash;
 use std::marker::PhantomData;
-use wire_buf::lengths::{DEFAULT_MAX_ALLOWED_PACKET, MAX_PAYLOAD_LEN, MIN_COMPRESS_LENGTH};
 use wire_const::{
     CapabilityFlags, ColumnFlags, ColumnType, Command, CursorType, Flags, Flags2, GeometryType,
     ItemResult, MariadbBulkIndicator, MariadbCapabilities, SessionStateType, SqlMode, StatusFlags,
