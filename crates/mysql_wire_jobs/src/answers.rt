@@ -120,10 +120,6 @@ impl Maker {
         self.frame()
     }
 
-    fn put_definition(&mut self, draws: &mut Draws, letters: &Letters) -> Option<()> {
-        definition(draws, letters).serialize(&mut self.payload).ok()
-    }
-
     // How many columns there are, and their definitions.
     fn put_definitions(
         &mut self,
@@ -134,7 +130,9 @@ impl Maker {
         self.payload.put_lenenc_int(columns as u64).ok()?;
         self.frame()?;
         for _ in 0..columns {
-            self.put_definition(draws, letters)?;
+            definition(draws, letters)
+                .serialize(&mut self.payload)
+                .ok()?;
             self.frame()?;
         }
         self.end()

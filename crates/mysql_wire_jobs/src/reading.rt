@@ -63,16 +63,6 @@ fn tell(digest: &mut Digest, value: &TextValue<'_>) {
     }
 }
 
-fn tell_definition(digest: &mut Digest, definition: &ColumnDefinition41<'_>) {
-    digest.add_bytes(definition.schema.as_bytes());
-    digest.add_bytes(definition.table.as_bytes());
-    digest.add_bytes(definition.org_table.as_bytes());
-    digest.add_bytes(definition.name.as_bytes());
-    digest.add_bytes(definition.org_name.as_bytes());
-    digest.add(definition.column_length as u64);
-    digest.add(definition.flags.0 as u64);
-}
-
 impl Reading {
     fn new(alloc: Global, by: RowsBy, columns: usize) -> Self {
         Reading {
@@ -91,7 +81,13 @@ impl Reading {
             MariadbCapabilities::empty(),
             packet,
         ).ok()?;
-        tell_definition(&mut self.digest, &definition);
+        self.digest.add_bytes(definition.schema.as_bytes());
+        self.digest.add_bytes(definition.table.as_bytes());
+        self.digest.add_bytes(definition.org_table.as_bytes());
+        self.digest.add_bytes(definition.name.as_bytes());
+        self.digest.add_bytes(definition.org_name.as_bytes());
+        self.digest.add(definition.column_length as u64);
+        self.digest.add(definition.flags.0 as u64);
         Some(())
     }
 
@@ -173,50 +169,40 @@ pub fn codec_under(limit: usize) -> PacketCodec {
 }
 
 // Packets handed out by a reader, each in a buffer of its own.
-fn take_all(reader: &mut PacketReader<Pieces<'_>>, reading: &mut Reading) -> Option<()> {
+fn by_next_packet(alloc: Global, answer: &Answer, step: usize) -> Option<u64> {
+    let bytes = answer.stream.as_slice();
+    let mut reader = PacketReader::new(alloc, Pieces::new(bytes, step)).ok()?;
     let mut codec = codec_under(LIMIT);
+    let mut reading = Reading::new(alloc, RowsBy::Values, answer.columns);
     'packets: for _ in 0..u64::MAX {
         if !reader.fits(&codec) {
             return None;
         }
         match reader.next_packet(&mut codec).ok()? {
             Some(packet) => reading.take(packet.as_slice()),
-            None => return Some(()),
+            None => return reading.value(),
         }
     }
     None
 }
 
-fn by_next_packet(alloc: Global, answer: &Answer, step: usize) -> Option<u64> {
+// Packets lent by a reader.
+fn by_fill_packet(alloc: Global, answer: &Answer, step: usize) -> Option<u64> {
     let bytes = answer.stream.as_slice();
     let mut reader = PacketReader::new(alloc, Pieces::new(bytes, step)).ok()?;
-    let mut reading = Reading::new(alloc, RowsBy::Values, answer.columns);
-    take_all(&mut reader, &mut reading)?;
-    reading.value()
-}
-
-// Packets lent by a reader.
-fn look_at_all(reader: &mut PacketReader<Pieces<'_>>, reading: &mut Reading) -> Option<()> {
     let mut codec = codec_under(LIMIT);
+    let mut reading = Reading::new(alloc, RowsBy::Row, answer.columns);
     'packets: for _ in 0..u64::MAX {
         if !reader.fits(&codec) {
             return None;
         }
         if !reader.fill_packet(&mut codec).ok()? {
-            return Some(());
+            return reading.value();
         }
         reading.take(reader.packet());
         reader.take_packet();
     }
     None
-}
-
-fn by_fill_packet(alloc: Global, answer: &Answer, step: usize) -> Option<u64> {
-    let bytes = answer.stream.as_slice();
-    let mut reader = PacketReader::new(alloc, Pieces::new(bytes, step)).ok()?;
-    let mut reading = Reading::new(alloc, RowsBy::Row, answer.columns);
-    look_at_all(&mut reader, &mut reading)?;
-    reading.value()
 }
 
 // The packets that have come.
@@ -249,28 +235,18 @@ fn by_decode(alloc: Global, answer: &Answer, step: usize) -> Option<u64> {
 }
 
 // Packets visited where they lie.
-fn visit_piece(
-    codec: &mut PacketCodec,
-    src: &mut BytesMut,
-    dst: &mut Vec<u8>,
-    piece: &[u8],
-    reading: &mut Reading,
-) -> Option<()> {
-    if !codec.stands_at(src, dst.as_slice()) {
-        return None;
-    }
-    let pieces = [piece];
-    let (_, result) = deliver_each(codec, src, dst, &pieces, reading);
-    result.ok()
-}
-
 fn by_visits(alloc: Global, answer: &Answer, step: usize) -> Option<u64> {
     let mut codec = codec_under(LIMIT);
     let mut src = BytesMut::new(alloc);
     let mut dst = Vec::new(alloc);
     let mut reading = Reading::new(alloc, RowsBy::Hand, answer.columns);
     for piece in answer.stream.as_slice().chunks(step.max(1)) {
-        visit_piece(&mut codec, &mut src, &mut dst, piece, &mut reading)?;
+        if !codec.stands_at(&src, dst.as_slice()) {
+            return None;
+        }
+        let pieces = [piece];
+        let (_, result) = deliver_each(&mut codec, &mut src, &mut dst, &pieces, &mut reading);
+        result.ok()?;
     }
     reading.value()
 }
