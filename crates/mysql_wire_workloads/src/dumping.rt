@@ -77,7 +77,7 @@ fn put(shown: &mut Shown, place: u64, payload: &[u8]) -> Option<Kind> {
             .ok()?;
         return Some(Kind::Column);
     }
-    match text_row(fields, columns, payload).ok()? {
+    match text_row(shown.alloc, fields, columns, payload).ok()? {
         None => Some(Kind::Row),
         Some(_) => None,
     }

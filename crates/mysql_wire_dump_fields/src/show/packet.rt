@@ -120,7 +120,7 @@ pub fn show_row<A: Allocator + Copy>(
 {
     match row {
         Row::Text { columns, values } => {
-            let refusal = text_row(fields, *columns, values)?;
+            let refusal = text_row(global, fields, *columns, values)?;
             Ok(row_kind(kind, refusal))
         }
         Row::Binary { columns, row } => {

@@ -2,7 +2,7 @@
 
 ghost use Rattle.std.specs.Float.{binary32, binary64};
 ghost use Rattle.std.specs.Fmt.{decimal};
-ghost use Rattle.std.specs.Prelude.{◌≡◌, ◌∷◌, [], ◌++◌, false, None, IfOk, OnOk};
+ghost use Rattle.std.specs.Prelude.{◌≡◌, ◌∷◌, [], ◌++◌, IfOk, OnOk};
 ghost use Rattle.wire_text.specs.Fields.{Puts, Word, Written};
 ghost use Rattle.mysql_wire_dump_fields.specs.TemporalTexts.{date_text, time_text};
 ghost use Rattle.mysql_wire_dump_fields.specs.ValueFields.{IsTypeOf, row_bytes_fields, PutsColumn, PutsFloat, PutsRow, PutsShown, PutsText, PutsTexts, PutsValues};
@@ -10,7 +10,6 @@ ghost use Rattle.mysql_wire_dump_fields.specs.ValueFields.{IsTypeOf, row_bytes_f
 use super::Show;
 use crate::temporal::{push_date, push_time};
 use mysql_wire_queries::text_row::TextValue;
-use mysql_wire_queries::text_values::TextValues;
 use mysql_wire_session_phases::refusal::{Refusal, SessionError};
 use mysql_wire_statements::binary_row::BinaryRow;
 use mysql_wire_statements::binary_value::BinaryValue;
@@ -23,35 +22,32 @@ use wire_buf::io::ParseBuf;
 use wire_const::ColumnType;
 use wire_text::fields::{Field, FieldValue, Fields};
 
-// Puts the next value of a row of texts. The answer is why it is none.
-#[inline(always)]
+// Reads the text of a column, and puts it. The answer is why it is none.
 fn put_text<A: Allocator + Copy>(
+    global: Global,
     fields: &mut Fields<A>,
     place: u64,
-    values: &mut TextValues<'_>,
+    rest: &mut ParseBuf<'_>,
 ) -> Result<Option<Refusal>, SessionError>
-    requires { values.old.has_refused ≡ false }
-    ensures puts { IfOk result (λ refusal. PutsText place values.old.rest.0.now
-        values.new.rest.0.now refusal fields.old fields.new) }
-    ensures goes_on { IfOk result (λ refusal. refusal ≡ None
-        → values.new.has_refused ≡ false) }
+    ensures { IfOk result (λ refusal. PutsText place rest.old.0.now rest.new.0.now refusal
+        fields.old fields.new) }
 {
-    match values.next() {
-        Some(Ok(TextValue::Null)) => {
+    match rest.parse::<TextValue<'_>>(global, ()) {
+        Ok(TextValue::Null) => {
             fields.put_at(place, FieldValue::Null)?;
             Ok(None)
         }
-        Some(Ok(TextValue::Text(text))) => {
+        Ok(TextValue::Text(text)) => {
             fields.put_at(place, FieldValue::Text(text))?;
             Ok(None)
         }
-        Some(Err(fault)) => Ok(Some(Refusal::of_wire(WireError::from(fault))?)),
-        None => Ok(Some(Refusal::UnexpectedEnd)),
+        Err(error) => Ok(Some(Refusal::of_wire(error)?)),
     }
 }
 
-// Puts the values of a row of this many columns, one by one. The answer is why it is none.
+// Reads a row of this many columns, value by value, and puts each. The answer is why it is none.
 fn put_texts<A: Allocator + Copy>(
+    global: Global,
     fields: &mut Fields<A>,
     columns: u64,
     payload: &[u8],
@@ -59,14 +55,14 @@ fn put_texts<A: Allocator + Copy>(
     ensures { IfOk result (λ refusal. PutsTexts columns payload.now refusal
         fields.old fields.new) }
 {
-    let mut texts = TextValues::new(payload);
+    let mut rest = ParseBuf(payload);
     'values: for place in 0..columns {
-        match put_text(fields, place, &mut texts)? {
+        match put_text(global, fields, place, &mut rest)? {
             None => {}
             Some(refusal) => return Ok(Some(refusal)),
         }
     }
-    Ok(if texts.rest().is_empty() {
+    Ok(if rest.0.is_empty() {
         None
     } else {
         Some(Refusal::TrailingBytes)
@@ -75,6 +71,7 @@ fn put_texts<A: Allocator + Copy>(
 
 /// Reads a row of this many columns, value by value, and puts each. The answer is why it is none.
 pub fn text_row<A: Allocator + Copy>(
+    global: Global,
     fields: &mut Fields<A>,
     columns: u64,
     payload: &[u8],
@@ -82,7 +79,7 @@ pub fn text_row<A: Allocator + Copy>(
     ensures { IfOk result (λ refusal. PutsTexts columns payload.now refusal
         fields.old fields.new) }
 {
-    put_texts(fields, columns, payload)
+    put_texts(global, fields, columns, payload)
 }
 
 // Puts a number of these bits.

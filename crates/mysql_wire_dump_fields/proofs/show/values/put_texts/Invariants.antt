@@ -1,7 +1,5 @@
-use Rattle.std.specs.Prelude.{◌≡◌, false}
 use Rattle.mysql_wire_dump_fields.proofs.ValueLemmas.{Texts}
 use Rattle.mysql_wire_dump_fields.proofs.show.values.put_texts.Given as goal
 
 abbrev pub invariant-values : goal.invariant-values
-invariant-values g l = Texts l.place l.payload l.texts.rest.0.now l.fn.fields l.fields
-    × (l.texts.has_refused ≡ false)
+invariant-values g l = Texts l.place l.payload l.rest.0.now l.fn.fields l.fields
