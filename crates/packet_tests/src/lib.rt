@@ -1,12 +1,9 @@
 //! Tests of packets: framing, chunks, the codec, limits, lending, delivery, every cutting, packets
-//! over readers and writers, and packets in spans; and of every call under refused memory, of what a
-//! call leaves then and how it goes on, and of how much calls ask for. `memory_support` has the calls.
+//! over readers and writers, and packets in spans.
 #![tactic(auto)]
 
 #[cfg(test)]
 mod answers;
-#[cfg(test)]
-mod budget;
 #[cfg(test)]
 mod chunks;
 #[cfg(test)]
@@ -25,8 +22,6 @@ mod framing;
 mod ids;
 #[cfg(test)]
 mod limits;
-#[cfg(test)]
-mod memory;
 #[cfg(test)]
 mod order;
 #[cfg(test)]
