@@ -19,7 +19,6 @@ mod fields;
 mod flag_sets;
 #[cfg(test)]
 mod io;
-pub mod kind;
 #[cfg(test)]
 mod lists;
 #[cfg(test)]

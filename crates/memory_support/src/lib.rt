@@ -2,8 +2,8 @@
 //! the library. Each call answers plain values that can be compared.
 #![tactic(auto)]
 
-pub mod copies;
-pub mod packets;
-pub mod reading;
+mod copies;
+mod packets;
+mod reading;
 pub mod requests;
-pub mod writing;
+mod writing;

@@ -17,9 +17,9 @@ use crate::requests::copies::{ROWS_HELD, ROWS_OTHER, ROWS_READ};
 use std::alloc::Allocator;
 use test_support::fixture::Heap;
 
-/// A call that takes memory.
+// A call that takes memory.
 #[derive(Clone, Copy)]
-pub enum Call {
+pub(crate) enum Call {
     PacketToChunks,
     PiecesToChunks,
     Encode,
@@ -31,7 +31,7 @@ pub enum Call {
     PutSlice,
     Deliver(Runner),
     Read(Way),
-    /// With this many bytes left where it is refused, and where it isn't.
+    // With this many bytes left where it is refused, and where it isn't.
     ReadList(Reading, usize, usize),
     Elements,
     PushText(Onto),
@@ -41,8 +41,8 @@ pub enum Call {
     ReadLenencStr,
 }
 
-/// A function by its name, and how often it asks for memory where none is refused.
-pub type Row = (&'static str, Call, u64);
+// A function by its name, and how often it asks for memory where none is refused.
+pub(crate) type Row = (&'static str, Call, u64);
 
 // No call asks so often.
 const MOST: u64 = 20;

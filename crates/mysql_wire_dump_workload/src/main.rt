@@ -51,8 +51,8 @@ fn dump(alloc: Global, session: &Session, output: &mut Vec<u8>, counts: &mut Cou
             has_fields,
             limit: 4_194_304,
         };
-        let mut client = session.client.as_slice();
-        let mut server = session.server.as_slice();
+        let mut client = session.client();
+        let mut server = session.server();
         let read = client.len() as u64;
         counts.read = counts
             .read

@@ -16,8 +16,20 @@ pub const LIMIT: usize = 1 << 26;
 /// An answer, framed from id 0 on.
 #[derive(Drop)]
 pub struct Answer {
-    pub columns: usize,
-    pub stream: BytesMut,
+    pub(crate) columns: usize,
+    pub(crate) stream: BytesMut,
+}
+
+impl Answer {
+    /// How many columns its rows have.
+    pub fn columns(&self) -> usize {
+        self.columns
+    }
+
+    /// Its chunks.
+    pub fn stream(&self) -> &[u8] {
+        self.stream.as_slice()
+    }
 }
 
 // The script of a column.
@@ -42,8 +54,8 @@ fn text_len(draws: &mut Draws, column: usize) -> usize {
     }
 }
 
-/// Puts a row of this many columns.
-pub fn put_row(
+// Puts a row of this many columns.
+pub(crate) fn put_row(
     draws: &mut Draws,
     letters: &Letters,
     columns: usize,
@@ -66,8 +78,8 @@ fn name<'a>(draws: &mut Draws, letters: &'a Letters) -> RawBytes<'a, LenEnc> {
     RawBytes::from(letters.text(draws, Script::Plain, len))
 }
 
-/// A definition of a column.
-pub fn definition<'a>(draws: &mut Draws, letters: &'a Letters) -> ColumnDefinition41<'a> {
+// A definition of a column.
+pub(crate) fn definition<'a>(draws: &mut Draws, letters: &'a Letters) -> ColumnDefinition41<'a> {
     let table = name(draws, letters);
     let column = name(draws, letters);
     ColumnDefinition41 {

@@ -27,8 +27,8 @@ const OK: &[u8] = &[0, 1, 0, 2, 0, 0, 0];
 /// The bytes of both directions. Their packets are numbered on from a command's.
 #[derive(Drop)]
 pub struct Session {
-    pub client: BytesMut,
-    pub server: BytesMut,
+    client: BytesMut,
+    server: BytesMut,
     codec: PacketCodec,
     payload: Vec<u8>,
     // Room for a text.
@@ -36,6 +36,16 @@ pub struct Session {
 }
 
 impl Session {
+    /// What the client sends.
+    pub fn client(&self) -> &[u8] {
+        self.client.as_slice()
+    }
+
+    /// What the server sends.
+    pub fn server(&self) -> &[u8] {
+        self.server.as_slice()
+    }
+
     fn new(alloc: Global) -> Self {
         Session {
             client: BytesMut::new(alloc),

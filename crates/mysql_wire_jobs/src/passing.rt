@@ -4,8 +4,7 @@ use crate::answers::LIMIT;
 use crate::digest::{Digest, Sink};
 use crate::draws::{Draws, Letters};
 use crate::reading::{Pieces, codec_under, step_of};
-use crate::streams::{full_chunks, stream};
-use bytes::BytesMut;
+use crate::streams::{Stream, full_chunks, make_stream};
 use mysql_wire::proto::codec::{Renumber, SpanDecoder};
 use mysql_wire::proto::packet_io::{PacketReader, PacketWriter};
 use std::alloc::Global;
@@ -99,7 +98,7 @@ fn passed(alloc: Global, bytes: &[u8], turn: usize) -> Option<u64> {
 }
 
 // Passes a stream on, if there is one.
-fn pass(alloc: Global, made: Option<BytesMut>, turn: usize, digest: &mut Digest) -> Option<()> {
+fn pass(alloc: Global, made: Option<Stream>, turn: usize, digest: &mut Digest) -> Option<()> {
     let stream = made?;
     digest.add(passed(alloc, stream.as_slice(), turn)?);
     Some(())
@@ -111,11 +110,11 @@ pub fn pass_on(alloc: Global, draws: &mut Draws, letters: &Letters, rounds: usiz
     let mut digest = Digest::new();
     for round in 0..rounds {
         for len in [16, 150, 300] {
-            let small = stream(alloc, draws, letters, len, 6000 * len);
+            let small = make_stream(alloc, draws, letters, len, 6000 * len);
             pass(alloc, small, round, &mut digest)?;
         }
         if round % 4 == 0 {
-            let large = stream(alloc, draws, letters, 3000000, 3000000);
+            let large = make_stream(alloc, draws, letters, 3000000, 3000000);
             pass(alloc, large, round, &mut digest)?;
         }
         if round == 0 {

@@ -23,16 +23,16 @@ enum RowsBy {
     Hand,
 }
 
-/// Bytes that come this many at a read, at most.
+// Bytes that come this many at a read, at most.
 #[derive(Drop)]
-pub struct Pieces<'a> {
+pub(crate) struct Pieces<'a> {
     bytes: &'a [u8],
     step: usize,
 }
 
 impl<'a> Pieces<'a> {
-    /// These bytes.
-    pub fn new(bytes: &'a [u8], step: usize) -> Self {
+    // These bytes.
+    pub(crate) fn new(bytes: &'a [u8], step: usize) -> Self {
         Pieces { bytes, step }
     }
 }
@@ -161,8 +161,8 @@ impl Visit for Reading {
     }
 }
 
-/// A codec at id 0, under a limit.
-pub fn codec_under(limit: usize) -> PacketCodec {
+// A codec at id 0, under a limit.
+pub(crate) fn codec_under(limit: usize) -> PacketCodec {
     let mut codec = PacketCodec::default();
     codec.max_allowed_packet = limit;
     codec
@@ -262,8 +262,8 @@ fn read_answer(alloc: Global, answer: &Answer, way: usize, turn: usize) -> Optio
     }
 }
 
-/// How many bytes come at a read.
-pub fn step_of(turn: usize) -> usize {
+// How many bytes come at a read.
+pub(crate) fn step_of(turn: usize) -> usize {
     match turn % 3 {
         0 => 1460,
         1 => 8192,

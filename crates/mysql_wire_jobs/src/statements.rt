@@ -1,6 +1,6 @@
 //! Prepared statements: executed with parameters, and answered by rows in binary.
 
-use crate::answers::LIMIT;
+use crate::answers::{Answer, LIMIT};
 use crate::digest::Digest;
 use crate::draws::{Draws, Letters, Script};
 use crate::reading::{codec_under, step_of};
@@ -59,18 +59,18 @@ fn value<'a>(draws: &mut Draws, letters: &'a Letters, column_type: ColumnType) -
     }
 }
 
-/// Values in a row, of which one in twenty is NULL, the bitmap that says which, and room for a
-/// payload.
+// Values in a row, of which one in twenty is NULL, the bitmap that says which, and room for a
+// payload.
 #[derive(Drop)]
-pub struct Values {
+struct Values {
     nulls: [u8; 2],
     values: Vec<u8>,
     payload: Vec<u8>,
 }
 
 impl Values {
-    /// None.
-    pub fn new(alloc: Global) -> Self {
+    // None.
+    fn new(alloc: Global) -> Self {
         Values {
             nulls: [0, 0],
             values: Vec::new(alloc),
@@ -98,8 +98,8 @@ fn fill(values: &mut Values, draws: &mut Draws, letters: &Letters, first: u32) -
     Some(())
 }
 
-/// Frames a row.
-pub fn put_row(
+// Frames a row.
+fn put_row(
     codec: &mut PacketCodec,
     draws: &mut Draws,
     letters: &Letters,
@@ -115,6 +115,25 @@ pub fn put_row(
     row.serialize(&mut values.payload).ok()?;
     let mut packet = values.payload.as_slice();
     codec.encode(&mut packet, stream).ok()
+}
+
+/// An answer of this many rows in binary, of ten columns, without definitions.
+pub fn binary_rows(
+    alloc: Global,
+    draws: &mut Draws,
+    letters: &Letters,
+    rows: usize,
+) -> Option<Answer> {
+    let mut codec = codec_under(LIMIT);
+    let mut stream = BytesMut::new(alloc);
+    let mut values = Values::new(alloc);
+    for _ in 0..rows {
+        put_row(&mut codec, draws, letters, &mut values, &mut stream)?;
+    }
+    Some(Answer {
+        columns: 10,
+        stream,
+    })
 }
 
 // Frames a statement that is executed.

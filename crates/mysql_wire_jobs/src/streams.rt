@@ -8,6 +8,19 @@ use mysql_wire::constants::MAX_PAYLOAD_LEN;
 use mysql_wire::proto::codec::PacketCodec;
 use std::alloc::Global;
 
+/// Chunks, one after another.
+#[derive(Drop)]
+pub struct Stream {
+    bytes: BytesMut,
+}
+
+impl Stream {
+    /// Their bytes.
+    pub fn as_slice(&self) -> &[u8] {
+        self.bytes.as_slice()
+    }
+}
+
 // Puts a packet of this many bytes, or up to two fewer.
 fn put(
     codec: &mut PacketCodec,
@@ -29,13 +42,13 @@ fn put(
 }
 
 /// Packets of about `len` bytes, from half of it to one and a half; about `total` bytes of them.
-pub fn stream(
+pub fn make_stream(
     alloc: Global,
     draws: &mut Draws,
     letters: &Letters,
     len: usize,
     total: usize,
-) -> Option<BytesMut> {
+) -> Option<Stream> {
     let mut codec = codec_under(LIMIT);
     let mut stream = BytesMut::new(alloc);
     let mut payload = Vec::new(alloc);
@@ -50,15 +63,15 @@ pub fn stream(
             &mut stream,
         )?;
     }
-    Some(stream)
+    Some(Stream { bytes: stream })
 }
 
-/// A packet of two full chunks, after which an empty one stands.
-pub fn full_chunks(alloc: Global, draws: &mut Draws, letters: &Letters) -> Option<BytesMut> {
+// A packet of two full chunks, after which an empty one stands.
+pub(crate) fn full_chunks(alloc: Global, draws: &mut Draws, letters: &Letters) -> Option<Stream> {
     let mut codec = codec_under(LIMIT);
     let mut stream = BytesMut::new(alloc);
     let mut payload = Vec::new(alloc);
     let len = 2 * MAX_PAYLOAD_LEN;
     put(&mut codec, draws, letters, len, &mut payload, &mut stream)?;
-    Some(stream)
+    Some(Stream { bytes: stream })
 }

@@ -65,8 +65,8 @@ fn fill(draws: &mut Draws, letters: &Letters, column: usize, text: &mut Vec<u8>)
         .ok()
 }
 
-/// Puts a row of texts, of which one in twenty is NULL.
-pub fn put_text_row(
+// Puts a row of texts, of which one in twenty is NULL.
+pub(crate) fn put_text_row(
     draws: &mut Draws,
     letters: &Letters,
     text: &mut Vec<u8>,
@@ -91,8 +91,8 @@ fn clock(draws: &mut Draws) -> Clock {
     }
 }
 
-/// A date.
-pub fn date(draws: &mut Draws) -> BinaryDate {
+// A date.
+pub(crate) fn date(draws: &mut Draws) -> BinaryDate {
     let day = Day {
         year: 1970 + draws.byte() as u16,
         month: 1 + draws.byte() % 12,
@@ -106,8 +106,8 @@ pub fn date(draws: &mut Draws) -> BinaryDate {
     }
 }
 
-/// A span of time.
-pub fn time(draws: &mut Draws) -> BinaryTime {
+// A span of time.
+pub(crate) fn time(draws: &mut Draws) -> BinaryTime {
     let span = Span {
         sign: draws.byte() % 2,
         days: draws.byte() as u32,
@@ -140,8 +140,8 @@ fn put_value(
     }
 }
 
-/// Puts a row in the binary form, of which one value in eight is NULL.
-pub fn put_binary_row(
+// Puts a row in the binary form, of which one value in eight is NULL.
+pub(crate) fn put_binary_row(
     draws: &mut Draws,
     letters: &Letters,
     text: &mut Vec<u8>,

@@ -1,6 +1,5 @@
 //! An operator dumps a session's answers.
 
-use bytes::BytesMut;
 use mysql_wire::constants::{Flags, MariadbCapabilities};
 use mysql_wire_dump_fields::show::{Show, binary_row, statistics, text_row};
 use mysql_wire_dump_lines::lines::{LineForm, Seen, push_packet};
@@ -8,8 +7,7 @@ use mysql_wire_dump_lines::packet_stream::{Next, PacketStream};
 use mysql_wire_jobs::answers::{Answer, LIMIT, make_answer};
 use mysql_wire_jobs::digest::{Digest, Sink};
 use mysql_wire_jobs::draws::{Draws, Letters};
-use mysql_wire_jobs::reading::codec_under;
-use mysql_wire_jobs::statements::{TYPE_NUMBERS, Values, put_row};
+use mysql_wire_jobs::statements::{TYPE_NUMBERS, binary_rows};
 use mysql_wire_packets::places::read_whole;
 use mysql_wire_queries::column_definition::ColumnDefinition41;
 use mysql_wire_session_phases::packet_kind::PacketKind as Kind;
@@ -124,27 +122,13 @@ fn dumped(alloc: Global, form: Form, answer: &Answer, is_binary: bool) -> Option
     let mut shown = Shown {
         alloc,
         form,
-        columns: answer.columns,
+        columns: answer.columns(),
         is_binary,
         fields: Fields::new(alloc),
         text: String::new(alloc),
         sink: Sink::new(Vec::new(alloc)),
     };
-    show_all(&mut shown, answer.stream.as_slice())
-}
-
-// Rows in binary alone.
-fn binary(alloc: Global, draws: &mut Draws, letters: &Letters, rows: usize) -> Option<Answer> {
-    let mut codec = codec_under(LIMIT);
-    let mut stream = BytesMut::new(alloc);
-    let mut values = Values::new(alloc);
-    for _ in 0..rows {
-        put_row(&mut codec, draws, letters, &mut values, &mut stream)?;
-    }
-    Some(Answer {
-        columns: 10,
-        stream,
-    })
+    show_all(&mut shown, answer.stream())
 }
 
 /// Answers in texts and in binary, each as lines alone, with fields, and as JSON.
@@ -155,7 +139,7 @@ pub fn dump(alloc: Global, draws: &mut Draws, letters: &Letters, rounds: usize) 
             let columns = 5 + draws.below(16);
             let texts = make_answer(alloc, draws, letters, columns, 800)?;
             digest.add(dumped(alloc, form, &texts, false)?);
-            let numbers = binary(alloc, draws, letters, 200)?;
+            let numbers = binary_rows(alloc, draws, letters, 200)?;
             digest.add(dumped(alloc, form, &numbers, true)?);
         }
     }

@@ -1,18 +1,17 @@
 //! Streams are shown as lines, and numbered anew.
 
-use bytes::BytesMut;
 use mysql_wire_commands::reframe::run_reframe;
 use mysql_wire_commands::unframe::run_unframe;
 use mysql_wire_jobs::answers::LIMIT;
 use mysql_wire_jobs::digest::{Digest, Sink};
 use mysql_wire_jobs::draws::{Draws, Letters};
-use mysql_wire_jobs::streams::stream;
+use mysql_wire_jobs::streams::{Stream, make_stream};
 use std::alloc::Global;
 
 // How many bytes a read of the program asks for.
 const STEP: usize = 8192;
 
-fn shown(alloc: Global, stream: &BytesMut) -> Option<u64> {
+fn shown(alloc: Global, stream: &Stream) -> Option<u64> {
     let mut input = stream.as_slice();
     let mut output = Sink::new(Vec::new(alloc));
     match run_unframe(alloc, STEP, LIMIT, &mut input, &mut output) {
@@ -21,7 +20,7 @@ fn shown(alloc: Global, stream: &BytesMut) -> Option<u64> {
     }
 }
 
-fn framed(alloc: Global, stream: &BytesMut) -> Option<u64> {
+fn framed(alloc: Global, stream: &Stream) -> Option<u64> {
     let output = Sink::new(Vec::new(alloc));
     match run_reframe(alloc, LIMIT, stream.as_slice(), output) {
         (0, _, output) => Some(output.value()),
@@ -47,7 +46,7 @@ pub fn show_streams(
     let mut digest = Digest::new();
     for _ in 0..rounds {
         for (len, total) in SIZES {
-            let stream = stream(alloc, draws, letters, len, total)?;
+            let stream = make_stream(alloc, draws, letters, len, total)?;
             digest.add(shown(alloc, &stream)?);
             digest.add(framed(alloc, &stream)?);
         }
