@@ -15,7 +15,7 @@ trap 'rm -rf "$work"' EXIT
 # proves FILE: checks a file as a crate that uses wire_buf, wire_repr, wire_forms and wire_values.
 proves() {
     local found=() layer
-    for layer in wire_buf wire_put wire_repr wire_forms wire_values; do
+    for layer in wire_buf wire_ext wire_repr wire_forms wire_values; do
         found+=(-L "dependency=$crates/$layer/out/rlib")
     done
     for layer in wire_buf wire_repr wire_forms wire_values; do

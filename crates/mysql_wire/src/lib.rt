@@ -7,8 +7,8 @@ pub mod laws;
 pub mod io {
     pub use wire_buf::error::{InvalidLengthEncodedInteger, InvalidReason, WireError};
     pub use wire_buf::io::ParseBuf;
+    pub use wire_ext::BufMutExt;
     pub use wire_ext::io::{ReadMysqlExt, WriteMysqlExt};
-    pub use wire_put::BufMutExt;
 }
 
 /// Lengths, integers of the serialization library, versions, and fields of packets.
@@ -22,11 +22,11 @@ pub mod misc {
     pub mod raw {
         pub use wire_field::converted::{Const, IntoNumber, Numbered, RawConst};
         pub use wire_field::row::{Both, Either, Slice};
-        pub use wire_flags::flags::RawFlags;
         pub use wire_forms::constant::Skip;
         pub use wire_list::raw_seq::RawSeq;
         pub use wire_repr::int::RawInt;
         pub use wire_repr::text::RawBytes;
+        pub use wire_values::flags::RawFlags;
 
         /// What was written is read back, and how wrappers are compared, as functions.
         pub mod field_laws {
@@ -44,7 +44,7 @@ pub mod misc {
 
         /// Numbers that stand for sets of flags.
         pub mod flags {
-            pub use wire_flags::flags::RawFlags;
+            pub use wire_values::flags::RawFlags;
         }
 
         /// Lists, by the representations of their count.

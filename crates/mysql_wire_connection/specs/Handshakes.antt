@@ -4,7 +4,7 @@ use Rattle.std.proofs.Common.{arith}
 use Rattle.std.specs.Cow.{cow_slice_items}
 use Rattle.std.specs.List.{before_first}
 use Rattle.wire_const.specs.declared.flag_sets.capability.CapabilityFlags.{CapabilityFlags}
-use Rattle.wire_flags.specs.declared.flags.RawFlags.{RawFlags}
+use Rattle.wire_values.specs.declared.flags.RawFlags.{RawFlags}
 use Rattle.wire_field.specs.declared.row.Both.{Both}
 use Rattle.wire_field.specs.declared.row.Either.{Either}
 use Rattle.wire_forms.specs.declared.halves.LeU32LowerHalf.{LeU32LowerHalf}

@@ -24,7 +24,6 @@ use wire_buf::io::ParseBuf;
 use wire_buf::proto::{HasSize, MyDeserialize, MySerialize, Varying};
 use wire_const::{CapabilityFlags, Flags, MariadbCapabilities, StatusFlags};
 use wire_field::row::{Both, Either};
-use wire_flags::flags::RawFlags;
 use wire_forms::constant::ConstU8;
 use wire_forms::halves::{LeU32LowerHalf, LeU32UpperHalf};
 use wire_forms::null::NullBytes;
@@ -32,6 +31,7 @@ use wire_forms::undelimited::{BareU8Bytes, EofBytes};
 use wire_repr::int::{LeU16, LeU32};
 use wire_repr::text::RawBytes;
 use wire_repr::wire::Wire;
+use wire_values::flags::RawFlags;
 
 // The payload's fields up to the authentication data's second part.
 type Head<'a> = Both<ConstU8<(), 0x0a>, Both<RawBytes<'a, NullBytes>, Ids>>;

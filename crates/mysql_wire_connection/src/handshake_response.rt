@@ -20,7 +20,6 @@ use wire_buf::io::ParseBuf;
 use wire_buf::proto::{HasSize, MyDeserialize, MySerialize, Varying};
 use wire_const::{CapabilityFlags, MariadbCapabilities};
 use wire_field::row::{Both, Either};
-use wire_flags::flags::RawFlags;
 use wire_forms::constant::Skip;
 use wire_forms::lenenc::LenEnc;
 use wire_forms::null::NullBytes;
@@ -28,6 +27,7 @@ use wire_forms::prefixed::U8Bytes;
 use wire_repr::int::LeU32;
 use wire_repr::text::RawBytes;
 use wire_repr::wire::Wire;
+use wire_values::flags::RawFlags;
 
 // The payload's fields up to the name of the user.
 type Client<'a> = Both<u32, Both<u32, User<'a>>>;

@@ -11,9 +11,9 @@ use wire_buf::io::ParseBuf;
 use wire_buf::proto::{HasSize, MyDeserialize, MySerialize, Varying};
 use wire_const::{CapabilityFlags, MariadbCapabilities};
 use wire_field::row::Both;
-use wire_flags::flags::RawFlags;
 use wire_repr::int::LeU32;
 use wire_repr::wire::Wire;
+use wire_values::flags::RawFlags;
 
 // The payload's fields, in order.
 type Fields = Both<u32, Both<u32, Rest>>;

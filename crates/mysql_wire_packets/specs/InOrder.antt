@@ -14,7 +14,7 @@ use Rattle.wire_field.specs.Rows.{ReadsBoth, both-back}
 use Rattle.wire_repr.specs.Texts.{IsText, Borrows, IsBorrowedText, Borrows-back}
 use Rattle.wire_forms.specs.BareTexts.{all-back, front-back}
 use Rattle.wire_forms.specs.PrefixedTexts.{lenenc_text-back, fixed_text-back_1}
-use Rattle.wire_put.specs.Texts.{u8_max}
+use Rattle.wire_ext.specs.Texts.{u8_max}
 use Rattle.wire_buf.specs.Spelling.{IsFixed}
 use Rattle.wire_forms.specs.Spelled.{Leaves, NumberOrEof, TextBehind, Leaves-back, NumberOrEof-back}
 use Rattle.wire_buf.specs.Lenenc.{IsLenencOrMark, lenenc_bytes}

@@ -19,7 +19,7 @@ use Rattle.wire_buf.specs.Reading.{Answers, Parses, Through, front_at}
 use Rattle.wire_field.specs.Rows.{ReadsBoth, ReadsEither, by_side}
 use Rattle.wire_forms.specs.Spelled.{Leaves, NumberOrEof, TextBehind}
 use Rattle.wire_buf.specs.Spelling.{IsBehind, IsFixed}
-use Rattle.wire_put.specs.Texts.{u8_max}
+use Rattle.wire_ext.specs.Texts.{u8_max}
 use Rattle.wire_buf.specs.declared.error.WireError.{WireError}
 use Rattle.wire_buf.specs.declared.error.WireError.TheVariants.{UnexpectedEof}
 use Rattle.mysql_wire_packets.specs.Again.{Again, IsBytes-drop, IsBytes-take, nothing_law}

@@ -11,10 +11,10 @@ use wire_buf::io::ParseBuf;
 use wire_buf::proto::{HasSize, MyDeserialize, MySerialize, Varying};
 use wire_const::StatusFlags;
 use wire_field::row::Both;
-use wire_flags::flags::RawFlags;
 use wire_forms::constant::ConstU8;
 use wire_repr::int::LeU16;
 use wire_repr::wire::Wire;
+use wire_values::flags::RawFlags;
 
 // The payload's fields, in order.
 type Fields = Both<ConstU8<(), 0xfe>, Both<u16, u16>>;

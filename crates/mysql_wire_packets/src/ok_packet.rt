@@ -19,13 +19,13 @@ use wire_buf::io::ParseBuf;
 use wire_buf::proto::{HasSize, MyDeserialize, MySerialize, Varying};
 use wire_const::{CapabilityFlags, Flags, StatusFlags};
 use wire_field::row::{Both, Either};
-use wire_flags::flags::RawFlags;
 use wire_forms::constant::{ConstU8, Skip};
 use wire_forms::lenenc::LenEnc;
 use wire_forms::undelimited::EofBytes;
 use wire_repr::int::{LeU16, RawInt};
 use wire_repr::text::RawBytes;
 use wire_repr::wire::Wire;
+use wire_values::flags::RawFlags;
 
 // The payload's fields up to the warnings.
 type Counts<const HEADER: u8> = Both<ConstU8<(), HEADER>, Both<RawInt<LenEnc>, Rest>>;

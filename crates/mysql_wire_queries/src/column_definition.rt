@@ -21,12 +21,12 @@ use wire_buf::proto::{HasSize, MyDeserialize, MySerialize, Varying};
 use wire_const::{ColumnFlags, ColumnType, Flags, MariadbCapabilities};
 use wire_field::converted::RawConst;
 use wire_field::row::{Both, Either};
-use wire_flags::flags::RawFlags;
 use wire_forms::constant::ConstU8;
 use wire_forms::lenenc::LenEnc;
 use wire_repr::int::LeU16;
 use wire_repr::text::RawBytes;
 use wire_repr::wire::Wire;
+use wire_values::flags::RawFlags;
 
 // The payload's fields, in order.
 type Fields<'a> = Both<Names<'a>, Both<Optional<RawBytes<'a, LenEnc>>, Numbers>>;

@@ -21,9 +21,9 @@ use wire_buf::io::ParseBuf;
 use wire_buf::proto::{HasSize, MyDeserialize, MySerialize, Varying};
 use wire_const::CursorType;
 use wire_field::row::{Both, Either};
-use wire_flags::flags::RawFlags;
 use wire_forms::constant::{ConstU8, Skip};
 use wire_repr::wire::Wire;
+use wire_values::flags::RawFlags;
 
 // The payload's fields, in order.
 type Fields<'a> = Both<ConstU8<(), 0x17>, Both<u32, Cursor<'a>>>;

@@ -20,9 +20,9 @@ use wire_buf::proto::{HasSize, MyDeserialize, MySerialize, Varying};
 use wire_const::{ColumnType, StmtExecuteParamFlags};
 use wire_field::converted::RawConst;
 use wire_field::row::{Both, Slice};
-use wire_flags::flags::RawFlags;
 use wire_forms::constant::ConstU8;
 use wire_repr::wire::Wire;
+use wire_values::flags::RawFlags;
 
 /// The type of a parameter's value.
 ///

@@ -9,7 +9,7 @@ use Rattle.std.specs.declared.borrow.CowSlice.TheVariants.{Borrowed, Owned}
 use Rattle.wire_buf.specs.NumberLemmas.{le_bytes-le_number, le_number-lt}
 use Rattle.wire_buf.specs.Numbers.{IsBytes, le_bytes, le_number}
 use Rattle.wire_buf.specs.Spelling.{IsFixed}
-use Rattle.wire_put.specs.Texts.{u32_max}
+use Rattle.wire_ext.specs.Texts.{u32_max}
 use Rattle.wire_repr.specs.Texts.{Borrows, Borrows-back, IsBorrowedText}
 use Rattle.wire_forms.specs.PrefixedTexts.{fixed_text-back_4}
 use Rattle.wire_forms.specs.Spelled.{Leaves, NumberOrEof, TextBehind}

@@ -30,8 +30,8 @@ use mysql_wire_utility::com_statistics::{ComStatistics, StatisticsText};
 use std::alloc::Global;
 use wire_const::{CapabilityFlags, ColumnType, Flags, MariadbCapabilities, StatusFlags};
 use wire_field::converted::RawConst;
-use wire_flags::flags::RawFlags;
 use wire_repr::int::LeU16;
+use wire_values::flags::RawFlags;
 
 /// What both sides have said so far.
 #[derive(Drop)]

@@ -22,10 +22,10 @@ use wire_buf::io::ParseBuf;
 use wire_buf::proto::{MyDeserialize, MySerialize};
 use wire_const::{CapabilityFlags, Flags, MariadbCapabilities};
 use wire_field::row::Either;
-use wire_flags::flags::RawFlags;
 use wire_forms::lenenc::LenEnc;
 use wire_repr::int::LeU32;
 use wire_repr::text::{BytesRepr, RawBytes};
+use wire_values::flags::RawFlags;
 
 /// A field.
 #[derive(Clone, Copy)]

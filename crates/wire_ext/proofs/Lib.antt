@@ -1,3 +1,4 @@
+mod TextLemmas
 mod MarkLemmas
 mod StreamLemmas
 mod VarlenLemmas

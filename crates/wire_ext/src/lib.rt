@@ -1,6 +1,11 @@
-//! Numbers whose length is in their first byte, and the texts after them, over readers and writers;
-//! lengths, integers of the serialization library, and server versions.
+//! Numbers whose length is in their first byte, and the texts after them, put into buffers, and over
+//! readers and writers; lengths, integers of the serialization library, and server versions.
 #![tactic(auto)]
 
 pub mod io;
 pub mod misc;
+mod put;
+pub mod spelling;
+pub mod text;
+
+pub use put::BufMutExt;

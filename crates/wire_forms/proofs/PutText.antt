@@ -3,7 +3,7 @@ use Rattle.std.proofs.Common.{ℕ, ◌≡◌, Bool, List, ◌++◌, length, take
 use Rattle.std.proofs.lemmas.List.{append_assoc, take_at, take_all}
 use Rattle.wire_buf.specs.declared.error.WireError.{WireError}
 use Rattle.wire_buf.specs.declared.error.WireError.TheVariants.{OutOfMemory}
-use Rattle.wire_put.specs.Texts.{PutsText}
+use Rattle.wire_ext.specs.Texts.{PutsText}
 
 -- what a `serialize` ensures
 abbrev pub Appended : Result (Unit {0}) WireError → List ℕ → List ℕ → List ℕ → Type 0

@@ -11,7 +11,7 @@ use Rattle.wire_buf.specs.Numbers.{le_bytes}
 use Rattle.wire_buf.specs.Reading.{Reads, Answers}
 use Rattle.wire_buf.specs.Spelling.{IsFixed, EatsSpelling, EatsText}
 use Rattle.wire_buf.specs.SpellingLemmas.{IsFixed-free}
-use Rattle.wire_put.specs.Texts.{u8_max, u32_max}
+use Rattle.wire_ext.specs.Texts.{u8_max, u32_max}
 use Rattle.wire_forms.specs.Groups.{ReadsGroups, groups_bytes}
 use Rattle.wire_forms.specs.GroupsLemmas.{groups_bytes-told}
 use Rattle.wire_forms.specs.Lenenc.{lenenc_bytes-told}

@@ -10,7 +10,7 @@ ghost use Rattle.wire_forms.specs.Spelled.{Leaves, NumberOrEof};
 use std::alloc::Allocator;
 use wire_buf::error::WireError;
 use wire_buf::io::ParseBuf;
-use wire_put::BufMutExt;
+use wire_ext::BufMutExt;
 use wire_repr::int::IntRepr;
 
 /// An `int<lenenc>`: 1, 3, 4 or 9 bytes, as few as hold the number, and for texts this as their

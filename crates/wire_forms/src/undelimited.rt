@@ -14,7 +14,7 @@ use std::alloc::Allocator;
 use std::borrow::CowSlice;
 use wire_buf::error::WireError;
 use wire_buf::io::ParseBuf;
-use wire_put::text::first_bytes;
+use wire_ext::text::first_bytes;
 use wire_repr::append::{all_or_nothing, append};
 use wire_repr::text::BytesRepr;
 

@@ -1,1 +1,2 @@
+pub mod PayloadsBack
 pub mod RowsBack

@@ -9,10 +9,10 @@ use std::alloc::Global;
 use wire_buf::error::WireError;
 use wire_buf::io::ParseBuf;
 use wire_field::converted::{Const, IntoNumber, Numbered, RawConst};
-pub use wire_flags::field_laws::{raw_flags, raw_flags_comes_back};
 use wire_repr::field_laws::parse_back;
 use wire_repr::int::IntRepr;
 use wire_repr::wire::Wire;
+pub use wire_values::field_laws::{raw_flags, raw_flags_comes_back};
 
 /// A number that may stand for a constant, whatever it is.
 pub fn raw_const<T: IntRepr, U>(

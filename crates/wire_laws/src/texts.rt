@@ -8,7 +8,7 @@ ghost use Rattle.wire_buf.specs.NullText.{is_zero};
 ghost use Rattle.wire_buf.specs.Numbers.{le_bytes};
 ghost use Rattle.wire_buf.specs.Reading.{Reads, Parses, Answers, front_at};
 ghost use Rattle.wire_buf.specs.Spelling.{IsFixed};
-ghost use Rattle.wire_put.specs.Texts.{u8_max, u32_max};
+ghost use Rattle.wire_ext.specs.Texts.{u8_max, u32_max};
 ghost use Rattle.wire_forms.specs.BareTexts.{padded};
 ghost use Rattle.wire_forms.specs.Groups.{ReadsGroups, groups_bytes};
 ghost use Rattle.wire_repr.specs.Law.{ComesBackAlone, ComesBackFrom, ReadsFixed};

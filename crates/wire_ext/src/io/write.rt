@@ -6,9 +6,9 @@ ghost use Rattle.wire_buf.specs.Spelling.{IsShortest};
 ghost use Rattle.wire_buf.specs.Lenenc.{IsLenenc, IsLenencOrMark, lenenc_bytes};
 ghost use Rattle.wire_ext.specs.Streams.{IsIo};
 
+use crate::spelling::{four_bytes, nine_bytes, three_bytes};
 use byteorder::WriteBytesExt;
 use wire_buf::error::WireError;
-use wire_put::spelling::{four_bytes, nine_bytes, three_bytes};
 
 // Writes these bytes, in one write, and counts them.
 fn write_all<W: WriteBytesExt>(writer: &mut W, bytes: &[u8]) -> Result<u64, WireError>

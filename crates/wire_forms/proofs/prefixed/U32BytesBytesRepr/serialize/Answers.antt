@@ -1,6 +1,6 @@
 use Rattle.std.proofs.Common.{◌∙◌, length, take}
 use Rattle.wire_buf.specs.Numbers.{le_bytes}
-use Rattle.wire_put.specs.Texts.{u32_max}
+use Rattle.wire_ext.specs.Texts.{u32_max}
 use Rattle.wire_forms.proofs.PutText.{put-whole}
 use Rattle.wire_forms.proofs.prefixed.U32BytesBytesRepr.serialize.Goals as goal
 
