@@ -1,4 +1,4 @@
-use Rattle.std.specs.Prelude.{ℕ, ◌≡◌, List, length}
+use Rattle.std.specs.Prelude.{◌≡◌, List, length}
 use Rattle.mysql_wire_queries.specs.declared.text_row.TextValue.{TextValue}
 use Rattle.session_examples.specs.Rows.{BeginsWith}
 use Rattle.session_examples.proofs.rows.text_at.Given as goal
