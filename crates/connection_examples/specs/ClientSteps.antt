@@ -6,8 +6,8 @@ use Rattle.mysql_wire.specs.CapabilityFlags.{CapabilityFlags}
 use Rattle.mysql_wire.specs.FlagSets.{capability_flags_bits}
 use Rattle.mysql_wire.specs.Rows.{by_side}
 use Rattle.mysql_wire.specs.WireError.{WireError}
-use Rattle.mysql_wire_packets.specs.Optional.{bytes_if}
-use Rattle.mysql_wire_packets.specs.Places.{ReadsAs, ReadsUnderNone}
+use Rattle.mysql_wire_parts.specs.Optional.{bytes_if}
+use Rattle.mysql_wire_parts.specs.Places.{ReadsAs, ReadsUnderNone}
 use Rattle.mysql_wire_connection.specs.declared.auth_answer.AuthAnswer.{AuthAnswer}
 use Rattle.mysql_wire_connection.specs.declared.auth_answer.AuthAnswer.TheVariants as answer
 use Rattle.mysql_wire_connection.specs.declared.first_packet.ServerFirst.{ServerFirst}
@@ -17,7 +17,7 @@ use Rattle.mysql_wire_connection.specs.declared.auth_switch.AuthSwitchRequest.{A
 use Rattle.mysql_wire_packets.specs.declared.err_packet.ErrPacket.{ErrPacket}
 use Rattle.mysql_wire_connection.specs.declared.handshake.HandshakeV10.{HandshakeV10}
 use Rattle.mysql_wire_packets.specs.declared.ok_packet.OkForm.{OkForm}
-use Rattle.mysql_wire_packets.specs.declared.places.PayloadError.{PayloadError}
+use Rattle.mysql_wire_parts.specs.declared.places.PayloadError.{PayloadError}
 use Rattle.connection_examples.specs.declared.client.Greeting.{Greeting}
 use Rattle.connection_examples.specs.declared.client.Greeting.TheVariants.{Greeted, Refused}
 use Rattle.connection_examples.specs.declared.client.Outcome.{Outcome}

@@ -25,16 +25,15 @@ pub mod misc {
         pub use wire_forms::constant::Skip;
         pub use wire_list::raw_seq::RawSeq;
         pub use wire_repr::int::RawInt;
-        pub use wire_repr::text::RawBytes;
         pub use wire_values::flags::RawFlags;
+        pub use wire_values::text::RawBytes;
 
         /// What was written is read back, and how wrappers are compared, as functions.
         pub mod field_laws {
             pub use wire_laws::{constants, converted, numbers, rows, texts};
             pub use wire_list::field_laws::{compared, lists};
-            pub use wire_repr::field_laws::{
-                number_back, number_comes_back, parse_back, text_comes_back,
-            };
+            pub use wire_repr::field_laws::{number_back, number_comes_back, parse_back};
+            pub use wire_values::field_laws::text_comes_back;
         }
 
         /// Numbers that stand for constants.
@@ -74,7 +73,8 @@ pub mod misc {
             pub use wire_forms::undelimited::{
                 BareBytes, BareU8Bytes, BareU16Bytes, EofBytes, FixedLengthText,
             };
-            pub use wire_repr::text::{BytesRepr, RawBytes, SizeOfText};
+            pub use wire_repr::text::BytesRepr;
+            pub use wire_values::text::{RawBytes, SizeOfText};
         }
     }
 }

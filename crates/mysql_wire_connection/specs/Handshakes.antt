@@ -14,9 +14,9 @@ use Rattle.wire_buf.specs.NullText.{is_zero}
 use Rattle.wire_field.specs.Rows.{by_side}
 use Rattle.wire_buf.specs.Numbers.{le_number, le_bytes}
 use Rattle.wire_buf.specs.NumberLemmas.{le_number-le_bytes_fits}
-use Rattle.mysql_wire_packets.specs.Fields.{Constant, Text}
-use Rattle.mysql_wire_packets.specs.NullTexts.{clean}
-use Rattle.mysql_wire_packets.specs.Optional.{bytes_if, has, side}
+use Rattle.mysql_wire_parts.specs.Fields.{Constant, Text}
+use Rattle.mysql_wire_parts.specs.NullTexts.{clean}
+use Rattle.mysql_wire_parts.specs.Optional.{bytes_if, has, side}
 use Rattle.mysql_wire_connection.specs.declared.handshake.HandshakeV10.{HandshakeV10}
 
 -- the halves of the capabilities

@@ -7,10 +7,10 @@ use Rattle.wire_field.specs.Rows.{by_side}
 use Rattle.wire_forms.specs.declared.lenenc.LenEnc.{LenEnc}
 use Rattle.wire_forms.specs.declared.null.NullBytes.{NullBytes}
 use Rattle.wire_forms.specs.declared.prefixed.U8Bytes.{U8Bytes}
-use Rattle.mysql_wire_packets.specs.Fields.{Optional, Text}
-use Rattle.mysql_wire_packets.specs.InOrder.{text_bytes, u8_text_bytes}
-use Rattle.mysql_wire_packets.specs.NullTexts.{clean}
-use Rattle.mysql_wire_packets.specs.Optional.{bytes_if, field}
+use Rattle.mysql_wire_parts.specs.Fields.{Optional, Text}
+use Rattle.mysql_wire_parts.specs.InOrder.{text_bytes, u8_text_bytes}
+use Rattle.mysql_wire_parts.specs.NullTexts.{clean}
+use Rattle.mysql_wire_parts.specs.Optional.{bytes_if, field}
 use Rattle.mysql_wire_connection.specs.declared.handshake_response.HandshakeResponse41.{HandshakeResponse41}
 
 -- what is written up to the name of the user

@@ -4,16 +4,16 @@ ghost use Rattle.std.specs.Prelude.{◌≡◌, []};
 ghost use Rattle.std.specs.Cow.{cow_slice_items};
 ghost use Rattle.wire_buf.specs.Reading.{Through};
 ghost use Rattle.wire_repr.specs.Texts.{IsText, IsBorrowedText};
-ghost use Rattle.mysql_wire_packets.specs.InOrder.{packet, eof_text};
+ghost use Rattle.mysql_wire_parts.specs.InOrder.{packet, eof_text};
 
-use mysql_wire_packets::by_ref::ByRef;
+use mysql_wire_parts::by_ref::ByRef;
 use std::alloc::{Allocator, Global};
 use wire_buf::error::WireError;
 use wire_buf::io::ParseBuf;
 use wire_buf::proto::{HasSize, MyDeserialize, MySerialize, Varying};
 use wire_forms::undelimited::EofBytes;
-use wire_repr::text::RawBytes;
 use wire_repr::wire::Wire;
+use wire_values::text::RawBytes;
 
 /// What a client answers to an `AuthSwitchRequest` or to `AuthMoreData`: the data of the plugin,
 /// which are all the payload.

@@ -1,7 +1,7 @@
 //! What may begin a connection.
 
 ghost use Rattle.std.specs.Prelude.{◌≡◌, ◌≢◌, ◌∷◌, [], length};
-ghost use Rattle.mysql_wire_packets.specs.Places.{BeginsWith, IsOther, ReadsAs, ReadsUnderNone};
+ghost use Rattle.mysql_wire_parts.specs.Places.{BeginsWith, IsOther, ReadsAs, ReadsUnderNone};
 ghost use Rattle.mysql_wire_connection.specs.declared.first_packet.ServerFirst.TheVariants.{Greeting, Failed};
 ghost use Rattle.mysql_wire_connection.specs.declared.first_packet.ClientFirst.TheVariants.{Tls, Login};
 
@@ -9,7 +9,7 @@ use crate::handshake::HandshakeV10;
 use crate::handshake_response::HandshakeResponse41;
 use crate::ssl_request::SslRequest;
 use mysql_wire_packets::err_packet::ErrPacket;
-use mysql_wire_packets::places::{PayloadError, read_as, read_whole};
+use mysql_wire_parts::places::{PayloadError, read_as, read_whole};
 use std::alloc::Global;
 use wire_buf::error::WireError;
 use wire_buf::proto::MyDeserialize;

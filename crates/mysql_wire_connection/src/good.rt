@@ -5,7 +5,7 @@
 ghost use Rattle.std.specs.Prelude.{◌≡◌, ℕ, List, [], length, min};
 ghost use Rattle.std.specs.Cow.{cow_slice_items};
 ghost use Rattle.wire_field.specs.Rows.{OnSide};
-ghost use Rattle.mysql_wire_packets.specs.Optional.{IsSide, IsThere, OnIf, has};
+ghost use Rattle.mysql_wire_parts.specs.Optional.{IsSide, IsThere, OnIf, has};
 ghost use Rattle.mysql_wire_connection.specs.Handshakes.{is_closed, part_2_length, upper_half};
 
 use crate::auth_more_data::AuthMoreData;

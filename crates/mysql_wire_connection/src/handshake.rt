@@ -7,17 +7,17 @@ ghost use Rattle.wire_const.specs.FlagSets.{capability_flags_bits};
 ghost use Rattle.wire_buf.specs.Numbers.{le_bytes, le_number};
 ghost use Rattle.wire_buf.specs.NumberLemmas.{length-le_bytes, le_number-le_bytes};
 ghost use Rattle.wire_repr.specs.Texts.{IsText, IsBorrowedText};
-ghost use Rattle.mysql_wire_packets.specs.InOrder.{both, const_u8, byte, number, number_by, array, bare_text, eof_text};
-ghost use Rattle.mysql_wire_packets.specs.NullTexts.{clean, null_text};
-ghost use Rattle.mysql_wire_packets.specs.Optional.{BothIf, IsSide, IsThere, OnIf, field, has, KeptField, kept_field, one_of, optional, side};
-ghost use Rattle.mysql_wire_packets.specs.Then.{ReadsThen, then_back};
+ghost use Rattle.mysql_wire_parts.specs.InOrder.{both, const_u8, byte, number, number_by, array, bare_text, eof_text};
+ghost use Rattle.mysql_wire_parts.specs.NullTexts.{clean, null_text};
+ghost use Rattle.mysql_wire_parts.specs.Optional.{BothIf, IsSide, IsThere, OnIf, field, has, KeptField, kept_field, one_of, optional, side};
+ghost use Rattle.mysql_wire_parts.specs.Then.{ReadsThen, then_back};
 ghost use Rattle.mysql_wire_connection.specs.Handshakes.{has_zero, is_closed, part_2_length, head_bytes, head_fields, tail_at, tail_bytes, upper_half, upper_half-back};
 ghost use Rattle.mysql_wire_packets.specs.Oks.{at_input};
 ghost use Rattle.wire_field.specs.Rows.{OnSide, SameSide, by_side};
 ghost use Rattle.std.proofs.Common.{subst};
 
-use mysql_wire_packets::by_ref::{ByRef, ByRefIf};
-use mysql_wire_packets::optional::{Optional, under, value_of};
+use mysql_wire_parts::by_ref::{ByRef, ByRefIf};
+use mysql_wire_parts::optional::{Optional, under, value_of};
 use std::alloc::{Allocator, Global};
 use wire_buf::error::WireError;
 use wire_buf::io::ParseBuf;
@@ -29,9 +29,9 @@ use wire_forms::halves::{LeU32LowerHalf, LeU32UpperHalf};
 use wire_forms::null::NullBytes;
 use wire_forms::undelimited::{BareU8Bytes, EofBytes};
 use wire_repr::int::{LeU16, LeU32};
-use wire_repr::text::RawBytes;
 use wire_repr::wire::Wire;
 use wire_values::flags::RawFlags;
+use wire_values::text::RawBytes;
 
 // The payload's fields up to the authentication data's second part.
 type Head<'a> = Both<ConstU8<(), 0x0a>, Both<RawBytes<'a, NullBytes>, Ids>>;

@@ -6,14 +6,14 @@ ghost use Rattle.std.specs.Cow.{cow_slice_items};
 ghost use Rattle.wire_buf.specs.Reading.{Parses};
 ghost use Rattle.wire_repr.specs.Texts.{IsText, IsBorrowedText};
 ghost use Rattle.wire_field.specs.Rows.{OnSide, SameSide};
-ghost use Rattle.mysql_wire_packets.specs.InOrder.{both, array, byte, number, lenenc_text, u8_text, text_bytes, u8_text_bytes, u8_cut};
-ghost use Rattle.mysql_wire_packets.specs.NullTexts.{clean, null_text};
-ghost use Rattle.mysql_wire_packets.specs.Optional.{BothIf, IsSide, IsThere, OnIf, has, KeptField, kept_field, one_of, optional, side};
+ghost use Rattle.mysql_wire_parts.specs.InOrder.{both, array, byte, number, lenenc_text, u8_text, text_bytes, u8_text_bytes, u8_cut};
+ghost use Rattle.mysql_wire_parts.specs.NullTexts.{clean, null_text};
+ghost use Rattle.mysql_wire_parts.specs.Optional.{BothIf, IsSide, IsThere, OnIf, has, KeptField, kept_field, one_of, optional, side};
 ghost use Rattle.mysql_wire_connection.specs.Responses.{answer_bytes, answer_fields, client_bytes, client_fields};
-ghost use Rattle.mysql_wire_packets.specs.Then.{ReadsThen, then_back};
+ghost use Rattle.mysql_wire_parts.specs.Then.{ReadsThen, then_back};
 
-use mysql_wire_packets::by_ref::{ByRef, ByRefIf};
-use mysql_wire_packets::optional::{Optional, field_of_byte, known_text, under, value_of};
+use mysql_wire_parts::by_ref::{ByRef, ByRefIf};
+use mysql_wire_parts::optional::{Optional, field_of_byte, known_text, under, value_of};
 use std::alloc::{Allocator, Global};
 use wire_buf::error::WireError;
 use wire_buf::io::ParseBuf;
@@ -25,9 +25,9 @@ use wire_forms::lenenc::LenEnc;
 use wire_forms::null::NullBytes;
 use wire_forms::prefixed::U8Bytes;
 use wire_repr::int::LeU32;
-use wire_repr::text::RawBytes;
 use wire_repr::wire::Wire;
 use wire_values::flags::RawFlags;
+use wire_values::text::RawBytes;
 
 // The payload's fields up to the name of the user.
 type Client<'a> = Both<u32, Both<u32, User<'a>>>;

@@ -4,7 +4,7 @@
 //!
 //! Each function takes and answers nothing: its contract is the law, and a caller has it by calling.
 
-ghost use Rattle.mysql_wire_packets.specs.Written.{WritesBack, WritesSame};
+ghost use Rattle.mysql_wire_parts.specs.Written.{WritesBack, WritesSame};
 
 use crate::auth_more_data::AuthMoreData;
 use crate::auth_switch::AuthSwitchRequest;

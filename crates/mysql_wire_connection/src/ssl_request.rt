@@ -3,7 +3,7 @@
 ghost use Rattle.std.specs.Prelude.{◌≡◌, ◌<◌, ◌^◌, ◌∷◌, ◌++◌, length};
 ghost use Rattle.wire_buf.specs.Numbers.{le_bytes};
 ghost use Rattle.wire_buf.specs.Reading.{Through};
-ghost use Rattle.mysql_wire_packets.specs.InOrder.{packet, array, both, byte, number};
+ghost use Rattle.mysql_wire_parts.specs.InOrder.{packet, array, both, byte, number};
 
 use std::alloc::Allocator;
 use wire_buf::error::WireError;

@@ -19,8 +19,9 @@ use std::alloc::{AllocError, Allocator};
 pub use unread::{column_bytes, event, other_command, row_bytes, statistics};
 pub use values::{binary_row, text_row};
 use wire_field::row::Either;
-use wire_repr::text::{BytesRepr, RawBytes};
+use wire_repr::text::BytesRepr;
 use wire_text::fields::{Field, Fields};
+use wire_values::text::RawBytes;
 
 /// A packet that has fields.
 pub trait Show {

@@ -1,12 +1,1 @@
-pub mod Again
-pub mod Fields
-pub mod FirstBytes
-pub mod InOrder
-pub mod More
-pub mod NullTexts
 pub mod Oks
-pub mod Optional
-pub mod Places
-pub mod Shortest
-pub mod Then
-pub mod Written

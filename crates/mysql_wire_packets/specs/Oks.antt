@@ -9,8 +9,8 @@ use Rattle.std.proofs.Common.{refl}
 use Rattle.std.specs.Cow.{cow_slice_items}
 use Rattle.wire_field.specs.Rows.{by_side}
 use Rattle.wire_buf.specs.declared.error.WireError.{WireError}
-use Rattle.mysql_wire_packets.specs.InOrder.{Back, text_bytes}
-use Rattle.mysql_wire_packets.specs.Optional.{bytes_if, has, side}
+use Rattle.mysql_wire_parts.specs.InOrder.{Back, text_bytes}
+use Rattle.mysql_wire_parts.specs.Optional.{bytes_if, has, side}
 use Rattle.mysql_wire_packets.specs.declared.ok_packet.OkForm.{OkForm}
 use Rattle.mysql_wire_packets.specs.declared.ok_packet.InfoForm.{InfoForm}
 use Rattle.mysql_wire_packets.specs.declared.ok_packet.InfoForm.TheVariants.{LengthEncoded, SessionTrack, ToTheEnd}

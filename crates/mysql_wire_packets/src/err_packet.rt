@@ -7,11 +7,11 @@ ghost use Rattle.wire_const.specs.FlagSets.{capability_flags_bits};
 ghost use Rattle.wire_buf.specs.Numbers.{le_bytes};
 ghost use Rattle.wire_repr.specs.Texts.{IsText, IsBorrowedText};
 ghost use Rattle.wire_buf.specs.Reading.{Through};
-ghost use Rattle.mysql_wire_packets.specs.InOrder.{packet, both, const_u8, number, array, eof_text};
-ghost use Rattle.mysql_wire_packets.specs.Optional.{BothIf, IsThere, OnIf, bytes_if, field, has, kept_field, optional, side};
+ghost use Rattle.mysql_wire_parts.specs.InOrder.{packet, both, const_u8, number, array, eof_text};
+ghost use Rattle.mysql_wire_parts.specs.Optional.{BothIf, IsThere, OnIf, bytes_if, field, has, kept_field, optional, side};
 
-use crate::by_ref::ByRef;
-use crate::optional::{Optional, under};
+use mysql_wire_parts::by_ref::ByRef;
+use mysql_wire_parts::optional::{Optional, under};
 use std::alloc::{Allocator, Global};
 use wire_buf::error::WireError;
 use wire_buf::io::ParseBuf;
@@ -20,8 +20,8 @@ use wire_const::{CapabilityFlags, Flags};
 use wire_field::row::{Both, Either};
 use wire_forms::constant::{ConstU8, Skip};
 use wire_forms::undelimited::EofBytes;
-use wire_repr::text::RawBytes;
 use wire_repr::wire::Wire;
+use wire_values::text::RawBytes;
 
 // The payload's fields, in order.
 type Fields<'a> = Both<ConstU8<(), 0xff>, Both<u16, Message<'a>>>;

@@ -6,7 +6,7 @@ ghost use Rattle.std.specs.Prelude.{◌≡◌, ◌++◌, ℕ, List, [], None};
 ghost use Rattle.wire_const.specs.FlagSets.{capability_flags_bits};
 ghost use Rattle.wire_field.specs.Rows.{OnSide};
 ghost use Rattle.mysql_wire_packets.specs.Oks.{has_state, is_lenenc, is_more, words_bytes};
-ghost use Rattle.mysql_wire_packets.specs.Optional.{IsSide, IsThere, OnIf, has};
+ghost use Rattle.mysql_wire_parts.specs.Optional.{IsSide, IsThere, OnIf, has};
 ghost use Rattle.mysql_wire_packets.specs.declared.ok_packet.InfoForm.{InfoForm};
 
 use crate::eof_packet::EofPacket;

@@ -4,7 +4,7 @@
 //!
 //! Each function takes and answers nothing: its contract is the law, and a caller has it by calling.
 
-ghost use Rattle.mysql_wire_packets.specs.Written.{WritesBack, WritesSame};
+ghost use Rattle.mysql_wire_parts.specs.Written.{WritesBack, WritesSame};
 ghost use Rattle.mysql_wire_packets.specs.declared.ok_packet.InfoForm.{InfoForm};
 
 use crate::eof_packet::EofPacket;

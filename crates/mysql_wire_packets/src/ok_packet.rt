@@ -6,13 +6,13 @@ ghost use Rattle.std.specs.Cow.{cow_slice_items};
 ghost use Rattle.wire_const.specs.FlagSets.{capability_flags_bits};
 ghost use Rattle.wire_repr.specs.Texts.{IsText, IsBorrowedText};
 ghost use Rattle.wire_field.specs.Rows.{OnSide, SameSide, by_side};
-ghost use Rattle.mysql_wire_packets.specs.InOrder.{both, const_u8, eof_text, lenenc_int, lenenc_text, number, text_bytes};
+ghost use Rattle.mysql_wire_parts.specs.InOrder.{both, const_u8, eof_text, lenenc_int, lenenc_text, number, text_bytes};
 ghost use Rattle.mysql_wire_packets.specs.Oks.{at_input, counts_bytes, form_of, has_state, is_lenenc, is_more, none_behind, words_bytes, words_ctx};
-ghost use Rattle.mysql_wire_packets.specs.Optional.{BothIf, IsSide, IsThere, KeptField, OnIf, field, kept_field, one_of, optional, side};
-ghost use Rattle.mysql_wire_packets.specs.Then.{ReadsThen, then_back};
+ghost use Rattle.mysql_wire_parts.specs.Optional.{BothIf, IsSide, IsThere, KeptField, OnIf, field, kept_field, one_of, optional, side};
+ghost use Rattle.mysql_wire_parts.specs.Then.{ReadsThen, then_back};
 
-use crate::by_ref::{ByRef, ByRefIf};
-use crate::optional::{Optional, known_text, value_of};
+use mysql_wire_parts::by_ref::{ByRef, ByRefIf};
+use mysql_wire_parts::optional::{Optional, known_text, value_of};
 use std::alloc::{Allocator, Global};
 use wire_buf::error::WireError;
 use wire_buf::io::ParseBuf;
@@ -23,9 +23,9 @@ use wire_forms::constant::{ConstU8, Skip};
 use wire_forms::lenenc::LenEnc;
 use wire_forms::undelimited::EofBytes;
 use wire_repr::int::{LeU16, RawInt};
-use wire_repr::text::RawBytes;
 use wire_repr::wire::Wire;
 use wire_values::flags::RawFlags;
+use wire_values::text::RawBytes;
 
 // The payload's fields up to the warnings.
 type Counts<const HEADER: u8> = Both<ConstU8<(), HEADER>, Both<RawInt<LenEnc>, Rest>>;

@@ -5,9 +5,9 @@ ghost use Rattle.std.specs.Cow.{cow_slice_items};
 ghost use Rattle.wire_buf.specs.Numbers.{le_bytes};
 ghost use Rattle.wire_buf.specs.Reading.{Through};
 ghost use Rattle.wire_repr.specs.Texts.{IsText, IsBorrowedText};
-ghost use Rattle.mysql_wire_packets.specs.InOrder.{packet, both, byte, const_u8, cut_number, lenenc_text, text_bytes};
+ghost use Rattle.mysql_wire_parts.specs.InOrder.{packet, both, byte, const_u8, cut_number, lenenc_text, text_bytes};
 
-use crate::by_ref::ByRef;
+use mysql_wire_parts::by_ref::ByRef;
 use std::alloc::{Allocator, Global};
 use wire_buf::error::WireError;
 use wire_buf::io::ParseBuf;
@@ -17,8 +17,8 @@ use wire_forms::constant::ConstU8;
 use wire_forms::lenenc::LenEnc;
 use wire_forms::truncated::LeU24;
 use wire_repr::int::RawInt;
-use wire_repr::text::RawBytes;
 use wire_repr::wire::Wire;
+use wire_values::text::RawBytes;
 
 // An error's header, and the error 65535.
 type Head = Both<ConstU8<(), 0xff>, Both<ConstU8<(), 0xff>, ConstU8<(), 0xff>>>;

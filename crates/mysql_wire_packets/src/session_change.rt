@@ -4,9 +4,9 @@ ghost use Rattle.std.specs.Prelude.{◌≡◌, ◌∷◌};
 ghost use Rattle.std.specs.Cow.{cow_slice_items};
 ghost use Rattle.wire_repr.specs.Texts.{IsText, IsBorrowedText};
 ghost use Rattle.wire_buf.specs.Reading.{Through};
-ghost use Rattle.mysql_wire_packets.specs.InOrder.{packet, both, byte, lenenc_text, text_bytes};
+ghost use Rattle.mysql_wire_parts.specs.InOrder.{packet, both, byte, lenenc_text, text_bytes};
 
-use crate::by_ref::ByRef;
+use mysql_wire_parts::by_ref::ByRef;
 use std::alloc::{Allocator, Global};
 use wire_buf::error::WireError;
 use wire_buf::io::ParseBuf;
@@ -15,8 +15,8 @@ use wire_const::SessionStateType;
 use wire_field::converted::RawConst;
 use wire_field::row::Both;
 use wire_forms::lenenc::LenEnc;
-use wire_repr::text::RawBytes;
 use wire_repr::wire::Wire;
+use wire_values::text::RawBytes;
 
 // The fields, in order.
 type Fields<'a> = Both<RawConst<u8, SessionStateType>, RawBytes<'a, LenEnc>>;

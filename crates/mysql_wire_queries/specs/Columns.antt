@@ -5,9 +5,9 @@ use Rattle.wire_buf.specs.declared.error.WireError.{WireError}
 use Rattle.wire_field.specs.Rows.{ReadsBoth, both-back}
 use Rattle.wire_field.specs.declared.row.Both.{Both}
 use Rattle.wire_forms.specs.declared.lenenc.LenEnc.{LenEnc}
-use Rattle.mysql_wire_packets.specs.Fields.{Constant, Optional, Text}
-use Rattle.mysql_wire_packets.specs.Optional.{field}
-use Rattle.mysql_wire_packets.specs.InOrder.{Back}
+use Rattle.mysql_wire_parts.specs.Fields.{Constant, Optional, Text}
+use Rattle.mysql_wire_parts.specs.Optional.{field}
+use Rattle.mysql_wire_parts.specs.InOrder.{Back}
 use Rattle.wire_repr.specs.Law.{ComesBack}
 use Rattle.mysql_wire_queries.specs.declared.column_definition.ColumnDefinition41.{ColumnDefinition41}
 use Rattle.mysql_wire_queries.specs.declared.column_definition.Pair.{Pair}

@@ -1,8 +1,8 @@
 -- What a payload is, by its first byte and what both sides can do.
 use Rattle.std.specs.Prelude.{ℕ, ◌≡◌, Bool, true, false, List, length}
 use Rattle.wire_const.specs.declared.flag_sets.capability.CapabilityFlags.{CapabilityFlags}
-use Rattle.mysql_wire_packets.specs.Optional.{has_query_attributes}
-use Rattle.mysql_wire_packets.specs.Places.{BeginsWith, is_short}
+use Rattle.mysql_wire_parts.specs.Optional.{has_query_attributes}
+use Rattle.mysql_wire_parts.specs.Places.{BeginsWith, is_short}
 
 -- a query without attributes
 abbrev pub IsPlainQuery : CapabilityFlags → List ℕ → Type 0

@@ -9,8 +9,8 @@ use Rattle.wire_buf.specs.Numbers.{IsBytes}
 use Rattle.wire_buf.specs.Reading.{Through}
 use Rattle.wire_buf.specs.declared.error.WireError.TheVariants.{Other}
 use Rattle.wire_buf.specs.declared.error.WireError.{WireError}
-use Rattle.mysql_wire_packets.specs.Again.{IsBytes-drop}
-use Rattle.mysql_wire_packets.specs.Shortest.{Shortest, IsNoLonger, no_longer_if_same, told_both, text_law}
+use Rattle.mysql_wire_parts.specs.Again.{IsBytes-drop}
+use Rattle.mysql_wire_parts.specs.Shortest.{Shortest, IsNoLonger, no_longer_if_same, told_both, text_law}
 use Rattle.mysql_wire_queries.specs.TextValues.{ReadsValue, value_bytes}
 
 -- a value of a row

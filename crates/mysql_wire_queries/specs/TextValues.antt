@@ -14,7 +14,7 @@ use Rattle.wire_repr.specs.Law.{ComesBack, Through-back}
 use Rattle.wire_list.specs.Counted.{ReadsCounted, each-laws, seq-back, unknown-back, at_most}
 use Rattle.wire_list.specs.ElementLaws.{AllKept}
 use Rattle.wire_values.specs.Elements.{ReadsAll}
-use Rattle.mysql_wire_packets.specs.Optional.{OnIf}
+use Rattle.mysql_wire_parts.specs.Optional.{OnIf}
 use Rattle.wire_repr.specs.Texts.{IsText}
 use Rattle.wire_buf.specs.Reading.{Answers, Through}
 use Rattle.wire_forms.specs.Spelled.{Leaves, NumberOrEof, TextBehind}

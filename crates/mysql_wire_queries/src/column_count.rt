@@ -4,10 +4,10 @@ ghost use Rattle.std.specs.Prelude.{◌≡◌, ◌<◌, ◌^◌, ◌∷◌, ◌+
 ghost use Rattle.wire_const.specs.FlagSets.{capability_flags_bits, mariadb_capabilities_bits};
 ghost use Rattle.wire_buf.specs.Lenenc.{lenenc_bytes};
 ghost use Rattle.wire_buf.specs.Reading.{Parses, Through};
-ghost use Rattle.mysql_wire_packets.specs.InOrder.{packet, both, byte, lenenc_int};
-ghost use Rattle.mysql_wire_packets.specs.Optional.{BothIf, IsThere, bytes_if, field, has, kept_field, optional, side};
+ghost use Rattle.mysql_wire_parts.specs.InOrder.{packet, both, byte, lenenc_int};
+ghost use Rattle.mysql_wire_parts.specs.Optional.{BothIf, IsThere, bytes_if, field, has, kept_field, optional, side};
 
-use mysql_wire_packets::optional::{Optional, field_of_byte, under, value_of};
+use mysql_wire_parts::optional::{Optional, field_of_byte, under, value_of};
 use std::alloc::Allocator;
 use wire_buf::error::WireError;
 use wire_buf::io::ParseBuf;

@@ -5,15 +5,15 @@ ghost use Rattle.std.specs.Cow.{cow_slice_items};
 ghost use Rattle.wire_buf.specs.Numbers.{le_bytes};
 ghost use Rattle.wire_repr.specs.Texts.{IsText, IsBorrowedText};
 ghost use Rattle.wire_buf.specs.Reading.{Through};
-ghost use Rattle.mysql_wire_packets.specs.InOrder.{packet, both, array, const_u8, byte, number, lenenc_text, text_bytes};
-ghost use Rattle.mysql_wire_packets.specs.Optional.{BothIf, IsThere, OnIf, bytes_if, has, kept_field, optional, side};
+ghost use Rattle.mysql_wire_parts.specs.InOrder.{packet, both, array, const_u8, byte, number, lenenc_text, text_bytes};
+ghost use Rattle.mysql_wire_parts.specs.Optional.{BothIf, IsThere, OnIf, bytes_if, has, kept_field, optional, side};
 ghost use Rattle.wire_const.specs.FlagSets.{mariadb_capabilities_bits};
 ghost use Rattle.mysql_wire_queries.specs.Columns.{column_fields, pair};
 ghost use Rattle.wire_field.specs.Rows.{ReadsBoth};
 ghost use Rattle.std.proofs.Common.{subst};
 
-use mysql_wire_packets::by_ref::{ByRef, ByRefIf};
-use mysql_wire_packets::optional::{Optional, known_text, value_of};
+use mysql_wire_parts::by_ref::{ByRef, ByRefIf};
+use mysql_wire_parts::optional::{Optional, known_text, value_of};
 use std::alloc::{Allocator, Global};
 use wire_buf::error::WireError;
 use wire_buf::io::ParseBuf;
@@ -24,9 +24,9 @@ use wire_field::row::{Both, Either};
 use wire_forms::constant::ConstU8;
 use wire_forms::lenenc::LenEnc;
 use wire_repr::int::LeU16;
-use wire_repr::text::RawBytes;
 use wire_repr::wire::Wire;
 use wire_values::flags::RawFlags;
+use wire_values::text::RawBytes;
 
 // The payload's fields, in order.
 type Fields<'a> = Both<Names<'a>, Both<Optional<RawBytes<'a, LenEnc>>, Numbers>>;

@@ -5,7 +5,7 @@
 ghost use Rattle.std.specs.Prelude.{ℕ, List, [], length};
 ghost use Rattle.std.specs.Cow.{cow_slice_items};
 ghost use Rattle.wire_const.specs.FlagSets.{capability_flags_bits, mariadb_capabilities_bits};
-ghost use Rattle.mysql_wire_packets.specs.Optional.{IsThere, has};
+ghost use Rattle.mysql_wire_parts.specs.Optional.{IsThere, has};
 
 use crate::column_count::ColumnCount;
 use crate::column_definition::ColumnDefinition41;

@@ -5,7 +5,7 @@
 //! Each function takes and answers nothing: its contract is the law, and a caller has it by calling.
 
 ghost use Rattle.std.specs.Prelude.{ℕ};
-ghost use Rattle.mysql_wire_packets.specs.Written.{WritesBack, WritesSame};
+ghost use Rattle.mysql_wire_parts.specs.Written.{WritesBack, WritesSame};
 
 use crate::column_count::ColumnCount;
 use crate::column_definition::ColumnDefinition41;

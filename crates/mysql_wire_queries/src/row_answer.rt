@@ -2,8 +2,8 @@
 
 ghost use Rattle.std.specs.Prelude.{◌≡◌, true, false};
 ghost use Rattle.mysql_wire_packets.specs.Oks.{ok_form};
-ghost use Rattle.mysql_wire_packets.specs.Optional.{deprecates_eof};
-ghost use Rattle.mysql_wire_packets.specs.Places.{BeginsWith, ReadsAs, is_short};
+ghost use Rattle.mysql_wire_parts.specs.Optional.{deprecates_eof};
+ghost use Rattle.mysql_wire_parts.specs.Places.{BeginsWith, ReadsAs, is_short};
 ghost use Rattle.mysql_wire_queries.specs.Payloads.{EndsRows, IsRow};
 ghost use Rattle.mysql_wire_queries.specs.declared.row_answer.RowAnswer.TheVariants.{Row, Eof, End, Failed};
 
@@ -11,7 +11,7 @@ use crate::text_row::TextRow;
 use mysql_wire_packets::eof_packet::EofPacket;
 use mysql_wire_packets::err_packet::ErrPacket;
 use mysql_wire_packets::ok_packet::{InfoForm, RowsEnd};
-use mysql_wire_packets::places::{PayloadError, read_as, read_whole};
+use mysql_wire_parts::places::{PayloadError, read_as, read_whole};
 use std::alloc::Global;
 use wire_buf::proto::MyDeserialize;
 use wire_const::{CapabilityFlags, Flags};

@@ -4,7 +4,7 @@ ghost use Rattle.std.specs.Prelude.{◌≡◌, ◌≢◌, ◌<◌, ◌^◌, [], 
 ghost use Rattle.wire_buf.specs.Reading.{Reads, Through};
 ghost use Rattle.mysql_wire_queries.specs.RowValues.{error_of, told, ReadsTextValue};
 ghost use Rattle.wire_repr.specs.Texts.{IsText};
-ghost use Rattle.mysql_wire_packets.specs.Optional.{OnIf};
+ghost use Rattle.mysql_wire_parts.specs.Optional.{OnIf};
 ghost use Rattle.mysql_wire_queries.specs.TextValues.{value_of, value_bytes, ReadsValue, SameValue, row_bytes, value-back, row-back};
 ghost use Rattle.std.specs.Cow.{cow_slice_items};
 ghost use Rattle.std.specs.List.{All};
@@ -18,8 +18,8 @@ use wire_ext::BufMutExt;
 use wire_forms::lenenc::LenEnc;
 use wire_list::seq::{Seq, Unknown};
 use wire_repr::append::all_or_nothing;
-use wire_repr::text::RawBytes;
 use wire_repr::wire::Wire;
+use wire_values::text::RawBytes;
 
 /// A value of a row, as a text.
 #[derive(Clone, Copy, Debug, PartialEq, Eq)]

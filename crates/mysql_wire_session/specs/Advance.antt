@@ -19,7 +19,7 @@ use Rattle.mysql_wire_session_phases.specs.Kinds.{is_command}
 use Rattle.mysql_wire_session_phases.specs.Phases.{after_columns, after_definitions, command_phase, command_rows, done_phase, ended_phase, failed_phase, past_column, server_phase, after_answer, statement_columns}
 use Rattle.mysql_wire_session_packets.specs.declared.packet.Packet.{Packet}
 use Rattle.mysql_wire_session_packets.specs.declared.packet.Packet.TheVariants as packet
-use Rattle.mysql_wire_packets.specs.Optional.{has}
+use Rattle.mysql_wire_parts.specs.Optional.{has}
 use Rattle.mysql_wire_queries.specs.declared.column_count.ColumnCount.{ColumnCount}
 use Rattle.mysql_wire_statements.specs.declared.com_stmt_prepare_ok.ComStmtPrepareOk.{ComStmtPrepareOk}
 use Rattle.mysql_wire_session.specs.State.{SessionState, statement_of}

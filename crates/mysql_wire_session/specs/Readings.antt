@@ -15,8 +15,8 @@ use Rattle.mysql_wire_session_phases.specs.declared.refusal.Refusal.TheVariants.
 use Rattle.mysql_wire_session_phases.specs.declared.refusal.SessionError.{SessionError}
 use Rattle.mysql_wire_session_phases.specs.declared.side.Side.{Side}
 use Rattle.mysql_wire_packets.specs.Oks.{ok_form}
-use Rattle.mysql_wire_packets.specs.Optional.{has_query_attributes}
-use Rattle.mysql_wire_packets.specs.declared.places.PayloadError.{PayloadError}
+use Rattle.mysql_wire_parts.specs.Optional.{has_query_attributes}
+use Rattle.mysql_wire_parts.specs.declared.places.PayloadError.{PayloadError}
 use Rattle.mysql_wire_statements.specs.declared.binary_row.BinaryRow.{BinaryRow}
 use Rattle.mysql_wire_statements.specs.declared.com_stmt_prepare_ok.ComStmtPrepareOk.{ComStmtPrepareOk}
 use Rattle.wire_const.specs.declared.flag_sets.capability.CapabilityFlags.{CapabilityFlags}

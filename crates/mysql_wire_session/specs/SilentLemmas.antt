@@ -1,8 +1,8 @@
 -- A packet that says no more than its kind.
 use denote.Param.{number}
 use Rattle.std.proofs.Common.{◌≡◌, ◌⊎◌, ◌∙◌, ◌≤◌, ℕ, zero, suc, inl, inr, Bool, true, false, List, [], ◌∷◌, length, refl, ap, sym, subst, Option, Some, None, Result, Ok, Err, arith, take}
-use Rattle.mysql_wire_packets.specs.Optional.{has_query_attributes}
-use Rattle.mysql_wire_packets.specs.declared.places.PayloadError.{PayloadError}
+use Rattle.mysql_wire_parts.specs.Optional.{has_query_attributes}
+use Rattle.mysql_wire_parts.specs.declared.places.PayloadError.{PayloadError}
 use Rattle.std.specs.Prelude.{IfErr, IfOk, OnOk}
 use Rattle.mysql_wire_session.specs.Advance.{IsRefusedMemory, applied, id_after, opened, remembered, state_after}
 use Rattle.mysql_wire_session.specs.Fronts.{FailsWhole, IsFront, KnownAfter, TakesFront, are_columns, says_more}

@@ -2,8 +2,8 @@
 
 ghost use Rattle.std.specs.Prelude.{◌≡◌, ℕ, List, Result, None, Some};
 ghost use Rattle.wire_buf.specs.Reading.{Parses};
-ghost use Rattle.mysql_wire_packets.specs.Places.{ReadsWhole};
-ghost use Rattle.mysql_wire_packets.specs.declared.places.PayloadError.{PayloadError};
+ghost use Rattle.mysql_wire_parts.specs.Places.{ReadsWhole};
+ghost use Rattle.mysql_wire_parts.specs.declared.places.PayloadError.{PayloadError};
 ghost use Rattle.mysql_wire_session_packets.specs.declared.client_command.ClientCommand.{ClientCommand};
 ghost use Rattle.mysql_wire_session_packets.specs.declared.client_command.ClientCommand.TheVariants.{AttributedQuery, ChangeUser, InitDb, Ping, Query, Quit};
 

@@ -7,7 +7,7 @@ use Rattle.std.proofs.lemmas.List.Elements.{recursion_from_All}
 use Rattle.mysql_wire_session_packets.specs.declared.packet.Packet.{Packet}
 use Rattle.mysql_wire_session_packets.specs.declared.packet.Packet.TheVariants as packet
 use Rattle.mysql_wire_session_phases.specs.Kinds.{answer_kind, client_kind, done_kind, field_kind, first_byte, is_report, kind_at, row_kind, server_kind, statistics_kind, values_kind}
-use Rattle.mysql_wire_packets.specs.Places.{is_short}
+use Rattle.mysql_wire_parts.specs.Places.{is_short}
 use Rattle.mysql_wire_session_phases.specs.declared.packet_kind.PacketKind.{PacketKind}
 use Rattle.mysql_wire_session_phases.specs.declared.packet_kind.PacketKind.TheVariants as kind
 use Rattle.mysql_wire_session_phases.specs.declared.classify.Expectation.{Expectation}
@@ -27,7 +27,7 @@ use Rattle.mysql_wire_session.specs.State.{SessionState, expectation_of, initial
 use Rattle.mysql_wire_session.specs.Readings.{IsEnd, IsExecution, IsExecutionOf, IsQuery as ReadsQuery, IsRead, ReadsAs, after_kind, after_packet, is_ended_by_ok, statement_named}
 use Rattle.mysql_wire_session.specs.Senders.{is_idle, next_sender}
 use Rattle.mysql_wire_packets.specs.Oks.{ok_form}
-use Rattle.mysql_wire_packets.specs.Optional.{has_query_attributes, has}
+use Rattle.mysql_wire_parts.specs.Optional.{has_query_attributes, has}
 use Rattle.mysql_wire_session.specs.contracts.payload.ColumnCountPayload.TheImpl as count_type
 use Rattle.mysql_wire_session.specs.contracts.payload.ColumnDefinition41Payload.TheImpl as column_type
 use Rattle.mysql_wire_session.specs.contracts.payload.AuthMoreDataPayload.TheImpl as more_type
@@ -62,7 +62,7 @@ use Rattle.mysql_wire_session.specs.Fronts.{says_more}
 use Rattle.mysql_wire_session.specs.SilentLemmas.{kind_silent, silent}
 use Rattle.mysql_wire_packets.specs.declared.eof_packet.EofPacket.{EofPacket}
 use Rattle.mysql_wire_packets.specs.declared.ok_packet.OkForm.{OkForm}
-use Rattle.mysql_wire_packets.specs.declared.places.PayloadError.{PayloadError}
+use Rattle.mysql_wire_parts.specs.declared.places.PayloadError.{PayloadError}
 use Rattle.mysql_wire_queries.specs.declared.column_count.ColumnCount.{ColumnCount}
 use Rattle.mysql_wire_statements.specs.declared.com_stmt_prepare_ok.ComStmtPrepareOk.{ComStmtPrepareOk}
 use denote.Param.{number}

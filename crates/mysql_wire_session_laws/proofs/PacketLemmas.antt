@@ -9,10 +9,10 @@ use Rattle.wire_buf.specs.declared.error.WireError.{WireError}
 use Rattle.wire_buf.specs.declared.error.WireError.TheVariants.{OutOfMemory}
 use Rattle.wire_repr.specs.Law.{ComesBack, Parses-back, seen}
 use Rattle.mysql_wire_packets.specs.Oks.{counts_bytes}
-use Rattle.mysql_wire_packets.specs.Optional.{BothIf, bytes_if, has}
-use Rattle.mysql_wire_packets.specs.Places.{ReadsWhole}
-use Rattle.mysql_wire_packets.specs.declared.places.PayloadError.{PayloadError}
-use Rattle.mysql_wire_packets.specs.declared.places.PayloadError.TheVariants as payload
+use Rattle.mysql_wire_parts.specs.Optional.{BothIf, bytes_if, has}
+use Rattle.mysql_wire_parts.specs.Places.{ReadsWhole}
+use Rattle.mysql_wire_parts.specs.declared.places.PayloadError.{PayloadError}
+use Rattle.mysql_wire_parts.specs.declared.places.PayloadError.TheVariants as payload
 use Rattle.mysql_wire_connection.specs.declared.handshake_response.HandshakeResponse41.{HandshakeResponse41}
 use Rattle.mysql_wire_queries.specs.TextValues.{row_bytes, value_bytes, value_of}
 use Rattle.mysql_wire_queries.specs.declared.text_row.TextValue.{TextValue}

@@ -12,9 +12,9 @@ use Rattle.mysql_wire_session_phases.specs.declared.phase.RowForm.TheVariants as
 use Rattle.mysql_wire_session_phases.specs.declared.refusal.Refusal.{Refusal}
 use Rattle.mysql_wire_session_phases.specs.declared.side.Side.{Side}
 use Rattle.mysql_wire_session_phases.specs.declared.side.Side.TheVariants.{Client, Server}
-use Rattle.mysql_wire_packets.specs.Optional.{has}
+use Rattle.mysql_wire_parts.specs.Optional.{has}
 use Rattle.mysql_wire_packets.specs.Oks.{ok_form}
-use Rattle.mysql_wire_packets.specs.declared.places.PayloadError.{PayloadError}
+use Rattle.mysql_wire_parts.specs.declared.places.PayloadError.{PayloadError}
 use Rattle.mysql_wire_queries.specs.declared.column_count.ColumnCount.{ColumnCount}
 use Rattle.wire_const.specs.declared.flag_sets.capability.CapabilityFlags.{CapabilityFlags}
 use Rattle.wire_const.specs.declared.flag_sets.mariadb.MariadbCapabilities.{MariadbCapabilities}

@@ -6,8 +6,8 @@ ghost use Rattle.std.specs.Prelude.{◌≡◌, ◌≢◌, ◌⊎◌, ◌<◌, �
 ghost use Rattle.std.specs.Cow.{cow_slice_items};
 ghost use Rattle.wire_buf.specs.Reading.{Parses};
 ghost use Rattle.mysql_wire_packets.specs.Oks.{ok_form};
-ghost use Rattle.mysql_wire_packets.specs.Optional.{has};
-ghost use Rattle.mysql_wire_packets.specs.Places.{ReadsWhole};
+ghost use Rattle.mysql_wire_parts.specs.Optional.{has};
+ghost use Rattle.mysql_wire_parts.specs.Places.{ReadsWhole};
 ghost use Rattle.mysql_wire_session.specs.Advance.{is_zero};
 ghost use Rattle.mysql_wire_session_laws.specs.Grammar.{Agreed, Agrees, IsAuthentication, IsColumnCount, IsCommand, IsDefinition, IsEntry, IsEof, IsError, IsFetch, IsFileRequest, IsLogin, IsNoGreeting, IsOk, IsOkAtEnd, IsPrepared, IsReadAs, IsReport, IsRow, IsServers, IsTlsRequest, from_client, from_server};
 ghost use Rattle.mysql_wire_session.specs.State.{statement_of};

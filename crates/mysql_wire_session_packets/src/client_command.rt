@@ -1,8 +1,8 @@
 //! What may stand where a server waits for a command.
 
 ghost use Rattle.std.specs.Prelude.{◌≡◌, ◌∷◌, [], true, false};
-ghost use Rattle.mysql_wire_packets.specs.Optional.{has_query_attributes};
-ghost use Rattle.mysql_wire_packets.specs.Places.{BeginsWith, IsOther, ReadsAs};
+ghost use Rattle.mysql_wire_parts.specs.Optional.{has_query_attributes};
+ghost use Rattle.mysql_wire_parts.specs.Places.{BeginsWith, IsOther, ReadsAs};
 ghost use Rattle.mysql_wire_queries.specs.Payloads.{IsAttributedQuery, IsPlainQuery};
 ghost use Rattle.mysql_wire_session_packets.specs.declared.client_command.ClientCommand.TheVariants.{Quit, InitDb, Query, AttributedQuery, Ping, ChangeUser};
 

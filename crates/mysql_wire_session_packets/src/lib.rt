@@ -3,6 +3,7 @@
 
 pub mod client_command;
 pub mod packet;
+pub mod prepare_answer;
 
 /// What a packet is.
 pub mod packet_kind {

@@ -1,7 +1,7 @@
 -- What a packet is, by its phase, its first byte and its length.
 use Rattle.std.specs.List.{starts_with}
 use Rattle.std.specs.Prelude.{ℕ, ◌==◌, eqb, ◌&&◌, not, nat_lt, Bool, true, false, if◌then◌else◌, List, [], ◌∷◌, length, Option, Some, None}
-use Rattle.mysql_wire_packets.specs.Places.{is_short}
+use Rattle.mysql_wire_parts.specs.Places.{is_short}
 use Rattle.mysql_wire_session_phases.specs.declared.packet_kind.PacketKind.{PacketKind}
 use Rattle.mysql_wire_session_phases.specs.declared.packet_kind.PacketKind.TheVariants as kind
 use Rattle.mysql_wire_session_phases.specs.declared.classify.Expectation.{Expectation}

@@ -1,6 +1,6 @@
 -- What is waited for after a packet.
 use Rattle.std.specs.Prelude.{ℕ, ◌-◌, nat_lt, Bool, true, false, if◌then◌else◌}
-use Rattle.mysql_wire_packets.specs.Optional.{has}
+use Rattle.mysql_wire_parts.specs.Optional.{has}
 use Rattle.mysql_wire_session_phases.specs.declared.packet_kind.PacketKind.{PacketKind}
 use Rattle.mysql_wire_session_phases.specs.declared.packet_kind.PacketKind.TheVariants as kind
 use Rattle.mysql_wire_session_phases.specs.declared.phase.AfterColumns.{AfterColumns}

@@ -4,8 +4,8 @@ use Rattle.wire_buf.specs.declared.error.InvalidReason.{InvalidReason}
 use Rattle.wire_buf.specs.declared.error.InvalidReason.TheVariants as reason
 use Rattle.wire_buf.specs.declared.error.WireError.{WireError}
 use Rattle.wire_buf.specs.declared.error.WireError.TheVariants as error
-use Rattle.mysql_wire_packets.specs.declared.places.PayloadError.{PayloadError}
-use Rattle.mysql_wire_packets.specs.declared.places.PayloadError.TheVariants as payload
+use Rattle.mysql_wire_parts.specs.declared.places.PayloadError.{PayloadError}
+use Rattle.mysql_wire_parts.specs.declared.places.PayloadError.TheVariants as payload
 use Rattle.mysql_wire_session_phases.specs.declared.refusal.Refusal.{Refusal}
 use Rattle.mysql_wire_session_phases.specs.declared.refusal.Refusal.TheVariants as refusal
 use Rattle.mysql_wire_session_phases.specs.declared.refusal.SessionError.{SessionError}

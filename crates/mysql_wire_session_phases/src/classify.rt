@@ -1,7 +1,7 @@
 //! What a packet is, by its phase, its first byte and its length.
 
 ghost use Rattle.std.specs.Prelude.{◌≡◌};
-ghost use Rattle.mysql_wire_packets.specs.Places.{is_short};
+ghost use Rattle.mysql_wire_parts.specs.Places.{is_short};
 ghost use Rattle.mysql_wire_session_phases.specs.Kinds.{answer_kind, client_kind, column_kind, columns_end_kind, command_kind, empty_kind, event_kind, field_kind, first_byte, greeting_kind, is_command, is_report, kind_by_front, option_kind, outcome_kind, prepare_kind, row_kind, server_kind, statistics_kind, values_kind};
 
 use crate::packet_kind::PacketKind;

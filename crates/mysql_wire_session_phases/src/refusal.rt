@@ -4,7 +4,7 @@ ghost use Rattle.std.specs.Prelude.{◌≡◌};
 ghost use Rattle.mysql_wire_session_phases.specs.Names.{refusal_name};
 ghost use Rattle.mysql_wire_session_phases.specs.Refusals.{refusal_of, refusal_of_wire};
 
-use mysql_wire_packets::places::PayloadError;
+use mysql_wire_parts::places::PayloadError;
 use std::alloc::{AllocError, AllocFailed};
 use wire_buf::error::{InvalidReason, WireError};
 

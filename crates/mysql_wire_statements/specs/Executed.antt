@@ -2,7 +2,7 @@
 use Rattle.std.specs.Prelude.{ℕ, ◌≡◌, ◌<◌, ◌^◌, nat_lt, List, [], ◌∷◌, ◌++◌, length, Option, Some, None}
 use Rattle.std.proofs.Common.{refl}
 use Rattle.wire_buf.specs.Numbers.{le_bytes}
-use Rattle.mysql_wire_packets.specs.Optional.{BothIf, IsThere, OnIf, bytes_if}
+use Rattle.mysql_wire_parts.specs.Optional.{BothIf, IsThere, OnIf, bytes_if}
 use Rattle.mysql_wire_statements.specs.Bitmaps.{bitmap_len}
 use Rattle.mysql_wire_statements.specs.Params.{types_of, types_bytes, HaveTypes}
 use Rattle.mysql_wire_statements.specs.declared.com_stmt_execute.ComStmtExecute.{ComStmtExecute}

@@ -4,7 +4,7 @@ use Rattle.wire_repr.specs.Law.{Through-back}
 use Rattle.wire_buf.specs.Reading.{Answers, Through, front_at}
 use Rattle.wire_forms.specs.BareTexts.{all-back}
 use Rattle.wire_field.specs.Borrowed.{front-through}
-use Rattle.mysql_wire_packets.specs.InOrder.{Back}
+use Rattle.mysql_wire_parts.specs.InOrder.{Back}
 
 -- ---- lemmas
 

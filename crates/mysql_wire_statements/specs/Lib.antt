@@ -9,7 +9,6 @@ pub mod RowColumns
 pub mod TemporalValues
 pub mod TemporalValuesBack
 pub mod Params
-pub mod PrepareAnswers
 pub mod TypesBack
 pub mod Values
 pub mod ValuesBack

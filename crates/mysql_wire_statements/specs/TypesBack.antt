@@ -8,7 +8,7 @@ use Rattle.wire_buf.specs.declared.error.WireError.TheVariants.{UnexpectedEof, I
 use Rattle.wire_buf.specs.declared.error.InvalidReason.TheVariants.{UnknownValue}
 use Rattle.wire_repr.specs.Law.{Through-back}
 use Rattle.wire_buf.specs.Reading.{Answers, Through}
-use Rattle.mysql_wire_packets.specs.InOrder.{Back}
+use Rattle.mysql_wire_parts.specs.InOrder.{Back}
 use Rattle.mysql_wire_statements.specs.Again.{Again}
 use Rattle.mysql_wire_statements.specs.Params.{types_bytes, HaveTypes, types_behind, ReadsTypes}
 

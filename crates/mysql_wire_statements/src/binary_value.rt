@@ -16,8 +16,8 @@ use wire_buf::io::ParseBuf;
 use wire_buf::proto::{HasSize, MyDeserialize, MySerialize, Varying};
 use wire_const::ColumnType;
 use wire_forms::lenenc::LenEnc;
-use wire_repr::text::RawBytes;
 use wire_repr::wire::Wire;
+use wire_values::text::RawBytes;
 
 /// How the values of a type are written in their binary form.
 ///

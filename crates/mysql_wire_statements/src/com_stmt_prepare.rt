@@ -2,7 +2,7 @@
 
 ghost use Rattle.std.specs.Prelude.{◌≡◌, [], ◌∷◌, ◌++◌};
 ghost use Rattle.wire_buf.specs.Reading.{Through};
-ghost use Rattle.mysql_wire_packets.specs.InOrder.{packet, both, const_u8};
+ghost use Rattle.mysql_wire_parts.specs.InOrder.{packet, both, const_u8};
 ghost use Rattle.mysql_wire_statements.specs.InOrder.{rest_of};
 ghost use Rattle.mysql_wire_statements.specs.Again.{packet_again, both_again, const_again, rest_again};
 

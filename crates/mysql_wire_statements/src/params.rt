@@ -2,7 +2,7 @@
 
 ghost use Rattle.std.specs.Prelude.{◌≡◌, []};
 ghost use Rattle.wire_buf.specs.Reading.{Through};
-ghost use Rattle.mysql_wire_packets.specs.InOrder.{packet, both};
+ghost use Rattle.mysql_wire_parts.specs.InOrder.{packet, both};
 ghost use Rattle.mysql_wire_statements.specs.Again.{packet_again, both_again, rest_again, slice_again};
 ghost use Rattle.mysql_wire_statements.specs.Executed.{params_bytes, AreParams, SameParams};
 ghost use Rattle.mysql_wire_statements.specs.Params.{types_of, types_bytes, HasType, ReadsTypes};

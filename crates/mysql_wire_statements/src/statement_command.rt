@@ -3,7 +3,7 @@
 ghost use Rattle.std.specs.Prelude.{◌≡◌, ◌<◌, ◌^◌, ◌∷◌, ◌++◌};
 ghost use Rattle.wire_buf.specs.Numbers.{le_bytes};
 ghost use Rattle.wire_buf.specs.Reading.{Through};
-ghost use Rattle.mysql_wire_packets.specs.InOrder.{packet, both, const_u8, number};
+ghost use Rattle.mysql_wire_parts.specs.InOrder.{packet, both, const_u8, number};
 ghost use Rattle.mysql_wire_statements.specs.Again.{packet_again, both_again, const_again, number_again};
 
 use crate::written_back::WrittenBack;

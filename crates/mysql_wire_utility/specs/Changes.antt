@@ -5,11 +5,11 @@ use Rattle.wire_field.specs.declared.row.Both.{Both}
 use Rattle.wire_forms.specs.declared.lenenc.LenEnc.{LenEnc}
 use Rattle.wire_forms.specs.declared.null.NullBytes.{NullBytes}
 use Rattle.wire_forms.specs.declared.prefixed.U8Bytes.{U8Bytes}
-use Rattle.mysql_wire_packets.specs.Fields.{Constant, Text}
-use Rattle.mysql_wire_packets.specs.InOrder.{text_bytes, u8_text_bytes}
-use Rattle.mysql_wire_packets.specs.NullTexts.{clean}
-use Rattle.mysql_wire_packets.specs.Optional.{bytes_if, field}
-use Rattle.mysql_wire_packets.specs.declared.optional.IfMore.{IfMore}
+use Rattle.mysql_wire_parts.specs.Fields.{Constant, Text}
+use Rattle.mysql_wire_parts.specs.InOrder.{text_bytes, u8_text_bytes}
+use Rattle.mysql_wire_parts.specs.NullTexts.{clean}
+use Rattle.mysql_wire_parts.specs.Optional.{bytes_if, field}
+use Rattle.mysql_wire_parts.specs.declared.optional.IfMore.{IfMore}
 use Rattle.mysql_wire_utility.specs.declared.com_change_user.ComChangeUser.{ComChangeUser}
 
 -- up to the name of the database

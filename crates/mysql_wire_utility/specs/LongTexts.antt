@@ -13,8 +13,8 @@ use Rattle.wire_ext.specs.Texts.{u32_max}
 use Rattle.wire_repr.specs.Texts.{Borrows, Borrows-back, IsBorrowedText}
 use Rattle.wire_forms.specs.PrefixedTexts.{fixed_text-back_4}
 use Rattle.wire_forms.specs.Spelled.{Leaves, NumberOrEof, TextBehind}
-use Rattle.mysql_wire_packets.specs.Again.{Again, IsBytes-take}
-use Rattle.mysql_wire_packets.specs.InOrder.{Back}
+use Rattle.mysql_wire_parts.specs.Again.{Again, IsBytes-take}
+use Rattle.mysql_wire_parts.specs.InOrder.{Back}
 
 -- of a longer text its first 4294967295 bytes
 abbrev pub u32_cut : {Z : Type 0} → CowSlice ℕ Z → List ℕ

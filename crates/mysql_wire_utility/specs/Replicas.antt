@@ -5,8 +5,8 @@ use Rattle.wire_buf.specs.Numbers.{le_bytes}
 use Rattle.wire_field.specs.declared.row.Both.{Both}
 use Rattle.wire_forms.specs.declared.prefixed.U8Bytes.{U8Bytes}
 use Rattle.wire_forms.specs.declared.prefixed.U32Bytes.{U32Bytes}
-use Rattle.mysql_wire_packets.specs.Fields.{Constant, Text}
-use Rattle.mysql_wire_packets.specs.InOrder.{u8_text_bytes}
+use Rattle.mysql_wire_parts.specs.Fields.{Constant, Text}
+use Rattle.mysql_wire_parts.specs.InOrder.{u8_text_bytes}
 use Rattle.mysql_wire_utility.specs.LongTexts.{u32_text_bytes}
 use Rattle.mysql_wire_utility.specs.declared.com_binlog_dump.ComBinlogDump.{ComBinlogDump}
 use Rattle.mysql_wire_utility.specs.declared.com_binlog_dump_gtid.ComBinlogDumpGtid.{ComBinlogDumpGtid}

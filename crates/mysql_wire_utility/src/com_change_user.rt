@@ -8,13 +8,13 @@ ghost use Rattle.wire_buf.specs.Numbers.{le_bytes};
 ghost use Rattle.wire_repr.specs.Texts.{IsText, IsBorrowedText};
 ghost use Rattle.wire_buf.specs.Reading.{Parses, Through};
 ghost use Rattle.mysql_wire_utility.specs.Changes.{attrs_bytes, change_fields, name_bytes, set_bytes, user_bytes};
-ghost use Rattle.mysql_wire_packets.specs.InOrder.{packet, both, const_u8, lenenc_text, number, text_bytes, u8_cut, u8_text};
-ghost use Rattle.mysql_wire_packets.specs.More.{more, there_if};
-ghost use Rattle.mysql_wire_packets.specs.NullTexts.{clean, null_text};
-ghost use Rattle.mysql_wire_packets.specs.Optional.{BothIf, IsThere, OnIf, has, kept_field, side};
+ghost use Rattle.mysql_wire_parts.specs.InOrder.{packet, both, const_u8, lenenc_text, number, text_bytes, u8_cut, u8_text};
+ghost use Rattle.mysql_wire_parts.specs.More.{more, there_if};
+ghost use Rattle.mysql_wire_parts.specs.NullTexts.{clean, null_text};
+ghost use Rattle.mysql_wire_parts.specs.Optional.{BothIf, IsThere, OnIf, has, kept_field, side};
 
-use mysql_wire_packets::by_ref::{ByRef, ByRefIf};
-use mysql_wire_packets::optional::{IfMore, known_text, under, value_of};
+use mysql_wire_parts::by_ref::{ByRef, ByRefIf};
+use mysql_wire_parts::optional::{IfMore, known_text, under, value_of};
 use std::alloc::{Allocator, Global};
 use wire_buf::error::WireError;
 use wire_buf::io::ParseBuf;
@@ -25,8 +25,8 @@ use wire_forms::constant::ConstU8;
 use wire_forms::lenenc::LenEnc;
 use wire_forms::null::NullBytes;
 use wire_forms::prefixed::U8Bytes;
-use wire_repr::text::RawBytes;
 use wire_repr::wire::Wire;
+use wire_values::text::RawBytes;
 
 // The payload's fields, in order.
 type Fields<'a> = Both<User<'a>, More<'a>>;

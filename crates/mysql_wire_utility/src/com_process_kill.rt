@@ -3,7 +3,7 @@
 ghost use Rattle.std.specs.Prelude.{◌≡◌, ◌<◌, ◌^◌, ◌∷◌};
 ghost use Rattle.wire_buf.specs.Numbers.{le_bytes};
 ghost use Rattle.wire_buf.specs.Reading.{Through};
-ghost use Rattle.mysql_wire_packets.specs.InOrder.{packet, both, const_u8, number};
+ghost use Rattle.mysql_wire_parts.specs.InOrder.{packet, both, const_u8, number};
 
 use std::alloc::Allocator;
 use wire_buf::error::WireError;

@@ -6,17 +6,17 @@ ghost use Rattle.wire_buf.specs.Reading.{Through};
 ghost use Rattle.wire_repr.specs.Law.{size-is};
 ghost use Rattle.wire_repr.specs.Texts.{IsBorrowedText};
 ghost use Rattle.wire_forms.specs.Constants.{ReadsConst, ReadsConst-back};
-ghost use Rattle.mysql_wire_packets.specs.InOrder.{packet, eof_text};
+ghost use Rattle.mysql_wire_parts.specs.InOrder.{packet, eof_text};
 
-use mysql_wire_packets::by_ref::ByRef;
+use mysql_wire_parts::by_ref::ByRef;
 use std::alloc::{Allocator, Global};
 use wire_buf::error::{InvalidReason, WireError};
 use wire_buf::io::ParseBuf;
 use wire_buf::proto::{Fixed, HasSize, MyDeserialize, MySerialize, Varying};
 use wire_forms::constant::ConstU8;
 use wire_forms::undelimited::EofBytes;
-use wire_repr::text::RawBytes;
 use wire_repr::wire::Wire;
+use wire_values::text::RawBytes;
 
 /// The server's statistics are asked for. The answer is a `StatisticsText`, or an error.
 ///

@@ -4,8 +4,8 @@
 
 ghost use Rattle.std.specs.Prelude.{◌++◌, ℕ, List, [], true};
 ghost use Rattle.wire_const.specs.FlagSets.{capability_flags_bits};
-ghost use Rattle.mysql_wire_packets.specs.More.{there_if};
-ghost use Rattle.mysql_wire_packets.specs.Optional.{IsThere, has};
+ghost use Rattle.mysql_wire_parts.specs.More.{there_if};
+ghost use Rattle.mysql_wire_parts.specs.Optional.{IsThere, has};
 ghost use Rattle.mysql_wire_utility.specs.Changes.{attrs_bytes, name_bytes, set_bytes};
 
 use crate::com_binlog_dump::ComBinlogDump;

@@ -24,8 +24,9 @@ use wire_const::{CapabilityFlags, Flags, MariadbCapabilities};
 use wire_field::row::Either;
 use wire_forms::lenenc::LenEnc;
 use wire_repr::int::LeU32;
-use wire_repr::text::{BytesRepr, RawBytes};
+use wire_repr::text::BytesRepr;
 use wire_values::flags::RawFlags;
+use wire_values::text::RawBytes;
 
 /// A field.
 #[derive(Clone, Copy)]

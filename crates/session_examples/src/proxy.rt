@@ -1,7 +1,7 @@
 //! What a proxy or a pool asks of a session.
 
 ghost use Rattle.std.specs.Prelude.{◌≡◌, ◌&&◌, IfOk, OnErr, length, not};
-ghost use Rattle.mysql_wire_packets.specs.Optional.{has};
+ghost use Rattle.mysql_wire_parts.specs.Optional.{has};
 ghost use Rattle.mysql_wire_session.specs.Fronts.{TakesFront};
 ghost use Rattle.mysql_wire_session.specs.Senders.{is_idle};
 ghost use Rattle.mysql_wire_session.specs.State.{state_of};

@@ -9,7 +9,7 @@ use wire_codec::codec::{
     packet_to_chunks,
 };
 use wire_forms::undelimited::EofBytes;
-use wire_repr::text::RawBytes;
+use wire_values::text::RawBytes;
 
 /// Counts the bytes of packets.
 #[derive(Drop)]

@@ -6,7 +6,8 @@ use crate::fields::{Eaten, MORE, Short, has_size, is_read, is_refused_at_least, 
 use crate::fixture::Heap;
 use crate::reference::between;
 use std::alloc::Allocator;
-use wire_repr::text::{BytesRepr, RawBytes};
+use wire_repr::text::BytesRepr;
+use wire_values::text::RawBytes;
 
 /// A text of 65536 bytes, none of them a zero, and two zeros after it. It is shorter where memory
 /// is refused.

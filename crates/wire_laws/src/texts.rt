@@ -25,8 +25,8 @@ use wire_forms::prefixed::{U8Bytes, U32Bytes};
 use wire_forms::undelimited::{BareBytes, EofBytes, FixedLengthText};
 use wire_forms::varlen::VarLen;
 use wire_repr::field_laws::parse_back;
-use wire_repr::text::RawBytes;
 use wire_repr::wire::Wire;
+use wire_values::text::RawBytes;
 
 /// Any, whole.
 pub fn lenenc_text<'a>(

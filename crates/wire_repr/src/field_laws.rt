@@ -1,17 +1,14 @@
-//! What was written is read back, as functions: of any type with the law, and of a number and a
-//! text by any representation.
+//! What was written is read back, as functions: of any type with the law, and of a number by any
+//! representation.
 //!
 //! A function named `.._comes_back` says when a value is good, and which may come back of it: what
 //! the members `good` and `kept` of its law are. It does nothing.
 
 ghost use Rattle.std.specs.Prelude.{◌≡◌, List, ℕ};
-ghost use Rattle.std.specs.Cow.{cow_slice_items};
 ghost use Rattle.wire_buf.specs.Reading.{Reads, Parses, Through};
 ghost use Rattle.wire_repr.specs.Law.{ComesBackFrom, LeavesRestOf, seen};
-ghost use Rattle.wire_repr.specs.Texts.{IsBorrowedText};
 
 use crate::int::{IntRepr, RawInt};
-use crate::text::{BytesRepr, RawBytes};
 use crate::wire::Wire;
 use std::alloc::{Allocator, Global};
 use wire_buf::error::WireError;
@@ -53,13 +50,4 @@ pub fn number_comes_back<T: IntRepr>(_ctx: (), _number: &RawInt<T>, _back: &RawI
         ⟦<RawInt<T> as Wire<'static, Global>>⟧.good _ctx _number.now rest }
     ensures kept { ⟦<RawInt<T> as Wire<'static, Global>>⟧.kept _number.now _back.now
         → _back.now.0 ≡ T.kept _number.now.0 }
-{}
-
-/// A text is good where its representation says so. It comes back borrowed: what the
-/// representation keeps of it.
-pub fn text_comes_back<T: BytesRepr>(_text: &RawBytes<'_, T>, _back: &RawBytes<'_, T>)
-    ensures good { (ctx : T.Ctx) (rest : List ℕ) → T.good ctx (cow_slice_items _text.now.0) rest
-        → ⟦<RawBytes<'static, T> as Wire<'static, Global>>⟧.good ctx _text.now rest }
-    ensures kept { ⟦<RawBytes<'static, T> as Wire<'static, Global>>⟧.kept _text.now _back.now
-        → IsBorrowedText _back.now.0 (T.kept (cow_slice_items _text.now.0)) }
 {}

@@ -1,2 +1,2 @@
 mod ReadLemmas
-pub mod WriteLemmas
+mod WriteLemmas

@@ -1,42 +1,12 @@
--- Values that are put one after another are there whole, or all are taken away again.
-use Rattle.std.proofs.Common.{ℕ, ◌≡◌, ◌≤◌, ◌<◌, ◌+◌, suc, Bool, true, false, List, [], ◌∷◌, ◌++◌, length, take, get_or, Result, Ok, Err, OnOk, IfErr, sym, ap, ◌∙◌, arith}
+-- Values that are put one after another are there whole.
+use Rattle.std.proofs.Common.{ℕ, ◌≡◌, ◌≤◌, ◌<◌, ◌+◌, suc, Bool, false, List, [], ◌∷◌, ◌++◌, length, take, get_or, Result, Ok, Err, OnOk, sym, ap, ◌∙◌, arith}
 use Rattle.std.proofs.Math.Seq.{take-suc}
 use Rattle.std.proofs.lemmas.Grind.{flat_map-append}
-use Rattle.std.proofs.lemmas.List.{append_assoc, append-nil, take_all, take_at}
+use Rattle.std.proofs.lemmas.List.{append_assoc, append-nil, take_all}
 use Rattle.std.specs.List.{flat_map}
 use Rattle.std.specs.Result.{is_err}
 use Rattle.wire_buf.specs.declared.error.WireError.{WireError}
-use Rattle.wire_buf.specs.declared.error.WireError.TheVariants.{OutOfMemory}
-
--- what a `serialize` ensures
-abbrev pub Appended : Result (Unit {0}) WireError → List ℕ → List ℕ → List ℕ → Type 0
-Appended answer old new bytes = OnOk answer (new ≡ old ++ bytes)
-    × IfErr answer (λ error. (error ≡ OutOfMemory) × (new ≡ old))
-
-contradicts : (refused : Bool) → refused ≡ true → refused ≡ false → ⊥
-contradicts refused is not = cc (sym is ∙ not)
-
-pub put-behind : (put : Result (Unit {0}) WireError) (refused : Bool)
-    (old mid new front bytes : List ℕ) → refused ≡ is_err put → refused ≡ false
-    → mid ≡ old ++ front → OnOk put (new ≡ mid ++ bytes) → Appended put old new (front ++ bytes)
-put-behind (Ok _) refused old mid new front bytes is not half puts =
-    (puts ∙ ap (λ start. start ++ bytes) half ∙ append_assoc old front bytes, tt)
-put-behind (Err error) refused old mid new front bytes is not half puts =
-    absurd (contradicts refused is not)
-
-pub taken-back : (put : Result (Unit {0}) WireError) (refused : Bool) (at : ℕ)
-    (old mid late new front bytes : List ℕ) → refused ≡ is_err put → refused ≡ true
-    → at ≡ length old → mid ≡ old ++ front
-    → IfErr put (λ error. (error ≡ OutOfMemory) × (late ≡ mid)) → new ≡ take at late
-    → Appended put old new bytes
-taken-back (Ok _) refused at old mid late new front bytes is told start half left cut =
-    absurd (contradicts refused told is)
-taken-back (Err error) refused at old mid late new front bytes is told start half left cut = (
-  tt,
-  (left.0, cut ∙ ap (take at) (left.1 ∙ half) ∙ take_at old front at (sym start)),
-)
-
--- ---- values in a loop
+use Rattle.wire_repr.proofs.PutLemmas.{contradicts}
 
 next-value : {X : Type 0} (bytes : X → List ℕ) (values : List X) (i : ℕ) (value : X)
     → i < length values → value ≡ get_or values i value

@@ -1,7 +1,7 @@
 //! What a payload is read as.
 
 ghost use Rattle.std.specs.Prelude.{◌≡◌, length};
-ghost use Rattle.mysql_wire_packets.specs.Optional.{has_query_attributes};
+ghost use Rattle.mysql_wire_parts.specs.Optional.{has_query_attributes};
 ghost use Rattle.mysql_wire_session_packets.specs.declared.packet.Packet.TheVariants.{Command};
 ghost use Rattle.mysql_wire_session.specs.Advance.{opened, without_eof};
 ghost use Rattle.mysql_wire_session.specs.Opening.{opened_state};

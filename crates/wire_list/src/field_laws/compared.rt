@@ -14,8 +14,9 @@ use std::hash::Hash;
 use wire_field::converted::{Const, RawConst};
 use wire_field::row::{Both, Slice};
 use wire_repr::int::{IntRepr, RawInt};
-use wire_repr::text::{BytesRepr, RawBytes};
+use wire_repr::text::BytesRepr;
 use wire_values::flags::RawFlags;
+use wire_values::text::RawBytes;
 
 /// As the number, by whatever representation.
 pub fn raw_int_compares<T: IntRepr>(_one: &RawInt<T>, _other: &RawInt<T>)

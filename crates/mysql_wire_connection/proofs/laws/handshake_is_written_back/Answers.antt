@@ -1,6 +1,6 @@
-use Rattle.mysql_wire_packets.specs.Again.{array_again, both_again, byte_again, const_again, eof_text_again, null_text_again, number_again, upper_again}
+use Rattle.mysql_wire_parts.specs.Again.{array_again, both_again, byte_again, const_again, eof_text_again, null_text_again, number_again, upper_again}
 use Rattle.mysql_wire_connection.specs.Handshakes.{tail_at}
-use Rattle.mysql_wire_packets.specs.Shortest.{bare_of, both_at, either_of, exact, optional_of, then_at, written_back}
+use Rattle.mysql_wire_parts.specs.Shortest.{bare_of, both_at, either_of, exact, optional_of, then_at, written_back}
 use Rattle.mysql_wire_connection.proofs.laws.handshake_is_written_back.Goals as goal
 
 pub returns : goal.returns

@@ -1,6 +1,6 @@
-use Rattle.mysql_wire_packets.specs.Again.{array_again, both_again, byte_again, null_text_again, number_again}
-use Rattle.mysql_wire_packets.specs.Optional.{has, side}
-use Rattle.mysql_wire_packets.specs.Shortest.{both_at, either_of, exact, optional_of, part_of, text_of, then_at, u8_text_again, written_back}
+use Rattle.mysql_wire_parts.specs.Again.{array_again, both_again, byte_again, null_text_again, number_again}
+use Rattle.mysql_wire_parts.specs.Optional.{has, side}
+use Rattle.mysql_wire_parts.specs.Shortest.{both_at, either_of, exact, optional_of, part_of, text_of, then_at, u8_text_again, written_back}
 use Rattle.mysql_wire_connection.proofs.laws.handshake_response_is_written_back.Goals as goal
 
 pub returns : goal.returns

@@ -1,4 +1,4 @@
-use Rattle.mysql_wire_packets.specs.Again.{array_again, both_again, byte_again, number_again, packet_again}
+use Rattle.mysql_wire_parts.specs.Again.{array_again, both_again, byte_again, number_again, packet_again}
 use Rattle.mysql_wire_connection.proofs.laws.ssl_request_is_written_back.Goals as goal
 
 pub returns : goal.returns

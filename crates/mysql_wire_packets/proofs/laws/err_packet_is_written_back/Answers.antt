@@ -1,6 +1,6 @@
 use Rattle.wire_const.specs.FlagSets.{capability_flags_bits}
-use Rattle.mysql_wire_packets.specs.Again.{array_again, both_again, both_again_of, const_again, eof_text_again, number_again, optional_again_of, packet_again}
-use Rattle.mysql_wire_packets.specs.Optional.{has, side}
+use Rattle.mysql_wire_parts.specs.Again.{array_again, both_again, both_again_of, const_again, eof_text_again, number_again, optional_again_of, packet_again}
+use Rattle.mysql_wire_parts.specs.Optional.{has, side}
 use Rattle.mysql_wire_packets.proofs.laws.err_packet_is_written_back.Goals as goal
 
 pub returns : goal.returns

@@ -1,6 +1,6 @@
-use Rattle.mysql_wire_packets.specs.Again.{both_again, const_again, eof_text_again, number_again}
+use Rattle.mysql_wire_parts.specs.Again.{both_again, const_again, eof_text_again, number_again}
 use Rattle.mysql_wire_packets.specs.Oks.{words_ctx}
-use Rattle.mysql_wire_packets.specs.Shortest.{both_at, both_of, either_of, exact, int_of, optional_of, part_of, text_of, then_at, written_back}
+use Rattle.mysql_wire_parts.specs.Shortest.{both_at, both_of, either_of, exact, int_of, optional_of, part_of, text_of, then_at, written_back}
 use Rattle.mysql_wire_packets.proofs.laws.ok_form_is_written_back.Goals as goal
 
 pub returns : goal.returns

@@ -1,5 +1,5 @@
-use Rattle.mysql_wire_packets.specs.Again.{both_again, byte_again, const_again, number_again}
-use Rattle.mysql_wire_packets.specs.Shortest.{written_back, both_of, exact, part_of, text_of}
+use Rattle.mysql_wire_parts.specs.Again.{both_again, byte_again, const_again, number_again}
+use Rattle.mysql_wire_parts.specs.Shortest.{written_back, both_of, exact, part_of, text_of}
 use Rattle.mysql_wire_packets.proofs.laws.progress_report_is_written_back.Goals as goal
 
 pub returns : goal.returns

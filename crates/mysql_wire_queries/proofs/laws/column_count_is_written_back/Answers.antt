@@ -1,7 +1,7 @@
 use Rattle.wire_const.specs.FlagSets.{capability_flags_bits, mariadb_capabilities_bits}
-use Rattle.mysql_wire_packets.specs.Again.{byte_again}
-use Rattle.mysql_wire_packets.specs.Optional.{has, side}
-use Rattle.mysql_wire_packets.specs.Shortest.{written_back, both_of, exact, int_of, optional_of}
+use Rattle.mysql_wire_parts.specs.Again.{byte_again}
+use Rattle.mysql_wire_parts.specs.Optional.{has, side}
+use Rattle.mysql_wire_parts.specs.Shortest.{written_back, both_of, exact, int_of, optional_of}
 use Rattle.mysql_wire_queries.proofs.laws.column_count_is_written_back.Goals as goal
 
 pub returns : goal.returns

@@ -1,7 +1,7 @@
 use Rattle.wire_const.specs.FlagSets.{mariadb_capabilities_bits}
-use Rattle.mysql_wire_packets.specs.Again.{array_again, both_again, byte_again, const_again, number_again}
-use Rattle.mysql_wire_packets.specs.Optional.{has, side}
-use Rattle.mysql_wire_packets.specs.Shortest.{written_back, both_of, exact, optional_of, part_of, text_of}
+use Rattle.mysql_wire_parts.specs.Again.{array_again, both_again, byte_again, const_again, number_again}
+use Rattle.mysql_wire_parts.specs.Optional.{has, side}
+use Rattle.mysql_wire_parts.specs.Shortest.{written_back, both_of, exact, optional_of, part_of, text_of}
 use Rattle.mysql_wire_queries.proofs.laws.column_definition_is_written_back.Goals as goal
 
 pub returns : goal.returns

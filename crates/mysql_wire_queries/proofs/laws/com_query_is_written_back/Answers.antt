@@ -1,4 +1,4 @@
-use Rattle.mysql_wire_packets.specs.Again.{both_again, const_again, eof_text_again, packet_again}
+use Rattle.mysql_wire_parts.specs.Again.{both_again, const_again, eof_text_again, packet_again}
 use Rattle.mysql_wire_queries.proofs.laws.com_query_is_written_back.Goals as goal
 
 pub returns : goal.returns

@@ -1,5 +1,5 @@
-use Rattle.mysql_wire_packets.specs.Again.{const_again, eof_text_again}
-use Rattle.mysql_wire_packets.specs.Shortest.{written_back, both_of, exact, int_of, part_of}
+use Rattle.mysql_wire_parts.specs.Again.{const_again, eof_text_again}
+use Rattle.mysql_wire_parts.specs.Shortest.{written_back, both_of, exact, int_of, part_of}
 use Rattle.mysql_wire_queries.proofs.laws.com_query_with_attributes_is_written_back.Goals as goal
 
 pub returns : goal.returns

@@ -1,6 +1,6 @@
 use Rattle.std.specs.Cow.{cow_slice_items}
 use Rattle.mysql_wire_queries.specs.TextValues.{value_of}
-use Rattle.mysql_wire_packets.specs.Shortest.{written_back}
+use Rattle.mysql_wire_parts.specs.Shortest.{written_back}
 use Rattle.mysql_wire_queries.specs.ShortestRows.{row_law, value_shortest}
 use Rattle.mysql_wire_queries.proofs.laws.text_row_is_written_back.Goals as goal
 

@@ -1,5 +1,5 @@
 use Rattle.mysql_wire_queries.specs.TextValues.{value_of}
-use Rattle.mysql_wire_packets.specs.Shortest.{written_back}
+use Rattle.mysql_wire_parts.specs.Shortest.{written_back}
 use Rattle.mysql_wire_queries.specs.ShortestRows.{value_shortest}
 use Rattle.mysql_wire_queries.proofs.laws.text_value_is_written_back.Goals as goal
 

@@ -1,6 +1,6 @@
 use Rattle.std.proofs.Common.{◌++◌, ◌∷◌, List, ℕ, false, refl, subst, sym}
 use Rattle.std.specs.Cow.{cow_slice_items}
-use Rattle.mysql_wire_packets.specs.Optional.{IsThere, bytes_if}
+use Rattle.mysql_wire_parts.specs.Optional.{IsThere, bytes_if}
 use Rattle.mysql_wire_packets.specs.declared.err_packet.ErrPacket.{ErrPacket}
 use Rattle.mysql_wire_session_laws.proofs.PacketLemmas.{holds_of_kept, no_report_of}
 use Rattle.mysql_wire_session_laws.proofs.packet_laws.err_packet_in_grammar.Goals as goal

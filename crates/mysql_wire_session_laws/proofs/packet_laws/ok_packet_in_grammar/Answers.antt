@@ -1,6 +1,6 @@
 use Rattle.std.proofs.Common.{ℕ, ap, refl}
 use Rattle.mysql_wire_packets.specs.Oks.{ok_form}
-use Rattle.mysql_wire_packets.specs.Optional.{has}
+use Rattle.mysql_wire_parts.specs.Optional.{has}
 use Rattle.mysql_wire_session_laws.proofs.PacketLemmas.{holds_of_kept}
 use Rattle.mysql_wire_session_laws.proofs.packet_laws.ok_packet_in_grammar.Goals as goal
 

@@ -1,5 +1,5 @@
 use Rattle.std.proofs.Common.{◌∙◌, ℕ, ap, refl}
-use Rattle.mysql_wire_packets.specs.Optional.{has}
+use Rattle.mysql_wire_parts.specs.Optional.{has}
 use Rattle.mysql_wire_session_laws.proofs.PacketLemmas.{holds_of_kept, request_len}
 use Rattle.mysql_wire_session_laws.proofs.packet_laws.tls_request_in_grammar.Goals as goal
 

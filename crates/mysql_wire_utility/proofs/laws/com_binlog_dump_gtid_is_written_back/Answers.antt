@@ -1,4 +1,4 @@
-use Rattle.mysql_wire_packets.specs.Again.{both_again, const_again, number_again, packet_again}
+use Rattle.mysql_wire_parts.specs.Again.{both_again, const_again, number_again, packet_again}
 use Rattle.mysql_wire_utility.specs.LongTexts.{u32_text_again}
 use Rattle.mysql_wire_utility.specs.Replicas.{dump_gtid_fields}
 use Rattle.mysql_wire_utility.proofs.laws.com_binlog_dump_gtid_is_written_back.Goals as goal

@@ -1,9 +1,9 @@
 use Rattle.std.proofs.Common.{true}
 use Rattle.wire_const.specs.FlagSets.{capability_flags_bits}
-use Rattle.mysql_wire_packets.specs.Again.{both_again, const_again, null_text_again, number_again}
-use Rattle.mysql_wire_packets.specs.More.{if_more}
-use Rattle.mysql_wire_packets.specs.Optional.{has, side}
-use Rattle.mysql_wire_packets.specs.Shortest.{u8_text_again, written_back, at_input_of, both_of, exact, optional_of, part_of, text_of}
+use Rattle.mysql_wire_parts.specs.Again.{both_again, const_again, null_text_again, number_again}
+use Rattle.mysql_wire_parts.specs.More.{if_more}
+use Rattle.mysql_wire_parts.specs.Optional.{has, side}
+use Rattle.mysql_wire_parts.specs.Shortest.{u8_text_again, written_back, at_input_of, both_of, exact, optional_of, part_of, text_of}
 use Rattle.mysql_wire_utility.proofs.laws.com_change_user_is_written_back.Goals as goal
 
 pub returns : goal.returns

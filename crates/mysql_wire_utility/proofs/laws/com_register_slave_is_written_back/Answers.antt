@@ -1,5 +1,5 @@
-use Rattle.mysql_wire_packets.specs.Again.{both_again, const_again, number_again, packet_again}
-use Rattle.mysql_wire_packets.specs.Shortest.{u8_text_again}
+use Rattle.mysql_wire_parts.specs.Again.{both_again, const_again, number_again, packet_again}
+use Rattle.mysql_wire_parts.specs.Shortest.{u8_text_again}
 use Rattle.mysql_wire_utility.specs.Replicas.{register_fields}
 use Rattle.mysql_wire_utility.proofs.laws.com_register_slave_is_written_back.Goals as goal
 

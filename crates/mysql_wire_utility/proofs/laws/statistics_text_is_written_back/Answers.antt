@@ -1,4 +1,4 @@
-use Rattle.mysql_wire_packets.specs.Again.{eof_text_again, packet_again}
+use Rattle.mysql_wire_parts.specs.Again.{eof_text_again, packet_again}
 use Rattle.mysql_wire_utility.proofs.laws.statistics_text_is_written_back.Goals as goal
 
 pub returns : goal.returns

@@ -1,6 +1,6 @@
 use Rattle.std.proofs.Common.{◌∙◌, ◌++◌}
 use Rattle.std.specs.List.{flat_map}
-use Rattle.wire_values.proofs.WriteLemmas.{put-behind, taken-back}
+use Rattle.wire_repr.proofs.PutLemmas.{put-behind, taken-back}
 use Rattle.wire_values.proofs.write.write_counted.Goals as goal
 
 pub returns-then-is_err : goal.returns-then-is_err

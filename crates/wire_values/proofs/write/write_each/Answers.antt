@@ -1,6 +1,7 @@
 use Rattle.std.proofs.Common.{◌∙◌, take}
 use Rattle.std.specs.List.{flat_map}
-use Rattle.wire_values.proofs.WriteLemmas.{taken-back, none-written, more-written, all-written}
+use Rattle.wire_repr.proofs.PutLemmas.{taken-back}
+use Rattle.wire_values.proofs.WriteLemmas.{none-written, more-written, all-written}
 use Rattle.wire_values.proofs.write.write_each.Goals as goal
 
 pub loop-value-init : goal.loop-value-init

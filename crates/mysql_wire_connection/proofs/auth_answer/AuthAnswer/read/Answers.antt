@@ -1,9 +1,9 @@
 use Rattle.std.proofs.Common.{ℕ, ◌≡◌, true, List, [], ◌∷◌, Some, Result, nat_eq, refl, subst, sym, ◌∙◌}
 use Rattle.std.specs.List.{slice_get}
 use denote.Param.{number}
-use Rattle.mysql_wire_packets.specs.FirstBytes.{When, one_first, none_first, header_first, no_header_first, no_byte_first}
-use Rattle.mysql_wire_packets.specs.Places.{BeginsWith, IsOther, ReadsAs, is_among}
-use Rattle.mysql_wire_packets.specs.declared.places.PayloadError.{PayloadError}
+use Rattle.mysql_wire_parts.specs.FirstBytes.{When, one_first, none_first, header_first, no_header_first, no_byte_first}
+use Rattle.mysql_wire_parts.specs.Places.{BeginsWith, IsOther, ReadsAs, is_among}
+use Rattle.mysql_wire_parts.specs.declared.places.PayloadError.{PayloadError}
 use Rattle.mysql_wire_packets.specs.contracts.ok_packet.OkFormMyDeserializeGlobal.TheImpl as ok
 use Rattle.mysql_wire_connection.specs.declared.auth_answer.AuthAnswer.{AuthAnswer}
 use Rattle.mysql_wire_connection.specs.declared.auth_answer.AuthAnswer.TheVariants as variants

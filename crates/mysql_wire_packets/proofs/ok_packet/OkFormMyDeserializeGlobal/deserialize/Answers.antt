@@ -1,5 +1,5 @@
 use Rattle.std.proofs.Common.{sym, refl, inr, ◌+◌}
-use Rattle.mysql_wire_packets.specs.Then.{both_eaten}
+use Rattle.mysql_wire_parts.specs.Then.{both_eaten}
 use Rattle.mysql_wire_packets.proofs.ok_packet.OkFormMyDeserializeGlobal.deserialize.Goals as goal
 
 pub returns-in-Ok-parse : goal.returns-in-Ok-parse

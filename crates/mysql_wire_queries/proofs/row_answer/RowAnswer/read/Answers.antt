@@ -1,12 +1,12 @@
 use Rattle.std.proofs.Common.{ℕ, ◌≡◌, Bool, true, false, List, Some, length, refl, rules, subst, sym}
 use Rattle.std.specs.List.{slice_get}
 use denote.Param.{number}
-use Rattle.mysql_wire_packets.specs.Optional.{deprecates_eof}
-use Rattle.mysql_wire_packets.specs.Places.{BeginsWith, ReadsAs, is_short}
+use Rattle.mysql_wire_parts.specs.Optional.{deprecates_eof}
+use Rattle.mysql_wire_parts.specs.Places.{BeginsWith, ReadsAs, is_short}
 use Rattle.mysql_wire_packets.specs.contracts.ok_packet.OkFormMyDeserializeGlobal.TheImpl as ok
 use Rattle.mysql_wire_queries.specs.Payloads.{EndsRows, IsRow}
 use Rattle.mysql_wire_queries.specs.declared.row_answer.RowAnswer.TheVariants as variants
-use Rattle.mysql_wire_packets.specs.FirstBytes.{When, first_begins, other_first}
+use Rattle.mysql_wire_parts.specs.FirstBytes.{When, first_begins, other_first}
 use Rattle.mysql_wire_queries.proofs.row_answer.RowAnswer.read.Goals.{in_default-via-in-Some-eq254+else-is_end, in_default-via-in-Some+in_default, in_default-via-in_default}
 use Rattle.mysql_wire_queries.proofs.row_answer.RowAnswer.read.Goals as goal
 

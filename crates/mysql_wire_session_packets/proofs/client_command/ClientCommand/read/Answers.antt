@@ -1,12 +1,12 @@
 use Rattle.std.proofs.Common.{ℕ, ◌≡◌, true, false, List, [], ◌∷◌, Some, Result, Ok, Err, nat_eq, refl, subst, sym, ◌∙◌}
 use Rattle.std.specs.List.{slice_get}
 use Rattle.wire_const.specs.declared.flag_sets.capability.CapabilityFlags.{CapabilityFlags}
-use Rattle.mysql_wire_packets.specs.Optional.{has_query_attributes}
-use Rattle.mysql_wire_packets.specs.Places.{BeginsWith, IsOther, is_among}
-use Rattle.mysql_wire_packets.specs.declared.places.PayloadError.{PayloadError}
+use Rattle.mysql_wire_parts.specs.Optional.{has_query_attributes}
+use Rattle.mysql_wire_parts.specs.Places.{BeginsWith, IsOther, is_among}
+use Rattle.mysql_wire_parts.specs.declared.places.PayloadError.{PayloadError}
 use Rattle.mysql_wire_session_packets.specs.declared.client_command.ClientCommand.{ClientCommand}
 use Rattle.mysql_wire_queries.specs.Payloads.{IsAttributedQuery, IsPlainQuery}
-use Rattle.mysql_wire_packets.specs.FirstBytes.{When, one_first, none_first, one_byte, header_first, no_header_first, no_byte_first}
+use Rattle.mysql_wire_parts.specs.FirstBytes.{When, one_first, none_first, one_byte, header_first, no_header_first, no_byte_first}
 use Rattle.mysql_wire_session_packets.proofs.client_command.ClientCommand.read.Goals as goal
 
 abbrev headers : List ℕ

@@ -1,5 +1,5 @@
 use Rattle.std.proofs.Common.{refl, sym, ◌∙◌, inl, inr, arith}
-use Rattle.mysql_wire_packets.specs.FirstBytes.{first_begins, no_first, one_first}
+use Rattle.mysql_wire_parts.specs.FirstBytes.{first_begins, no_first, one_first}
 use Rattle.mysql_wire_statements.specs.TemporalValuesBack.{empty_head, one_there}
 use Rattle.mysql_wire_statements.proofs.params.BoundTypesMyDeserialize.deserialize.Goals as goal
 

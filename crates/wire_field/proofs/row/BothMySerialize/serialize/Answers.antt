@@ -1,5 +1,5 @@
 use Rattle.std.proofs.Common.{◌∙◌, ◌++◌}
-use Rattle.wire_values.proofs.WriteLemmas.{put-behind, taken-back}
+use Rattle.wire_repr.proofs.PutLemmas.{put-behind, taken-back}
 use Rattle.wire_field.proofs.row.BothMySerialize.serialize.Goals as goal
 
 pub returns-then-is_err : goal.returns-then-is_err

@@ -23,7 +23,7 @@ use Rattle.wire_buf.specs.Reading.{Answers, Parses, Through}
 use Rattle.wire_field.specs.Rows.{ReadsBoth, ReadsEither}
 use Rattle.wire_forms.specs.Spelled.{Leaves}
 use Rattle.wire_buf.specs.declared.error.WireError.{WireError}
-use Rattle.mysql_wire_packets.specs.Optional.{bytes_if, field}
+use Rattle.mysql_wire_parts.specs.Optional.{bytes_if, field}
 
 -- of an input of bytes, what is read is written as just the bytes that were eaten
 pub record Again {X : Type 0} (reads : List ℕ → Result X WireError → ℕ → Type 0)

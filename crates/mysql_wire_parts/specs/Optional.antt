@@ -10,7 +10,7 @@ use Rattle.wire_forms.specs.Constants.{ReadsAny}
 use Rattle.wire_field.specs.declared.row.Either.{Either}
 use Rattle.wire_field.specs.declared.row.Either.TheVariants.{Left, Right}
 use Rattle.wire_field.specs.Rows.{ReadsEither, SameSide, by_side}
-use Rattle.mysql_wire_packets.specs.InOrder.{Back, skip}
+use Rattle.mysql_wire_parts.specs.InOrder.{Back, skip}
 
 -- the flag is among the flags
 abbrev pub has : ℕ → ℕ → Bool

@@ -2,7 +2,7 @@
 use Rattle.std.specs.Prelude.{ℕ, ◌≡◌, List, take, Result, Ok}
 use Rattle.wire_buf.specs.Numbers.{IsBytes}
 use Rattle.wire_buf.specs.declared.error.WireError.{WireError}
-use Rattle.mysql_wire_packets.specs.Shortest.{IsWrittenBack}
+use Rattle.mysql_wire_parts.specs.Shortest.{IsWrittenBack}
 
 -- what is read of bytes is written as just those that were eaten
 abbrev pub WritesSame : {X : Type 0} → (List ℕ → Result X WireError → ℕ → Type 0)

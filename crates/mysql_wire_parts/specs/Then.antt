@@ -4,7 +4,7 @@ use Rattle.std.proofs.Common.{inl, inr, sym, ap, subst, ◌∙◌, arith}
 use Rattle.std.proofs.lemmas.List.{drop_at, drop-drop, length-drop, length-append, append_assoc}
 use Rattle.wire_buf.specs.declared.error.WireError.{WireError}
 use Rattle.wire_repr.specs.Law.{ComesBack}
-use Rattle.mysql_wire_packets.specs.InOrder.{Back}
+use Rattle.mysql_wire_parts.specs.InOrder.{Back}
 
 -- the first fields are read, and then, as they say, the second in what the first left
 abbrev pub ReadsThen : {A B Y : Type 0} → (Y → A) → (Y → B)

@@ -4,7 +4,7 @@ use Rattle.std.specs.Global.{Global}
 use Rattle.wire_field.specs.declared.row.Either.{Either}
 use Rattle.wire_forms.specs.declared.constant.ConstU8.{ConstU8}
 use Rattle.wire_forms.specs.declared.constant.Skip.{Skip}
-use Rattle.wire_repr.specs.declared.text.RawBytes.{RawBytes}
+use Rattle.wire_values.specs.declared.text.RawBytes.{RawBytes}
 
 -- a text by this representation
 abbrev pub Text : Type 0 → Type 0

@@ -8,8 +8,8 @@ use Rattle.wire_repr.specs.Law.{ComesBack}
 use Rattle.wire_buf.specs.Reading.{Parses, Through}
 use Rattle.wire_field.specs.Rows.{ReadsEither}
 use Rattle.wire_buf.specs.declared.error.WireError.{WireError}
-use Rattle.mysql_wire_packets.specs.InOrder.{Back}
-use Rattle.mysql_wire_packets.specs.Optional.{IsThere, KeptField, bytes_if, optional, side}
+use Rattle.mysql_wire_parts.specs.InOrder.{Back}
+use Rattle.mysql_wire_parts.specs.Optional.{IsThere, KeptField, bytes_if, optional, side}
 
 -- the context of a field, or none where no bytes are left
 abbrev pub if_more : {C : Type 0} → Either C (Unit {0}) → List ℕ → Either C (Unit {0})

@@ -1,6 +1,6 @@
 //! Fields lent for writing.
 
-ghost use Rattle.mysql_wire_packets.specs.Optional.{bytes_if};
+ghost use Rattle.mysql_wire_parts.specs.Optional.{bytes_if};
 
 use std::alloc::Allocator;
 use wire_buf::error::WireError;

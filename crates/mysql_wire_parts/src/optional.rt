@@ -5,9 +5,9 @@ ghost use Rattle.std.specs.Cow.{cow_slice_items};
 ghost use Rattle.wire_repr.specs.Texts.{IsText};
 ghost use Rattle.wire_field.specs.Rows.{by_side};
 ghost use Rattle.wire_buf.specs.Reading.{Through};
-ghost use Rattle.mysql_wire_packets.specs.More.{if_more};
+ghost use Rattle.mysql_wire_parts.specs.More.{if_more};
 ghost use Rattle.wire_const.specs.FlagSets.{capability_flags_bits};
-ghost use Rattle.mysql_wire_packets.specs.Optional.{OnIf, bytes_if, field, has, side};
+ghost use Rattle.mysql_wire_parts.specs.Optional.{OnIf, bytes_if, field, has, side};
 
 use std::alloc::Global;
 use std::marker::PhantomData;
@@ -18,8 +18,8 @@ use wire_const::{CapabilityFlags, Flags};
 use wire_field::row::Either;
 use wire_forms::constant::Skip;
 use wire_forms::lenenc::LenEnc;
-use wire_repr::text::RawBytes;
 use wire_repr::wire::Wire;
+use wire_values::text::RawBytes;
 
 /// A field that is there, or no bytes.
 pub type Optional<T> = Either<T, Skip<0>>;

@@ -1,5 +1,5 @@
 use Rattle.std.proofs.Common.{rules}
-use Rattle.wire_repr.proofs.text.RawBytesMyDeserialize.deserialize.Goals as goal
+use Rattle.wire_values.proofs.text.RawBytesMyDeserialize.deserialize.Goals as goal
 
 pub returns : goal.returns
 returns g c = search rules

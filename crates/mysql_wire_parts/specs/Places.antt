@@ -4,8 +4,8 @@ use Rattle.wire_const.specs.FlagSets.{capability_flags_bits}
 use Rattle.wire_const.specs.declared.flag_sets.capability.CapabilityFlags.{CapabilityFlags}
 use Rattle.wire_buf.specs.declared.error.WireError.{WireError}
 use Rattle.wire_buf.specs.declared.error.WireError.TheVariants.{UnexpectedEof, OutOfMemory}
-use Rattle.mysql_wire_packets.specs.declared.places.PayloadError.{PayloadError}
-use Rattle.mysql_wire_packets.specs.declared.places.PayloadError.TheVariants.{Refused, Trailing, OtherHeader, OtherSpelling}
+use Rattle.mysql_wire_parts.specs.declared.places.PayloadError.{PayloadError}
+use Rattle.mysql_wire_parts.specs.declared.places.PayloadError.TheVariants.{Refused, Trailing, OtherHeader, OtherSpelling}
 
 -- the payload is one packet, read whole; or the packet's type refuses it; or bytes stand after it
 abbrev pub ReadsWhole : {X : Type 0} → (List ℕ → Result X WireError → ℕ → Type 0) → List ℕ

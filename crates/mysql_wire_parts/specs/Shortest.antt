@@ -22,10 +22,10 @@ use Rattle.wire_buf.specs.Spelling.{IsBehind, IsFixed}
 use Rattle.wire_ext.specs.Texts.{u8_max}
 use Rattle.wire_buf.specs.declared.error.WireError.{WireError}
 use Rattle.wire_buf.specs.declared.error.WireError.TheVariants.{UnexpectedEof}
-use Rattle.mysql_wire_packets.specs.Again.{Again, IsBytes-drop, IsBytes-take, nothing_law}
-use Rattle.mysql_wire_packets.specs.InOrder.{text_bytes, u8_text_bytes}
-use Rattle.mysql_wire_packets.specs.Optional.{bytes_if, field}
-use Rattle.mysql_wire_packets.specs.Then.{ReadsThen}
+use Rattle.mysql_wire_parts.specs.Again.{Again, IsBytes-drop, IsBytes-take, nothing_law}
+use Rattle.mysql_wire_parts.specs.InOrder.{text_bytes, u8_text_bytes}
+use Rattle.mysql_wire_parts.specs.Optional.{bytes_if, field}
+use Rattle.mysql_wire_parts.specs.Then.{ReadsThen}
 
 -- a byte that begins no length, and is read as the length 0
 abbrev pub IsMark : ℕ → Type 0

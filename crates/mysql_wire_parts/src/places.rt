@@ -1,7 +1,7 @@
 //! A payload that is one packet, at a place where one of several may stand.
 
 ghost use Rattle.wire_buf.specs.Reading.{Parses};
-ghost use Rattle.mysql_wire_packets.specs.Places.{ReadsExact, ReadsWhole, WrapsBy};
+ghost use Rattle.mysql_wire_parts.specs.Places.{ReadsExact, ReadsWhole, WrapsBy};
 
 use std::alloc::Global;
 use wire_buf::error::WireError;

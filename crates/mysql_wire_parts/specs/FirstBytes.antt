@@ -3,9 +3,9 @@ use Rattle.std.proofs.Common.{ℕ, ◌≡◌, Bool, true, false, List, [], ◌�
 use Rattle.std.specs.List.{slice_get}
 use Rattle.wire_buf.specs.Reading.{Parses}
 use Rattle.wire_forms.specs.Constants.{ReadsConst}
-use Rattle.mysql_wire_packets.specs.Places.{BeginsWith, IsOther, ReadsWhole, is_among}
-use Rattle.mysql_wire_packets.specs.declared.places.PayloadError.{PayloadError}
-use Rattle.mysql_wire_packets.specs.declared.places.PayloadError.TheVariants.{Refused, Trailing, OtherHeader, OtherSpelling}
+use Rattle.mysql_wire_parts.specs.Places.{BeginsWith, IsOther, ReadsWhole, is_among}
+use Rattle.mysql_wire_parts.specs.declared.places.PayloadError.{PayloadError}
+use Rattle.mysql_wire_parts.specs.declared.places.PayloadError.TheVariants.{Refused, Trailing, OtherHeader, OtherSpelling}
 use Rattle.wire_buf.specs.declared.error.WireError.TheVariants.{UnexpectedEof}
 
 -- the byte that stands first is the one that the payload begins with

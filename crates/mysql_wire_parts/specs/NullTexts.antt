@@ -10,7 +10,7 @@ use Rattle.wire_buf.specs.NullText.{is_zero}
 use Rattle.wire_forms.specs.NullTexts.{HasNoZero, ReadsNull}
 use Rattle.wire_repr.specs.Texts.{Borrows, IsBorrowedText, Borrows-back}
 use Rattle.wire_forms.specs.Spelled.{Leaves, TellsBack, Leaves-back}
-use Rattle.mysql_wire_packets.specs.InOrder.{Back}
+use Rattle.mysql_wire_parts.specs.InOrder.{Back}
 
 -- the text before its first zero
 abbrev pub clean : {Z : Type 0} → CowSlice ℕ Z → List ℕ

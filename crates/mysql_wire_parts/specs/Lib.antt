@@ -1,0 +1,11 @@
+pub mod Again
+pub mod Fields
+pub mod FirstBytes
+pub mod InOrder
+pub mod More
+pub mod NullTexts
+pub mod Optional
+pub mod Places
+pub mod Shortest
+pub mod Then
+pub mod Written
