@@ -1,7 +1,7 @@
 #!/usr/bin/env bash
-# A first look, in half a minute: frames three bytes, shows such a chunk, takes two packets out of a
-# stream, and dumps the front of a recorded session. Nothing is proved here: `rt try` runs each
-# program as it stands, unproved. Needs python3, which cuts the session out of the recordings.
+# A first look: frames three bytes, shows such a chunk and takes two packets out of a stream, in half
+# a minute, and then dumps the front of a recorded session. Nothing is proved here: `rt try` runs
+# each program as it stands, unproved. Needs python3, which cuts the session out of the recordings.
 set -e
 top=$(cd "$(dirname "$0")/.." && pwd)
 source "$top/scripts/start.sh"
@@ -26,7 +26,7 @@ printf 'chunk\n' > "$work/cases/chunk.args"
 printf '\1\0\0\0a\0\0\0\1' > "$work/cases/unframe"
 printf 'unframe\n8192\n100\n' > "$work/cases/unframe.args"
 
-# Tries a crate's program on these words in the background, and shows its log where that fails.
+# Tries a crate's program on these words, and shows its log where that fails.
 try() {
     local crate=$1
     shift
@@ -36,11 +36,9 @@ try() {
     }
 }
 
-try mysql_wire_tool --cases "$work/cases" & tool=$!
 try mysql_wire_dump --data "client=$work/client" --data "server=$work/server" \
     -- client client server server & dump=$!
-wait "$tool"
-wait "$dump"
+try mysql_wire_tool --cases "$work/cases"
 
 # What the tool wrote in a case.
 written() {
@@ -53,5 +51,6 @@ echo 'chunk, of these:'
 written chunk
 echo 'unframe 8192 100, of two packets:'
 written unframe
+wait "$dump"
 echo 'mysql_wire_dump, of a recorded session, its first lines:'
 head -n 3 "$work/mysql_wire_dump"
