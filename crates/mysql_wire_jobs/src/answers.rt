@@ -99,6 +99,10 @@ pub(crate) fn definition<'a>(draws: &mut Draws, letters: &'a Letters) -> ColumnD
     }
 }
 
+fn put_definition(payload: &mut Vec<u8>, draws: &mut Draws, letters: &Letters) -> Option<()> {
+    definition(draws, letters).serialize(payload).ok()
+}
+
 // An answer that is made, and the room for a payload.
 #[derive(Drop)]
 struct Maker {
@@ -142,9 +146,7 @@ impl Maker {
         self.payload.put_lenenc_int(columns as u64).ok()?;
         self.frame()?;
         for _ in 0..columns {
-            definition(draws, letters)
-                .serialize(&mut self.payload)
-                .ok()?;
+            put_definition(&mut self.payload, draws, letters)?;
             self.frame()?;
         }
         self.end()

@@ -112,25 +112,44 @@ fn name<'a>(draws: &mut Draws, letters: &'a Letters, len: usize) -> RawBytes<'a,
     RawBytes::from(letters.text(draws, Script::Plain, len))
 }
 
+// The definition of a column.
+fn definition<'a>(
+    draws: &mut Draws,
+    letters: &'a Letters,
+    column_type: u8,
+) -> ColumnDefinition41<'a> {
+    ColumnDefinition41 {
+        catalog: RawBytes::from(b"def".as_slice()),
+        schema: name(draws, letters, 6),
+        table: name(draws, letters, 9),
+        org_table: name(draws, letters, 9),
+        name: name(draws, letters, 7),
+        org_name: name(draws, letters, 7),
+        extended_metadata: None,
+        character_set: 45,
+        column_length: 1020,
+        column_type: RawConst::new(column_type),
+        flags: RawFlags::new(draws.byte() as u16),
+        decimals: 0,
+        reserved: [0, 0],
+    }
+}
+
+fn put_definition(
+    payload: &mut Vec<u8>,
+    draws: &mut Draws,
+    letters: &Letters,
+    column_type: u8,
+) -> Option<()> {
+    definition(draws, letters, column_type)
+        .serialize(payload)
+        .ok()
+}
+
 // The columns of a row, and what ends them.
 fn columns(session: &mut Session, draws: &mut Draws, letters: &Letters) -> Option<()> {
     for column_type in TYPES {
-        let definition = ColumnDefinition41 {
-            catalog: RawBytes::from(b"def".as_slice()),
-            schema: name(draws, letters, 6),
-            table: name(draws, letters, 9),
-            org_table: name(draws, letters, 9),
-            name: name(draws, letters, 7),
-            org_name: name(draws, letters, 7),
-            extended_metadata: None,
-            character_set: 45,
-            column_length: 1020,
-            column_type: RawConst::new(column_type),
-            flags: RawFlags::new(draws.byte() as u16),
-            decimals: 0,
-            reserved: [0, 0],
-        };
-        definition.serialize(&mut session.payload).ok()?;
+        put_definition(&mut session.payload, draws, letters, column_type)?;
         session.send(false)?;
     }
     session.answer(END)

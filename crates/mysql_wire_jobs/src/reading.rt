@@ -63,6 +63,16 @@ fn tell(digest: &mut Digest, value: &TextValue<'_>) {
     }
 }
 
+fn tell_definition(digest: &mut Digest, definition: &ColumnDefinition41<'_>) {
+    digest.add_bytes(definition.schema.as_bytes());
+    digest.add_bytes(definition.table.as_bytes());
+    digest.add_bytes(definition.org_table.as_bytes());
+    digest.add_bytes(definition.name.as_bytes());
+    digest.add_bytes(definition.org_name.as_bytes());
+    digest.add(definition.column_length as u64);
+    digest.add(definition.flags.0 as u64);
+}
+
 impl Reading {
     fn new(alloc: Global, by: RowsBy, columns: usize) -> Self {
         Reading {
@@ -81,13 +91,7 @@ impl Reading {
             MariadbCapabilities::empty(),
             packet,
         ).ok()?;
-        self.digest.add_bytes(definition.schema.as_bytes());
-        self.digest.add_bytes(definition.table.as_bytes());
-        self.digest.add_bytes(definition.org_table.as_bytes());
-        self.digest.add_bytes(definition.name.as_bytes());
-        self.digest.add_bytes(definition.org_name.as_bytes());
-        self.digest.add(definition.column_length as u64);
-        self.digest.add(definition.flags.0 as u64);
+        tell_definition(&mut self.digest, &definition);
         Some(())
     }
 

@@ -92,6 +92,25 @@ fn done<'a>(draws: &mut Draws, letters: &'a Letters) -> OkPacket<'a> {
     }
 }
 
+fn serve_definition(server: &mut Server, draws: &mut Draws, letters: &Letters) -> Option<()> {
+    server.queue_value(&definition(draws, letters))
+}
+
+fn serve_done(server: &mut Server, draws: &mut Draws, letters: &Letters) -> Option<()> {
+    server.queue_value(&done(draws, letters))
+}
+
+fn serve_typed(
+    server: &mut Server,
+    alloc: Global,
+    draws: &mut Draws,
+    letters: &Letters,
+    columns: usize,
+) -> Option<()> {
+    let row = typed_row(alloc, draws, letters, columns)?;
+    server.queue_value(&row)
+}
+
 // A row, as a type by turns with one put text by text.
 fn serve_row(
     server: &mut Server,
@@ -102,7 +121,7 @@ fn serve_row(
     place: usize,
 ) -> Option<()> {
     if place % 2 == 0 {
-        server.queue_value(&typed_row(alloc, draws, letters, columns)?)?;
+        serve_typed(server, alloc, draws, letters, columns)?;
     } else {
         put_row(draws, letters, columns, &mut server.payload)?;
         server.queue()?;
@@ -120,12 +139,12 @@ fn serve(
 ) -> Option<()> {
     let columns = 5 + draws.below(16);
     for _ in 0..columns {
-        server.queue_value(&definition(draws, letters))?;
+        serve_definition(server, draws, letters)?;
     }
     for place in 0..rows {
         serve_row(server, alloc, draws, letters, columns, place)?;
     }
-    server.queue_value(&done(draws, letters))?;
+    serve_done(server, draws, letters)?;
     server.writer.write_pending().ok()
 }
 

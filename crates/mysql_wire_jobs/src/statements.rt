@@ -209,7 +209,11 @@ fn tell(digest: &mut Digest, value: &BinaryValue<'_>) {
 fn read_execute(alloc: Global, digest: &mut Digest, payload: &[u8]) -> Option<()> {
     let command = read_whole::<ComStmtExecute<'_>>(alloc, 10, payload).ok()?;
     digest.add(command.statement_id as u64);
-    let params = command.params?;
+    read_params(alloc, digest, &command.params?)
+}
+
+// Reads the parameters' values.
+fn read_params(alloc: Global, digest: &mut Digest, params: &StmtParams<'_>) -> Option<()> {
     let types = params.types?;
     let mut rest = ParseBuf(params.values);
     for place in 0..10 {
