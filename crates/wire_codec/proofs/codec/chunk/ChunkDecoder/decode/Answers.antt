@@ -16,3 +16,9 @@ returns-in-Chunk-clause-chunk g c = search rules
 
 pub returns-then-not-fits-clause-chunk : goal.returns-then-not-fits-clause-chunk
 returns-then-not-fits-clause-chunk g c = search rules
+
+pub returns-then-is_empty-clause-chunk : goal.returns-then-is_empty-clause-chunk
+returns-then-is_empty-clause-chunk g c = search rules
+
+pub returns-else-is_empty-clause-chunk : goal.returns-else-is_empty-clause-chunk
+returns-else-is_empty-clause-chunk g c = search rules
