@@ -1,5 +1,5 @@
 -- A packet whose bytes are written as they come.
-use Rattle.std.proofs.Common.{◌≡◌, ℕ, ◌+◌, ◌-◌, ◌%◌, ◌^◌, ◌<◌, ◌≤◌, ◌⊎◌, List, [], ◌∷◌, ◌++◌, length, take, drop, min, slice_index, refl, sym, ap, ap₂, ◌∙◌, subst, arith, append_assoc, append-nil, length-drop, take-take, take-append-drop, inr, Option, Some, None, IfSome, IsNone, MatchOption, IfErr, Result, Ok, Err, Bool, false, IsTrue, IsFalse}
+use Rattle.std.proofs.Common.{◌≡◌, ℕ, ◌+◌, ◌-◌, ◌%◌, ◌^◌, ◌<◌, ◌≤◌, ◌⊎◌, List, [], ◌∷◌, ◌++◌, length, take, drop, min, slice_index, refl, sym, ap, ap₂, ◌∙◌, subst, arith, append_assoc, append-nil, length-append, length-drop, take-take, take-append-drop, inr, Option, Some, None, IfSome, IsNone, MatchOption, IfErr, Result, Ok, Err, Bool, false, IsTrue, IsFalse}
 use Rattle.std.proofs.lemmas.List.{length-take-le}
 use Rattle.std.proofs.lemmas.List.Elements.{All-push, All-nil, All-head}
 use Rattle.std.proofs.KnownBytes.{Consumes-nil, Consumes-trans, Consumes-kept, Appends-nil, Appends-trans, Appends-kept}
@@ -8,14 +8,14 @@ use Rattle.wire_codec.specs.Framing.{header, framing}
 use Rattle.wire_codec.specs.Delivery.{chunk_len, IsSpelled}
 use Rattle.wire_span.specs.declared.span.SpanError.{SpanError}
 use Rattle.wire_span.specs.declared.span.SpanError.TheVariants as span
-use Rattle.wire_span.specs.Spans.{SpanState, CameTo, SpansOn, EatsSpans, IsBetween, StopsBefore, header_came, span_state}
+use Rattle.wire_span.specs.Spans.{SpanPlace, AtHeader, Within, SpanState, CameTo, SpansOn, EatsSpans, IsBetween, StopsBefore, header_came, span_state}
 use Rattle.wire_codec.specs.Codec.{codec_state, header_of, Stands}
 use Rattle.wire_codec.specs.declared.codec.packet.PacketCodec.{PacketCodec}
 use Rattle.wire_codec.proofs.CodecLemmas.{stands_without}
 use Rattle.wire_codec.proofs.RunLemmas.{nothing_whole}
 use Rattle.wire_span.specs.declared.span.SpanDecoder.{SpanDecoder}
 use Rattle.wire_span.specs.Renumbering.{sent}
-use Rattle.wire_span.specs.Passing.{most_bytes}
+use Rattle.wire_span.specs.Passing.{most_bytes, most_here}
 use Rattle.wire_span.proofs.SpanLemmas.{nothing_came, spans_begin_is}
 use Rattle.wire_span.proofs.MixLemmas.{spans_end_is}
 use Rattle.wire_span.proofs.PassingLemmas.{merged_spans}
@@ -23,7 +23,7 @@ use Rattle.wire_packet_io.specs.declared.error.PacketIoError.{PacketIoError}
 use Rattle.wire_packet_io.specs.declared.error.PacketIoError.TheVariants.{Io, UnexpectedEnd, OutOfMemory}
 use Rattle.wire_packet_io.specs.PacketIo.{joined_reads, read_size, EndsEmpty, ReadFails}
 use Rattle.wire_packet_io.specs.Copying.{has_ended, Copies, CopiedPacket, CopiesNext, CopyStops, EndsRead, IsSpanRefusal, StepsCopy, StopsHere, WaitsBehind, WaitsHere}
-use Rattle.wire_packet_io.proofs.PacketIoLemmas.{reads_more, each_more, counted_more, last_empty, length-push}
+use Rattle.wire_packet_io.proofs.PacketIoLemmas.{length-zero, reads_more, each_more, counted_more, last_empty, length-push}
 
 -- nothing came, in a span of no bytes
 pub copied_none : (a : SpanState) (P : List ℕ) → EatsSpans a P (([], false) ∷ []) P a
@@ -59,6 +59,27 @@ pub nearer : (before after : SpanState) (src rest : List ℕ) (n : ℕ) → n �
 nearer before after src rest n within some is fewer =
     let left : length rest ≡ length src - n = ap (λ (z : List ℕ). length z) is ∙ length-drop n src in
     (omega (arith, fewer, left, within), omega (arith, left, within, some))
+
+-- a header is to come, or more than its bytes
+here_four : (place : SpanPlace) → header_came place ≡ [] → 4 ≤ most_here place
+here_four (AtHeader came) uncut = let none = ap (λ (z : List ℕ). length z) uncut in omega arith
+here_four (Within left is_full) uncut = omega arith
+
+-- a read that gave bytes, where nothing more could go, brings the end nearer
+pub read_nearer : (before after : SpanState) (old new more : List ℕ) (n : ℕ) (from last : Option (List ℕ)) → most_bytes after + length old ≤ most_bytes before + length new
+    → header_came after.place ≡ [] → WaitsHere after new → (came : List ℕ) × (length came ≡ n) × (more ≡ new ++ came) × Consumes from last came → 0 < n
+    → most_bytes after - length more < most_bytes before - length old
+read_nearer before after old new more n from last fewer uncut waits (came, size, is, took) some =
+    let all : length more ≡ length new + length came = ap (λ (z : List ℕ). length z) is ∙ length-append new came in
+    let four = here_four after.place uncut in
+    let few = waits.0 in
+    omega arith
+
+-- and one that gave none leaves it there
+pub waits_still : (state : SpanState) (old new : List ℕ) (n : ℕ) (from last : Option (List ℕ)) → WaitsHere state old
+    → (came : List ℕ) × (length came ≡ n) × (new ≡ old ++ came) × Consumes from last came → n ≡ 0 → WaitsHere state new
+waits_still state old new n from last waits (came, size, is, took) none =
+    subst (λ (z : List ℕ). WaitsHere state z) (sym (is ∙ ap (λ (z : List ℕ). old ++ z) (length-zero came (size ∙ none)) ∙ append-nil old)) waits
 
 -- bytes of the open chunk that a writer took
 pub bytes_step : (before after : SpanState) (src rest buf : List ℕ) (n count : ℕ) (ended : Bool) (held more : Option (List ℕ))

@@ -4,3 +4,5 @@ mod SkipLemmas
 pub mod CopyLemmas
 pub mod RelayLemmas
 mod WholeLemmas
+mod LendingLemmas
+mod PlaceLemmas

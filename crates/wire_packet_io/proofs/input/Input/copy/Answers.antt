@@ -1,9 +1,9 @@
-use Rattle.std.proofs.Common.{◌∙◌, [], ap, refl, None, Ok, Err, true, false}
+use Rattle.std.proofs.Common.{◌∙◌, [], ap, arith, refl, None, Ok, Err, true}
 use Rattle.std.proofs.KnownBytes.{Appends-nil}
 use Rattle.wire_span.specs.Spans.{span_state}
 use Rattle.wire_packet_io.specs.Lending.{lender}
 use Rattle.wire_packet_io.specs.Copying.{CopiesTo}
-use Rattle.wire_packet_io.proofs.CopyLemmas.{copies_go, stops_by, stops_unended, reads_start, reads_read, reads_ended, reads_fail, at_end, read_stops, so_far}
+use Rattle.wire_packet_io.proofs.CopyLemmas.{copies_go, stops_by, stops_unended, reads_start, reads_read, reads_ended, reads_fail, at_end, read_nearer, read_stops, waits_still, so_far}
 use Rattle.wire_packet_io.proofs.input.Input.copy.Given as given
 use Rattle.wire_packet_io.proofs.input.Input.copy.Goals as goal
 use Rattle.wire_packet_io.proofs.input.Input.copy.Goals.{In-Ok-false}
@@ -79,3 +79,14 @@ pub returns-in-Err-read_more-clause-stops : goal.returns-in-Err-read_more-clause
 returns-in-Err-read_more-clause-stops g c =
     let waits = rw c.in-Ok-false.field-0-test at c.in-Ok-false.ensures.ends in
     read_stops c.in-Err-read_more.error _ _ _ _ _ _ waits c.in-Err-read_more.ensures.err c.in-Err-read_more.ensures.failed
+
+pub at_copys_end-requires : goal.at_copys_end-requires
+at_copys_end-requires g c =
+    waits_still (span_state c.copy_unread.new.decoder) c.copy_unread.new.self.src.items c.read_more.new.self.src.items _ _ _
+    (rw c.in-Ok-false.field-0-test at c.in-Ok-false.ensures.ends) c.in-Ok-eq0.ensures.ok c.in-Ok-eq0.field-0-test
+
+pub reads-smaller : goal.reads-smaller
+reads-smaller g c =
+    read_nearer (span_state c.reads.decoder) (span_state c.copy_unread.new.decoder) c.reads.self.src.items c.copy_unread.new.self.src.items c.read_more.new.self.src.items _ _ _
+    ((rw c.in-Ok-false.field-0-test at c.in-Ok-false.ensures.fewer) refl) c.copy_unread.ensures.kept.0 (rw c.in-Ok-false.field-0-test at c.in-Ok-false.ensures.ends)
+    c.in-Ok.ensures.ok (omega (arith, c.in-Ok.field-0-test))

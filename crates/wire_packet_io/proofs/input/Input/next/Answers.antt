@@ -1,8 +1,9 @@
-use Rattle.std.proofs.Common.{List, ℕ, sym, ap, ◌∙◌, subst, arith, None, Some, Ok, Err}
+use Rattle.std.proofs.Common.{◌≡◌, false, List, ℕ, sym, ap, ◌∙◌, subst, arith, None, Some, Ok, Err}
 use Rattle.wire_codec.specs.Codec.{codec_state}
-use Rattle.wire_packet_io.specs.PacketIo.{NextPacket}
+use Rattle.wire_packet_io.specs.PacketIo.{FitsAt, NextPacket}
 use Rattle.wire_packet_io.specs.Lending.{answer_over, found_in, input_state}
 use Rattle.wire_packet_io.proofs.PacketIoLemmas.{Waited, starts, ends_by, found_ends, apart_unread, waited, ended, failed, goes_on, smaller}
+use Rattle.wire_packet_io.proofs.LendingLemmas.{fits_more, takes_fits}
 use Rattle.wire_packet_io.proofs.input.Input.next.Given as given
 use Rattle.wire_packet_io.proofs.input.Input.next.Goals as goal
 use Rattle.wire_packet_io.proofs.input.Input.next.Goals.{In-Ok-None}
@@ -66,3 +67,40 @@ returns-in-Err-read_more-clause-next g c =
     let read = c.in-Err-read_more.ensures in
     failed c.in-Err-read_more.error _ (input_state c.find.new.codec None c.find.new.self) _ _ _ _ _ _ c.read_more.new.self.src.items c.read_more.new.self.dst.items
     (waits g (goal.at.returns-in-Err-read_more-clause-next g c).In-Ok-None) (ap (λ z. z.items) c.read_more.ensures.dst) read.err read.kept read.failed
+
+pub returns-in-Ok-Some-clause-fits : goal.returns-in-Ok-Some-clause-fits
+returns-in-Ok-Some-clause-fits g c =
+    let found = c.in-Ok-Some.found in (
+      takes_fits (answer_over (Ok (Some found)) c.find.new.self.src.items) c.find.new.self.lost (input_state c.reads.codec None c.reads.self) (input_state c.find.new.codec (Some found) c.find.new.self)
+          c.find.ensures.kept.2 (rw c.in-Ok-Some.field-0-is at c.in-Ok-Some.ensures.takes),
+      c.find.ensures.kept.2 ∙ c.reads.invariant.so_far.limit,
+    )
+
+pub returns-in-Err-clause-fits : goal.returns-in-Err-clause-fits
+returns-in-Err-clause-fits g c = (
+  takes_fits (Err c.in-Err.error) c.find.new.self.lost (input_state c.reads.codec None c.reads.self) (input_state c.find.new.codec None c.find.new.self) c.find.ensures.kept.2 c.in-Err.ensures.takes,
+  c.find.ensures.kept.2 ∙ c.reads.invariant.so_far.limit,
+)
+
+-- the codec stands at what was there
+pub stands_there : (g : given.Over) (c : In-Ok-None g) → (c.find.new.self.lost ≡ false) × FitsAt c.find.new.self.lost (input_state c.find.new.codec None c.find.new.self)
+stands_there g c =
+    let takes = rw c.in-Ok-None.field-0-is at c.in-Ok-None.ensures.takes in
+    (takes.1, takes_fits (Ok None) c.find.new.self.lost (input_state c.reads.codec None c.reads.self) (input_state c.find.new.codec None c.find.new.self) c.find.ensures.kept.2 takes)
+
+pub returns-in-Ok-eq0-clause-fits : goal.returns-in-Ok-eq0-clause-fits
+returns-in-Ok-eq0-clause-fits g c =
+    let now = c.read_more.new.self in
+    let there = stands_there g (goal.at.returns-in-Ok-eq0-clause-fits g c).In-Ok-None in (
+      subst (λ (z : List ℕ). FitsAt now.lost (codec_state c.find.new.codec z now.dst.items)) (sym (apart_unread (found_in c.at_end.result) now.src.items c.at_end.ensures.none))
+          (fits_more _ now.lost c.find.new.codec c.find.new.self.src.items now.src.items c.find.new.self.dst.items now.dst.items _ _ _ there.0 there.1 (ap (λ z. z.items) c.read_more.ensures.dst) c.in-Ok-eq0.ensures.ok),
+      c.find.ensures.kept.2 ∙ c.reads.invariant.so_far.limit,
+    )
+
+pub returns-in-Err-read_more-clause-fits : goal.returns-in-Err-read_more-clause-fits
+returns-in-Err-read_more-clause-fits g c =
+    let now = c.read_more.new.self in
+    let there = stands_there g (goal.at.returns-in-Err-read_more-clause-fits g c).In-Ok-None in (
+      rw (c.read_more.ensures.dst, c.in-Err-read_more.ensures.err, c.read_more.ensures.lost) there.1,
+      c.find.ensures.kept.2 ∙ c.reads.invariant.so_far.limit,
+    )

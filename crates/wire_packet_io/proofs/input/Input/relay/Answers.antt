@@ -1,8 +1,8 @@
-use Rattle.std.proofs.Common.{◌∙◌, [], ap, refl, None, Ok, Err, true, false}
+use Rattle.std.proofs.Common.{◌∙◌, [], ap, arith, refl, None, Ok, Err, true}
 use Rattle.wire_span.specs.Spans.{span_state}
 use Rattle.wire_packet_io.specs.Lending.{lender}
 use Rattle.wire_packet_io.specs.Relaying.{RelaysTo}
-use Rattle.wire_packet_io.proofs.CopyLemmas.{reads_start, reads_read, reads_end, reads_ended, reads_fail, so_far}
+use Rattle.wire_packet_io.proofs.CopyLemmas.{reads_start, reads_read, reads_end, reads_ended, reads_fail, read_nearer, waits_still, so_far}
 use Rattle.wire_packet_io.proofs.RelayLemmas.{relays_go, gone_none, gone_out, relay_stops_by, relay_unended, write_unended, relay_write_stops, relay_read_stops, relay_at_end}
 use Rattle.wire_packet_io.proofs.input.Input.relay.Given as given
 use Rattle.wire_packet_io.proofs.input.Input.relay.Goals as goal
@@ -97,3 +97,14 @@ pub returns-in-Err-read_more-clause-stops : goal.returns-in-Err-read_more-clause
 returns-in-Err-read_more-clause-stops g c =
     let waits = rw c.in-Ok-false.field-0-test at c.in-Ok-false.ensures.ends in
     relay_read_stops c.in-Err-read_more.error _ _ _ _ _ _ _ waits c.in-Err-read_more.ensures.err c.in-Err-read_more.ensures.failed
+
+pub at_copys_end-requires : goal.at_copys_end-requires
+at_copys_end-requires g c =
+    waits_still (span_state c.relay_unread.new.decoder) c.relay_unread.new.self.src.items c.read_more.new.self.src.items _ _ _
+    (rw c.in-Ok-false.field-0-test at c.in-Ok-false.ensures.ends) c.in-Ok-eq0.ensures.ok c.in-Ok-eq0.field-0-test
+
+pub reads-smaller : goal.reads-smaller
+reads-smaller g c =
+    read_nearer (span_state c.reads.decoder) (span_state c.relay_unread.new.decoder) c.reads.self.src.items c.relay_unread.new.self.src.items c.read_more.new.self.src.items _ _ _
+    ((rw c.in-Ok-false.field-0-test at c.in-Ok-false.ensures.fewer) refl) c.relay_unread.ensures.kept.0 (rw c.in-Ok-false.field-0-test at c.in-Ok-false.ensures.ends)
+    c.in-Ok-read_more.ensures.ok (omega (arith, c.in-Ok-read_more.field-0-test))

@@ -1,12 +1,13 @@
-use Rattle.std.proofs.Common.{◌≡◌, sym, subst, refl, IsNone}
+use Rattle.std.proofs.Common.{◌≡◌, sym, subst, refl, inr, IsNone, IsSome}
 use Rattle.wire_codec.specs.declared.codec.packet.skip.Skipped.{Skipped}
 use Rattle.wire_codec.specs.Skipping.{MaySkip, WouldStand}
 use Rattle.wire_packet_io.specs.Lending.{reading_state}
 use Rattle.wire_packet_io.specs.Skips.{SkipsNext, skipped_at, skipping}
+use Rattle.wire_packet_io.proofs.LendingLemmas.{lent_not, lent_some, of_none}
 use Rattle.wire_packet_io.proofs.SkipLemmas.{lent_none, may_skip, fresh_would, left_under_way, left_whole, not_under_way, nothing_is, can_fit}
 use Rattle.wire_packet_io.proofs.reader.PacketReader.skip_packet.Given as given
 use Rattle.wire_packet_io.proofs.reader.PacketReader.skip_packet.Goals as goal
-use Rattle.wire_packet_io.proofs.reader.PacketReader.skip_packet.Goals.{After-skipped_so_far-skipped, Else-is_under_way}
+use Rattle.wire_packet_io.proofs.reader.PacketReader.skip_packet.Goals.{Then-is_some, Else-is_some, After-skipped_so_far-skipped, Else-is_under_way}
 
 -- the packet may be skipped from here
 may : (g : given.Over) (c : After-skipped_so_far-skipped g) → IsNone c.args.self.now.lent → MaySkip c.skipped_so_far-skipped.result c.args.codec.now c.args.self.now.unread
@@ -69,3 +70,51 @@ returns-else-is_under_way-clause-can g c none =
     let clean = not_under_way out.new.skipped c.is_under_way.result c.is_under_way.ensures.1 c.if-is_under_way.false in
     can_fit out.new.self.skipped out.new.self.is_lost out.new.codec out.new.self.unread out.new.self.held out.ensures.whole out.ensures.held
     (left_whole out.result out.new.self.is_lost can.0 _ _ _ _ out.new.skipped out.new.codec out.new.self.unread (out.ensures.skips can.0 can.1) clean.0 clean.1 out.ensures.loses.1)
+
+-- a packet is lent
+lends : (g : given.Over) (c : Then-is_some g) → IsNone c.args.self.now.lent → ⊥
+lends g c none =
+    let now = c.self.inside in
+    lent_some now.lent now.input.src.items c.is_some.result c.is_some.ensures c.if-is_some.true (rw (← c.self.view_is) at none)
+
+pub returns-then-is_some-clause-lost : goal.returns-then-is_some-clause-lost
+returns-then-is_some-clause-lost g c none = absurd (lends g (goal.at.returns-then-is_some-clause-lost g c).Then-is_some none)
+
+pub returns-then-is_some-clause-goes_on : goal.returns-then-is_some-clause-goes_on
+returns-then-is_some-clause-goes_on g c none = absurd (lends g (goal.at.returns-then-is_some-clause-goes_on g c).Then-is_some none)
+
+pub returns-then-is_some-clause-under_way : goal.returns-then-is_some-clause-under_way
+returns-then-is_some-clause-under_way g c none = absurd (lends g (goal.at.returns-then-is_some-clause-under_way g c).Then-is_some none)
+
+pub returns-then-is_some-clause-ended : goal.returns-then-is_some-clause-ended
+returns-then-is_some-clause-ended g c none = absurd (lends g (goal.at.returns-then-is_some-clause-ended g c).Then-is_some none)
+
+pub returns-then-is_some-clause-loses : goal.returns-then-is_some-clause-loses
+returns-then-is_some-clause-loses g c none = absurd (lends g (goal.at.returns-then-is_some-clause-loses g c).Then-is_some none)
+
+pub returns-then-is_some-clause-can : goal.returns-then-is_some-clause-can
+returns-then-is_some-clause-can g c none = absurd (lends g (goal.at.returns-then-is_some-clause-can g c).Then-is_some none)
+
+-- none is
+unlent : (g : given.Over) (c : Else-is_some g) → IsSome c.args.self.now.lent → ⊥
+unlent g c some =
+    let now = c.self.inside in
+    lent_not now.lent now.input.src.items c.is_some.result c.is_some.ensures c.if-is_some.false (rw (← c.self.view_is) at some)
+
+pub returns-then-is_stuck-clause-lent : goal.returns-then-is_stuck-clause-lent
+returns-then-is_stuck-clause-lent g c some = absurd (unlent g (goal.at.returns-then-is_stuck-clause-lent g c).Else-is_some some)
+
+pub returns-then-is_stuck-clause-under_way : goal.returns-then-is_stuck-clause-under_way
+returns-then-is_stuck-clause-under_way g c none = of_none c.args.self.now.skipped _ (c.is_stuck.ensures.0 c.if-is_stuck.true).1
+
+pub returns-then-is_stuck-clause-loses : goal.returns-then-is_stuck-clause-loses
+returns-then-is_stuck-clause-loses g c none = (λ lost. inr refl, λ why. (c.is_stuck.ensures.0 c.if-is_stuck.true).0)
+
+pub returns-then-is_under_way-clause-lent : goal.returns-then-is_under_way-clause-lent
+returns-then-is_under_way-clause-lent g c some = absurd (unlent g (goal.at.returns-then-is_under_way-clause-lent g c).Else-is_some some)
+
+pub returns-else-is_under_way-clause-lent : goal.returns-else-is_under_way-clause-lent
+returns-else-is_under_way-clause-lent g c some = absurd (unlent g (goal.at.returns-else-is_under_way-clause-lent g c).Else-is_some some)
+
+pub returns-else-is_under_way-clause-under_way : goal.returns-else-is_under_way-clause-under_way
+returns-else-is_under_way-clause-under_way g c none = of_none c.go_on_skipping-result.new.self.skipped _ c.go_on_skipping-result.ensures.whole
