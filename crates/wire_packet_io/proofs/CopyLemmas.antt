@@ -60,6 +60,14 @@ nearer before after src rest n within some is fewer =
     let left : length rest ≡ length src - n = ap (λ (z : List ℕ). length z) is ∙ length-drop n src in
     (omega (arith, fewer, left, within), omega (arith, left, within, some))
 
+-- nothing is fewer than before
+pub fewer_none : (n : ℕ) → n ≤ n
+fewer_none n = omega arith
+
+-- one step more
+pub fewer_more : (a b c x y z : ℕ) → b + x ≤ a + y → c + y ≤ b + z → c + x ≤ a + z
+fewer_more a b c x y z h k = omega arith
+
 -- a header is to come, or more than its bytes
 here_four : (place : SpanPlace) → header_came place ≡ [] → 4 ≤ most_here place
 here_four (AtHeader came) uncut = let none = ap (λ (z : List ℕ). length z) uncut in omega arith

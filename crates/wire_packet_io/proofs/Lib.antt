@@ -6,3 +6,4 @@ pub mod RelayLemmas
 mod WholeLemmas
 mod LendingLemmas
 mod PlaceLemmas
+mod RoomLemmas

@@ -173,6 +173,9 @@ pub apart_unread : {A : Type 0} (found : Option (Found A)) (src : List ℕ) → 
 apart_unread (Some InFront) src h = absurd h
 apart_unread found src h = refl
 
+pub above_zero : (n : ℕ) → n ≢ 0 → 0 < n
+above_zero n some = omega arith
+
 pub length-zero : (bytes : List ℕ) → length bytes ≡ 0 → bytes ≡ []
 length-zero [] h = refl
 length-zero (byte ∷ bytes) h = absurd (omega arith)

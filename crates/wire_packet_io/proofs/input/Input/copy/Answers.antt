@@ -1,8 +1,9 @@
-use Rattle.std.proofs.Common.{◌∙◌, [], ap, arith, refl, None, Ok, Err, true}
+use Rattle.std.proofs.Common.{◌∙◌, [], ap, refl, None, Ok, Err, true}
 use Rattle.std.proofs.KnownBytes.{Appends-nil}
 use Rattle.wire_span.specs.Spans.{span_state}
 use Rattle.wire_packet_io.specs.Lending.{lender}
 use Rattle.wire_packet_io.specs.Copying.{CopiesTo}
+use Rattle.wire_packet_io.proofs.PacketIoLemmas.{above_zero}
 use Rattle.wire_packet_io.proofs.CopyLemmas.{copies_go, stops_by, stops_unended, reads_start, reads_read, reads_ended, reads_fail, at_end, read_nearer, read_stops, waits_still, so_far}
 use Rattle.wire_packet_io.proofs.input.Input.copy.Given as given
 use Rattle.wire_packet_io.proofs.input.Input.copy.Goals as goal
@@ -89,4 +90,4 @@ pub reads-smaller : goal.reads-smaller
 reads-smaller g c =
     read_nearer (span_state c.reads.decoder) (span_state c.copy_unread.new.decoder) c.reads.self.src.items c.copy_unread.new.self.src.items c.read_more.new.self.src.items _ _ _
     ((rw c.in-Ok-false.field-0-test at c.in-Ok-false.ensures.fewer) refl) c.copy_unread.ensures.kept.0 (rw c.in-Ok-false.field-0-test at c.in-Ok-false.ensures.ends)
-    c.in-Ok.ensures.ok (omega (arith, c.in-Ok.field-0-test))
+    c.in-Ok.ensures.ok (above_zero c.in-Ok.field-0 c.in-Ok.field-0-test.1)

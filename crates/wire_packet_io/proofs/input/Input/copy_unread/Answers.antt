@@ -1,7 +1,7 @@
-use Rattle.std.proofs.Common.{◌∙◌, [], arith, refl, true, false}
+use Rattle.std.proofs.Common.{◌∙◌, [], refl, true, false}
 use Rattle.std.proofs.KnownBytes.{Appends-nil}
 use Rattle.wire_span.specs.Spans.{span_state}
-use Rattle.wire_packet_io.proofs.CopyLemmas.{copied_none, copies_more, copies_kept}
+use Rattle.wire_packet_io.proofs.CopyLemmas.{copied_none, copies_more, copies_kept, fewer_none, fewer_more}
 use Rattle.wire_packet_io.proofs.input.Input.copy_unread.Goals as goal
 
 pub steps-init : goal.steps-init
@@ -9,7 +9,7 @@ steps-init g c = record {
   uncut = c.requires.uncut;
   limit = refl;
   rest = refl;
-  fewer = omega arith;
+  fewer = fewer_none _;
   goes = ([], copied_none _ _, Appends-nil _);
 }
 
@@ -26,7 +26,7 @@ steps-preserved g c =
       uncut = c.copy_front.ensures.kept.0;
       limit = c.copy_front.ensures.kept.1 ∙ inv.limit;
       rest = rw inv.rest at c.copy_front.ensures.kept.2;
-      fewer = let less = (step.2 refl).0 in omega (arith, inv.fewer, less);
+      fewer = fewer_more _ _ _ _ _ _ inv.fewer (step.2 refl).0;
       goes = copies_more false (span_state c.args.decoder.now) (span_state c.steps.decoder) (span_state c.copy_front.new.decoder) _ _ _ _ _ _ inv.limit inv.goes step.0;
     }
 

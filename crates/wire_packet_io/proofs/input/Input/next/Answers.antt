@@ -1,8 +1,8 @@
-use Rattle.std.proofs.Common.{◌≡◌, false, List, ℕ, sym, ap, ◌∙◌, subst, arith, None, Some, Ok, Err}
+use Rattle.std.proofs.Common.{◌≡◌, false, List, ℕ, sym, ap, ◌∙◌, subst, None, Some, Ok, Err}
 use Rattle.wire_codec.specs.Codec.{codec_state}
 use Rattle.wire_packet_io.specs.PacketIo.{FitsAt, NextPacket}
 use Rattle.wire_packet_io.specs.Lending.{answer_over, found_in, input_state}
-use Rattle.wire_packet_io.proofs.PacketIoLemmas.{Waited, starts, ends_by, found_ends, apart_unread, waited, ended, failed, goes_on, smaller}
+use Rattle.wire_packet_io.proofs.PacketIoLemmas.{above_zero, Waited, starts, ends_by, found_ends, apart_unread, waited, ended, failed, goes_on, smaller}
 use Rattle.wire_packet_io.proofs.LendingLemmas.{fits_more, takes_fits}
 use Rattle.wire_packet_io.proofs.input.Input.next.Given as given
 use Rattle.wire_packet_io.proofs.input.Input.next.Goals as goal
@@ -50,7 +50,7 @@ pub reads-smaller : goal.reads-smaller
 reads-smaller g c =
     smaller c.find.new.self.lost (input_state c.args.codec.now None c.args.self.now) (input_state c.reads.codec None c.reads.self) (input_state c.find.new.codec None c.find.new.self) _ _ _ _
     c.read_more.new.self.src.items c.read_more.new.self.dst.items _ _ _ c.reads.invariant.so_far (rw c.in-Ok-None.field-0-is at c.in-Ok-None.ensures.takes)
-    (ap (λ z. z.items) c.read_more.ensures.dst) c.in-Ok.ensures.ok (omega (arith, c.in-Ok.field-0-test))
+    (ap (λ z. z.items) c.read_more.ensures.dst) c.in-Ok.ensures.ok (above_zero c.in-Ok.field-0 c.in-Ok.field-0-test.1)
 
 pub reads-preserved : goal.reads-preserved
 reads-preserved g c =
@@ -59,7 +59,7 @@ reads-preserved g c =
     record {
       found = c.read_more.ensures.lost ∙ takes.1;
       so_far = goes_on _ (input_state c.find.new.codec None c.find.new.self) _ _ _ _ _ _ c.read_more.new.self.src.items c.read_more.new.self.dst.items _
-          (waits g (goal.at.reads-preserved g c).In-Ok-None) (ap (λ z. z.items) c.read_more.ensures.dst) read.ok (omega (arith, c.in-Ok.field-0-test)) read.small read.read;
+          (waits g (goal.at.reads-preserved g c).In-Ok-None) (ap (λ z. z.items) c.read_more.ensures.dst) read.ok (above_zero c.in-Ok.field-0 c.in-Ok.field-0-test.1) read.small read.read;
     }
 
 pub returns-in-Err-read_more-clause-next : goal.returns-in-Err-read_more-clause-next

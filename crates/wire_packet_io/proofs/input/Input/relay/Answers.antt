@@ -1,7 +1,8 @@
-use Rattle.std.proofs.Common.{◌∙◌, [], ap, arith, refl, None, Ok, Err, true}
+use Rattle.std.proofs.Common.{◌∙◌, [], ap, refl, None, Ok, Err, true}
 use Rattle.wire_span.specs.Spans.{span_state}
 use Rattle.wire_packet_io.specs.Lending.{lender}
 use Rattle.wire_packet_io.specs.Relaying.{RelaysTo}
+use Rattle.wire_packet_io.proofs.PacketIoLemmas.{above_zero}
 use Rattle.wire_packet_io.proofs.CopyLemmas.{reads_start, reads_read, reads_end, reads_ended, reads_fail, read_nearer, waits_still, so_far}
 use Rattle.wire_packet_io.proofs.RelayLemmas.{relays_go, gone_none, gone_out, relay_stops_by, relay_unended, write_unended, relay_write_stops, relay_read_stops, relay_at_end}
 use Rattle.wire_packet_io.proofs.input.Input.relay.Given as given
@@ -107,4 +108,4 @@ pub reads-smaller : goal.reads-smaller
 reads-smaller g c =
     read_nearer (span_state c.reads.decoder) (span_state c.relay_unread.new.decoder) c.reads.self.src.items c.relay_unread.new.self.src.items c.read_more.new.self.src.items _ _ _
     ((rw c.in-Ok-false.field-0-test at c.in-Ok-false.ensures.fewer) refl) c.relay_unread.ensures.kept.0 (rw c.in-Ok-false.field-0-test at c.in-Ok-false.ensures.ends)
-    c.in-Ok-read_more.ensures.ok (omega (arith, c.in-Ok-read_more.field-0-test))
+    c.in-Ok-read_more.ensures.ok (above_zero c.in-Ok-read_more.field-0 c.in-Ok-read_more.field-0-test.1)

@@ -1,5 +1,6 @@
-use Rattle.std.proofs.Common.{◌∙◌, arith, refl, true, false}
+use Rattle.std.proofs.Common.{◌∙◌, refl, true, false}
 use Rattle.wire_span.specs.Spans.{span_state}
+use Rattle.wire_packet_io.proofs.CopyLemmas.{fewer_none, fewer_more}
 use Rattle.wire_packet_io.proofs.RelayLemmas.{relays_none, relays_more, relays_kept}
 use Rattle.wire_packet_io.proofs.input.Input.relay_unread.Goals as goal
 
@@ -9,7 +10,7 @@ steps-init g c = record {
   limit = refl;
   rest = refl;
   writer = refl;
-  fewer = omega arith;
+  fewer = fewer_none _;
   goes = relays_none _ _ _ _;
 }
 
@@ -29,7 +30,7 @@ steps-preserved g c =
       limit = c.relay_front.ensures.kept.1 ∙ inv.limit;
       rest = rw inv.rest at c.relay_front.ensures.kept.2;
       writer = c.relay_front.ensures.kept.3 ∙ inv.writer;
-      fewer = let less = (step.2 refl).0 in omega (arith, inv.fewer, less);
+      fewer = fewer_more _ _ _ _ _ _ inv.fewer (step.2 refl).0;
       goes = relays_more false (span_state c.args.decoder.now) (span_state c.steps.decoder) (span_state c.relay_front.new.decoder) c.args.next_id.now c.steps.next_id c.relay_front.new.next_id _ _ _ _ _ _
           inv.limit inv.goes step.0;
     }

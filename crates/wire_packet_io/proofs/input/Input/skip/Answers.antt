@@ -1,8 +1,8 @@
-use Rattle.std.proofs.Common.{◌<◌, ◌∙◌, ℕ, sym, ap, refl, false, arith, subst, ◌++◌}
+use Rattle.std.proofs.Common.{◌<◌, ◌∙◌, ℕ, sym, ap, refl, false, subst, ◌++◌}
 use Rattle.wire_codec.specs.Codec.{CodecState}
 use Rattle.wire_codec.specs.Skipping.{WouldStand}
 use Rattle.wire_codec.specs.declared.codec.packet.skip.Skipped.{Skipped}
-use Rattle.wire_packet_io.proofs.PacketIoLemmas.{Waited, starts, to_go, waited, goes_on, smaller}
+use Rattle.wire_packet_io.proofs.PacketIoLemmas.{above_zero, Waited, starts, to_go, waited, goes_on, smaller}
 use Rattle.wire_packet_io.proofs.SkipLemmas.{skip_to_go, skip_to_go_is, would_stand_more, skip_found, skip_refused, skip_failed, skip_ended}
 use Rattle.wire_packet_io.proofs.input.Input.skip.Given as given
 use Rattle.wire_packet_io.proofs.input.Input.skip.Goals as goal
@@ -51,7 +51,7 @@ skips-smaller g c =
     let k = (rw c.in-Ok-false.field-0-test at c.in-Ok-false.ensures.skips) inv.0 inv.1 in
     let piece = c.in-Ok.ensures.ok in
     let stands = would_stand_more c.skip.new.skipped c.skip.new.self c.skip.new.src.items piece.0 c.read_more.new.self.src.items k.0 k.2 piece.2 in
-    let less = smaller false full inv.0 k.0 _ _ _ _ (k.0.unread ++ piece.0) k.0.held _ _ _ inv.2 (k.1, refl) refl (piece.0, piece.1, refl, piece.3) (omega (arith, c.in-Ok.field-0-test)) in
+    let less = smaller false full inv.0 k.0 _ _ _ _ (k.0.unread ++ piece.0) k.0.held _ _ _ inv.2 (k.1, refl) refl (piece.0, piece.1, refl, piece.3) (above_zero c.in-Ok.field-0 c.in-Ok.field-0-test.1) in
     subst (λ (n : ℕ). n < skip_to_go c.args.codec.now.max_allowed_packet c.args.skipped.now.held c.skips.skipped c.skips.self.src.items)
     (skip_to_go_is full (record k.0 { unread = k.0.unread ++ piece.0 }) c.args.skipped.now c.skip.new.skipped c.args.codec.now c.skip.new.self c.args.self.now.src.items c.read_more.new.self.src.items w stands)
     (subst (λ (n : ℕ). to_go full k.0.held (k.0.unread ++ piece.0) < n)
@@ -68,7 +68,7 @@ skips-preserved g c = record {
       let piece = read.ok in (
         record k.0 { unread = k.0.unread ++ piece.0 },
         would_stand_more c.skip.new.skipped c.skip.new.self c.skip.new.src.items piece.0 c.read_more.new.self.src.items k.0 k.1 piece.2,
-        goes_on full k.0 _ _ _ _ _ _ (k.0.unread ++ piece.0) k.0.held _ k.2 refl (piece.0, piece.1, refl, piece.3) (omega (arith, c.in-Ok.field-0-test)) read.small read.read,
+        goes_on full k.0 _ _ _ _ _ _ (k.0.unread ++ piece.0) k.0.held _ k.2 refl (piece.0, piece.1, refl, piece.3) (above_zero c.in-Ok.field-0 c.in-Ok.field-0-test.1) read.small read.read,
       );
 }
 

@@ -1,10 +1,14 @@
-use Rattle.std.proofs.Common.{◌∙◌, [], ap, refl, subst, sym, IsNone, Ok, Err, true}
+use Rattle.std.proofs.Common.{◌∙◌, [], ap, refl, subst, sym, IsNone, Ok, Err, true, not, inr}
+use Rattle.wire_packet_io.specs.declared.error.PacketIoError.TheVariants.{PacketsOutOfSync}
+use Rattle.wire_packet_io.proofs.PlaceLemmas.{ended_loses, has_no_place}
 use Rattle.std.proofs.KnownBytes.{Appends-nil}
 use Rattle.wire_span.specs.Spans.{span_state}
-use Rattle.wire_packet_io.specs.Copying.{copied_to}
+use Rattle.wire_packet_io.specs.Copying.{copied_to, HasPlace}
 use Rattle.wire_packet_io.proofs.CopyLemmas.{can_after, copies_before, copies_go, reads_start, stops_unended}
 use Rattle.wire_packet_io.proofs.WholeLemmas.{limit_is}
+use Rattle.wire_packet_io.proofs.reader.PacketReader.copy_packet.Given as given
 use Rattle.wire_packet_io.proofs.reader.PacketReader.copy_packet.Goals as goal
+use Rattle.wire_packet_io.proofs.reader.PacketReader.copy_packet.Goals.{Then-is_none}
 
 pub returns-in-Ok-true-clause-copies : goal.returns-in-Ok-true-clause-copies
 returns-in-Ok-true-clause-copies g c place =
@@ -49,3 +53,27 @@ returns-clause-can g c =
     can_after now.copied now.is_lost c.keep_place.new.codec now.unread now.held now.lent went.new.decoder
     (subst (λ z. IsNone z) (sym (ap (λ z. z.lent) kept.rest)) went.ensures.none) (ap (λ z. z.held) kept.rest ∙ went.ensures.held)
     kept.header kept.kept went.ensures.uncut
+
+-- a lost reader has no place
+unplaced : (g : given.Over) (c : Then-is_none g) → HasPlace c.args.self.now → ⊥
+unplaced g c place =
+    has_no_place c.self.inside.copied c.self.inside.input.lost (c.is_none.ensures ∙ ap not c.if-is_none.true) c.if-self.true (rw (← c.self.view_is) at place)
+
+pub returns-then-is_none-clause-copies : goal.returns-then-is_none-clause-copies
+returns-then-is_none-clause-copies g c place = absurd (unplaced g (goal.at.returns-then-is_none-clause-copies g c).Then-is_none place)
+
+pub returns-then-is_none-clause-stops : goal.returns-then-is_none-clause-stops
+returns-then-is_none-clause-stops g c place = absurd (unplaced g (goal.at.returns-then-is_none-clause-stops g c).Then-is_none place)
+
+pub returns-then-is_none-clause-loses : goal.returns-then-is_none-clause-loses
+returns-then-is_none-clause-loses g c = (λ lost. inr refl, λ why. rw (← c.self.view_is) c.if-self.true)
+
+pub returns-in-Ok-true-clause-loses : goal.returns-in-Ok-true-clause-loses
+returns-in-Ok-true-clause-loses g c =
+    let ended = c.in-Ok-true.ensures.ended c.in-Ok-true.field-0-test in
+    ended_loses c.copy_begin.new.self.is_lost c.copy_begin.new.self.copied PacketsOutOfSync ended.0 ended.1
+
+pub keep_place-requires : goal.keep_place-requires
+keep_place-requires g c = record {
+  limit = c.go_on_copying-result.ensures.limit ∙ ap (λ s. s.limit) c.copied_so_far-decoder.ensures ∙ limit_is c.copy_begin.new.self.copied c.copy_begin.new.codec;
+}

@@ -1,14 +1,16 @@
-use Rattle.std.proofs.Common.{◌≡◌, [], IsNone, subst, ◌∙◌, ap, ap₂, refl, sym, inl, inr, not}
+use Rattle.std.proofs.Common.{◌≡◌, [], IsNone, subst, ◌∙◌, ap, ap₂, refl, sym, inl, inr, not, rules, Err, IsTrue}
+use Rattle.std.proofs.lemmas.Bool.{false≢true}
+use Rattle.wire_packet_io.specs.declared.error.PacketIoError.TheVariants.{PacketsOutOfSync}
 use Rattle.wire_codec.specs.Codec.{Stands}
 use Rattle.wire_span.specs.Spans.{header_came, span_state}
 use Rattle.wire_packet_io.specs.Lending.{reading_state}
 use Rattle.wire_packet_io.specs.Copying.{copied_to, HasPlace}
 use Rattle.wire_packet_io.proofs.CopyLemmas.{can_after}
 use Rattle.wire_packet_io.proofs.WholeLemmas.{limit_is}
-use Rattle.wire_packet_io.proofs.PlaceLemmas.{has_no_place, nothing_held, none_same, relays_as}
+use Rattle.wire_packet_io.proofs.PlaceLemmas.{loses_by, ended_by, relay_between, has_no_place, nothing_held, none_same, relays_as}
 use Rattle.wire_packet_io.proofs.reader.PacketReader.relay_packet.Given as given
 use Rattle.wire_packet_io.proofs.reader.PacketReader.relay_packet.Goals as goal
-use Rattle.wire_packet_io.proofs.reader.PacketReader.relay_packet.Goals.{Then-is_none, After-copied_so_far-decoder, else-self-via-then-self+else-is_none, else-self-via-else-self, else-is_none-2-via-then-is_none-2+else-relay_whole, else-is_none-2-via-else-is_none-2}
+use Rattle.wire_packet_io.proofs.reader.PacketReader.relay_packet.Goals.{Then-is_none, After-copied_so_far-decoder, Joined-matches, in-Err-PacketsOutOfSync, in_default, in_default-2, else-self-via-then-self+else-is_none, else-self-via-else-self, else-is_none-2-via-then-is_none-2+else-relay_whole, else-is_none-2-via-else-is_none-2}
 
 -- a lost reader has no place
 unplaced : (g : given.Over) (c : Then-is_none g) → HasPlace c.args.self.now → ⊥
@@ -93,3 +95,26 @@ returns-clause-can g c =
     can_after now.copied now.is_lost c.keep_place.new.codec now.unread now.held now.lent went.new.decoder
     (subst (λ z. IsNone z) (sym (ap (λ z. z.lent) kept.rest)) went.ensures.none) (ap (λ z. z.held) kept.rest ∙ went.ensures.held)
     kept.header kept.kept went.ensures.uncut
+
+-- whether the call says that it is lost
+says : (g : given.Over) (c : Joined-matches g) → (IsTrue c.match-matches.matches → c.go_on_relaying-result.result ≡ Err PacketsOutOfSync)
+    × (c.go_on_relaying-result.result ≡ Err PacketsOutOfSync → IsTrue c.match-matches.matches)
+says g c = elim c.match-matches.branch [
+  | in-Err-PacketsOutOfSync w ↦ (λ t. search rules, λ e. w.matches-is)
+  | in_default w ↦ (λ t. absurd (false≢true (sym w.matches-is ∙ t)), λ e. search rules)
+  | in_default-2 w ↦ (λ t. absurd (false≢true (sym w.matches-is ∙ t)), λ e. search rules)
+]
+
+pub returns-clause-loses : goal.returns-clause-loses
+returns-clause-loses g c =
+    loses_by c.keep_place.new.self.is_lost c.match-matches.matches c.keep_place.new.self.copied (c.go_on_relaying-result.result ≡ Err PacketsOutOfSync)
+    c.keep_place.ensures.lost (says g (goal.at.returns-clause-loses g c).Joined-matches)
+
+pub returns-clause-ended : goal.returns-clause-ended
+returns-clause-ended g c =
+    let went = c.go_on_relaying-result in
+    let kept = c.keep_place.ensures in
+    let now = c.keep_place.new.self in
+    ended_by went.result now.is_lost c.match-matches.matches now.copied PacketsOutOfSync
+    (relay_between went.result (span_state went.new.decoder) _ _ _ (IsNone now.copied) went.ensures.stops kept.between.1)
+    kept.lost.0 (says g (goal.at.returns-clause-ended g c).Joined-matches).0
