@@ -7,3 +7,4 @@ pub mod ReframeLemmas
 pub mod SenderLemmas
 pub mod PacketLineLemmas
 pub mod PartLemmas
+pub mod RoomLemmas

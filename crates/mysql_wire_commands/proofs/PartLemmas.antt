@@ -1,5 +1,5 @@
 -- One part of a piece after another.
-use Rattle.std.proofs.Common.{◌≡◌, ◌≢◌, ℕ, ◌+◌, ◌<◌, ◌≤◌, List, [], ◌∷◌, ◌++◌, length, take, get_or, refl, sym, ap, ap₂, ◌∙◌, subst, arith, append_assoc, append-nil, length-append, Some}
+use Rattle.std.proofs.Common.{◌≡◌, ℕ, ◌+◌, ◌≤◌, List, ◌++◌, length, refl, sym, ap, ap₂, ◌∙◌, subst, arith, append_assoc, length-append}
 use Rattle.std.proofs.lemmas.Grind.{flat_map-append}
 use Rattle.std.proofs.lemmas.List.{get_or_append_left, take-append-le}
 use Rattle.wire_codec.specs.Framing.{front, id_after, stream}
@@ -11,7 +11,7 @@ use Rattle.wire_codec.specs.Laws.{JoinedLimitedRuns, FramedLength}
 use Rattle.mysql_wire_commands.specs.declared.unframe.Verdict.{Verdict}
 use Rattle.mysql_wire_commands.specs.declared.unframe.Verdict.TheVariants as verdict
 use Rattle.mysql_wire_commands.specs.Texts.{payload_line}
-use Rattle.mysql_wire_commands.specs.Unframe.{packet_lines, TakesLines, TakesPiece, TakesUnder}
+use Rattle.mysql_wire_commands.specs.Unframe.{TakesPiece, TakesUnder}
 use Rattle.mysql_wire_commands.proofs.UnframeLemmas.{id_after-append, id_after_small, open_at_id, place_after-append, length-stream}
 
 -- the packet after these payloads began with the id after them

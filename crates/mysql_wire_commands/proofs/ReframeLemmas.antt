@@ -1,5 +1,5 @@
 -- One packet after another.
-use Rattle.std.proofs.Common.{◌≡◌, ◌≢◌, ℕ, ◌≤◌, List, [], ◌∷◌, ◌++◌, length, refl, sym, ap, ◌∙◌, subst, arith, append_assoc, append-nil, Option, None, Some, IsSome, Ok, Err, Bool, true, ne_eqb, if◌then◌else◌, Result, inl, inr, zero-le}
+use Rattle.std.proofs.Common.{◌≡◌, ◌≢◌, ℕ, ◌≤◌, ◌⊎◌, List, [], ◌∷◌, ◌++◌, length, refl, sym, ap, ◌∙◌, subst, arith, append_assoc, append-nil, Option, None, Some, IsSome, Ok, Err, Bool, true, ne_eqb, if◌then◌else◌, Result, inl, inr, zero-le}
 use Rattle.std.proofs.lemmas.List.Elements.{All-nil}
 use Rattle.wire_codec.specs.Framing.{max_payload, framing, front, next_id, id_after, stream}
 use Rattle.wire_codec.specs.Delivery.{Continues, Ending, Waiting, TooLarge, OutOfSync, Delivers, Splits}
@@ -207,3 +207,12 @@ some_lent (Some packet) is = (packet, refl)
 pub none_lent : (lent : Option (List ℕ)) → (IsSome lent → ⊥) → lent ≡ None
 none_lent None is = refl
 none_lent (Some packet) is = absurd (is refl)
+
+-- the input has not ended there
+pub at_four : (P : Type 0) → ◌≡◌ {A = ℕ} 4 0 ⊎ ◌≡◌ {A = ℕ} 4 3 → P
+at_four P (inl e) = absurd (omega (arith, e))
+at_four P (inr e) = absurd (omega (arith, e))
+
+pub at_five : (P : Type 0) → ◌≡◌ {A = ℕ} 5 0 ⊎ ◌≡◌ {A = ℕ} 5 3 → P
+at_five P (inl e) = absurd (omega (arith, e))
+at_five P (inr e) = absurd (omega (arith, e))

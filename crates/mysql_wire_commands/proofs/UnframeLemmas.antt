@@ -1,5 +1,5 @@
 -- One piece after another.
-use Rattle.std.proofs.Common.{◌≡◌, ℕ, ◌+◌, ◌*◌, ◌/◌, ◌%◌, ◌<◌, ◌≤◌, ◌-◌, ◌⊎◌, List, [], ◌∷◌, ◌++◌, length, take, drop, refl, sym, ap, ◌∙◌, subst, arith, inl, inr, append_assoc, append-nil, length-append, drop_of_length-le, take_all, Option, Some, None, Ok, Err, OnOk, Result, Bool, true, false, if◌then◌else◌, ◌==◌, nat_lt, Bor, ap₂, IsFalse}
+use Rattle.std.proofs.Common.{◌≡◌, ℕ, ◌+◌, ◌*◌, ◌/◌, ◌%◌, ◌<◌, ◌≤◌, ◌-◌, ◌⊎◌, List, [], ◌∷◌, ◌++◌, length, take, drop, refl, sym, ap, ◌∙◌, subst, arith, inl, inr, append_assoc, append-nil, length-append, length-take, drop_of_length-le, take_all, Option, Some, None, Ok, Err, OnOk, Result, Bool, true, false, if◌then◌else◌, ◌==◌, nat_lt, Bor, ap₂, IsFalse}
 use Rattle.std.proofs.Math.Seq.{take-nil}
 use Rattle.std.proofs.lemmas.Bool.{cases_lt, lt-ltb, le-ltb}
 use Rattle.std.proofs.lemmas.Grind.{flat_map-append}
@@ -402,3 +402,15 @@ unframe_alike equal nothing limit answer unread left written now over =
       text = λ promised. let told = ends.text promised in (told.0, told.1, told.2, unframed_alike equal nothing limit told.0 (exit_status_of answer) told.1 told.3, told.4);
       all_read = ends.all_read;
     }
+
+-- no more bytes are taken than were asked for
+pub take_short : (n most : ℕ) (bytes : List ℕ) → n ≤ most → length (take n bytes) ≤ most
+take_short n most bytes h = let len = length-take n bytes in omega arith
+
+-- nor any past the place where the limit changes
+pub take_apart : (n most ahead : ℕ) (bytes : List ℕ) → n ≤ most → (0 < ahead → most ≤ ahead) → 0 < ahead → length (take n bytes) ≤ ahead
+take_apart n most ahead bytes h apart some = let len = length-take n bytes in let k = apart some in omega arith
+
+-- what is ahead after them
+pub nothing_behind : (n : ℕ) → n ≡ n - 0
+nothing_behind n = omega arith

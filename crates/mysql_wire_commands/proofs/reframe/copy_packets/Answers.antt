@@ -1,9 +1,10 @@
-use Rattle.std.proofs.Common.{rules, ◌≡◌, ℕ, List, [], ◌++◌, ◌∙◌, refl, ap}
+use Rattle.std.proofs.Common.{◌≡◌, inl, inr, sym, ℕ, List, [], ◌++◌, ◌∙◌, refl, ap}
 use Rattle.std.proofs.KnownBytes.{Consumes-nil, Consumes-trans}
+use Rattle.std.proofs.lemmas.Bool.{false≢true}
 use Rattle.wire_codec.specs.Codec.{codec_state, expected_id}
 use Rattle.wire_codec.specs.Framing.{framing}
 use Rattle.wire_packet_io.specs.PacketIo.{joined_reads}
-use Rattle.mysql_wire_commands.proofs.ReframeLemmas.{reframing_start, reframing_more, reframed_whole, reframed_short, reframed_too_large, reframed_out_of_sync, none_written, sent_on, passed_on, all_sent, ended_with, some_lent, none_lent}
+use Rattle.mysql_wire_commands.proofs.ReframeLemmas.{reframing_start, reframing_more, reframed_whole, reframed_short, reframed_too_large, reframed_out_of_sync, none_written, sent_on, passed_on, all_sent, ended_with, some_lent, none_lent, at_four, at_five}
 use Rattle.mysql_wire_commands.proofs.reframe.copy_packets.Goals as goal
 
 pub packets-init : goal.packets-init
@@ -30,7 +31,7 @@ packets-preserved g c =
     let old = c.packets.invariant.so_far in
     let before = codec_state c.packets.decoder c.packets.from.unread c.packets.from.held in
     let after = codec_state c.fill_packet.new.codec c.fill_packet.new.self.unread c.fill_packet.new.self.held in
-    let lent = some_lent c.fill_packet.new.self.lent (search rules) in
+    let lent = some_lent c.fill_packet.new.self.lent (c.in-Ok-true.ensures.lends.0.0 c.in-Ok-true.field-0-test) in
     let packet : List ℕ = lent.0 in
     let came = (rw lent.1 at c.in-Ok-true.ensures.fills) c.packets.invariant.found c.packets.invariant.lent in
     let more : List ℕ = joined_reads came.reads in
@@ -60,12 +61,12 @@ returns-in-Ok-false g c =
     let old = c.packets.invariant.so_far in
     let before = codec_state c.packets.decoder c.packets.from.unread c.packets.from.held in
     let after = codec_state c.fill_packet.new.codec c.fill_packet.new.self.unread c.fill_packet.new.self.held in
-    let none = none_lent c.fill_packet.new.self.lent (search rules) in
+    let none = none_lent c.fill_packet.new.self.lent (λ some. false≢true (sym c.in-Ok-false.field-0-test ∙ c.in-Ok-false.ensures.lends.0.1 some)) in
     let came = (rw none at c.in-Ok-false.ensures.fills) c.packets.invariant.found c.packets.invariant.lent in
     let more : List ℕ = joined_reads came.reads in
     let sent = sent_on old.1 c.packets.to.pending.items c.send.new.self.pending.items _ _ _ old.4 c.in_ok-send.ensures.sent in
     ended_with c.end.result 0 c.args.limit _ _ _ _ _ c.end.ensures (λ written. record {
-      cases = search rules;
+      cases = inl refl;
       text = λ _. (
         old.0 ++ more,
         old.1,
@@ -85,7 +86,7 @@ returns-in-Err-UnexpectedEnd g c =
     let more : List ℕ = joined_reads came.reads in
     let sent = sent_on old.1 c.packets.to.pending.items c.send.new.self.pending.items _ _ _ old.4 c.in_ok-send.ensures.sent in
     ended_with c.end-in-Err-UnexpectedEnd.result 3 c.args.limit _ _ _ _ _ c.end-in-Err-UnexpectedEnd.ensures (λ written. record {
-      cases = search rules;
+      cases = inr (inr (inl refl));
       text = λ _. (
         old.0 ++ more,
         old.1,
@@ -105,7 +106,7 @@ returns-in-Err-PacketTooLarge g c =
     let more : List ℕ = joined_reads came.reads in
     let sent = sent_on old.1 c.packets.to.pending.items c.send.new.self.pending.items _ _ _ old.4 c.in_ok-send.ensures.sent in
     ended_with c.end-in-Err-PacketTooLarge.result 4 c.args.limit _ _ _ _ _ c.end-in-Err-PacketTooLarge.ensures (λ written. record {
-      cases = search rules;
+      cases = inr (inr (inr (inl refl)));
       text = λ _. (
         old.0 ++ more,
         old.1,
@@ -113,7 +114,7 @@ returns-in-Err-PacketTooLarge g c =
         reframed_too_large c.joined_runs.ensures c.args.limit before (expected_id c.packets.encoder) old.0 old.1 more _ _ old.2 came.answers.0,
         all_sent old.1 c.send.new.self.pending.items _ _ _ sent written,
       );
-      all_read = search rules;
+      all_read = at_four _;
     })
 
 pub returns-in-Err-PacketsOutOfSync : goal.returns-in-Err-PacketsOutOfSync
@@ -125,7 +126,7 @@ returns-in-Err-PacketsOutOfSync g c =
     let more : List ℕ = joined_reads came.reads in
     let sent = sent_on old.1 c.packets.to.pending.items c.send.new.self.pending.items _ _ _ old.4 c.in_ok-send.ensures.sent in
     ended_with c.end-in-Err-PacketsOutOfSync.result 5 c.args.limit _ _ _ _ _ c.end-in-Err-PacketsOutOfSync.ensures (λ written. record {
-      cases = search rules;
+      cases = inr (inr (inr (inr (inl refl))));
       text = λ _. (
         old.0 ++ more,
         old.1,
@@ -133,5 +134,5 @@ returns-in-Err-PacketsOutOfSync g c =
         reframed_out_of_sync c.joined_runs.ensures c.args.limit before (expected_id c.packets.encoder) old.0 old.1 more came.answers.0 came.answers.1 old.2 came.answers.2,
         all_sent old.1 c.send.new.self.pending.items _ _ _ sent written,
       );
-      all_read = search rules;
+      all_read = at_five _;
     })

@@ -1,11 +1,10 @@
-use Rattle.std.proofs.Common.{rules, ◌≡◌, ℕ, Option, List, [], ◌++◌, length, refl, sym, ap, ap₂, ◌∙◌, subst, append-nil, append_assoc, take, drop, take-append-drop}
+use Rattle.std.proofs.Common.{rules, ◌≡◌, ℕ, Option, List, [], ◌++◌, refl, sym, ap, ap₂, ◌∙◌, subst, append-nil, append_assoc, take, drop, take-append-drop}
 use Rattle.std.proofs.KnownBytes.{Appends-nil, Appends-trans}
 use Rattle.std.specs.Io.KnownBytes.{Appends}
 use Rattle.wire_codec.specs.Codec.{CodecState}
 use Rattle.mysql_wire_commands.specs.declared.unframe.Verdict.{Verdict}
 use Rattle.mysql_wire_commands.specs.declared.unframe.Verdict.TheVariants as verdict
-use Rattle.mysql_wire_commands.specs.declared.unframe.Run.{Run}
-use Rattle.mysql_wire_commands.specs.Unframe.{TakesPiece, WritesPart, WritesPiece, next_limit, run_state, verdict_line}
+use Rattle.mysql_wire_commands.specs.Unframe.{TakesPiece, next_limit, run_state, verdict_line}
 use Rattle.mysql_wire_commands.proofs.PacketLineLemmas.{no_bytes}
 use Rattle.mysql_wire_commands.proofs.PartLemmas.{parts_join, too_large_part, out_of_sync_part}
 use Rattle.mysql_wire_commands.proofs.unframe.take_piece.Goals as goal

@@ -1,4 +1,4 @@
-use Rattle.std.proofs.Common.{rules, ◌+◌, ◌≡◌, ℕ, ◌<◌, ◌≤◌, List, [], ◌++◌, take, length, length-take, refl, sym, ap₂, ◌∙◌, arith, append-nil, length-append, subst, if◌then◌else◌, nat_lt, Result, Ok, Err, OnOk, IfOk}
+use Rattle.std.proofs.Common.{inl, inr, ◌+◌, ◌≡◌, ℕ, ◌<◌, ◌≤◌, List, [], ◌++◌, take, length, length-take, refl, sym, ap₂, ◌∙◌, arith, append-nil, length-append, subst, if◌then◌else◌, nat_lt, Result, Ok, Err, OnOk, IfOk}
 use Rattle.std.proofs.KnownBytes.{Appends-nil, Appends-trans, Consumes-nil, Consumes-trans}
 use Rattle.std.specs.Io.KnownBytes.{Consumes}
 use Rattle.wire_codec.specs.Delivery.{Waiting}
@@ -10,7 +10,8 @@ use Rattle.mysql_wire_commands.specs.declared.traced_read.OneRead.{OneRead}
 use Rattle.mysql_wire_commands.specs.Reads.{AsksUpTo}
 use Rattle.mysql_wire_commands.specs.Unframe.{ending_status, StopsOver, UnframeEndsOver, place_limits, run_state, next_limit, bytes_left, ending_line, UnframedUnder}
 use Rattle.mysql_wire_commands.proofs.ReadLemmas.{Asking, asking_start, asking_more, asked_more, Waited, waited_start, waited_more, waited}
-use Rattle.mysql_wire_commands.proofs.UnframeLemmas.{unframing_start, limits_here, unframing_more, unframing_ended, unframing_too_large, unframing_out_of_sync, rest_cases}
+use Rattle.mysql_wire_commands.proofs.UnframeLemmas.{unframing_start, limits_here, unframing_more, unframing_ended, unframing_too_large, unframing_out_of_sync, rest_cases, nothing_behind, take_apart}
+use Rattle.mysql_wire_commands.proofs.ReframeLemmas.{at_four, at_five}
 use Rattle.mysql_wire_commands.proofs.unframe.take_pieces.Given as given
 use Rattle.mysql_wire_commands.proofs.unframe.take_pieces.Goals as goal
 use Rattle.mysql_wire_commands.proofs.unframe.take_pieces.Goals.{In_ok-count}
@@ -27,7 +28,7 @@ reads-init g c =
         [],
         [],
         λ limits known. unframing_start c.empty_goes_on.ensures limits c.args.run.now.ahead (run_state c.args.run.now) new.id new.header new.nothing_unread new.nothing_held,
-        new.ahead_is ∙ omega arith,
+        nothing_behind c.args.run.now.ahead,
         Consumes-nil _,
         Appends-nil _,
         asking_start c.args.step c.args.run.now.ahead _,
@@ -42,8 +43,7 @@ reads-preserved g c =
     let before = run_state c.reads.run in
     let piece : List ℕ = take c.in_ok-count.count c.deref.result.now in
     let read = rw (sym c.deref.ensures.value) at c.in_ok-count.ensures.bytes in
-    let short : length piece ≤ c.next_read.result = let len = length-take c.in_ok-count.count c.deref.result.now in omega (arith, len, c.in_ok-count.ensures.count) in
-    let apart : 0 < ahead → length piece ≤ ahead = λ some. (let most = c.next_read.ensures.apart some in omega arith) in
+    let apart : 0 < ahead → length piece ≤ ahead = take_apart c.in_ok-count.count c.next_read.result ahead c.deref.result.now c.in_ok-count.ensures.count c.next_read.ensures.apart in
     let takes = rw c.in-Waits.is at c.in_ok-take_piece.ensures.takes in
     let here : next_limit c.reads.run ≡ (if nat_lt 0 ahead then c.args.run.now.limit else c.args.run.now.later) =
     ap₂ (λ (a b : ℕ). if nat_lt 0 ahead then a else b) c.reads.invariant.limit c.reads.invariant.later in
@@ -85,8 +85,7 @@ returns-in-TooLarge-clause-ended g c limits known =
     let before = run_state c.reads.run in
     let piece : List ℕ = take c.in_ok-count.count c.deref.result.now in
     let read = rw (sym c.deref.ensures.value) at c.in_ok-count.ensures.bytes in
-    let short : length piece ≤ c.next_read.result = let len = length-take c.in_ok-count.count c.deref.result.now in omega (arith, len, c.in_ok-count.ensures.count) in
-    let apart : 0 < ahead → length piece ≤ ahead = λ some. (let most = c.next_read.ensures.apart some in omega arith) in
+    let apart : 0 < ahead → length piece ≤ ahead = take_apart c.in_ok-count.count c.next_read.result ahead c.deref.result.now c.in_ok-count.ensures.count c.next_read.ensures.apart in
     let takes = rw c.in-TooLarge.is at c.in_ok-take_piece.ensures.takes in
     let here : next_limit c.reads.run ≡ (if nat_lt 0 ahead then c.args.run.now.limit else c.args.run.now.later) =
     ap₂ (λ (a b : ℕ). if nat_lt 0 ahead then a else b) c.reads.invariant.limit c.reads.invariant.later in
@@ -95,7 +94,7 @@ returns-in-TooLarge-clause-ended g c limits known =
     (limits_here c.framed_length.ensures limits c.args.run.now.limit c.args.run.now.later c.args.run.now.ahead ahead (next_limit c.reads.run) before old.0 old.1 piece u known old.3 here apart) in
     let ended = unframing_too_large c.joined_limited_runs.ensures limits c.args.run.now.ahead ahead before (run_state c.take_piece.new.run) old.0 old.1 piece takes.0 u old.3 apart took in
     record {
-      cases = search rules;
+      cases = inr (inr (inr (inl refl)));
       text = λ _. (
         old.0 ++ piece,
         _,
@@ -104,7 +103,7 @@ returns-in-TooLarge-clause-ended g c limits known =
         Appends-trans _ _ _ old.1 _ old.5 takes.2,
         ended.1,
       );
-      all_read = λ h. absurd (omega (arith, h));
+      all_read = at_four _;
     }
 
 pub returns-in-OutOfSync-clause-ended : goal.returns-in-OutOfSync-clause-ended
@@ -114,8 +113,7 @@ returns-in-OutOfSync-clause-ended g c limits known =
     let before = run_state c.reads.run in
     let piece : List ℕ = take c.in_ok-count.count c.deref.result.now in
     let read = rw (sym c.deref.ensures.value) at c.in_ok-count.ensures.bytes in
-    let short : length piece ≤ c.next_read.result = let len = length-take c.in_ok-count.count c.deref.result.now in omega (arith, len, c.in_ok-count.ensures.count) in
-    let apart : 0 < ahead → length piece ≤ ahead = λ some. (let most = c.next_read.ensures.apart some in omega arith) in
+    let apart : 0 < ahead → length piece ≤ ahead = take_apart c.in_ok-count.count c.next_read.result ahead c.deref.result.now c.in_ok-count.ensures.count c.next_read.ensures.apart in
     let takes = rw c.in-OutOfSync.is at c.in_ok-take_piece.ensures.takes in
     let here : next_limit c.reads.run ≡ (if nat_lt 0 ahead then c.args.run.now.limit else c.args.run.now.later) =
     ap₂ (λ (a b : ℕ). if nat_lt 0 ahead then a else b) c.reads.invariant.limit c.reads.invariant.later in
@@ -124,7 +122,7 @@ returns-in-OutOfSync-clause-ended g c limits known =
     (limits_here c.framed_length.ensures limits c.args.run.now.limit c.args.run.now.later c.args.run.now.ahead ahead (next_limit c.reads.run) before old.0 old.1 piece u known old.3 here apart) in
     let ended = unframing_out_of_sync c.joined_limited_runs.ensures limits c.args.run.now.ahead ahead before (run_state c.take_piece.new.run) old.0 old.1 piece takes.0 u old.3 apart took in
     record {
-      cases = search rules;
+      cases = inr (inr (inr (inr (inl refl))));
       text = λ _. (
         old.0 ++ piece,
         _,
@@ -133,7 +131,7 @@ returns-in-OutOfSync-clause-ended g c limits known =
         Appends-trans _ _ _ old.1 _ old.5 takes.2,
         ended.1,
       );
-      all_read = λ h. absurd (omega (arith, h));
+      all_read = at_five _;
     }
 
 -- an answer that is no status promises nothing
