@@ -1,12 +1,15 @@
 -- Bytes that are fed in pieces.
-use Rattle.std.proofs.Common.{◌≡◌, ℕ, ℤ, ◌+◌, ◌-◌, ◌%◌, ◌<◌, ◌≤◌, List, [], ◌∷◌, ◌++◌, length, length-drop, take, take_all, drop, refl, sym, ap, ◌∙◌, subst, arith, append-nil, inl, inr, ◌==◌, eqb-true, Option, None, Ok, Bool, true}
+use Rattle.std.proofs.Common.{◌≡◌, ℕ, ℤ, ◌+◌, ◌-◌, ◌%◌, ◌<◌, ◌≤◌, List, [], ◌∷◌, ◌++◌, length, length-drop, take, take_all, drop, refl, sym, ap, ◌∙◌, subst, arith, append-nil, inl, inr, ◌==◌, eqb-true, Option, None, Some, IsSome, Ok, Bool, true}
 use Rattle.std.proofs.Math.Seq.{take-add}
 use Rattle.std.proofs.lemmas.List.{length-take-le, take_more_set, drop-set-lt, drop-drop}
 use Rattle.std.proofs.Math.ListN.{set}
 use Rattle.std.proofs.lemmas.Grind.{flat_map-append}
 use Rattle.std.specs.List.{flat_map}
 use Rattle.wire_codec.specs.Delivery.{chunk_len}
-use Rattle.wire_codec.specs.Codec.{CodecState}
+use Rattle.std.proofs.lemmas.Bool.{false≢true}
+use Rattle.wire_codec.specs.declared.codec.packet.PacketCodec.{PacketCodec}
+use Rattle.wire_codec.specs.Codec.{CodecState, codec_state, expected_id, header_of}
+use Rattle.wire_codec.specs.Laws.{appended, empty_state}
 use Rattle.wire_codec.specs.InPlace.{HasFront, front_payload, behind_front}
 use Rattle.wire_codec.specs.LimitedRuns.{DecodesAligned}
 use Rattle.mysql_wire_side.specs.declared.codes.TheConstants.{OK, WAITS, PACKET, NO_MEMORY}
@@ -176,3 +179,15 @@ codec_step bytes lent spans old count used chunk span state mid after inside pla
     inside place at len (so_far pending) (refl, no_unread, none, bare)
     (lends_is piece lent mid after pending chunk no_unread none there packet_is chunk_is decodes behind same_unread same_held) rest in
     ((step []).0, λ pending. (step pending).1, (step []).2, ap (λ (s : CodecState). s.header) behind)
+
+-- what is left of the bytes
+rest_is : (n : ℕ) (bytes : List ℕ) → take (length bytes - n) (drop n bytes) ≡ drop n bytes
+rest_is n bytes = take_all (length bytes - n) (drop n bytes) (let len = length-drop n bytes in omega arith)
+
+-- a codec that found no packet in front of them, alone, finds none after nothing
+pub none_alone : {A : Type 0} (front : Option A) (codec : PacketCodec) (id limit n : ℕ) (bytes : List ℕ) → id ≡ expected_id codec → codec.max_allowed_packet ≡ limit → header_of codec ≡ None
+    → (HasFront (codec_state codec (take (length bytes - n) (drop n bytes)) []) → IsSome front) → ((packet : A) → front ≡ Some packet → ⊥)
+    → HasFront (appended (empty_state id limit) (drop n bytes)) → ⊥
+none_alone None codec id limit n bytes same most header there refused has =
+    false≢true (there (rw (rest_is n bytes, header, most, ← same) has))
+none_alone (Some packet) codec id limit n bytes same most header there refused has = refused packet refl

@@ -1,9 +1,9 @@
-use Rattle.std.proofs.Common.{arith, refl, [], ◌+◌, ◌∙◌, length}
+use Rattle.std.proofs.Common.{arith, inr, refl, [], ◌+◌, ◌∙◌, length}
 use Rattle.std.proofs.lemmas.List.{length-set}
 use Rattle.wire_codec.specs.Codec.{codec_state}
 use Rattle.wire_codec.specs.Laws.{empty_state}
 use Rattle.mysql_wire_c_calls.specs.declared.fields.Span.{Span}
-use Rattle.mysql_wire_c_calls.proofs.DecodingLemmas.{codec_step}
+use Rattle.mysql_wire_c_calls.proofs.DecodingLemmas.{codec_step, none_alone}
 use Rattle.mysql_wire_c_calls.proofs.connection.lend_all.Goals as goal
 
 pub packets-preserved : goal.packets-preserved
@@ -25,3 +25,9 @@ packets-preserved c =
       so_far = step.1;
       rest = step.2;
     }
+
+pub returns-in_default-clause-all : goal.returns-in_default-clause-all
+returns-in_default-clause-all c =
+    let old = c.packets.invariant in
+    inr (none_alone c.front_packet_in.result c.packets.codec c.sequence_id.result c.args.limit c.packets.used c.args.bytes.now c.sequence_id.ensures old.limit old.header
+    c.front_packet_in.ensures.there.1 c.in_default.not-Some)
