@@ -403,11 +403,7 @@ unframe_alike equal nothing limit answer unread left written now over =
       all_read = ends.all_read;
     }
 
--- no more bytes are taken than were asked for
-pub take_short : (n most : ℕ) (bytes : List ℕ) → n ≤ most → length (take n bytes) ≤ most
-take_short n most bytes h = let len = length-take n bytes in omega arith
-
--- nor any past the place where the limit changes
+-- no bytes are taken past the place where the limit changes
 pub take_apart : (n most ahead : ℕ) (bytes : List ℕ) → n ≤ most → (0 < ahead → most ≤ ahead) → 0 < ahead → length (take n bytes) ≤ ahead
 take_apart n most ahead bytes h apart some = let len = length-take n bytes in let k = apart some in omega arith
 

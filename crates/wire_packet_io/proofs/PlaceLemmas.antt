@@ -8,7 +8,7 @@ use Rattle.wire_packet_io.specs.declared.error.PacketIoError.{PacketIoError}
 use Rattle.wire_packet_io.specs.PacketIo.{Writing}
 use Rattle.wire_packet_io.specs.Lending.{Reading}
 use Rattle.wire_packet_io.specs.Relaying.{RelaysTo, RelayStops}
-use Rattle.wire_packet_io.specs.Copying.{Copies, CopyStops}
+use Rattle.wire_packet_io.specs.Copying.{Copies}
 use Rattle.wire_packet_io.proofs.CopyLemmas.{copied_none}
 use Rattle.std.proofs.KnownBytes.{Appends-nil}
 
@@ -79,12 +79,6 @@ pub relay_between : (result : Result Bool PacketIoError) (state : SpanState) (un
 relay_between (Ok true) state unread left pending P stops gives = gives stops
 relay_between (Ok false) state unread left pending P stops gives = gives stops.0
 relay_between (Err error) state unread left pending P stops gives = tt
-
-pub copy_between : (result : Result Bool PacketIoError) (state : SpanState) (unread : List ℕ) (left : Option (List ℕ)) (P : Type 0)
-    → CopyStops result state unread left → (IsBetween state → P) → IfOk result (λ _. P)
-copy_between (Ok true) state unread left P stops gives = gives stops
-copy_between (Ok false) state unread left P stops gives = gives stops.0
-copy_between (Err error) state unread left P stops gives = tt
 
 -- one that ended is not lost
 pub ended_loses : (lost : Bool) (copied : Option SpanDecoder) (why : PacketIoError) → IsNone copied → IsFalse lost

@@ -5,7 +5,7 @@ use Rattle.std.proofs.Common.{◌≡◌, ℕ, ◌+◌, ◌≤◌, List, [], ◌+
 pub front_there : (n : ℕ) (new old : List ℕ) → length new ≡ length (take n old) → n ≤ length old → n ≤ length (new ++ drop n old)
 front_there n new old same h = let all = length-append new (drop n old) in let len = length-take n old in omega arith
 
-pub front_is : (n : ℕ) (new old : List ℕ) → length new ≡ length (take n old) → n ≤ length old → take n (new ++ drop n old) ≡ new
+front_is : (n : ℕ) (new old : List ℕ) → length new ≡ length (take n old) → n ≤ length old → take n (new ++ drop n old) ≡ new
 front_is n new old same h = take_at new (drop n old) n (let len = length-take n old in omega arith)
 
 pub front_len : (n : ℕ) (new old : List ℕ) → length new ≡ length (take n old) → n ≤ length old → n ≡ length (take n (new ++ drop n old))
