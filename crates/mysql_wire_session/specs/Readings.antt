@@ -89,6 +89,12 @@ abbrev pub IsRead : {X : Type 0} → (X → Packet) → (List ℕ → Result X P
     → List ℕ → Packet → Type 0
 IsRead variant = IsMade (λ read is. is ≡ variant read)
 
+-- its type refuses the payload, or comes to no answer
+abbrev pub RefusedFor : PayloadError → Result Packet SessionError → Type 0
+RefusedFor error (Ok is) =
+    (refusal : Refusal) × (refusal_of error ≡ Ok refusal) × (is ≡ packet.Refused refusal)
+RefusedFor error (Err why) = refusal_of error ≡ Err why
+
 -- its type comes to no answer, for this: memory was refused, or a reader failed
 abbrev pub IsFault : {X : Type 0} → (Result X PayloadError → Type 0) → SessionError → Type 0
 IsFault reads why = (error : PayloadError) × reads (Err error) × (refusal_of error ≡ Err why)

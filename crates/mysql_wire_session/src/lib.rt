@@ -2,6 +2,7 @@
 //! ends.
 #![tactic(auto)]
 
+mod packet_payload;
 pub mod payload;
 pub mod session;
 mod statements;

@@ -1,11 +1,9 @@
 //! What it is that a payload is a packet.
 
-ghost use Rattle.std.specs.Prelude.{◌≡◌, ℕ, List, Result, None, Some};
+ghost use Rattle.std.specs.Prelude.{ℕ, List, Result, None, Some};
 ghost use Rattle.wire_buf.specs.Reading.{Parses};
 ghost use Rattle.mysql_wire_parts.specs.Places.{ReadsWhole};
 ghost use Rattle.mysql_wire_parts.specs.declared.places.PayloadError.{PayloadError};
-ghost use Rattle.mysql_wire_session_packets.specs.declared.client_command.ClientCommand.{ClientCommand};
-ghost use Rattle.mysql_wire_session_packets.specs.declared.client_command.ClientCommand.TheVariants.{AttributedQuery, ChangeUser, InitDb, Ping, Query, Quit};
 
 use mysql_wire_connection::auth_more_data::AuthMoreData;
 use mysql_wire_connection::auth_switch::AuthSwitchRequest;
@@ -22,7 +20,6 @@ use mysql_wire_queries::column_definition::ColumnDefinition41;
 use mysql_wire_queries::com_query::ComQuery;
 use mysql_wire_queries::com_query_attributes::ComQueryWithAttributes;
 use mysql_wire_queries::local_infile::LocalInfileRequest;
-use mysql_wire_session_packets::client_command::ClientCommand;
 use mysql_wire_statements::binary_row::BinaryRow;
 use mysql_wire_statements::com_stmt_execute::ComStmtExecute;
 use mysql_wire_statements::com_stmt_fetch::ComStmtFetch;
@@ -306,61 +303,4 @@ impl<'a> Payload<'a> for ComBinlogDumpGtid<'a> {
         ReadsWhole (Parses None (⟦<ComBinlogDumpGtid<'a> as MyDeserialize<'a, Global>>⟧.reads ctx)) };
 
     ghost is_read = { λ _ _ _ read. read };
-}
-
-// A payload that is read as a command without a prepared statement.
-pub(crate) trait CommandPayload<'a>: Payload<'a> {
-    ghost command: { Self → ClientCommand };
-
-    // The same as a command of any kind.
-    fn into_command(self) -> ClientCommand<'a>
-        ensures { result ≡ command self };
-}
-
-impl<'a> CommandPayload<'a> for ComQuit {
-    ghost command = { Quit };
-
-    fn into_command(self) -> ClientCommand<'a> {
-        ClientCommand::Quit(self)
-    }
-}
-
-impl<'a> CommandPayload<'a> for ComInitDb<'a> {
-    ghost command = { InitDb };
-
-    fn into_command(self) -> ClientCommand<'a> {
-        ClientCommand::InitDb(self)
-    }
-}
-
-impl<'a> CommandPayload<'a> for ComQuery<'a> {
-    ghost command = { Query };
-
-    fn into_command(self) -> ClientCommand<'a> {
-        ClientCommand::Query(self)
-    }
-}
-
-impl<'a> CommandPayload<'a> for ComQueryWithAttributes<'a> {
-    ghost command = { AttributedQuery };
-
-    fn into_command(self) -> ClientCommand<'a> {
-        ClientCommand::AttributedQuery(self)
-    }
-}
-
-impl<'a> CommandPayload<'a> for ComPing {
-    ghost command = { Ping };
-
-    fn into_command(self) -> ClientCommand<'a> {
-        ClientCommand::Ping(self)
-    }
-}
-
-impl<'a> CommandPayload<'a> for ComChangeUser<'a> {
-    ghost command = { ChangeUser };
-
-    fn into_command(self) -> ClientCommand<'a> {
-        ClientCommand::ChangeUser(self)
-    }
 }

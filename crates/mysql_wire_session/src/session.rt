@@ -180,14 +180,16 @@ impl<A: Allocator + Copy> Session<A> {
         ensures fails { IfErr result (Fails side id payload.entry.now (state_of self.now)) }
     {
         let kind = self.classify(side, id, payload.len(), payload);
-        let packet = self.read_packet(kind, self.opened(kind, payload.len()), payload)?;
-        Ok(Received {
-            side,
-            id,
-            kind,
-            payload,
-            packet,
-        })
+        match self.read_packet(kind, self.opened(kind, payload.len()), payload) {
+            Ok(packet) => Ok(Received {
+                side,
+                id,
+                kind,
+                payload,
+                packet,
+            }),
+            Err(error) => Err(error),
+        }
     }
 
     /// Goes on after a packet that was read. Only the type of a column, up to 4,096 of an answer, and

@@ -2,19 +2,30 @@
 
 ghost use Rattle.std.specs.Prelude.{◌≡◌, length};
 ghost use Rattle.mysql_wire_parts.specs.Optional.{has_query_attributes};
-ghost use Rattle.mysql_wire_session_packets.specs.declared.packet.Packet.TheVariants.{Command};
 ghost use Rattle.mysql_wire_session.specs.Advance.{opened, without_eof};
 ghost use Rattle.mysql_wire_session.specs.Opening.{opened_state};
 ghost use Rattle.mysql_wire_session_phases.specs.declared.packet_kind.PacketKind.TheVariants as kinds;
-ghost use Rattle.mysql_wire_session.specs.Readings.{BinaryRowGives, ColumnGives, EndGives, Gives, IsCommand, IsPlain, IsTextRow, IsUtility, LogRequestGives, Makes, OtherCommandGives, QueryGives, ReadsAs, RowGives, error_capabilities, is_ended_by_ok, is_numbered, statement_named};
+ghost use Rattle.mysql_wire_session.specs.Readings.{BinaryRowGives, ColumnGives, EndGives, Gives, IsCommand, IsPlain, IsTextRow, IsUtility, LogRequestGives, OtherCommandGives, QueryGives, Reads, ReadsAs, RefusedFor, RowGives, error_capabilities, is_ended_by_ok, is_numbered, statement_named};
 ghost use Rattle.mysql_wire_session.specs.State.{SessionState, state_of};
 
 use super::Session;
-use crate::payload::{CommandPayload, Payload};
-use mysql_wire_packets::ok_packet::InfoForm;
-use mysql_wire_packets::places::read_whole;
+use crate::packet_payload::PacketPayload;
+use mysql_wire_connection::auth_more_data::AuthMoreData;
+use mysql_wire_connection::auth_switch::AuthSwitchRequest;
+use mysql_wire_connection::auth_switch_response::AuthSwitchResponse;
+use mysql_wire_connection::handshake::HandshakeV10;
+use mysql_wire_connection::handshake_response::HandshakeResponse41;
+use mysql_wire_connection::ssl_request::SslRequest;
+use mysql_wire_packets::eof_packet::EofPacket;
+use mysql_wire_packets::err_packet::ErrPacket;
+use mysql_wire_packets::ok_packet::{InfoForm, OkPacket, RowsEnd};
+use mysql_wire_packets::places::{PayloadError, read_whole};
+use mysql_wire_packets::progress_report::ProgressReport;
+use mysql_wire_queries::column_count::ColumnCount;
+use mysql_wire_queries::column_definition::ColumnDefinition41;
 use mysql_wire_queries::com_query::ComQuery;
 use mysql_wire_queries::com_query_attributes::ComQueryWithAttributes;
+use mysql_wire_queries::local_infile::LocalInfileRequest;
 use mysql_wire_session_packets::packet::{Packet, Row};
 use mysql_wire_session_phases::classify::first_byte;
 use mysql_wire_session_phases::next_phase::after_definitions;
@@ -22,41 +33,51 @@ use mysql_wire_session_phases::packet_kind::PacketKind;
 use mysql_wire_session_phases::phase::{Phase, RowForm};
 use mysql_wire_session_phases::refusal::{Refusal, SessionError};
 use mysql_wire_statements::binary_row::BinaryRow;
+use mysql_wire_statements::com_stmt_close::ComStmtClose;
+use mysql_wire_statements::com_stmt_execute::ComStmtExecute;
+use mysql_wire_statements::com_stmt_fetch::ComStmtFetch;
+use mysql_wire_statements::com_stmt_prepare::ComStmtPrepare;
+use mysql_wire_statements::com_stmt_prepare_ok::ComStmtPrepareOk;
+use mysql_wire_statements::com_stmt_reset::ComStmtReset;
+use mysql_wire_statements::com_stmt_send_long_data::ComStmtSendLongData;
+use mysql_wire_utility::com_binlog_dump::ComBinlogDump;
+use mysql_wire_utility::com_binlog_dump_gtid::ComBinlogDumpGtid;
 use mysql_wire_utility::com_change_user::ComChangeUser;
+use mysql_wire_utility::com_debug::ComDebug;
+use mysql_wire_utility::com_field_list::ComFieldList;
 use mysql_wire_utility::com_init_db::ComInitDb;
 use mysql_wire_utility::com_ping::ComPing;
+use mysql_wire_utility::com_process_kill::ComProcessKill;
 use mysql_wire_utility::com_quit::ComQuit;
+use mysql_wire_utility::com_register_slave::ComRegisterSlave;
+use mysql_wire_utility::com_reset_connection::ComResetConnection;
+use mysql_wire_utility::com_set_option::ComSetOption;
+use mysql_wire_utility::com_statistics::{ComStatistics, StatisticsText};
 use std::alloc::{Allocator, Global};
 use wire_const::{CapabilityFlags, Flags};
 
-// Reads a payload as one packet of this type, and makes a packet of the session of it.
-fn read_as<'a, T: Payload<'a>, F: FnOnce(T) -> Packet<'a>>(
-    global: Global,
-    ctx: T::Ctx,
-    payload: &'a [u8],
-    make: F,
-) -> Result<Packet<'a>, SessionError>
-    requires { (read : T) → F.pre make read }
-    ensures { Makes (F.post make) (T.reads_whole ctx) payload.entry.now result }
+// What is known of a payload that its type refuses: why.
+#[inline(always)]
+fn refused<'a>(error: PayloadError) -> Result<Packet<'a>, SessionError>
+    ensures { RefusedFor error result }
 {
-    match read_whole::<T>(global, ctx, payload) {
-        Ok(packet) => Ok(make(packet)),
-        Err(error) => Ok(Packet::Refused(Refusal::of(error)?)),
+    match Refusal::of(error) {
+        Ok(refusal) => Ok(Packet::Refused(refusal)),
+        Err(fault) => Err(fault),
     }
 }
 
-// The same of a type that is a command without a prepared statement.
-fn read_client_command<'a, T: CommandPayload<'a>>(
+// Reads a payload as one packet of this type, and makes a packet of the session of it.
+fn read_as<'a, T: PacketPayload<'a>>(
     global: Global,
     ctx: T::Ctx,
     payload: &'a [u8],
 ) -> Result<Packet<'a>, SessionError>
-    ensures { Makes (λ read is. is ≡ Command (T.command read)) (T.reads_whole ctx) payload.entry.now
-        result }
+    ensures { Reads T.packet (T.reads_whole ctx) payload.entry.now result }
 {
     match read_whole::<T>(global, ctx, payload) {
-        Ok(command) => Ok(Packet::Command(command.into_command())),
-        Err(why) => Ok(Packet::Refused(Refusal::of(why)?)),
+        Ok(packet) => Ok(packet.into_packet()),
+        Err(error) => refused(error),
     }
 }
 
@@ -148,32 +169,32 @@ impl<A: Allocator + Copy> Session<A> {
     {
         let global = self.global;
         match kind {
-            PacketKind::Greeting => read_as(global, (), payload, Packet::Greeting),
-            PacketKind::TlsRequest => read_as(global, (), payload, Packet::TlsRequest),
-            PacketKind::Login => read_as(global, (), payload, Packet::Login),
-            PacketKind::AuthSwitch => read_as(global, (), payload, Packet::AuthSwitch),
-            PacketKind::AuthMoreData => read_as(global, (), payload, Packet::AuthMoreData),
-            PacketKind::AuthAnswer => read_as(global, (), payload, Packet::AuthAnswer),
+            PacketKind::Greeting => read_as::<HandshakeV10<'a>>(global, (), payload),
+            PacketKind::TlsRequest => read_as::<SslRequest>(global, (), payload),
+            PacketKind::Login => read_as::<HandshakeResponse41<'a>>(global, (), payload),
+            PacketKind::AuthSwitch => read_as::<AuthSwitchRequest<'a>>(global, (), payload),
+            PacketKind::AuthMoreData => read_as::<AuthMoreData<'a>>(global, (), payload),
+            PacketKind::AuthAnswer => read_as::<AuthSwitchResponse<'a>>(global, (), payload),
             PacketKind::Ok => {
-                read_as(global, InfoForm::of(self.capabilities), payload, Packet::Ok)
+                read_as::<OkPacket<'a>>(global, InfoForm::of(self.capabilities), payload)
             }
             PacketKind::Error => {
                 let capabilities = error_capabilities(opened.phase, self.capabilities);
-                read_as(global, capabilities, payload, Packet::Error)
+                read_as::<ErrPacket<'a>>(global, capabilities, payload)
             }
-            PacketKind::Progress => read_as(global, (), payload, Packet::Progress),
+            PacketKind::Progress => read_as::<ProgressReport<'a>>(global, (), payload),
             PacketKind::Eof => self.read_end(opened.is_eof_deprecated, payload),
             PacketKind::ColumnCount => {
                 let capabilities = (self.capabilities, self.mariadb);
-                read_as(global, capabilities, payload, Packet::ColumnCount)
+                read_as::<ColumnCount>(global, capabilities, payload)
             }
             PacketKind::Column => self.read_column(opened.phase, payload),
             PacketKind::Row | PacketKind::BinaryRow => match self.read_row(kind, payload) {
                 Ok(row) => Ok(Packet::Row(row)),
                 Err(error) => Err(error),
             },
-            PacketKind::LocalInfile => read_as(global, (), payload, Packet::LocalInfile),
-            PacketKind::Prepared => read_as(global, (), payload, Packet::Prepared),
+            PacketKind::LocalInfile => read_as::<LocalInfileRequest<'a>>(global, (), payload),
+            PacketKind::Prepared => read_as::<ComStmtPrepareOk>(global, (), payload),
             _ => self.read_command(kind, payload),
         }
     }
@@ -189,9 +210,9 @@ impl<A: Allocator + Copy> Session<A> {
     {
         if is_ended_by_ok(is_eof_deprecated, payload.len()) {
             let form = InfoForm::of(self.capabilities);
-            read_as(self.global, form, payload, Packet::RowsEnd)
+            read_as::<RowsEnd<'a>>(self.global, form, payload)
         } else {
-            read_as(self.global, (), payload, Packet::Eof)
+            read_as::<EofPacket>(self.global, (), payload)
         }
     }
 
@@ -201,7 +222,9 @@ impl<A: Allocator + Copy> Session<A> {
         ensures { ColumnGives phase self.now.mariadb payload.entry.now result }
     {
         match phase {
-            Phase::Columns { .. } => { read_as(self.global, self.mariadb, payload, Packet::Column) }
+            Phase::Columns { .. } => {
+                read_as::<ColumnDefinition41<'a>>(self.global, self.mariadb, payload)
+            }
             _ => Ok(Packet::TableColumn(payload)),
         }
     }
@@ -253,19 +276,19 @@ impl<A: Allocator + Copy> Session<A> {
     {
         let global = self.global;
         match kind {
-            PacketKind::Quit => read_client_command::<ComQuit>(global, (), payload),
-            PacketKind::InitDatabase => read_client_command::<ComInitDb<'a>>(global, (), payload),
+            PacketKind::Quit => read_as::<ComQuit>(global, (), payload),
+            PacketKind::InitDatabase => read_as::<ComInitDb<'a>>(global, (), payload),
             PacketKind::Query => self.read_query(payload),
-            PacketKind::Ping => read_client_command::<ComPing>(global, (), payload),
+            PacketKind::Ping => read_as::<ComPing>(global, (), payload),
             PacketKind::ChangeUser => {
-                read_client_command::<ComChangeUser<'a>>(global, self.capabilities, payload)
+                read_as::<ComChangeUser<'a>>(global, self.capabilities, payload)
             }
-            PacketKind::Prepare => read_as(global, (), payload, Packet::Prepare),
+            PacketKind::Prepare => read_as::<ComStmtPrepare<'a>>(global, (), payload),
             PacketKind::Execute => self.read_execute(payload),
-            PacketKind::LongData => read_as(global, (), payload, Packet::LongData),
-            PacketKind::CloseStatement => read_as(global, (), payload, Packet::CloseStatement),
-            PacketKind::ResetStatement => read_as(global, (), payload, Packet::ResetStatement),
-            PacketKind::Fetch => read_as(global, (), payload, Packet::Fetch),
+            PacketKind::LongData => read_as::<ComStmtSendLongData<'a>>(global, (), payload),
+            PacketKind::CloseStatement => read_as::<ComStmtClose>(global, (), payload),
+            PacketKind::ResetStatement => read_as::<ComStmtReset>(global, (), payload),
+            PacketKind::Fetch => read_as::<ComStmtFetch>(global, (), payload),
             _ => self.read_utility(kind, payload),
         }
     }
@@ -281,13 +304,11 @@ impl<A: Allocator + Copy> Session<A> {
     {
         let global = self.global;
         match kind {
-            PacketKind::FieldList => read_as(global, (), payload, Packet::FieldList),
-            PacketKind::SetOption => read_as(global, (), payload, Packet::SetOption),
-            PacketKind::StatisticsRequest => {
-                read_as(global, (), payload, Packet::StatisticsRequest)
-            }
-            PacketKind::Statistics => read_as(global, (), payload, Packet::Statistics),
-            PacketKind::ResetConnection => read_as(global, (), payload, Packet::ResetConnection),
+            PacketKind::FieldList => read_as::<ComFieldList<'a>>(global, (), payload),
+            PacketKind::SetOption => read_as::<ComSetOption>(global, (), payload),
+            PacketKind::StatisticsRequest => { read_as::<ComStatistics>(global, (), payload) }
+            PacketKind::Statistics => read_as::<StatisticsText<'a>>(global, (), payload),
+            PacketKind::ResetConnection => read_as::<ComResetConnection>(global, (), payload),
             PacketKind::BinaryLogRequest => self.read_log_request(payload),
             PacketKind::OtherCommand => self.read_other(payload),
             _ => Ok(as_it_is(kind, payload)),
@@ -299,9 +320,9 @@ impl<A: Allocator + Copy> Session<A> {
         ensures { LogRequestGives (is_numbered 0x1e payload.entry.now) payload.entry.now result }
     {
         if is_numbered(0x1e, payload) {
-            read_as(self.global, (), payload, Packet::BinlogDumpGtid)
+            read_as::<ComBinlogDumpGtid<'a>>(self.global, (), payload)
         } else {
-            read_as(self.global, (), payload, Packet::BinlogDump)
+            read_as::<ComBinlogDump<'a>>(self.global, (), payload)
         }
     }
 
@@ -312,11 +333,11 @@ impl<A: Allocator + Copy> Session<A> {
             payload.entry.now result }
     {
         if is_numbered(0x0c, payload) {
-            read_as(self.global, (), payload, Packet::ProcessKill)
+            read_as::<ComProcessKill>(self.global, (), payload)
         } else if is_numbered(0x0d, payload) {
-            read_as(self.global, (), payload, Packet::Debug)
+            read_as::<ComDebug>(self.global, (), payload)
         } else if is_numbered(0x15, payload) {
-            read_as(self.global, (), payload, Packet::RegisterSlave)
+            read_as::<ComRegisterSlave<'a>>(self.global, (), payload)
         } else {
             Ok(Packet::OtherCommand(payload))
         }
@@ -329,9 +350,9 @@ impl<A: Allocator + Copy> Session<A> {
             .capabilities
             .contains(CapabilityFlags::CLIENT_QUERY_ATTRIBUTES)
         {
-            read_client_command::<ComQueryWithAttributes<'a>>(self.global, (), payload)
+            read_as::<ComQueryWithAttributes<'a>>(self.global, (), payload)
         } else {
-            read_client_command::<ComQuery<'a>>(self.global, (), payload)
+            read_as::<ComQuery<'a>>(self.global, (), payload)
         }
     }
 
@@ -344,7 +365,7 @@ impl<A: Allocator + Copy> Session<A> {
         };
         match self.statements.get(number) {
             Some(statement) => {
-                read_as(self.global, statement.num_params, payload, Packet::Execute)
+                read_as::<ComStmtExecute<'a>>(self.global, statement.num_params, payload)
             }
             None => Ok(Packet::ExecuteUnknown(number)),
         }
