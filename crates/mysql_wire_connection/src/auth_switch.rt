@@ -55,7 +55,7 @@ impl<'de> MyDeserialize<'de, Global> for AuthSwitchRequest<'de> {
         (⟦<Fields<'de> as MyDeserialize<'de, Global>>⟧.reads (tt, (tt, tt)) input) };
 
     fn deserialize(alloc: Global, _: (), buf: &mut ParseBuf<'de>) -> Result<Self, WireError> {
-        match buf.parse::<Fields<'de>>(alloc, ((), ((), ()))) {
+        match Fields::deserialize(alloc, ((), ((), ())), buf) {
             Ok(Both(_, Both(plugin_name, plugin_data))) => Ok(AuthSwitchRequest {
                 plugin_name,
                 plugin_data,

@@ -192,11 +192,11 @@ impl<'de> MyDeserialize<'de, Global> for HandshakeV10<'de> {
 
     fn deserialize(alloc: Global, _: (), buf: &mut ParseBuf<'de>) -> Result<Self, WireError> {
         let state = ((), ((), ((), ((), ((), ())))));
-        match buf.parse::<Head<'de>>(alloc, ((), ((), ((), ((), ((), ((), state))))))) {
+        match Head::deserialize(alloc, ((), ((), ((), ((), ((), ((), state)))))), buf) {
             Ok(head) => {
                 let upper = &head.1.1.1.1.1.1.1.1;
                 let ctx = tail_ctx(upper.0.0, upper.1.0, buf.0);
-                match buf.parse::<Tail<'de>>(alloc, ctx) {
+                match Tail::deserialize(alloc, ctx, buf) {
                     Ok(tail) => Ok(of_fields(head, tail)),
                     Err(error) => Err(error),
                 }

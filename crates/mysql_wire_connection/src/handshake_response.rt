@@ -147,7 +147,7 @@ impl<'de> MyDeserialize<'de, Global> for HandshakeResponse41<'de> {
         )) };
 
     fn deserialize(alloc: Global, _: (), buf: &mut ParseBuf<'de>) -> Result<Self, WireError> {
-        match buf.parse::<Client<'de>>(alloc, ((), ((), ((), (((), ()), ()))))) {
+        match Client::deserialize(alloc, ((), ((), ((), (((), ()), ())))), buf) {
             Ok(client) => {
                 let bits = client.0;
                 let answer = under(
@@ -160,7 +160,7 @@ impl<'de> MyDeserialize<'de, Global> for HandshakeResponse41<'de> {
                 let attrs = under(bits, CapabilityFlags::CLIENT_CONNECT_ATTRS, ());
                 let level = under(bits, CapabilityFlags::CLIENT_ZSTD_COMPRESSION_ALGORITHM, ());
                 let ctx = (answer, (database, (plugin, (attrs, level))));
-                match buf.parse::<Answer<'de>>(alloc, ctx) {
+                match Answer::deserialize(alloc, ctx, buf) {
                     Ok(answer) => Ok(of_fields(client, answer)),
                     Err(error) => Err(error),
                 }

@@ -2,19 +2,19 @@ use Rattle.std.proofs.Common.{sym, refl, inr, ◌+◌}
 use Rattle.mysql_wire_parts.specs.Then.{both_eaten}
 use Rattle.mysql_wire_connection.proofs.handshake.HandshakeV10MyDeserializeGlobal.deserialize.Goals as goal
 
-pub returns-in-Ok-parse : goal.returns-in-Ok-parse
-returns-in-Ok-parse c =
+pub returns-in-Ok-deserialize : goal.returns-in-Ok-deserialize
+returns-in-Ok-deserialize c =
     let head_is = sym c.of_fields.ensures.head in
     let (taken, there, left, read) = rw head_is at c.in-Ok.ensures in
     let (after, more, end, next) =
-    rw (c.tail_ctx-ctx.ensures, head_is, sym c.of_fields.ensures.tail) at c.in-Ok-parse.ensures in
+    rw (c.tail_ctx-ctx.ensures, head_is, sym c.of_fields.ensures.tail) at c.in-Ok-deserialize.ensures in
     let eaten = both_eaten _ _ _ taken after there left more end in
     (taken + after, eaten.0, eaten.1, (taken, after, there, read, rw left at next, refl))
 
 pub returns-in-Ok : goal.returns-in-Ok
 returns-in-Ok c =
     let (taken, there, left, read) = c.in-Ok.ensures in
-    let (after, more, end, next) = rw c.tail_ctx-ctx.ensures at c.in-Err-parse.ensures in
+    let (after, more, end, next) = rw c.tail_ctx-ctx.ensures at c.in-Err-deserialize.ensures in
     let eaten = both_eaten _ _ _ taken after there left more end in (
       taken + after,
       eaten.0,
