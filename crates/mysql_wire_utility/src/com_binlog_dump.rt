@@ -59,7 +59,7 @@ impl<'de> MyDeserialize<'de, Global> for ComBinlogDump<'de> {
         (tt, (tt, (tt, (tt, tt)))) input) };
 
     fn deserialize(alloc: Global, _: (), buf: &mut ParseBuf<'de>) -> Result<Self, WireError> {
-        match buf.parse::<Fields<'de>>(alloc, ((), ((), ((), ((), ()))))) {
+        match Fields::deserialize(alloc, ((), ((), ((), ((), ())))), buf) {
             Ok(Both(_, Both(pos, Both(flags, Both(server_id, filename))))) => Ok(ComBinlogDump {
                 pos,
                 flags,

@@ -65,7 +65,7 @@ impl<'de> MyDeserialize<'de, Global> for ComBinlogDumpGtid<'de> {
         ((tt, (tt, tt)), (tt, (tt, tt))) input) };
 
     fn deserialize(alloc: Global, _: (), buf: &mut ParseBuf<'de>) -> Result<Self, WireError> {
-        match buf.parse::<Fields<'de>>(alloc, (((), ((), ())), ((), ((), ())))) {
+        match Fields::deserialize(alloc, (((), ((), ())), ((), ((), ()))), buf) {
             Ok(Both(Both(_, Both(flags, server_id)), Both(filename, transactions))) => {
                 let Both(pos, sid_block) = transactions;
                 Ok(ComBinlogDumpGtid {

@@ -133,7 +133,7 @@ impl<'de> MyDeserialize<'de, Global> for ComChangeUser<'de> {
         let attrs = under(bits, CapabilityFlags::CLIENT_CONNECT_ATTRS, ());
         let user = ((), ((), ((), ())));
         let more = (Either::Left(()), (name, attrs));
-        match buf.parse::<Fields<'de>>(alloc, (user, more)) {
+        match Fields::deserialize(alloc, (user, more), buf) {
             Ok(fields) => Ok(of_fields(fields)),
             Err(error) => Err(error),
         }

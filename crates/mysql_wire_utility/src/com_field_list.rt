@@ -54,7 +54,7 @@ impl<'de> MyDeserialize<'de, Global> for ComFieldList<'de> {
         (⟦<Fields<'de> as MyDeserialize<'de, Global>>⟧.reads (tt, (tt, tt)) input) };
 
     fn deserialize(alloc: Global, _: (), buf: &mut ParseBuf<'de>) -> Result<Self, WireError> {
-        match buf.parse::<Fields<'de>>(alloc, ((), ((), ()))) {
+        match Fields::deserialize(alloc, ((), ((), ())), buf) {
             Ok(Both(_, Both(table, wildcard))) => Ok(ComFieldList { table, wildcard }),
             Err(error) => Err(error),
         }

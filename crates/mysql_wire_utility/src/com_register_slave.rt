@@ -73,7 +73,7 @@ impl<'de> MyDeserialize<'de, Global> for ComRegisterSlave<'de> {
 
     fn deserialize(alloc: Global, _: (), buf: &mut ParseBuf<'de>) -> Result<Self, WireError> {
         let ctx = (((), ()), (((), ((), ())), ((), ((), ()))));
-        match buf.parse::<Fields<'de>>(alloc, ctx) {
+        match Fields::deserialize(alloc, ctx, buf) {
             Ok(Both(Both(_, server_id), Both(account, place))) => {
                 let Both(hostname, Both(user, password)) = account;
                 let Both(port, Both(replication_rank, master_id)) = place;
