@@ -103,7 +103,7 @@ impl<'de, A: Allocator + Copy> MyDeserialize<'de, A> for BinaryRow<'de> {
         (⟦<Fields<'de> as MyDeserialize<'de, A>>⟧.reads (tt, (columns, tt)) input) };
 
     fn deserialize(alloc: A, columns: usize, buf: &mut ParseBuf<'de>) -> Result<Self, WireError> {
-        match buf.parse_in::<Fields<'de>, A>(alloc, ((), (columns, ()))) {
+        match Fields::deserialize(alloc, ((), (columns, ())), buf) {
             Ok(Both(_, Both(nulls, values))) => Ok(BinaryRow {
                 nulls,
                 values: values.0,

@@ -118,7 +118,7 @@ impl<'de, A: Allocator + Copy> MyDeserialize<'de, A> for ComStmtExecute<'de> {
 
     fn deserialize(alloc: A, num_params: u16, buf: &mut ParseBuf<'de>) -> Result<Self, WireError> {
         let params = params_ctx(num_params);
-        match buf.parse_in::<Fields<'de>, A>(alloc, ((), ((), ((), ((), params))))) {
+        match Fields::deserialize(alloc, ((), ((), ((), ((), params)))), buf) {
             Ok(Both(_, Both(statement_id, Both(flags, Both(count, params))))) => {
                 Ok(ComStmtExecute {
                     statement_id,

@@ -47,7 +47,7 @@ impl<'de, A: Allocator + Copy> MyDeserialize<'de, A> for ComStmtPrepare<'de> {
         (⟦<Fields<'de> as MyDeserialize<'de, A>>⟧.reads (tt, tt) input) };
 
     fn deserialize(alloc: A, _: (), buf: &mut ParseBuf<'de>) -> Result<Self, WireError> {
-        match buf.parse_in::<Fields<'de>, A>(alloc, ((), ())) {
+        match Fields::deserialize(alloc, ((), ()), buf) {
             Ok(Both(_, query)) => Ok(ComStmtPrepare { query: query.0 }),
             Err(error) => Err(error),
         }

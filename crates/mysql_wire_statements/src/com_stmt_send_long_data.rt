@@ -58,7 +58,7 @@ impl<'de, A: Allocator + Copy> MyDeserialize<'de, A> for ComStmtSendLongData<'de
         (⟦<Fields<'de> as MyDeserialize<'de, A>>⟧.reads (tt, (tt, (tt, tt))) input) };
 
     fn deserialize(alloc: A, _: (), buf: &mut ParseBuf<'de>) -> Result<Self, WireError> {
-        match buf.parse_in::<Fields<'de>, A>(alloc, ((), ((), ((), ())))) {
+        match Fields::deserialize(alloc, ((), ((), ((), ()))), buf) {
             Ok(Both(_, Both(statement_id, Both(param_id, data)))) => Ok(ComStmtSendLongData {
                 statement_id,
                 param_id,

@@ -138,7 +138,7 @@ impl<'de, A: Allocator + Copy> MyDeserialize<'de, A> for StmtParams<'de> {
         (⟦<Fields<'de> as MyDeserialize<'de, A>>⟧.reads (count, (count, tt)) input) };
 
     fn deserialize(alloc: A, count: u16, buf: &mut ParseBuf<'de>) -> Result<Self, WireError> {
-        match buf.parse_in::<Fields<'de>, A>(alloc, (count as usize, (count, ()))) {
+        match Fields::deserialize(alloc, (count as usize, (count, ())), buf) {
             Ok(Both(nulls, Both(types, values))) => Ok(StmtParams {
                 nulls,
                 types: types.0,
