@@ -91,7 +91,7 @@ impl<'de, A: Allocator + Copy> MyDeserialize<'de, A> for ColumnCount {
             CapabilityFlags::CLIENT_OPTIONAL_RESULTSET_METADATA,
             (),
         );
-        match buf.parse_in::<Fields, A>(alloc, (follows, ((), cached_under(mariadb)))) {
+        match Fields::deserialize(alloc, (follows, ((), cached_under(mariadb))), buf) {
             Ok(Both(follows, Both(column_count, cached))) => Ok(ColumnCount {
                 metadata_follows: value_of(follows),
                 column_count: column_count.0,

@@ -152,7 +152,11 @@ impl<'de> MyDeserialize<'de, Global> for Pair<'de> {
         (⟦<RawBytes<'de, LenEnc> as MyDeserialize<'de, Global>>⟧.reads tt) };
 
     fn deserialize(alloc: Global, _: (), buf: &mut ParseBuf<'de>) -> Result<Self, WireError> {
-        match buf.parse::<Both<RawBytes<'de, LenEnc>, RawBytes<'de, LenEnc>>>(alloc, ((), ())) {
+        match Both::<RawBytes<'de, LenEnc>, RawBytes<'de, LenEnc>>::deserialize(
+            alloc,
+            ((), ()),
+            buf,
+        ) {
             Ok(Both(first, second)) => Ok(Pair(first, second)),
             Err(error) => Err(error),
         }
@@ -184,7 +188,7 @@ impl<'de> MyDeserialize<'de, Global> for ColumnDefinition41<'de> {
         let names = ((), ((), ()));
         let metadata = metadata_under(capabilities);
         let numbers = (((), ((), ())), (((), ()), ((), ())));
-        match buf.parse::<Fields<'de>>(alloc, (names, (metadata, numbers))) {
+        match Fields::deserialize(alloc, (names, (metadata, numbers)), buf) {
             Ok(fields) => Ok(of_fields(fields)),
             Err(error) => Err(error),
         }

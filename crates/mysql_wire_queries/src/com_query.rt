@@ -48,7 +48,7 @@ impl<'de> MyDeserialize<'de, Global> for ComQuery<'de> {
         (⟦<Fields<'de> as MyDeserialize<'de, Global>>⟧.reads (tt, tt) input) };
 
     fn deserialize(alloc: Global, _: (), buf: &mut ParseBuf<'de>) -> Result<Self, WireError> {
-        match buf.parse::<Fields<'de>>(alloc, ((), ())) {
+        match Fields::deserialize(alloc, ((), ()), buf) {
             Ok(Both(_, query)) => Ok(ComQuery { query }),
             Err(error) => Err(error),
         }

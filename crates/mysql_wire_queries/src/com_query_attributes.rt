@@ -71,7 +71,7 @@ impl<'de> MyDeserialize<'de, Global> for ComQueryWithAttributes<'de> {
         (⟦<Fields<'de> as MyDeserialize<'de, Global>>⟧.reads (tt, (tt, (tt, tt))) input) };
 
     fn deserialize(alloc: Global, _: (), buf: &mut ParseBuf<'de>) -> Result<Self, WireError> {
-        match buf.parse::<Fields<'de>>(alloc, ((), ((), ((), ())))) {
+        match Fields::deserialize(alloc, ((), ((), ((), ()))), buf) {
             Ok(Both(_, Both(count, Both(set_count, rest)))) => Ok(ComQueryWithAttributes {
                 parameter_count: count.0,
                 parameter_set_count: set_count.0,

@@ -48,7 +48,7 @@ impl<'de> MyDeserialize<'de, Global> for LocalInfileRequest<'de> {
         (⟦<Fields<'de> as MyDeserialize<'de, Global>>⟧.reads (tt, tt) input) };
 
     fn deserialize(alloc: Global, _: (), buf: &mut ParseBuf<'de>) -> Result<Self, WireError> {
-        match buf.parse::<Fields<'de>>(alloc, ((), ())) {
+        match Fields::deserialize(alloc, ((), ()), buf) {
             Ok(Both(_, file_name)) => Ok(LocalInfileRequest { file_name }),
             Err(error) => Err(error),
         }

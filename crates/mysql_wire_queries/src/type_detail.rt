@@ -49,7 +49,7 @@ impl<'de> MyDeserialize<'de, Global> for TypeDetail<'de> {
         (⟦<Fields<'de> as MyDeserialize<'de, Global>>⟧.reads (tt, tt) input) };
 
     fn deserialize(alloc: Global, _: (), buf: &mut ParseBuf<'de>) -> Result<Self, WireError> {
-        match buf.parse::<Fields<'de>>(alloc, ((), ())) {
+        match Fields::deserialize(alloc, ((), ()), buf) {
             Ok(Both(kind, value)) => Ok(TypeDetail { kind, value }),
             Err(error) => Err(error),
         }
