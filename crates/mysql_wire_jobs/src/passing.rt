@@ -49,8 +49,10 @@ fn renumbered(alloc: Global, bytes: &[u8], step: usize) -> Option<u64> {
     Some(digest.value())
 }
 
-// All packets, written once for some of them.
-fn relay_all(reader: &mut PacketReader<Pieces<'_>>, writer: &mut PacketWriter<Sink>) -> Option<()> {
+// Passed on by a reader and a writer, which writes once for some packets.
+fn relayed(alloc: Global, bytes: &[u8], step: usize) -> Option<u64> {
+    let mut reader = PacketReader::new(alloc, Pieces::new(bytes, step)).ok()?;
+    let mut writer = PacketWriter::new(alloc, Sink::new(Vec::new(alloc))).ok()?;
     let mut codec = codec_under(LIMIT);
     let mut writer_codec = codec_under(LIMIT);
     writer_codec.set_sequence_id(9);
@@ -59,36 +61,13 @@ fn relay_all(reader: &mut PacketReader<Pieces<'_>>, writer: &mut PacketWriter<Si
             return None;
         }
         let went = reader
-            .relay_packet(&mut codec, writer, &mut writer_codec)
+            .relay_packet(&mut codec, &mut writer, &mut writer_codec)
             .ok()?;
         if !went || count % 16 == 15 {
             writer.write_pending().ok()?;
         }
         if !went {
-            return Some(());
-        }
-    }
-    None
-}
-
-// Passed on by a reader and a writer.
-fn relayed(alloc: Global, bytes: &[u8], step: usize) -> Option<u64> {
-    let mut reader = PacketReader::new(alloc, Pieces::new(bytes, step)).ok()?;
-    let mut writer = PacketWriter::new(alloc, Sink::new(Vec::new(alloc))).ok()?;
-    let all = relay_all(&mut reader, &mut writer);
-    let value = writer.into_inner().value();
-    all.and(Some(value))
-}
-
-// All payloads, copied to a sink.
-fn copy_all(reader: &mut PacketReader<Pieces<'_>>, sink: &mut Sink) -> Option<()> {
-    let mut codec = codec_under(LIMIT);
-    'packets: for _ in 0..u64::MAX {
-        if !reader.can_copy(&codec) {
-            return None;
-        }
-        if !reader.copy_packet(&mut codec, sink).ok()? {
-            return Some(());
+            return Some(writer.into_inner().value());
         }
     }
     None
@@ -97,9 +76,17 @@ fn copy_all(reader: &mut PacketReader<Pieces<'_>>, sink: &mut Sink) -> Option<()
 // The payloads alone.
 fn copied(alloc: Global, bytes: &[u8], step: usize) -> Option<u64> {
     let mut reader = PacketReader::new(alloc, Pieces::new(bytes, step)).ok()?;
+    let mut codec = codec_under(LIMIT);
     let mut sink = Sink::new(Vec::new(alloc));
-    let all = copy_all(&mut reader, &mut sink);
-    all.and(Some(sink.value()))
+    'packets: for _ in 0..u64::MAX {
+        if !reader.can_copy(&codec) {
+            return None;
+        }
+        if !reader.copy_packet(&mut codec, &mut sink).ok()? {
+            return Some(sink.value());
+        }
+    }
+    None
 }
 
 fn passed(alloc: Global, bytes: &[u8], turn: usize) -> Option<u64> {
