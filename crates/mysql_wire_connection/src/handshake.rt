@@ -7,12 +7,11 @@ ghost use Rattle.wire_const.specs.FlagSets.{capability_flags_bits};
 ghost use Rattle.wire_buf.specs.Numbers.{le_bytes, le_number};
 ghost use Rattle.wire_buf.specs.NumberLemmas.{length-le_bytes, le_number-le_bytes};
 ghost use Rattle.wire_repr.specs.Texts.{IsText, IsBorrowedText};
-ghost use Rattle.mysql_wire_parts.specs.InOrder.{both, const_u8, byte, number, number_by, array, bare_text, eof_text};
+ghost use Rattle.mysql_wire_parts.specs.InOrder.{at_input, both, const_u8, byte, number, number_by, array, bare_text, eof_text};
 ghost use Rattle.mysql_wire_parts.specs.NullTexts.{clean, null_text};
 ghost use Rattle.mysql_wire_parts.specs.Optional.{BothIf, IsSide, IsThere, OnIf, field, has, KeptField, kept_field, one_of, optional, side};
 ghost use Rattle.mysql_wire_parts.specs.Then.{ReadsThen, then_back};
 ghost use Rattle.mysql_wire_connection.specs.Handshakes.{has_zero, is_closed, part_2_length, head_bytes, head_fields, tail_at, tail_bytes, upper_half, upper_half-back};
-ghost use Rattle.mysql_wire_packets.specs.Oks.{at_input};
 ghost use Rattle.wire_field.specs.Rows.{OnSide, SameSide, by_side};
 ghost use Rattle.std.proofs.Common.{subst};
 

@@ -1,5 +1,5 @@
 -- What stands after the warnings of an OK packet.
-use Rattle.std.specs.Prelude.{ℕ, ◌≡◌, Bool, true, false, List, [], ◌∷◌, ◌++◌, if◌then◌else◌, Option, None, Result}
+use Rattle.std.specs.Prelude.{ℕ, ◌≡◌, Bool, true, false, List, [], ◌∷◌, ◌++◌, if◌then◌else◌, Option, None}
 use Rattle.wire_const.specs.FlagSets.{capability_flags_bits}
 use Rattle.wire_const.specs.declared.flag_sets.capability.CapabilityFlags.{CapabilityFlags}
 use Rattle.wire_buf.specs.Lenenc.{lenenc_bytes}
@@ -8,8 +8,7 @@ use Rattle.wire_field.specs.declared.row.Either.{Either}
 use Rattle.std.proofs.Common.{refl}
 use Rattle.std.specs.Cow.{cow_slice_items}
 use Rattle.wire_field.specs.Rows.{by_side}
-use Rattle.wire_buf.specs.declared.error.WireError.{WireError}
-use Rattle.mysql_wire_parts.specs.InOrder.{Back, text_bytes}
+use Rattle.mysql_wire_parts.specs.InOrder.{text_bytes}
 use Rattle.mysql_wire_parts.specs.Optional.{bytes_if, has, side}
 use Rattle.mysql_wire_packets.specs.declared.ok_packet.OkForm.{OkForm}
 use Rattle.mysql_wire_packets.specs.declared.ok_packet.InfoForm.{InfoForm}
@@ -60,13 +59,6 @@ words_bytes ok = bytes_if (by_side (λ text. text_bytes text.0) (λ text. cow_sl
     ++ bytes_if (λ state. text_bytes state.0) ok.session_state
 
 -- ---- lemmas
-
--- a field whose context is made of what is read
-pub at_input : {C X : Type 0} {kept : X → Type 0} {bytes rest : List ℕ} (ctx : List ℕ → C)
-    (reads : C → List ℕ → Result X WireError → ℕ → Type 0)
-    → Back (reads (ctx (bytes ++ rest))) kept bytes rest
-    → Back (λ input. reads (ctx input) input) kept bytes rest
-at_input ctx reads back = record { law = back.law }
 
 -- nothing stands after an info to the end
 pub none_behind : {V : Type 0} (state : Option V) (rest : List ℕ) (bytes : V → List ℕ)

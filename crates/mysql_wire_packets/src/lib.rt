@@ -8,5 +8,6 @@ pub mod err_packet;
 pub mod good;
 pub mod laws;
 pub mod ok_packet;
+pub mod payload;
 pub mod progress_report;
 pub mod session_change;

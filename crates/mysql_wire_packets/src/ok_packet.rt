@@ -6,8 +6,8 @@ ghost use Rattle.std.specs.Cow.{cow_slice_items};
 ghost use Rattle.wire_const.specs.FlagSets.{capability_flags_bits};
 ghost use Rattle.wire_repr.specs.Texts.{IsText, IsBorrowedText};
 ghost use Rattle.wire_field.specs.Rows.{OnSide, SameSide, by_side};
-ghost use Rattle.mysql_wire_parts.specs.InOrder.{both, const_u8, eof_text, lenenc_int, lenenc_text, number, text_bytes};
-ghost use Rattle.mysql_wire_packets.specs.Oks.{at_input, counts_bytes, form_of, has_state, is_lenenc, is_more, none_behind, words_bytes, words_ctx};
+ghost use Rattle.mysql_wire_parts.specs.InOrder.{at_input, both, const_u8, eof_text, lenenc_int, lenenc_text, number, text_bytes};
+ghost use Rattle.mysql_wire_packets.specs.Oks.{counts_bytes, form_of, has_state, is_lenenc, is_more, none_behind, words_bytes, words_ctx};
 ghost use Rattle.mysql_wire_parts.specs.Optional.{BothIf, IsSide, IsThere, KeptField, OnIf, field, kept_field, one_of, optional, side};
 ghost use Rattle.mysql_wire_parts.specs.Then.{ReadsThen, then_back};
 

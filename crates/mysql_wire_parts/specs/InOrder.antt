@@ -40,6 +40,13 @@ pub record Back {X : Type 0} (reads : List ℕ → Result X WireError → ℕ �
   pub law : (answer : Result X WireError) (eaten : ℕ) → reads (bytes ++ rest) answer eaten
       → ComesBack kept ⊥ (length bytes) answer eaten
 
+-- a field whose context is made of what is read
+pub at_input : {C X : Type 0} {kept : X → Type 0} {bytes rest : List ℕ} (ctx : List ℕ → C)
+    (reads : C → List ℕ → Result X WireError → ℕ → Type 0)
+    → Back (reads (ctx (bytes ++ rest))) kept bytes rest
+    → Back (λ input. reads (ctx input) input) kept bytes rest
+at_input ctx reads back = record { law = back.law }
+
 -- without the premise of memory
 no_memory : {X : Type 0} (kept : X → Type 0) (len : ℕ) (answer : Result X WireError) (eaten : ℕ)
     → ComesBack kept (⊥ ⊎ ⊥) len answer eaten → ComesBack kept ⊥ len answer eaten

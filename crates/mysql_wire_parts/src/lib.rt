@@ -4,4 +4,5 @@
 
 pub mod by_ref;
 pub mod optional;
+pub mod payload;
 pub mod places;

@@ -12,31 +12,31 @@ use Rattle.mysql_wire_session.specs.declared.session.read.Opened.{Opened}
 use Rattle.mysql_wire_session.specs.SilentLemmas.{kind_silent, silent}
 use Rattle.mysql_wire_session.specs.Readings.{IsColumn, IsExecution, IsExecutionOf, IsQuery, IsRead, LogRequestGives, OtherCommandGives, ReadsAs, Receives, advanced, after_kind, after_packet, is_numbered, kind_of, opened_at, statement_named}
 use Rattle.mysql_wire_session.specs.State.{SessionState, expectation_of, statement_of}
-use Rattle.mysql_wire_session.specs.contracts.payload.HandshakeV10Payload.TheImpl as greeting_type
-use Rattle.mysql_wire_session.specs.contracts.payload.AuthSwitchRequestPayload.TheImpl as switch_type
-use Rattle.mysql_wire_session.specs.contracts.payload.AuthMoreDataPayload.TheImpl as more_type
-use Rattle.mysql_wire_session.specs.contracts.payload.AuthSwitchResponsePayload.TheImpl as answer_type
-use Rattle.mysql_wire_session.specs.contracts.payload.ProgressReportPayload.TheImpl as progress_type
-use Rattle.mysql_wire_session.specs.contracts.payload.ComInitDbPayload.TheImpl as init_type
-use Rattle.mysql_wire_session.specs.contracts.payload.ComPingPayload.TheImpl as ping_type
-use Rattle.mysql_wire_session.specs.contracts.payload.ComQuitPayload.TheImpl as quit_type
-use Rattle.mysql_wire_session.specs.contracts.payload.ComStmtPreparePayload.TheImpl as prepare_type
-use Rattle.mysql_wire_session.specs.contracts.payload.ComStmtSendLongDataPayload.TheImpl as long_data_type
-use Rattle.mysql_wire_session.specs.contracts.payload.StatementCommandPayload.TheImpl as statement_command
-use Rattle.mysql_wire_session.specs.contracts.payload.ComChangeUserPayload.TheImpl as change_type
-use Rattle.mysql_wire_session.specs.contracts.payload.ComQueryPayload.TheImpl as query_type
-use Rattle.mysql_wire_session.specs.contracts.payload.ComQueryWithAttributesPayload.TheImpl as query_type_with
-use Rattle.mysql_wire_session.specs.contracts.payload.ComStmtExecutePayload.TheImpl as execute_type
-use Rattle.mysql_wire_session.specs.contracts.payload.ComBinlogDumpPayload.TheImpl as dump_type
-use Rattle.mysql_wire_session.specs.contracts.payload.ComBinlogDumpGtidPayload.TheImpl as dump_gtid_type
-use Rattle.mysql_wire_session.specs.contracts.payload.ComDebugPayload.TheImpl as debug_type
-use Rattle.mysql_wire_session.specs.contracts.payload.ComFieldListPayload.TheImpl as field_list_type
-use Rattle.mysql_wire_session.specs.contracts.payload.ComProcessKillPayload.TheImpl as kill_type
-use Rattle.mysql_wire_session.specs.contracts.payload.ComRegisterSlavePayload.TheImpl as replica_type
-use Rattle.mysql_wire_session.specs.contracts.payload.ComResetConnectionPayload.TheImpl as reset_connection_type
-use Rattle.mysql_wire_session.specs.contracts.payload.ComSetOptionPayload.TheImpl as set_option_type
-use Rattle.mysql_wire_session.specs.contracts.payload.ComStatisticsPayload.TheImpl as statistics_type
-use Rattle.mysql_wire_session.specs.contracts.payload.StatisticsTextPayload.TheImpl as text_type
+use Rattle.mysql_wire_connection.specs.contracts.payload.HandshakeV10Payload.TheImpl as greeting_type
+use Rattle.mysql_wire_connection.specs.contracts.payload.AuthSwitchRequestPayload.TheImpl as switch_type
+use Rattle.mysql_wire_connection.specs.contracts.payload.AuthMoreDataPayload.TheImpl as more_type
+use Rattle.mysql_wire_connection.specs.contracts.payload.AuthSwitchResponsePayload.TheImpl as answer_type
+use Rattle.mysql_wire_packets.specs.contracts.payload.ProgressReportPayload.TheImpl as progress_type
+use Rattle.mysql_wire_utility.specs.contracts.payload.ComInitDbPayload.TheImpl as init_type
+use Rattle.mysql_wire_utility.specs.contracts.payload.ComPingPayload.TheImpl as ping_type
+use Rattle.mysql_wire_utility.specs.contracts.payload.ComQuitPayload.TheImpl as quit_type
+use Rattle.mysql_wire_statements.specs.contracts.payload.ComStmtPreparePayload.TheImpl as prepare_type
+use Rattle.mysql_wire_statements.specs.contracts.payload.ComStmtSendLongDataPayload.TheImpl as long_data_type
+use Rattle.mysql_wire_statements.specs.contracts.payload.StatementCommandPayload.TheImpl as statement_command
+use Rattle.mysql_wire_utility.specs.contracts.payload.ComChangeUserPayload.TheImpl as change_type
+use Rattle.mysql_wire_queries.specs.contracts.payload.ComQueryPayload.TheImpl as query_type
+use Rattle.mysql_wire_queries.specs.contracts.payload.ComQueryWithAttributesPayload.TheImpl as query_type_with
+use Rattle.mysql_wire_statements.specs.contracts.payload.ComStmtExecutePayload.TheImpl as execute_type
+use Rattle.mysql_wire_utility.specs.contracts.payload.ComBinlogDumpPayload.TheImpl as dump_type
+use Rattle.mysql_wire_utility.specs.contracts.payload.ComBinlogDumpGtidPayload.TheImpl as dump_gtid_type
+use Rattle.mysql_wire_utility.specs.contracts.payload.ComDebugPayload.TheImpl as debug_type
+use Rattle.mysql_wire_utility.specs.contracts.payload.ComFieldListPayload.TheImpl as field_list_type
+use Rattle.mysql_wire_utility.specs.contracts.payload.ComProcessKillPayload.TheImpl as kill_type
+use Rattle.mysql_wire_utility.specs.contracts.payload.ComRegisterSlavePayload.TheImpl as replica_type
+use Rattle.mysql_wire_utility.specs.contracts.payload.ComResetConnectionPayload.TheImpl as reset_connection_type
+use Rattle.mysql_wire_utility.specs.contracts.payload.ComSetOptionPayload.TheImpl as set_option_type
+use Rattle.mysql_wire_utility.specs.contracts.payload.ComStatisticsPayload.TheImpl as statistics_type
+use Rattle.mysql_wire_utility.specs.contracts.payload.StatisticsTextPayload.TheImpl as text_type
 use Rattle.mysql_wire_session_phases.specs.declared.classify.Expectation.{Expectation}
 use Rattle.mysql_wire_session_packets.specs.declared.packet.Packet.{Packet}
 use Rattle.mysql_wire_session_packets.specs.declared.packet.Packet.TheVariants as packet

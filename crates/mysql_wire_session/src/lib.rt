@@ -3,7 +3,6 @@
 #![tactic(auto)]
 
 mod packet_payload;
-pub mod payload;
 pub mod session;
 mod statements;
 
@@ -18,6 +17,11 @@ pub mod classify {
 pub mod packet {
     pub use crate::session::forget;
     pub use mysql_wire_session_packets::packet::{Packet, Received, Row};
+}
+
+/// What it is that a payload is a packet.
+pub mod payload {
+    pub use mysql_wire_parts::payload::Payload;
 }
 
 /// What a packet is.

@@ -5,7 +5,6 @@ ghost use Rattle.mysql_wire_session_packets.specs.declared.client_command.Client
 ghost use Rattle.mysql_wire_session_packets.specs.declared.packet.Packet.{Packet};
 ghost use Rattle.mysql_wire_session_packets.specs.declared.packet.Packet.TheVariants as packets;
 
-use crate::payload::Payload;
 use mysql_wire_connection::auth_more_data::AuthMoreData;
 use mysql_wire_connection::auth_switch::AuthSwitchRequest;
 use mysql_wire_connection::auth_switch_response::AuthSwitchResponse;
@@ -16,6 +15,7 @@ use mysql_wire_packets::eof_packet::EofPacket;
 use mysql_wire_packets::err_packet::ErrPacket;
 use mysql_wire_packets::ok_packet::{OkPacket, RowsEnd};
 use mysql_wire_packets::progress_report::ProgressReport;
+use mysql_wire_parts::payload::Payload;
 use mysql_wire_queries::column_count::ColumnCount;
 use mysql_wire_queries::column_definition::ColumnDefinition41;
 use mysql_wire_queries::com_query::ComQuery;

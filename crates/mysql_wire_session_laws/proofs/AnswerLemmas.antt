@@ -28,36 +28,36 @@ use Rattle.mysql_wire_session.specs.Readings.{IsEnd, IsExecution, IsExecutionOf,
 use Rattle.mysql_wire_session.specs.Senders.{is_idle, next_sender}
 use Rattle.mysql_wire_packets.specs.Oks.{ok_form}
 use Rattle.mysql_wire_parts.specs.Optional.{has_query_attributes, has}
-use Rattle.mysql_wire_session.specs.contracts.payload.ColumnCountPayload.TheImpl as count_type
-use Rattle.mysql_wire_session.specs.contracts.payload.ColumnDefinition41Payload.TheImpl as column_type
-use Rattle.mysql_wire_session.specs.contracts.payload.AuthMoreDataPayload.TheImpl as more_type
-use Rattle.mysql_wire_session.specs.contracts.payload.AuthSwitchRequestPayload.TheImpl as switch_type
-use Rattle.mysql_wire_session.specs.contracts.payload.AuthSwitchResponsePayload.TheImpl as answer_type
-use Rattle.mysql_wire_session.specs.contracts.payload.ComChangeUserPayload.TheImpl as change_type
-use Rattle.mysql_wire_session.specs.contracts.payload.ComInitDbPayload.TheImpl as init_type
-use Rattle.mysql_wire_session.specs.contracts.payload.ComStmtFetchPayload.TheImpl as fetch_type
+use Rattle.mysql_wire_queries.specs.contracts.payload.ColumnCountPayload.TheImpl as count_type
+use Rattle.mysql_wire_queries.specs.contracts.payload.ColumnDefinition41Payload.TheImpl as column_type
+use Rattle.mysql_wire_connection.specs.contracts.payload.AuthMoreDataPayload.TheImpl as more_type
+use Rattle.mysql_wire_connection.specs.contracts.payload.AuthSwitchRequestPayload.TheImpl as switch_type
+use Rattle.mysql_wire_connection.specs.contracts.payload.AuthSwitchResponsePayload.TheImpl as answer_type
+use Rattle.mysql_wire_utility.specs.contracts.payload.ComChangeUserPayload.TheImpl as change_type
+use Rattle.mysql_wire_utility.specs.contracts.payload.ComInitDbPayload.TheImpl as init_type
+use Rattle.mysql_wire_statements.specs.contracts.payload.ComStmtFetchPayload.TheImpl as fetch_type
 use Rattle.mysql_wire_statements.specs.declared.com_stmt_fetch.ComStmtFetch.{ComStmtFetch}
-use Rattle.mysql_wire_session.specs.contracts.payload.ComQueryPayload.TheImpl as query_type
-use Rattle.mysql_wire_session.specs.contracts.payload.ComQueryWithAttributesPayload.TheImpl as query_type_with
-use Rattle.mysql_wire_session.specs.contracts.payload.ComStmtExecutePayload.TheImpl as execute_type
-use Rattle.mysql_wire_session.specs.contracts.payload.ComPingPayload.TheImpl as ping_type
-use Rattle.mysql_wire_session.specs.contracts.payload.ComQuitPayload.TheImpl as quit_type
-use Rattle.mysql_wire_session.specs.contracts.payload.StatementCommandPayload.TheImpl as statement_command
-use Rattle.mysql_wire_session.specs.contracts.payload.ComStmtPrepareOkPayload.TheImpl as prepared_type
-use Rattle.mysql_wire_session.specs.contracts.payload.ComStmtPreparePayload.TheImpl as prepare_type
-use Rattle.mysql_wire_session.specs.contracts.payload.ComStmtSendLongDataPayload.TheImpl as long_data_type
-use Rattle.mysql_wire_session.specs.contracts.payload.EofPacketPayload.TheImpl as eof_type
-use Rattle.mysql_wire_session.specs.contracts.payload.ErrPacketPayload.TheImpl as error_type
-use Rattle.mysql_wire_session.specs.contracts.payload.HandshakeResponse41Payload.TheImpl as login_type
-use Rattle.mysql_wire_session.specs.contracts.payload.HandshakeV10Payload.TheImpl as greeting_type
-use Rattle.mysql_wire_session.specs.contracts.payload.LocalInfileRequestPayload.TheImpl as file_type
+use Rattle.mysql_wire_queries.specs.contracts.payload.ComQueryPayload.TheImpl as query_type
+use Rattle.mysql_wire_queries.specs.contracts.payload.ComQueryWithAttributesPayload.TheImpl as query_type_with
+use Rattle.mysql_wire_statements.specs.contracts.payload.ComStmtExecutePayload.TheImpl as execute_type
+use Rattle.mysql_wire_utility.specs.contracts.payload.ComPingPayload.TheImpl as ping_type
+use Rattle.mysql_wire_utility.specs.contracts.payload.ComQuitPayload.TheImpl as quit_type
+use Rattle.mysql_wire_statements.specs.contracts.payload.StatementCommandPayload.TheImpl as statement_command
+use Rattle.mysql_wire_statements.specs.contracts.payload.ComStmtPrepareOkPayload.TheImpl as prepared_type
+use Rattle.mysql_wire_statements.specs.contracts.payload.ComStmtPreparePayload.TheImpl as prepare_type
+use Rattle.mysql_wire_statements.specs.contracts.payload.ComStmtSendLongDataPayload.TheImpl as long_data_type
+use Rattle.mysql_wire_packets.specs.contracts.payload.EofPacketPayload.TheImpl as eof_type
+use Rattle.mysql_wire_packets.specs.contracts.payload.ErrPacketPayload.TheImpl as error_type
+use Rattle.mysql_wire_connection.specs.contracts.payload.HandshakeResponse41Payload.TheImpl as login_type
+use Rattle.mysql_wire_connection.specs.contracts.payload.HandshakeV10Payload.TheImpl as greeting_type
+use Rattle.mysql_wire_queries.specs.contracts.payload.LocalInfileRequestPayload.TheImpl as file_type
 use Rattle.wire_const.specs.declared.flag_sets.capability.CapabilityFlags.{CapabilityFlags}
 use Rattle.wire_const.specs.declared.flag_sets.mariadb.MariadbCapabilities.{MariadbCapabilities}
-use Rattle.mysql_wire_session.specs.contracts.payload.OkFormPayload.TheImpl as ok_type
-use Rattle.mysql_wire_session.specs.contracts.payload.SslRequestPayload.TheImpl as tls_type
+use Rattle.mysql_wire_packets.specs.contracts.payload.OkFormPayload.TheImpl as ok_type
+use Rattle.mysql_wire_connection.specs.contracts.payload.SslRequestPayload.TheImpl as tls_type
 use Rattle.mysql_wire_session_laws.proofs.ReportLemmas.{with_reports}
 use Rattle.mysql_wire_connection.specs.declared.ssl_request.SslRequest.{SslRequest}
-use Rattle.mysql_wire_session.specs.contracts.payload.StatisticsTextPayload.TheImpl as statistics_type
+use Rattle.mysql_wire_utility.specs.contracts.payload.StatisticsTextPayload.TheImpl as statistics_type
 use Rattle.mysql_wire_session.specs.Fronts.{says_more}
 use Rattle.mysql_wire_session.specs.SilentLemmas.{kind_silent, silent}
 use Rattle.mysql_wire_packets.specs.declared.eof_packet.EofPacket.{EofPacket}

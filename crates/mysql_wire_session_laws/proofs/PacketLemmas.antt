@@ -20,7 +20,7 @@ use Rattle.mysql_wire_queries.specs.declared.column_count.ColumnCount.{ColumnCou
 use Rattle.mysql_wire_session.specs.Advance.{is_zero, mariadb_of}
 use Rattle.mysql_wire_session_laws.specs.Grammar.{Agreed, Agrees, IsColumnCount, IsDefinition, IsReadAs, IsRow, from_server}
 use Rattle.mysql_wire_session_phases.specs.Kinds.{first_byte, is_report}
-use Rattle.mysql_wire_session.specs.contracts.payload.ColumnCountPayload.TheImpl as count_type
+use Rattle.mysql_wire_queries.specs.contracts.payload.ColumnCountPayload.TheImpl as count_type
 use Rattle.mysql_wire_session_phases.specs.declared.packet_kind.PacketKind.TheVariants as kind
 use Rattle.mysql_wire_session_phases.specs.Refusals.{refusal_of}
 use Rattle.mysql_wire_session_phases.specs.declared.refusal.Refusal.{Refusal}

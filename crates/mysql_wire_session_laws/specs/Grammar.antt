@@ -19,20 +19,20 @@ use Rattle.mysql_wire_queries.specs.declared.column_count.ColumnCount.{ColumnCou
 use Rattle.wire_const.specs.declared.flag_sets.capability.CapabilityFlags.{CapabilityFlags}
 use Rattle.wire_const.specs.declared.flag_sets.mariadb.MariadbCapabilities.{MariadbCapabilities}
 use Rattle.mysql_wire_session_phases.specs.Refusals.{refusal_of}
-use Rattle.mysql_wire_session.specs.contracts.payload.ColumnCountPayload.TheImpl as count_type
-use Rattle.mysql_wire_session.specs.contracts.payload.ComStmtPrepareOkPayload.TheImpl as prepared_type
-use Rattle.mysql_wire_session.specs.contracts.payload.EofPacketPayload.TheImpl as eof_type
-use Rattle.mysql_wire_session.specs.contracts.payload.ErrPacketPayload.TheImpl as error_type
-use Rattle.mysql_wire_session.specs.contracts.payload.LocalInfileRequestPayload.TheImpl as file_type
-use Rattle.mysql_wire_session.specs.contracts.payload.OkFormPayload.TheImpl as ok_type
-use Rattle.mysql_wire_session.specs.contracts.payload.SslRequestPayload.TheImpl as tls_type
+use Rattle.mysql_wire_queries.specs.contracts.payload.ColumnCountPayload.TheImpl as count_type
+use Rattle.mysql_wire_statements.specs.contracts.payload.ComStmtPrepareOkPayload.TheImpl as prepared_type
+use Rattle.mysql_wire_packets.specs.contracts.payload.EofPacketPayload.TheImpl as eof_type
+use Rattle.mysql_wire_packets.specs.contracts.payload.ErrPacketPayload.TheImpl as error_type
+use Rattle.mysql_wire_queries.specs.contracts.payload.LocalInfileRequestPayload.TheImpl as file_type
+use Rattle.mysql_wire_packets.specs.contracts.payload.OkFormPayload.TheImpl as ok_type
+use Rattle.mysql_wire_connection.specs.contracts.payload.SslRequestPayload.TheImpl as tls_type
 use denote.Param.{number}
 use Rattle.mysql_wire_session.specs.Advance.{id_after, is_zero, mariadb_of}
 use Rattle.mysql_wire_session.specs.State.{SessionState, initial_state, statement_of}
 use Rattle.mysql_wire_connection.specs.declared.handshake_response.HandshakeResponse41.{HandshakeResponse41}
 use Rattle.mysql_wire_statements.specs.declared.com_stmt_prepare_ok.ComStmtPrepareOk.{ComStmtPrepareOk}
-use Rattle.mysql_wire_session.specs.contracts.payload.ComStmtFetchPayload.TheImpl as fetch_type
-use Rattle.mysql_wire_session.specs.contracts.payload.HandshakeResponse41Payload.TheImpl as login_type
+use Rattle.mysql_wire_statements.specs.contracts.payload.ComStmtFetchPayload.TheImpl as fetch_type
+use Rattle.mysql_wire_connection.specs.contracts.payload.HandshakeResponse41Payload.TheImpl as login_type
 use Rattle.mysql_wire_session.specs.Readings.{ReadsAs, after_packet, kind_of, opened_at}
 use Rattle.mysql_wire_session.specs.Senders.{is_idle, next_sender}
 use Rattle.mysql_wire_session_phases.specs.declared.side.Sender.{Sender}

@@ -3,7 +3,6 @@
 
 pub mod client_command;
 pub mod packet;
-pub mod prepare_answer;
 
 /// What a packet is.
 pub mod packet_kind {

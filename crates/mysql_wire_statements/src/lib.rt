@@ -15,6 +15,7 @@ pub mod com_stmt_send_long_data;
 pub mod laws;
 pub mod null_bitmap;
 pub mod params;
+pub mod payload;
 mod rest;
 pub mod statement_command;
 pub mod temporal;

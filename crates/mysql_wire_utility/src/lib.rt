@@ -16,3 +16,4 @@ pub mod com_set_option;
 pub mod com_statistics;
 pub mod good;
 pub mod laws;
+pub mod payload;

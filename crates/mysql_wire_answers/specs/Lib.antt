@@ -1,0 +1,2 @@
+pub mod PrepareAnswers
+pub mod RowPlaces
