@@ -6,7 +6,8 @@ set -e
 top=$(cd "$(dirname "$0")/.." && pwd)
 source "$top/scripts/start.sh"
 work=$(mktemp -d)
-trap 'rm -rf "$work"' EXIT
+declare -A tried
+trap 'kill "${tried[@]}" 2> "$work/gone" || true; wait; rm -rf "$work"' EXIT
 
 (cd "$top/scripts" && python3 - "$work") << 'END'
 import pathlib
@@ -26,31 +27,44 @@ printf 'chunk\n' > "$work/cases/chunk.args"
 printf '\1\0\0\0a\0\0\0\1' > "$work/cases/unframe"
 printf 'unframe\n8192\n100\n' > "$work/cases/unframe.args"
 
-# Tries a crate's program on these words, and shows its log where that fails.
+# Begins to try a crate's program on these words. `rt try` ends a while after the program has written.
 try() {
     local crate=$1
     shift
-    (cd "$top/crates/$crate" && rt try --steps 1000 "$@" < /dev/null > "$work/$crate" 2> "$work/log.$crate") || {
-        tail -n 3 "$work/log.$crate" >&2
-        return 1
-    }
+    (cd "$top/crates/$crate" && exec rt try --steps 1000 "$@") < /dev/null > "$work/$crate" \
+        2> "$work/log.$crate" & tried[$crate]=$!
 }
 
-try mysql_wire_dump --data "client=$work/client" --data "server=$work/server" \
-    -- client client server server & dump=$!
-try mysql_wire_tool --cases "$work/cases"
+# written CRATE LINES: waits until its program has written so many lines. Shows its log where it ends
+# without them.
+written() {
+    local goes=yes
+    until [ "$(wc -l < "$work/$1")" -ge "$2" ]; do
+        if [ -z "$goes" ]; then
+            tail -n 3 "$work/log.$1" >&2
+            exit 1
+        fi
+        sleep 0.1
+        kill -0 "${tried[$1]}" 2> "$work/gone" || goes=
+    done
+}
 
 # What the tool wrote in a case.
-written() {
+of_case() {
     sed -n "/^== $1\$/,/^== /{/^== /d;p}" "$work/mysql_wire_tool"
 }
 
+try mysql_wire_dump --data "client=$work/client" --data "server=$work/server" \
+    -- client client server server
+try mysql_wire_tool --cases "$work/cases"
+
+written mysql_wire_tool 9
 echo 'frame 0, of the bytes 123:'
-written frame | head -c 7 | od -An -tx1
+of_case frame | head -c 7 | od -An -tx1
 echo 'chunk, of these:'
-written chunk
+of_case chunk
 echo 'unframe 8192 100, of two packets:'
-written unframe
-wait "$dump"
+of_case unframe
+written mysql_wire_dump 3
 echo 'mysql_wire_dump, of a recorded session, its first lines:'
 head -n 3 "$work/mysql_wire_dump"

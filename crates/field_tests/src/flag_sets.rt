@@ -1,5 +1,5 @@
 //! Sets of flags: each bit, each number, and the errors' texts. `constant_calls` of
-//! `example_tests` has the calls.
+//! `facade_tests` has the calls.
 
 use bitflags::Bits;
 use std::alloc::Global;

@@ -1,4 +1,4 @@
-//! The callers that CALLING.md shows or names, proved. `example_tests` runs them, and
+//! The callers that CALLING.md shows or names, proved. `facade_tests` runs them, and
 //! `mysql_wire_vectors` those of fields, lists and sets of flags.
 #![tactic(auto)]
 

@@ -1,8 +1,12 @@
-//! The callers of `mysql_wire_examples`, run, and values as packets.
+//! Tests of what users name through the facade: the callers of `mysql_wire_examples`, run; values as
+//! packets; every call under refused memory, what it leaves then and how it goes on, and how much
+//! calls ask for (`memory_support` has the calls).
 #![tactic(auto)]
 
 #[cfg(test)]
 mod both_ends;
+#[cfg(test)]
+mod budget;
 #[cfg(test)]
 mod callers;
 #[cfg(test)]
@@ -15,6 +19,8 @@ mod in_place;
 mod long_packet;
 #[cfg(test)]
 mod measured;
+#[cfg(test)]
+mod memory;
 #[cfg(test)]
 mod own_fields;
 #[cfg(test)]
