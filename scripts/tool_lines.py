@@ -1,6 +1,8 @@
 #!/usr/bin/env python3
 """Runs the built program's commands on small inputs, which come as files or read by read, and with
-other command lines, and compares its status, what it writes and what it says on standard error.
+other command lines, and compares its status, what it writes and what it says on standard error: also
+where each read, each write and each request for memory fails in turn, for which a C compiler is
+needed.
 
     scripts/tool_lines.py
 
@@ -8,11 +10,14 @@ The last line is 'N passed, M failed'.
 """
 
 import contextlib
+import errno
 import fcntl
+import itertools
 import os
 import pathlib
 import select
 import shlex
+import shutil
 import socket
 import subprocess
 import sys
@@ -21,6 +26,12 @@ import tempfile
 TOP = pathlib.Path(__file__).resolve().parent.parent
 PROGRAM = TOP / "crates/mysql_wire_tool/out/mysql_wire_tool"
 USAGE = "usage: mysql_wire_tool frame ID | chunk | unframe STEP LIMIT [LATER AT] | reframe LIMIT\n"
+
+# What standard error says at a status, where it says something.
+SAID = {1: USAGE, 2: "input or output failed\n", 6: "out of memory\n"}
+
+# What lets reads, writes and requests for memory fail.
+FAILING = TOP / "scripts/failing.c"
 
 # The line, the input, and the status and the text that they end with: of the commands that read all
 # of their input first ..
@@ -123,18 +134,71 @@ MOST_AT_ONCE = 41000
 # The limit, the input, what is written, the steps, and places in the input and after it: what each
 # read asks for shows in what the program gets.
 READS = [
-    (9, b"\3\0\0\x00123\0\0\0\1", b"3 313233\n0 -\nrest 0\n", [1, 2, 9],
+    (9, b"\3\0\0\x00123\0\0\0\1", b"3 313233\n0 -\nrest 0\n", [1, 2, 9, 65536],
      [0, 1, 5, 8, 11, 12, 4294967295]),
     (100000, b"\xa0\x86\1\0" + b"B" * 100000, b"100000 " + b"42" * 100000 + b"\nrest 0\n",
      [65536], [0, 1, 65535, 65537, 100004, 100005, 4294967295]),
 ]
 
+# A packet, framed.
+THREE = b"\3\0\0\x00123"
 
-def run(line, data, folder):
+# A line, its input, how many reads of one byte each it makes, the status and the text that it ends
+# with, how many bytes of the text are written at most where a read fails, and how many requests for
+# memory it makes at least, beside those for its words.
+FAULTS = [
+    # All input is read, and its end, before anything is written. The requests are for the input, as
+    # it grows, and for the framing, or the payload and the text.
+    ("frame 0", b"123", 4, 0, THREE, 0, 2),
+    ("frame 0", THREE, 8, 0, b"\7\0\0\0\3\0\0\x00123", 0, 2),
+    ("chunk", b"", 1, 0, b"none\nrest 0\n", 0, 1),
+    ("chunk", THREE, 8, 0, b"last 0 3 313233\nrest 0\n", 0, 3),
+    # The piece, what is unread, as it grows, and the lines' texts.
+    ("unframe 2 3", THREE, 8, 0, b"3 313233\nrest 0\n", 99, 5),
+    ("unframe 2 0 3 3", THREE, 8, 0, b"3 313233\nrest 0\n", 99, 5),
+    # The fault is known with the last of these bytes; one read more would fail.
+    ("unframe 1 10", b"\1\0\0\0a\1\0\0\5b", 10, 5, b"1 61\nout of sync\n", 99, 5),
+    ("unframe 1 1", b"\1\0\0\0a\2\0\0\1", 9, 4, b"1 61\ntoo large\n", 99, 4),
+    ("unframe 1 1 5 9", b"\1\0\0\0a\2\0\0\1", 9, 4, b"1 61\ntoo large\n", 99, 4),
+    ("unframe 9 1 5 8", b"\1\0\0\0a\2\0\0\1bc", 12, 0, b"1 61\n2 6263\nrest 0\n", 99, 6),
+    # Each packet is written before the next read. Room for a read, and for the framing.
+    ("reframe 3", THREE, 8, 0, THREE, 99, 2),
+    ("reframe 3", b"\1\0\0\0a\0\0\0\5", 9, 5, b"\1\0\0\0a", 99, 2),
+]
+
+# The most requests for memory of one of these, beside those for its words, and of `unframe` where a
+# read brings many packets: for the piece, what is unread, and the text, as it grows.
+MOST_REQUESTS = 30
+
+# How many packets of 300 bytes, framed in 304, `reframe` is given; how many bytes the first write takes
+# at most; how many a write may have, and all of them, where one that has more takes none; the status,
+# and how many packets are sent.
+MANY_BYTES = 99999
+OFFERED = [
+    (60, MANY_BYTES, 304, MANY_BYTES, 0, 60),
+    (60, MANY_BYTES, 303, MANY_BYTES, 2, 0),
+    (1, MANY_BYTES, 304, 303, 2, 0),
+    # The first write ends inside a packet, inside a header, and between two packets.
+    (9, 500, 500, MANY_BYTES, 0, 9),
+    (9, 610, 610, MANY_BYTES, 0, 9),
+    (9, 608, 608, 1824, 2, 6),
+]
+
+
+def with_faults(folder, faults):
+    """The environment of a program whose reads, writes and requests go so; failing.c has the names."""
+    if not faults:
+        return None
+    numbers = {name: str(number) for name, number in faults.items()}
+    return {**os.environ, "LD_PRELOAD": str(folder / "failing.so"), **numbers}
+
+
+def run(line, data, folder, **faults):
     """The status, what was written, what was said on standard error, and how much was read."""
     (folder / "input").write_bytes(data)
+    how = {"capture_output": True, "env": with_faults(folder, faults)}
     with open(folder / "input", "rb") as file:
-        ran = subprocess.run([PROGRAM, *shlex.split(line)], stdin=file, capture_output=True)
+        ran = subprocess.run([PROGRAM, *shlex.split(line)], stdin=file, **how)
         read = os.lseek(file.fileno(), 0, os.SEEK_CUR)
     return ran.returncode, ran.stdout, ran.stderr.decode(), read
 
@@ -164,10 +228,10 @@ def run_on_messages(line, given):
     return ran.returncode, output, error.decode()
 
 
-def goes(line, data, status, text, folder):
+def goes(line, data, status, text, folder, **faults):
     """What goes otherwise, or None where the line goes as it must."""
-    found = run(line, data, folder)
-    return None if found[:3] == (status, text, "") else shown(found)
+    found = run(line, data, folder, **faults)
+    return None if found[:3] == (status, text, SAID.get(status, "")) else shown(found)
 
 
 def shown(found):
@@ -341,6 +405,129 @@ def of_other_lines(folder):
         yield "no command: " + line, None if found == (1, b"", USAGE, 0) else shown(found)
 
 
+def of_single_bytes(folder):
+    """The same of all lines where a read takes one byte."""
+    for line, data, status, text in [*WHOLE, *PIECES]:
+        name = "%s of %s, byte by byte" % (line, data.hex() or "nothing")
+        yield name, goes(line, data, status, text, folder, READ_MOST=1)
+
+
+def ends(row, folder, wanted, most, **faults):
+    """The faults and what goes otherwise, or None where a row ends with this status where these are
+    met. Where that isn't the row's own, a front of its text is written, of this many bytes at most."""
+    line, data, _, status, text = row[:5]
+    found = run(line, data, folder, READ_MOST=1, **faults)
+    is_front = text.startswith(found[1])
+    is_long = found[1] == text if wanted == status else len(found[1]) <= most
+    is_right = found[0] == wanted and found[2] == SAID.get(wanted, "") and is_front and is_long
+    return None if is_right else "%s: %s" % (faults, shown(found))
+
+
+def of_failed_reads(row, folder):
+    """The same where a read fails or is interrupted, each in turn, and one that isn't made."""
+    reads, status, most = row[2], row[3], row[5]
+    for number, error in itertools.product(range(reads + 1), [errno.EIO, errno.EINTR]):
+        wanted = 2 if number < reads else status
+        yield ends(row, folder, wanted, most, READ_FAILS=number, READ_ERROR=error)
+
+
+def of_failed_writes(row, folder):
+    """The same where writes of many bytes or of one take none or fail after each number of them."""
+    status, text = row[3], row[4]
+    for room, most, error in itertools.product(range(len(text) + 1), [99, 1], [0, errno.EIO]):
+        wanted = 2 if room < len(text) else status
+        faults = {"WRITE_ROOM": room, "WRITE_MOST": most, "WRITE_ERROR": error}
+        yield ends(row, folder, wanted, room, **faults)
+
+
+def of_interrupted_writes(row, folder):
+    """The same where the first write is interrupted, which only `reframe` takes for a failed one."""
+    wanted = 2 if row[0].startswith("reframe") else row[3]
+    yield ends(row, folder, wanted, 0, WRITE_INTERRUPTS=1)
+
+
+def refused(line, data, status, text, folder):
+    """How many requests for memory a line makes; which of them it goes on without, where each is refused
+    in turn; and what goes otherwise, or None: each other one that is refused is told by the status 6,
+    and what was written then is a front of the text."""
+    ended, passed = (status, text, SAID.get(status, "")), []
+    for number in itertools.count():
+        found = run(line, data, folder, READ_MOST=1, REFUSED=number)[:3]
+        if "refused" not in found[2]:
+            return number, passed, None if found == ended else shown(found)
+        if found == (status, text, "refused\n" + ended[2]):
+            passed.append(number)
+        elif found[::2] != (6, "refused\n" + SAID[6]) or not text.startswith(found[1]):
+            return number, passed, "request %d: %s" % (number, shown(found))
+
+
+def refused_words(line, folder):
+    """The same of the requests for this line's words alone."""
+    return refused(" ".join("x" for _ in line.split()), b"", 1, b"", folder)
+
+
+def of_refused_requests(row, folder):
+    """The same where a request for memory is refused, each in turn: those that a line goes on without
+    are its words', whose room is asked for in front and then as they come."""
+    line, data, _, status, text, _, least = row
+    before, passed, fault = refused_words(line, folder)
+    yield fault
+    number, all_passed, fault = refused(line, data, status, text, folder)
+    is_right = least <= number - before <= MOST_REQUESTS and all_passed == passed
+    yield fault if fault or is_right else "%d requests, not %s" % (number - before, all_passed)
+
+
+def of_faults(folder):
+    """The same of each fault of a line."""
+    for row in FAULTS:
+        found = [*of_failed_reads(row, folder), *of_failed_writes(row, folder)]
+        found += [*of_interrupted_writes(row, folder), *of_refused_requests(row, folder)]
+        name = "%s of %s where something fails" % (row[0], row[1].hex() or "nothing")
+        yield name, "; ".join(filter(None, found)) or None
+
+
+def of_few_requests(folder):
+    """The same of the requests of `unframe` where a read brings many packets: none for each."""
+    line, (data, text) = "unframe 65536 20", many([20] * 8000)
+    before, _, _ = refused_words(line, folder)
+    fault = goes(line, data, 0, text + b"rest 0\n", folder, REFUSED=MOST_REQUESTS + before)
+    yield "requests of unframe of 8000 packets", fault
+
+
+def of_sends(folder):
+    """The same where each read brings this many bytes, and one fails: `reframe` has sent each packet
+    that came whole, and nothing else."""
+    data, ends_at = b"\1\0\0\0a\1\0\0\1b\2\0\0\2cd", [0, 5, 10, 16]
+    for at_once in [1, 4, 7, 11, 15, 16]:
+        found = []
+        for number in range(16 // at_once + 1):
+            text = data[:max(end for end in ends_at if end <= at_once * number)]
+            faults = {"READ_MOST": at_once, "READ_FAILS": number, "READ_ERROR": errno.EIO}
+            found.append((number, goes("reframe 9", data, 2, text, folder, **faults)))
+        yield "reframe before a read fails that takes %d bytes" % at_once, joined(found)
+
+
+def of_offered_packets(folder):
+    """The same where `reframe` is refused what has more bytes than a write may have."""
+    for count, first, most, room, status, sent in OFFERED:
+        faults = {"WRITE_FIRST": first, "WRITE_MOST": most, "WRITE_ROOM": room}
+        faults |= {"WRITE_WHOLE": 1, "WRITE_ERROR": errno.EAGAIN}
+        fault = goes("reframe 300", packets(count), status, packets(sent), folder, **faults)
+        yield "reframe of %d packets into %d, %d, %d bytes" % (count, first, most, room), fault
+
+
+def of_failing(folder):
+    """The same of what fails, where there is a C compiler."""
+    compiler = shutil.which("cc")
+    if not compiler:
+        print("no C compiler: no read, write or request for memory fails")
+        return
+    library = ["-shared", "-fPIC", "-o", folder / "failing.so"]
+    subprocess.run([compiler, *library, FAILING], check=True)
+    for checks in (of_single_bytes, of_faults, of_few_requests, of_sends, of_offered_packets):
+        yield from checks(folder)
+
+
 def main():
     if "--help" in sys.argv:
         print(__doc__.strip())
@@ -349,7 +536,7 @@ def main():
         folder = pathlib.Path(name)
         found = [*of_rows(folder), *of_streams(folder), *of_many(folder), *of_writes(folder)]
         found += [*of_reads(), *of_waits(), *of_refused_writes(folder)]
-        found += [*of_long_packets(folder), *of_other_lines(folder)]
+        found += [*of_long_packets(folder), *of_other_lines(folder), *of_failing(folder)]
     for name, fault in found:
         print("FAILED %s: %s" % (name, fault) if fault else "ok " + name)
     failed = sum(1 for _, fault in found if fault)

@@ -1,8 +1,4 @@
-//! The program's commands: command lines, and what the built program can't show.
+//! Of the program's commands what the built program can't show.
 
-mod faults;
-mod pieces;
+mod flushes;
 mod reads;
-mod rows;
-mod run;
-mod sends;

@@ -1,18 +1,18 @@
-// What `unframe` asks of a reader, with a reader that keeps each of its reads.
+// Readers of std, and one of a test's own, which keeps each of its reads.
 
 ghost use Rattle.std.specs.Prelude.{◌≡◌, ◌<◌, List, [], Option, Some, None, IfSome, IsFalse, if◌then◌else◌};
 ghost use Rattle.mysql_wire_commands.specs.declared.traced_read.OneRead.{OneRead};
 ghost use Rattle.mysql_wire_commands.specs.Reads.{EachAskedFor};
 
 use mysql_wire_commands::traced_read::{OneRead, TracedRead};
-use mysql_wire_commands::unframe::{run_unframe, run_unframe_limited};
+use mysql_wire_commands::unframe::run_unframe_limited;
 use std::alloc::Global;
 use std::io;
 use std::io::{BufReader, Cursor, Read};
 use std::test::Fail;
-use test_support::facts::{all_hold, ensure, same};
+use test_support::facts::{ensure, same};
 
-// Two chunks of one packet.
+// Two packets.
 const INPUT: &[u8] = b"\x03\0\0\0123\0\0\0\x01";
 
 // Gives what a read asks for, and keeps each of its reads.
@@ -77,66 +77,45 @@ fn traced_reads(alloc: Global, step: usize, at: usize) -> (u8, Option<Vec<OneRea
     (status, Some(reads))
 }
 
-// Whether these reads take the input and meet its end, each asked for a step, or where that would
-// pass this place from before it, for what is left up to there.
-fn are_right(reads: &[OneRead], step: usize, at: usize) -> bool {
-    let mut place = 0usize;
-    let mut all = true;
-    for read in reads {
-        let ahead = at.saturating_sub(place);
-        let asked = if ahead > 0 { step.min(ahead) } else { step };
-        let came = asked.min(INPUT.len().saturating_sub(place));
-        all &= (read.asked == asked) & (read.came == came);
-        place = place.saturating_add(came);
-    }
-    all & (place == INPUT.len())
-}
-
-// The same of an `unframe`.
-fn is_right(alloc: Global, step: usize, at: usize) -> bool {
-    match traced_reads(alloc, step.max(1), at) {
-        (0, Some(reads)) => are_right(reads.as_slice(), step, at),
-        _ => false,
-    }
-}
-
-// Places in the input and after it.
-const PLACES: &[usize] = &[0, 1, 5, 8, 11, 12, 4294967295];
-
-// The same where the limit changes at each of the places.
-fn is_asked(alloc: Global, step: usize) -> bool {
-    let mut all = true;
-    for at in PLACES {
-        all &= is_right(alloc, step, *at);
-    }
-    all
-}
+// Those of an `unframe` in steps of 4 bytes, whose limit changes at place 6.
+const READS: &[OneRead] = &[
+    OneRead { asked: 4, came: 4 },
+    OneRead { asked: 2, came: 2 },
+    OneRead { asked: 4, came: 4 },
+    OneRead { asked: 4, came: 1 },
+    OneRead { asked: 4, came: 0 },
+];
 
 #[test]
-fn unframe_asks_for_its_step_and_not_past_its_place(rt: HostRuntime) -> Result<(), Fail> {
-    let mut all = true;
-    for step in [1, 2, 9, 65536] {
-        all &= is_asked(rt.alloc(), step);
-    }
-    ensure(all, "reads go otherwise")
+fn a_reader_knows_its_reads(rt: HostRuntime) -> Result<(), Fail> {
+    let (status, Some(reads)) = traced_reads(rt.alloc(), 4, 6) else {
+        return Err(Fail::new("a read is not kept"));
+    };
+    ensure(
+        (status == 0) & (reads.as_slice() == READS),
+        "reads go otherwise",
+    )
 }
 
-fn is_unframed<R: TracedRead>(alloc: Global, input: &mut R) -> bool {
-    let mut output: Vec<u8> = Vec::new(alloc);
-    let status = run_unframe(alloc, 4, 9, input, &mut output);
-    (status == 0) & same(output.as_slice(), b"3 313233\n0 -\nrest 0\n")
+// Whether a read takes bytes of the input, as one of `unframe` does.
+fn is_read<R: TracedRead>(input: &mut R) -> bool {
+    let mut bytes = [0; 4];
+    let count = input.read_noted(&mut bytes);
+    matches!(count, Ok(4)) & same(&bytes, b"\x03\0\0\0")
+}
+
+fn is_buffered(alloc: Global) -> bool {
+    match BufReader::new(alloc, INPUT) {
+        Ok(mut buffered) => is_read(&mut buffered),
+        Err(_) => false,
+    }
 }
 
 #[test]
 fn readers_of_std_go_in_as_they_are(rt: HostRuntime) -> Result<(), Fail> {
-    let alloc = rt.alloc();
-    let mut bytes = INPUT;
-    let mut buffered = BufReader::new(alloc, INPUT)?;
-    all_hold(&[
-        is_unframed(alloc, &mut INPUT),
-        is_unframed(alloc, &mut &mut bytes),
-        is_unframed(alloc, &mut Cursor::new(INPUT)),
-        is_unframed(alloc, &mut INPUT.take(100)),
-        is_unframed(alloc, &mut buffered),
-    ])
+    let all = is_read(&mut INPUT)
+        & is_read(&mut &mut Cursor::new(INPUT))
+        & is_read(&mut INPUT.take(100))
+        & is_buffered(rt.alloc());
+    ensure(all, "bytes are missing")
 }
