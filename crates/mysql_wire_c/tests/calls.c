@@ -423,7 +423,8 @@ static bool the_number_that_is_set_is_the_next(void) {
 
 static bool framed_lengths_are_counted(void) {
     static const size_t lens[][2] = {
-        {0, 4}, {16777214, 16777218}, {16777215, 16777223}, {33554430, 33554442},
+        {0, 4}, {16777214, 16777218}, {16777215, 16777223}, {16777216, 16777224},
+        {33554430, 33554442},
     };
     size_t framed = 9;
     for (size_t i = 0; i < LENGTH(lens); i++) {
@@ -551,6 +552,40 @@ static bool none_is_lent_that_decode_does_not_lend(void) {
     CHECK(mysql_wire_decode_many(&one, two, 5, spans, 3, &count, &used) == MYSQL_WIRE_PACKET);
     CHECK(count == 1 && mysql_wire_sequence_id(&one) == 2 && mysql_wire_unread(&one) == 0);
     mysql_wire_close(&one);
+    return true;
+}
+
+/* Bytes, and how many of them the packet takes that is lent under the number 3 and a limit of 2. */
+typedef struct front {
+    size_t len;
+    const char *bytes;
+    size_t used;
+} front;
+
+static const front FRONTS[] = {
+    {6, "\2\0\0\3ab", 6},
+    {8, "\2\0\0\3abc\0", 6},
+    {4, "\0\0\0\3", 4},
+    {5, "\2\0\0\3a", 0},
+    {3, "\2\0\0", 0},
+    {6, "\2\0\0\4ab", 0},
+    {7, "\3\0\0\3abc", 0},
+};
+
+static bool one_is_lent_where_it_is_whole(void) {
+    for (size_t i = 0; i < LENGTH(FRONTS); i++) {
+        const front *of = &FRONTS[i];
+        mysql_wire_connection one = opened(2);
+        mysql_wire_span span = {77, 77};
+        size_t count = 9, used = 9, wanted = of->used > 0;
+        CHECK(mysql_wire_set_sequence_id(&one, 3) == MYSQL_WIRE_OK);
+        CHECK(mysql_wire_decode_many(&one, (const uint8_t *)of->bytes, of->len, &span, 1, &count,
+                                     &used) == (wanted ? MYSQL_WIRE_PACKET : MYSQL_WIRE_WAITS));
+        CHECK(count == wanted && used == of->used);
+        CHECK(span.at == (wanted ? 4 : 77) && span.len == (wanted ? used - 4 : 77));
+        CHECK(mysql_wire_sequence_id(&one) == (wanted ? 4 : 3));
+        mysql_wire_close(&one);
+    }
     return true;
 }
 
@@ -713,6 +748,7 @@ const test call_tests[] = {
     {"packets are lent from the bytes", packets_are_lent_from_the_bytes},
     {"many packets are lent at once", many_packets_are_lent_at_once},
     {"none is lent that decode does not lend", none_is_lent_that_decode_does_not_lend},
+    {"one is lent where it is whole", one_is_lent_where_it_is_whole},
     {"a header is that of the framing", a_header_is_that_of_the_framing},
     {"a packet that is cut is put together", a_packet_that_is_cut_is_put_together},
     {"decoding goes on after what was fed", decoding_goes_on_after_what_was_fed},

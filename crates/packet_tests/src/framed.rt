@@ -1,7 +1,6 @@
 //! Packets framed as their bytes come: each cutting of a short packet, ids over 255, and a packet
 //! begun inside another.
 
-use crate::spanned::each_cut;
 use std::alloc::Global;
 use std::test::Fail;
 use test_support::facts::{all_hold, same};
@@ -53,8 +52,18 @@ fn is_cut(alloc: Global, pieces: &[&[u8]]) -> bool {
     all & same(out.as_slice(), b"\x06\0\0\xffselect") & (writer.sequence_id() == 0)
 }
 
-fn is_cut_in_three(alloc: Global, pieces: [&[u8]; 3]) -> bool {
-    is_cut(alloc, &pieces)
+// Whether it goes in all cuttings into three pieces.
+fn each_cut_goes(alloc: Global) -> bool {
+    let packet = b"select".as_slice();
+    let mut all = true;
+    for first in 0..7 {
+        for second in first..7 {
+            let front = between(packet, 0, first);
+            let middle = between(packet, first, second);
+            all &= is_cut(alloc, &[front, middle, between(packet, second, 6)]);
+        }
+    }
+    all
 }
 
 // Payloads of one stream, from the id 254 on.
@@ -119,7 +128,7 @@ fn none_is_begun_inside(alloc: Global) -> bool {
 fn packets_are_framed_as_they_come(rt: HostRuntime) -> Result<(), Fail> {
     let alloc = rt.alloc();
     all_hold(&[
-        each_cut(alloc, b"select", is_cut_in_three),
+        each_cut_goes(alloc),
         is_cut(alloc, &[b"s", b"e", b"l", b"e", b"c", b"t"]),
         they_go_in_one_piece(alloc),
         empty_ones_go(),

@@ -1,5 +1,5 @@
-//! Tests of packets: framing, chunks, the codec, limits, lending, delivery, every cutting, packets
-//! over readers and writers, and packets in spans.
+//! Tests of packets: framing, chunks, the codec, limits, lending, delivery, every cutting, generated
+//! streams, packets over readers and writers, and spans beside a codec.
 #![tactic(auto)]
 
 #[cfg(test)]
@@ -19,6 +19,8 @@ mod framed;
 #[cfg(test)]
 mod framing;
 #[cfg(test)]
+mod generated;
+#[cfg(test)]
 mod ids;
 #[cfg(test)]
 mod limits;
@@ -30,10 +32,6 @@ mod reader;
 mod relays;
 #[cfg(test)]
 mod skips;
-#[cfg(test)]
-mod span_rows;
-#[cfg(test)]
-mod spanned;
 #[cfg(test)]
 mod spans;
 #[cfg(test)]
