@@ -1,5 +1,6 @@
-/* A session, packet by packet: a connection, answers with rows, prepared statements, a file; by whole
-   payloads and by their fronts; what is refused; and each request for memory refused in turn. */
+/* A session, packet by packet: a connection, answers with rows, prepared statements, a file, several
+   results; by whole payloads and by their fronts; what is refused; and each request for memory
+   refused in turn. */
 #include "mysql_wire_constants.h"
 #include "tests.h"
 
@@ -72,27 +73,47 @@ static const packet fetched[] = {
     ROW(SERVER, 2, "\xfe\0\0\xc2\0", EOF, COMMAND, 0xc2),
 };
 
-/* A piece of the file looks like a query. */
-static const packet loaded[] = {
+/* A file of 300 pieces, which look like queries: after 255 their ids go on with 0. */
+#define PIECES 300
+static const packet asked[] = {
     ROW(CLIENT, 0, "\x03LOAD DATA", QUERY, ANSWER, 0xc2),
     ROW(SERVER, 1, "\xfb" "f", LOCAL_INFILE, FILE, 0xc2),
-    ROW(CLIENT, 2, "\x03SELECT 1", FILE, FILE, 0xc2),
-    ROW(CLIENT, 3, "", FILE, ANSWER, 0xc2),
-    ROW(SERVER, 4, DONE, OK, COMMAND, 2),
 };
+static const packet piece[] = {ROW(CLIENT, 2, "\x03SELECT 1", FILE, FILE, 0xc2)};
+static const packet loaded[] = {
+    ROW(CLIENT, (2 + PIECES) % 256, "", FILE, ANSWER, 0xc2),
+    ROW(SERVER, (3 + PIECES) % 256, DONE, OK, COMMAND, 2),
+};
+
+/* After the first OK another result follows. */
+static const packet several[] = {
+    ROW(CLIENT, 0, "\x03" "CALL p()", QUERY, ANSWER, 2),
+    ROW(SERVER, 1, "\0\0\0\x0a\0\0\0", OK, ANSWER, 10),
+    ROW(SERVER, 2, DONE, OK, COMMAND, 2),
+};
+
+static const packet pinged[] = {
+    ROW(CLIENT, 0, "\x0e", PING, ANSWER, 2),
+    ROW(SERVER, 1, DONE, OK, COMMAND, 2),
+};
+
+/* After a command of two chunks. */
+static const packet passed[] = {ROW(SERVER, 2, DONE, OK, COMMAND, 2)};
 
 static const packet quit[] = {ROW(CLIENT, 0, "\x01", QUIT, CLOSED, 2)};
 
+/* Packets that come this many times; each time their ids are higher by 1. */
 typedef struct exchange {
     const packet *packets;
-    size_t count;
+    size_t count, times;
 } exchange;
 
-#define EXCHANGE(packets) {packets, LENGTH(packets)}
+#define EXCHANGE(packets) {packets, LENGTH(packets), 1}
 
 static const exchange exchanges[] = {
     EXCHANGE(connection), EXCHANGE(query),  EXCHANGE(prepared), EXCHANGE(executed),
-    EXCHANGE(fetched),    EXCHANGE(loaded), EXCHANGE(quit),
+    EXCHANGE(fetched),    EXCHANGE(asked),  {piece, 1, PIECES}, EXCHANGE(loaded),
+    EXCHANGE(several),    EXCHANGE(pinged), EXCHANGE(quit),
 };
 
 static const uint8_t *bytes_of(const packet *one) { return (const uint8_t *)one->payload; }
@@ -104,35 +125,70 @@ static int32_t by_payload(mysql_wire_session *session, const packet *next, uint3
     return mysql_wire_session_packet(session, next->side, next->id, bytes_of(next), next->len, kind);
 }
 
+/* How many bytes of a payload make a front, at least. */
+static size_t front_of(const packet *next) { return next->len < 3 ? next->len : 3; }
+
 /* Of how many packets the front was not enough. */
 static size_t whole;
 
 static int32_t by_front(mysql_wire_session *session, const packet *next, uint32_t *kind) {
-    size_t front = next->len < 3 ? next->len : 3;
     int32_t code = mysql_wire_session_front(session, next->side, next->id, next->len,
-                                            bytes_of(next), front, kind);
+                                            bytes_of(next), front_of(next), kind);
     if (code != MYSQL_WIRE_NEEDS_WHOLE || *kind != next->kind) return code;
     whole++;
     return mysql_wire_session_front(session, next->side, next->id, next->len, bytes_of(next),
                                     next->len, kind);
 }
 
+/* What a session says of itself, and of the statement 7. */
+typedef struct state {
+    int32_t phase, status, next_id, statement, parameters, columns;
+} state;
+
+static state state_of(mysql_wire_session *session) {
+    uint16_t parameters, columns;
+    int32_t statement = mysql_wire_session_statement(session, 7, &parameters, &columns);
+    return (state){mysql_wire_session_phase(session), mysql_wire_session_status(session),
+                   mysql_wire_session_next_id(session), statement, parameters, columns};
+}
+
 /* How many requests for memory were refused. */
 static size_t refusals;
 
-/* The same with the next request for memory refused: then nothing changes, and the call is made again. */
-static int32_t refused_first(mysql_wire_session *session, const packet *next, uint32_t *kind) {
-    int32_t phase = mysql_wire_session_phase(session), id = mysql_wire_session_next_id(session);
-    refuse_request(1);
-    int32_t code = by_payload(session, next, kind);
-    bool refused = was_refused();
-    refuse_request(0);
-    if (!refused) return code;
-    refusals++;
-    bool stays = code == MYSQL_WIRE_NO_MEMORY && *kind == 0 &&
-                 mysql_wire_session_phase(session) == phase &&
-                 mysql_wire_session_next_id(session) == id;
-    return stays ? by_payload(session, next, kind) : code;
+/* The same with the first request for memory refused, the second and so on, until none is. A call
+   that is refused changes nothing, and is made again. */
+static int32_t refused_in_turn(mysql_wire_session *session, const packet *next, uint32_t *kind,
+                               advances *advance) {
+    state before = state_of(session);
+    for (size_t nth = 1;; nth++) {
+        refuse_request(nth);
+        int32_t code = advance(session, next, kind);
+        bool refused = was_refused();
+        refuse_request(0);
+        if (!refused) return code;
+        refusals++;
+        state after = state_of(session);
+        bool stays = code == MYSQL_WIRE_NO_MEMORY && *kind == 0 &&
+                     memcmp(&after, &before, sizeof after) == 0;
+        if (!HOLDS(stays)) return MYSQL_WIRE_NO_MEMORY;
+    }
+}
+
+static int32_t refused_payloads(mysql_wire_session *session, const packet *next, uint32_t *kind) {
+    return refused_in_turn(session, next, kind, by_payload);
+}
+
+static int32_t refused_fronts(mysql_wire_session *session, const packet *next, uint32_t *kind) {
+    return refused_in_turn(session, next, kind, by_front);
+}
+
+/* Whether a packet is taken for what it is, by a front of this many bytes. */
+static bool is_called(mysql_wire_session *session, const packet *next, size_t front) {
+    uint32_t kind = 99;
+    CHECK(mysql_wire_session_classify(session, next->side, next->id, next->len, bytes_of(next),
+                                      front, &kind) == MYSQL_WIRE_OK);
+    CHECK(kind == next->kind);
+    return true;
 }
 
 /* Whether the session says what it must before and after a packet. */
@@ -140,22 +196,32 @@ static bool goes_on(mysql_wire_session *session, const packet *next, advances *a
     int32_t sender = mysql_wire_session_next_sender(session);
     uint32_t kind = 99;
     CHECK(sender == MYSQL_WIRE_SENDER_EITHER || sender == (int32_t)next->side);
-    CHECK(mysql_wire_session_classify(session, next->side, next->id, next->len, bytes_of(next),
-                                      next->len, &kind) == MYSQL_WIRE_OK);
-    CHECK(kind == next->kind);
-    kind = 99;
+    CHECK(is_called(session, next, next->len) && is_called(session, next, front_of(next)));
     CHECK(advance(session, next, &kind) == MYSQL_WIRE_OK);
     CHECK(kind == next->kind);
     CHECK(mysql_wire_session_phase(session) == next->phase);
     CHECK(mysql_wire_session_status(session) == next->status);
-    CHECK(mysql_wire_session_next_id(session) == next->id + 1);
+    CHECK(mysql_wire_session_next_id(session) == (uint8_t)(next->id + 1));
     CHECK(mysql_wire_session_is_idle(session) == (next->phase == MYSQL_WIRE_PHASE_COMMAND));
     return true;
 }
 
 static bool follows(mysql_wire_session *session, const exchange *one, advances *advance) {
-    for (size_t i = 0; i < one->count; i++) CHECK(goes_on(session, &one->packets[i], advance));
+    for (size_t i = 0; i < one->times * one->count; i++) {
+        packet next = one->packets[i % one->count];
+        next.id = (uint8_t)(next.id + i / one->count);
+        CHECK(goes_on(session, &next, advance));
+    }
     return true;
+}
+
+static bool is_known(mysql_wire_session *session, uint32_t number, uint16_t parameters,
+                     uint16_t columns) {
+    uint16_t told[2] = {9, 9};
+    int32_t code = mysql_wire_session_statement(session, number, &told[0], &told[1]);
+    CHECK(code == MYSQL_WIRE_OK || code == MYSQL_WIRE_NO_STATEMENT);
+    CHECK(told[0] == parameters && told[1] == columns);
+    return code == MYSQL_WIRE_OK;
 }
 
 static bool follows_all(advances *advance) {
@@ -163,6 +229,7 @@ static bool follows_all(advances *advance) {
     bool holds = HOLDS(mysql_wire_session_new(&one) == MYSQL_WIRE_OK);
     for (size_t i = 0; i < LENGTH(exchanges); i++)
         holds = holds && follows(&one, &exchanges[i], advance);
+    holds = holds && HOLDS(is_known(&one, 7, 1, 1));
     mysql_wire_session_free(&one);
     return holds && HOLDS(one == NULL);
 }
@@ -173,15 +240,17 @@ static bool a_session_is_followed(void) { return follows_all(by_payload); }
 static bool fronts_are_enough(void) {
     whole = 0;
     CHECK(follows_all(by_front));
-    CHECK(whole == 15);
+    CHECK(whole == 18);
     return true;
 }
 
 /* The first type of a column and the first statement ask for room. */
 static bool a_refused_call_leaves_the_session(void) {
     refusals = 0;
-    CHECK(follows_all(refused_first));
+    CHECK(follows_all(refused_payloads));
     CHECK(refusals == 2);
+    CHECK(follows_all(refused_fronts));
+    CHECK(refusals == 4);
     return true;
 }
 
@@ -207,15 +276,6 @@ static bool begins(mysql_wire_session *session) {
     CHECK(follows(session, &in, by_payload));
     CHECK(mysql_wire_session_capabilities(session) == 0x00088281);
     return true;
-}
-
-static bool is_known(mysql_wire_session *session, uint32_t number, uint16_t parameters,
-                     uint16_t columns) {
-    uint16_t told[2] = {9, 9};
-    int32_t code = mysql_wire_session_statement(session, number, &told[0], &told[1]);
-    CHECK(code == MYSQL_WIRE_OK || code == MYSQL_WIRE_NO_STATEMENT);
-    CHECK(told[0] == parameters && told[1] == columns);
-    return code == MYSQL_WIRE_OK;
 }
 
 /* Sixty-four statements are known; of one number, the newest. */
@@ -293,15 +353,17 @@ static bool wrong_arguments_change_nothing(void) {
 
 /* A command above a limit is answered all the same; its last chunk is numbered 1. */
 static bool payloads_are_passed_over(void) {
+    static const exchange answer = EXCHANGE(passed);
+    static advances *const ways[] = {by_payload, by_front};
     mysql_wire_session one = NULL;
     uint32_t kind;
     CHECK(begins(&one));
-    CHECK(mysql_wire_session_pass(&one, CLIENT, 0, 20000000) == MYSQL_WIRE_OK);
-    CHECK(mysql_wire_session_phase(&one) == MYSQL_WIRE_PHASE_ANSWER);
-    CHECK(mysql_wire_session_next_id(&one) == 2);
-    CHECK(mysql_wire_session_packet(&one, SERVER, 2, (const uint8_t *)DONE, 7, &kind) ==
-          MYSQL_WIRE_OK);
-    CHECK(kind == MYSQL_WIRE_KIND_OK && mysql_wire_session_is_idle(&one) == 1);
+    for (size_t i = 0; i < LENGTH(ways); i++) {
+        CHECK(mysql_wire_session_pass(&one, CLIENT, 0, 20000000) == MYSQL_WIRE_OK);
+        CHECK(mysql_wire_session_phase(&one) == MYSQL_WIRE_PHASE_ANSWER);
+        CHECK(mysql_wire_session_next_id(&one) == 2);
+        CHECK(follows(&one, &answer, ways[i]));
+    }
     CHECK(mysql_wire_session_front(&one, CLIENT, 0, SIZE_MAX, (const uint8_t *)"\x03--", 3,
                                    &kind) == MYSQL_WIRE_OK);
     CHECK(kind == MYSQL_WIRE_KIND_QUERY && mysql_wire_session_is_idle(&one) == 0);

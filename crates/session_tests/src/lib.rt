@@ -1,4 +1,4 @@
-//! `Session` of mysql_wire_session, followed packet by packet, an answer counted by it, and a value of a row.
+//! What `Session` of mysql_wire_session keeps and reads, an answer counted by it, and a value of a row.
 #![tactic(auto)]
 
 #[cfg(test)]
