@@ -125,6 +125,12 @@ static int32_t by_payload(mysql_wire_session *session, const packet *next, uint3
     return mysql_wire_session_packet(session, next->side, next->id, bytes_of(next), next->len, kind);
 }
 
+/* All of the payload is its front. */
+static int32_t by_whole_front(mysql_wire_session *session, const packet *next, uint32_t *kind) {
+    return mysql_wire_session_front(session, next->side, next->id, next->len, bytes_of(next),
+                                    next->len, kind);
+}
+
 /* How many bytes of a payload make a front, at least. */
 static size_t front_of(const packet *next) { return next->len < 3 ? next->len : 3; }
 
@@ -136,8 +142,7 @@ static int32_t by_front(mysql_wire_session *session, const packet *next, uint32_
                                             bytes_of(next), front_of(next), kind);
     if (code != MYSQL_WIRE_NEEDS_WHOLE || *kind != next->kind) return code;
     whole++;
-    return mysql_wire_session_front(session, next->side, next->id, next->len, bytes_of(next),
-                                    next->len, kind);
+    return by_whole_front(session, next, kind);
 }
 
 /* What a session says of itself, and of the statement 7. */
@@ -241,7 +246,7 @@ static bool fronts_are_enough(void) {
     whole = 0;
     CHECK(follows_all(by_front));
     CHECK(whole == 18);
-    return true;
+    return follows_all(by_whole_front);
 }
 
 /* The first type of a column and the first statement ask for room. */
