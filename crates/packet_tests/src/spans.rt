@@ -2,11 +2,11 @@
 
 use std::alloc::Global;
 use std::test::Fail;
-use test_support::answers::Answer;
+use test_support::answers::{Answer, shows};
 use test_support::facts::{all_hold, same};
 use test_support::receiver::Receiver;
 use wire_buf::lengths::MAX_PAYLOAD_LEN;
-use wire_span::{SpanDecoder, SpanParts};
+use wire_span::{SpanDecoder, SpanError, SpanParts, UnfinishedPacket};
 
 fn decoder_from(first_id: u8) -> SpanDecoder {
     let mut decoder = SpanDecoder::default();
@@ -142,6 +142,14 @@ fn each_place_is_told() -> bool {
     all
 }
 
+const TOO_LARGE: &str = "Packet is larger than max_allowed_packet";
+
+fn errors_show_their_texts(alloc: Global) -> bool {
+    shows(alloc, &SpanError::PacketTooLarge, TOO_LARGE)
+        & shows(alloc, &SpanError::PacketsOutOfSync, "Packets out of sync")
+        & shows(alloc, &UnfinishedPacket, "A packet is unfinished")
+}
+
 #[test]
 fn decoders_of_spans_tell_where_they_stand(rt: HostRuntime) -> Result<(), Fail> {
     let alloc = rt.alloc();
@@ -150,5 +158,6 @@ fn decoders_of_spans_tell_where_they_stand(rt: HostRuntime) -> Result<(), Fail> 
         a_codec_goes_on(alloc),
         each_byte_is_told(),
         each_place_is_told(),
+        errors_show_their_texts(alloc),
     ])
 }
