@@ -21,6 +21,11 @@ of Rust, numbers in decimal or after `0x`.
     reset                              the client begins a new command
     prepared ID COLUMNS PARAMETERS     a statement, and its answer
     columns TYPE ..                    a count of columns, their definitions, and the end of these
+    parameters NULLS TYPE .. VALUES    a new statement, executed with parameters of these types: the
+                                       bits that say which are NULL, and the values of the others
+    value TYPE VALUE                   the same with one parameter; no shorter payload is read
+    values NULLS TYPE .. VALUES        a new statement, executed without parameters, and a row of
+                                       columns of these types: the same of the row
     client PAYLOAD, server PAYLOAD     a payload; after it:
         = FIELD ..                     all of its fields
         refused                        in place of fields: it is none of its place
@@ -128,11 +133,24 @@ ESCAPE = re.compile(r"\\(x[0-9a-fA-F]{2}|\n *|.)", re.S)
 ESCAPES = {"0": "\0", "n": "\n", "r": "\r", "t": "\t", "\\": "\\", '"': '"'}
 TYPES = {
     "TINY": 1,
+    "SHORT": 2,
     "LONG": 3,
+    "FLOAT": 4,
+    "DOUBLE": 5,
+    "NULL": 6,
     "TIMESTAMP": 7,
+    "LONGLONG": 8,
+    "INT24": 9,
+    "DATE": 10,
+    "TIME": 11,
+    "DATETIME": 12,
+    "YEAR": 13,
+    "BIT": 16,
+    "JSON": 245,
     "NEWDECIMAL": 246,
     "BLOB": 252,
     "VAR_STRING": 253,
+    "STRING": 254,
 }
 # for what a login has a field: a database, a plugin, attributes, and a level of compression
 AT_LOGIN = 0x8, 0x80000, 0x100000, 0x4000000
@@ -172,7 +190,7 @@ class Rows:
 
     def __init__(self, text):
         self.records, self.lead = [], []
-        self.capabilities, self.refused = 0, 0
+        self.capabilities, self.number, self.refused = 0, 0, 0
         for name, *rest in statements(text):
             getattr(self, name)(*rest)
 
@@ -211,6 +229,34 @@ class Rows:
             self.put(record(SERVER, b"\x03def\0\0\0\x01c\0" + form))
         if not self.capabilities & DEPRECATE_EOF:
             self.put(record(SERVER, EOF))
+
+    def execution(self, parameters):
+        """The front of a payload that executes a new statement with this many parameters."""
+        self.number += 1
+        self.reset()
+        self.prepared(self.number, 0, parameters)
+        self.reset()
+        return b"\x17" + self.number.to_bytes(4, "little") + b"\0\1\0\0\0"
+
+    def parameters(self, nulls, *words):
+        *names, values = words
+        types = b"".join(bytes([TYPES[name], 0]) for name in names)
+        payload = self.execution(len(names)) + nulls + b"\1" + types + values
+        row = payload, "=", 0x17, self.number, 0, 1, nulls, types, values
+        self.client(*row)
+        return row
+
+    def value(self, name, value):
+        row = self.parameters(b"\0", name, value)
+        # (the whole payload stands before each shorter one, so that none makes up for it)
+        self.put(record(RESET))
+        self.client(*row, "least", "all")
+
+    def values(self, nulls, *words):
+        *names, values = words
+        self.put(record(CLIENT, self.execution(0)))
+        self.columns(*names)
+        self.server(b"\0" + nulls + values, "=", 0, nulls, values)
 
     def client(self, *words):
         self.row(CLIENT, *words)
