@@ -106,15 +106,15 @@ impl Found {
         }
     }
 
-    /// The same, where this holds too; else the payload is refused.
+    /// The same, where this holds too; else the payload is refused, and its fields are others.
     pub fn and(self, holds: bool) -> Found {
-        if holds {
-            self
-        } else {
-            Found {
+        match (holds, self.is_as_listed) {
+            (true, _) => self,
+            (false, is_as_listed) => Found {
                 outcome: Outcome::Refused,
+                is_as_listed: is_as_listed.and(Some(false)),
                 ..self
-            }
+            },
         }
     }
 }
