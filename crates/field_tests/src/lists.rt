@@ -129,18 +129,24 @@ where
 }
 
 // Two texts, with one byte after them.
+fn is_list_of_texts<'de, A>(heap: &Heap, alloc: A, texts: &'de [RawBytes<'de, U8Bytes, A>]) -> bool
+where
+    A: 'de + Allocator + Copy,
+{
+    let list: List<'de, RawBytes<'de, U8Bytes, A>> = (texts, b"\x02\0\0\0\x01a\0\xff", 7, UNCUT);
+    is_list::<RawBytes<'de, U8Bytes, A>, LeU32, A>(heap, alloc, (), list, NO_TEXTS)
+}
+
+fn text<A: Allocator>(bytes: &[u8]) -> RawBytes<'_, U8Bytes, A> {
+    RawBytes::from(bytes)
+}
+
 fn are_texts<A: Allocator + Copy>(heap: &Heap, alloc: A) -> bool {
     heap.refuse(NEVER);
-    let mut texts: Vec<RawBytes<'_, U8Bytes, A>, A> = Vec::new(alloc);
-    let _ = texts.push(RawBytes::from(b"a".as_slice()));
-    let _ = texts.push(RawBytes::from(b"".as_slice()));
-    let list: List<'_, RawBytes<'_, U8Bytes, A>> = (
-        texts.as_slice(),
-        b"\x02\0\0\0\x01a\0\xff",
-        7,
-        UNCUT,
-    );
-    is_list::<RawBytes<'_, U8Bytes, A>, LeU32, A>(heap, alloc, (), list, NO_TEXTS)
+    let mut texts = Vec::new(alloc);
+    let _ = texts.push(text(b"a"));
+    let _ = texts.push(text(b""));
+    is_list_of_texts(heap, alloc, texts.as_slice())
 }
 
 /// Whether lists are written and read, and others refused.

@@ -175,7 +175,7 @@ fn pairs_and_sides_are_compared_by_their_parts() -> Result<(), Fail> {
     ])
 }
 
-fn text(bytes: &[u8]) -> RawBytes<'_, U8Bytes> {
+fn text<T: BytesRepr>(bytes: &[u8]) -> RawBytes<'_, T> {
     RawBytes::from(bytes)
 }
 
@@ -192,10 +192,9 @@ fn owned(alloc: Global) -> RawBytes<'static, U8Bytes> {
 #[test]
 fn texts_are_compared_by_their_field(rt: HostRuntime) -> Result<(), Fail> {
     let alloc = rt.alloc();
-    let short = RawBytes::<FixedLengthText<1>>::from(b"a".as_slice());
     all_hold(&[
-        is_less(text(b"ab"), text(b"b")),
-        is_less(short, RawBytes::from(b"ab".as_slice())),
+        is_less::<RawBytes<'_, U8Bytes>>(text(b"ab"), text(b"b")),
+        is_less::<RawBytes<'_, FixedLengthText<1>>>(text(b"a"), text(b"ab")),
         are_same(text(b"ab"), owned(alloc)),
         is_shown(alloc, owned(alloc), "RawBytes([97, 98], PhantomData<_>)"),
         is_copied(owned(alloc)),

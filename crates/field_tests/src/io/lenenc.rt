@@ -1,14 +1,16 @@
 // Numbers whose length is in their first byte, and texts after their length: put into buffers, and
 // read from buffers.
 
-use crate::io::numbers::{Readers, Row};
+use crate::io::numbers::{Readers, Row, are_read, is_read};
 use bytes::{BufMut, BytesMut};
 use mysql_wire::io::{BufMutExt, ParseBuf, WireError, WriteMysqlExt};
 use mysql_wire::misc::{lenenc_int_len, lenenc_str_len};
 use std::alloc::Global;
 use std::convert::AsSlice;
-use test_support::answers::{Answer, answered};
-use test_support::facts::{are_parts, same, same_if_any};
+use std::test::Fail;
+use test_support::answers::Answer;
+use test_support::facts::{all_hold, are_parts, same, same_if_any};
+use test_support::fields::last;
 use test_support::reference::between;
 
 // ---- length-encoded integers
@@ -52,19 +54,21 @@ pub const WRITTEN: &[Row<u64>] = &[
     (9, b"\xfe\xff\xff\xff\xff\xff\xff\xff\xff\xfe", u64::MAX),
 ];
 
-/// The marks, which slices take as zero.
-pub const MARKS: &[Row<u64>] = &[(1, b"\xfb", 0), (1, b"\xfb\x01", 0), (1, b"\xff\x01", 0)];
+// The marks, which slices take as zero.
+const MARKS: &[Row<u64>] = &[(1, b"\xfb", 0), (1, b"\xfb\x01", 0), (1, b"\xff\x01", 0)];
 
-// Whether a buffer that was empty holds these bytes after a put of the number.
-fn is_put<B: BufMutExt + AsSlice<u8> + Drop>(mut buf: B, bytes: &[u8], number: u64) -> bool {
-    buf.put_lenenc_int(number).is_ok() & same(buf.as_slice(), bytes)
+// Whether all was written, and this count told.
+fn tells(written: Result<u64, WireError>, count: usize) -> bool {
+    match written {
+        Ok(told) => told == count as u64,
+        Err(_) => false,
+    }
 }
 
 // Whether the number is written as these bytes, whose count is told.
 fn is_written(alloc: Global, bytes: &[u8], number: u64) -> bool {
     let mut out = Vec::new(alloc);
-    let written = answered(out.write_lenenc_int(number));
-    (written == Ok(bytes.len() as u64)) & same(out.as_slice(), bytes)
+    tells(out.write_lenenc_int(number), bytes.len()) & same(out.as_slice(), bytes)
 }
 
 // Whether the row's number is put and written as its bytes, whose length is known beforehand, and
@@ -72,12 +76,10 @@ fn is_written(alloc: Global, bytes: &[u8], number: u64) -> bool {
 fn is_spelled(alloc: Global, row: &Row<'_, u64>) -> bool {
     let (width, bytes, number) = *row;
     let bytes = between(bytes, 0, width);
-    let mut all = lenenc_int_len(number) == width as u64;
-    all &= is_put(Vec::new(alloc), bytes, number);
-    all &= is_put(BytesMut::new(alloc), bytes, number);
-    for room in 0..11usize {
-        all &= leaves(Vec::new(alloc), None, number, room, width, bytes);
-    }
+    let put = Put::Number(number);
+    let mut all = (bytes.len() == width) & (lenenc_int_len(number) == width as u64);
+    all &= is_put(BytesMut::new(alloc), put, bytes, b"");
+    all &= is_put_in_each(alloc, put, bytes, b"");
     all & is_written(alloc, bytes, number)
 }
 
@@ -95,31 +97,26 @@ const PUT: &[u8] = b"\x04\x03\x02\
     \xfe\xff\xff\xff\xff\xff\xff\
     \x01a\x01b\x01\0\0\0c\xff";
 
-// Puts numbers of a fixed width, and texts after their length, each as it stands in `PUT`.
-fn put_fixed<B: BufMutExt>(buf: &mut B, long: &[u8]) -> [bool; 10] {
-    [
-        is_done(buf.put_u24_le(0x01020304)),
-        is_done(buf.put_i24_le(8388608)),
-        is_done(buf.put_i24_le(-2)),
-        is_done(buf.put_u48_le(1)),
-        is_done(buf.put_u56_le(1)),
-        is_done(buf.put_i56_le(-2)),
-        is_done(buf.put_lenenc_str(b"a")),
-        is_done(buf.put_u8_str(b"b")),
-        is_done(buf.put_u32_str(b"c")),
-        is_done(buf.put_u8_str(long)),
-    ]
+// Whether numbers of a fixed width, and texts after their length, are put, each as it stands in
+// `PUT`.
+fn are_done<B: BufMutExt>(buf: &mut B, long: &[u8]) -> bool {
+    let mut all = is_done(buf.put_u24_le(0x01020304));
+    all &= is_done(buf.put_i24_le(8388608));
+    all &= is_done(buf.put_i24_le(-2));
+    all &= is_done(buf.put_u48_le(1));
+    all &= is_done(buf.put_u56_le(1));
+    all &= is_done(buf.put_i56_le(-2));
+    all &= is_done(buf.put_lenenc_str(b"a"));
+    all &= is_done(buf.put_u8_str(b"b"));
+    all &= is_done(buf.put_u32_str(b"c"));
+    all & is_done(buf.put_u8_str(long))
 }
 
 // Whether these are put one after the other, and of a text whose length its byte can't say, as
-// much as that says. And of a text that is refused the length is left.
-fn all_are_put(alloc: Global) -> bool {
+// much as that says.
+fn are_put(alloc: Global, long: &[u8]) -> bool {
     let mut buf = Vec::new(alloc);
-    let long = [b'd'; 256];
-    let are_put = put_fixed(&mut buf, &long) == [true; 10];
-    are_put
-        & are_parts(buf.as_slice(), [PUT, &long[1..], b""])
-        & leaves(Vec::new(alloc), Some(b"abc"), 0, 2, 1, b"\x03abc")
+    are_done(&mut buf, long) & are_parts(buf.as_slice(), [PUT, last(long, 255), b""])
 }
 
 // What the length of a text is.
@@ -177,86 +174,115 @@ fn is_eaten(row: &Eaten) -> bool {
     all & ate(row, Some(plain), other.0)
 }
 
-// ---- bounded buffers
+// ---- buffers, bounded and not
 
-// What a put of a text, or else of a number, answers.
-fn answer<B: BufMutExt>(buf: &mut B, text: Option<&[u8]>, number: u64) -> Result<(), Answer> {
-    answered(match text {
-        Some(text) => buf.put_lenenc_str(text),
-        None => buf.put_lenenc_int(number),
-    })
+// A number, or a text after its length.
+#[derive(Clone, Copy)]
+enum Put<'a> {
+    Number(u64),
+    Text(&'a [u8]),
 }
 
-// How much is left of a put that writes this many bytes, of which this many are in front of a text:
-// all where there is room for that, and else its length, where there is room for that, and else
-// nothing.
-fn left_of(front: usize, whole: usize, room: usize) -> usize {
-    if room >= whole {
-        whole
-    } else if room >= front {
-        front
-    } else {
-        0
+// Whether all was put, or else no memory is the answer.
+fn is_all_put(answer: Result<(), WireError>, is_whole: bool) -> bool {
+    match answer {
+        Ok(()) => is_whole,
+        Err(error) => !is_whole & (Answer::of_wire(&error) == Answer::OutOfMemory),
     }
 }
 
-// Whether a put of a text, or else of a number, leaves so much of all that it writes in so much
-// room of an empty buffer, and no memory is the answer where that is not all.
-fn leaves<B: BufMut + AsSlice<u8> + Drop>(
-    buf: B,
-    text: Option<&[u8]>,
-    number: u64,
-    room: usize,
-    front: usize,
-    whole: &[u8],
-) -> bool {
-    let len = left_of(front, whole.len(), room);
-    let wanted = if len == whole.len() {
-        Ok(())
-    } else {
-        Err(Answer::OutOfMemory)
-    };
-    let mut buf = buf.limit(room);
-    let is_answered = answer(&mut buf, text, number) == wanted;
-    is_answered & same(buf.into_inner().as_slice(), between(whole, 0, len))
+// Whether all is put, or else no memory is the answer.
+fn puts<B: BufMutExt>(buf: &mut B, put: Put<'_>, is_whole: bool) -> bool {
+    match put {
+        Put::Number(number) => is_all_put(buf.put_lenenc_int(number), is_whole),
+        Put::Text(text) => is_all_put(buf.put_lenenc_str(text), is_whole),
+    }
 }
 
-// Whether a text leaves so much in a buffer of each size.
-fn is_text_left(alloc: Global, text: &[u8]) -> bool {
-    let mut whole = Vec::new(alloc);
-    let mut all = whole.put_lenenc_str(text).is_ok() & whole.ends_with(text);
-    let front = whole.len().saturating_sub(text.len());
-    all &= lenenc_int_len(text.len() as u64) == front as u64;
-    all &= lenenc_str_len(text) == whole.len() as u64;
-    for room in 0..whole.len().saturating_add(2) {
-        all &= leaves(
-            Vec::new(alloc),
-            Some(text),
-            0,
-            room,
-            front,
-            whole.as_slice(),
-        );
+// Whether a buffer that was empty holds a number, or a length, and a text after a put.
+fn is_put<B>(mut buf: B, put: Put<'_>, number: &[u8], text: &[u8]) -> bool
+where
+    B: BufMutExt + AsSlice<u8> + Drop,
+{
+    puts(&mut buf, put, true) & are_parts(buf.as_slice(), [number, text, b""])
+}
+
+// Whether a put in so much room of an empty buffer leaves all where there is room for that, and
+// else no memory is the answer: the number, or the length, is left, where there is room for it, and
+// else nothing.
+fn leaves<B>(buf: B, put: Put<'_>, number: &[u8], text: &[u8], room: usize) -> bool
+where
+    B: BufMut + AsSlice<u8> + Drop,
+{
+    let whole = number.len().saturating_add(text.len());
+    let mut buf = buf.limit(room);
+    let is_answered = puts(&mut buf, put, room >= whole);
+    let number = if room >= number.len() { number } else { b"" };
+    let text = if room >= whole { text } else { b"" };
+    is_answered & are_parts(buf.into_inner().as_slice(), [number, text, b""])
+}
+
+// Whether a put leaves a number, or a length, and a text, or so much of them in a buffer of each
+// size.
+fn is_put_in_each(alloc: Global, put: Put<'_>, number: &[u8], text: &[u8]) -> bool {
+    let whole = number.len().saturating_add(text.len());
+    let mut all = is_put(Vec::new(alloc), put, number, text);
+    for room in 0..whole.saturating_add(11) {
+        all &= leaves(Vec::new(alloc), put, number, text, room);
     }
     all
 }
 
-// How long texts are.
-const LENGTHS: &[usize] = &[0, 1, 3, 250, 251, 300];
+// How long a text is, and what is written of that.
+type Text<'a> = (usize, &'a [u8]);
 
-// Each number is put and written, each text eaten, and each put into a buffer of each size.
-#[test]
-fn numbers_and_texts_are_put_and_eaten(rt: HostRuntime) {
-    let alloc = rt.alloc();
-    let mut all = all_are_put(alloc);
+const TEXTS: &[Text] = &[
+    (0, b"\0"),
+    (1, b"\x01"),
+    (3, b"\x03"),
+    (250, b"\xfa"),
+    (251, b"\xfc\xfb\0"),
+    (300, b"\xfc\x2c\x01"),
+];
+
+// Whether the first letters, as many as the row says, are put after their length, which is known
+// beforehand, or so much of them in a buffer of each size.
+fn is_text_put(alloc: Global, letters: &[u8], row: &Text<'_>) -> bool {
+    let (len, length) = *row;
+    let text = between(letters, 0, len);
+    let mut all = (text.len() == len) & (lenenc_int_len(len as u64) == length.len() as u64);
+    all &= lenenc_str_len(text) == length.len().saturating_add(len) as u64;
+    all & is_put_in_each(alloc, Put::Text(text), length, text)
+}
+
+// Whether each number is put and written, and read by both forms.
+fn are_numbers(alloc: Global) -> bool {
+    let mut all = are_read::<Lenenc>(MARKS, 1);
     for row in WRITTEN {
-        all &= is_spelled(alloc, row);
+        all &= is_spelled(alloc, row) & is_read::<Lenenc>(row, 1);
     }
+    all
+}
+
+// Whether each text is eaten, and each put into a buffer of each size. Of a text that is refused
+// the length is left.
+fn are_texts(alloc: Global, letters: &[u8]) -> bool {
+    let mut all = is_put_in_each(alloc, Put::Text(b"abc"), b"\x03", b"abc");
     for row in EATEN {
         all &= is_eaten(row);
     }
-    for len in LENGTHS {
-        all &= is_text_left(alloc, between(&[b'a'; 300], 0, *len));
+    for row in TEXTS {
+        all &= is_text_put(alloc, letters, row);
     }
-    assert!(rt; all);
+    all
+}
+
+#[test]
+fn numbers_and_texts_are_put_and_eaten(rt: HostRuntime) -> Result<(), Fail> {
+    let alloc = rt.alloc();
+    all_hold(&[
+        are_put(alloc, &[b'd'; 256]),
+        are_numbers(alloc),
+        are_texts(alloc, &[b'a'; 300]),
+    ])
 }

@@ -1,7 +1,6 @@
 // Readers of numbers, each in both its forms: on no byte, on fewer than it eats, on as many, and on
 // more.
 
-use crate::io::lenenc::{Lenenc, MARKS, WRITTEN};
 use mysql_wire::io::ParseBuf;
 use std::test::Fail;
 use test_support::facts::{all_hold, same};
@@ -211,8 +210,8 @@ pub fn is_read<R: Readers>(row: &Row<'_, R::Number>, eaten: usize) -> bool {
     all
 }
 
-// Whether each row's number is read so.
-fn are_read<R: Readers>(rows: &[Row<'_, R::Number>], eaten: usize) -> bool {
+/// Whether each row's number is read so.
+pub fn are_read<R: Readers>(rows: &[Row<'_, R::Number>], eaten: usize) -> bool {
     let mut all = true;
     for row in rows {
         all &= is_read::<R>(row, eaten);
@@ -385,7 +384,5 @@ fn numbers_are_read(_: HostRuntime) -> Result<(), Fail> {
         are_read::<UnsignedBe>(UNSIGNED_BE, 0),
         are_read::<SignedLe>(SIGNED_LE, 0),
         are_read::<SignedBe>(SIGNED_BE, 0),
-        are_read::<Lenenc>(WRITTEN, 1),
-        are_read::<Lenenc>(MARKS, 1),
     ])
 }
