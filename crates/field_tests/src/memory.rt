@@ -32,6 +32,10 @@ fn row<'a>(text: &'a [u8], end: &'a [u8]) -> Row<'a> {
     Both(RawInt::new(258), texts)
 }
 
+fn is_row_refused(heap: &Heap) -> bool {
+    is_refused_at_least(heap, &row(&[b'a'; 40], &[b'b'; 60]), ROW, 3)
+}
+
 // An element in the middle is refused too, and the second of two texts. An owned text is written
 // like a borrowed one, and its own memory is another's.
 fn are_refused(heap: &Heap, owned: &RawBytes<'_, LenEnc>, list: &List<'_>) -> [bool; 3] {
@@ -40,7 +44,7 @@ fn are_refused(heap: &Heap, owned: &RawBytes<'_, LenEnc>, list: &List<'_>) -> [b
     [
         is_refused_at_least(heap, owned, &text, 2),
         is_refused_at_least(heap, list, NUMBERS, 3),
-        is_refused_at_least(heap, &row(&[b'a'; 40], &[b'b'; 60]), ROW, 3),
+        is_row_refused(heap),
     ]
 }
 
