@@ -29,21 +29,22 @@ where
 type List<'a, U, A> = Seq<'a, RawInt<VarLen>, U, A>;
 
 // Counts that promise gigabytes: two values, of which each has a byte, stand after them.
-fn hostile_counts_end<A: Allocator + Copy>(alloc: A) -> [bool; 3] {
+fn hostile_counts_end<A: Allocator + Copy>(heap: &Heap, alloc: A) -> [bool; 5] {
     let four = b"\xff\xff\xff\xff\x01\x02";
     let eight = b"\0\0\0\0\x01\0\0\0\x01\x02";
     [
         ends_early::<List<'_, LeU32, A>, (), A>(alloc, (), four),
         ends_early::<List<'_, LeU64, A>, (), A>(alloc, (), eight),
         ends_early::<List<'_, Unknown, A>, usize, A>(alloc, usize::MAX, b"\x01\x02"),
+        heap.largest() > 0,
+        heap.largest() <= 65536,
     ]
 }
 
 #[test]
 fn a_declared_count_takes_little_memory(rt: HostRuntime) -> Result<(), Fail> {
     let heap = Refusing::new(rt.alloc(), NEVER);
-    all_hold(&hostile_counts_end(&heap))?;
-    all_hold(&[heap.largest() > 0, heap.largest() <= 65536])
+    all_hold(&hostile_counts_end(&heap, &heap))
 }
 
 // What a value holds in memory, whatever it has on the wire.
@@ -119,15 +120,6 @@ fn asks_for_few<M: InMemory, A: Allocator + Copy>(heap: &Heap, alloc: A, most: u
     (answer == (Some(Answer::UnexpectedEof), 0)) & (heap.largest() <= most)
 }
 
-// Those of eight values.
-fn lists_ask_for_few<A: Allocator + Copy>(heap: &Heap, alloc: A) -> [bool; 3] {
-    [
-        asks_for_few::<u8, A>(heap, alloc, 8),
-        asks_for_few::<[u64; 3], A>(heap, alloc, 192),
-        asks_for_few::<[u8; 2000], A>(heap, alloc, 16_000),
-    ]
-}
-
 // Whether such a count in front of many bytes, of which the first is no value, asks for this many
 // bytes at most.
 fn asks_for_the_first<M: InMemory, A: Allocator + Copy>(
@@ -141,9 +133,12 @@ fn asks_for_the_first<M: InMemory, A: Allocator + Copy>(
     (why == Some(Answer::UnexpectedEof)) & (heap.largest() <= most)
 }
 
-// Those of 64 values.
-fn lists_ask_for_the_first<A: Allocator + Copy>(heap: &Heap, alloc: A, input: &[u8]) -> [bool; 3] {
+// Those of eight values, and those of 64.
+fn lists_ask_for_few<A: Allocator + Copy>(heap: &Heap, alloc: A, input: &[u8]) -> [bool; 6] {
     [
+        asks_for_few::<u8, A>(heap, alloc, 8),
+        asks_for_few::<[u64; 3], A>(heap, alloc, 192),
+        asks_for_few::<[u8; 2000], A>(heap, alloc, 16_000),
         asks_for_the_first::<u8, A>(heap, alloc, input, 64),
         asks_for_the_first::<[u64; 3], A>(heap, alloc, input, 1536),
         asks_for_the_first::<[u8; 2000], A>(heap, alloc, input, 128_000),
@@ -153,10 +148,9 @@ fn lists_ask_for_the_first<A: Allocator + Copy>(heap: &Heap, alloc: A, input: &[
 #[test]
 fn a_list_asks_for_no_more_than_may_be_there(rt: HostRuntime) -> Result<(), Fail> {
     let heap = Refusing::new(rt.alloc(), NEVER);
-    let mut many = Vec::from_slice(rt.alloc(), b"\xff\xff\xff\xff")?;
-    many.resize(1004, 0)?;
-    all_hold(&lists_ask_for_few(&heap, &heap))?;
-    all_hold(&lists_ask_for_the_first(&heap, &heap, many.as_slice()))
+    let mut many = [0; 1004];
+    many[..4].fill(0xff);
+    all_hold(&lists_ask_for_few(&heap, &heap, &many))
 }
 
 // Whether a list of five values is read where room for all of them is refused, and not where room

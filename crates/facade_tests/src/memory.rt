@@ -228,8 +228,10 @@ const TWO_READ: Wanted<'static> = Wanted {
 // How many requests of a delivery can be refused, each in a run of its own.
 fn refusal_count(alloc: Global, case: &Case, pieces: &[&[u8]]) -> Option<u64> {
     for nth in 0..MOST {
-        if deliver_refused(alloc, case, pieces, nth, false)? == 0 {
-            return Some(nth);
+        match deliver_refused(alloc, case, pieces, nth, false) {
+            Some(0) => return Some(nth),
+            Some(_) => {}
+            None => return None,
         }
     }
     None

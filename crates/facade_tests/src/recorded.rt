@@ -52,11 +52,13 @@ fn counted(alloc: Global, limit: usize) -> Option<(u64, u64, bool)> {
 #[test]
 fn a_stream_is_compared_and_comes_once_more(rt: HostRuntime) -> Result<(), Fail> {
     let alloc = rt.alloc();
-    no_row(wrong_row(alloc, FRONTS, begins))?;
-    all_hold(&[
-        is_replayed(alloc, 2) == Some(true),
-        is_replayed(alloc, 1).is_none(),
-        counted(alloc, 2) == Some((3, 3, true)),
-        counted(alloc, 1).is_none(),
-    ])
+    match wrong_row(alloc, FRONTS, begins) {
+        None => all_hold(&[
+            is_replayed(alloc, 2) == Some(true),
+            is_replayed(alloc, 1).is_none(),
+            counted(alloc, 2) == Some((3, 3, true)),
+            counted(alloc, 1).is_none(),
+        ]),
+        wrong => no_row(wrong),
+    }
 }

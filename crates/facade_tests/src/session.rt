@@ -32,8 +32,12 @@ fn goes_on(
     let (before, behind) = limits;
     let mut codec = PacketCodec::default();
     codec.max_allowed_packet = before;
-    src.extend_from_slice(LOGIN).ok()?;
-    go_on_under(&mut codec, src, dst, behind, SESSION, packets).ok()?;
+    let Ok(()) = src.extend_from_slice(LOGIN) else {
+        return None;
+    };
+    let Ok(()) = go_on_under(&mut codec, src, dst, behind, SESSION, packets) else {
+        return None;
+    };
     let (login, session) = ((before, LOGIN), (behind, SESSION));
     match replay_session(alloc, login, session, packets.as_slice()) {
         Ok(again) => {
@@ -44,21 +48,22 @@ fn goes_on(
     }
 }
 
-fn is_replayed(alloc: Global, before: usize, behind: usize) -> Option<bool> {
+// Whether it does so where that is wanted, and stops where nothing is.
+fn is_replayed(alloc: Global, before: usize, behind: usize, wanted: Option<bool>) -> bool {
     let mut src = BytesMut::new(alloc);
     let mut dst = Vec::new(alloc);
     let mut packets = Vec::new(alloc);
-    goes_on(alloc, (before, behind), &mut src, &mut dst, &mut packets)
+    goes_on(alloc, (before, behind), &mut src, &mut dst, &mut packets) == wanted
 }
 
 #[test]
 fn a_session_goes_on_and_comes_once_more(rt: HostRuntime) -> Result<(), Fail> {
     let alloc = rt.alloc();
     all_hold(&[
-        is_replayed(alloc, 3, 3) == Some(true),
-        is_replayed(alloc, 3, 9) == Some(true),
+        is_replayed(alloc, 3, 3, Some(true)),
+        is_replayed(alloc, 3, 9, Some(true)),
         // (the header of the second stands in the login, and is within its limit)
-        is_replayed(alloc, 3, 0) == Some(true),
-        is_replayed(alloc, 2, 3).is_none(),
+        is_replayed(alloc, 3, 0, Some(true)),
+        is_replayed(alloc, 2, 3, None),
     ])
 }

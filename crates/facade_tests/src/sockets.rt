@@ -146,8 +146,7 @@ fn is_sent(alloc: Global, row: Row) -> bool {
 fn is_session_received(alloc: Global) -> bool {
     let mut long = [b'x'; 2007];
     long[..7].copy_from_slice(b"\x02\0\x01\xd0\x07\0\x01");
-    let packets = receive_session(alloc, b"\x01\0\0\0a", &long[3..], 2000);
-    let are_there = match &packets {
+    let are_there = match receive_session(alloc, b"\x01\0\0\0a", &long[3..], 2000) {
         Ok(packets) => are_packets(packets.as_slice(), &[b"a", &long[7..]]),
         Err(_) => false,
     };
@@ -156,6 +155,8 @@ fn is_session_received(alloc: Global) -> bool {
 
 #[test]
 fn each_side_sends_what_it_must_and_a_session_begins(rt: HostRuntime) -> Result<(), Fail> {
-    no_row(wrong_row(rt.alloc(), ROWS, is_sent))?;
-    ensure(is_session_received(rt.alloc()), "a login and what follows")
+    match wrong_row(rt.alloc(), ROWS, is_sent) {
+        None => ensure(is_session_received(rt.alloc()), "a login and what follows"),
+        wrong => no_row(wrong),
+    }
 }

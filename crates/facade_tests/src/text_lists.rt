@@ -1,6 +1,6 @@
 //! Lists of texts, and maps of fields as they were read, run.
 
-use mysql_wire::io::ParseBuf;
+use mysql_wire::io::{ParseBuf, WireError};
 use mysql_wire::misc::raw::bytes::{EofBytes, LenEnc, RawBytes};
 use mysql_wire::misc::raw::int::{LeU32, RawInt};
 use mysql_wire::misc::raw::seq::Seq;
@@ -21,10 +21,10 @@ fn are(list: &[RawBytes<'_, LenEnc>], texts: &[&[u8]]) -> bool {
 }
 
 // Whether a list that was made has these texts.
-fn is_list(list: Option<Texts<'_>>, texts: &[&[u8]]) -> bool {
-    match list {
-        Some(list) => are(list.as_slice(), texts),
-        None => false,
+fn is_list(made: Result<Texts<'_>, WireError>, texts: &[&[u8]]) -> bool {
+    match made {
+        Ok(list) => are(list.as_slice(), texts),
+        Err(_) => false,
     }
 }
 
@@ -42,14 +42,13 @@ fn is_pushed<'a>(alloc: Global, one: &'a [RawBytes<'a, LenEnc>]) -> bool {
     let mut list: Texts<'a> = Seq::new(CowSlice::Borrowed(one));
     let mut all = is_lent(alloc, &list, b"a");
     all &= push_text(alloc, &mut list, b"bc").is_ok() & are(list.as_slice(), wanted);
-    all &= is_list(copy_texts(alloc, &list).ok(), wanted);
-    all & is_list(own_texts(alloc, list).ok(), wanted)
+    all &= is_list(copy_texts(alloc, &list), wanted);
+    all & is_list(own_texts(alloc, list), wanted)
 }
 
 fn is_read_and_pushed(alloc: Global) -> bool {
     let mut buf = ParseBuf(b"\x01\0\0\0\x02ab\xff");
-    let list = read_and_push(alloc, &mut buf, b"c").ok();
-    is_list(list, &[b"ab", b"c"]) & (buf.len() == 1)
+    is_list(read_and_push(alloc, &mut buf, b"c"), &[b"ab", b"c"]) & (buf.len() == 1)
 }
 
 fn are_statements(alloc: Global) -> bool {
