@@ -1,7 +1,7 @@
 #!/usr/bin/env bash
-# A first look: frames three bytes, shows such a chunk and takes two packets out of a stream, in half
-# a minute, and then dumps the front of a recorded session. Nothing is proved here: `rt try` runs
-# each program as it stands, unproved. Needs python3, which cuts the session out of the recordings.
+# A first look, in half a minute: frames three bytes, shows such a chunk, takes two packets out of a
+# stream, and dumps the front of a recorded session. Nothing is proved here: `rt try` runs each
+# program as it stands, unproved. Needs python3, which cuts the session out of the recordings.
 set -e
 top=$(cd "$(dirname "$0")/.." && pwd)
 source "$top/scripts/start.sh"
