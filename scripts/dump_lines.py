@@ -97,6 +97,52 @@ def wide_session(has_json):
     return "a row of 101 values", "--json --fields" if has_json else "--fields", SELECT, server, 0, lines
 
 
+# Columns' types by number, a value of each in its binary form, and how it is shown: the examples of
+# https://dev.mysql.com/doc/dev/mysql-server/latest/page_protocol_binary_resultset.html, dates and
+# times of each length, and the other types that have forms of their own.
+VALUES = [
+    (0xfe, b"\3foo", '"foo"'), (0xf6, b"\x041.25", '"1.25"'), (0xf5, b"\2{}", '"{}"'),
+    (0x10, b"\0", '""'), (0x08, b"\1\0\0\0\0\0\0\x80", "9223372036854775809"),
+    (0x03, b"\1\2\3\4", "67305985"), (0x09, b"\1\0\0\0", "1"), (0x02, b"\1\2", "513"),
+    (0x0d, b"\xea\7", "2026"), (0x01, b"\xff", "255"),
+    (0x05, b"\x66\x66\x66\x66\x66\x66\x24\x40", "10.2"), (0x04, b"\x33\x33\x23\x41", "10.2"),
+    (0x06, b"", "null"), (0x0a, b"\0", '"0000-00-00 00:00:00"'),
+    (0x0a, b"\4\xda\7\x0a\x11", '"2010-10-17"'),
+    (0x07, b"\7\xda\7\x0a\x11\x13\x1b\x1e", '"2010-10-17 19:27:30"'),
+    (0x0c, b"\x0b\xda\7\x0a\x11\x13\x1b\x1e\1\0\0\0", '"2010-10-17 19:27:30.000001"'),
+    (0x0b, b"\0", '"00:00:00"'),
+    (0x0b, b"\x08\1\x78\0\0\0\x13\x1b\x1e", '"-2899:27:30"'),
+    (0x0b, b"\x0c\1\x78\0\0\0\x13\x1b\x1e\1\0\0\0", '"-2899:27:30.000001"'),
+]
+
+
+def binary_session():
+    """An execution of a statement, and a row of these values, as a row."""
+    columns = [COLUMN[:17] + bytes([number]) + COLUMN[18:] for number, _, _ in VALUES]
+    row = bytes(1 + (len(VALUES) + 9) // 8) + b"".join(value for _, value, _ in VALUES)
+    client = framed([b"\x16SELECT"]) + framed([b"\x17\1\0\0\0\0\1\0\0\0"])
+    packets = [b"\0\1\0\0\0\0\0\0\0\0\0\0"], [bytes([len(VALUES)]), *columns, EOF, row, EOF]
+    server = b"".join(framed([b"", *answer])[4:] for answer in packets)
+    kinds = ["column count", *["column"] * len(VALUES), "eof", "binary row", "eof"]
+    lines = ["client 0 7 prepare", '  query "SELECT"', "server 1 12 prepared", "  statement_id 1",
+             "  num_columns 0", "  num_params 0", "  warning_count 0", "client 0 10 execute",
+             "  statement_id 1", "  flags 0x0", "  iteration_count 1"]
+    for index, (kind, packet) in enumerate(zip(kinds, packets[1])):
+        lines.append("server %d %d %s" % (index + 1, len(packet), kind))
+        if kind == "column count":
+            lines.append("  column_count %d" % len(VALUES))
+        elif kind == "column":
+            shown = {**dict(COLUMN_FIELDS), "type": VALUES[index - 1][0]}
+            lines += ["  %s %s" % (name, hex(value) if name == "flags" else json.dumps(value))
+                      for name, value in shown.items()]
+        elif kind == "eof":
+            lines += ["  warnings 0", "  status_flags 0x2"]
+        else:
+            lines += ["  %d %s" % (place, shown) for place, (_, _, shown) in enumerate(VALUES)]
+    lines += ["client end at %d" % len(client), "server end at %d" % len(server)]
+    return "a row of binary values", "--fields", client, server, 0, lines
+
+
 # A session, the words before its files, what both sides sent (None where a side has no file), the
 # status, and the lines.
 SESSIONS = [
@@ -180,6 +226,7 @@ SESSIONS = [
     text_session("a long text with an escape in front", "\1" + "\u00e9" * 100),
     wide_session(False),
     wide_session(True),
+    binary_session(),
     # the piece after the one numbered 255 is numbered 0, and so is the end of the other file
     file_session(300),
     file_session(254),

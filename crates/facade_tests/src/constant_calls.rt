@@ -4,7 +4,7 @@ use mysql_wire::constants::{
     ColumnType, Command, GeometryType, ItemResult, StatusFlags, UnknownColumnType,
     UnknownStatusFlags,
 };
-use mysql_wire_examples::constant_calls::{
+use field_examples::constant_calls::{
     all, bits, column_type_back, column_type_of, command_byte, complement, contains, converted,
     default, difference, empty, from_bits, from_bits_retain, from_bits_truncate,
     geometry_type_byte, insert, intersection, intersects, is_all, is_empty, is_in_transaction,

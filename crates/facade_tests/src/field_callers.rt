@@ -1,6 +1,6 @@
 //! The callers of fields, run.
 
-use mysql_wire_examples::field_callers::{
+use field_examples::field_callers::{
     EofPacket, put_named, put_schema, read_eof, read_error, read_named, read_ok, write_name,
 };
 use std::alloc::Global;

@@ -1,6 +1,6 @@
-//! Tests of what users name through the facade: the callers of `mysql_wire_examples`, run; values as
-//! packets; every call under refused memory, what it leaves then and how it goes on, and how much
-//! calls ask for (`memory_support` has the calls).
+//! Tests of what users name through the facade: the callers of `mysql_wire_examples` and
+//! `field_examples`, run; values as packets; every call under refused memory, what it leaves then and
+//! how it goes on, and how much calls ask for (`memory_support` has the calls).
 #![tactic(auto)]
 
 #[cfg(test)]

@@ -1,6 +1,6 @@
 //! Tests of what packets are made of: buffers and streams; numbers, texts and constants as fields,
 //! fields in a row, and lists; and the numbers of constants. What is made of such fields elsewhere,
-//! `mysql_wire_vectors` and `recording_tests` test.
+//! `packet_tests` and `recording_tests` test.
 #![tactic(auto)]
 
 #[cfg(test)]

@@ -2,11 +2,6 @@
 //! memory may be refused (whether it was, if what stands then is right), and their other calls.
 
 use crate::reading::{Reading, knows, read};
-use mysql_wire::io::{ParseBuf, ReadMysqlExt, WireError};
-use mysql_wire::misc::raw::bytes::{BytesRepr, LenEnc};
-use mysql_wire::misc::raw::int::{LeU16, LeU32};
-use mysql_wire::misc::raw::seq::{RawSeq, Seq, SeqRepr};
-use mysql_wire::misc::raw::{Both, Const, Either, RawBytes, RawInt};
 use refusing_allocator::NEVER;
 use std::alloc::Allocator;
 use std::borrow::CowSlice;
@@ -14,6 +9,17 @@ use test_support::answers::Answer;
 use test_support::facts::same;
 use test_support::fields::is_written;
 use test_support::fixture::Heap;
+use wire_buf::error::WireError;
+use wire_buf::io::ParseBuf;
+use wire_ext::io::ReadMysqlExt;
+use wire_field::converted::Const;
+use wire_field::row::{Both, Either};
+use wire_forms::lenenc::LenEnc;
+use wire_list::raw_seq::RawSeq;
+use wire_list::seq::{Seq, SeqRepr};
+use wire_repr::int::{LeU16, LeU32, RawInt};
+use wire_repr::text::BytesRepr;
+use wire_values::text::RawBytes;
 
 /// What is copied.
 #[derive(Clone, Copy)]

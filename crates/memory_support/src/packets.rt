@@ -1,12 +1,12 @@
 //! A reader and a writer of packets, each with its codec, whose answers can be compared.
 
-use mysql_wire::proto::codec::PacketCodec;
-use mysql_wire::proto::packet_io::{PacketIoError, PacketReader, PacketWriter};
 use std::alloc::Allocator;
 use std::fmt::{self, Debug, Write};
 use std::io::{self, Sink};
 use test_support::answers::Answer;
 use test_support::facts::same;
+use wire_codec::codec::PacketCodec;
+use wire_packet_io::{PacketIoError, PacketReader, PacketWriter};
 
 fn answer_of(error: &PacketIoError) -> Answer {
     match error {

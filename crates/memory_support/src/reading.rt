@@ -1,15 +1,17 @@
 //! A value of any type, read by each function that reads one.
 
-ghost use Rattle.mysql_wire.specs.Reading.{HasBytes};
+ghost use Rattle.wire_buf.specs.Reading.{HasBytes};
 
-use mysql_wire::io::{ParseBuf, WireError};
-use mysql_wire::laws;
-use mysql_wire::misc::raw::field_laws::{self, rows};
-use mysql_wire::misc::raw::{Both, Either, RawInt};
-use mysql_wire::proto::Wire;
-use mysql_wire::proto::codec::parse_packet_in;
 use std::alloc::Allocator;
 use test_support::answers::{Answer, answered};
+use wire_buf::error::WireError;
+use wire_buf::io::ParseBuf;
+use wire_field::row::{Both, Either};
+use wire_laws::{payloads, rows};
+use wire_repr::field_laws;
+use wire_repr::int::RawInt;
+use wire_repr::wire::Wire;
+use wire_values::payload::parse_packet_in;
 
 /// What reads it.
 #[derive(Clone, Copy)]
@@ -90,7 +92,7 @@ where
 {
     let packet = match reading {
         Reading::ParsePacketIn => parse_packet_in::<T, A>(alloc, (), input),
-        Reading::PacketBack => laws::packet_back::<T, A>(alloc, (), input),
+        Reading::PacketBack => payloads::packet_back::<T, A>(alloc, (), input),
         _ => return read_buf(alloc, reading, input),
     };
     match packet {
@@ -102,5 +104,5 @@ where
 /// The law of a value, as functions, which do nothing.
 pub fn knows<'de, T: Wire<'de, A>, A: Allocator + Copy>(value: &T) {
     value.known();
-    laws::values_come_back::<T, A>();
+    payloads::values_come_back::<T, A>();
 }

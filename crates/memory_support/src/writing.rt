@@ -1,14 +1,16 @@
 //! What is put after what a vector holds, by each function that puts something there.
 
-use mysql_wire::io::{BufMutExt, WireError};
-use mysql_wire::misc::raw::bytes::{BytesRepr, U8Bytes};
-use mysql_wire::misc::raw::int::{IntRepr, LeU16, LeU32};
-use mysql_wire::misc::raw::seq::SeqRepr;
-use mysql_wire::misc::raw::{RawBytes, RawInt};
-use mysql_wire::misc::write_varlen_uint;
-use mysql_wire::proto::MySerialize;
 use std::alloc::Allocator;
 use test_support::answers::{Answer, answered};
+use wire_buf::error::WireError;
+use wire_buf::proto::MySerialize;
+use wire_ext::BufMutExt;
+use wire_ext::misc::write_varlen_uint;
+use wire_forms::prefixed::U8Bytes;
+use wire_list::seq::SeqRepr;
+use wire_repr::int::{IntRepr, LeU16, LeU32, RawInt};
+use wire_repr::text::BytesRepr;
+use wire_values::text::RawBytes;
 
 /// What is written.
 #[derive(Clone, Copy)]

@@ -1,10 +1,10 @@
 -- The columns of a row are those that are read.
-use Rattle.std.proofs.Common.{◌≡◌, ℕ, drop, List, Some, None, sym, subst}
+use Rattle.std.proofs.Common.{◌≡◌, ℕ, List, Some, None, sym, subst}
 use Rattle.mysql_wire.specs.Lenenc.{IsLenencOrMark}
 use Rattle.mysql_wire.specs.LenencLemmas.{IsLenencOrMark-free}
-use Rattle.mysql_wire.specs.Spelling.{EatsSpelling, EatsText, ReadsText, SpellsNothing}
-use Rattle.mysql_wire.specs.SpellingLemmas.{EatsSpelling-same, ReadsText-same}
-use Rattle.mysql_wire_examples.specs.Accounts.{IsAccount, IsOk}
+use Rattle.mysql_wire.specs.Spelling.{EatsText, ReadsText}
+use Rattle.mysql_wire.specs.SpellingLemmas.{ReadsText-same}
+use Rattle.mysql_wire_examples.specs.Accounts.{IsAccount}
 
 some_same : (a b : List ℕ) → Some a ≡ Some b → a ≡ b
 some_same a b e = cc
@@ -36,12 +36,3 @@ pub no_mail : (row first mid after name mail : List ℕ) → EatsText IsLenencOr
 no_mail row first mid after name mail read none there =
     let names = one_text row first name mid there.0 read there.2 in
     no_text mid mail after there.1 none (subst (λ (z : List ℕ). EatsText IsLenencOrMark z mail there.1) (sym names.1) there.3)
-
--- an `OK_Packet` whose first count isn't there, or whose second isn't
-pub no_changed : (packet : List ℕ) (changed last_id : ℕ) → SpellsNothing IsLenencOrMark (drop 1 packet) → IsOk packet changed last_id → ⊥
-no_changed packet changed last_id none ok = none changed ok.2 ok.4
-
-pub no_last_id : (packet mid : List ℕ) (first changed last_id : ℕ) → EatsSpelling IsLenencOrMark (drop 1 packet) first mid → SpellsNothing IsLenencOrMark mid → IsOk packet changed last_id → ⊥
-no_last_id packet mid first changed last_id read none ok =
-    let same = EatsSpelling-same IsLenencOrMark IsLenencOrMark-free (drop 1 packet) changed first ok.2 mid ok.4 read in
-    none last_id ok.3 (subst (λ (z : List ℕ). EatsSpelling IsLenencOrMark z last_id ok.3) same.1 ok.5)

@@ -8,5 +8,3 @@ mod MeasuredLemmas
 pub mod SessionLemmas
 pub mod BothEndsLemmas
 pub mod LongPacketLemmas
-mod TextListLemmas
-mod KeyedLemmas

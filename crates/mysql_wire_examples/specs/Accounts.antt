@@ -1,8 +1,7 @@
 -- Rows of texts, and the packets that stand after them.
-use Rattle.std.specs.Prelude.{◌≡◌, ◌≤◌, ℕ, List, [], ◌∷◌, length, take, drop, Bool, false, ◌==◌, if◌then◌else◌, nat_lt}
-use Rattle.mysql_wire.specs.Numbers.{le_number}
+use Rattle.std.specs.Prelude.{ℕ, List, [], ◌∷◌, length, Bool, false, ◌==◌, if◌then◌else◌, nat_lt}
 use Rattle.mysql_wire.specs.Lenenc.{IsLenencOrMark}
-use Rattle.mysql_wire.specs.Spelling.{EatsSpelling, EatsText}
+use Rattle.mysql_wire.specs.Spelling.{EatsText}
 
 -- the first two columns of a row are these
 abbrev pub IsAccount : List ℕ → List ℕ → List ℕ → Type 0
@@ -14,11 +13,3 @@ IsAccount row name mail =
 abbrev pub ends_rows : List ℕ → Bool
 ends_rows [] = false
 ends_rows (byte ∷ rest) = if byte == 0xfe then nat_lt (length rest) 8 else false
-
--- an `OK_Packet` that begins with these counts
-abbrev pub IsOk : List ℕ → ℕ → ℕ → Type 0
-IsOk packet changed last_id =
-    (1 ≤ length packet) × (le_number (take 1 packet) ≡ 0)
-    × (mid : List ℕ) × (rest : List ℕ)
-    × EatsSpelling IsLenencOrMark (drop 1 packet) changed mid
-    × EatsSpelling IsLenencOrMark mid last_id rest

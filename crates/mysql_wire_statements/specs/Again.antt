@@ -17,6 +17,7 @@ use Rattle.wire_field.specs.declared.row.Either.{Either}
 use Rattle.wire_field.specs.declared.row.Either.TheVariants.{Left, Right}
 use Rattle.wire_field.specs.Rows.{ReadsBoth, ReadsEither, by_side}
 use Rattle.mysql_wire_parts.specs.Optional.{bytes_if, field, side}
+use Rattle.mysql_wire_temporal.specs.Fronts.{take_are}
 
 -- what is read of bytes is written as those of them that were eaten
 pub record Again {X : Type 0} (reads : List ℕ → Result X WireError → ℕ → Type 0)
@@ -25,12 +26,6 @@ pub record Again {X : Type 0} (reads : List ℕ → Result X WireError → ℕ �
       → bytes value ≡ take eaten input
 
 -- ---- lemmas
-
-pub take_are : (count : ℕ) (bytes : List ℕ) → IsBytes bytes → IsBytes (take count bytes)
-take_are zero bytes are i = omega arith
-take_are (suc count) [] are i = omega arith
-take_are (suc count) (byte ∷ bytes) are zero = are 0
-take_are (suc count) (byte ∷ bytes) are (suc i) = take_are count bytes (λ k. are (suc k)) i
 
 pub drop_are : (count : ℕ) (bytes : List ℕ) → IsBytes bytes → IsBytes (drop count bytes)
 drop_are zero bytes are = are

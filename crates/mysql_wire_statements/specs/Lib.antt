@@ -3,11 +3,8 @@ pub mod BinaryRows
 pub mod Bitmaps
 pub mod Commands
 pub mod Executed
-pub mod Faults
 pub mod InOrder
 pub mod RowColumns
-pub mod TemporalValues
-pub mod TemporalValuesBack
 pub mod Params
 pub mod TypesBack
 pub mod Values

@@ -1,7 +1,6 @@
 //! Packets of prepared statements, made of the wire types of `mysql_wire`.
 #![tactic(auto)]
 
-pub mod binary_fault;
 pub mod binary_row;
 pub mod binary_value;
 pub mod binary_values;
@@ -18,5 +17,18 @@ pub mod params;
 pub mod payload;
 mod rest;
 pub mod statement_command;
-pub mod temporal;
-pub mod written_back;
+
+/// Why the bytes of a value are refused.
+pub mod binary_fault {
+    pub use mysql_wire_temporal::binary_fault::BinaryFault;
+}
+
+/// Dates and times in their binary form.
+pub mod temporal {
+    pub use mysql_wire_temporal::temporal::{BinaryDate, BinaryTime, Clock, Day, Span};
+}
+
+/// What is read is written as it stood.
+pub mod written_back {
+    pub use mysql_wire_temporal::written_back::{WrittenBack, is_written_back};
+}

@@ -1,17 +1,27 @@
 //! Tests of packets: framing, chunks, the codec, limits, lending, delivery, every cutting, generated
-//! streams, packets over readers and writers, and spans beside a codec.
+//! streams, packets over readers and writers, and spans beside a codec. Worked examples, the cases of
+//! the Rust crate's own tests, the facade's paths, the connection phase, of packets' types what no row
+//! of `recording_tests` shows, and of the program's commands what the built program can't show.
 #![tactic(auto)]
 
 #[cfg(test)]
 mod answers;
 #[cfg(test)]
+mod cases;
+#[cfg(test)]
 mod chunks;
 #[cfg(test)]
 mod codec;
 #[cfg(test)]
+mod commands;
+#[cfg(test)]
+mod connection_phase;
+#[cfg(test)]
 mod copies;
 #[cfg(test)]
 mod delivery;
+#[cfg(test)]
+mod examples;
 #[cfg(test)]
 mod fragmentation;
 #[cfg(test)]
@@ -26,6 +36,10 @@ mod ids;
 mod limits;
 #[cfg(test)]
 mod order;
+#[cfg(test)]
+mod packets;
+#[cfg(test)]
+mod paths;
 #[cfg(test)]
 mod reader;
 #[cfg(test)]

@@ -5,10 +5,12 @@ use mysql_wire_statements::binary_value::BinaryValue;
 use mysql_wire_statements::com_stmt_execute::ComStmtExecute;
 use mysql_wire_statements::com_stmt_prepare_ok::ComStmtPrepareOk;
 use mysql_wire_statements::params::{ParamTypes, StmtParams};
+use refusing_allocator::Refusing;
 use std::alloc::Global;
+use test_support::fields::is_written;
+use test_support::reference::between;
 use wire_buf::error::WireError;
 use wire_buf::io::ParseBuf;
-use wire_buf::proto::MySerialize;
 use wire_const::ColumnType;
 
 /// A statement that is prepared.
@@ -74,7 +76,7 @@ impl Statement {
     }
 
     fn has_values(&self, alloc: Global, params: &StmtParams<'_>) -> bool {
-        let mut values = Values::new(alloc, params.values);
+        let mut values = Values::new(params.values);
         for place in 0..self.num_params {
             if params.nulls.is_null(place as usize) || self.sent_ahead.contains(&place) {
                 continue;
@@ -88,48 +90,48 @@ impl Statement {
     }
 }
 
-// Values in a row, and what was written of those that were read.
-#[derive(Drop)]
+// Values in a row, and whether each was read and is written as the bytes that were eaten.
 struct Values<'a> {
-    all: &'a [u8],
     rest: ParseBuf<'a>,
-    written: Vec<u8>,
-    is_read: bool,
+    are_written: bool,
 }
 
 impl<'a> Values<'a> {
-    fn new(alloc: Global, all: &'a [u8]) -> Values<'a> {
+    fn new(all: &'a [u8]) -> Values<'a> {
         Values {
-            all,
             rest: ParseBuf(all),
-            written: Vec::new(alloc),
-            is_read: true,
+            are_written: true,
         }
     }
 
     fn read(&mut self, alloc: Global, column_type: ColumnType) {
+        let before = self.rest.0;
         let value = self.rest.parse::<BinaryValue<'a>>(alloc, column_type);
-        self.note(value);
+        self.note(alloc, before, value);
     }
 
-    fn note(&mut self, value: Result<BinaryValue<'a>, WireError>) {
-        self.is_read &= match value {
-            Ok(value) => value.serialize(&mut self.written).is_ok(),
+    // (whichever request for memory is refused)
+    fn note(&mut self, alloc: Global, before: &[u8], value: Result<BinaryValue<'a>, WireError>) {
+        let heap = Refusing::new(alloc, 0);
+        let eaten = before.len().saturating_sub(self.rest.len());
+        self.are_written &= match value {
+            Ok(value) => is_written(&heap, &value, between(before, 0, eaten)),
             Err(_) => false,
         };
     }
 
     fn are_written_back(&self) -> bool {
-        self.is_read & self.rest.is_empty() & (self.written.as_slice() == self.all)
+        self.are_written & self.rest.is_empty()
     }
 }
 
 /// Whether the row has values of these columns, and no byte more.
 pub fn has_columns(alloc: Global, row: &BinaryRow<'_>, columns: &[ColumnType]) -> bool {
-    let mut values = Values::new(alloc, row.values);
+    let mut values = Values::new(row.values);
     for (place, column_type) in columns.iter().enumerate() {
+        let before = values.rest.0;
         let value = row.value(alloc, place, *column_type, &mut values.rest);
-        values.note(value);
+        values.note(alloc, before, value);
     }
     values.are_written_back()
 }

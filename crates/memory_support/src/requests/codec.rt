@@ -4,13 +4,13 @@
 use crate::packets::{Outlet, Source};
 use crate::requests::{Call, Row, copies};
 use bytes::{Buf, BytesMut};
-use mysql_wire::proto::codec::PacketDst;
 use refusing_allocator::NEVER;
 use std::alloc::Allocator;
 use test_support::answers::Answer;
 use test_support::facts::{are_parts, same};
 use test_support::fixture::{Fixture, Heap};
 use test_support::receiver::{Receiver, Run, Tally, pieces_from};
+use wire_codec::codec::PacketDst;
 
 /// What runs over pieces.
 #[derive(Clone, Copy)]

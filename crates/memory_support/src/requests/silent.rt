@@ -7,7 +7,6 @@ use crate::copies::{
 use crate::packets::{Outlet, Source, answer_by, shown_len};
 use crate::reading::Reading;
 use bytes::BytesMut;
-use mysql_wire::proto::codec::Skipped;
 use refusing_allocator::NEVER;
 use std::alloc::Allocator;
 use test_support::answers::Answer;
@@ -15,6 +14,7 @@ use test_support::facts::same;
 use test_support::fixture::{Fixture, Heap};
 use test_support::receiver::Receiver;
 use test_support::targets::Target;
+use wire_codec::codec::Skipped;
 
 // What is called, by the names that it covers.
 #[derive(Clone, Copy)]

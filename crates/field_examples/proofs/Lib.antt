@@ -1,0 +1,3 @@
+mod OkPacketLemmas
+mod TextListLemmas
+mod KeyedLemmas

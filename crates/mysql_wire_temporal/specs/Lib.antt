@@ -1,0 +1,4 @@
+pub mod Faults
+pub mod Fronts
+pub mod TemporalValues
+pub mod TemporalValuesBack
