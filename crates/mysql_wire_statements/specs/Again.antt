@@ -3,12 +3,12 @@
 use Rattle.std.specs.Prelude.{ℕ, ◌≡◌, ◌<◌, ◌≤◌, ◌^◌, ◌%◌, Bool, true, false, List, [], ◌∷◌, ◌++◌, length, take, drop, Option, Some, None, Result, Ok, Err, IfOk}
 use Rattle.std.proofs.Common.{zero, suc, inl, inr, refl, sym, ap, subst, ◌∙◌, arith}
 use Rattle.std.proofs.Math.Seq.{take-add}
-use Rattle.std.proofs.lemmas.List.{length-take, length-take-le, take-append-drop, take_all}
+use Rattle.std.proofs.lemmas.List.{length-take, length-take-le, take_all}
 use Rattle.std.proofs.lemmas.Bool.{cases_lt, le-ltb, lt-ltb}
 use Rattle.wire_buf.specs.declared.error.WireError.{WireError}
 use Rattle.wire_buf.specs.declared.error.WireError.TheVariants.{UnexpectedEof}
 use Rattle.wire_repr.specs.Law.{ReadsFixed}
-use Rattle.wire_buf.specs.Reading.{Answers, Parses, Reads, Through, front_at}
+use Rattle.wire_buf.specs.Reading.{Answers, Parses, Through, front_at}
 use Rattle.wire_buf.specs.Numbers.{le_number, le_bytes, IsBytes}
 use Rattle.wire_buf.specs.NumberLemmas.{le_bytes-le_number, le_number-lt}
 use Rattle.wire_forms.specs.Constants.{ReadsAny, ReadsConst}
@@ -202,18 +202,6 @@ pub by_field : {A B : Type 0} (bytes : A → List ℕ) (none : B) (value : Optio
     → by_side bytes (λ _. []) (field (λ x. x) none value) ≡ bytes_if bytes value
 by_field bytes none (Some value) = refl
 by_field bytes none None = refl
-
--- with what is left after it, what is written of the answer is what stood there
-pub again_of : {X : Type 0} (reads : List ℕ → Result X WireError → ℕ → Type 0) (bytes : X → List ℕ)
-    (shortest : Type 0) (old new : List ℕ) (answer : Result X WireError)
-    → Reads reads old answer new
-    → ((value : X) (eaten : ℕ) → shortest → reads old (Ok value) eaten
-    → bytes value ≡ take eaten old)
-    → IfOk answer (λ value. shortest → bytes value ++ new ≡ old)
-again_of reads bytes shortest old new (Ok value) (eaten, there, left, read) law = λ short.
-    ap (λ front. front ++ new) (law value eaten short read)
-    ∙ (ap (λ rest. take eaten old ++ rest) left ∙ take-append-drop eaten old)
-again_of reads bytes shortest old new (Err error) read law = tt
 
 -- what holds of it where its lengths are the shortest holds always, where it has none
 pub always : {X : Type 0} (answer : Result X WireError) (P : X → Type 0)

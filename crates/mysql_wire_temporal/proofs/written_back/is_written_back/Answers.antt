@@ -1,5 +1,5 @@
 use Rattle.wire_buf.specs.Reading.{Parses}
-use Rattle.mysql_wire_temporal.specs.Again.{again_of}
+use Rattle.mysql_wire_temporal.proofs.WrittenBackLemmas.{again_of}
 use Rattle.mysql_wire_temporal.proofs.written_back.is_written_back.Goals as goal
 
 pub returns-clause-again : goal.returns-clause-again
