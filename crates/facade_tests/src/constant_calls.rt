@@ -1,14 +1,14 @@
 //! The calls on sets of flags and on enums, run: each with a row or two.
 
-use mysql_wire::constants::{
-    ColumnType, Command, GeometryType, ItemResult, StatusFlags, UnknownColumnType,
-    UnknownStatusFlags,
-};
 use field_examples::constant_calls::{
     all, bits, column_type_back, column_type_of, command_byte, complement, contains, converted,
     default, difference, empty, from_bits, from_bits_retain, from_bits_truncate,
     geometry_type_byte, insert, intersection, intersects, is_all, is_empty, is_in_transaction,
     item_result_byte, remove, set, status_there_and_back, symmetric_difference, toggle, union,
+};
+use mysql_wire::constants::{
+    ColumnType, Command, GeometryType, ItemResult, StatusFlags, UnknownColumnType,
+    UnknownStatusFlags,
 };
 
 // Two sets that share a bit, the second one with a bit that no flag names.

@@ -11,10 +11,10 @@ ghost use Rattle.mysql_wire_statements.specs.InOrder.{rest_of, slice_of};
 ghost use Rattle.mysql_wire_statements.specs.Values.{form_of, ReadsForm};
 ghost use Rattle.mysql_wire_statements.specs.declared.binary_value.BinaryValue.TheVariants.{Null};
 
-use mysql_wire_temporal::binary_fault::BinaryFault;
 use crate::binary_value::{BinaryValue, ValueForm, read_value};
 use crate::null_bitmap::RowNulls;
 use crate::rest::Rest;
+use mysql_wire_temporal::binary_fault::BinaryFault;
 use mysql_wire_temporal::written_back::WrittenBack;
 use std::alloc::{Allocator, Global};
 use wire_buf::error::WireError;
