@@ -10,8 +10,6 @@ mod budget;
 #[cfg(test)]
 mod callers;
 #[cfg(test)]
-mod constant_calls;
-#[cfg(test)]
 mod field_callers;
 #[cfg(test)]
 mod in_place;

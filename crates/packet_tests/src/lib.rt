@@ -31,8 +31,6 @@ mod framing;
 #[cfg(test)]
 mod generated;
 #[cfg(test)]
-mod ids;
-#[cfg(test)]
 mod limits;
 #[cfg(test)]
 mod order;

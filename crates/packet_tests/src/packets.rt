@@ -1,13 +1,11 @@
 //! Of packets what no row of `recording_tests` shows.
 
 mod forms;
-mod rows;
 mod values;
 
 use forms::{is_count_alone, is_ok_to_the_end};
 use mysql_wire::proto::{MyDeserialize, MySerialize};
 use refusing_allocator::Refusing;
-use rows::{are_past_the_bits, are_types, columns_come, texts_come};
 use std::alloc::Global;
 use std::test::Fail;
 use test_support::facts::all_hold;
@@ -38,10 +36,6 @@ fn forms_and_values_are_read(rt: HostRuntime) -> Result<(), Fail> {
     all_hold(&[
         is_ok_to_the_end(&heap, alloc),
         is_count_alone(&heap, alloc),
-        are_types(),
-        are_past_the_bits(),
-        columns_come(),
-        texts_come(),
         are_refused(alloc),
     ])
 }

@@ -1,7 +1,6 @@
-// What a `Session` of mysql_wire_session keeps of columns and statements, where memory is refused too,
-// and by which type it reads a command. The tests in C of mysql_wire_c follow it packet by packet.
+// What a `Session` of mysql_wire_session keeps of columns and statements, where memory is refused too.
+// The tests in C of mysql_wire_c follow it packet by packet.
 
-use mysql_wire_session::packet::{Packet, forget};
 use mysql_wire_session::packet_kind::PacketKind;
 use mysql_wire_session::session::{FrontError, Session};
 use mysql_wire_session::side::Side;
@@ -9,7 +8,7 @@ use mysql_wire_statements::com_stmt_prepare_ok::ComStmtPrepareOk;
 use refusing_allocator::{NEVER, Refusing};
 use std::alloc::{Allocator, Global};
 use std::test::Fail;
-use test_support::facts::{all_hold, no_row, same};
+use test_support::facts::{all_hold, same};
 use test_support::fixture::Heap;
 
 // The definition of a column of type 8, `MYSQL_TYPE_LONGLONG`.
@@ -74,62 +73,4 @@ fn a_refused_packet_leaves_what_is_known(rt: HostRuntime) -> Result<(), Fail> {
     let heap = Refusing::new(rt.alloc(), NEVER);
     let facts = facts_of(&heap, rt.alloc());
     all_hold(&facts)
-}
-
-// Commands about the connection and the server, and what their type makes of them: the command's
-// number, or 255 where it refuses them.
-const COMMANDS: &[(&[u8], u8)] = &[
-    (b"\x04table\0wild", 0x04),
-    (b"\x04table", 255),
-    (b"\x09", 0x09),
-    (b"\x0c\x07\0\0\0", 0x0c),
-    (b"\x0c\x07", 255),
-    (b"\x0d", 0x0d),
-    (b"\x12\x04\0\0\0\0\0\x02\0\0\0log.1", 0x12),
-    (
-        b"\x15\x02\0\0\0\x01h\x01u\x01p\xea\x0c\0\0\0\0\0\0\0\0",
-        0x15,
-    ),
-    (b"\x1b\0\0", 0x1b),
-    (
-        b"\x1e\0\0\x02\0\0\0\x03\0\0\0log\x04\0\0\0\0\0\0\0\0\0\0\0",
-        0x1e,
-    ),
-    (b"\x1f", 0x1f),
-    (b"\x1f\0", 255),
-    (b"\x1d\0", 0),
-];
-
-// By which type a command was read.
-fn type_of(packet: &Packet<'_>) -> u8 {
-    match packet {
-        Packet::FieldList(_) => 0x04,
-        Packet::StatisticsRequest(_) => 0x09,
-        Packet::ProcessKill(_) => 0x0c,
-        Packet::Debug(_) => 0x0d,
-        Packet::BinlogDump(_) => 0x12,
-        Packet::RegisterSlave(_) => 0x15,
-        Packet::SetOption(_) => 0x1b,
-        Packet::BinlogDumpGtid(_) => 0x1e,
-        Packet::ResetConnection(_) => 0x1f,
-        Packet::Refused(_) => 255,
-        _ => 0,
-    }
-}
-
-fn is_read_by(session: &Session<Global>, row: (&[u8], u8)) -> bool {
-    match session.read(Side::Client, 0, row.0) {
-        Ok(received) => {
-            let number = type_of(&received.packet);
-            forget(received);
-            number == row.1
-        }
-        Err(_) => false,
-    }
-}
-
-#[test]
-fn each_command_is_read_by_its_type(rt: HostRuntime) -> Result<(), Fail> {
-    let session = Session::new(rt.alloc(), rt.alloc());
-    no_row(COMMANDS.iter().position(|row| !is_read_by(&session, *row)))
 }
