@@ -91,6 +91,7 @@ impl Statement {
 }
 
 // Values in a row, and whether each was read and is written as the bytes that were eaten.
+#[derive(Drop)]
 struct Values<'a> {
     rest: ParseBuf<'a>,
     are_written: bool,
