@@ -1,12 +1,8 @@
-//! Tests of what users name through the facade: the callers of `mysql_wire_examples` and
-//! `field_examples`, run; values as packets; every call under refused memory, what it leaves then and
-//! how it goes on, and how much calls ask for (`memory_support` has the calls).
+//! The callers of `mysql_wire_examples` and `field_examples`, run.
 #![tactic(auto)]
 
 #[cfg(test)]
 mod both_ends;
-#[cfg(test)]
-mod budget;
 #[cfg(test)]
 mod callers;
 #[cfg(test)]
@@ -17,8 +13,6 @@ mod in_place;
 mod long_packet;
 #[cfg(test)]
 mod measured;
-#[cfg(test)]
-mod memory;
 #[cfg(test)]
 mod own_fields;
 #[cfg(test)]
