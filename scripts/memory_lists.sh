@@ -22,7 +22,7 @@ set -u
 export LC_ALL=C
 cd "$(dirname "$0")/.." || exit 1
 source scripts/checks.sh
-layers=(wire_const wire_buf wire_ext wire_repr wire_forms wire_field wire_values wire_list wire_laws wire_codec wire_span wire_packet_io mysql_wire)
+layers=(wire_const wire_buf wire_ext wire_streams wire_repr wire_forms wire_field wire_values wire_list wire_laws wire_codec wire_span wire_packet_io mysql_wire)
 tests=crates/memory_support/src/requests
 lists=crates/memory_support
 

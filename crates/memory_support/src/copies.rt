@@ -11,7 +11,6 @@ use test_support::fields::is_written;
 use test_support::fixture::Heap;
 use wire_buf::error::WireError;
 use wire_buf::io::ParseBuf;
-use wire_ext::io::ReadMysqlExt;
 use wire_field::converted::Const;
 use wire_field::row::{Both, Either};
 use wire_forms::lenenc::LenEnc;
@@ -19,6 +18,7 @@ use wire_list::raw_seq::RawSeq;
 use wire_list::seq::{Seq, SeqRepr};
 use wire_repr::int::{LeU16, LeU32, RawInt};
 use wire_repr::text::BytesRepr;
+use wire_streams::io::ReadMysqlExt;
 use wire_values::text::RawBytes;
 
 /// What is copied.

@@ -5,11 +5,11 @@ use test_support::answers::{Answer, answered};
 use wire_buf::error::WireError;
 use wire_buf::proto::MySerialize;
 use wire_ext::BufMutExt;
-use wire_ext::misc::write_varlen_uint;
 use wire_forms::prefixed::U8Bytes;
 use wire_list::seq::SeqRepr;
 use wire_repr::int::{IntRepr, LeU16, LeU32, RawInt};
 use wire_repr::text::BytesRepr;
+use wire_streams::misc::write_varlen_uint;
 use wire_values::text::RawBytes;
 
 /// What is written.

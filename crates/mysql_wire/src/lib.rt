@@ -8,12 +8,12 @@ pub mod io {
     pub use wire_buf::error::{InvalidLengthEncodedInteger, InvalidReason, WireError};
     pub use wire_buf::io::ParseBuf;
     pub use wire_ext::BufMutExt;
-    pub use wire_ext::io::{ReadMysqlExt, WriteMysqlExt};
+    pub use wire_streams::io::{ReadMysqlExt, WriteMysqlExt};
 }
 
 /// Lengths, integers of the serialization library, versions, and fields of packets.
 pub mod misc {
-    pub use wire_ext::misc::{
+    pub use wire_streams::misc::{
         lenenc_int_len, lenenc_str_len, read_varlen_uint, split_version, varlen_uint_size,
         write_varlen_uint,
     };

@@ -1,5 +1,1 @@
 mod TextLemmas
-mod MarkLemmas
-mod StreamLemmas
-mod VarlenLemmas
-mod VersionLemmas

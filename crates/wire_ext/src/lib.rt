@@ -1,9 +1,6 @@
-//! Numbers whose length is in their first byte, and the texts after them, put into buffers, and over
-//! readers and writers; lengths, integers of the serialization library, and server versions.
+//! Numbers whose length is in their first byte, and the texts after them, put into buffers.
 #![tactic(auto)]
 
-pub mod io;
-pub mod misc;
 mod put;
 pub mod spelling;
 pub mod text;

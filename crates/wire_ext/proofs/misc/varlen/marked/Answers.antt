@@ -1,5 +1,0 @@
-use Rattle.wire_ext.proofs.VarlenLemmas as lemmas
-use Rattle.wire_ext.proofs.misc.varlen.marked.Goals as goal
-
-pub returns : goal.returns
-returns c = lemmas.marked c.args.size c.args.value c.requires.low c.requires.high c.requires.holds

@@ -1,0 +1,4 @@
+mod MarkLemmas
+mod StreamLemmas
+mod VarlenLemmas
+mod VersionLemmas
