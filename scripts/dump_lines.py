@@ -254,7 +254,7 @@ REFUSED = [
 USAGE = "mysql_wire_dump [--fields] [--json] [--limit BYTES] [client FILE] [server FILE]"
 
 # What refuses a request for memory, and how many of them each session makes at least.
-FAILING = TOP / "scripts/failing.c"
+REFUSER = TOP / "scripts/refused.c"
 LEAST = 6
 
 
@@ -289,8 +289,8 @@ def of_refusals(folder):
     if not compiler:
         print("no C compiler: no request for memory is refused")
         return
-    library = folder / "failing.so"
-    subprocess.run([compiler, "-shared", "-fPIC", "-o", library, FAILING], check=True)
+    library = folder / "refused.so"
+    subprocess.run([compiler, "-shared", "-fPIC", "-o", library, REFUSER], check=True)
     for session in SESSIONS:
         fault = of_requests(session, folder, {**os.environ, "LD_PRELOAD": str(library)})
         yield "%s: %s" % (session[0], fault) if fault else None
