@@ -1,10 +1,13 @@
-//! The callers of `mysql_wire_examples` and `field_examples`, run.
+//! The callers of `mysql_wire_examples` and `field_examples`, run; and of the program's commands what
+//! the built program can't show.
 #![tactic(auto)]
 
 #[cfg(test)]
 mod both_ends;
 #[cfg(test)]
 mod callers;
+#[cfg(test)]
+mod commands;
 #[cfg(test)]
 mod field_callers;
 #[cfg(test)]

@@ -1,6 +1,6 @@
 //! Memory: every call of the layers under refused memory, what it leaves then and how it goes on
-//! (`memory_support` has the calls), and how much calls ask for; what a session keeps where it is
-//! refused, an answer counted by it, and a value of a row.
+//! (`memory_support` has the calls), and how much calls ask for; an answer counted by a session, with
+//! each request refused.
 #![tactic(auto)]
 
 #[cfg(test)]
@@ -9,7 +9,3 @@ mod budget;
 mod counted;
 #[cfg(test)]
 mod memory;
-#[cfg(test)]
-mod rows;
-#[cfg(test)]
-mod session;

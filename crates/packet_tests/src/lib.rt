@@ -1,7 +1,7 @@
 //! Tests of packets: framing, chunks, the codec, limits, lending, delivery, every cutting, generated
 //! streams, packets over readers and writers, and spans beside a codec. Worked examples, the cases of
-//! the Rust crate's own tests, the facade's paths, the connection phase, of packets' types what no row
-//! of `recording_tests` shows, and of the program's commands what the built program can't show.
+//! the Rust crate's own tests, the facade's paths, the connection phase, and of packets' types what no
+//! row of `recording_tests` shows.
 #![tactic(auto)]
 
 #[cfg(test)]
@@ -12,8 +12,6 @@ mod cases;
 mod chunks;
 #[cfg(test)]
 mod codec;
-#[cfg(test)]
-mod commands;
 #[cfg(test)]
 mod connection_phase;
 #[cfg(test)]

@@ -1,7 +1,7 @@
 use Rattle.std.proofs.Common.{◌≡◌, ◌∙◌, ℕ, List, [], ◌++◌, Some, None, Bool, true, false, if◌then◌else◌, IsFalse, sym, ap, subst}
 use Rattle.mysql_wire_commands.specs.declared.traced_read.OneRead.{OneRead}
 use Rattle.mysql_wire_commands.specs.Reads.{EachAskedFor, AsksUpTo}
-use Rattle.packet_tests.proofs.commands.reads.traced_reads.Goals as goal
+use Rattle.facade_tests.proofs.commands.reads.traced_reads.Goals as goal
 
 -- of a reader that had no reads, those that it has are those made since
 all_made : (step at : ℕ) (old new : List OneRead) → old ≡ [] → AsksUpTo step at (Some old) (Some new) → EachAskedFor step at 0 new
