@@ -11,31 +11,7 @@ use std::hash::Hash;
 use std::io::Read;
 use std::test::Fail;
 use test_support::answers::{Answer, answered};
-use test_support::facts::{all_hold, same, same_if_any};
-
-fn checked_slices_are_the_eaten_part() -> bool {
-    let mut buf = ParseBuf(b"abcdefgh");
-    let mut all = same_if_any(buf.checked_eat(0), Some(b""));
-    all &= same_if_any(buf.checked_eat(3), Some(b"abc"));
-    all &= buf.checked_eat(6).is_none() & buf.checked_eat_buf(6).is_none();
-    all &= buf.checked_eat_buf(1) == Some(ParseBuf(b"d"));
-    all &= !buf.checked_skip(5);
-    all &= buf.checked_skip(1);
-    all & same(buf.0, b"fgh")
-}
-
-fn slices_are_the_eaten_part() -> bool {
-    let mut buf = ParseBuf(b"abcdef");
-    let mut all = buf.len() == 6;
-    all &= buf.eat(1).len() == 1;
-    all &= buf.len() == 5;
-    all &= same(buf.eat(1), b"b");
-    all &= same(buf.eat_buf(1).0, b"c");
-    buf.skip(1);
-    all &= same(buf.eat_all(), b"ef");
-    all &= buf.eat_all().is_empty();
-    all & buf.is_empty() & !ParseBuf(b"a").is_empty()
-}
+use test_support::facts::{all_hold, same};
 
 /// Whether this text is eaten up to its zero, and this is left.
 pub fn eats_null_str(input: &[u8], text: &[u8], left: &[u8]) -> bool {
@@ -58,10 +34,8 @@ fn read_gives_what_fits() -> bool {
 }
 
 #[test]
-fn slices_and_null_strs_are_eaten(_: HostRuntime) -> Result<(), Fail> {
+fn reads_and_null_strs_are_eaten(_: HostRuntime) -> Result<(), Fail> {
     all_hold(&[
-        checked_slices_are_the_eaten_part(),
-        slices_are_the_eaten_part(),
         read_gives_what_fits(),
         eats_null_str(b"a\0b", b"a", b"b"),
         eats_null_str(b"b", b"b", b""),
