@@ -1,6 +1,5 @@
 //! Every path of the facade. A path that is missing or leads elsewhere doesn't compile.
 
-use bytes::BytesMut;
 pub use mysql_wire::constants::CapabilityFlags;
 pub use mysql_wire::constants::ColumnFlags;
 pub use mysql_wire::constants::ColumnType;
@@ -128,8 +127,6 @@ pub use mysql_wire::proto::codec::visit_spans;
 pub use mysql_wire::proto::packet_io::PacketIoError;
 pub use mysql_wire::proto::packet_io::PacketReader;
 pub use mysql_wire::proto::packet_io::PacketWriter;
-use std::test::Fail;
-use test_support::facts::all_hold;
 
 /// The same wrappers by the representations that they belong to.
 pub mod raw {
@@ -150,23 +147,4 @@ pub mod texts {
         BareBytes, BareU8Bytes, BareU16Bytes, BytesRepr, ConstBytes, ConstBytesValue, EofBytes,
         FixedLengthText, LenEnc, NullBytes, RawBytes, U8Bytes, U32Bytes,
     };
-}
-
-// What a codec says of a packet that lies whole in `src`, once it is accepted.
-fn accept(codec: &mut PacketCodec, src: &BytesMut) -> Option<(usize, u8)> {
-    codec.front_packet(src, b"")?;
-    Some((codec.accept_front(src), codec.sequence_id()))
-}
-
-#[test]
-fn a_codec_has_its_methods(rt: HostRuntime) -> Result<(), Fail> {
-    let mut codec = PacketCodec::default();
-    let mut src = BytesMut::new(rt.alloc());
-    src.extend_from_slice(b"\x01\0\0\0a")?;
-    all_hold(&[
-        codec.sequence_id() == 0,
-        codec.stands_before(src.as_slice(), b""),
-        !codec.stands_before(src.as_slice(), b"a"),
-        accept(&mut codec, &src) == Some((5, 1)),
-    ])
 }
