@@ -1,7 +1,9 @@
 -- The values of rows, one more at a time.
-use Rattle.std.proofs.Common.{◌≡◌, ◌≢◌, ◌<◌, ℕ, ◌+◌, true, false, List, [], ◌∷◌, ◌++◌, length, get_or, take, refl, sym, ap, ◌∙◌, inl, inr, append-nil, append_assoc, length-append, arith, Some, None}
+use Rattle.std.proofs.Common.{◌≡◌, ◌≢◌, ◌<◌, ℕ, ◌+◌, true, false, List, [], ◌∷◌, ◌++◌, length, get_or, take, refl, sym, subst, ap, ◌∙◌, inl, inr, append-nil, append_assoc, length-append, arith, Option, Some, None}
+use Rattle.std.proofs.KnownBytes.{Appends-nil, Appends-trans}
+use Rattle.std.specs.Io.KnownBytes.{Appends}
 use Rattle.wire_text.specs.Fields.{Member, Octets, Puts, Written, put, puts}
-use Rattle.mysql_wire_dump_fields.specs.ValueFields.{AreTexts, AreValues, IsNoText, IsNoValueAt, PutsColumn, PutsText, PutsTexts, PutsValues, rest_if}
+use Rattle.mysql_wire_dump_fields.specs.ValueFields.{AreTexts, AreValues, IsNoText, IsNoValueAt, PutsColumn, PutsText, PutsTexts, PutsValues, WritesText, WritesTexts, rest_if}
 use Rattle.mysql_wire_session_phases.specs.declared.refusal.Refusal.{Refusal}
 use Rattle.mysql_wire_session_phases.specs.declared.refusal.Refusal.TheVariants.{TrailingBytes}
 use Rattle.mysql_wire_statements.specs.declared.binary_row.BinaryRow.{BinaryRow}
@@ -9,6 +11,8 @@ use Rattle.std.proofs.lemmas.List.{take_all}
 use Rattle.std.proofs.lemmas.Grind.{common_steps}
 use Rattle.std.specs.Prelude.{◌==◌, codes}
 use Rattle.wire_text.proofs.FieldLemmas.{puts_append}
+use Rattle.wire_text.proofs.PartLemmas.{end_itself, nothing_written}
+use Rattle.wire_text.specs.Parts.{IsEnd}
 
 -- the texts up to this place were put; with those after them they are those of the payload
 pub record Texts (place : ℕ) (payload bytes : List ℕ) (start now : Written) : Type 0 where
@@ -161,3 +165,72 @@ pub rest-there : (bytes : List ℕ) → (length bytes == 0) ≡ false
     → rest_if None bytes ≡ (codes "rest", Octets bytes) ∷ []
 rest-there [] is = absurd (grind (arith, common_steps, is))
 rest-there (byte ∷ bytes) is = refl
+
+-- ---- of which all but an end may have been written
+
+-- the texts up to this place were put, as if nothing had been written
+pub record Writing (place : ℕ) (payload bytes : List ℕ) (start end : Written) (before now : Option (List ℕ)) : Type 0 where
+  pub whole : Written
+  pub written : List ℕ
+  pub texts : Texts place payload bytes start whole
+  pub appended : Appends before now written
+  pub ends : IsEnd written whole end
+
+pub writing-none : (payload : List ℕ) (start : Written) (before : Option (List ℕ)) → Writing 0 payload payload start start before before
+writing-none payload start before = record {
+  whole = start;
+  written = [];
+  texts = texts-none payload start;
+  appended = Appends-nil before;
+  ends = end_itself start;
+}
+
+pub writing-more : (place : ℕ) (payload bytes rest : List ℕ) (start end new : Written) (before now later : Option (List ℕ))
+    → Writing place payload bytes start end before now → WritesText place bytes rest None end new now later
+    → Writing (place + 1) payload rest start new before later
+writing-more place payload bytes rest start end new before now later so one =
+    let writes = one.1.1 in
+    record {
+      whole = put so.whole one.0;
+      written = so.written ++ writes.written;
+      texts = texts-more place payload bytes rest start so.whole (put so.whole one.0) so.texts (one.0, (one.1.0, record { are = refl; }));
+      appended = Appends-trans before now later so.written writes.written so.appended writes.appended;
+      ends = writes.ends so.written so.whole so.ends;
+    }
+
+pub writes-refused : (columns place : ℕ) (payload bytes : List ℕ) (start end new : Written) (refusal : Refusal) (before now later : Option (List ℕ))
+    → Writing place payload bytes start end before now → place < columns → IsNoText bytes refusal × (new ≡ end) × (later ≡ now)
+    → WritesTexts columns payload (Some refusal) start new before later
+writes-refused columns place payload bytes start end new refusal before now later so below refused = record {
+  whole = so.whole;
+  written = so.written;
+  puts = texts-refused columns place payload bytes start so.whole so.whole refusal so.texts below (refused.0, refl);
+  appended = subst (λ (left : Option (List ℕ)). Appends before left so.written) (sym refused.2) so.appended;
+  ends = subst (IsEnd so.written so.whole) (sym refused.1) so.ends;
+}
+
+-- its end was reached
+pub writes-ended : (columns : ℕ) (payload bytes : List ℕ) (start end : Written) (before now : Option (List ℕ))
+    → Writing columns payload bytes start end before now → bytes ≡ [] → WritesTexts columns payload None start end before now
+writes-ended columns payload bytes start end before now so none = record {
+  whole = so.whole;
+  written = so.written;
+  puts = texts-ended columns payload bytes start so.whole so.texts none;
+  appended = so.appended;
+  ends = so.ends;
+}
+
+pub writes-trailing : (columns : ℕ) (payload bytes : List ℕ) (start end : Written) (before now : Option (List ℕ))
+    → Writing columns payload bytes start end before now → bytes ≢ [] → WritesTexts columns payload (Some TrailingBytes) start end before now
+writes-trailing columns payload bytes start end before now so some = record {
+  whole = so.whole;
+  written = so.written;
+  puts = texts-trailing columns payload bytes start so.whole so.texts some;
+  appended = so.appended;
+  ends = so.ends;
+}
+
+-- a text was put, and nothing written
+pub short_text : (place : ℕ) (bytes rest : List ℕ) (old new : Written) (before : Option (List ℕ)) → PutsText place bytes rest None old new
+    → WritesText place bytes rest None old new before before
+short_text place bytes rest old new before one = (one.0, (one.1.0, nothing_written one.0 old new before one.1.1))

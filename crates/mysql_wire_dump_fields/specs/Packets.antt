@@ -12,6 +12,8 @@ use Rattle.mysql_wire_session_packets.specs.declared.packet.Row.TheVariants as r
 use Rattle.mysql_wire_session_phases.specs.declared.packet_kind.PacketKind.{PacketKind}
 use Rattle.mysql_wire_session_phases.specs.declared.packet_kind.PacketKind.TheVariants as kind
 use Rattle.mysql_wire_session_phases.specs.declared.refusal.Refusal.{Refusal}
+use Rattle.std.specs.Io.KnownBytes.{Appends}
+use Rattle.wire_text.specs.Parts.{IsEnd}
 use Rattle.wire_text.specs.Fields.{Member, Octets, Puts, Words, Written}
 
 -- bytes that are not read further
@@ -113,6 +115,15 @@ pub record PutsRowFields (types : List ℕ) (wanted : PacketKind) (read : Row) (
   pub members : List Member
   pub has : HasRowFields types wanted read named members
   pub puts : Puts members old new
+
+-- they were put, and all but an end of them may have been written
+pub record WritesRowFields (types : List ℕ) (wanted : PacketKind) (read : Row) (old new : Written)
+    (before now : Option (List ℕ)) (named : PacketKind) : Type 0 where
+  pub whole : Written
+  pub written : List ℕ
+  pub puts : PutsRowFields types wanted read old whole named
+  pub appended : Appends before now written
+  pub ends : IsEnd written whole new
 
 -- the fields of what a packet is read as were put
 pub record PutsOwn (types : List ℕ) (wanted : PacketKind) (read : Packet) (old new : Written)

@@ -15,6 +15,8 @@ use Rattle.mysql_wire_statements.specs.Values.{ReadsForm, form_of}
 use Rattle.mysql_wire_statements.specs.declared.binary_row.BinaryRow.{BinaryRow}
 use Rattle.mysql_wire_statements.specs.declared.binary_value.BinaryValue.{BinaryValue}
 use Rattle.mysql_wire_statements.specs.declared.binary_value.BinaryValue.TheVariants as binary
+use Rattle.std.specs.Io.KnownBytes.{Appends}
+use Rattle.wire_text.specs.Parts.{IsEnd, WritesMember}
 use Rattle.wire_text.specs.Fields.{Member, Null, Number, Octets, Printed, Value, Puts, Word, Words, Written}
 use Rattle.mysql_wire_session_phases.specs.Refusals.{refusal_of_wire}
 use Rattle.mysql_wire_session_phases.specs.declared.refusal.Refusal.{Refusal}
@@ -71,6 +73,23 @@ abbrev pub PutsText : ℕ → List ℕ → List ℕ → Option Refusal → Writt
 PutsText place bytes rest None old new =
     (member : Member) × (IsTextAt place bytes member rest × Puts (member ∷ []) old new)
 PutsText place bytes rest (Some refusal) old new = IsNoText bytes refusal × (new ≡ old)
+
+-- a text was put, of which all but an end may have been written; or refused
+abbrev pub WritesText : ℕ → List ℕ → List ℕ → Option Refusal → Written → Written
+    → (before now : Option (List ℕ)) → Type 0
+WritesText place bytes rest None old new before now =
+    (member : Member) × (IsTextAt place bytes member rest × WritesMember member old new before now)
+WritesText place bytes rest (Some refusal) old new before now =
+    IsNoText bytes refusal × (new ≡ old) × (now ≡ before)
+
+-- the values of a row of texts were put, of which all but an end may have been written
+pub record WritesTexts (columns : ℕ) (payload : List ℕ) (refusal : Option Refusal)
+    (old new : Written) (before now : Option (List ℕ)) : Type 0 where
+  pub whole : Written
+  pub written : List ℕ
+  pub puts : PutsTexts columns payload refusal old whole
+  pub appended : Appends before now written
+  pub ends : IsEnd written whole new
 
 -- a number whose digits read back as the float, and no definition says which they are; or a word
 abbrev pub IsFloatIf : Bool → Format → Float → Value → Type 0

@@ -14,10 +14,10 @@ mod unread;
 mod values;
 
 pub use commands::number_of_statement;
-pub use packet::{show_packet, show_row};
+pub use packet::{show_packet, show_row, write_row};
 use std::alloc::{AllocError, Allocator};
 pub use unread::{column_bytes, event, other_command, row_bytes, statistics};
-pub use values::{binary_row, text_row};
+pub use values::{binary_row, text_row, write_text_row};
 use wire_field::row::Either;
 use wire_repr::text::BytesRepr;
 use wire_text::fields::{Field, Fields};

@@ -151,19 +151,19 @@ one_told options seen payload held fields known next limit limit_is len_is held_
     ]
 
 -- the client's next packet is shown
-pub client_shown : {A : Type 0} (old new : Dump A) (middle : SessionState) (id : ℕ) (kind : PacketKind) (bytes fields : List ℕ) → old.client.next ≡ Packet id
+pub client_shown : {A : Type 0} (old new : Dump A) (middle : SessionState) (id : ℕ) (kind : PacketKind) (bytes fields part : List ℕ) → old.client.next ≡ Packet id
     → (old.client.limit < old.client.len → PassesOver (field_form old.lines.options) Client id old.client.len (state_of old.lines.session) middle fields kind)
     → (old.client.len ≤ old.client.limit
     → NamesOne (field_form old.lines.options) Client id old.client.held.items (state_of old.lines.session) middle fields kind)
     → (old.client.len ≤ old.client.limit → bytes ≡ old.client.held.items)
-    → string_bytes new.lines.text ≡ string_bytes old.lines.text ++ packet_line old.lines.options.form (record { side = Client; id = id; len = old.client.len; kind = kind }) bytes fields
+    → part ++ string_bytes new.lines.text ≡ string_bytes old.lines.text ++ packet_line old.lines.options.form (record { side = Client; id = id; len = old.client.len; kind = kind }) bytes fields
     → state_of new.lines.session ≡ middle → new.lines.options ≡ old.lines.options → new.server ≡ old.server
     → new.client.limit ≡ old.client.limit
     → ((packets : List (ℕ × List ℕ)) (came : List ℕ) (number : ℕ) → old.client.next ≡ Packet number → (stands : Stands packets came old.client)
     → (payload : List ℕ) × HasPacket number payload stands.begun (collected old.client) × Stands (packets ++ (number, payload) ∷ []) came new.client)
     → (shown : List Shown) (client server written : List ℕ) → Dumping shown client server written old → IsTurn Client old → IsLooked old
-    → (one : Shown) × Dumping (shown ++ one ∷ []) client server written new
-client_shown {A = A} old new middle id kind bytes fields is large named same text known_is options other_same limit passes shown client server written dumping is_turn looked =
+    → (one : Shown) × Dumping (shown ++ one ∷ []) client server (written ++ part) new
+client_shown {A = A} old new middle id kind bytes fields part is large named same text known_is options other_same limit passes shown client server written dumping is_turn looked =
     let pass = passes (packets_of Client shown) client id is dumping.clients in
     let payload : List ℕ = pass.0 in
     let has = pass.1 in
@@ -190,7 +190,7 @@ client_shown {A = A} old new middle id kind bytes fields is large named same tex
         behind = ap (λ (k : SessionState). k.next_id) known_is ∙ it.3 ∙ sym (id_behind_more 0 shown one);
         ordered = λ client_next server_next client_pends server_pends.
             in_order_more 0 shown one (Some id) (id_of old.server.next) client_next server_next (dumping.ordered (Some id) (id_of old.server.next) here (pends_so old.server.next)) turn_is refl (other_is server_next server_pends);
-        lines = ap (λ (z : List ℕ). written ++ z) text ∙ sym (append_assoc written (string_bytes old.lines.text) (packet_line old.lines.options.form seen bytes fields))
+        lines = append_assoc written part (string_bytes new.lines.text) ∙ ap (λ (z : List ℕ). written ++ z) text ∙ sym (append_assoc written (string_bytes old.lines.text) (packet_line old.lines.options.form seen bytes fields))
             ∙ ap (λ (z : List ℕ). z ++ packet_line old.lines.options.form seen bytes fields) dumping.lines
             ∙ ap (λ (z : List ℕ). lines_of old.lines.options.form shown ++ z)
             (same_line old.lines.options.form seen bytes payload fields old.client.limit (λ within. same within ∙ has.held within) (λ above. (large above).1.has.0))
@@ -199,19 +199,19 @@ client_shown {A = A} old new middle id kind bytes fields is large named same tex
     )
 
 -- the server's next packet is shown
-pub server_shown : {A : Type 0} (old new : Dump A) (middle : SessionState) (id : ℕ) (kind : PacketKind) (bytes fields : List ℕ) → old.server.next ≡ Packet id
+pub server_shown : {A : Type 0} (old new : Dump A) (middle : SessionState) (id : ℕ) (kind : PacketKind) (bytes fields part : List ℕ) → old.server.next ≡ Packet id
     → (old.server.limit < old.server.len → PassesOver (field_form old.lines.options) Server id old.server.len (state_of old.lines.session) middle fields kind)
     → (old.server.len ≤ old.server.limit
     → NamesOne (field_form old.lines.options) Server id old.server.held.items (state_of old.lines.session) middle fields kind)
     → (old.server.len ≤ old.server.limit → bytes ≡ old.server.held.items)
-    → string_bytes new.lines.text ≡ string_bytes old.lines.text ++ packet_line old.lines.options.form (record { side = Server; id = id; len = old.server.len; kind = kind }) bytes fields
+    → part ++ string_bytes new.lines.text ≡ string_bytes old.lines.text ++ packet_line old.lines.options.form (record { side = Server; id = id; len = old.server.len; kind = kind }) bytes fields
     → state_of new.lines.session ≡ middle → new.lines.options ≡ old.lines.options → new.client ≡ old.client
     → new.server.limit ≡ old.server.limit
     → ((packets : List (ℕ × List ℕ)) (came : List ℕ) (number : ℕ) → old.server.next ≡ Packet number → (stands : Stands packets came old.server)
     → (payload : List ℕ) × HasPacket number payload stands.begun (collected old.server) × Stands (packets ++ (number, payload) ∷ []) came new.server)
     → (shown : List Shown) (client server written : List ℕ) → Dumping shown client server written old → IsTurn Server old → IsLooked old
-    → (one : Shown) × Dumping (shown ++ one ∷ []) client server written new
-server_shown {A = A} old new middle id kind bytes fields is large named same text known_is options other_same limit passes shown client server written dumping is_turn looked =
+    → (one : Shown) × Dumping (shown ++ one ∷ []) client server (written ++ part) new
+server_shown {A = A} old new middle id kind bytes fields part is large named same text known_is options other_same limit passes shown client server written dumping is_turn looked =
     let pass = passes (packets_of Server shown) server id is dumping.servers in
     let payload : List ℕ = pass.0 in
     let has = pass.1 in
@@ -238,7 +238,7 @@ server_shown {A = A} old new middle id kind bytes fields is large named same tex
         behind = ap (λ (k : SessionState). k.next_id) known_is ∙ it.3 ∙ sym (id_behind_more 0 shown one);
         ordered = λ client_next server_next client_pends server_pends.
             in_order_more 0 shown one (id_of old.client.next) (Some id) client_next server_next (dumping.ordered (id_of old.client.next) (Some id) (pends_so old.client.next) here) turn_is (other_is client_next client_pends) refl;
-        lines = ap (λ (z : List ℕ). written ++ z) text ∙ sym (append_assoc written (string_bytes old.lines.text) (packet_line old.lines.options.form seen bytes fields))
+        lines = append_assoc written part (string_bytes new.lines.text) ∙ ap (λ (z : List ℕ). written ++ z) text ∙ sym (append_assoc written (string_bytes old.lines.text) (packet_line old.lines.options.form seen bytes fields))
             ∙ ap (λ (z : List ℕ). z ++ packet_line old.lines.options.form seen bytes fields) dumping.lines
             ∙ ap (λ (z : List ℕ). lines_of old.lines.options.form shown ++ z)
             (same_line old.lines.options.form seen bytes payload fields old.server.limit (λ within. same within ∙ has.held within) (λ above. (large above).1.has.0))
@@ -386,10 +386,10 @@ visible_more shown one are is =
     All-append P shown (one ∷ []) are (All-cons P one [] is (All-nil P))
 
 -- a packet was shown
-pub one_shown : {A : Type 0} (side : Side) (old new : Dump A) (client client_left server server_left written now : Option (List ℕ))
-    → SoFar old client client_left server server_left written now → old.lines.session.phase ≢ phase.Encrypted → ShowsPacket side old new → IsTurn side old → IsLooked old
-    → SoFar new client client_left server server_left written now
-one_shown side old new client client_left server server_left written now so_far is_open shows is_turn looked =
+pub one_shown : {A : Type 0} (side : Side) (old new : Dump A) (client client_left server server_left written now later : Option (List ℕ))
+    → SoFar old client client_left server server_left written now → old.lines.session.phase ≢ phase.Encrypted → ShowsPacket side old new now later → IsTurn side old → IsLooked old
+    → SoFar new client client_left server server_left written later
+one_shown side old new client client_left server server_left written now later so_far is_open shows is_turn looked =
     let more = shows.more so_far.shown so_far.of_client so_far.of_server so_far.text so_far.dumping is_turn looked in
     let here : more.0.at ≡ state_of old.lines.session =
     last_at new.lines.options initial_state so_far.shown more.0 more.1.are_shown
@@ -398,10 +398,10 @@ one_shown side old new client client_left server server_left written now so_far 
       shown = so_far.shown ++ more.0 ∷ [];
       of_client = so_far.of_client;
       of_server = so_far.of_server;
-      text = so_far.text;
+      text = so_far.text ++ shows.part;
       client_consumed = so_far.client_consumed;
       server_consumed = so_far.server_consumed;
-      appended = so_far.appended;
+      appended = Appends-trans written now later so_far.text shows.part so_far.appended shows.appended;
       dumping = more.1;
       visible = visible_more so_far.shown more.0 so_far.visible (λ is. is_open (sym (ap (λ (k : SessionState). k.phase) here) ∙ is));
       client_seen = shows.client_seen so_far.client_seen;

@@ -1,5 +1,6 @@
 -- The line of a packet, of which the fields are appended where it stands.
-use Rattle.std.proofs.Common.{◌≡◌, ◌∙◌, ℕ, ◌≤◌, List, [], ◌++◌, Bool, true, false, Some, None, Result, Ok, Err, length, take, drop, sym, ap, ap₂, subst, append_assoc, take-append-drop, arith, string_bytes}
+use Rattle.std.proofs.Common.{◌≡◌, ◌∙◌, ℕ, ◌≤◌, List, [], ◌++◌, [], Bool, true, false, Option, Some, None, Result, Ok, Err, length, take, drop, sym, ap, ap₂, subst, append_assoc, take-append-drop, arith, string_bytes}
+use Rattle.std.proofs.KnownBytes.{Appends-nil}
 use Rattle.std.proofs.Math.Seq.{drop-append_seam}
 use Rattle.std.proofs.lemmas.List.{length-append, length-take, take-append-le, take_all}
 use Rattle.std.proofs.lemmas.Str.{IsCharBoundary-from_take}
@@ -8,7 +9,7 @@ use Rattle.std.specs.Str.{IsUtf8}
 use Rattle.std.specs.String.Boundary.{IsSplitPoint}
 use Rattle.mysql_wire_dump_session.specs.declared.dump.SessionLines.{SessionLines}
 use Rattle.mysql_wire_dump_session.specs.Dumped.{field_form}
-use Rattle.mysql_wire_dump_session.specs.Dumping.{NamesOne, PushesFields, PushesNext, PushesRead, ShowsFields, is_refused}
+use Rattle.mysql_wire_dump_session.specs.Dumping.{NamesOne, PushesFields, PushesRead, ShowsFields, ShowsNext, WritesFields, WritesRead, WritesTheFields, is_refused}
 use Rattle.mysql_wire_dump_fields.specs.Packets.{HasFieldsIf, HasOwnFields, HasRowFields, is_shown_whole}
 use Rattle.mysql_wire_dump_lines.specs.declared.lines.LineForm.{LineForm}
 use Rattle.mysql_wire_dump_lines.specs.declared.lines.Seen.{Seen}
@@ -153,11 +154,48 @@ line_again begun head form seen payload before front fields all new begun_is hea
     (first_part begun all before (front ++ fields) begun_is (all_is ∙ append_assoc before front fields))
     (last_part head all (before ++ front) fields head_is all_is)
 
+-- as far as its fields, they and the end: all but an end of the text was written
+pub line_written : (form : LineForm) (seen other : Seen) (payload before head fields written left new : List ℕ) → head ≡ packet_head form seen payload
+    → written ++ left ≡ (before ++ head) ++ fields → new ≡ left ++ line_end form → seen ≡ other → written ++ new ≡ before ++ packet_line form other payload fields
+line_written form seen other payload before head fields written left new head_is all_is new_is same =
+    line_of_parts form seen other payload before head fields (written ++ left) (written ++ new) head_is all_is
+    (ap (λ (z : List ℕ). written ++ z) new_is ∙ sym (append_assoc written left (line_end form))) same
+
+-- they were put after a text, of which all but an end was written
+pub fields_written : {A : Type 0} (side : Side) (id : ℕ) (payload : List ℕ) (old new : SessionLines A) (begun all : Written) (before now : Option (List ℕ)) (result : Result PacketKind Stop)
+    → begun ≡ nothing_after (field_form old.options) (string_bytes old.text)
+    → IfOk result (WritesFields side id payload (state_of old.session) (state_of new.session) begun all before now)
+    → string_bytes new.text ≡ all.before ++ all.text → IfOk result (WritesTheFields side id payload old new before now)
+fields_written side id payload old new begun all before now (Ok named) begins writes text_is = record {
+  fields = writes.whole.text;
+  names = writes.shows.names (field_form old.options) (string_bytes old.text) begins;
+  written = writes.written;
+  appended = writes.appended;
+  text = ap (λ (z : List ℕ). writes.written ++ z) text_is ∙ writes.ends
+      ∙ ap (λ (z : List ℕ). z ++ writes.whole.text) (writes.shows.before ∙ ap (λ (written : Written). written.before) begins);
+}
+fields_written side id payload old new begun all before now (Err stop) begins writes text_is = tt
+
+-- nothing was written
+pub read_unwritten : {A T E : Type 0} (result : Result T E) (side : Side) (id len : ℕ) (payload : List ℕ) (old new : SessionLines A) (before : Option (List ℕ))
+    → OnOk result (PushesRead side id len payload old new) → OnOk result (WritesRead side id len payload old new before before)
+read_unwritten (Ok _) side id len payload old new before read = record {
+  kind = read.kind;
+  fields = read.fields;
+  names = read.names;
+  written = [];
+  appended = Appends-nil before;
+  line = read.line;
+  options_are = read.options_are;
+}
+read_unwritten (Err _) side id len payload old new before read = tt
+
 -- ---- the next packet of a stream
 
-pub next_read : {A T E : Type 0} (result : Result T E) (side : Side) (source : PacketStream A) (old new : SessionLines A) (id len : ℕ) (payload : List ℕ) → source.next ≡ next.Packet id
-    → len ≡ source.len → source.len ≤ source.limit → payload ≡ source.held.items → OnOk result (PushesRead side id len payload old new) → OnOk result (PushesNext side source old new)
-next_read (Ok _) side source old new id len payload is_next len_is within payload_is read = record {
+pub next_read : {A T E : Type 0} (result : Result T E) (side : Side) (source : PacketStream A) (old new : SessionLines A) (id len : ℕ) (payload : List ℕ) (before now : Option (List ℕ))
+    → source.next ≡ next.Packet id → len ≡ source.len → source.len ≤ source.limit → payload ≡ source.held.items
+    → OnOk result (WritesRead side id len payload old new before now) → OnOk result (ShowsNext side source old new before now)
+next_read (Ok _) side source old new id len payload before now is_next len_is within payload_is read = record {
   id = id;
   kind = read.kind;
   bytes = payload;
@@ -166,17 +204,19 @@ next_read (Ok _) side source old new id len payload is_next len_is within payloa
   large = λ above. absurd (omega (arith, above, within));
   named = λ _. subst (λ (bytes : List ℕ). NamesOne (field_form old.options) side id bytes (state_of old.session) (state_of new.session) read.fields read.kind) payload_is read.names;
   held = λ _. payload_is;
-  line = subst (λ (n : ℕ). string_bytes new.text ≡ string_bytes old.text
+  written = read.written;
+  appended = read.appended;
+  line = subst (λ (n : ℕ). read.written ++ string_bytes new.text ≡ string_bytes old.text
       ++ packet_line old.options.form (record { side = side; id = id; len = n; kind = read.kind }) payload read.fields) len_is read.line;
   options_are = read.options_are;
 }
-next_read (Err _) side source old new id len payload is_next len_is within payload_is read = tt
+next_read (Err _) side source old new id len payload before now is_next len_is within payload_is read = tt
 
-pub next_passed : {A : Type 0} (side : Side) (source : PacketStream A) (old new : SessionLines A) (id len : ℕ) → source.next ≡ next.Packet id
+pub next_passed : {A : Type 0} (side : Side) (source : PacketStream A) (old new : SessionLines A) (id len : ℕ) (before : Option (List ℕ)) → source.next ≡ next.Packet id
     → len ≡ source.len → source.limit < source.len → state_of new.session ≡ passed side id len (state_of old.session)
     → string_bytes new.text ≡ string_bytes old.text ++ packet_line old.options.form (record { side = side; id = id; len = len; kind = kind.TooLarge }) [] []
-    → new.options ≡ old.options → PushesNext side source old new
-next_passed side source old new id len is_next len_is above goes line options = record {
+    → new.options ≡ old.options → ShowsNext side source old new before before
+next_passed side source old new id len before is_next len_is above goes line options = record {
   id = id;
   kind = kind.TooLarge;
   bytes = [];
@@ -186,6 +226,8 @@ next_passed side source old new id len is_next len_is above goes line options = 
       (goes ∙ ap (λ (n : ℕ). passed side id n (state_of old.session)) len_is);
   named = λ within. absurd (omega (arith, above, within));
   held = λ within. absurd (omega (arith, above, within));
+  written = [];
+  appended = Appends-nil before;
   line = subst (λ (n : ℕ). string_bytes new.text ≡ string_bytes old.text
       ++ packet_line old.options.form (record { side = side; id = id; len = n; kind = kind.TooLarge }) [] []) len_is line;
   options_are = options;

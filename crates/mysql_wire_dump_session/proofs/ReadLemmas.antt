@@ -1,9 +1,9 @@
 -- The fields of a packet as text.
-use Rattle.std.proofs.Common.{◌≡◌, ◌∙◌, ℕ, List, [], ◌∷◌, length, refl, sym, ap, subst, inl, inr, ◌⊎◌, Result, Ok, Err}
+use Rattle.std.proofs.Common.{◌≡◌, ◌∙◌, ℕ, List, [], ◌∷◌, length, refl, sym, ap, subst, inl, inr, ◌⊎◌, Option, Result, Ok, Err}
 use Rattle.std.specs.Prelude.{IfOk, OnOk}
 use Rattle.mysql_wire_dump_session.specs.Dumped.{AreFields}
-use Rattle.mysql_wire_dump_session.specs.Dumping.{NamesOne, PassesOver, ShowsFields, Tells, TellsRow}
-use Rattle.mysql_wire_dump_fields.specs.Packets.{PutsPacket, PutsRowFields}
+use Rattle.mysql_wire_dump_session.specs.Dumping.{NamesOne, PassesOver, ShowsFields, Tells, TellsRow, WritesFields, WritesRow}
+use Rattle.mysql_wire_dump_fields.specs.Packets.{PutsPacket, PutsRowFields, WritesRowFields}
 use Rattle.mysql_wire_session.specs.Readings.{ReadsAs, Receives, RowReads, advanced, after_kind, kind_of, passed}
 use Rattle.mysql_wire_session.specs.Advance.{opened, without_eof}
 use Rattle.mysql_wire_session_packets.specs.declared.packet.Row.{Row}
@@ -19,6 +19,7 @@ use Rattle.mysql_wire_session_phases.specs.declared.packet_kind.PacketKind.TheVa
 use Rattle.mysql_wire_session_phases.specs.declared.side.Side.{Side}
 use Rattle.mysql_wire_session.proofs.FrontLemmas.{came_so}
 use Rattle.wire_text.proofs.FieldLemmas.{fields_text-is}
+use Rattle.wire_text.proofs.PartLemmas.{end_ended}
 use Rattle.wire_text.specs.Fields.{Member, Written, ended, nothing_after, put, puts}
 use Rattle.wire_text.specs.declared.fields.FieldForm.{FieldForm}
 use Rattle.wire_text.specs.declared.fields.FieldForm.TheVariants.{Hidden, Text, Json}
@@ -110,11 +111,10 @@ row_puts types called payload read old new named (inr is) put =
     (let puts = subst (λ (k : PacketKind). PutsRowFields types k read old new named) is put in record { members = puts.members; has = puts.has; puts = puts.puts })
 
 -- a row that came was read and shown
-pub row_shown : (side : Side) (id : ℕ) (payload : List ℕ) (called : PacketKind) (known next : SessionState) (old new : Written) (result : Result PacketKind Stop)
-    → called ≡ kind_of side id payload known → IsRow called → IfOk result (TellsRow side id called payload known next old new)
-    → IfOk result (Tells side id payload known next old new)
-row_shown side id payload called known next old new (Err stop) called_so is told = tt
-row_shown side id payload called known next old new (Ok named) called_so is told = record {
+row_told : (side : Side) (id : ℕ) (payload : List ℕ) (called : PacketKind) (known next : SessionState) (old new : Written) (named : PacketKind)
+    → called ≡ kind_of side id payload known → IsRow called → TellsRow side id called payload known next old new named
+    → Tells side id payload known next old new named
+row_told side id payload called known next old new named called_so is told = record {
   packet = packet.Row told.row;
   reads = subst (λ (k : PacketKind). ReadsAs (opened k (length payload) known) k payload (packet.Row told.row)) called_so
       (row_reads called payload known told.row is told.reads);
@@ -122,6 +122,13 @@ row_shown side id payload called known next old new (Ok named) called_so is told
       (row_puts known.types called payload told.row old new named is told.puts);
   goes_on = told.goes_on ∙ ap (λ (k : PacketKind). after_kind side id k (length payload) known) called_so;
 }
+
+pub row_shown : (side : Side) (id : ℕ) (payload : List ℕ) (called : PacketKind) (known next : SessionState) (old new : Written) (result : Result PacketKind Stop)
+    → called ≡ kind_of side id payload known → IsRow called → IfOk result (TellsRow side id called payload known next old new)
+    → IfOk result (Tells side id payload known next old new)
+row_shown side id payload called known next old new (Err stop) called_so is told = tt
+row_shown side id payload called known next old new (Ok named) called_so is told =
+    row_told side id payload called known next old new named called_so is told
 
 -- fields that are put leave what is before them
 puts_before : (written : Written) (members : List Member) → (puts written members).before ≡ written.before
@@ -155,4 +162,29 @@ fields_shown side id payload known next named begun all new told ends = record {
   names = λ form before begins. names_one form side id payload known next named before begun all new begins told ends;
   before = ap (λ (written : Written). written.before) ends ∙ ended_before all
       ∙ ap (λ (written : Written). written.before) told.puts.puts.are ∙ puts_before begun told.puts.members;
+}
+
+-- a row's fields were put and ended, of which all but an end may have been written
+pub fields_part : (side : Side) (id : ℕ) (payload : List ℕ) (called : PacketKind) (known next : SessionState) (named : PacketKind) (begun all new : Written) (before now : Option (List ℕ))
+    → called ≡ kind_of side id payload known → called ≡ kind.Row → WritesRow side id called payload known next begun all before now named → new ≡ ended all
+    → WritesFields side id payload known next begun new before now named
+fields_part side id payload called known next named begun all new before now called_so is writes ends = record {
+  whole = ended writes.whole;
+  written = writes.written;
+  shows = fields_shown side id payload known next named begun writes.whole (ended writes.whole)
+      (row_told side id payload called known next begun writes.whole named called_so (inl is) writes.tells) refl;
+  appended = writes.appended;
+  ends = end_ended writes.written writes.whole all new writes.ends ends;
+}
+
+-- it was read, and its fields were put
+pub row_part : {side : Side} {id : ℕ} {called : PacketKind} {payload : List ℕ} {known next : SessionState} (read : Row) {old new : Written} {before now : Option (List ℕ)} {named : PacketKind}
+    → RowReads known called payload read → WritesRowFields known.types called read old new before now named → next ≡ after_kind side id called (length payload) known
+    → WritesRow side id called payload known next old new before now named
+row_part read reads writes goes_on = record {
+  whole = writes.whole;
+  written = writes.written;
+  tells = record { row = read; reads = reads; puts = writes.puts; goes_on = goes_on; };
+  appended = writes.appended;
+  ends = writes.ends;
 }

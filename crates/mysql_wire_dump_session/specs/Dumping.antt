@@ -24,6 +24,7 @@ use Rattle.mysql_wire_session.specs.Readings.{ReadsAs, RowReads, after_kind, aft
 use Rattle.mysql_wire_session_packets.specs.declared.packet.Row.{Row}
 use Rattle.mysql_wire_dump_fields.specs.Packets.{PutsPacket, PutsRowFields}
 use Rattle.wire_text.specs.Fields.{Written, nothing_after}
+use Rattle.wire_text.specs.Parts.{IsEnd}
 use Rattle.mysql_wire_session_packets.specs.declared.packet.Packet.{Packet}
 use Rattle.mysql_wire_session_packets.specs.declared.packet.Packet.TheVariants as packet
 use Rattle.mysql_wire_dump_lines.specs.PacketStreams.{AtEnd, Stands, id_of}
@@ -86,6 +87,16 @@ pub record TellsRow (side : Side) (id : ℕ) (called : PacketKind) (payload : Li
   pub puts : PutsRowFields known.types called row old new named
   pub goes_on : next ≡ after_kind side id called (length payload) known
 
+-- it was, and all but an end of what was put may have been written
+pub record WritesRow (side : Side) (id : ℕ) (called : PacketKind) (payload : List ℕ)
+    (known next : SessionState) (old new : Written) (before now : Option (List ℕ))
+    (named : PacketKind) : Type 0 where
+  pub whole : Written
+  pub written : List ℕ
+  pub tells : TellsRow side id called payload known next old whole named
+  pub appended : Appends before now written
+  pub ends : IsEnd written whole new
+
 -- a packet is called this where it came
 abbrev pub IsCalled : Side × ℕ × PacketKind → List ℕ → SessionState → Type 0
 IsCalled came payload known = came.2 ≡ kind_of came.0 came.1 payload known
@@ -112,6 +123,15 @@ pub record ShowsFields (side : Side) (id : ℕ) (payload : List ℕ) (known next
       → NamesOne form side id payload known next new.text named
   pub before : new.before ≡ old.before
 
+-- so was it, and all but an end of the text may have been written
+pub record WritesFields (side : Side) (id : ℕ) (payload : List ℕ) (known next : SessionState)
+    (old new : Written) (before now : Option (List ℕ)) (named : PacketKind) : Type 0 where
+  pub whole : Written
+  pub written : List ℕ
+  pub shows : ShowsFields side id payload known next old whole named
+  pub appended : Appends before now written
+  pub ends : written ++ (new.before ++ new.text) ≡ whole.before ++ whole.text
+
 -- so was it, and its fields are appended
 pub record PushesFields {A : Type 0} (side : Side) (id : ℕ) (payload : List ℕ)
     (old new : SessionLines A) (named : PacketKind) : Type 0 where
@@ -119,6 +139,16 @@ pub record PushesFields {A : Type 0} (side : Side) (id : ℕ) (payload : List �
   pub names : NamesOne (field_form old.options) side id payload (state_of old.session)
       (state_of new.session) fields named
   pub text : string_bytes new.text ≡ string_bytes old.text ++ fields
+
+-- so was it, and all but an end of the text may have been written
+pub record WritesTheFields {A : Type 0} (side : Side) (id : ℕ) (payload : List ℕ)
+    (old new : SessionLines A) (before now : Option (List ℕ)) (named : PacketKind) : Type 0 where
+  pub fields : List ℕ
+  pub names : NamesOne (field_form old.options) side id payload (state_of old.session)
+      (state_of new.session) fields named
+  pub written : List ℕ
+  pub appended : Appends before now written
+  pub text : written ++ string_bytes new.text ≡ string_bytes old.text ++ fields
 
 -- so was it, and its line is appended
 pub record PushesRead {A : Type 0} (side : Side) (id len : ℕ) (payload : List ℕ)
@@ -131,9 +161,24 @@ pub record PushesRead {A : Type 0} (side : Side) (id len : ℕ) (payload : List 
       (record { side = side; id = id; len = len; kind = kind }) payload fields
   pub options_are : new.options ≡ old.options
 
--- the line of a stream's next packet is appended, and the session goes on after it
-pub record PushesNext {A : Type 0} (side : Side) (source : PacketStream A)
-    (old new : SessionLines A) : Type 0 where
+-- so was it, and all but an end of the text may have been written
+pub record WritesRead {A : Type 0} (side : Side) (id len : ℕ) (payload : List ℕ)
+    (old new : SessionLines A) (before now : Option (List ℕ)) : Type 0 where
+  pub kind : PacketKind
+  pub fields : List ℕ
+  pub names : NamesOne (field_form old.options) side id payload (state_of old.session)
+      (state_of new.session) fields kind
+  pub written : List ℕ
+  pub appended : Appends before now written
+  pub line : written ++ string_bytes new.text ≡ string_bytes old.text
+      ++ packet_line old.options.form
+      (record { side = side; id = id; len = len; kind = kind }) payload fields
+  pub options_are : new.options ≡ old.options
+
+-- the line of a stream's next packet is appended, and the session goes on after it; all but an end of
+-- the text may have been written
+pub record ShowsNext {A : Type 0} (side : Side) (source : PacketStream A)
+    (old new : SessionLines A) (before now : Option (List ℕ)) : Type 0 where
   pub id : ℕ
   pub kind : PacketKind
   pub bytes : List ℕ
@@ -144,7 +189,10 @@ pub record PushesNext {A : Type 0} (side : Side) (source : PacketStream A)
   pub named : source.len ≤ source.limit → NamesOne (field_form old.options) side id
       source.held.items (state_of old.session) (state_of new.session) fields kind
   pub held : source.len ≤ source.limit → bytes ≡ source.held.items
-  pub line : string_bytes new.text ≡ string_bytes old.text ++ packet_line old.options.form
+  pub written : List ℕ
+  pub appended : Appends before now written
+  pub line : written ++ string_bytes new.text ≡ string_bytes old.text
+      ++ packet_line old.options.form
       (record { side = side; id = id; len = source.len; kind = kind }) bytes fields
   pub options_are : new.options ≡ old.options
 
@@ -158,11 +206,14 @@ IsTurn side dump =
 abbrev pub IsLooked : {A : Type 0} → Dump A → Type 0
 IsLooked dump = (dump.client.next ≢ Unread) × (dump.server.next ≢ Unread)
 
--- one packet more is shown, of the side whose turn it is
-pub record ShowsPacket {A : Type 0} (side : Side) (old new : Dump A) : Type 0 where
+-- one packet more is shown, of the side whose turn it is, and this part of the text was written
+pub record ShowsPacket {A : Type 0} (side : Side) (old new : Dump A)
+    (before now : Option (List ℕ)) : Type 0 where
+  pub part : List ℕ
+  pub appended : Appends before now part
   pub more : (shown : List Shown) (client server written : List ℕ)
       → Dumping shown client server written old → IsTurn side old → IsLooked old
-      → (one : Shown) × Dumping (shown ++ one ∷ []) client server written new
+      → (one : Shown) × Dumping (shown ++ one ∷ []) client server (written ++ part) new
   pub options_are : new.lines.options ≡ old.lines.options
   pub client_seen : old.client.next ≢ Ended Encrypted → new.client.next ≢ Ended Encrypted
   pub server_seen : old.server.next ≢ Ended Encrypted → new.server.next ≢ Ended Encrypted

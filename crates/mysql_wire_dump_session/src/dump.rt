@@ -1,17 +1,18 @@
 //! A session, packet by packet.
 
-ghost use Rattle.std.specs.Prelude.{◌≡◌, ◌≢◌, ◌<◌, ◌≤◌, ◌⊎◌, ◌++◌, ◌∷◌, ℕ, List, [], length, take, drop, IfOk, IfSome, OnOk, string_bytes, false};
+ghost use Rattle.std.specs.Prelude.{◌≡◌, ◌≢◌, ◌<◌, ◌≤◌, ◌⊎◌, ◌++◌, ◌∷◌, ℕ, List, [], length, take, drop, IfOk, IfSome, OnOk, string_bytes, false, true};
 ghost use Rattle.std.specs.Str.{IsUtf8};
 ghost use Rattle.std.specs.Io.KnownBytes.{Appends};
 ghost use Rattle.mysql_wire_dump_session.specs.Dumped.{DumpEnds, Dumps, DumpsOver, ending_lines, field_form, status_of};
-ghost use Rattle.mysql_wire_dump_session.specs.Dumping.{GoesOver, IsCalled, ShowsFields, StartsDump, Tells, TellsRow, is_refused};
+ghost use Rattle.mysql_wire_dump_session.specs.Dumping.{GoesOver, IsCalled, ShowsFields, StartsDump, Tells, TellsRow, WritesFields, WritesRow, is_refused};
 ghost use Rattle.mysql_wire_dump_fields.specs.Packets.{PutsPacket};
 ghost use Rattle.mysql_wire_session.specs.Readings.{advanced};
 ghost use Rattle.mysql_wire_session.specs.State.{state_of};
 ghost use Rattle.mysql_wire_dump_lines.specs.Lines.{packet_line};
 ghost use Rattle.mysql_wire_dump_lines.specs.Status.{end_status};
+ghost use Rattle.mysql_wire_session_phases.specs.declared.packet_kind.PacketKind.TheVariants.{Row};
 
-use mysql_wire_dump_fields::show::{show_packet, show_row};
+use mysql_wire_dump_fields::show::{show_packet, show_row, write_row};
 use mysql_wire_dump_lines::lines::{LineForm, Seen, push_end, push_ending, push_head, push_packet};
 use mysql_wire_dump_lines::next_sender::next_sender;
 use mysql_wire_dump_lines::options::{Options, Sides};
@@ -143,6 +144,46 @@ fn read_and_show<A: Allocator + Copy>(
     }
 }
 
+// The same of a row that may have long texts: all but an end of what was put may be written.
+fn write_row_of<A: Allocator + Copy, W: Write>(
+    global: Global,
+    session: &mut Session<A>,
+    fields: &mut Fields<A>,
+    came: (Side, u8, PacketKind),
+    payload: &[u8],
+    output: &mut W,
+) -> Result<PacketKind, Stop>
+    ensures { IfOk result (WritesRow came.0 came.1 came.2 payload.now (state_of session.old)
+        (state_of session.new) fields.old fields.new
+        (W.contents output.old) (W.contents output.new)) }
+{
+    let row = session.read_row(came.2, payload).map_err(stop_of)?;
+    let types = session.column_types();
+    let kind = write_row(global, fields, types, came.2, &row, output).map_err(stop_of)?;
+    session.advance_by_kind(came.0, came.1, came.2, payload.len());
+    Ok(kind)
+}
+
+// All fields of such a row, after a text; the session goes on after it.
+fn write_fields<A: Allocator + Copy, W: Write>(
+    global: Global,
+    session: &mut Session<A>,
+    fields: &mut Fields<A>,
+    came: (Side, u8, PacketKind),
+    payload: &[u8],
+    output: &mut W,
+) -> Result<PacketKind, Stop>
+    requires { came.2 ≡ Row }
+    ensures { IsCalled came payload.now (state_of session.old)
+        → IfOk result (WritesFields came.0 came.1 payload.now (state_of session.old)
+        (state_of session.new) fields.old fields.new
+        (W.contents output.old) (W.contents output.new)) }
+{
+    let kind = write_row_of(global, session, fields, came, payload, output)?;
+    fields.end()?;
+    Ok(kind)
+}
+
 // All fields of a packet that is called this, after a text; the session goes on after it.
 fn show_fields<A: Allocator + Copy>(
     global: Global,
@@ -183,9 +224,9 @@ fn push_again<A: Allocator + Copy>(
 }
 
 impl<A: Allocator + Copy> SessionLines<A> {
-    ghost use Rattle.mysql_wire_dump_session.specs.Dumping.{PushesFields, PushesNext, PushesRead};
-    ghost use Rattle.mysql_wire_session.specs.Readings.{passed};
-    ghost use Rattle.mysql_wire_session_phases.specs.declared.packet_kind.PacketKind.TheVariants.{TooLarge};
+    ghost use Rattle.mysql_wire_dump_session.specs.Dumping.{PushesFields, PushesRead, ShowsNext, WritesRead, WritesTheFields};
+    ghost use Rattle.mysql_wire_session.specs.Readings.{kind_of, passed};
+    ghost use Rattle.mysql_wire_session_phases.specs.declared.packet_kind.PacketKind.TheVariants.{Row, TooLarge};
 
     // Appends the line of a packet that is passed over.
     fn push_passed(&mut self, side: Side, id: u8, len: usize) -> Result<(), AllocError>
@@ -249,16 +290,113 @@ impl<A: Allocator + Copy> SessionLines<A> {
         Ok(())
     }
 
-    // Appends the line of a stream's next packet, and goes on after it.
-    fn push_next(&mut self, side: Side, source: &PacketStream<A>) -> Result<(), Stop>
-        ensures { OnOk result (PushesNext side source.now self.old self.new) }
+    // Whether a packet that came is a row of texts whose fields are shown, and no value is refused.
+    fn is_shown_row(&self, side: Side, id: u8, payload: &[u8]) -> Result<bool, Stop>
+        ensures { IfOk result (λ is. is ≡ true
+            → kind_of side id payload.now (state_of self.now.session) ≡ Row) }
+    {
+        let kind = self.session.classify(side, id, payload.len(), payload);
+        if !self.options.has_fields || !matches!(kind, PacketKind::Row) {
+            return Ok(false);
+        }
+        let row = self.session.read_row(kind, payload).map_err(stop_of)?;
+        let mut hidden = Fields::new(*self.text.allocator());
+        let types = self.session.column_types();
+        let shown = show_row(self.global, &mut hidden, types, kind, &row).map_err(stop_of)?;
+        Ok(!is_refused(shown))
+    }
+
+    // Puts the fields of such a row, and goes on after it: all but an end of the text is written. The
+    // answer is what it is shown as.
+    fn write_fields<W: Write>(
+        &mut self,
+        side: Side,
+        id: u8,
+        payload: &[u8],
+        output: &mut W,
+    ) -> Result<PacketKind, Stop>
+        requires { kind_of side id payload.now (state_of self.old.session) ≡ Row }
+        ensures writes { IfOk result (WritesTheFields side id payload.now self.old self.new
+            (W.contents output.old) (W.contents output.new)) }
+        ensures options { self.new.options ≡ self.old.options }
+    {
+        let alloc = *self.text.allocator();
+        let text = mem::replace(&mut self.text, String::new(alloc));
+        let mut fields = Fields::after(field_form(self.options), text);
+        let came = (side, id, PacketKind::Row);
+        let (global, session) = (self.global, &mut self.session);
+        let shown = write_fields(global, session, &mut fields, came, payload, output);
+        self.text = fields.into_text();
+        shown
+    }
+
+    // Writes the line of such a row but an end, and goes on after it.
+    fn write_row<W: Write>(
+        &mut self,
+        side: Side,
+        id: u8,
+        len: usize,
+        payload: &[u8],
+        output: &mut W,
+    ) -> Result<(), Stop>
+        requires { kind_of side id payload.now (state_of self.old.session) ≡ Row }
+        ensures { OnOk result (WritesRead side id len payload.now self.old self.new
+            (W.contents output.old) (W.contents output.new)) }
+    {
+        let seen = Seen {
+            side,
+            id,
+            len,
+            kind: PacketKind::Row,
+        };
+        let form = self.options.form;
+        push_head(&mut self.text, form, &seen, payload)?;
+        let kind = self.write_fields(side, id, payload, output)?;
+        if is_refused(kind) {
+            // Its values were read before, and none was.
+            return Err(Stop::Io);
+        }
+        push_end(&mut self.text, form)?;
+        Ok(())
+    }
+
+    // Appends the line of a packet that came, and goes on after it; of a long row all but an end is
+    // written.
+    fn show_read<W: Write>(
+        &mut self,
+        side: Side,
+        id: u8,
+        len: usize,
+        payload: &[u8],
+        output: &mut W,
+    ) -> Result<(), Stop>
+        ensures { OnOk result (WritesRead side id len payload.now self.old self.new
+            (W.contents output.old) (W.contents output.new)) }
+    {
+        if payload.len() >= WRITE_SIZE && self.is_shown_row(side, id, payload)? {
+            self.write_row(side, id, len, payload, output)
+        } else {
+            self.push_read(side, id, len, payload)
+        }
+    }
+
+    // Appends the line of a stream's next packet, and goes on after it; of a long row all but an end
+    // is written.
+    fn show_next<W: Write>(
+        &mut self,
+        side: Side,
+        source: &PacketStream<A>,
+        output: &mut W,
+    ) -> Result<(), Stop>
+        ensures { OnOk result (ShowsNext side source.now self.old self.new
+            (W.contents output.old) (W.contents output.new)) }
     {
         let Some(id) = source.next_id() else {
             return Err(Stop::Io);
         };
         let len = source.payload_len();
         match source.payload() {
-            Some(payload) => self.push_read(side, id, len, payload),
+            Some(payload) => self.show_read(side, id, len, payload, output),
             None => Ok(self.push_passed(side, id, len)?),
         }
     }
@@ -300,30 +438,33 @@ impl<A: Allocator + Copy> Dump<A> {
     }
 
     // Shows the client's next packet, and goes on after it.
-    fn show_client(&mut self) -> Result<(), Stop>
-        ensures { OnOk result (ShowsPacket Client self.old self.new) }
+    fn show_client<W: Write>(&mut self, output: &mut W) -> Result<(), Stop>
+        ensures { OnOk result (ShowsPacket Client self.old self.new
+            (W.contents output.old) (W.contents output.new)) }
     {
-        self.lines.push_next(Side::Client, &self.client)?;
+        self.lines.show_next(Side::Client, &self.client, output)?;
         self.client.advance()?;
         Ok(())
     }
 
     // Shows the server's next packet, and goes on after it.
-    fn show_server(&mut self) -> Result<(), Stop>
-        ensures { OnOk result (ShowsPacket Server self.old self.new) }
+    fn show_server<W: Write>(&mut self, output: &mut W) -> Result<(), Stop>
+        ensures { OnOk result (ShowsPacket Server self.old self.new
+            (W.contents output.old) (W.contents output.new)) }
     {
-        self.lines.push_next(Side::Server, &self.server)?;
+        self.lines.show_next(Side::Server, &self.server, output)?;
         self.server.advance()?;
         Ok(())
     }
 
     // Shows the next packet of a side.
-    fn show(&mut self, side: Side) -> Result<(), Stop>
-        ensures { OnOk result (ShowsPacket side self.old self.new) }
+    fn show<W: Write>(&mut self, side: Side, output: &mut W) -> Result<(), Stop>
+        ensures { OnOk result (ShowsPacket side self.old self.new
+            (W.contents output.old) (W.contents output.new)) }
     {
         match side {
-            Side::Client => self.show_client(),
-            Side::Server => self.show_server(),
+            Side::Client => self.show_client(output),
+            Side::Server => self.show_server(output),
         }
     }
 
@@ -367,7 +508,7 @@ fn show_next<A: Allocator + Copy, R: Read, S: Read, W: Write>(
     let Some(side) = dump.next_sender() else {
         return Ok(false);
     };
-    dump.show(side)?;
+    dump.show(side, output)?;
     dump.write_much(output)?;
     if dump.lines.session.phase() == Phase::Encrypted {
         dump.client.hide();

@@ -132,9 +132,16 @@ filled_on front words begin place at next room new filled inside long short is =
 
 -- ---- block by block
 
--- the escapes of what is done of some bytes stand after a quote, and this is left of them
+-- the escapes of what is done of some bytes stand after what was held, and this is left of them
 abbrev pub Escaped : List ℕ → List ℕ → List ℕ → List ℕ → Type 0
-Escaped words rest held text = (done : List ℕ) × (done ++ rest ≡ words) × (text ≡ held ++ 34 ∷ escape done)
+Escaped words rest held text = (done : List ℕ) × (done ++ rest ≡ words) × (text ≡ held ++ escape done)
+
+-- one part after another
+pub escape_append : (first second : List ℕ) → escape (first ++ second) ≡ escape first ++ escape second
+escape_append first second = flat_map-append escape_byte first second
+
+pub none_escaped : (held : List ℕ) (words : List ℕ) → Escaped words words held held
+none_escaped held words = ([], refl, sym (append-nil held))
 
 -- one block more
 pub block_escaped : (n : ℕ) (words rest block behind held text left : List ℕ) → Escaped words rest held text → block ≡ take n rest → behind ≡ drop n rest
@@ -143,16 +150,16 @@ block_escaped n words rest block behind held text left so_far block_is behind_is
   so_far.0 ++ block,
   append_assoc so_far.0 block behind
       ∙ ap (λ (z : List ℕ). so_far.0 ++ z) (ap₂ (λ (a b : List ℕ). a ++ b) block_is behind_is ∙ take-append-drop n rest) ∙ so_far.1,
-  left_is ∙ ap (λ (z : List ℕ). z ++ escape block) so_far.2 ∙ append_assoc held (34 ∷ escape so_far.0) (escape block)
-      ∙ ap (λ (z : List ℕ). held ++ 34 ∷ z) (sym (flat_map-append escape_byte so_far.0 block)),
+  left_is ∙ ap (λ (z : List ℕ). z ++ escape block) so_far.2 ∙ append_assoc held (escape so_far.0) (escape block)
+      ∙ ap (λ (z : List ℕ). held ++ z) (sym (escape_append so_far.0 block)),
 )
 
--- the last block, and the quote after it
-pub all_escaped : (words rest held text left new : List ℕ) → Escaped words rest held text → left ≡ text ++ escape rest → new ≡ left ++ 34 ∷ []
-    → new ≡ held ++ quoted words
-all_escaped words rest held text left new so_far left_is new_is =
-    let last = block_escaped (length rest) words rest rest [] held text left so_far (sym (take_all (length rest) rest (omega arith))) (sym (drop_all (length rest) rest (omega arith))) left_is in
-    new_is ∙ ap (λ (z : List ℕ). z ++ 34 ∷ []) (last.2 ∙ ap (λ (z : List ℕ). held ++ 34 ∷ escape z) (sym (append-nil last.0) ∙ last.1)) ∙ append_assoc held (34 ∷ escape words) (34 ∷ [])
+-- the last block
+pub all_escaped : (words rest held text left : List ℕ) → Escaped words rest held text → left ≡ text ++ escape rest
+    → left ≡ held ++ escape words
+all_escaped words rest held text left so_far left_is =
+    left_is ∙ ap (λ (z : List ℕ). z ++ escape rest) so_far.2 ∙ append_assoc held (escape so_far.0) (escape rest)
+    ∙ ap (λ (z : List ℕ). held ++ z) (sym (escape_append so_far.0 rest) ∙ ap escape so_far.1)
 
 -- what was held stands in front
 pub held_first : (held more text : List ℕ) → text ≡ held ++ more → take (length held) text ≡ held

@@ -17,6 +17,7 @@ use Rattle.wire_text.specs.declared.members.MemberForm.{MemberForm}
 use Rattle.wire_text.specs.declared.members.MemberForm.TheVariants as member
 use Rattle.wire_text.specs.Fields.{Member, Puts, Written, all_plain, none_needs_escape, end_part, ended, ended_after, fields_text, line, member_form, member_part, name_part, nothing_after, pair, plain, put, puts, needs_no_escape, shown_after, value_text, with_end, with_member, Value, Word, Words}
 use Rattle.wire_text.specs.FieldTables.{members_in, members_of}
+use Rattle.wire_text.specs.Parts.{is_none}
 
 pub is_false : (test : Bool) → (test ≡ true → ⊥) → test ≡ false
 is_false true never = absurd (never refl)
@@ -215,16 +216,12 @@ joined (Err _) old middle new front back whole middle_is new_is whole_is = tt
 abbrev pub from_place : FieldForm → ℕ → List ℕ → Written
 from_place form begin all = record { form = form; before = take begin all; text = drop begin all }
 
-abbrev is_none : List ℕ → Bool
-is_none [] = true
-is_none (byte ∷ text) = false
-
-part_of : (form : MemberForm) (text : List ℕ) (one : Member) → text ++ member_part form (is_none text) one ≡ with_member form text one
+pub part_of : (form : MemberForm) (text : List ℕ) (one : Member) → text ++ member_part form (is_none text) one ≡ with_member form text one
 part_of member.Text text one = refl
 part_of member.Json [] one = refl
 part_of member.Json (byte ∷ text) one = refl
 
-end_of : (form : MemberForm) (text : List ℕ) → text ++ end_part form (is_none text) ≡ with_end form text
+pub end_of : (form : MemberForm) (text : List ℕ) → text ++ end_part form (is_none text) ≡ with_end form text
 end_of member.Text text = append-nil text
 end_of member.Json [] = refl
 end_of member.Json (byte ∷ text) = refl
@@ -234,7 +231,7 @@ none_if [] all begin is = eq-eqb all begin (omega (arith, is))
 none_if (byte ∷ text) all begin is = is_false (all == begin) (λ same. omega (arith, is, eqb-true all begin same))
 
 -- none stand there yet where the text ends where they begin
-none_there : (begin : ℕ) (all : List ℕ) → begin ≤ length all → (length all == begin) ≡ is_none (drop begin all)
+pub none_there : (begin : ℕ) (all : List ℕ) → begin ≤ length all → (length all == begin) ≡ is_none (drop begin all)
 none_there begin all within = none_if (drop begin all) (length all) begin (omega (arith, within, length-drop begin all))
 
 grown : (form : FieldForm) (begin : ℕ) (all more new text : List ℕ) → begin ≤ length all → new ≡ all ++ more → drop begin all ++ more ≡ text

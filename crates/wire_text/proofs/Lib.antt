@@ -1,4 +1,5 @@
 pub mod DigitLemmas
 pub mod EscapeLemmas
 pub mod FieldLemmas
+pub mod PartLemmas
 pub mod PlainLemmas

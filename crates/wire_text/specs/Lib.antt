@@ -1,4 +1,5 @@
 pub mod Digits
 pub mod Fields
 pub mod FieldTables
+pub mod Parts
 pub mod Stops

@@ -4,10 +4,14 @@ ghost use Rattle.std.specs.Prelude.{◌≡◌, ◌∷◌, ◌++◌, [], OnOk, st
 ghost use Rattle.std.specs.Fmt.{decimal};
 ghost use Rattle.wire_text.specs.FieldTables.{members_in, members_of};
 ghost use Rattle.wire_text.specs.Fields.{Puts, Words, ended, member_form, nothing, nothing_after, value_of};
+ghost use Rattle.wire_text.specs.Parts.{WritesMember};
 
+use crate::long::write_text_at;
 pub use crate::members::FieldValue;
 use crate::members::{MemberForm, push_closing, push_member, push_text_at};
+use crate::stop::Stop;
 use std::alloc::{AllocError, Allocator, Global};
+use std::io::Write;
 use std::marker::Model;
 
 /// How fields are shown.
@@ -191,6 +195,26 @@ impl<A: Allocator + Copy> Fields<A> {
         }
         let mut digits = itoa::Buffer::new();
         self.put(digits.format(place), value)
+    }
+
+    /// Puts a text that has no name but its place, and writes all so far but its end: a long text is
+    /// shown part by part. Where it fails, what is left is no field.
+    pub fn write_text_at<W: Write>(
+        &mut self,
+        place: u64,
+        bytes: &[u8],
+        output: &mut W,
+    ) -> Result<(), Stop>
+        ensures { OnOk result (WritesMember (decimal place, Words bytes.now) self.old self.new
+            (W.contents output.old) (W.contents output.new)) }
+    {
+        let Some(form) = self.form.members() else {
+            return Ok(());
+        };
+        let is_first = self.text.len() == self.begin;
+        let written = write_text_at(&mut self.text, form, is_first, place, bytes, output);
+        self.begin = 0;
+        written
     }
 
     /// Ends the fields of the packet.

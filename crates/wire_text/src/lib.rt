@@ -4,6 +4,7 @@
 
 pub mod digits;
 pub mod fields;
+mod long;
 mod members;
 mod plain;
 pub mod put;

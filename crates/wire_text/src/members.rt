@@ -1,8 +1,8 @@
 //! Members: a name and a value, on a line of its own or in an object of JSON.
 
-ghost use Rattle.std.specs.Prelude.{◌≡◌, ◌++◌, codes, OnOk, string_bytes};
+ghost use Rattle.std.specs.Prelude.{◌≡◌, ◌≢◌, ◌++◌, ℕ, List, [], codes, OnOk, string_bytes};
 ghost use Rattle.std.specs.Fmt.{decimal};
-ghost use Rattle.wire_text.specs.Fields.{end_part, flags_text, member_part, name_part, octets_text, value_of, value_text, words_text, Word, Words};
+ghost use Rattle.wire_text.specs.Fields.{digits_text, end_part, flags_text, member_part, name_part, octets_text, value_of, value_text, words_text, Word, Words};
 
 use crate::digits::push_digits_to;
 use crate::plain::is_plain;
@@ -34,6 +34,17 @@ pub enum FieldValue<'a> {
     Word(&'a str),
 }
 
+// What stands around the hex digits of bytes.
+pub(crate) fn octets_around(form: MemberForm) -> (&'static str, &'static str)
+    ensures around { (digits : List ℕ) → digits_text form digits ≡ result.0.now ++ digits ++ result.1.now }
+    ensures some { result.1.now ≢ [] }
+{
+    match form {
+        MemberForm::Json => ("{\"hex\":\"", "\"}"),
+        MemberForm::Text => ("x'", "'"),
+    }
+}
+
 // Bytes in hex digits.
 fn push_octets<A: Allocator + Copy>(
     text: &mut String<A>,
@@ -43,10 +54,7 @@ fn push_octets<A: Allocator + Copy>(
     ensures { OnOk result (string_bytes text.new
         ≡ string_bytes text.old ++ octets_text form bytes.now) }
 {
-    let (before, after) = match form {
-        MemberForm::Json => ("{\"hex\":\"", "\"}"),
-        MemberForm::Text => ("x'", "'"),
-    };
+    let (before, after) = octets_around(form);
     text.push_str(before)?;
     push_digits_to(text, bytes)?;
     text.push_str(after)
@@ -211,7 +219,7 @@ fn push_pair_name<A: Allocator>(text: &mut String<A>, name: &str) -> Result<(), 
 }
 
 // The name of a field, with what stands around it.
-fn push_name<A: Allocator>(
+pub(crate) fn push_name<A: Allocator>(
     text: &mut String<A>,
     form: MemberForm,
     is_first: bool,

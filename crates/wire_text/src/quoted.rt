@@ -141,18 +141,29 @@ fn push_block<A: Allocator>(text: &mut Vec<u8, A>, block: &[u8]) -> Result<(), A
     text.extend_from_slice(&room[..len])
 }
 
-// A text between quotes, block by block.
-fn push_blocks<A: Allocator>(text: &mut Vec<u8, A>, words: &[u8]) -> Result<(), AllocError>
-    ensures ok { OnOk result (text.new.items ≡ text.old.items ++ quoted words.now) }
+// Some of the bytes of a text that is quoted, block by block.
+pub(crate) fn push_escaped<A: Allocator>(
+    text: &mut Vec<u8, A>,
+    words: &[u8],
+) -> Result<(), AllocError>
+    ensures ok { OnOk result (text.new.items ≡ text.old.items ++ escape words.now) }
     ensures front { take (length text.old.items) text.new.items ≡ text.old.items }
 {
-    text.push(b'"')?;
     let mut rest = words;
     'rounds: while let Some((block, after)) = rest.split_first_chunk::<64>() {
         push_block(text, block)?;
         rest = after;
     }
-    push_block(text, rest)?;
+    push_block(text, rest)
+}
+
+// A text between quotes.
+fn push_blocks<A: Allocator>(text: &mut Vec<u8, A>, words: &[u8]) -> Result<(), AllocError>
+    ensures ok { OnOk result (text.new.items ≡ text.old.items ++ quoted words.now) }
+    ensures front { take (length text.old.items) text.new.items ≡ text.old.items }
+{
+    text.push(b'"')?;
+    push_escaped(text, words)?;
     text.extend_from_slice(b"\"")
 }
 

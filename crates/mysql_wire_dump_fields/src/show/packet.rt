@@ -2,18 +2,19 @@
 
 ghost use Rattle.std.specs.Prelude.{◌≡◌, IfOk, OnOk};
 ghost use Rattle.mysql_wire_dump_fields.specs.CommandFields.{plain_fields};
-ghost use Rattle.mysql_wire_dump_fields.specs.Packets.{PutsOwn, PutsPacket, PutsRowFields, is_shown_whole, packet_fields, row_kind, shown_kind};
+ghost use Rattle.mysql_wire_dump_fields.specs.Packets.{PutsOwn, PutsPacket, PutsRowFields, WritesRowFields, is_shown_whole, packet_fields, row_kind, shown_kind};
 ghost use Rattle.wire_text.specs.Fields.{Puts};
 
 use super::{
     Show, binary_row, column_bytes, event, number_of_statement, other_command, row_bytes,
-    statistics, text_row,
+    statistics, text_row, write_text_row,
 };
 use mysql_wire_session_packets::client_command::ClientCommand;
 use mysql_wire_session_packets::packet::{Packet, Received, Row};
 use mysql_wire_session_phases::packet_kind::PacketKind;
 use mysql_wire_session_phases::refusal::{Refusal, SessionError};
 use std::alloc::{AllocError, Allocator, Global};
+use std::io::Write;
 use wire_text::fields::Fields;
 
 fn show_command<A: Allocator + Copy>(
@@ -132,6 +133,27 @@ pub fn show_row<A: Allocator + Copy>(
             Ok(kind)
         }
         Row::Refused(refusal) => Ok(PacketKind::Refused(*refusal)),
+    }
+}
+
+/// The same of a row that may have long texts: all but an end of what was put may be written.
+pub fn write_row<A: Allocator + Copy, W: Write>(
+    global: Global,
+    fields: &mut Fields<A>,
+    types: &[u8],
+    kind: PacketKind,
+    row: &Row<'_>,
+    output: &mut W,
+) -> Result<PacketKind, SessionError>
+    ensures { IfOk result (WritesRowFields types.now kind row.now fields.old fields.new
+        (W.contents output.old) (W.contents output.new)) }
+{
+    match row {
+        Row::Text { columns, values } => {
+            let refusal = write_text_row(global, fields, *columns, values, output)?;
+            Ok(row_kind(kind, refusal))
+        }
+        _ => show_row(global, fields, types, kind, row),
     }
 }
 

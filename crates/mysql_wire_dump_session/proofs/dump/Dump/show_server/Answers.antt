@@ -7,10 +7,12 @@ use Rattle.mysql_wire_dump_session.proofs.dump.Dump.show_server.Goals as goal
 
 pub returns : goal.returns
 returns g c =
-    let pushes = c.in_ok-push_next.ensures in
+    let pushes = c.in_ok-show_next.ensures in
     record {
+      part = pushes.written;
+      appended = pushes.appended;
       more = λ shown client server written dumping is_turn looked.
-          server_shown c.args.self.now _ (state_of c.push_next.new.self.session) pushes.id pushes.kind pushes.bytes pushes.fields pushes.is_next
+          server_shown c.args.self.now _ (state_of c.show_next.new.self.session) pushes.id pushes.kind pushes.bytes pushes.fields pushes.written pushes.is_next
           pushes.large pushes.named pushes.held pushes.line refl pushes.options_are refl
           c.in_ok-advance.ensures.limit c.in_ok-advance.ensures.passes shown client server written dumping is_turn looked;
       options_are = pushes.options_are;

@@ -1,5 +1,5 @@
 use Rattle.wire_text.proofs.EscapeLemmas.{block_escaped}
-use Rattle.wire_text.proofs.quoted.push_blocks.Goals as goal
+use Rattle.wire_text.proofs.quoted.push_escaped.Goals as goal
 
 pub rounds-preserved : goal.rounds-preserved
 rounds-preserved g c =

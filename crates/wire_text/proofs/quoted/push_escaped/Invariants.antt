@@ -1,6 +1,6 @@
 use Rattle.std.proofs.Common.{length}
 use Rattle.wire_text.proofs.EscapeLemmas.{Escaped}
-use Rattle.wire_text.proofs.quoted.push_blocks.Given as goal
+use Rattle.wire_text.proofs.quoted.push_escaped.Given as goal
 
 abbrev pub decreases-rounds : goal.decreases-rounds
 decreases-rounds g l = length l.rest
