@@ -72,29 +72,64 @@ EOF = b"\xfe\0\0\2\0"
 EOF_FIELDS = [("warnings", 0), ("status_flags", 2)]
 
 
-def wide_session(has_json):
-    """A row of 101 values, whose names are their places, as a row."""
-    values = [(str(place), str(place % 10)) for place in range(101)]
-    row = b"".join(b"\1" + value.encode() for _, value in values)
-    shown = [("column count", [("column_count", 101)]), *[("column", COLUMN_FIELDS)] * 101,
-             ("eof", EOF_FIELDS), ("row", values), ("eof", EOF_FIELDS)]
-    packets = [b"\x65", *[COLUMN] * 101, EOF, row, EOF]
+def shown_packet(index, packet, kind, fields, has_json, refusal=""):
+    """The lines of a packet of the server with these fields, whose values are shown so."""
+    front = packet[:32].hex()
+    if has_json:
+        why = ',"bytes":"%s..","refusal":"%s"' % (front, refusal) if refusal else ""
+        members = ",".join('"%s":%s' % field for field in fields)
+        return ['{"from":"server","id":%d,"length":%d,"packet":"%s"%s,"fields":{%s}}'
+                % (index, len(packet), kind, why, members)]
+    why = " %s.. %s" % (front, refusal) if refusal else ""
+    return ["server %d %d %s%s" % (index, len(packet), kind, why),
+            *["  %s %s" % field for field in fields]]
+
+
+def shown_numbers(fields, has_json):
+    """Fields, each with its value as it is shown: flags are so where they are no JSON."""
+    for name, value in fields:
+        is_hex = name.endswith("flags") and not has_json
+        yield name, hex(value) if is_hex else json.dumps(value)
+
+
+def row_session(name, values, has_json, tail=b"", refusal=""):
+    """A row of these values, each with how text and JSON show it, as a row. Behind them stand bytes
+    that are refused, of one column more where they end too early."""
+    columns = len(values) + (refusal == "unexpected end")
+    row = b"".join(value for value, _, _ in values) + tail
+    shown = [(str(place), forms[has_json]) for place, (_, *forms) in enumerate(values)]
+    count, column, eof = (list(shown_numbers(fields, has_json)) for fields in
+                          ([("column_count", columns)], COLUMN_FIELDS, EOF_FIELDS))
+    is_row = (row, "bytes", shown, refusal) if refusal else (row, "row", shown)
+    packets = [(bytes([columns]), "column count", count), *[(COLUMN, "column", column)] * columns,
+               (EOF, "eof", eof), is_row, (EOF, "eof", eof)]
     lines = ["client 0 9 query", '  query "SELECT 1"']
     if has_json:
         lines = ['{"from":"client","id":0,"length":9,"packet":"query","fields":{"query":"SELECT 1"}}']
-    for index, ((name, fields), packet) in enumerate(zip(shown, packets)):
-        if has_json:
-            lines.append(json.dumps({"from": "server", "id": index + 1, "length": len(packet),
-                                     "packet": name, "fields": dict(fields)},
-                                    separators=(",", ":")))
-            continue
-        lines.append("server %d %d %s" % (index + 1, len(packet), name))
-        lines += ["  %s %s" % (field, hex(value) if field.endswith("flags") else json.dumps(value))
-                  for field, value in fields]
-    server = framed([b"", *packets])[4:]
+    for index, (packet, kind, fields, *why) in enumerate(packets):
+        lines += shown_packet(index + 1, packet, kind, fields, has_json, *why)
+    server = framed([b"", *[packet for packet, *_ in packets]])[4:]
     end = '{"from":"%s","end":"end","at":%d}' if has_json else "%s end at %d"
     lines += [end % ("client", len(SELECT)), end % ("server", len(server))]
-    return "a row of 101 values", "--json --fields" if has_json else "--fields", SELECT, server, 0, lines
+    return name, "--json --fields" if has_json else "--fields", SELECT, server, 0, lines
+
+
+def value_of(text):
+    """A text as a value of a row, and how it is shown: bytes that are none in hex digits."""
+    data = text if isinstance(text, bytes) else text.encode()
+    is_short = len(data) < 251
+    length = bytes([len(data)]) if is_short else b"\xfc" + len(data).to_bytes(2, "little")
+    if isinstance(text, bytes):
+        return length + data, "x'%s'" % data.hex(), '{"hex":"%s"}' % data.hex()
+    return length + data, *[json.dumps(text, ensure_ascii=False)] * 2
+
+
+NULL = (b"\xfb", "null", "null")
+# The values of a long row. Those of 4 KiB and more are written by parts of 16 KiB: one that fills two,
+# one with a letter of two bytes between two, with escapes, and one that is no text.
+LONG_VALUES = [NULL, value_of("a"), value_of("x" * 4095), NULL, value_of("y" * 32768),
+               value_of("z" * 16383 + "\u00e9\t"), value_of("\u6f22 \"\\\U0001f600\n" * 1500),
+               value_of(b"\xfe" * 5000), value_of("")]
 
 
 # Columns' types by number, a value of each in its binary form, and how it is shown: the examples of
@@ -224,8 +259,14 @@ SESSIONS = [
     text_session("a long text that is not ASCII", "\u00dcn\u00efcode \u6f22\u5b57 \U0001f600 " * 30),
     text_session("a long text with an escape at its end", "\u6f22\u5b57" * 40 + '"'),
     text_session("a long text with an escape in front", "\1" + "\u00e9" * 100),
-    wide_session(False),
-    wide_session(True),
+    *[row_session(*row, has_json) for has_json in (False, True) for row in (
+        ("a row of 101 values", [value_of(str(place % 10)) for place in range(101)]),
+        ("a long row", LONG_VALUES),
+        ("a long row whose first value is written", LONG_VALUES[4:]),
+    )],
+    *[row_session("a long row, refused", LONG_VALUES, has_json, *behind)
+      for has_json in (False, True)
+      for behind in ((b"\5ab", "unexpected end"), (b"\xfb", "trailing bytes"))],
     binary_session(),
     # the piece after the one numbered 255 is numbered 0, and so is the end of the other file
     file_session(300),
@@ -310,6 +351,12 @@ def of_requests(session, folder, environment):
             return "request %d: %s" % (number, found)
 
 
+def most_memory(ran):
+    """The most memory that a program took, in KiB."""
+    status = pathlib.Path("/proc/%d/status" % ran.pid).read_text()
+    return next(int(line.split()[1]) for line in status.splitlines() if line.startswith("VmHWM"))
+
+
 def of_memory(folder):
     """The same of a packet of more than 1 GiB, which is above the limit: its bytes come by a pipe, and
     the program's memory stays below 8 MiB."""
@@ -319,13 +366,30 @@ def of_memory(folder):
         with open(folder / "large", "wb", buffering=0) as pipe:
             for number in range(65):
                 pipe.write(b"\xff\xff\xff" + bytes([number]) + bytes(FULL))
-            status = pathlib.Path("/proc/%d/status" % ran.pid).read_text()
+            most = most_memory(ran)
             pipe.write(b"\0\0\0\x41")
         text = ran.stdout.read().decode()
     lines = "client 0 %d too large\nclient end at %d\n" % (65 * FULL, 65 * (FULL + 4) + 4)
-    most = next(int(line.split()[1]) for line in status.splitlines() if line.startswith("VmHWM"))
     is_right = (ran.returncode, text) == (0, lines) and most < 8192
     yield None if is_right else "a large packet: %d KiB, %d, %s" % (most, ran.returncode, text)
+
+
+def of_long_text(folder):
+    """The same of a row of a text of 16 MB, which is held once: the memory stays below 20 MiB."""
+    value = b"\xfd" + (16_000_000).to_bytes(3, "little") + b"\xff" * 16_000_000
+    row = len(value).to_bytes(3, "little") + b"\4" + value
+    os.mkfifo(folder / "long")
+    (folder / "client").write_bytes(SELECT)
+    words = ["--fields", "--limit", "16777215", "client", "client", "server", "long"]
+    with subprocess.Popen([PROGRAM, *words], cwd=folder, stdout=subprocess.PIPE) as ran:
+        with open(folder / "long", "wb", buffering=0) as pipe:
+            pipe.write(ROWS[:41] + row)
+            # (the quote behind the digits is written with what comes after it)
+            text = ran.stdout.read(32_000_000)
+            most = most_memory(ran)
+        text = (text + ran.stdout.read()).decode()
+    is_right = ran.returncode == 0 and text.count("f") > 32_000_000 and most < 20480
+    yield None if is_right else "a long text: %d KiB, %d" % (most, ran.returncode)
 
 
 def of_faults(folder):
@@ -363,7 +427,7 @@ def main():
     with tempfile.TemporaryDirectory() as name:
         folder = pathlib.Path(name)
         found = [*of_sessions(folder), *of_refusals(folder), *of_memory(folder)]
-        found += [*of_faults(folder), *of_words(folder)]
+        found += [*of_long_text(folder), *of_faults(folder), *of_words(folder)]
     wrong = [fault for fault in found if fault]
     for fault in wrong:
         print("FAILED", fault)

@@ -193,7 +193,7 @@ writing-more place payload bytes rest start end new before now later so one =
     record {
       whole = put so.whole one.0;
       written = so.written ++ writes.written;
-      texts = texts-more place payload bytes rest start so.whole (put so.whole one.0) so.texts (one.0, (one.1.0, record { are = refl; }));
+      texts = texts-more place payload bytes rest start so.whole (put so.whole one.0) so.texts (one.0, (one.1.0, record { are = refl }));
       appended = Appends-trans before now later so.written writes.written so.appended writes.appended;
       ends = writes.ends so.written so.whole so.ends;
     }

@@ -9,15 +9,17 @@ ghost use Rattle.wire_text.specs.Fields.{Member, Number, Octets, Puts, Words};
 mod answers;
 mod commands;
 mod connection;
+mod long_row;
 mod packet;
 mod unread;
 mod values;
 
 pub use commands::number_of_statement;
+pub use long_row::write_text_row;
 pub use packet::{show_packet, show_row, write_row};
 use std::alloc::{AllocError, Allocator};
 pub use unread::{column_bytes, event, other_command, row_bytes, statistics};
-pub use values::{binary_row, text_row, write_text_row};
+pub use values::{binary_row, text_row};
 use wire_field::row::Either;
 use wire_repr::text::BytesRepr;
 use wire_text::fields::{Field, Fields};

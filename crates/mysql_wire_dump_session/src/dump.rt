@@ -320,9 +320,10 @@ impl<A: Allocator + Copy> SessionLines<A> {
             (W.contents output.old) (W.contents output.new)) }
         ensures options { self.new.options ≡ self.old.options }
     {
+        let form = field_form(self.options);
         let alloc = *self.text.allocator();
         let text = mem::replace(&mut self.text, String::new(alloc));
-        let mut fields = Fields::after(field_form(self.options), text);
+        let mut fields = Fields::after(form, text);
         let came = (side, id, PacketKind::Row);
         let (global, session) = (self.global, &mut self.session);
         let shown = write_fields(global, session, &mut fields, came, payload, output);

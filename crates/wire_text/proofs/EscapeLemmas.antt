@@ -3,9 +3,9 @@ use Rattle.std.proofs.Common.{◌≡◌, ℕ, zero, suc, ◌+◌, ◌*◌, ◌/�
 use Rattle.std.proofs.lemmas.Bool.{and_parts, eqb-true}
 use Rattle.std.proofs.lemmas.Bool.Decides.{leb_tells}
 use Rattle.std.proofs.lemmas.Grind.{flat_map-append}
-use Rattle.std.proofs.lemmas.List.{drop_all, length-append, length-take, take_more, take-append-le, take_all}
+use Rattle.std.proofs.lemmas.List.{length-append, length-take, take_more, take-append-le, take_all}
 use Rattle.std.specs.Prelude.{◌&&◌, slice_index_or}
-use Rattle.json.specs.Print.{escape, escape_byte, quoted}
+use Rattle.json.specs.Print.{escape, escape_byte}
 use Rattle.wire_text.specs.Fields.{escape_mark}
 use Rattle.wire_text.proofs.FieldLemmas.{is_false}
 

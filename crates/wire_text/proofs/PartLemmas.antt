@@ -2,18 +2,17 @@
 use Rattle.std.proofs.Common.{◌≡◌, ◌≢◌, ℕ, List, [], ◌∷◌, ◌++◌, Bool, true, false, refl, sym, ap, ap₂, subst, ◌∙◌, append-nil, append_assoc, take, drop, take-append-drop, Option, Some, None, Result, Ok, Err, OnOk, length, ◌≤◌}
 use Rattle.std.proofs.KnownBytes.{Appends-nil, Appends-trans}
 use Rattle.std.specs.Io.KnownBytes.{Appends}
-use Rattle.std.specs.Prelude.{◌==◌, codes}
-use Rattle.hex.specs.Hex.{encode_lower, encode_with, lower_digits}
-use Rattle.json.specs.Print.{escape}
+use Rattle.std.specs.Prelude.{◌==◌}
+use Rattle.hex.specs.Hex.{encode_with, lower_digits}
 use Rattle.wire_text.proofs.DigitLemmas.{digits_more}
 use Rattle.wire_text.proofs.EscapeLemmas.{escape_append}
-use Rattle.wire_text.proofs.FieldLemmas.{end_hidden, from_place, none_there, part_of, end_of, put_hidden}
+use Rattle.wire_text.proofs.FieldLemmas.{from_place, none_there, part_of, end_of, put_hidden}
 use Rattle.wire_text.specs.declared.fields.FieldForm.{FieldForm}
 use Rattle.wire_text.specs.declared.long.PartForm.{PartForm}
 use Rattle.wire_text.specs.declared.long.PartForm.TheVariants.{Escaped, Digits}
 use Rattle.wire_text.specs.declared.members.MemberForm.{MemberForm}
 use Rattle.wire_text.specs.declared.members.MemberForm.TheVariants as member
-use Rattle.wire_text.specs.Fields.{Member, Puts, Written, end_part, ended, ended_after, member_form, member_part, put, shown_after, with_end, with_member}
+use Rattle.wire_text.specs.Fields.{Member, Puts, Written, end_part, ended, ended_after, member_form, member_part, put, shown_after}
 use Rattle.wire_text.specs.Parts.{IsEnd, WritesMember, WritesSome, is_none, part_text}
 
 -- one part after another
@@ -182,7 +181,7 @@ end_ended earlier whole old new is new_is =
 
 -- nothing was written
 pub end_itself : (written : Written) → IsEnd [] written written
-end_itself written = record { form = refl; bytes = refl; none = refl; }
+end_itself written = record { form = refl; bytes = refl; none = refl }
 
 -- a field was put, and nothing written
 pub nothing_written : (one : Member) (old new : Written) (before : Option (List ℕ)) → Puts (one ∷ []) old new → WritesMember one old new before before

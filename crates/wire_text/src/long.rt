@@ -107,14 +107,8 @@ fn write_words<A: Allocator + Copy, W: Write>(
 {
     match std::str::from_utf8(bytes) {
         Ok(words) => {
-            write_between(
-                text,
-                "\"",
-                PartForm::Escaped,
-                words.as_bytes(),
-                "\"",
-                output,
-            )
+            let words = words.as_bytes();
+            write_between(text, "\"", PartForm::Escaped, words, "\"", output)
         }
         Err(_) => {
             let (before, after) = octets_around(form);

@@ -5,7 +5,7 @@ ghost use Rattle.std.specs.Fmt.{decimal};
 ghost use Rattle.std.specs.Prelude.{◌≡◌, ◌∷◌, [], ◌++◌, IfOk, OnOk};
 ghost use Rattle.wire_text.specs.Fields.{Puts, Word, Written};
 ghost use Rattle.mysql_wire_dump_fields.specs.TemporalTexts.{date_text, time_text};
-ghost use Rattle.mysql_wire_dump_fields.specs.ValueFields.{IsTypeOf, row_bytes_fields, PutsColumn, PutsFloat, PutsRow, PutsShown, PutsText, PutsTexts, PutsValues, WritesText, WritesTexts};
+ghost use Rattle.mysql_wire_dump_fields.specs.ValueFields.{IsTypeOf, row_bytes_fields, PutsColumn, PutsFloat, PutsRow, PutsShown, PutsText, PutsTexts, PutsValues};
 
 use super::Show;
 use crate::temporal::{push_date, push_time};
@@ -16,13 +16,11 @@ use mysql_wire_statements::binary_value::BinaryValue;
 use mysql_wire_statements::temporal::{BinaryDate, BinaryTime};
 use ryu::Buffer;
 use std::alloc::{AllocError, Allocator, Global};
-use std::io::Write;
 use std::num::{f32_from_bits_with_nan, f64_from_bits_with_nan};
 use wire_buf::error::WireError;
 use wire_buf::io::ParseBuf;
 use wire_const::ColumnType;
 use wire_text::fields::{Field, FieldValue, Fields};
-use wire_text::stop::Stop;
 
 // Reads the text of a column, and puts it. The answer is why it is none.
 fn put_text<A: Allocator + Copy>(
@@ -82,68 +80,6 @@ pub fn text_row<A: Allocator + Copy>(
         fields.old fields.new) }
 {
     put_texts(global, fields, columns, payload)
-}
-
-// How many bytes a text has at least of which a part is written before the rest is shown.
-const LONG: usize = 4096;
-
-// Why a dump gives up, as its session says it.
-fn error_of(stop: Stop) -> SessionError {
-    match stop {
-        Stop::Io => SessionError::Io,
-        Stop::Memory => SessionError::OutOfMemory,
-    }
-}
-
-// Reads the text of a column, and puts it; all but the end of a long one is written. The answer is
-// why it is none.
-fn write_text<A: Allocator + Copy, W: Write>(
-    global: Global,
-    fields: &mut Fields<A>,
-    place: u64,
-    rest: &mut ParseBuf<'_>,
-    output: &mut W,
-) -> Result<Option<Refusal>, SessionError>
-    ensures { IfOk result (λ refusal. WritesText place rest.old.0.now rest.new.0.now refusal
-        fields.old fields.new (W.contents output.old) (W.contents output.new)) }
-{
-    match rest.parse::<TextValue<'_>>(global, ()) {
-        Ok(TextValue::Null) => fields.put_at(place, FieldValue::Null)?,
-        Ok(TextValue::Text(text)) if text.len() < LONG => {
-            fields.put_at(place, FieldValue::Text(text))?
-        }
-        Ok(TextValue::Text(text)) => fields
-            .write_text_at(place, text, output)
-            .map_err(error_of)?,
-        Err(error) => return Ok(Some(Refusal::of_wire(error)?)),
-    }
-    Ok(None)
-}
-
-/// The same of a row that may have long texts: all but an end of what was put may be written. The
-/// answer is why it is none.
-pub fn write_text_row<A: Allocator + Copy, W: Write>(
-    global: Global,
-    fields: &mut Fields<A>,
-    columns: u64,
-    payload: &[u8],
-    output: &mut W,
-) -> Result<Option<Refusal>, SessionError>
-    ensures { IfOk result (λ refusal. WritesTexts columns payload.now refusal
-        fields.old fields.new (W.contents output.old) (W.contents output.new)) }
-{
-    let mut rest = ParseBuf(payload);
-    'values: for place in 0..columns {
-        match write_text(global, fields, place, &mut rest, output)? {
-            None => {}
-            Some(refusal) => return Ok(Some(refusal)),
-        }
-    }
-    Ok(if rest.0.is_empty() {
-        None
-    } else {
-        Some(Refusal::TrailingBytes)
-    })
 }
 
 // Puts a number of these bits.

@@ -1,5 +1,5 @@
-use Rattle.std.proofs.Common.{rules, ◌∙◌}
-use Rattle.wire_text.proofs.PartLemmas.{parts_all, parts_more, parts_none}
+use Rattle.std.proofs.Common.{rules}
+use Rattle.wire_text.proofs.PartLemmas.{parts_more, parts_none}
 use Rattle.wire_text.proofs.long.write_parts.Goals as goal
 
 pub parts-init : goal.parts-init

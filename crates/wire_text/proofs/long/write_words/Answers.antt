@@ -4,7 +4,7 @@ use Rattle.wire_text.proofs.long.write_words.Goals as goal
 
 pub returns-in-Ok : goal.returns-in-Ok
 returns-in-Ok g c =
-    rw (is_utf8-from_IsUtf8 c.args.bytes.now c.in-Ok.ensures.cases.1, ← c.in-Ok.ensures.cases.0, ← c.as_bytes.ensures.value)
+    rw (is_utf8-from_IsUtf8 c.args.bytes.now c.in-Ok.ensures.cases.1, ← c.in-Ok.ensures.cases.0, ← c.as_bytes-words.ensures.value)
     c.write_between.ensures
 
 pub returns-in-Err : goal.returns-in-Err

@@ -1,6 +1,6 @@
 use Rattle.std.proofs.Common.{rules}
 use Rattle.mysql_wire_dump_fields.proofs.ValueLemmas.{short_text}
-use Rattle.mysql_wire_dump_fields.proofs.show.values.write_text.Goals as goal
+use Rattle.mysql_wire_dump_fields.proofs.show.long_row.write_text.Goals as goal
 
 pub returns-in_ok-put_at-in-Ok-Null : goal.returns-in_ok-put_at-in-Ok-Null
 returns-in_ok-put_at-in-Ok-Null g c =

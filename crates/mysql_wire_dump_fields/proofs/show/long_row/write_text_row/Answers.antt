@@ -1,6 +1,6 @@
 use Rattle.std.proofs.Common.{ℕ, ◌∙◌, subst, sym, arith}
 use Rattle.mysql_wire_dump_fields.proofs.ValueLemmas.{Writing, is_empty, is_some, writes-ended, writes-refused, writes-trailing, writing-more, writing-none}
-use Rattle.mysql_wire_dump_fields.proofs.show.values.write_text_row.Goals as goal
+use Rattle.mysql_wire_dump_fields.proofs.show.long_row.write_text_row.Goals as goal
 
 pub values-init : goal.values-init
 values-init g c = writing-none c.args.payload.now c.args.fields.now (g.W.Write.contents c.args.output.now)

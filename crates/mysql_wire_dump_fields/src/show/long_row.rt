@@ -1,0 +1,72 @@
+//! Rows with long texts, which are written part by part.
+
+ghost use Rattle.std.specs.Prelude.{IfOk};
+ghost use Rattle.mysql_wire_dump_fields.specs.ValueFields.{WritesText, WritesTexts};
+
+use mysql_wire_queries::text_row::TextValue;
+use mysql_wire_session_phases::refusal::{Refusal, SessionError};
+use std::alloc::{Allocator, Global};
+use std::io::Write;
+use wire_buf::io::ParseBuf;
+use wire_text::fields::{FieldValue, Fields};
+use wire_text::stop::Stop;
+
+// How many bytes a text has at least of which a part is written before the rest is shown.
+const LONG: usize = 4096;
+
+// Why a dump gives up, as its session says it.
+fn error_of(stop: Stop) -> SessionError {
+    match stop {
+        Stop::Io => SessionError::Io,
+        Stop::Memory => SessionError::OutOfMemory,
+    }
+}
+
+// Reads the text of a column, and puts it; all but the end of a long one is written. The answer is
+// why it is none.
+fn write_text<A: Allocator + Copy, W: Write>(
+    global: Global,
+    fields: &mut Fields<A>,
+    place: u64,
+    rest: &mut ParseBuf<'_>,
+    output: &mut W,
+) -> Result<Option<Refusal>, SessionError>
+    ensures { IfOk result (λ refusal. WritesText place rest.old.0.now rest.new.0.now refusal
+        fields.old fields.new (W.contents output.old) (W.contents output.new)) }
+{
+    match rest.parse::<TextValue<'_>>(global, ()) {
+        Ok(TextValue::Null) => fields.put_at(place, FieldValue::Null)?,
+        Ok(TextValue::Text(text)) if text.len() < LONG => {
+            fields.put_at(place, FieldValue::Text(text))?
+        }
+        Ok(TextValue::Text(text)) => fields.write_text_at(place, text, output).map_err(error_of)?,
+        Err(error) => return Ok(Some(Refusal::of_wire(error)?)),
+    }
+    Ok(None)
+}
+
+/// Reads a row of this many columns, value by value, and puts each: all but an end of what was put may
+/// be written. The answer is why it is none.
+pub fn write_text_row<A: Allocator + Copy, W: Write>(
+    global: Global,
+    fields: &mut Fields<A>,
+    columns: u64,
+    payload: &[u8],
+    output: &mut W,
+) -> Result<Option<Refusal>, SessionError>
+    ensures { IfOk result (λ refusal. WritesTexts columns payload.now refusal
+        fields.old fields.new (W.contents output.old) (W.contents output.new)) }
+{
+    let mut rest = ParseBuf(payload);
+    'values: for place in 0..columns {
+        match write_text(global, fields, place, &mut rest, output)? {
+            None => {}
+            Some(refusal) => return Ok(Some(refusal)),
+        }
+    }
+    Ok(if rest.0.is_empty() {
+        None
+    } else {
+        Some(Refusal::TrailingBytes)
+    })
+}
