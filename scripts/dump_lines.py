@@ -117,19 +117,20 @@ def row_session(name, values, has_json, tail=b"", refusal=""):
 def value_of(text):
     """A text as a value of a row, and how it is shown: bytes that are none in hex digits."""
     data = text if isinstance(text, bytes) else text.encode()
-    is_short = len(data) < 251
-    length = bytes([len(data)]) if is_short else b"\xfc" + len(data).to_bytes(2, "little")
+    width, mark = next((width, mark) for width, mark, least in
+                       ((3, b"\xfd", 65536), (2, b"\xfc", 251), (1, b"", 0)) if len(data) >= least)
+    length = mark + len(data).to_bytes(width, "little")
     if isinstance(text, bytes):
         return length + data, "x'%s'" % data.hex(), '{"hex":"%s"}' % data.hex()
     return length + data, *[json.dumps(text, ensure_ascii=False)] * 2
 
 
 NULL = (b"\xfb", "null", "null")
-# The values of a long row. Those of 4 KiB and more are written by parts of 16 KiB: one that fills two,
-# one with a letter of two bytes between two, with escapes, and one that is no text.
-LONG_VALUES = [NULL, value_of("a"), value_of("x" * 4095), NULL, value_of("y" * 32768),
-               value_of("z" * 16383 + "\u00e9\t"), value_of("\u6f22 \"\\\U0001f600\n" * 1500),
-               value_of(b"\xfe" * 5000), value_of("")]
+# The values of a long row. Those of 64 KiB and more are written by parts of as much: one that fills
+# two, one with a letter of two bytes between two, with escapes, and one that is no text.
+LONG_VALUES = [NULL, value_of("a"), value_of("x" * 65535), NULL, value_of("y" * 131072),
+               value_of("z" * 65535 + "\u00e9\t"), value_of("\u6f22 \"\\\U0001f600\n" * 12000),
+               value_of(b"\xfe" * 70000), value_of("")]
 
 
 # Columns' types by number, a value of each in its binary form, and how it is shown: the examples of

@@ -14,7 +14,7 @@ use std::alloc::{AllocError, Allocator};
 use std::io::Write;
 
 // How many bytes of a text are shown at a time.
-const PART: usize = 16384;
+const PART: usize = 65536;
 
 // How the bytes of a text are shown.
 #[derive(Clone, Copy)]
@@ -32,7 +32,10 @@ fn push_part<A: Allocator>(
     ensures { OnOk result (text.new.items ≡ text.old.items ++ part_text form part.now) }
 {
     match form {
-        PartForm::Escaped => push_escaped(text, part),
+        PartForm::Escaped => {
+            text.reserve(part.len())?;
+            push_escaped(text, part)
+        }
         PartForm::Digits => push_digits(text, part),
     }
 }

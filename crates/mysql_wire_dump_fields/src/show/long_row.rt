@@ -12,7 +12,7 @@ use wire_text::fields::{FieldValue, Fields};
 use wire_text::stop::Stop;
 
 // How many bytes a text has at least of which a part is written before the rest is shown.
-const LONG: usize = 4096;
+const LONG: usize = 65536;
 
 // Why a dump gives up, as its session says it.
 fn error_of(stop: Stop) -> SessionError {
