@@ -184,7 +184,7 @@ pub row_part : {side : Side} {id : â„•} {called : PacketKind} {payload : List â„
 row_part read reads writes goes_on = record {
   whole = writes.whole;
   written = writes.written;
-  tells = record { row = read; reads = reads; puts = writes.puts; goes_on = goes_on; };
+  tells = record { row = read; reads = reads; puts = writes.puts; goes_on = goes_on };
   appended = writes.appended;
   ends = writes.ends;
 }
