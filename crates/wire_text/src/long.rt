@@ -108,7 +108,7 @@ fn write_words<A: Allocator + Copy, W: Write>(
     ensures { OnOk result (WritesSome (words_text form bytes.now) (string_bytes text.old)
         (string_bytes text.new) (W.contents output.old) (W.contents output.new)) }
 {
-    match std::str::from_utf8(bytes) {
+    match simdutf8::basic::from_utf8(bytes) {
         Ok(words) => {
             let words = words.as_bytes();
             write_between(text, "\"", PartForm::Escaped, words, "\"", output)
