@@ -23,6 +23,16 @@ fn made_up_texts(len: usize) -> Vec<Vec<u8>> {
     (0..TEXTS).map(|_| numbers.bytes(len)).collect()
 }
 
+// Texts below 16 bytes, whose lengths no branch foretells.
+fn mixed_texts() -> Vec<Vec<u8>> {
+    let mut numbers = Numbers::new(16);
+    let one = || {
+        let len = (numbers.next() % 16) as usize;
+        numbers.bytes(len)
+    };
+    repeat_with(one).take(TEXTS).collect()
+}
+
 /// The length-encoded spelling of a number, written plainly.
 pub fn lenenc(n: u64) -> Vec<u8> {
     let bytes = n.to_le_bytes();
@@ -101,9 +111,8 @@ fn lenenc_rows(rows: &mut Vec<Row>, len: usize) {
     }
 }
 
-// Texts of a length, each before a zero, and with none in it.
-fn null_rows(rows: &mut Vec<Row>, len: usize) {
-    let mut texts = made_up_texts(len);
+// Texts, each before a zero, and with none in it.
+fn null_rows(rows: &mut Vec<Row>, mut texts: Vec<Vec<u8>>, size: &str) {
     texts.iter_mut().flatten().for_each(|byte| *byte |= 1);
     let mut spelled = Vec::new();
     for text in &texts {
@@ -111,7 +120,6 @@ fn null_rows(rows: &mut Vec<Row>, len: usize) {
         spelled.push(0);
     }
     let want = total(&texts);
-    let size = size_name(len);
     for (form, reader) in NULL_READERS.iter().enumerate() {
         let name = format!("{reader} {size}");
         let call = move |bytes: &[u8], reps| library::null(bytes, form as u64, reps);
@@ -153,7 +161,8 @@ fn number_rows(rows: &mut Vec<Row>) {
 pub fn rows(rows: &mut Vec<Row>) {
     for len in [1, 4, 8, 100, 2000] {
         lenenc_rows(rows, len);
-        null_rows(rows, len);
+        null_rows(rows, made_up_texts(len), &size_name(len));
     }
+    null_rows(rows, mixed_texts(), "of 0 to 15 B");
     number_rows(rows);
 }

@@ -34,6 +34,7 @@ unsafe extern "C" {
     fn mw_coldef(ptr: *const u8, len: usize, reps: u64) -> u64;
     fn mw_coldef_by_hand(ptr: *const u8, len: usize, reps: u64) -> u64;
     fn mw_coldef_copy(ptr: *const u8, len: usize, form: u64, reps: u64) -> u64;
+    fn mw_elsewhere(ptr: *const u8, len: usize, form: u64) -> u64;
 }
 
 /// A payload framed `count` times a repetition: form 0 by `packet_to_chunks`, form 1 by
@@ -166,4 +167,9 @@ pub fn text_rows(bytes: &[u8], row: u64, columns: u64, form: u64, reps: u64) -> 
 /// form 1 by `BinaryRow::value`, form 2 by hand.
 pub fn binary_rows(bytes: &[u8], row: u64, form: u64, reps: u64) -> u64 {
     unsafe { mw_binary_rows(bytes.as_ptr(), bytes.len(), row, form, reps) }
+}
+
+/// The calls of a form, each once, from a second place.
+pub fn elsewhere(bytes: &[u8], form: u64) -> u64 {
+    unsafe { mw_elsewhere(bytes.as_ptr(), bytes.len(), form) }
 }

@@ -122,6 +122,21 @@ fn measure_rows(word: &str, run: &mut Run) -> bool {
     passed
 }
 
+// What the calls of each form give of some bytes, when they are made from a second place.
+const ELSEWHERE: [(&[u8], u64); 7] = [
+    (b"abc", 21),
+    (b"\x03\0\0\0abc\x02\0\0\x01de", 5),
+    (b"\x03\0\0\0abc", 7),
+    (b"\x03ab\0", 12),
+    (b"\x03abc", 10),
+    (b"\x03abc", 7),
+    (b"\0\0\0\0\0\0\x0c\0\0\0\0\0\0\xfd\0\0\0\0\0", 253),
+];
+
+fn are_answered_elsewhere() -> bool {
+    (0..).zip(ELSEWHERE).all(|(form, (bytes, want))| library::elsewhere(bytes, form) == want)
+}
+
 // All rows, or those that hold a word, with what is to be done with their ratios.
 fn rows(words: &[&str]) -> Result<bool, Box<dyn Error>> {
     let (mut word, mut ratios, mut against) = (None, None, None);
@@ -135,6 +150,9 @@ fn rows(words: &[&str]) -> Result<bool, Box<dyn Error>> {
         }
     }
     println!("{}\n", machine()?);
+    if !are_answered_elsewhere() {
+        return Err("MISMATCH: a call from a second place".into());
+    }
     let mut run = Run::default();
     let mut passed = measure_rows(word.unwrap_or(""), &mut run);
     run.print();

@@ -64,7 +64,7 @@ fn of_numbers(numbers: &Numbers) -> u64 {
 
 // Reads a definition, and tells it.
 #[inline(always)]
-fn next_definition(alloc: Global, buf: &mut ParseBuf<'_>) -> Option<u64> {
+pub(crate) fn next_definition(alloc: Global, buf: &mut ParseBuf<'_>) -> Option<u64> {
     match read(alloc, buf) {
         Ok(Both(names, numbers)) => Some(of_names(&names).wrapping_add(of_numbers(&numbers))),
         Err(_) => None,

@@ -5,6 +5,7 @@
 
 mod check;
 mod columns;
+mod elsewhere;
 mod fields;
 mod in_place;
 mod packets;

@@ -9,9 +9,15 @@ use std::io::{ErrorKind, Read, Write};
 
 // The same bytes again and again, with an end of input after them each time.
 #[derive(Drop)]
-struct Again<'a> {
+pub(crate) struct Again<'a> {
     bytes: &'a [u8],
     left: &'a [u8],
+}
+
+impl<'a> Again<'a> {
+    pub(crate) fn new(bytes: &'a [u8]) -> Self {
+        Again { bytes, left: bytes }
+    }
 }
 
 impl Read for Again<'_> {
@@ -66,8 +72,7 @@ fn read_lent(
 /// form 1 by `fill_packet`, `packet` and `take_packet`.
 #[unsafe(no_mangle)]
 pub extern "C" fn mw_read(alloc: Global, bytes: &[u8], limit: u64, form: u64, reps: u64) -> u64 {
-    let input = Again { bytes, left: bytes };
-    let Ok(mut reader) = PacketReader::new(alloc, input) else {
+    let Ok(mut reader) = PacketReader::new(alloc, Again::new(bytes)) else {
         return REFUSED;
     };
     let mut codec = PacketCodec::default();
@@ -89,9 +94,18 @@ pub extern "C" fn mw_read(alloc: Global, bytes: &[u8], limit: u64, form: u64, re
 
 // Keeps the bytes of the last write.
 #[derive(Drop)]
-struct Last {
+pub(crate) struct Last {
     bytes: Vec<u8>,
     sum: u64,
+}
+
+impl Last {
+    pub(crate) fn new(alloc: Global) -> Self {
+        Last {
+            bytes: Vec::new(alloc),
+            sum: 0,
+        }
+    }
 }
 
 impl Write for Last {
@@ -127,11 +141,7 @@ fn write(
 /// `bytes` queued `count` times a repetition, and written at once into a vector.
 #[unsafe(no_mangle)]
 pub extern "C" fn mw_write(alloc: Global, bytes: &[u8], count: u64, reps: u64) -> u64 {
-    let output = Last {
-        bytes: Vec::new(alloc),
-        sum: 0,
-    };
-    let Ok(mut writer) = PacketWriter::new(alloc, output) else {
+    let Ok(mut writer) = PacketWriter::new(alloc, Last::new(alloc)) else {
         return REFUSED;
     };
     let mut codec = PacketCodec::default();
@@ -147,7 +157,7 @@ pub extern "C" fn mw_write(alloc: Global, bytes: &[u8], count: u64, reps: u64) -
 // Keeps the bytes of the last write, and counts those of all: a packet that a read cuts is written in
 // two parts.
 #[derive(Drop)]
-struct Counted {
+pub(crate) struct Counted {
     bytes: Vec<u8>,
     count: u64,
 }
@@ -169,11 +179,11 @@ impl Write for Counted {
 
 // The two sides of a connection that is passed on.
 #[derive(Drop)]
-struct Passed<'a> {
-    reader: PacketReader<Again<'a>>,
-    codec: PacketCodec,
-    writer: PacketWriter<Counted>,
-    writer_codec: PacketCodec,
+pub(crate) struct Passed<'a> {
+    pub(crate) reader: PacketReader<Again<'a>>,
+    pub(crate) codec: PacketCodec,
+    pub(crate) writer: PacketWriter<Counted>,
+    pub(crate) writer_codec: PacketCodec,
 }
 
 impl Passed<'_> {
@@ -213,8 +223,11 @@ impl Passed<'_> {
 }
 
 // Both sides, in front of the stream.
-fn both_sides(alloc: Global, bytes: &[u8], limit: u64) -> Result<Passed<'_>, PacketIoError> {
-    let input = Again { bytes, left: bytes };
+pub(crate) fn both_sides(
+    alloc: Global,
+    bytes: &[u8],
+    limit: u64,
+) -> Result<Passed<'_>, PacketIoError> {
     let output = Counted {
         bytes: Vec::new(alloc),
         count: 0,
@@ -224,7 +237,7 @@ fn both_sides(alloc: Global, bytes: &[u8], limit: u64) -> Result<Passed<'_>, Pac
     let mut writer_codec = PacketCodec::default();
     writer_codec.max_allowed_packet = limit as usize;
     Ok(Passed {
-        reader: PacketReader::new(alloc, input)?,
+        reader: PacketReader::new(alloc, Again::new(bytes))?,
         codec,
         writer: PacketWriter::new(alloc, output)?,
         writer_codec,
