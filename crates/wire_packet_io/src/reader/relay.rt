@@ -31,7 +31,47 @@ impl<R: Read, A: Allocator + Copy> PacketReader<R, A> {
     /// with `copy_packet`.
     ///
     /// <https://dev.mysql.com/doc/dev/mysql-server/latest/page_protocol_basic_packets.html>
+    #[inline(always)]
     pub fn relay_packet<W: Write, B: Allocator + Copy>(
+        &mut self,
+        codec: &mut PacketCodec,
+        writer: &mut PacketWriter<W, B>,
+        writer_codec: &mut PacketCodec,
+    ) -> Result<bool, PacketIoError>
+        requires { CanCopy codec.old self.old }
+        ensures lost { IsNone self.old.copied → IsTrue self.old.is_lost
+            → (result ≡ Err PacketIoError.PacketsOutOfSync) × (self.new ≡ self.old)
+            × (codec.new ≡ codec.old) × (writer.new ≡ writer.old) }
+        ensures lost_other { IsNone self.old.copied → IsTrue self.old.is_lost
+            → writer_codec.new ≡ writer_codec.old }
+        ensures relays { HasPlace self.old → RelaysPacket R.remaining W.contents
+            codec.old self.old writer_codec.old writer.old result
+            codec.new self.new writer_codec.new writer.new }
+        ensures stops { HasPlace self.old
+            → RelayStops result (copied_to self.new.copied codec.new) self.new.unread
+            (R.remaining self.new.reader) writer.new.pending }
+        ensures ended { IfOk result (λ _. IsNone self.new.copied × IsFalse self.new.is_lost) }
+        ensures header { HasPlace self.old → IsNone self.new.copied → header_of codec.new ≡ None }
+        ensures under_way { IsSome self.new.copied → codec.new ≡ codec.old }
+        ensures loses { IsTrue self.new.is_lost
+            ↔ (IsSome self.new.copied ⊎ (result ≡ Err PacketIoError.PacketsOutOfSync)) }
+        ensures rest { (self.new.held ≡ self.old.held) × (self.new.lent ≡ self.old.lent)
+            × (self.new.skipped ≡ self.old.skipped)
+            × (codec.new.max_allowed_packet ≡ codec.old.max_allowed_packet) }
+        ensures can { CanCopy codec.new self.new }
+        ensures other { (header_of writer_codec.new ≡ header_of writer_codec.old)
+            × (writer_codec.new.max_allowed_packet ≡ writer_codec.old.max_allowed_packet) }
+    {
+        if !self.input.lost && self.copied.is_none() && self.relay_whole(codec, writer, writer_codec)
+        {
+            return Ok(true);
+        }
+        self.relay_by_steps(codec, writer, writer_codec)
+    }
+
+    // The same of any packet, step by step. It is a call, so that the one above is small.
+    #[inline(never)]
+    fn relay_by_steps<W: Write, B: Allocator + Copy>(
         &mut self,
         codec: &mut PacketCodec,
         writer: &mut PacketWriter<W, B>,
@@ -63,9 +103,6 @@ impl<R: Read, A: Allocator + Copy> PacketReader<R, A> {
     {
         if self.input.lost && self.copied.is_none() {
             return Err(PacketIoError::PacketsOutOfSync);
-        }
-        if self.copied.is_none() && self.relay_whole(codec, writer, writer_codec) {
-            return Ok(true);
         }
         let mut decoder = self.copied_so_far(codec);
         let mut next_id = writer_codec.sequence_id();

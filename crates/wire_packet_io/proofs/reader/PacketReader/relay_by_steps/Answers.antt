@@ -8,9 +8,9 @@ use Rattle.wire_packet_io.specs.Copying.{copied_to, HasPlace}
 use Rattle.wire_packet_io.proofs.CopyLemmas.{can_after}
 use Rattle.wire_packet_io.proofs.WholeLemmas.{limit_is}
 use Rattle.wire_packet_io.proofs.PlaceLemmas.{loses_by, ended_by, relay_between, has_no_place, nothing_held, none_same, relays_as}
-use Rattle.wire_packet_io.proofs.reader.PacketReader.relay_packet.Given as given
-use Rattle.wire_packet_io.proofs.reader.PacketReader.relay_packet.Goals as goal
-use Rattle.wire_packet_io.proofs.reader.PacketReader.relay_packet.Goals.{Then-is_none, After-copied_so_far-decoder, Joined-matches, in-Err-PacketsOutOfSync, in_default, in_default-2, else-self-via-then-self+else-is_none, else-self-via-else-self, else-is_none-2-via-then-is_none-2+else-relay_whole, else-is_none-2-via-else-is_none-2}
+use Rattle.wire_packet_io.proofs.reader.PacketReader.relay_by_steps.Given as given
+use Rattle.wire_packet_io.proofs.reader.PacketReader.relay_by_steps.Goals as goal
+use Rattle.wire_packet_io.proofs.reader.PacketReader.relay_by_steps.Goals.{Then-is_none, After-copied_so_far-decoder, Joined-matches, in-Err-PacketsOutOfSync, in_default, in_default-2, else-self-via-then-self+else-is_none, else-self-via-else-self}
 
 -- a lost reader has no place
 unplaced : (g : given.Over) (c : Then-is_none g) → HasPlace c.args.self.now → ⊥
@@ -33,27 +33,18 @@ placed g c = rw (← c.self.view_is) (elim c.else-self.branch [
   | else-self-via-else-self w ↦ inr w.if-self.false
 ])
 
--- and nothing has changed
-same : (g : given.Over) (c : After-copied_so_far-decoder g) → (c.else-is_none-2.self ≡ c.args.self.now) × (c.else-is_none-2.codec ≡ c.args.codec.now)
-    × (c.else-is_none-2.writer ≡ c.args.writer.now) × (c.else-is_none-2.writer_codec ≡ c.args.writer_codec.now)
-same g c = elim c.else-is_none-2.branch [
-  | else-is_none-2-via-then-is_none-2+else-relay_whole w ↦ (let n = w.relay_whole.ensures.not w.if-relay_whole.false in (cc, cc, cc, cc))
-  | else-is_none-2-via-else-is_none-2 w ↦ (cc, cc, cc, cc)
-]
-
 pub keep_place-requires : goal.keep_place-requires
 keep_place-requires g c = record {
-  limit = c.go_on_relaying-result.ensures.limit ∙ ap (λ s. s.limit) c.copied_so_far-decoder.ensures ∙ limit_is c.else-is_none-2.self.copied c.else-is_none-2.codec;
+  limit = c.go_on_relaying-result.ensures.limit ∙ ap (λ s. s.limit) c.copied_so_far-decoder.ensures ∙ limit_is c.args.self.now.copied c.args.codec.now;
 }
 
 pub returns-clause-relays : goal.returns-clause-relays
 returns-clause-relays g c place =
-    let s = same g (goal.at.returns-clause-relays g c).After-copied_so_far-decoder in
     let went = c.go_on_relaying-result in
     let kept = c.keep_place.ensures in
     relays_as g.R.Read.remaining g.W.Write.contents (copied_to c.args.self.now.copied c.args.codec.now) (span_state c.copied_so_far-decoder.result) (span_state went.new.decoder) _
-    c.args.self.now c.else-is_none-2.self went.new.self c.keep_place.new.self _ c.sequence_id-next_id.result went.new.next_id _ c.args.writer.now c.else-is_none-2.writer went.new.writer went.result
-    (c.copied_so_far-decoder.ensures ∙ ap₂ (λ r k. copied_to r.copied k) s.0 s.1) s.0 (c.sequence_id-next_id.ensures ∙ cc) s.2 kept.place kept.rest c.set_sequence_id.ensures.id went.ensures.relays
+    c.args.self.now c.args.self.now went.new.self c.keep_place.new.self _ c.sequence_id-next_id.result went.new.next_id _ c.args.writer.now c.args.writer.now went.new.writer went.result
+    c.copied_so_far-decoder.ensures refl (c.sequence_id-next_id.ensures ∙ cc) refl kept.place kept.rest c.set_sequence_id.ensures.id went.ensures.relays
 
 -- the reader holds and lends nothing
 empty : (g : given.Over) (c : After-copied_so_far-decoder g) → (c.args.self.now.held ≡ []) × IsNone c.args.self.now.lent
@@ -63,13 +54,11 @@ empty g c =
 
 pub go_on_relaying-result-requires-clause-none : goal.go_on_relaying-result-requires-clause-none
 go_on_relaying-result-requires-clause-none g c =
-    let at = (goal.at.go_on_relaying-result-requires-clause-none g c).After-copied_so_far-decoder in
-    subst (λ z. IsNone z.lent) (sym (same g at).0) (empty g at).1
+    (empty g (goal.at.go_on_relaying-result-requires-clause-none g c).After-copied_so_far-decoder).1
 
 pub go_on_relaying-result-requires-clause-held : goal.go_on_relaying-result-requires-clause-held
 go_on_relaying-result-requires-clause-held g c =
-    let at = (goal.at.go_on_relaying-result-requires-clause-held g c).After-copied_so_far-decoder in
-    ap (λ z. z.held) (same g at).0 ∙ (empty g at).0
+    (empty g (goal.at.go_on_relaying-result-requires-clause-held g c).After-copied_so_far-decoder).0
 
 pub returns-clause-lost : goal.returns-clause-lost
 returns-clause-lost g c none lost =
@@ -78,13 +67,12 @@ returns-clause-lost g c none lost =
 pub returns-clause-rest : goal.returns-clause-rest
 returns-clause-rest g c =
     let at = (goal.at.returns-clause-rest g c).After-copied_so_far-decoder in
-    let s = same g at in
     let went = c.go_on_relaying-result in
     let kept = c.keep_place.ensures in (
-      ap (λ z. z.held) kept.rest ∙ went.ensures.rest.0 ∙ ap (λ z. z.held) s.0,
+      ap (λ z. z.held) kept.rest ∙ went.ensures.rest.0,
       ap (λ z. z.lent) kept.rest ∙ none_same went.new.self.lent c.args.self.now.lent went.ensures.none (empty g at).1,
-      ap (λ z. z.skipped) kept.rest ∙ went.ensures.rest.1 ∙ ap (λ z. z.skipped) s.0,
-      kept.limit ∙ ap (λ z. z.max_allowed_packet) s.1,
+      ap (λ z. z.skipped) kept.rest ∙ went.ensures.rest.1,
+      kept.limit,
     )
 
 pub returns-clause-can : goal.returns-clause-can
