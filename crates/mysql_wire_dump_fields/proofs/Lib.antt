@@ -1,3 +1,4 @@
 pub mod ValueLemmas
 pub mod PacketLemmas
+pub mod ShortLemmas
 pub mod TemporalLemmas

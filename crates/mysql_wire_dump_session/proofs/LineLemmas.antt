@@ -129,12 +129,6 @@ pub shorter_part : (begun head : ℕ) (all : List ℕ) → begun ≤ head → he
 shorter_part begun head all order within =
     sym (take-append-le begun (take head all) (drop head all) (omega (arith, order, within, length-take head all))) ∙ ap (take begun) (take-append-drop head all)
 
--- a text may be cut where both of its parts are texts
-pub cut_place : (all : List ℕ) (n : ℕ) → IsUtf8 all → n ≤ length all → IsUtf8 (take n all) → IsSplitPoint all n
-cut_place all n utf8 within front =
-    let place = IsCharBoundary-from_take all n utf8 within front in
-    (place.0, λ _ below. place.1 below)
-
 -- ---- its line
 
 -- as far as its fields, they and the end

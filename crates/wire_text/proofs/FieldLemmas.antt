@@ -1,5 +1,5 @@
 -- The text of fields.
-use Rattle.std.proofs.Common.{◌≡◌, ℕ, zero, suc, ap₂, drop, take-append-drop, List, [], ◌∷◌, ◌++◌, Bool, true, false, refl, ap, subst, sym, ◌∙◌, append_assoc, arith, Option, Some, None, Result, Ok, Err, OnOk, ◌+◌, ◌<◌, length, take, get_or}
+use Rattle.std.proofs.Common.{◌≡◌, ℕ, zero, suc, ap₂, drop, take-append-drop, List, [], ◌∷◌, ◌++◌, Bool, true, false, refl, ap, subst, sym, ◌∙◌, append_assoc, arith, Option, Some, None, Result, Ok, Err, OnOk, ◌+◌, ◌/◌, ◌%◌, ◌<◌, length, take, get_or}
 use Rattle.std.proofs.lemmas.Grind.{common_steps}
 use Rattle.std.specs.Prelude.{◌==◌, ◌&&◌, codes, nat_lt, not, slice_index_or, ◌≤◌}
 use Rattle.std.proofs.lemmas.Bool.{and_from, and_left, and_parts, eq-eqb, eqb-false, eqb-true, leb-true, ltb-true, not-true}
@@ -9,7 +9,10 @@ use Rattle.std.proofs.lemmas.List.{append-nil, drop-append-le, length-drop, take
 use Rattle.std.proofs.lemmas.List.Folds.{list_all-append}
 use Rattle.std.specs.List.{flat_map, list_all}
 use Rattle.std.specs.Str.{IsAscii, IsUtf8, is_utf8}
-use Rattle.std.proofs.lemmas.Str.{IsUtf8-append, IsUtf8-from_ascii, IsUtf8-from_is_utf8, is_utf8-from_IsUtf8}
+use Rattle.std.specs.Fmt.{decimal}
+use Rattle.std.proofs.lemmas.Fmt.{decimal_digit, decimal_step}
+use Rattle.std.specs.String.Boundary.{IsSplitPoint}
+use Rattle.std.proofs.lemmas.Str.{IsCharBoundary-from_take, IsUtf8-append, IsUtf8-from_ascii, IsUtf8-from_is_utf8, is_utf8-from_IsUtf8}
 use Rattle.wire_text.specs.declared.fields.FieldForm.{FieldForm}
 use Rattle.wire_text.specs.declared.fields.Field.{Field}
 use Rattle.wire_text.specs.declared.fields.FieldForm.TheVariants.{Hidden, Text, Json}
@@ -144,6 +147,12 @@ plain_ascii (byte ∷ words) is =
 pub plain_utf8 : (words : List ℕ) → all_plain words ≡ true → IsUtf8 words
 plain_utf8 words is = IsUtf8-from_ascii words (plain_ascii words is)
 
+-- a text may be cut where both of its parts are texts
+pub cut_place : (all : List ℕ) (n : ℕ) → IsUtf8 all → n ≤ length all → IsUtf8 (take n all) → IsSplitPoint all n
+cut_place all n utf8 within front =
+    let place = IsCharBoundary-from_take all n utf8 within front in
+    (place.0, λ _ below. place.1 below)
+
 -- letters of ASCII
 abbrev pub all_ascii : List ℕ → Bool
 all_ascii = list_all (λ byte. nat_lt byte 128)
@@ -154,8 +163,23 @@ ascii_if (byte ∷ words) is =
     let parts = and_parts (nat_lt byte 128) _ is in
     λ i. ascii_at byte words (ltb-true byte 128 parts.0) (ascii_if words parts.1) i
 
-utf8_if : (words : List ℕ) → all_ascii words ≡ true → IsUtf8 words
+pub utf8_if : (words : List ℕ) → all_ascii words ≡ true → IsUtf8 words
 utf8_if words is = IsUtf8-from_ascii words (ascii_if words is)
+
+-- numbers of two and of three digits
+pub two_digits : (n : ℕ) → 10 ≤ n → n < 100 → decimal n ≡ (48 + n / 10) ∷ (48 + n % 10) ∷ []
+two_digits n more less = decimal_step n more (omega (arith, less)) ∙ ap (λ (z : List ℕ). z ++ (48 + n % 10) ∷ []) (decimal_digit (n / 10) (omega (arith, less)))
+
+pub three_digits : (n : ℕ) → 100 ≤ n → n < 1000 → decimal n ≡ (48 + n / 100) ∷ (48 + n / 10 % 10) ∷ (48 + n % 10) ∷ []
+three_digits n more less =
+    let high : n / 10 / 10 ≡ n / 100 = omega arith in
+    decimal_step n (omega (arith, more)) (omega (arith, less))
+    ∙ ap (λ (z : List ℕ). z ++ (48 + n % 10) ∷ []) (two_digits (n / 10) (omega (arith, more)) (omega (arith, less)))
+    ∙ ap (λ (d : ℕ). (48 + d) ∷ (48 + n / 10 % 10) ∷ (48 + n % 10) ∷ []) high
+
+-- a decimal digit
+pub digit_utf8 : (n : ℕ) → n < 10 → IsUtf8 ((48 + n) ∷ [])
+digit_utf8 n below = IsUtf8-from_ascii ((48 + n) ∷ []) (ascii_at (48 + n) [] (omega (arith, below)) (λ i. omega arith))
 
 utf8_between : (front back name : List ℕ) → all_ascii front ≡ true → all_ascii back ≡ true → IsUtf8 name → IsUtf8 (front ++ (name ++ back))
 utf8_between front back name front_is back_is name_is =

@@ -1,18 +1,19 @@
 -- Plain letters: of ASCII, and none that JSON escapes.
-use Rattle.std.proofs.Common.{◌≡◌, ℕ, zero, suc, ◌+◌, ◌-◌, ◌*◌, ◌<◌, ◌≤◌, ◌%◌, ◌^◌, ◌⊎◌, inl, inr, leb, ltb, eqb, bit_or, replicate, drop, take, take-append-drop, List, [], ◌∷◌, ◌++◌, Bool, true, false, refl, ap, ap₂, sym, ◌∙◌, append_assoc, arith, length, nat_eq, map, cond}
-use Rattle.std.proofs.lemmas.Bool.{and_from, and_parts}
+use Rattle.std.proofs.Common.{◌≡◌, ℕ, zero, suc, subst, ◌+◌, ◌-◌, ◌*◌, ◌<◌, ◌≤◌, ◌%◌, ◌^◌, ◌⊎◌, inl, inr, leb, ltb, eqb, bit_and, bit_or, replicate, drop, take, take-append-drop, List, [], ◌∷◌, ◌++◌, Bool, true, false, refl, ap, ap₂, sym, ◌∙◌, append_assoc, arith, length, nat_eq, map, cond}
+use Rattle.std.proofs.lemmas.Bool.{and_from, and_parts, lt-ltb, ltb-true}
 use Rattle.std.proofs.lemmas.List.Folds.{list_all-append}
-use Rattle.std.proofs.lemmas.List.{length-append, length-drop, length-map, length-take, take_all}
+use Rattle.std.proofs.lemmas.List.{length-append, length-drop, length-map, length-take, take_all, take-take}
 use Rattle.std.specs.Prelude.{◌&&◌, not}
 use lib.Lanes.{mask_l, top, zip2}
 use Rattle.std.proofs.lemmas.Bool.Decides.{leb_tells}
-use Rattle.std.proofs.lemmas.Simd.{mask_l-mod, zip2_of_maps, zip2_splat, zip2_splat_left}
-use Rattle.wire_text.specs.Fields.{all_plain, plain}
-use Rattle.wire_text.proofs.FieldLemmas.{zero-false}
-
--- a byte that is none
-abbrev is_other : ℕ → Bool
-is_other byte = not (plain byte)
+use Rattle.std.proofs.lemmas.Simd.{mask_l-mod, trailing_mask_l, zip2_of_maps, zip2_splat, zip2_splat_left}
+use lib.Count.{count_trailing_zeros}
+use Rattle.std.specs.List.{prefix_len}
+use Rattle.std.proofs.lemmas.List.Sums.{prefix_len-le-length}
+use Rattle.wire_text.specs.Fields.{all_plain, needs_no_escape, plain}
+use Rattle.wire_text.specs.Plain.{is_other, others_mask}
+use Rattle.std.proofs.lemmas.Nat.{and_mask}
+use Rattle.wire_text.proofs.FieldLemmas.{all_ascii, zero-false}
 
 none_double : (n : ℕ) → nat_eq (2 * n) 0 ≡ nat_eq n 0
 none_double zero = refl
@@ -23,7 +24,7 @@ one_more true mask rest is = ap (λ (n : ℕ). nat_eq n 0) (omega arith) ∙ non
 one_more false mask rest is = zero-false (1 + 2 * mask) (λ is. omega (arith, is))
 
 -- no lane's bit is set just where all are plain
-none_other : (bytes : List ℕ) → nat_eq (mask_l (map is_other bytes)) 0 ≡ all_plain bytes
+pub none_other : (bytes : List ℕ) → nat_eq (mask_l (map is_other bytes)) 0 ≡ all_plain bytes
 none_other [] = refl
 none_other (byte ∷ bytes) = one_more (plain byte) (mask_l (map is_other bytes)) (all_plain bytes) (none_other bytes)
 
@@ -89,17 +90,17 @@ at_most a b = cond (leb a b) 255 0
 
 -- the four comparisons of sixteen bytes
 pub compared : (v : List ℕ) → length v ≡ 16
-    → nat_eq (mask_l (map (top 7) (zip2 bit_or (zip2 bit_or (zip2 bit_or (zip2 below v (replicate 16 32)) (zip2 at_most (replicate 16 128) v))
-    (zip2 hit v (replicate 16 34))) (zip2 hit v (replicate 16 92)))) % 2 ^ 64) 0 ≡ all_plain v
+    → mask_l (map (top 7) (zip2 bit_or (zip2 bit_or (zip2 bit_or (zip2 below v (replicate 16 32)) (zip2 at_most (replicate 16 128) v))
+    (zip2 hit v (replicate 16 34))) (zip2 hit v (replicate 16 92)))) % 2 ^ 64 ≡ others_mask v
 compared v long =
     let low = zip2_splat below v 16 32 long in
     let high = zip2_splat_left at_most 128 16 v long in
     let quote = zip2_splat hit v 16 34 long in
     let backslash = zip2_splat hit v 16 92 long in
     let all = zip2_of_maps bit_or _ _ v (zip2_of_maps bit_or _ _ v (zip2_of_maps bit_or _ _ v low high) quote) backslash in
-    ap (λ (z : List ℕ). nat_eq (mask_l (map (top 7) z) % 2 ^ 64) 0) all
-    ∙ ap (λ (z : List Bool). nat_eq (mask_l z % 2 ^ 64) 0) (lanes_other v)
-    ∙ ap (λ (n : ℕ). nat_eq n 0) (mask_l-mod (map is_other v) 64 (omega (arith, length-map v is_other, long))) ∙ none_other v
+    ap (λ (z : List ℕ). mask_l (map (top 7) z) % 2 ^ 64) all
+    ∙ ap (λ (z : List Bool). mask_l z % 2 ^ 64) (lanes_other v)
+    ∙ mask_l-mod (map is_other v) 64 (omega (arith, length-map v is_other, long))
 
 -- of a list whose front is plain, what is after it tells, also with some of the front
 pub behind_plain : (k : ℕ) (done rest : List ℕ) → k ≤ length done → all_plain done ≡ true → all_plain (drop k (done ++ rest)) ≡ all_plain rest
@@ -164,3 +165,85 @@ last_plain k words rest so_far within =
     let long = ap length so_far.1 ∙ length-append so_far.0 rest in
     ap all_plain (to_end k words) ∙ ap (λ (z : List ℕ). all_plain (drop k z)) so_far.1
     ∙ behind_plain k so_far.0 rest (omega (arith, within, long)) so_far.2 ∙ sym (same_plain words rest so_far)
+
+suc_is : (n : ℕ) → suc n ≡ 1 + n
+suc_is n = omega arith
+
+-- before the first that is not plain all are
+front_plain : (byte : ℕ) (bytes : List ℕ) (is : Bool) → plain byte ≡ is
+    → all_plain (take (prefix_len (λ x. not (is_other x)) bytes) bytes) ≡ true
+    → all_plain (take (prefix_len (λ x. not (is_other x)) (byte ∷ bytes)) (byte ∷ bytes)) ≡ true
+front_plain byte bytes true is others =
+    let n = prefix_len (λ x. not (is_other x)) bytes in
+    rw (is) (subst (λ (m : ℕ). all_plain (take m (byte ∷ bytes)) ≡ true) (suc_is n) (and_from _ _ is others))
+front_plain byte bytes false is others = rw (is) refl
+
+before_plain : (bytes : List ℕ) → all_plain (take (prefix_len (λ x. not (is_other x)) bytes) bytes) ≡ true
+before_plain [] = refl
+before_plain (byte ∷ bytes) = front_plain byte bytes (plain byte) refl (before_plain bytes)
+
+-- the lowest bit tells the first that is not plain
+pub plain_to_bit : (block : List ℕ) → length block ≡ 16 → ¬ (others_mask block ≡ 0)
+    → all_plain (take (count_trailing_zeros 64 (others_mask block)) block) ≡ true
+plain_to_bit block long some =
+    ap (λ (n : ℕ). all_plain (take n block)) (trailing_mask_l is_other 64 block (omega (arith, long)) (omega (arith, some)))
+    ∙ before_plain block
+
+-- and it is one of theirs
+pub bit_within : (block : List ℕ) → length block ≡ 16 → ¬ (others_mask block ≡ 0)
+    → count_trailing_zeros 64 (others_mask block) ≤ 16
+bit_within block long some =
+    subst (λ (n : ℕ). n ≤ 16) (sym (trailing_mask_l is_other 64 block (omega (arith, long)) (omega (arith, some))))
+    (omega (arith, long, prefix_len-le-length (λ x. not (is_other x)) block))
+
+suc_sum : (n k : ℕ) → suc n + k ≡ suc (n + k)
+suc_sum n k = omega arith
+
+take_sum : (n k : ℕ) (bytes : List ℕ) → take (n + k) bytes ≡ take n bytes ++ take k (drop n bytes)
+take_sum zero k bytes = ap (λ (m : ℕ). take m bytes) (omega arith)
+take_sum (suc n) k [] = take_all (suc n + k) [] (omega arith) ∙ sym (take_all k [] (omega arith))
+take_sum (suc n) k (byte ∷ bytes) =
+    ap (λ (m : ℕ). take m (byte ∷ bytes)) (suc_sum n k) ∙ ap (λ (z : List ℕ). byte ∷ z) (take_sum n k bytes)
+
+-- the first of the first sixteen
+pub front_of_front : (k : ℕ) (block : List ℕ) → k ≤ 16 → all_plain (take k (take 16 block)) ≡ true → all_plain (take k block) ≡ true
+front_of_front k block within is = ap all_plain (sym (take-take k 16 block within)) ∙ is
+
+-- all of the first sixteen, and some after them
+pub both_plain : (k front left : ℕ) (block : List ℕ) → k ≤ left → 16 ≤ front → front ≤ 16 → all_plain (take front (take 16 block)) ≡ true
+    → all_plain (take k (take left (drop 16 block))) ≡ true → all_plain (take (16 + k) block) ≡ true
+both_plain k front left block less all within first after =
+    let whole : front ≡ 16 = omega (arith, all, within) in
+    ap all_plain (take_sum 16 k block) ∙ list_all-append plain (take 16 block) (take k (drop 16 block))
+    ∙ and_from _ _ (front_of_front 16 block (omega arith) (subst (λ (n : ℕ). all_plain (take n (take 16 block)) ≡ true) whole first))
+    (ap all_plain (sym (take-take k left (drop 16 block) less)) ∙ after)
+
+-- fewer of the same bytes
+pub plain_less : (n k : ℕ) (bytes : List ℕ) → n ≤ k → all_plain (take k bytes) ≡ true → all_plain (take n bytes) ≡ true
+plain_less n k bytes less is =
+    let parts = sym (list_all-append plain (take n (take k bytes)) (drop n (take k bytes))) ∙ ap all_plain (take-append-drop n (take k bytes)) ∙ is in
+    ap all_plain (sym (take-take n k bytes less)) ∙ (and_parts _ _ parts).0
+
+masked : (bytes : List ℕ) → map (λ x. bit_and x 127) bytes ≡ map (λ x. x % 128) bytes
+masked [] = refl
+masked (x ∷ xs) = ap₂ (λ (a : ℕ) (b : List ℕ). a ∷ b) (and_mask x 7) (masked xs)
+
+-- the low seven bits of 32 bytes
+pub low_seven : (v : List ℕ) → length v ≡ 32 → zip2 bit_and v (replicate 32 127) ≡ map (λ x. x % 128) v
+low_seven v long = zip2_splat bit_and v 32 127 long ∙ masked v
+
+-- they are of ASCII
+pub seven_ascii : (bytes : List ℕ) → all_ascii (map (λ x. x % 128) bytes) ≡ true
+seven_ascii [] = refl
+seven_ascii (x ∷ xs) = and_from _ _ (lt-ltb (x % 128) 128 (omega arith)) (seven_ascii xs)
+
+seven_same : (x : ℕ) → plain x ≡ true → x % 128 ≡ x
+seven_same x is = omega (arith, ltb-true x 128 (and_parts (needs_no_escape x) _ is).1)
+
+-- and letters of ASCII as they were
+pub seven_front : (len : ℕ) (bytes : List ℕ) → all_plain (take len bytes) ≡ true → take len (map (λ x. x % 128) bytes) ≡ take len bytes
+seven_front zero bytes is = refl
+seven_front (suc len) [] is = refl
+seven_front (suc len) (x ∷ xs) is =
+    let parts = and_parts (plain x) _ is in
+    ap₂ (λ (a : ℕ) (b : List ℕ). a ∷ b) (seven_same x parts.0) (seven_front len xs parts.1)

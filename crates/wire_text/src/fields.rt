@@ -1,6 +1,6 @@
 //! The fields of a packet, as text or as members of a JSON object.
 
-ghost use Rattle.std.specs.Prelude.{◌≡◌, ◌∷◌, ◌++◌, [], OnOk, string_bytes};
+ghost use Rattle.std.specs.Prelude.{◌≡◌, ◌≤◌, ◌∷◌, ◌++◌, [], length, take, false, true, Ok, OnOk, string_bytes};
 ghost use Rattle.std.specs.Fmt.{decimal};
 ghost use Rattle.wire_text.specs.FieldTables.{members_in, members_of};
 ghost use Rattle.wire_text.specs.Fields.{Puts, Words, ended, member_form, nothing, nothing_after, value_of};
@@ -8,7 +8,8 @@ ghost use Rattle.wire_text.specs.Parts.{WritesMember};
 
 use crate::long::write_text_at;
 pub use crate::members::FieldValue;
-use crate::members::{MemberForm, push_closing, push_member, push_text_at};
+use crate::members::{MemberForm, push_closing, push_member, push_short_at, push_text_at};
+use crate::plain::plain_in_front;
 use crate::stop::Stop;
 use std::alloc::{AllocError, Allocator, Global};
 use std::io::Write;
@@ -182,6 +183,40 @@ impl<A: Allocator + Copy> Fields<A> {
             self.begin = 0;
         }
         pushed
+    }
+
+    /// Puts the text that these bytes begin with, of this many bytes, which has no name but its place:
+    /// whether it has. That is where it is short, of plain letters, and 32 bytes are there; else
+    /// nothing changes.
+    #[inline(always)]
+    pub fn put_short_at(
+        &mut self,
+        place: u64,
+        bytes: &[u8],
+        len: usize,
+    ) -> Result<bool, AllocError>
+        ensures within { result ≡ Ok true → len ≤ length bytes.now }
+        ensures put { result ≡ Ok true
+            → Puts ((decimal place, Words (take len bytes.now)) ∷ []) self.old self.new }
+        ensures not { result ≡ Ok false → self.new ≡ self.old }
+    {
+        let Some((block, _)) = bytes.split_first_chunk::<32>() else {
+            return Ok(false);
+        };
+        if plain_in_front(block) < len {
+            return Ok(false);
+        }
+        let Some(form) = self.form.members() else {
+            return Ok(true);
+        };
+        let is_first = self.text.len() == self.begin;
+        match push_short_at(&mut self.text, form, is_first, place, block, len) {
+            Ok(()) => Ok(true),
+            Err(error) => {
+                self.begin = 0;
+                Err(error)
+            }
+        }
     }
 
     /// Puts a value that has no name but its place, counted from 0.

@@ -1,12 +1,12 @@
 //! Members: a name and a value, on a line of its own or in an object of JSON.
 
-ghost use Rattle.std.specs.Prelude.{◌≡◌, ◌≢◌, ◌++◌, ℕ, List, [], codes, OnOk, string_bytes};
+ghost use Rattle.std.specs.Prelude.{◌≡◌, ◌≢◌, ◌≤◌, ◌++◌, ℕ, List, [], codes, length, take, IsTrue, OnOk, string_bytes};
 ghost use Rattle.std.specs.Fmt.{decimal};
-ghost use Rattle.wire_text.specs.Fields.{digits_text, end_part, flags_text, member_part, name_part, octets_text, value_of, value_text, words_text, Word, Words};
+ghost use Rattle.wire_text.specs.Fields.{all_plain, digits_text, end_part, flags_text, member_part, name_part, octets_text, value_of, value_text, words_text, Word, Words};
 
 use crate::digits::push_digits_to;
-use crate::plain::is_plain;
-use crate::put::{push_between, push_few, push_number};
+use crate::plain::{below_128, is_plain};
+use crate::put::{letter_of, push_between, push_few, push_number};
 use crate::quoted::{push_in_quotes, push_quoted};
 use std::alloc::{AllocError, Allocator};
 
@@ -240,6 +240,92 @@ pub(crate) fn push_name<A: Allocator>(
     }
 }
 
+// Appends as many of 32 bytes as are asked for. All are copied, since their count is no branch then:
+// those behind become some letters of ASCII, and are cut off.
+#[inline(always)]
+fn push_front<A: Allocator>(
+    text: &mut String<A>,
+    block: &[u8],
+    len: usize,
+) -> Result<(), AllocError>
+    requires within { len ≤ length block.now }
+    requires long { length block.now ≡ 32 }
+    requires plain { IsTrue (all_plain (take len block.now)) }
+    ensures { OnOk result (string_bytes text.new
+        ≡ string_bytes text.old ++ take len block.now) }
+{
+    let end = text.len() + len;
+    push_few(text, &below_128(block))?;
+    text.truncate(end);
+    Ok(())
+}
+
+// A text of plain letters, which 32 bytes begin with.
+#[inline(always)]
+fn push_short<A: Allocator>(
+    text: &mut String<A>,
+    form: MemberForm,
+    is_first: bool,
+    name: &str,
+    block: &[u8],
+    len: usize,
+) -> Result<(), AllocError>
+    requires within { len ≤ length block.now }
+    requires long { length block.now ≡ 32 }
+    requires plain { IsTrue (all_plain (take len block.now)) }
+    ensures { OnOk result (string_bytes text.new ≡ string_bytes text.old
+        ++ member_part form is_first (name.now, Word (take len block.now))) }
+{
+    push_plain_front(text, form, is_first, name)?;
+    push_front(text, block, len)?;
+    text.push_str("\"")
+}
+
+// The same, of a place of two digits and more.
+#[inline(never)]
+fn push_short_behind<A: Allocator>(
+    text: &mut String<A>,
+    form: MemberForm,
+    is_first: bool,
+    place: u64,
+    block: &[u8],
+    len: usize,
+) -> Result<(), AllocError>
+    requires within { len ≤ length block.now }
+    requires long { length block.now ≡ 32 }
+    requires plain { IsTrue (all_plain (take len block.now)) }
+    ensures { OnOk result (string_bytes text.new ≡ string_bytes text.old
+        ++ member_part form is_first (decimal place, Words (take len block.now))) }
+{
+    let mut digits = itoa::Buffer::new();
+    push_short(text, form, is_first, digits.format(place), block, len)
+}
+
+// A text of plain letters, which 32 bytes begin with, and whose name is its place.
+#[inline(always)]
+pub(crate) fn push_short_at<A: Allocator>(
+    text: &mut String<A>,
+    form: MemberForm,
+    is_first: bool,
+    place: u64,
+    block: &[u8],
+    len: usize,
+) -> Result<(), AllocError>
+    requires within { len ≤ length block.now }
+    requires long { length block.now ≡ 32 }
+    requires plain { IsTrue (all_plain (take len block.now)) }
+    ensures { OnOk result (string_bytes text.new ≡ string_bytes text.old
+        ++ member_part form is_first (decimal place, Words (take len block.now))) }
+{
+    if place >= 10 {
+        return push_short_behind(text, form, is_first, place, block, len);
+    }
+    let digit = [letter_of(place)];
+    // A digit is of ASCII.
+    let name = unsafe { std::str::from_utf8_unchecked(&digit) };
+    push_short(text, form, is_first, name, block, len)
+}
+
 // A text that is not plain letters.
 #[inline(never)]
 fn push_other_text<A: Allocator + Copy>(
@@ -256,6 +342,43 @@ fn push_other_text<A: Allocator + Copy>(
     push_words(text, form, bytes)
 }
 
+// A text of this name.
+#[inline(always)]
+fn push_named_text<A: Allocator + Copy>(
+    text: &mut String<A>,
+    form: MemberForm,
+    is_first: bool,
+    name: &str,
+    bytes: &[u8],
+) -> Result<(), AllocError>
+    ensures { OnOk result (string_bytes text.new
+        ≡ string_bytes text.old ++ member_part form is_first (name.now, Words bytes.now)) }
+{
+    if is_plain(bytes) {
+        // What is of ASCII is UTF-8.
+        let words = unsafe { std::str::from_utf8_unchecked(bytes) };
+        push_plain(text, form, is_first, name, words)
+    } else {
+        push_other_text(text, form, is_first, name, bytes)
+    }
+}
+
+// A text whose name is its place, of two digits and more.
+#[inline(never)]
+fn push_text_behind<A: Allocator + Copy>(
+    text: &mut String<A>,
+    form: MemberForm,
+    is_first: bool,
+    place: u64,
+    bytes: &[u8],
+) -> Result<(), AllocError>
+    ensures { OnOk result (string_bytes text.new
+        ≡ string_bytes text.old ++ member_part form is_first (decimal place, Words bytes.now)) }
+{
+    let mut digits = itoa::Buffer::new();
+    push_named_text(text, form, is_first, digits.format(place), bytes)
+}
+
 // A text whose name is its place.
 #[inline(never)]
 pub(crate) fn push_text_at<A: Allocator + Copy>(
@@ -268,15 +391,13 @@ pub(crate) fn push_text_at<A: Allocator + Copy>(
     ensures { OnOk result (string_bytes text.new
         ≡ string_bytes text.old ++ member_part form is_first (decimal place, Words bytes.now)) }
 {
-    let mut digits = itoa::Buffer::new();
-    let name = digits.format(place);
-    if is_plain(bytes) {
-        // What is of ASCII is UTF-8.
-        let words = unsafe { std::str::from_utf8_unchecked(bytes) };
-        push_plain(text, form, is_first, name, words)
-    } else {
-        push_other_text(text, form, is_first, name, bytes)
+    if place >= 10 {
+        return push_text_behind(text, form, is_first, place, bytes);
     }
+    let digit = [letter_of(place)];
+    // A digit is of ASCII.
+    let name = unsafe { std::str::from_utf8_unchecked(&digit) };
+    push_named_text(text, form, is_first, name, bytes)
 }
 
 pub(crate) fn push_member<A: Allocator + Copy>(

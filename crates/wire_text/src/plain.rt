@@ -1,7 +1,8 @@
 //! Which bytes of a text stand in quotes as they are.
 
-ghost use Rattle.std.specs.Prelude.{◌≡◌, ◌≤◌, length};
+ghost use Rattle.std.specs.Prelude.{◌≡◌, ◌≤◌, ◌%◌, length, map, take, IsTrue};
 ghost use Rattle.wire_text.specs.Fields.{all_plain, needs_no_escape, none_needs_escape};
+ghost use Rattle.wire_text.specs.Plain.{others_mask};
 
 use crate::digits::fill;
 use std::simd::prelude::*;
@@ -37,18 +38,54 @@ fn all_plain(words: &[u8]) -> bool
     all
 }
 
-// The same of sixteen bytes at once.
+// Which of sixteen bytes are not plain, a bit for each.
 #[inline(always)]
-fn is_plain_block(block: &[u8]) -> bool
+fn others_of(block: &[u8]) -> u64
     requires { length block.now ≡ 16 }
-    ensures { result ≡ all_plain block.now }
+    ensures { result ≡ others_mask block.now }
 {
     let bytes = u8x16::from_slice(block);
     let other = bytes.simd_lt(u8x16::splat(0x20))
         | bytes.simd_ge(u8x16::splat(0x80))
         | bytes.simd_eq(u8x16::splat(b'"'))
         | bytes.simd_eq(u8x16::splat(b'\\'));
-    other.to_bitmask() == 0
+    other.to_bitmask()
+}
+
+// The same of sixteen bytes at once.
+#[inline(always)]
+fn is_plain_block(block: &[u8]) -> bool
+    requires { length block.now ≡ 16 }
+    ensures { result ≡ all_plain block.now }
+{
+    others_of(block) == 0
+}
+
+// How many of sixteen bytes stand before one that is not plain.
+#[inline(always)]
+fn plain_in_block(block: &[u8]) -> usize
+    requires { length block.now ≡ 16 }
+    ensures within { result ≤ 16 }
+    ensures plain { IsTrue (all_plain (take result block.now)) }
+{
+    let others = others_of(block);
+    if others == 0 {
+        16
+    } else {
+        others.trailing_zeros() as usize
+    }
+}
+
+/// How many of 32 bytes stand before one that is not plain. No branch asks how many there are.
+#[inline(always)]
+pub(crate) fn plain_in_front(block: &[u8]) -> usize
+    requires { length block.now ≡ 32 }
+    ensures within { result ≤ 32 }
+    ensures plain { IsTrue (all_plain (take result block.now)) }
+{
+    let front = plain_in_block(&block[..16]);
+    let after = plain_in_block(&block[16..]);
+    if front < 16 { front } else { 16 + after }
 }
 
 // The same of fewer bytes: of eight and more, and of four and more, the first and the last.
@@ -88,4 +125,13 @@ pub(crate) fn is_plain(words: &[u8]) -> bool
         rest = after;
     }
     is_plain_block(&words[words.len() - 16..])
+}
+
+// Of 32 bytes those of ASCII as they are, and of the others the low seven bits.
+#[inline(always)]
+pub(crate) fn below_128(block: &[u8]) -> [u8; 32]
+    requires { length block.now ≡ 32 }
+    ensures { result ≡ map (λ byte. byte % 128) block.now }
+{
+    (u8x32::from_slice(block) & u8x32::splat(0x7f)).to_array()
 }

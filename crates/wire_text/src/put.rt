@@ -1,6 +1,6 @@
 //! What lines and fields are put together of.
 
-ghost use Rattle.std.specs.Prelude.{◌≡◌, ◌++◌, OnOk, string_bytes};
+ghost use Rattle.std.specs.Prelude.{◌≡◌, ◌+◌, ◌<◌, ◌++◌, OnOk, string_bytes};
 ghost use Rattle.std.specs.Fmt.{decimal};
 ghost use Rattle.std.specs.Str.{IsUtf8};
 
@@ -22,13 +22,40 @@ pub fn push_between<A: Allocator>(
     text.push_str(after)
 }
 
-/// Appends a number in decimal digits.
-#[inline(always)]
-pub fn push_number<A: Allocator>(text: &mut String<A>, number: u64) -> Result<(), AllocError>
+// Appends a number of many digits.
+#[inline(never)]
+fn push_large_number<A: Allocator>(text: &mut String<A>, number: u64) -> Result<(), AllocError>
     ensures { OnOk result (string_bytes text.new ≡ string_bytes text.old ++ decimal number) }
 {
     let mut digits = itoa::Buffer::new();
     text.push_str(digits.format(number))
+}
+
+// The letter of a digit.
+#[inline(always)]
+pub(crate) fn letter_of(digit: u64) -> u8
+    requires { digit < 10 }
+    ensures { result ≡ 48 + digit }
+{
+    b'0' + digit as u8
+}
+
+/// Appends a number in decimal digits: up to three of them at once.
+pub fn push_number<A: Allocator>(text: &mut String<A>, number: u64) -> Result<(), AllocError>
+    ensures { OnOk result (string_bytes text.new ≡ string_bytes text.old ++ decimal number) }
+{
+    if number < 10 {
+        return push_few(text, &[letter_of(number)]);
+    }
+    let ones = letter_of(number % 10);
+    if number < 100 {
+        return push_few(text, &[letter_of(number / 10), ones]);
+    }
+    if number < 1000 {
+        let tens = letter_of(number / 10 % 10);
+        return push_few(text, &[letter_of(number / 100), tens, ones]);
+    }
+    push_large_number(text, number)
 }
 
 // Appends a few bytes at once.

@@ -2,7 +2,7 @@
 
 ghost use Rattle.std.specs.Float.{binary32, binary64};
 ghost use Rattle.std.specs.Fmt.{decimal};
-ghost use Rattle.std.specs.Prelude.{◌≡◌, ◌∷◌, [], ◌++◌, IfOk, OnOk};
+ghost use Rattle.std.specs.Prelude.{◌≡◌, ◌∷◌, [], ◌++◌, false, true, None, Ok, IfOk, OnOk};
 ghost use Rattle.wire_text.specs.Fields.{Puts, Word, Written};
 ghost use Rattle.mysql_wire_dump_fields.specs.TemporalTexts.{date_text, time_text};
 ghost use Rattle.mysql_wire_dump_fields.specs.ValueFields.{IsTypeOf, row_bytes_fields, PutsColumn, PutsFloat, PutsRow, PutsShown, PutsText, PutsTexts, PutsValues};
@@ -22,6 +22,32 @@ use wire_buf::io::ParseBuf;
 use wire_const::ColumnType;
 use wire_text::fields::{Field, FieldValue, Fields};
 
+// The longest text that is looked at and copied without asking how long it is.
+const SHORT: u8 = 32;
+
+// Reads the text of a column, and puts it, where it is short, of plain letters, and others follow:
+// whether it has.
+#[inline(always)]
+fn put_short<A: Allocator + Copy>(
+    fields: &mut Fields<A>,
+    place: u64,
+    rest: &mut ParseBuf<'_>,
+) -> Result<bool, SessionError>
+    ensures put { result ≡ Ok true
+        → PutsText place rest.old.0.now rest.new.0.now None fields.old fields.new }
+    ensures not { result ≡ Ok false
+        → (fields.new ≡ fields.old) × (rest.new.0.now ≡ rest.old.0.now) }
+{
+    let Some((len, behind)) = rest.0.split_first() else {
+        return Ok(false);
+    };
+    if *len > SHORT || !fields.put_short_at(place, behind, *len as usize)? {
+        return Ok(false);
+    }
+    rest.0 = &behind[*len as usize..];
+    Ok(true)
+}
+
 // Reads the text of a column, and puts it. The answer is why it is none.
 fn put_text<A: Allocator + Copy>(
     global: Global,
@@ -32,6 +58,9 @@ fn put_text<A: Allocator + Copy>(
     ensures { IfOk result (λ refusal. PutsText place rest.old.0.now rest.new.0.now refusal
         fields.old fields.new) }
 {
+    if put_short(fields, place, rest)? {
+        return Ok(None);
+    }
     match rest.parse::<TextValue<'_>>(global, ()) {
         Ok(TextValue::Null) => {
             fields.put_at(place, FieldValue::Null)?;

@@ -3,7 +3,8 @@ use Rattle.std.proofs.lemmas.List.{length-take}
 use Rattle.std.proofs.lemmas.Str.{IsUtf8-string_bytes}
 use Rattle.std.specs.String.Boundary.{IsSplitPoint}
 use Rattle.mysql_wire_dump_lines.specs.Lines.{packet_line}
-use Rattle.mysql_wire_dump_session.proofs.LineLemmas.{cut_place, shorter_part}
+use Rattle.mysql_wire_dump_session.proofs.LineLemmas.{shorter_part}
+use Rattle.wire_text.proofs.FieldLemmas.{cut_place}
 use Rattle.mysql_wire_dump_session.proofs.dump.push_again.Goals as goal
 
 pub split_off-requires : goal.split_off-requires

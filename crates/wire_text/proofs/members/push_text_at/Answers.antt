@@ -1,11 +1,12 @@
-use Rattle.std.proofs.Common.{sym, ◌∙◌}
-use Rattle.wire_text.proofs.FieldLemmas.{plain_member, plain_utf8}
+use Rattle.std.proofs.Common.{◌∙◌, ap, arith, subst, sym, IsUtf8, [], ◌∷◌, ℕ}
+use Rattle.std.proofs.lemmas.Fmt.{decimal_digit}
+use Rattle.wire_text.proofs.FieldLemmas.{digit_utf8}
 use Rattle.wire_text.proofs.members.push_text_at.Goals as goal
 
-pub from_utf8_unchecked-words-requires : goal.from_utf8_unchecked-words-requires
-from_utf8_unchecked-words-requires g c =
-    plain_utf8 c.args.bytes.now (sym c.is_plain.ensures ∙ c.if-is_plain.true)
+pub from_utf8_unchecked-name-requires : goal.from_utf8_unchecked-name-requires
+from_utf8_unchecked-name-requires g c =
+    subst (λ (n : ℕ). IsUtf8 (n ∷ [])) (sym c.letter_of.ensures) (digit_utf8 c.args.place (omega (arith, c.if-place-ge10.false)))
 
-pub returns-then-is_plain : goal.returns-then-is_plain
-returns-then-is_plain g c =
-    rw (← c.format-name.ensures.text, plain_member c.args.form c.args.is_first c.format-name.result.now c.args.bytes.now (sym c.is_plain.ensures ∙ c.if-is_plain.true), ← c.from_utf8_unchecked-words.ensures) c.push_plain.ensures
+pub returns : goal.returns
+returns g c =
+    rw (decimal_digit c.args.place (omega (arith, c.if-place-ge10.false)), ← c.letter_of.ensures, ← c.from_utf8_unchecked-name.ensures) c.push_named_text.ensures

@@ -1,10 +1,6 @@
-use Rattle.std.proofs.Common.{arith, ap, ◌∙◌, take}
-use Rattle.std.proofs.lemmas.List.{take_all, length-take}
-use Rattle.wire_text.specs.Fields.{all_plain}
-use Rattle.wire_text.proofs.PlainLemmas.{compared}
+use Rattle.std.proofs.Common.{ap, ◌∙◌, ℕ, nat_eq}
+use Rattle.wire_text.proofs.PlainLemmas.{none_other}
 use Rattle.wire_text.proofs.plain.is_plain_block.Goals as goal
 
 pub returns : goal.returns
-returns c =
-    compared (take 16 c.args.block.now) (omega (arith, c.requires, length-take 16 c.args.block.now))
-    ∙ ap all_plain (take_all 16 c.args.block.now (omega (arith, c.requires)))
+returns c = ap (λ (n : ℕ). nat_eq n 0) c.others_of.ensures ∙ none_other c.args.block.now
