@@ -53,7 +53,11 @@ fn relay(passed: &mut Passed<'_>) -> Option<usize> {
     }
     passed
         .reader
-        .relay_packet(&mut passed.codec, &mut passed.writer, &mut passed.writer_codec)
+        .relay_packet(
+            &mut passed.codec,
+            &mut passed.writer,
+            &mut passed.writer_codec,
+        )
         .ok()?;
     let pending = passed.writer.pending().len();
     passed.writer.write_pending().ok()?;
@@ -68,8 +72,13 @@ fn passed_on(alloc: Global, stream: &[u8]) -> Option<usize> {
 // The first text or number of some bytes, read in each way: how many bytes the texts have.
 fn read(alloc: Global, bytes: &[u8]) -> Option<usize> {
     let counted = ParseBuf(bytes).parse::<RawBytes<LenEnc>>(alloc, ()).ok()?;
-    let ended = ParseBuf(bytes).parse::<RawBytes<NullBytes>>(alloc, ()).ok()?;
-    let texts = counted.as_bytes().len().wrapping_add(ended.as_bytes().len());
+    let ended = ParseBuf(bytes)
+        .parse::<RawBytes<NullBytes>>(alloc, ())
+        .ok()?;
+    let texts = counted
+        .as_bytes()
+        .len()
+        .wrapping_add(ended.as_bytes().len());
     let number = ParseBuf(bytes).checked_eat_lenenc_int()?;
     let text = ParseBuf(bytes).eat_null_str().len();
     Some(texts.wrapping_add(text).wrapping_add(number as usize))
@@ -104,7 +113,9 @@ fn row(alloc: Global, bytes: &[u8]) -> Option<usize> {
 
 // The first packets of these kinds, where the bytes are some.
 fn packets(alloc: Global, bytes: &[u8]) -> Option<usize> {
-    let rows = ParseBuf(bytes).parse::<OkPacket<'_>>(alloc, InfoForm::LengthEncoded).ok()?;
+    let rows = ParseBuf(bytes)
+        .parse::<OkPacket<'_>>(alloc, InfoForm::LengthEncoded)
+        .ok()?;
     let definition = next_definition(alloc, &mut ParseBuf(bytes))?;
     Some((rows.affected_rows as usize).wrapping_add(definition as usize))
 }

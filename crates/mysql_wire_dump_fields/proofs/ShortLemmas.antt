@@ -24,11 +24,14 @@ short_reads n behind below there =
     inr (inr (
       no_mark n 0xfb behind below (omega arith),
       no_mark n 0xff behind below (omega arith),
-      (omega (arith, there), (
-        behind,
-        (n ∷ [], inl (inl (ap (λ (m : ℕ). m ∷ []) (sym long), omega (arith, long, below))), refl),
-        sym (ap (λ (z : List ℕ). take n behind ++ z) (drop_behind n n behind) ∙ take-append-drop n behind),
-      )),
+      (
+        omega (arith, there),
+        (
+          behind,
+          (n ∷ [], inl (inl (ap (λ (m : ℕ). m ∷ []) (sym long), omega (arith, long, below))), refl),
+          sym (ap (λ (z : List ℕ). take n behind ++ z) (drop_behind n n behind) ∙ take-append-drop n behind),
+        ),
+      ),
     ))
 
 pub short_text : (place n : ℕ) (bytes behind : List ℕ) → bytes ≡ n ∷ behind → n < 251 → n ≤ length behind

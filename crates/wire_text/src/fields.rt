@@ -189,12 +189,7 @@ impl<A: Allocator + Copy> Fields<A> {
     /// whether it has. That is where it is short, of plain letters, and 32 bytes are there; else
     /// nothing changes.
     #[inline(always)]
-    pub fn put_short_at(
-        &mut self,
-        place: u64,
-        bytes: &[u8],
-        len: usize,
-    ) -> Result<bool, AllocError>
+    pub fn put_short_at(&mut self, place: u64, bytes: &[u8], len: usize) -> Result<bool, AllocError>
         ensures within { result ≡ Ok true → len ≤ length bytes.now }
         ensures put { result ≡ Ok true
             → Puts ((decimal place, Words (take len bytes.now)) ∷ []) self.old self.new }

@@ -62,7 +62,9 @@ impl<R: Read, A: Allocator + Copy> PacketReader<R, A> {
         ensures other { (header_of writer_codec.new ≡ header_of writer_codec.old)
             × (writer_codec.new.max_allowed_packet ≡ writer_codec.old.max_allowed_packet) }
     {
-        if !self.input.lost && self.copied.is_none() && self.relay_whole(codec, writer, writer_codec)
+        if !self.input.lost
+            && self.copied.is_none()
+            && self.relay_whole(codec, writer, writer_codec)
         {
             return Ok(true);
         }

@@ -10,5 +10,9 @@ from_utf8_unchecked-name-requires g c =
 
 pub returns : goal.returns
 returns g c =
-    rw (decimal_digit c.args.place (omega (arith, c.if-place-ge10.false)), plain_member c.args.form c.args.is_first ((48 + c.args.place) ∷ []) (take c.args.len c.args.block.now) c.requires.plain,
-    ← c.letter_of.ensures, ← c.from_utf8_unchecked-name.ensures) c.push_short.ensures
+    rw (
+      decimal_digit c.args.place (omega (arith, c.if-place-ge10.false)),
+      plain_member c.args.form c.args.is_first ((48 + c.args.place) ∷ []) (take c.args.len c.args.block.now) c.requires.plain,
+      ← c.letter_of.ensures,
+      ← c.from_utf8_unchecked-name.ensures,
+    ) c.push_short.ensures

@@ -26,8 +26,11 @@ push_few-requires-then-number-lt100 g c =
 
 pub returns-then-number-lt100 : goal.returns-then-number-lt100
 returns-then-number-lt100 g c =
-    rw (two_digits c.args.number (omega (arith, c.if-number-lt10.false)) (omega (arith, c.if-number-lt100.true)), ← c.letter_of-then-number-lt100.ensures,
-    ← c.letter_of-ones.ensures) c.push_few-then-number-lt100.ensures
+    rw (
+      two_digits c.args.number (omega (arith, c.if-number-lt10.false)) (omega (arith, c.if-number-lt100.true)),
+      ← c.letter_of-then-number-lt100.ensures,
+      ← c.letter_of-ones.ensures,
+    ) c.push_few-then-number-lt100.ensures
 
 pub push_few-requires-then-number-lt1000 : goal.push_few-requires-then-number-lt1000
 push_few-requires-then-number-lt1000 g c =
@@ -38,5 +41,9 @@ push_few-requires-then-number-lt1000 g c =
 
 pub returns-then-number-lt1000 : goal.returns-then-number-lt1000
 returns-then-number-lt1000 g c =
-    rw (three_digits c.args.number (omega (arith, c.if-number-lt100.false)) (omega (arith, c.if-number-lt1000.true)), ← c.letter_of-then-number-lt1000.ensures,
-    ← c.letter_of-tens.ensures, ← c.letter_of-ones.ensures) c.push_few-then-number-lt1000.ensures
+    rw (
+      three_digits c.args.number (omega (arith, c.if-number-lt100.false)) (omega (arith, c.if-number-lt1000.true)),
+      ← c.letter_of-then-number-lt1000.ensures,
+      ← c.letter_of-tens.ensures,
+      ← c.letter_of-ones.ensures,
+    ) c.push_few-then-number-lt1000.ensures

@@ -9,6 +9,9 @@ returns-clause-put g c is =
     let put = c.in_ok-put_short_at.ensures in
     let came = ap Ok c.if-not-branch.false in (
       (decimal c.args.place, Words (take c.in-Some.len.now c.in-Some.behind.now)),
-      (short_text c.args.place c.in-Some.len.now c.args.rest.now.0.now c.in-Some.behind.now c.in-Some.ensures.cases.0
-      (omega (arith, c.if-len-gt-SHORT.false)) (put.within came), put.put came),
+      (
+        short_text c.args.place c.in-Some.len.now c.args.rest.now.0.now c.in-Some.behind.now c.in-Some.ensures.cases.0
+            (omega (arith, c.if-len-gt-SHORT.false)) (put.within came),
+        put.put came,
+      ),
     )

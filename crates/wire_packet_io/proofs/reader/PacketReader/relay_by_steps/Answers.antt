@@ -1,4 +1,4 @@
-use Rattle.std.proofs.Common.{◌≡◌, [], IsNone, subst, ◌∙◌, ap, ap₂, refl, sym, inl, inr, not, rules, Err, IsTrue}
+use Rattle.std.proofs.Common.{◌≡◌, [], IsNone, subst, ◌∙◌, ap, refl, sym, inl, inr, not, rules, Err, IsTrue}
 use Rattle.std.proofs.lemmas.Bool.{false≢true}
 use Rattle.wire_packet_io.specs.declared.error.PacketIoError.TheVariants.{PacketsOutOfSync}
 use Rattle.wire_codec.specs.Codec.{Stands}
