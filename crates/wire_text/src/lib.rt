@@ -3,6 +3,7 @@
 #![tactic(auto)]
 
 pub mod digits;
+mod escapes;
 pub mod fields;
 mod long;
 mod members;

@@ -1,15 +1,6 @@
-use Rattle.std.proofs.Common.{List, ap, arith, ℕ, ◌++◌, ◌∙◌, take}
-use Rattle.std.proofs.lemmas.List.{take_more_set}
-use Rattle.wire_text.proofs.EscapeLemmas.{block_put, no_letter}
+use Rattle.std.proofs.Common.{arith}
+use Rattle.wire_text.proofs.EscapeLemmas.{block_put}
 use Rattle.wire_text.proofs.quoted.put_escaped.Goals as goal
-
-pub returns-then-escape_letter_of-eq0 : goal.returns-then-escape_letter_of-eq0
-returns-then-escape_letter_of-eq0 c = (
-  omega arith,
-  take_more_set c.args.room.now c.args.at c.args.byte (omega (arith, c.requires, c.told-room))
-      ∙ ap (λ (z : List ℕ). take c.args.at c.args.room.now ++ z)
-      (no_letter c.args.byte c.escape_letter_of.result c.ranges.byte.fits c.escape_letter_of.ensures c.if-escape_letter_of-eq0.true),
-)
 
 pub returns : goal.returns
 returns c =
