@@ -34,7 +34,7 @@ list_same [] (y ∷ ys) = false
 list_same (x ∷ xs) [] = false
 list_same (x ∷ xs) (y ∷ ys) = eqb x y && list_same xs ys
 
-false-true : false ≡ true → ⊥
+pub false-true : false ≡ true → ⊥
 false-true is = subst (λ (test : Bool). cond test ⊥ (Unit {0})) is tt
 
 list_same_is : (xs ys : List ℕ) → list_same xs ys ≡ true → xs ≡ ys

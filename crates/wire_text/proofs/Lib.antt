@@ -4,3 +4,4 @@ pub mod FieldLemmas
 pub mod PartLemmas
 pub mod PlainLemmas
 pub mod StandLemmas
+pub mod WideLemmas

@@ -70,6 +70,22 @@ over_ascii byte = not (in_ascii byte)
 abbrev pub all_ascii : List ℕ → Bool
 all_ascii = list_all in_ascii
 
+-- the first byte of a letter of three bytes, after which any two others may follow
+abbrev pub begins_three : ℕ → Bool
+begins_three byte = (nat_le 225 byte && nat_le byte 239) && not (byte == 237)
+
+-- a later byte of a letter
+abbrev pub goes_on : ℕ → Bool
+goes_on byte = nat_le 128 byte && nat_le byte 191
+
+-- letters of three bytes each
+abbrev pub are_wide : List ℕ → Bool
+are_wide [] = true
+are_wide (first ∷ []) = false
+are_wide (first ∷ second ∷ []) = false
+are_wide (first ∷ second ∷ third ∷ others) =
+    (begins_three first && goes_on second && goes_on third) && are_wide others
+
 -- a text as JSON quotes it, where the bytes are one
 abbrev pub words_text : MemberForm → List ℕ → List ℕ
 words_text form octets = if is_utf8 octets then quoted octets else octets_text form octets

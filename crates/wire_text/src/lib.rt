@@ -11,3 +11,4 @@ mod plain;
 pub mod put;
 mod quoted;
 pub mod stop;
+mod wide;

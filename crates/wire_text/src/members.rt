@@ -9,6 +9,7 @@ use crate::escapes::look_at;
 use crate::plain::is_plain;
 use crate::put::{push_between, push_few, push_number};
 use crate::quoted::{push_escaped_words, push_in_quotes};
+use crate::wide::text_of;
 use std::alloc::{AllocError, Allocator};
 
 /// How members are shown.
@@ -76,15 +77,15 @@ fn push_words<A: Allocator + Copy>(
         let words = unsafe { std::str::from_utf8_unchecked(bytes) };
         return push_escaped_words(text, words);
     }
-    match std::str::from_utf8(bytes) {
-        Ok(words) => {
+    match text_of(bytes) {
+        Some(words) => {
             if stands {
                 push_in_quotes(text, words)
             } else {
                 push_escaped_words(text, words)
             }
         }
-        Err(_) => push_octets(text, form, bytes),
+        None => push_octets(text, form, bytes),
     }
 }
 

@@ -15,15 +15,15 @@ returns-then-is_ascii g c =
 pub returns-then-stands : goal.returns-then-stands
 returns-then-stands g c =
     rw (
-      is_utf8-from_IsUtf8 c.args.bytes.now c.in-Ok.ensures.cases.1,
+      is_utf8-from_IsUtf8 c.args.bytes.now c.in-Some.ensures.1,
       escape-none_needs_escape c.args.bytes.now (sym c.look_at-is_ascii.ensures.1 ∙ c.if-stands.true),
-      ← c.in-Ok.ensures.cases.0,
+      ← c.in-Some.ensures.0,
     ) c.push_in_quotes.ensures
 
 pub returns-else-stands : goal.returns-else-stands
 returns-else-stands g c =
-    rw (is_utf8-from_IsUtf8 c.args.bytes.now c.in-Ok.ensures.cases.1, ← c.in-Ok.ensures.cases.0)
+    rw (is_utf8-from_IsUtf8 c.args.bytes.now c.in-Some.ensures.1, ← c.in-Some.ensures.0)
     c.push_escaped_words-else-stands.ensures
 
-pub returns-in-Err : goal.returns-in-Err
-returns-in-Err g c = rw (is_utf8-false c.args.bytes.now c.in-Err.ensures.cases.0) c.push_octets.ensures
+pub returns-in-None : goal.returns-in-None
+returns-in-None g c = rw (is_utf8-false c.args.bytes.now c.in-None.ensures) c.push_octets.ensures
