@@ -121,10 +121,10 @@ escape_more place words inside =
     ∙ ap (λ (z : List ℕ). escape (take place words) ++ z) (append-nil (escape_byte (get_or words place 0)))
 
 -- a block of a few bytes in the room
-pub block_put : (at len : ℕ) (room block new bytes : List ℕ) → at + 8 ≤ length room → length block ≡ 8 → len ≤ 6 → take len block ≡ bytes
-    → new ≡ take at room ++ block ++ drop (at + 8) room → take (at + len) new ≡ take at room ++ bytes
-block_put at len room block new bytes within long short is new_is =
-    ap (take (at + len)) (new_is ∙ append_assoc (take at room) block (drop (at + 8) room)) ∙ block_in 8 at len room block within long (omega (arith, short))
+pub block_put : (size at len : ℕ) (room block new bytes : List ℕ) → at + size ≤ length room → length block ≡ size → len ≤ size → take len block ≡ bytes
+    → new ≡ take at room ++ block ++ drop (at + size) room → take (at + len) new ≡ take at room ++ bytes
+block_put size at len room block new bytes within long short is new_is =
+    ap (take (at + len)) (new_is ∙ append_assoc (take at room) block (drop (at + size) room)) ∙ block_in size at len room block within long short
     ∙ ap (λ (z : List ℕ). take at room ++ z) is
 
 -- a block of sixteen bytes in the room, of which the first need no escape

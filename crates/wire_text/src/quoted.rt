@@ -42,22 +42,15 @@ fn escape_letter_of(byte: u8) -> u8
     ESCAPE_LETTERS[byte as usize]
 }
 
-// What stands for a byte where JSON quotes it: this many bytes of these.
+// What stands for a byte whose escape is in hex digits: six bytes of these.
 #[inline(always)]
-fn escape_of(byte: u8) -> ([u8; 8], usize)
-    ensures { (length result.0 ≡ 8) × (result.1 ≤ 6)
-        × (take result.1 result.0 ≡ escape_byte byte) }
+fn hex_escape(byte: u8) -> [u8; 8]
+    requires { escape_mark byte ≡ 117 }
+    ensures { (length result ≡ 8) × (take 6 result ≡ escape_byte byte) }
 {
-    let letter = escape_letter_of(byte);
-    if letter == 0 {
-        return ([byte, 0, 0, 0, 0, 0, 0, 0], 1);
-    }
-    if letter != b'u' {
-        return ([b'\\', letter, 0, 0, 0, 0, 0, 0], 2);
-    }
     let high = DIGITS[(byte / 16) as usize];
     let low = DIGITS[(byte % 16) as usize];
-    ([b'\\', letter, b'0', b'0', high, low, 0, 0], 6)
+    [b'\\', b'u', b'0', b'0', high, low, 0, 0]
 }
 
 // The most bytes that are quoted at once, and the room for them: six bytes for each, what stands
@@ -74,15 +67,31 @@ fn put_block(room: &mut [u8; 416], at: usize, block: &[u8; 8])
     room[at..at + 8].copy_from_slice(block);
 }
 
+#[inline(always)]
+fn put_two(room: &mut [u8; 416], at: usize, block: &[u8; 2])
+    requires { at + 2 ≤ 416 }
+    ensures { room.new ≡ take at room.old ++ block.now ++ drop (at + 2) room.old }
+{
+    room[at..at + 2].copy_from_slice(block);
+}
+
 // Puts what stands for a byte into the room. The answer is the place after it.
 #[inline(always)]
 fn put_escaped(room: &mut [u8; 416], at: usize, byte: u8) -> usize
     requires { at + 8 ≤ 416 }
     ensures { (result ≤ at + 6) × (take result room.new ≡ take at room.old ++ escape_byte byte) }
 {
-    let (block, len) = escape_of(byte);
-    put_block(room, at, &block);
-    at + len
+    let letter = escape_letter_of(byte);
+    if letter == 0 {
+        room[at] = byte;
+        return at + 1;
+    }
+    if letter != b'u' {
+        put_two(room, at, &[b'\\', letter]);
+        return at + 2;
+    }
+    put_block(room, at, &hex_escape(byte));
+    at + 6
 }
 
 #[inline(always)]
@@ -105,19 +114,9 @@ fn put_run(room: &mut [u8; 416], at: usize, block: &[u8]) -> usize
     run_of(block)
 }
 
-// A few bytes, with spaces after them, so that sixteen stand from each of them on.
-#[inline(always)]
-fn with_spaces(words: &[u8]) -> [u8; 80]
-    requires { length words.now ≤ 64 }
-    ensures { take (length words.now) result ≡ words.now }
-{
-    let mut source = [b' '; 80];
-    source[..words.len()].copy_from_slice(words);
-    source
-}
-
 // Puts what stands for some bytes from `done` on into the room: those before the first that needs
-// an escape, and the next one. The answer is the place after them, and how many are done.
+// an escape, and the next one. The answer is the place after them, and how many are done. In
+// `source` sixteen bytes stand from each of them on.
 #[inline(always)]
 fn put_some(
     room: &mut [u8; 416],
@@ -148,7 +147,8 @@ fn escape_few(room: &mut [u8; 416], begin: usize, words: &[u8]) -> usize
     ensures { (result ≤ begin + 384)
         × (take result room.new ≡ take begin room.old ++ escape words.now) }
 {
-    let source = with_spaces(words);
+    let mut source = [b' '; 80];
+    source[..words.len()].copy_from_slice(words);
     let mut at = begin;
     let mut done = 0;
     'runs: while done < words.len() {
