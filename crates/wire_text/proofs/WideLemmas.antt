@@ -1,7 +1,7 @@
 -- Letters of three bytes each, seen sixteen bytes at a time through masks.
 use Rattle.std.proofs.Common.{◌≡◌, ℕ, zero, suc, ◌+◌, ◌-◌, ◌*◌, ◌/◌, ◌<◌, ◌≤◌, ◌%◌, ◌^◌, ◌==◌, inl, inr, leb, eqb, bit_and, replicate, drop, take, take-append-drop, List, [], ◌∷◌, ◌++◌, Bool, true, false, refl, ap, ap₂, sym, ◌∙◌, append_assoc, arith, length, map, cond, lt-ltb, le-ltb, le-leb, get_or}
 use Rattle.std.proofs.lemmas.Bool.{and_from, and_parts, cases_lt, eqb-false, leb-true, not-true}
-use Rattle.std.proofs.lemmas.List.{drop-drop, drop_at, length-append, length-map, length-take-le, take-take, take_all}
+use Rattle.std.proofs.lemmas.List.{drop-drop, drop_at, length-append, length-map, length-take-le, take-take, take_all, take_at}
 use Rattle.std.proofs.lemmas.Simd.{mask_l-mod, zip2_of_maps, zip2_splat, zip2_splat_left}
 use Rattle.std.proofs.lemmas.Str.{IsUtf8-nil}
 use Rattle.std.specs.Prelude.{◌&&◌, not}
@@ -151,6 +151,23 @@ wide_drop (suc n) [] is = is
 wide_drop (suc n) (a ∷ []) is = absurd (false-true is)
 wide_drop (suc n) (a ∷ b ∷ []) is = absurd (false-true is)
 wide_drop (suc n) (a ∷ b ∷ c ∷ words) is = wide_drop n words (and_parts _ _ is).1
+
+front_wide : (count : ℕ) (front back : List ℕ) → length front ≡ 3 * count → are_wide (front ++ back) ≡ true → are_wide front ≡ true
+front_wide count [] back long is = refl
+front_wide count (a ∷ []) back long is = absurd (omega (arith, long))
+front_wide count (a ∷ b ∷ []) back long is = absurd (omega (arith, long))
+front_wide count (a ∷ b ∷ c ∷ front) back long is =
+    let parts = and_parts _ _ is in and_from _ _ parts.0 (front_wide (count - 1) front back (omega (arith, long)) parts.1)
+
+-- a few bytes, with others after them
+pub few_wide : (words put rest : List ℕ) → put ≡ words → length words < 16 → length words % 3 ≡ 0 → are_wide (take 15 (put ++ rest)) ≡ true → are_wide words ≡ true
+few_wide words put rest put_is few thirds is =
+    let n = length words in
+    let block = words ++ rest in
+    let front : take n (take 15 block) ≡ words = take-take n 15 block (omega (arith, few)) ∙ take_at words rest n refl in
+    let all = take-append-drop n (take 15 block) in
+    front_wide (length words / 3) words (drop n (take 15 block)) (omega (arith, thirds))
+    (ap are_wide (ap (λ (z : List ℕ). z ++ drop n (take 15 block)) (sym front) ∙ all ∙ ap (λ (z : List ℕ). take 15 (z ++ rest)) (sym put_is)) ∙ is)
 
 -- these bytes are after some that are such letters, so many
 abbrev pub WideSoFar : List ℕ → List ℕ → Type 0

@@ -1,6 +1,6 @@
 //! Texts of letters of three bytes each, such as Chinese ones, sixteen bytes at a time.
 
-ghost use Rattle.std.specs.Prelude.{◌≡◌, true, length, take, drop, map, MatchOption};
+ghost use Rattle.std.specs.Prelude.{◌≡◌, ◌<◌, ◌%◌, true, length, take, drop, map, MatchOption};
 ghost use Rattle.std.specs.Simd.Lanes.{mask_l};
 ghost use Rattle.std.specs.Str.{IsUtf8};
 ghost use Rattle.wire_text.specs.Fields.{are_wide, begins_three, goes_on};
@@ -50,14 +50,33 @@ fn is_wide_end(block: &[u8]) -> bool
     lead_bits(block) == 0x2492 && going_bits(block) == 0xdb6d
 }
 
+// Five letters of three bytes, and the beginning of another.
+const LETTERS: [u8; 16] = [
+    0xe4, 0xb8, 0x80, 0xe4, 0xb8, 0x80, 0xe4, 0xb8, 0x80, 0xe4, 0xb8, 0x80, 0xe4, 0xb8, 0x80, 0xe4,
+];
+
+// Whether a few bytes are known to be such letters alone, with others after them.
+#[inline(always)]
+fn are_few_wide(words: &[u8]) -> bool
+    requires { (length words.now < 16) × (length words.now % 3 ≡ 0) }
+    ensures { result ≡ true → are_wide words.now ≡ true }
+{
+    let mut block = LETTERS;
+    block[..words.len()].copy_from_slice(words);
+    is_wide_front(&block)
+}
+
 // Whether bytes are known to be such letters alone: sixteen bytes at once; the last sixteen with
 // some of those in front of them.
 #[inline(always)]
 fn is_wide(words: &[u8]) -> bool
     ensures { result ≡ true → are_wide words.now ≡ true }
 {
-    if words.len() < 16 || words.len() % 3 != 0 {
+    if words.len() % 3 != 0 {
         return false;
+    }
+    if words.len() < 16 {
+        return are_few_wide(words);
     }
     let mut rest = words;
     'rounds: while rest.len() >= 16 {
