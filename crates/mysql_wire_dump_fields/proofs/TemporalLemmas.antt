@@ -1,5 +1,5 @@
 -- Numbers in so many digits, zeros in front.
-use Rattle.std.proofs.Common.{◌≡◌, ◌∙◌, ℕ, zero, suc, ◌+◌, ◌-◌, ◌/◌, ◌%◌, ◌^◌, ◌<◌, List, [], ◌∷◌, ◌++◌, length, replicate, refl, sym, ap, ap₂, append_assoc, append-nil, arith, inl, inr}
+use Rattle.std.proofs.Common.{◌≡◌, ◌∙◌, ℕ, zero, suc, ◌+◌, ◌-◌, ◌/◌, ◌%◌, ◌^◌, ◌<◌, ◌≤◌, List, [], ◌∷◌, ◌++◌, length, replicate, refl, sym, ap, ap₂, append_assoc, append-nil, arith, inl, inr}
 use Rattle.std.proofs.lemmas.Bool.{cases_lt}
 use Rattle.std.proofs.lemmas.Fmt.{decimal_digit, decimal_step}
 use Rattle.std.proofs.lemmas.List.{length-append}
@@ -54,6 +54,16 @@ one_digit number small = rw (decimal_digit number small) refl
 pub zeros_two : (number : ℕ) → number < 100 → zeros 2 number ≡ (48 + number / 10) ∷ (48 + number % 10) ∷ []
 zeros_two number small =
     zeros_are 2 number ∙ one_more 0 number (omega (arith, small)) ∙ ap (λ (z : List ℕ). z ++ (48 + number % 10) ∷ []) (one_digit (number / 10) (omega (arith, small)))
+
+-- a number of more digits
+pub zeros_past_two : (number : ℕ) → 100 ≤ number → number < 2 ^ 64 → zeros 2 number ≡ decimal number
+zeros_past_two number many below =
+    let last = decimal_step number (omega (arith, many)) below in
+    let others = decimal_step (number / 10) (omega (arith, many)) (omega (arith, below)) in
+    let long : 2 ≤ length (decimal number) =
+    omega (arith, ap length last, length-append (decimal (number / 10)) ((48 + number % 10) ∷ []), ap length others, length-append (decimal (number / 10 / 10)) ((48 + number / 10 % 10) ∷ [])) in
+    let none : 2 - length (decimal number) ≡ 0 = omega (arith, long) in
+    zeros_are 2 number ∙ ap (λ (n : ℕ). noughts n ++ decimal number) none
 
 three : (number : ℕ) → number < 1000 → padded 3 (decimal number) ≡ (48 + number / 100) ∷ (48 + number / 10 % 10) ∷ (48 + number % 10) ∷ []
 three number small =

@@ -1,10 +1,11 @@
 //! Dates and times as people write them.
 
-ghost use Rattle.std.specs.Prelude.{◌≡◌, ◌++◌, OnOk, codes, string_bytes};
+ghost use Rattle.std.specs.Prelude.{◌≡◌, ◌≤◌, ◌<◌, ◌++◌, OnOk, codes, string_bytes};
 ghost use Rattle.mysql_wire_dump_fields.specs.TemporalTexts.{AreLetters, clock_text, date_text, day_text, moment_text, span_text, time_text, zeros};
 
 use mysql_wire_statements::temporal::{BinaryDate, BinaryTime, Clock, Day, Span};
 use std::alloc::{AllocError, Allocator};
+use wire_text::put::push_number;
 
 // Appends a few letters of ASCII at once.
 #[inline(always)]
@@ -40,6 +41,33 @@ fn push_day<A: Allocator>(text: &mut String<A>, day: &Day) -> Result<(), AllocEr
     )
 }
 
+// The minute and the second of a time, behind its hours.
+fn push_minute<A: Allocator>(text: &mut String<A>, clock: &Clock) -> Result<(), AllocError>
+    requires { (clock.now.minute < 100) × (clock.now.second < 100) }
+    ensures { OnOk result (string_bytes text.new ≡ string_bytes text.old
+        ++ (codes ":" ++ zeros 2 clock.now.minute ++ codes ":" ++ zeros 2 clock.now.second)) }
+{
+    push_letters(
+        text,
+        &[
+            b':',
+            b'0' + clock.minute / 10,
+            b'0' + clock.minute % 10,
+            b':',
+            b'0' + clock.second / 10,
+            b'0' + clock.second % 10,
+        ],
+    )
+}
+
+// A hundred hours and more.
+fn push_hours<A: Allocator>(text: &mut String<A>, hours: u64) -> Result<(), AllocError>
+    requires { 100 ≤ hours }
+    ensures { OnOk result (string_bytes text.new ≡ string_bytes text.old ++ zeros 2 hours) }
+{
+    push_number(text, hours)
+}
+
 // The same of a time.
 fn push_clock<A: Allocator>(
     text: &mut String<A>,
@@ -50,8 +78,12 @@ fn push_clock<A: Allocator>(
         ≡ string_bytes text.old ++ clock_text hours clock.now) }
 {
     let Clock { minute, second, .. } = *clock;
-    if hours >= 100 || minute >= 100 || second >= 100 {
+    if minute >= 100 || second >= 100 {
         return write!(text, "{hours:02}:{minute:02}:{second:02}");
+    }
+    if hours >= 100 {
+        push_hours(text, hours)?;
+        return push_minute(text, clock);
     }
     push_letters(
         text,

@@ -7,7 +7,7 @@ use Rattle.json.specs.Print.{escape, escape_byte}
 use Rattle.json.proofs.Printed.Strings.{escape_byte_plain}
 use Rattle.std.proofs.lemmas.List.{append-nil, drop-append-le, length-drop, take-append-le, take_more}
 use Rattle.std.proofs.lemmas.List.Folds.{list_all-append}
-use Rattle.std.specs.List.{flat_map, list_all}
+use Rattle.std.specs.List.{flat_map}
 use Rattle.std.specs.Str.{IsAscii, IsUtf8, is_utf8}
 use Rattle.std.specs.Fmt.{decimal}
 use Rattle.std.proofs.lemmas.Fmt.{decimal_digit, decimal_step}
@@ -18,7 +18,7 @@ use Rattle.wire_text.specs.declared.fields.Field.{Field}
 use Rattle.wire_text.specs.declared.fields.FieldForm.TheVariants.{Hidden, Text, Json}
 use Rattle.wire_text.specs.declared.members.MemberForm.{MemberForm}
 use Rattle.wire_text.specs.declared.members.MemberForm.TheVariants as member
-use Rattle.wire_text.specs.Fields.{Member, Puts, Written, all_plain, none_needs_escape, end_part, ended, ended_after, fields_text, line, member_form, member_part, name_part, nothing_after, pair, plain, put, puts, needs_no_escape, shown_after, value_text, with_end, with_member, Value, Word, Words}
+use Rattle.wire_text.specs.Fields.{Member, Puts, Written, all_ascii, all_plain, none_needs_escape, end_part, ended, ended_after, fields_text, line, member_form, member_part, name_part, nothing_after, pair, plain, put, puts, needs_no_escape, shown_after, value_text, with_end, with_member, Value, Word, Words}
 use Rattle.wire_text.specs.FieldTables.{members_in, members_of}
 use Rattle.wire_text.specs.Parts.{is_none}
 
@@ -154,9 +154,6 @@ cut_place all n utf8 within front =
     (place.0, λ _ below. place.1 below)
 
 -- letters of ASCII
-abbrev pub all_ascii : List ℕ → Bool
-all_ascii = list_all (λ byte. nat_lt byte 128)
-
 ascii_if : (words : List ℕ) → all_ascii words ≡ true → IsAscii words
 ascii_if [] is = λ i. omega arith
 ascii_if (byte ∷ words) is =

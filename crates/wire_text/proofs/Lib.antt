@@ -3,3 +3,5 @@ pub mod EscapeLemmas
 pub mod FieldLemmas
 pub mod PartLemmas
 pub mod PlainLemmas
+pub mod StandLemmas
+pub mod WideLemmas

@@ -10,12 +10,12 @@ use Rattle.std.proofs.lemmas.Simd.{mask_l-mod, trailing_mask_l, zip2_of_maps, zi
 use lib.Count.{count_trailing_zeros}
 use Rattle.std.specs.List.{prefix_len}
 use Rattle.std.proofs.lemmas.List.Sums.{prefix_len-le-length}
-use Rattle.wire_text.specs.Fields.{all_plain, needs_no_escape, plain}
+use Rattle.wire_text.specs.Fields.{all_ascii, all_plain, needs_no_escape, plain}
 use Rattle.wire_text.specs.Plain.{is_other, others_mask}
 use Rattle.std.proofs.lemmas.Nat.{and_mask}
-use Rattle.wire_text.proofs.FieldLemmas.{all_ascii, zero-false}
+use Rattle.wire_text.proofs.FieldLemmas.{zero-false}
 
-none_double : (n : ℕ) → nat_eq (2 * n) 0 ≡ nat_eq n 0
+pub none_double : (n : ℕ) → nat_eq (2 * n) 0 ≡ nat_eq n 0
 none_double zero = refl
 none_double (suc n) = zero-false (2 * suc n) (λ is. omega (arith, is)) ∙ sym (zero-false (suc n) (λ is. omega (arith, is)))
 
@@ -59,10 +59,10 @@ either_way a b (inl less) (inr more) = ap not less.0 ∙ sym more.0
 either_way a b (inr less) (inl more) = ap not less.0 ∙ sym more.0
 either_way a b (inr less) (inr more) = absurd (omega (arith, less.1, more.1))
 
-not_less : (a b : ℕ) → not (ltb a b) ≡ leb b a
+pub not_less : (a b : ℕ) → not (ltb a b) ≡ leb b a
 not_less a b = either_way a b (leb_tells (suc a) b) (leb_tells b a)
 
-not_not : (a : Bool) → not (not a) ≡ a
+pub not_not : (a : Bool) → not (not a) ≡ a
 not_not true = refl
 not_not false = refl
 
@@ -109,7 +109,7 @@ behind_plain (suc k) [] rest within is = absurd (omega (arith, within))
 behind_plain (suc k) (byte ∷ done) rest within is =
     behind_plain k done rest (omega (arith, within)) (and_parts (plain byte) _ is).1
 
-both_ways : (a b c : Bool) → (a ≡ true → b ≡ c) → (a && b) ≡ (a && c)
+pub both_ways : (a b c : Bool) → (a ≡ true → b ≡ c) → (a && b) ≡ (a && c)
 both_ways true b c same = same refl
 both_ways false b c same = refl
 
@@ -121,7 +121,7 @@ ends_plain n k words within inside =
     ap (λ (z : List ℕ). all_plain (drop k z)) (sym whole) ∙ behind_plain k (take n words) (drop n words) (omega (arith, within, inside, length-take n words)) is)
     ∙ sym (list_all-append plain (take n words) (drop n words)) ∙ ap all_plain whole
 
-to_end : (k : ℕ) (words : List ℕ) → take (length words - k) (drop k words) ≡ drop k words
+pub to_end : (k : ℕ) (words : List ℕ) → take (length words - k) (drop k words) ≡ drop k words
 to_end k words = take_all (length words - k) (drop k words) (omega (arith, length-drop k words))
 
 -- as a block of both

@@ -48,6 +48,9 @@ escape_mark byte =
 abbrev pub needs_no_escape : ℕ → Bool
 needs_no_escape byte = not (byte == 34) && not (byte == 92) && nat_le 32 byte
 
+abbrev pub needs_escape : ℕ → Bool
+needs_escape byte = not (needs_no_escape byte)
+
 abbrev pub none_needs_escape : List ℕ → Bool
 none_needs_escape = list_all needs_no_escape
 
@@ -57,6 +60,31 @@ plain byte = needs_no_escape byte && nat_lt byte 128
 
 abbrev pub all_plain : List ℕ → Bool
 all_plain = list_all plain
+
+abbrev pub in_ascii : ℕ → Bool
+in_ascii byte = nat_lt byte 128
+
+abbrev pub over_ascii : ℕ → Bool
+over_ascii byte = not (in_ascii byte)
+
+abbrev pub all_ascii : List ℕ → Bool
+all_ascii = list_all in_ascii
+
+-- the first byte of a letter of three bytes, after which any two others may follow
+abbrev pub begins_three : ℕ → Bool
+begins_three byte = (nat_le 225 byte && nat_le byte 239) && not (byte == 237)
+
+-- a later byte of a letter
+abbrev pub goes_on : ℕ → Bool
+goes_on byte = nat_le 128 byte && nat_le byte 191
+
+-- letters of three bytes each
+abbrev pub are_wide : List ℕ → Bool
+are_wide [] = true
+are_wide (first ∷ []) = false
+are_wide (first ∷ second ∷ []) = false
+are_wide (first ∷ second ∷ third ∷ others) =
+    (begins_three first && goes_on second && goes_on third) && are_wide others
 
 -- a text as JSON quotes it, where the bytes are one
 abbrev pub words_text : MemberForm → List ℕ → List ℕ

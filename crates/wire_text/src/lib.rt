@@ -3,6 +3,7 @@
 #![tactic(auto)]
 
 pub mod digits;
+mod escapes;
 pub mod fields;
 mod long;
 mod members;
@@ -10,3 +11,4 @@ mod plain;
 pub mod put;
 mod quoted;
 pub mod stop;
+mod wide;

@@ -5,9 +5,11 @@ ghost use Rattle.std.specs.Fmt.{decimal};
 ghost use Rattle.wire_text.specs.Fields.{all_plain, digits_text, end_part, flags_text, member_part, name_part, octets_text, value_of, value_text, words_text, Word, Words};
 
 use crate::digits::push_digits_to;
+use crate::escapes::look_at;
 use crate::plain::{below_128, is_plain};
 use crate::put::{letter_of, push_between, push_few, push_number};
-use crate::quoted::{push_in_quotes, push_quoted};
+use crate::quoted::{push_escaped_words, push_in_quotes};
+use crate::wide::text_of;
 use std::alloc::{AllocError, Allocator};
 
 /// How members are shown.
@@ -70,9 +72,20 @@ fn push_words<A: Allocator + Copy>(
     ensures { OnOk result (string_bytes text.new
         ≡ string_bytes text.old ++ words_text form bytes.now) }
 {
-    match std::str::from_utf8(bytes) {
-        Ok(words) => push_quoted(text, words),
-        Err(_) => push_octets(text, form, bytes),
+    let (is_ascii, stands) = look_at(bytes);
+    if is_ascii {
+        let words = unsafe { std::str::from_utf8_unchecked(bytes) };
+        return push_escaped_words(text, words);
+    }
+    match text_of(bytes) {
+        Some(words) => {
+            if stands {
+                push_in_quotes(text, words)
+            } else {
+                push_escaped_words(text, words)
+            }
+        }
+        None => push_octets(text, form, bytes),
     }
 }
 

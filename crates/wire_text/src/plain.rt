@@ -1,7 +1,7 @@
 //! Which bytes of a text stand in quotes as they are.
 
 ghost use Rattle.std.specs.Prelude.{◌≡◌, ◌≤◌, ◌%◌, length, map, take, IsTrue};
-ghost use Rattle.wire_text.specs.Fields.{all_plain, needs_no_escape, none_needs_escape};
+ghost use Rattle.wire_text.specs.Fields.{all_plain, needs_no_escape};
 ghost use Rattle.wire_text.specs.Plain.{others_mask};
 
 use crate::digits::fill;
@@ -13,17 +13,6 @@ fn needs_no_escape(byte: u8) -> bool
     ensures { result ≡ needs_no_escape byte }
 {
     (byte != b'"') & (byte != b'\\') & (byte >= 0x20)
-}
-
-// Whether none of these bytes needs an escape.
-pub(crate) fn none_needs_escape(words: &[u8]) -> bool
-    ensures { result ≡ none_needs_escape words.now }
-{
-    let mut all = true;
-    'bytes: for byte in words {
-        all &= needs_no_escape(*byte);
-    }
-    all
 }
 
 // Whether these bytes are of ASCII, and none needs an escape.

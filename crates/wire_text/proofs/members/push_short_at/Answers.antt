@@ -1,6 +1,5 @@
 use Rattle.std.proofs.Common.{◌+◌, ℕ, [], ◌∷◌, arith, subst, sym, take, IsUtf8}
 use Rattle.std.proofs.lemmas.Fmt.{decimal_digit}
-use Rattle.wire_text.specs.Fields.{Words}
 use Rattle.wire_text.proofs.FieldLemmas.{digit_utf8, plain_member}
 use Rattle.wire_text.proofs.members.push_short_at.Goals as goal
 

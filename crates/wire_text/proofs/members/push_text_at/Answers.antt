@@ -1,4 +1,4 @@
-use Rattle.std.proofs.Common.{◌∙◌, ap, arith, subst, sym, IsUtf8, [], ◌∷◌, ℕ}
+use Rattle.std.proofs.Common.{arith, subst, sym, IsUtf8, [], ◌∷◌, ℕ}
 use Rattle.std.proofs.lemmas.Fmt.{decimal_digit}
 use Rattle.wire_text.proofs.FieldLemmas.{digit_utf8}
 use Rattle.wire_text.proofs.members.push_text_at.Goals as goal

@@ -1,7 +1,6 @@
-use Rattle.std.proofs.Common.{ap, ◌∙◌, sym, subst, ℕ, ◌≡◌, ◌≤◌, take, arith, true, nat_eq, List}
+use Rattle.std.proofs.Common.{ap, ◌∙◌, sym, subst, ℕ, ◌≡◌, ◌≤◌, take, arith, true, nat_eq}
 use Rattle.std.proofs.lemmas.List.{take_all}
 use Rattle.wire_text.specs.Fields.{all_plain}
-use Rattle.wire_text.specs.Plain.{others_mask}
 use Rattle.wire_text.proofs.PlainLemmas.{bit_within, none_other, plain_to_bit}
 use Rattle.wire_text.proofs.plain.plain_in_block.Goals as goal
 use lib.Count.{count_trailing_zeros}

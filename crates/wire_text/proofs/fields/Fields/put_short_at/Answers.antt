@@ -1,4 +1,4 @@
-use Rattle.std.proofs.Common.{◌≡◌, ◌∙◌, ℕ, ap, arith, length, string_bytes, subst, sym, take, List}
+use Rattle.std.proofs.Common.{◌≡◌, ◌∙◌, ap, arith, length, string_bytes, sym, take}
 use Rattle.std.proofs.lemmas.List.{take-take}
 use Rattle.std.specs.Fmt.{decimal}
 use Rattle.wire_text.proofs.FieldLemmas.{put_hidden, put_pushed}

@@ -1,0 +1,95 @@
+//! Which bytes of a text need escapes, sixteen at a time.
+
+ghost use Rattle.std.specs.Prelude.{◌≡◌, ◌≤◌, length, map};
+ghost use Rattle.std.specs.List.{prefix_len};
+ghost use Rattle.std.specs.Simd.Lanes.{mask_l};
+ghost use Rattle.wire_text.specs.Fields.{all_ascii, needs_escape, needs_no_escape, none_needs_escape, over_ascii};
+
+use std::simd::prelude::*;
+
+// A bit for each of sixteen bytes: whether it needs an escape.
+#[inline(always)]
+fn escape_bits(block: &[u8]) -> u64
+    requires { length block.now ≡ 16 }
+    ensures { result ≡ mask_l (map needs_escape block.now) }
+{
+    let bytes = u8x16::from_slice(block);
+    let escaped = bytes.simd_eq(u8x16::splat(b'"'))
+        | bytes.simd_eq(u8x16::splat(b'\\'))
+        | bytes.simd_lt(u8x16::splat(0x20));
+    escaped.to_bitmask()
+}
+
+// A bit for each of sixteen bytes: whether it is not of ASCII.
+#[inline(always)]
+fn wide_bits(block: &[u8]) -> u64
+    requires { length block.now ≡ 16 }
+    ensures { result ≡ mask_l (map over_ascii block.now) }
+{
+    u8x16::from_slice(block)
+        .simd_ge(u8x16::splat(0x80))
+        .to_bitmask()
+}
+
+// How many of sixteen bytes come before the first that needs an escape.
+#[inline(always)]
+pub(crate) fn run_of(block: &[u8]) -> usize
+    requires { length block.now ≡ 16 }
+    ensures { result ≡ prefix_len needs_no_escape block.now }
+{
+    let bits = escape_bits(block);
+    if bits == 0 {
+        return 16;
+    }
+    bits.trailing_zeros() as usize
+}
+
+// Whether sixteen bytes are of ASCII, and whether none of them needs an escape.
+#[inline(always)]
+fn look_at_block(block: &[u8]) -> (bool, bool)
+    requires { length block.now ≡ 16 }
+    ensures { (result.0 ≡ all_ascii block.now) × (result.1 ≡ none_needs_escape block.now) }
+{
+    (wide_bits(block) == 0, escape_bits(block) == 0)
+}
+
+// The same of fewer bytes, with spaces after them.
+#[inline(always)]
+fn look_at_few(words: &[u8]) -> (bool, bool)
+    requires { length words.now ≤ 16 }
+    ensures { (result.0 ≡ all_ascii words.now) × (result.1 ≡ none_needs_escape words.now) }
+{
+    let mut block = [b' '; 16];
+    block[..words.len()].copy_from_slice(words);
+    look_at_block(&block)
+}
+
+// The same of any bytes; the last sixteen with some of those in front of them.
+#[inline(always)]
+pub(crate) fn look_at(words: &[u8]) -> (bool, bool)
+    ensures { (result.0 ≡ all_ascii words.now) × (result.1 ≡ none_needs_escape words.now) }
+{
+    if words.len() < 16 {
+        return look_at_few(words);
+    }
+    let mut is_ascii = true;
+    let mut stands = true;
+    let mut rest = words;
+    'rounds: while let Some((block, after)) = rest.split_first_chunk::<16>() {
+        let (block_is_ascii, block_stands) = look_at_block(block);
+        is_ascii &= block_is_ascii;
+        stands &= block_stands;
+        rest = after;
+    }
+    let (last_is_ascii, last_stands) = look_at_block(&words[words.len() - 16..]);
+    (is_ascii & last_is_ascii, stands & last_stands)
+}
+
+// Whether none of these bytes needs an escape.
+#[inline(always)]
+pub(crate) fn none_needs_escape(words: &[u8]) -> bool
+    ensures { result ≡ none_needs_escape words.now }
+{
+    let (_, stands) = look_at(words);
+    stands
+}
