@@ -1,12 +1,12 @@
 -- Plain letters: of ASCII, and none that JSON escapes.
 use Rattle.std.proofs.Common.{◌≡◌, ℕ, zero, suc, subst, ◌+◌, ◌-◌, ◌*◌, ◌<◌, ◌≤◌, ◌%◌, ◌^◌, ◌⊎◌, inl, inr, leb, ltb, eqb, bit_and, bit_or, replicate, drop, take, take-append-drop, List, [], ◌∷◌, ◌++◌, Bool, true, false, refl, ap, ap₂, sym, ◌∙◌, append_assoc, arith, length, nat_eq, map, cond}
-use Rattle.std.proofs.lemmas.Bool.{and_from, and_parts, lt-ltb, ltb-true}
-use Rattle.std.proofs.lemmas.List.Folds.{list_all-append}
-use Rattle.std.proofs.lemmas.List.{length-append, length-drop, length-map, length-take, take_all, take-take}
+use Rattle.std.proofs.lemmas.Bool.{and_from, and_parts, eq-eqb, lt-ltb, ltb-true, ne_eqb}
+use Rattle.std.proofs.lemmas.List.Folds.{list_all-append, prefix_len-append}
+use Rattle.std.proofs.lemmas.List.{length-append, length-drop, length-map, length-take, length-take-le, take_all, take-take}
 use Rattle.std.specs.Prelude.{◌&&◌, not}
 use lib.Lanes.{mask_l, top, zip2}
 use Rattle.std.proofs.lemmas.Bool.Decides.{leb_tells}
-use Rattle.std.proofs.lemmas.Simd.{mask_l-mod, trailing_mask_l, zip2_of_maps, zip2_splat, zip2_splat_left}
+use Rattle.std.proofs.lemmas.Simd.{leading_from_mask_l, mask_l-mod, trailing_mask_l, zip2_of_maps, zip2_splat, zip2_splat_left}
 use lib.Count.{count_trailing_zeros}
 use Rattle.std.specs.List.{prefix_len}
 use Rattle.std.proofs.lemmas.List.Sums.{prefix_len-le-length}
@@ -166,57 +166,53 @@ last_plain k words rest so_far within =
     ap all_plain (to_end k words) ∙ ap (λ (z : List ℕ). all_plain (drop k z)) so_far.1
     ∙ behind_plain k so_far.0 rest (omega (arith, within, long)) so_far.2 ∙ sym (same_plain words rest so_far)
 
+same_run : (bytes : List ℕ) → prefix_len (λ x. not (is_other x)) bytes ≡ prefix_len plain bytes
+same_run [] = refl
+same_run (byte ∷ bytes) = ap₂ (λ (b : Bool) (n : ℕ). cond b (1 + n) 0) (not_not (plain byte)) (same_run bytes)
+
+-- where no bit is set all are plain, and else the lowest tells how many are before the first that is not
+pub run_of_all : (block : List ℕ) → length block ≡ 16 → others_mask block ≡ 0 → 16 ≡ prefix_len plain block
+run_of_all block long none = sym long ∙ sym (leading_from_mask_l is_other block none) ∙ same_run block
+
+pub run_to_other : (block : List ℕ) → length block ≡ 16 → (others_mask block ≡ 0 → ⊥)
+    → count_trailing_zeros 64 (others_mask block) ≡ prefix_len plain block
+run_to_other block long some = trailing_mask_l is_other 64 block (omega (arith, long)) (omega (arith, some)) ∙ same_run block
+
+-- of two blocks
+parts_run : (n : ℕ) (bytes : List ℕ)
+    → prefix_len plain bytes ≡ cond (eqb (prefix_len plain (take n bytes)) (length (take n bytes))) (length (take n bytes) + prefix_len plain (drop n bytes)) (prefix_len plain (take n bytes))
+parts_run n bytes = ap (prefix_len plain) (sym (take-append-drop n bytes)) ∙ prefix_len-append plain (take n bytes) (drop n bytes)
+
+pub run_in_first : (block : List ℕ) → 16 ≤ length block → prefix_len plain (take 16 block) < 16
+    → prefix_len plain (take 16 block) ≡ prefix_len plain block
+run_in_first block long less =
+    let here = length-take-le 16 block long in
+    sym (parts_run 16 block ∙ ap (λ (b : Bool). cond b (length (take 16 block) + prefix_len plain (drop 16 block)) (prefix_len plain (take 16 block)))
+    (ne_eqb (prefix_len plain (take 16 block)) (length (take 16 block)) (λ is. omega (arith, here, is, less))))
+
+pub run_past_first : (block : List ℕ) → 16 ≤ length block → 16 ≤ prefix_len plain (take 16 block)
+    → 16 + prefix_len plain (take (length block - 16) (drop 16 block)) ≡ prefix_len plain block
+run_past_first block long all =
+    let here = length-take-le 16 block long in
+    let whole : prefix_len plain (take 16 block) ≡ length (take 16 block) = omega (arith, here, all, prefix_len-le-length plain (take 16 block)) in
+    ap (λ (n : ℕ). 16 + n) (ap (prefix_len plain) (to_end 16 block)) ∙ ap (λ (n : ℕ). n + prefix_len plain (drop 16 block)) (sym here)
+    ∙ sym (parts_run 16 block ∙ ap (λ (b : Bool). cond b (length (take 16 block) + prefix_len plain (drop 16 block)) (prefix_len plain (take 16 block)))
+    (eq-eqb (prefix_len plain (take 16 block)) (length (take 16 block)) whole))
+
 suc_is : (n : ℕ) → suc n ≡ 1 + n
 suc_is n = omega arith
 
 -- before the first that is not plain all are
 front_plain : (byte : ℕ) (bytes : List ℕ) (is : Bool) → plain byte ≡ is
-    → all_plain (take (prefix_len (λ x. not (is_other x)) bytes) bytes) ≡ true
-    → all_plain (take (prefix_len (λ x. not (is_other x)) (byte ∷ bytes)) (byte ∷ bytes)) ≡ true
+    → all_plain (take (prefix_len plain bytes) bytes) ≡ true
+    → all_plain (take (prefix_len plain (byte ∷ bytes)) (byte ∷ bytes)) ≡ true
 front_plain byte bytes true is others =
-    let n = prefix_len (λ x. not (is_other x)) bytes in
-    rw (is) (subst (λ (m : ℕ). all_plain (take m (byte ∷ bytes)) ≡ true) (suc_is n) (and_from _ _ is others))
+    rw (is) (subst (λ (m : ℕ). all_plain (take m (byte ∷ bytes)) ≡ true) (suc_is (prefix_len plain bytes)) (and_from _ _ is others))
 front_plain byte bytes false is others = rw (is) refl
 
-before_plain : (bytes : List ℕ) → all_plain (take (prefix_len (λ x. not (is_other x)) bytes) bytes) ≡ true
+pub before_plain : (bytes : List ℕ) → all_plain (take (prefix_len plain bytes) bytes) ≡ true
 before_plain [] = refl
 before_plain (byte ∷ bytes) = front_plain byte bytes (plain byte) refl (before_plain bytes)
-
--- the lowest bit tells the first that is not plain
-pub plain_to_bit : (block : List ℕ) → length block ≡ 16 → ¬ (others_mask block ≡ 0)
-    → all_plain (take (count_trailing_zeros 64 (others_mask block)) block) ≡ true
-plain_to_bit block long some =
-    ap (λ (n : ℕ). all_plain (take n block)) (trailing_mask_l is_other 64 block (omega (arith, long)) (omega (arith, some)))
-    ∙ before_plain block
-
--- and it is one of theirs
-pub bit_within : (block : List ℕ) → length block ≡ 16 → ¬ (others_mask block ≡ 0)
-    → count_trailing_zeros 64 (others_mask block) ≤ 16
-bit_within block long some =
-    subst (λ (n : ℕ). n ≤ 16) (sym (trailing_mask_l is_other 64 block (omega (arith, long)) (omega (arith, some))))
-    (omega (arith, long, prefix_len-le-length (λ x. not (is_other x)) block))
-
-suc_sum : (n k : ℕ) → suc n + k ≡ suc (n + k)
-suc_sum n k = omega arith
-
-take_sum : (n k : ℕ) (bytes : List ℕ) → take (n + k) bytes ≡ take n bytes ++ take k (drop n bytes)
-take_sum zero k bytes = ap (λ (m : ℕ). take m bytes) (omega arith)
-take_sum (suc n) k [] = take_all (suc n + k) [] (omega arith) ∙ sym (take_all k [] (omega arith))
-take_sum (suc n) k (byte ∷ bytes) =
-    ap (λ (m : ℕ). take m (byte ∷ bytes)) (suc_sum n k) ∙ ap (λ (z : List ℕ). byte ∷ z) (take_sum n k bytes)
-
--- the first of the first sixteen
-pub front_of_front : (k : ℕ) (block : List ℕ) → k ≤ 16 → all_plain (take k (take 16 block)) ≡ true → all_plain (take k block) ≡ true
-front_of_front k block within is = ap all_plain (sym (take-take k 16 block within)) ∙ is
-
--- all of the first sixteen, and some after them
-pub both_plain : (k front left : ℕ) (block : List ℕ) → k ≤ left → 16 ≤ front → front ≤ 16 → all_plain (take front (take 16 block)) ≡ true
-    → all_plain (take k (take left (drop 16 block))) ≡ true → all_plain (take (16 + k) block) ≡ true
-both_plain k front left block less all within first after =
-    let whole : front ≡ 16 = omega (arith, all, within) in
-    ap all_plain (take_sum 16 k block) ∙ list_all-append plain (take 16 block) (take k (drop 16 block))
-    ∙ and_from _ _ (front_of_front 16 block (omega arith) (subst (λ (n : ℕ). all_plain (take n (take 16 block)) ≡ true) whole first))
-    (ap all_plain (sym (take-take k left (drop 16 block) less)) ∙ after)
 
 -- fewer of the same bytes
 pub plain_less : (n k : ℕ) (bytes : List ℕ) → n ≤ k → all_plain (take k bytes) ≡ true → all_plain (take n bytes) ≡ true

@@ -1,9 +1,10 @@
 //! The fields of a packet, as text or as members of a JSON object.
 
-ghost use Rattle.std.specs.Prelude.{◌≡◌, ◌≤◌, ◌∷◌, ◌++◌, [], length, take, false, true, Ok, OnOk, string_bytes};
+ghost use Rattle.std.specs.Prelude.{◌≡◌, ◌<◌, ◌≤◌, ◌⊎◌, ◌∷◌, ◌++◌, [], length, take, false, true, Ok, OnOk, string_bytes};
+ghost use Rattle.std.specs.List.{prefix_len};
 ghost use Rattle.std.specs.Fmt.{decimal};
 ghost use Rattle.wire_text.specs.FieldTables.{members_in, members_of};
-ghost use Rattle.wire_text.specs.Fields.{Puts, Words, ended, member_form, nothing, nothing_after, value_of};
+ghost use Rattle.wire_text.specs.Fields.{Puts, Words, ended, member_form, nothing, nothing_after, plain, value_of};
 ghost use Rattle.wire_text.specs.Parts.{WritesMember};
 
 use crate::long::write_text_at;
@@ -193,7 +194,8 @@ impl<A: Allocator + Copy> Fields<A> {
         ensures within { result ≡ Ok true → len ≤ length bytes.now }
         ensures put { result ≡ Ok true
             → Puts ((decimal place, Words (take len bytes.now)) ∷ []) self.old self.new }
-        ensures not { result ≡ Ok false → self.new ≡ self.old }
+        ensures not { result ≡ Ok false → (self.new ≡ self.old)
+            × ((length bytes.now < 32) ⊎ (prefix_len plain (take 32 bytes.now) < len)) }
     {
         let Some((block, _)) = bytes.split_first_chunk::<32>() else {
             return Ok(false);

@@ -1,7 +1,8 @@
 //! Which bytes of a text stand in quotes as they are.
 
-ghost use Rattle.std.specs.Prelude.{◌≡◌, ◌≤◌, ◌%◌, length, map, take, IsTrue};
-ghost use Rattle.wire_text.specs.Fields.{all_plain, needs_no_escape};
+ghost use Rattle.std.specs.Prelude.{◌≡◌, ◌≤◌, ◌%◌, length, map};
+ghost use Rattle.std.specs.List.{prefix_len};
+ghost use Rattle.wire_text.specs.Fields.{all_plain, needs_no_escape, plain};
 ghost use Rattle.wire_text.specs.Plain.{others_mask};
 
 use crate::digits::fill;
@@ -55,7 +56,7 @@ fn is_plain_block(block: &[u8]) -> bool
 fn plain_in_block(block: &[u8]) -> usize
     requires { length block.now ≡ 16 }
     ensures within { result ≤ 16 }
-    ensures plain { IsTrue (all_plain (take result block.now)) }
+    ensures run { result ≡ prefix_len plain block.now }
 {
     let others = others_of(block);
     if others == 0 {
@@ -70,7 +71,7 @@ fn plain_in_block(block: &[u8]) -> usize
 pub(crate) fn plain_in_front(block: &[u8]) -> usize
     requires { length block.now ≡ 32 }
     ensures within { result ≤ 32 }
-    ensures plain { IsTrue (all_plain (take result block.now)) }
+    ensures run { result ≡ prefix_len plain block.now }
 {
     let front = plain_in_block(&block[..16]);
     let after = plain_in_block(&block[16..]);

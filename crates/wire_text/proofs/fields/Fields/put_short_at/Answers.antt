@@ -2,8 +2,9 @@ use Rattle.std.proofs.Common.{◌≡◌, ◌∙◌, ap, arith, length, string_by
 use Rattle.std.proofs.lemmas.List.{take-take}
 use Rattle.std.specs.Fmt.{decimal}
 use Rattle.wire_text.proofs.FieldLemmas.{put_hidden, put_pushed}
-use Rattle.wire_text.proofs.PlainLemmas.{plain_less}
-use Rattle.wire_text.specs.Fields.{Words, Written}
+use Rattle.wire_text.proofs.PlainLemmas.{before_plain, plain_less}
+use Rattle.std.specs.List.{prefix_len}
+use Rattle.wire_text.specs.Fields.{Words, Written, plain}
 use Rattle.wire_text.proofs.fields.Fields.put_short_at.Goals as goal
 
 pub returns-in_default-members-clause-put : goal.returns-in_default-members-clause-put
@@ -12,7 +13,7 @@ returns-in_default-members-clause-put g c is =
 
 pub push_short_at-requires-clause-plain : goal.push_short_at-requires-clause-plain
 push_short_at-requires-clause-plain g c =
-    plain_less c.args.len c.plain_in_front.result c.in-Some.block.now (omega (arith, c.if-plain_in_front-len.false)) c.plain_in_front.ensures.plain
+    plain_less c.args.len (prefix_len plain c.in-Some.block.now) c.in-Some.block.now (omega (arith, c.if-plain_in_front-len.false, c.plain_in_front.ensures.run)) (before_plain c.in-Some.block.now)
 
 pub returns-in-Ok-clause-put : goal.returns-in-Ok-clause-put
 returns-in-Ok-clause-put g c is =
