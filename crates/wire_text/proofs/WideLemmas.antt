@@ -1,6 +1,6 @@
 -- Letters of three bytes each, seen sixteen bytes at a time through masks.
 use Rattle.std.proofs.Common.{◌≡◌, ℕ, zero, suc, ◌+◌, ◌-◌, ◌*◌, ◌/◌, ◌<◌, ◌≤◌, ◌%◌, ◌^◌, ◌==◌, inl, inr, leb, eqb, bit_and, replicate, drop, take, take-append-drop, List, [], ◌∷◌, ◌++◌, Bool, true, false, refl, ap, ap₂, sym, ◌∙◌, append_assoc, arith, length, map, cond, lt-ltb, le-ltb, le-leb, get_or}
-use Rattle.std.proofs.lemmas.Bool.{and_from, and_parts, cases_lt, eqb-false, leb-true, not-true}
+use Rattle.std.proofs.lemmas.Bool.{and_from, and_parts, cases_lt, eqb-false, leb-true, ne_eqb, not-true}
 use Rattle.std.proofs.lemmas.List.{drop-drop, drop_at, length-append, length-map, length-take-le, take-take, take_all, take_at}
 use Rattle.std.proofs.lemmas.Simd.{mask_l-mod, zip2_of_maps, zip2_splat, zip2_splat_left}
 use Rattle.std.proofs.lemmas.Str.{IsUtf8-nil}
@@ -8,7 +8,7 @@ use Rattle.std.specs.Prelude.{◌&&◌, not}
 use Rattle.std.specs.Str.{IsUtf8}
 use lib.Lanes.{mask_l, top, zip2}
 use lib.Utf8.{encode, low_scalar, next, scalar}
-use Rattle.wire_text.specs.Fields.{are_wide, begins_three, goes_on}
+use Rattle.wire_text.specs.Fields.{are_wide, begins_three, goes_on, needs_no_escape, none_needs_escape}
 use Rattle.wire_text.proofs.EscapeLemmas.{false-true}
 
 -- ---- the masks
@@ -254,3 +254,24 @@ wide_utf8 (a ∷ b ∷ c ∷ rest) is =
     let letter = and_parts _ _ parts.0 in
     let front = and_parts _ _ letter.0 in
     letter_before a b c rest (first_bounds a front.0) (later_bounds b front.1) (later_bounds c letter.1) (wide_utf8 rest parts.1)
+
+-- and need no escape
+high_stands : (byte : ℕ) → goes_on byte ≡ true → needs_no_escape byte ≡ true
+high_stands byte is =
+    let high = (later_bounds byte is).0 in
+    rw (ne_eqb byte 34 (λ same. omega (arith, same, high)), ne_eqb byte 92 (λ same. omega (arith, same, high)), le-leb 32 byte (omega (arith, high))) refl
+
+lead_stands : (byte : ℕ) → begins_three byte ≡ true → needs_no_escape byte ≡ true
+lead_stands byte is =
+    let high = (first_bounds byte is).0 in
+    rw (ne_eqb byte 34 (λ same. omega (arith, same, high)), ne_eqb byte 92 (λ same. omega (arith, same, high)), le-leb 32 byte (omega (arith, high))) refl
+
+pub wide_stands : (words : List ℕ) → are_wide words ≡ true → none_needs_escape words ≡ true
+wide_stands [] is = refl
+wide_stands (a ∷ []) is = absurd (false-true is)
+wide_stands (a ∷ b ∷ []) is = absurd (false-true is)
+wide_stands (a ∷ b ∷ c ∷ rest) is =
+    let parts = and_parts _ _ is in
+    let letter = and_parts _ _ parts.0 in
+    let front = and_parts _ _ letter.0 in
+    and_from _ _ (lead_stands a front.0) (and_from _ _ (high_stands b front.1) (and_from _ _ (high_stands c letter.1) (wide_stands rest parts.1)))

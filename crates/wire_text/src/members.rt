@@ -9,7 +9,7 @@ use crate::escapes::look_at;
 use crate::plain::{below_128, is_plain};
 use crate::put::{letter_of, push_between, push_few, push_number};
 use crate::quoted::{push_escaped_words, push_in_quotes};
-use crate::wide::text_of;
+use crate::wide::is_wide;
 use std::alloc::{AllocError, Allocator};
 
 /// How members are shown.
@@ -72,20 +72,25 @@ fn push_words<A: Allocator + Copy>(
     ensures { OnOk result (string_bytes text.new
         ≡ string_bytes text.old ++ words_text form bytes.now) }
 {
+    if is_wide(bytes) {
+        // (letters of three bytes are UTF-8, and need no escape)
+        let words = unsafe { std::str::from_utf8_unchecked(bytes) };
+        return push_in_quotes(text, words);
+    }
     let (is_ascii, stands) = look_at(bytes);
     if is_ascii {
         let words = unsafe { std::str::from_utf8_unchecked(bytes) };
         return push_escaped_words(text, words);
     }
-    match text_of(bytes) {
-        Some(words) => {
+    match std::str::from_utf8(bytes) {
+        Ok(words) => {
             if stands {
                 push_in_quotes(text, words)
             } else {
                 push_escaped_words(text, words)
             }
         }
-        None => push_octets(text, form, bytes),
+        Err(_) => push_octets(text, form, bytes),
     }
 }
 

@@ -1,8 +1,7 @@
 //! Texts of letters of three bytes each, such as Chinese ones, sixteen bytes at a time.
 
-ghost use Rattle.std.specs.Prelude.{◌≡◌, ◌<◌, ◌%◌, true, length, take, drop, map, MatchOption};
+ghost use Rattle.std.specs.Prelude.{◌≡◌, ◌<◌, ◌%◌, true, length, take, drop, map};
 ghost use Rattle.std.specs.Simd.Lanes.{mask_l};
-ghost use Rattle.std.specs.Str.{IsUtf8};
 ghost use Rattle.wire_text.specs.Fields.{are_wide, begins_three, goes_on};
 
 use std::simd::prelude::*;
@@ -69,7 +68,7 @@ fn are_few_wide(words: &[u8]) -> bool
 // Whether bytes are known to be such letters alone: sixteen bytes at once; the last sixteen with
 // some of those in front of them.
 #[inline(always)]
-fn is_wide(words: &[u8]) -> bool
+pub(crate) fn is_wide(words: &[u8]) -> bool
     ensures { result ≡ true → are_wide words.now ≡ true }
 {
     if words.len() % 3 != 0 {
@@ -86,16 +85,4 @@ fn is_wide(words: &[u8]) -> bool
         rest = &rest[15..];
     }
     is_wide_end(&words[words.len() - 16..])
-}
-
-// The text of these bytes, where they are one.
-#[inline(always)]
-pub(crate) fn text_of(bytes: &[u8]) -> Option<&str>
-    ensures { MatchOption result (¬ (IsUtf8 bytes.now))
-        (λ words. (words.now ≡ bytes.now) × IsUtf8 bytes.now) }
-{
-    if is_wide(bytes) {
-        return Some(unsafe { std::str::from_utf8_unchecked(bytes) });
-    }
-    std::str::from_utf8(bytes).ok()
 }
