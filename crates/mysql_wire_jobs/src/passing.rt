@@ -4,7 +4,7 @@ use crate::answers::LIMIT;
 use crate::digest::{Digest, Sink};
 use crate::draws::{Draws, Letters};
 use crate::reading::{Pieces, codec_under, step_of};
-use crate::streams::{Stream, full_chunks, make_stream};
+use crate::streams::{Stream, make_stream, two_chunks};
 use mysql_wire::proto::codec::{Renumber, SpanDecoder};
 use mysql_wire::proto::packet_io::{PacketReader, PacketWriter};
 use std::alloc::Global;
@@ -105,7 +105,7 @@ fn pass(alloc: Global, made: Option<Stream>, turn: usize, digest: &mut Digest) -
 }
 
 /// Questions, answers and rows of 8 to 450 bytes, in one round of four a value of some MB, and once
-/// a packet of full chunks.
+/// a packet of two chunks.
 pub fn pass_on(alloc: Global, draws: &mut Draws, letters: &Letters, rounds: usize) -> Option<u64> {
     let mut digest = Digest::new();
     for round in 0..rounds {
@@ -118,12 +118,7 @@ pub fn pass_on(alloc: Global, draws: &mut Draws, letters: &Letters, rounds: usiz
             pass(alloc, large, round, &mut digest)?;
         }
         if round == 0 {
-            pass(
-                alloc,
-                full_chunks(alloc, draws, letters),
-                round,
-                &mut digest,
-            )?;
+            pass(alloc, two_chunks(alloc, draws, letters), round, &mut digest)?;
         }
     }
     Some(digest.value())

@@ -66,8 +66,8 @@ pub fn make_stream(
     Some(Stream { bytes: stream })
 }
 
-// A packet of two full chunks, after which an empty one stands.
-pub(crate) fn full_chunks(alloc: Global, draws: &mut Draws, letters: &Letters) -> Option<Stream> {
+// A packet of a full chunk, and one that lacks two bytes.
+pub(crate) fn two_chunks(alloc: Global, draws: &mut Draws, letters: &Letters) -> Option<Stream> {
     let mut codec = codec_under(LIMIT);
     let mut stream = BytesMut::new(alloc);
     let mut payload = Vec::new(alloc);
