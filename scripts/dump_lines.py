@@ -126,6 +126,14 @@ def value_of(text):
 
 
 NULL = (b"\xfb", "null", "null")
+# The values of a row of short texts: of each length to 35 bytes, after some of which NULL stands, and
+# others that are not plain letters of ASCII, or stand before such.
+SHORT_VALUES = [
+    *[value for length in range(36) for value in [value_of("x" * length), NULL][:1 + length % 2]],
+    *map(value_of, ("y" * 92, 'a"b', "a" * 31 + "\\", "\n" + "b" * 31, "\u6f22" * 3, "\u6f22" * 5,
+                    "\u6f22\u5b57" * 8, "\ud55c" * 6, "\u0800" * 6, "caf\u00e9", "\U0001f600", "c" * 20,
+                    b"\xfe12", b"\xe6\xbc" + b"d" * 14, b"\xed\xa0\x80" * 6, "e" * 33)),
+]
 # The values of a long row. Those of 64 KiB and more are written by parts of as much: one that fills
 # two, one with a letter of two bytes between two, with escapes, and one that is no text.
 LONG_VALUES = [NULL, value_of("a"), value_of("x" * 65535), NULL, value_of("y" * 131072),
@@ -262,6 +270,7 @@ SESSIONS = [
     text_session("a long text with an escape in front", "\1" + "\u00e9" * 100),
     *[row_session(*row, has_json) for has_json in (False, True) for row in (
         ("a row of 101 values", [value_of(str(place % 10)) for place in range(101)]),
+        ("a row of short texts", SHORT_VALUES),
         ("a long row", LONG_VALUES),
         ("a long row whose first value is written", LONG_VALUES[4:]),
     )],
