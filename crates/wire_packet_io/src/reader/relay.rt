@@ -71,8 +71,7 @@ impl<R: Read, A: Allocator + Copy> PacketReader<R, A> {
         self.relay_by_steps(codec, writer, writer_codec)
     }
 
-    // The same of any packet, step by step. It is a call, so that the one above is small.
-    #[inline(never)]
+    // The same of any packet, step by step. It stands apart, so that the one above is small.
     fn relay_by_steps<W: Write, B: Allocator + Copy>(
         &mut self,
         codec: &mut PacketCodec,
