@@ -1,16 +1,13 @@
 -- What stands for a byte where JSON quotes it.
-use Rattle.std.proofs.Common.{◌≡◌, ℕ, zero, suc, ◌+◌, ◌*◌, ◌-◌, ◌/◌, ◌%◌, ◌<◌, ◌≤◌, ◌⊎◌, inl, inr, leb, eqb, cond, drop, take, List, [], ◌∷◌, ◌++◌, Bool, true, false, refl, ap, ap₂, sym, subst, ◌∙◌, append_assoc, append-nil, take-append-drop, arith, length, get_or}
+use Rattle.std.proofs.Common.{◌≡◌, ℕ, zero, suc, ◌+◌, ◌*◌, ◌/◌, ◌%◌, ◌<◌, ◌≤◌, ◌⊎◌, inl, inr, leb, eqb, cond, drop, take, List, [], ◌∷◌, ◌++◌, Bool, true, false, refl, ap, ap₂, sym, subst, ◌∙◌, append_assoc, append-nil, take-append-drop, arith, length, get_or}
 use Rattle.std.proofs.lemmas.Bool.{and_parts, eqb-true}
 use Rattle.std.proofs.lemmas.Bool.Decides.{leb_tells}
 use Rattle.std.proofs.lemmas.Grind.{flat_map-append}
-use Rattle.std.proofs.lemmas.List.{drop-take, get_or-drop, length-append, length-drop, length-take, take_more, take-append-le, take-take, take_all}
-use Rattle.std.proofs.lemmas.List.Sums.{prefix_len-le-length}
-use Rattle.std.specs.List.{prefix_len}
+use Rattle.std.proofs.lemmas.List.{length-append, length-take, take_more, take-append-le, take_all}
 use Rattle.std.specs.Prelude.{◌&&◌, slice_index_or}
 use Rattle.json.specs.Print.{escape, escape_byte}
-use Rattle.wire_text.specs.Fields.{escape_mark, needs_no_escape}
-use Rattle.wire_text.proofs.FieldLemmas.{escape-none_needs_escape, is_false}
-use Rattle.wire_text.proofs.StandLemmas.{run_stands}
+use Rattle.wire_text.specs.Fields.{escape_mark}
+use Rattle.wire_text.proofs.FieldLemmas.{is_false}
 
 -- a test of all numbers below one
 abbrev upto : (ℕ → Bool) → ℕ → Bool
@@ -92,28 +89,24 @@ hex_letter byte letter below is same =
 
 -- ---- in a room
 
--- so many bytes are done, and so much of the room is filled, after what stood there
+-- so much of the room is filled, after what stood there
 abbrev pub FilledTo : List ℕ → ℕ → List ℕ → ℕ → ℕ → List ℕ → Type 0
-FilledTo front begin words done at room = (done ≤ length words) × (at ≤ begin + 6 * done) × (take at room ≡ front ++ escape (take done words))
+FilledTo front begin words place at room = (length room ≡ 400) × (at ≤ begin + 6 * place) × (take at room ≡ front ++ escape (take place words))
 
-pub filled_begins : (front words room : List ℕ) (begin : ℕ) → front ≡ take begin room → FilledTo front begin words 0 begin room
-filled_begins front words room begin front_is = (omega arith, omega arith, sym front_is ∙ sym (append-nil front))
+pub filled_begins : (front words room : List ℕ) (begin : ℕ) → length room ≡ 400 → front ≡ take begin room → FilledTo front begin words 0 begin room
+filled_begins front words room begin long front_is = (long, omega arith, sym front_is ∙ sym (append-nil front))
 
-block_in : (size at len : ℕ) (room block : List ℕ) → at + size ≤ length room → length block ≡ size → len ≤ size
-    → take (at + len) (take at room ++ (block ++ drop (at + size) room)) ≡ take at room ++ take len block
-block_in size at len room block within long short =
+block_in : (at len : ℕ) (room block : List ℕ) → at + 8 ≤ length room → length block ≡ 8 → len ≤ 8
+    → take (at + len) (take at room ++ (block ++ drop (at + 8) room)) ≡ take at room ++ take len block
+block_in at len room block within long short =
     let front : length (take at room) ≡ at = omega (arith, length-take at room, within) in
     let part : length (take len block) ≡ len = omega (arith, length-take len block, long, short) in
-    let rest = drop len block ++ drop (at + size) room in
-    let parted = ap (λ (z : List ℕ). z ++ drop (at + size) room) (sym (take-append-drop len block)) ∙ append_assoc (take len block) (drop len block) (drop (at + size) room) in
+    let rest = drop len block ++ drop (at + 8) room in
+    let parted = ap (λ (z : List ℕ). z ++ drop (at + 8) room) (sym (take-append-drop len block)) ∙ append_assoc (take len block) (drop len block) (drop (at + 8) room) in
     ap (λ (z : List ℕ). take (at + len) (take at room ++ z)) parted
     ∙ ap (take (at + len)) (sym (append_assoc (take at room) (take len block) rest))
     ∙ take-append-le (at + len) (take at room ++ take len block) rest (omega (arith, length-append (take at room) (take len block), front, part))
     ∙ take_all (at + len) (take at room ++ take len block) (omega (arith, length-append (take at room) (take len block), front, part))
-
--- one part after another
-pub escape_append : (first second : List ℕ) → escape (first ++ second) ≡ escape first ++ escape second
-escape_append first second = flat_map-append escape_byte first second
 
 escape_more : (place : ℕ) (words : List ℕ) → place < length words → escape (take (place + 1) words) ≡ escape (take place words) ++ escape_byte (get_or words place 0)
 escape_more place words inside =
@@ -121,59 +114,20 @@ escape_more place words inside =
     ∙ ap (λ (z : List ℕ). escape (take place words) ++ z) (append-nil (escape_byte (get_or words place 0)))
 
 -- a block of a few bytes in the room
-pub block_put : (size at len : ℕ) (room block new bytes : List ℕ) → at + size ≤ length room → length block ≡ size → len ≤ size → take len block ≡ bytes
-    → new ≡ take at room ++ block ++ drop (at + size) room → take (at + len) new ≡ take at room ++ bytes
-block_put size at len room block new bytes within long short is new_is =
-    ap (take (at + len)) (new_is ∙ append_assoc (take at room) block (drop (at + size) room)) ∙ block_in size at len room block within long short
+pub block_put : (at len : ℕ) (room block new bytes : List ℕ) → at + 8 ≤ length room → length block ≡ 8 → len ≤ 6 → take len block ≡ bytes
+    → new ≡ take at room ++ block ++ drop (at + 8) room → take (at + len) new ≡ take at room ++ bytes
+block_put at len room block new bytes within long short is new_is =
+    ap (take (at + len)) (new_is ∙ append_assoc (take at room) block (drop (at + 8) room)) ∙ block_in at len room block within long (omega (arith, short))
     ∙ ap (λ (z : List ℕ). take at room ++ z) is
 
--- a block of sixteen bytes in the room, of which the first need no escape
-pub run_put : (at n : ℕ) (room block new : List ℕ) → at + 16 ≤ length room → length block ≡ 16 → n ≤ prefix_len needs_no_escape block
-    → new ≡ take at room ++ block ++ drop (at + 16) room → take (at + n) new ≡ take at room ++ escape (take n block)
-run_put at n room block new within long run new_is =
-    ap (take (at + n)) (new_is ∙ append_assoc (take at room) block (drop (at + 16) room)) ∙ block_in 16 at n room block within long (omega (arith, run, long, prefix_len-le-length needs_no_escape block))
-    ∙ ap (λ (z : List ℕ). take at room ++ z) (sym (escape-none_needs_escape (take n block) (run_stands n block run)))
-
--- what stands behind so many bytes, where others stand behind these
-same_front : (done n len size : ℕ) (words source : List ℕ) → take len source ≡ words → done + n ≤ len → n ≤ size
-    → take n (take size (drop done source)) ≡ take n (drop done words)
-same_front done n len size words source is within few =
-    take-take n size (drop done source) few ∙ sym (drop-take done n source)
-    ∙ ap (drop done) (sym (take-take (done + n) len source within) ∙ ap (take (done + n)) is) ∙ drop-take done n words
-
--- a run of them in the room
-pub run_escaped : (done n len size : ℕ) (words source front text : List ℕ) → take len source ≡ words → done + n ≤ len → n ≤ size
-    → text ≡ front ++ escape (take n (take size (drop done source))) → text ≡ front ++ escape (take n (drop done words))
-run_escaped done n len size words source front text source_is within few is =
-    is ∙ ap (λ (z : List ℕ). front ++ escape z) (same_front done n len size words source source_is within few)
-
 -- one byte more
-pub escaped_next : (done n next : ℕ) (words front before text : List ℕ) → done + n ≡ next → next < length words
-    → text ≡ before ++ escape_byte (get_or words next 0) → before ≡ front ++ escape (take n (drop done words))
-    → text ≡ front ++ escape (take (next + 1 - done) (drop done words))
-escaped_next done n next words front before text next_is inside is before_is =
-    is ∙ ap (λ (z : List ℕ). z ++ escape_byte (get_or words next 0)) before_is
-    ∙ append_assoc front (escape (take n (drop done words))) (escape_byte (get_or words next 0))
-    ∙ ap (λ (z : List ℕ). front ++ z)
-    (ap (λ (byte : ℕ). escape (take n (drop done words)) ++ escape_byte byte) (ap (λ (k : ℕ). get_or words k 0) (sym next_is) ∙ sym (get_or-drop done words n 0))
-    ∙ sym (escape_more n (drop done words) (omega (arith, inside, next_is, length-drop done words)))
-    ∙ ap (λ (k : ℕ). escape (take k (drop done words))) (omega (arith, next_is)))
-
-take_split : (n m : ℕ) (words : List ℕ) → take n words ++ take m (drop n words) ≡ take (n + m) words
-take_split n m words =
-    ap₂ (λ (a b : List ℕ). a ++ b) (sym (take-take n (n + m) words (omega arith))) (sym (drop-take n m words))
-    ∙ take-append-drop n (take (n + m) words)
-
--- more of them
-pub filled_on : (front words : List ℕ) (begin done at next after : ℕ) (room new : List ℕ) → FilledTo front begin words done at room → done < next → next ≤ length words
-    → after + 6 * done ≤ at + 6 * next → take after new ≡ take at room ++ escape (take (next - done) (drop done words)) → FilledTo front begin words next after new
-filled_on front words begin done at next after room new filled more within short is = (
-  within,
+pub filled_on : (front words : List ℕ) (begin place at next : ℕ) (room new : List ℕ) → FilledTo front begin words place at room → place < length words → length new ≡ 400
+    → next ≤ at + 6 → take next new ≡ take at room ++ escape_byte (get_or words place 0) → FilledTo front begin words (place + 1) next new
+filled_on front words begin place at next room new filled inside long short is = (
+  long,
   omega (arith, filled.1, short),
-  is ∙ ap (λ (z : List ℕ). z ++ escape (take (next - done) (drop done words))) filled.2
-      ∙ append_assoc front (escape (take done words)) (escape (take (next - done) (drop done words)))
-      ∙ ap (λ (z : List ℕ). front ++ z) (sym (escape_append (take done words) (take (next - done) (drop done words)))
-      ∙ ap escape (take_split done (next - done) words ∙ ap (λ (k : ℕ). take k words) (omega (arith, more)))),
+  is ∙ ap (λ (z : List ℕ). z ++ escape_byte (get_or words place 0)) filled.2 ∙ append_assoc front (escape (take place words)) (escape_byte (get_or words place 0))
+      ∙ ap (λ (z : List ℕ). front ++ z) (sym (escape_more place words inside)),
 )
 
 -- ---- block by block
@@ -181,6 +135,10 @@ filled_on front words begin done at next after room new filled more within short
 -- the escapes of what is done of some bytes stand after what was held, and this is left of them
 abbrev pub Escaped : List ℕ → List ℕ → List ℕ → List ℕ → Type 0
 Escaped words rest held text = (done : List ℕ) × (done ++ rest ≡ words) × (text ≡ held ++ escape done)
+
+-- one part after another
+pub escape_append : (first second : List ℕ) → escape (first ++ second) ≡ escape first ++ escape second
+escape_append first second = flat_map-append escape_byte first second
 
 pub none_escaped : (held : List ℕ) (words : List ℕ) → Escaped words words held held
 none_escaped held words = ([], refl, sym (append-nil held))

@@ -3,10 +3,9 @@ use Rattle.std.proofs.Common.{◌≡◌, ℕ, zero, suc, ◌+◌, ◌-◌, ◌*�
 use Rattle.std.proofs.lemmas.Bool.{and_parts}
 use Rattle.std.proofs.lemmas.List.Folds.{list_all-append}
 use Rattle.std.proofs.lemmas.List.{length-append, length-map}
-use Rattle.std.proofs.lemmas.Simd.{leading_from_mask_l, mask_l-mod, trailing_mask_l, zip2_of_maps, zip2_splat, zip2_splat_left}
+use Rattle.std.proofs.lemmas.Simd.{mask_l-mod, zip2_of_maps, zip2_splat, zip2_splat_left}
 use Rattle.std.specs.List.{list_all, prefix_len}
 use Rattle.std.specs.Prelude.{◌&&◌, not}
-use lib.Count.{count_trailing_zeros}
 use lib.Lanes.{mask_l, top, zip2}
 use Rattle.wire_text.specs.Fields.{all_ascii, in_ascii, needs_escape, needs_no_escape, none_needs_escape, over_ascii}
 use Rattle.wire_text.proofs.FieldLemmas.{zero-false}
@@ -92,19 +91,6 @@ no_escape_bit bytes = none_set needs_escape needs_no_escape (λ x. not_not (need
 
 pub no_wide_bit : (bytes : List ℕ) → nat_eq (mask_l (map over_ascii bytes)) 0 ≡ all_ascii bytes
 no_wide_bit bytes = none_set over_ascii in_ascii (λ x. not_not (in_ascii x)) bytes
-
--- ---- the first that needs one
-
-same_run : (bytes : List ℕ) → prefix_len (λ x. not (needs_escape x)) bytes ≡ prefix_len needs_no_escape bytes
-same_run [] = refl
-same_run (byte ∷ bytes) = ap₂ (λ (b : Bool) (n : ℕ). cond b (1 + n) 0) (not_not (needs_no_escape byte)) (same_run bytes)
-
-pub run_of_all : (bytes : List ℕ) → length bytes ≡ 16 → mask_l (map needs_escape bytes) ≡ 0 → 16 ≡ prefix_len needs_no_escape bytes
-run_of_all bytes long none = sym long ∙ sym (leading_from_mask_l needs_escape bytes none) ∙ same_run bytes
-
-pub run_to_first : (bytes : List ℕ) → length bytes ≡ 16 → (mask_l (map needs_escape bytes) ≡ 0 → ⊥)
-    → count_trailing_zeros 64 (mask_l (map needs_escape bytes)) ≡ prefix_len needs_no_escape bytes
-run_to_first bytes long some = trailing_mask_l needs_escape 64 bytes (omega (arith, long)) (omega (arith, some)) ∙ same_run bytes
 
 -- ---- many bytes, block by block
 

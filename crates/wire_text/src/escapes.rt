@@ -1,9 +1,8 @@
 //! Which bytes of a text need escapes, sixteen at a time.
 
 ghost use Rattle.std.specs.Prelude.{◌≡◌, ◌≤◌, length, map};
-ghost use Rattle.std.specs.List.{prefix_len};
 ghost use Rattle.std.specs.Simd.Lanes.{mask_l};
-ghost use Rattle.wire_text.specs.Fields.{all_ascii, needs_escape, needs_no_escape, none_needs_escape, over_ascii};
+ghost use Rattle.wire_text.specs.Fields.{all_ascii, needs_escape, none_needs_escape, over_ascii};
 
 use std::simd::prelude::*;
 
@@ -29,19 +28,6 @@ fn wide_bits(block: &[u8]) -> u64
     u8x16::from_slice(block)
         .simd_ge(u8x16::splat(0x80))
         .to_bitmask()
-}
-
-// How many of sixteen bytes come before the first that needs an escape.
-#[inline(always)]
-pub(crate) fn run_of(block: &[u8]) -> usize
-    requires { length block.now ≡ 16 }
-    ensures { result ≡ prefix_len needs_no_escape block.now }
-{
-    let bits = escape_bits(block);
-    if bits == 0 {
-        return 16;
-    }
-    bits.trailing_zeros() as usize
 }
 
 // Whether sixteen bytes are of ASCII, and whether none of them needs an escape.
