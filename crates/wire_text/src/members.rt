@@ -319,9 +319,13 @@ fn push_short_behind<A: Allocator>(
     push_short(text, form, is_first, digits.format(place), block, len)
 }
 
+// Room for such a text and what stands around it. Where there is less, just its bytes are appended, so
+// that no more memory is asked for.
+const SHORT_ROOM: usize = 128;
+
 // A text of plain letters, which 32 bytes begin with, and whose name is its place.
 #[inline(always)]
-pub(crate) fn push_short_at<A: Allocator>(
+pub(crate) fn push_short_at<A: Allocator + Copy>(
     text: &mut String<A>,
     form: MemberForm,
     is_first: bool,
@@ -335,6 +339,9 @@ pub(crate) fn push_short_at<A: Allocator>(
     ensures { OnOk result (string_bytes text.new ≡ string_bytes text.old
         ++ member_part form is_first (decimal place, Words (take len block.now))) }
 {
+    if text.capacity().saturating_sub(text.len()) < SHORT_ROOM {
+        return push_text_at(text, form, is_first, place, &block[..len]);
+    }
     if place >= 10 {
         return push_short_behind(text, form, is_first, place, block, len);
     }
