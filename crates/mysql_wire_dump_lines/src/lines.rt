@@ -1,10 +1,10 @@
 //! The lines that are written.
 
-ghost use Rattle.std.specs.Prelude.{◌≡◌, ◌++◌, OnOk, string_bytes};
+ghost use Rattle.std.specs.Prelude.{◌≡◌, ◌++◌, OnOk, codes, string_bytes};
 ghost use Rattle.std.specs.Fmt.{decimal};
 ghost use Rattle.mysql_wire_dump_lines.specs.Lines.{bytes_part, ending_line, line_end, packet_front, packet_head, packet_line, refused_words, shown_bytes};
 ghost use Rattle.mysql_wire_dump_lines.specs.Names.{end_name};
-ghost use Rattle.mysql_wire_session_phases.specs.Names.{refusal_name};
+ghost use Rattle.mysql_wire_session_phases.specs.Names.{refusal_name, side_name};
 
 use crate::packet_stream::End;
 use mysql_wire_session_phases::packet_kind::PacketKind;
@@ -119,6 +119,16 @@ fn push_counted<A: Allocator>(
     text.push_str(after)
 }
 
+// Who sent a packet, and a space.
+fn front_of(side: Side) -> &'static str
+    ensures { result.now ≡ side_name side ++ codes " " }
+{
+    match side {
+        Side::Client => "client ",
+        Side::Server => "server ",
+    }
+}
+
 // Who sent a packet, the id of its first chunk, its length, and what it is.
 fn push_front<A: Allocator + Copy>(
     text: &mut String<A>,
@@ -128,19 +138,17 @@ fn push_front<A: Allocator + Copy>(
     ensures { OnOk result (string_bytes text.new
         ≡ string_bytes text.old ++ packet_front form seen.now) }
 {
-    let side = seen.side.name();
     let id = seen.id as u64;
     let len = seen.len as u64;
     let kind = seen.kind.name();
     match form {
         LineForm::Text => {
-            text.push_str(side)?;
-            text.push_str(" ")?;
+            text.push_str(front_of(seen.side))?;
             push_counted(text, id, " ", len, " ")?;
             text.push_str(kind)
         }
         LineForm::Json => {
-            push_between(text, "{\"from\":\"", side, "\",\"id\":")?;
+            push_between(text, "{\"from\":\"", seen.side.name(), "\",\"id\":")?;
             push_counted(text, id, ",\"length\":", len, ",\"packet\":\"")?;
             text.push_str(kind)?;
             text.push_str("\"")

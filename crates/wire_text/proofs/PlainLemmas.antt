@@ -13,6 +13,7 @@ use Rattle.std.proofs.lemmas.List.Sums.{prefix_len-le-length}
 use Rattle.wire_text.specs.Fields.{all_ascii, all_plain, needs_no_escape, plain}
 use Rattle.wire_text.specs.Plain.{is_other, others_mask}
 use Rattle.std.proofs.lemmas.Nat.{and_mask}
+use Rattle.std.proofs.Math.Nat.{min-le_left, min-le_right}
 use Rattle.wire_text.proofs.FieldLemmas.{zero-false}
 
 pub none_double : (n : ℕ) → nat_eq (2 * n) 0 ≡ nat_eq n 0
@@ -213,6 +214,15 @@ front_plain byte bytes false is others = rw (is) refl
 pub before_plain : (bytes : List ℕ) → all_plain (take (prefix_len plain bytes) bytes) ≡ true
 before_plain [] = refl
 before_plain (byte ∷ bytes) = front_plain byte bytes (plain byte) refl (before_plain bytes)
+
+-- no more stand in front of one that is not plain than there are
+pub run_below_count : (n len : ℕ) (bytes : List ℕ) → n < len → prefix_len plain (take n bytes) < len
+run_below_count n len bytes above =
+    omega (arith, above, prefix_len-le-length plain (take n bytes), length-take n bytes, min-le_left n (length bytes))
+
+pub run_below_length : (n len : ℕ) (bytes : List ℕ) → length bytes < len → prefix_len plain (take n bytes) < len
+run_below_length n len bytes above =
+    omega (arith, above, prefix_len-le-length plain (take n bytes), length-take n bytes, min-le_right n (length bytes))
 
 -- fewer of the same bytes
 pub plain_less : (n k : ℕ) (bytes : List ℕ) → n ≤ k → all_plain (take k bytes) ≡ true → all_plain (take n bytes) ≡ true

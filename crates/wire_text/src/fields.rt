@@ -1,6 +1,6 @@
 //! The fields of a packet, as text or as members of a JSON object.
 
-ghost use Rattle.std.specs.Prelude.{◌≡◌, ◌<◌, ◌≤◌, ◌⊎◌, ◌∷◌, ◌++◌, [], length, take, false, true, Ok, OnOk, string_bytes};
+ghost use Rattle.std.specs.Prelude.{◌≡◌, ◌<◌, ◌≤◌, ◌⊎◌, ◌↔◌, ◌∷◌, ◌++◌, [], length, take, false, true, IsTrue, Ok, OnOk, string_bytes};
 ghost use Rattle.std.specs.List.{prefix_len};
 ghost use Rattle.std.specs.Fmt.{decimal};
 ghost use Rattle.wire_text.specs.FieldTables.{members_in, members_of};
@@ -131,6 +131,14 @@ impl<A: Allocator + Copy> Fields<A> {
         self.text.clear();
     }
 
+    /// Whether no field is shown.
+    #[inline(always)]
+    pub fn is_hidden(&self) -> bool
+        ensures { IsTrue result ↔ (self.now.form ≡ Hidden) }
+    {
+        matches!(self.form, FieldForm::Hidden)
+    }
+
     /// Puts a field.
     #[inline(always)]
     pub fn put(&mut self, name: &str, value: FieldValue<'_>) -> Result<(), AllocError>
@@ -187,8 +195,8 @@ impl<A: Allocator + Copy> Fields<A> {
     }
 
     /// Puts the text that these bytes begin with, of this many bytes, which has no name but its place:
-    /// whether it has. That is where it is short, of plain letters, and 32 bytes are there; else
-    /// nothing changes.
+    /// whether it has. Where fields are shown, that is where it is short, of plain letters, and 32
+    /// bytes are there; else nothing changes.
     #[inline(always)]
     pub fn put_short_at(&mut self, place: u64, bytes: &[u8], len: usize) -> Result<bool, AllocError>
         ensures within { result ≡ Ok true → len ≤ length bytes.now }
@@ -196,16 +204,17 @@ impl<A: Allocator + Copy> Fields<A> {
             → Puts ((decimal place, Words (take len bytes.now)) ∷ []) self.old self.new }
         ensures not { result ≡ Ok false → (self.new ≡ self.old)
             × ((length bytes.now < 32) ⊎ (prefix_len plain (take 32 bytes.now) < len)) }
+        ensures hidden { self.old.form ≡ Hidden → len ≤ length bytes.now → result ≡ Ok true }
     {
+        let Some(form) = self.form.members() else {
+            return Ok(len <= bytes.len());
+        };
         let Some((block, _)) = bytes.split_first_chunk::<32>() else {
             return Ok(false);
         };
-        if plain_in_front(block) < len {
+        if len > block.len() || plain_in_front(block) < len {
             return Ok(false);
         }
-        let Some(form) = self.form.members() else {
-            return Ok(true);
-        };
         let is_first = self.text.len() == self.begin;
         match push_short_at(&mut self.text, form, is_first, place, block, len) {
             Ok(()) => Ok(true),
@@ -224,6 +233,9 @@ impl<A: Allocator + Copy> Fields<A> {
     {
         if let FieldValue::Text(bytes) = value {
             return self.put_text_at(place, bytes);
+        }
+        if self.is_hidden() {
+            return Ok(());
         }
         let mut digits = itoa::Buffer::new();
         self.put(digits.format(place), value)

@@ -22,11 +22,11 @@ use wire_buf::io::ParseBuf;
 use wire_const::ColumnType;
 use wire_text::fields::{Field, FieldValue, Fields};
 
-// The longest text that is looked at and copied without asking how long it is.
-const SHORT: u8 = 32;
+// The longest text whose length is one byte.
+const LONGEST: u8 = 250;
 
-// Reads the text of a column, and puts it, where it is short, of plain letters, and others follow:
-// whether it has.
+// Reads the text of a column, and puts it, where none is shown, or it is short, of plain letters, and
+// others follow: whether it has.
 #[inline(always)]
 fn put_short<A: Allocator + Copy>(
     fields: &mut Fields<A>,
@@ -41,7 +41,7 @@ fn put_short<A: Allocator + Copy>(
     let Some((len, behind)) = rest.0.split_first() else {
         return Ok(false);
     };
-    if *len > SHORT || !fields.put_short_at(place, behind, *len as usize)? {
+    if *len > LONGEST || !fields.put_short_at(place, behind, *len as usize)? {
         return Ok(false);
     }
     rest.0 = &behind[*len as usize..];
@@ -159,6 +159,9 @@ fn put_date<A: Allocator + Copy>(
     ensures { OnOk result (Puts ((decimal place, Word (date_text date.now)) ∷ [])
         fields.old fields.new) }
 {
+    if fields.is_hidden() {
+        return Ok(());
+    }
     let mut text = String::with_capacity(fields.alloc(), TEMPORAL_ROOM)?;
     push_date(&mut text, date)?;
     fields.put_at(place, FieldValue::Word(text.as_str()))
@@ -173,6 +176,9 @@ fn put_time<A: Allocator + Copy>(
     ensures { OnOk result (Puts ((decimal place, Word (time_text time.now)) ∷ [])
         fields.old fields.new) }
 {
+    if fields.is_hidden() {
+        return Ok(());
+    }
     let mut text = String::with_capacity(fields.alloc(), TEMPORAL_ROOM)?;
     push_time(&mut text, time)?;
     fields.put_at(place, FieldValue::Word(text.as_str()))

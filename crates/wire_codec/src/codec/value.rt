@@ -10,6 +10,9 @@ use bytes::BytesMut;
 use std::alloc::Allocator;
 use wire_buf::proto::MySerialize;
 
+// Room that most values without a long text need no more than.
+const USUAL_LEN: usize = 256;
+
 /// Appends a value's bytes as one packet, where there are at most `max_allowed_packet` of them.
 ///
 /// `PacketTooLarge`: there are more. `OutOfMemory`: memory was refused, to the payload or to `dst`.
@@ -37,7 +40,9 @@ pub fn encode_value<T: MySerialize>(
     ensures header { header_of codec.new ≡ header_of codec.old }
     ensures limit { codec.new.max_allowed_packet ≡ codec.old.max_allowed_packet }
 {
-    let mut payload = Vec::new(*dst.allocator());
+    let Ok(mut payload) = Vec::with_capacity(*dst.allocator(), USUAL_LEN) else {
+        return Err(PacketCodecError::OutOfMemory);
+    };
     if value.serialize(&mut payload).is_err() {
         return Err(PacketCodecError::OutOfMemory);
     }

@@ -11,7 +11,7 @@ returns-clause-put g c is =
       (decimal c.args.place, Words (take c.in-Some.len.now c.in-Some.behind.now)),
       (
         short_text c.args.place c.in-Some.len.now c.args.rest.now.0.now c.in-Some.behind.now c.in-Some.ensures.cases.0
-            (omega (arith, c.if-len-gt-SHORT.false)) (put.within came),
+            (omega (arith, c.if-len-gt-LONGEST.false)) (put.within came),
         put.put came,
       ),
     )

@@ -1,25 +1,45 @@
-use Rattle.std.proofs.Common.{◌≡◌, ◌∙◌, ap, arith, length, string_bytes, sym, take}
+use Rattle.std.proofs.Common.{◌≡◌, ◌∙◌, ◌<◌, List, ℕ, ap, arith, inr, leb, length, refl, string_bytes, subst, sym, take, false, Ok}
+use Rattle.std.proofs.lemmas.Bool.{leb-false}
 use Rattle.std.proofs.lemmas.List.{take-take}
 use Rattle.std.specs.Fmt.{decimal}
 use Rattle.wire_text.proofs.FieldLemmas.{put_hidden, put_pushed}
-use Rattle.wire_text.proofs.PlainLemmas.{before_plain, plain_less}
+use Rattle.wire_text.proofs.PlainLemmas.{before_plain, plain_less, run_below_count, run_below_length}
 use Rattle.std.specs.List.{prefix_len}
 use Rattle.wire_text.specs.Fields.{Words, Written, plain}
+use Rattle.wire_text.proofs.fields.Fields.put_short_at.Goals.{then-len-gt32-via-else-len-gt32+then-plain_in_front-len, then-len-gt32-via-then-len-gt32}
 use Rattle.wire_text.proofs.fields.Fields.put_short_at.Goals as goal
 
-pub returns-in_default-members-clause-put : goal.returns-in_default-members-clause-put
-returns-in_default-members-clause-put g c is =
-    put_hidden c.self.inside.form c.args.self.now _ (ap (λ (w : Written). w.form) (sym c.self.view_is)) (sym c.members.ensures ∙ c.in_default-members.is)
+pub returns-in_default-clause-put : goal.returns-in_default-clause-put
+returns-in_default-clause-put g c is =
+    put_hidden c.self.inside.form c.args.self.now _ (ap (λ (w : Written). w.form) (sym c.self.view_is)) (sym c.members.ensures ∙ c.in_default.is)
+
+pub returns-in_default-clause-not : goal.returns-in_default-clause-not
+returns-in_default-clause-not g c is =
+    let above : leb c.args.len (length c.args.bytes.now) ≡ false = cc is in
+    (refl, inr (run_below_length 32 c.args.len c.args.bytes.now (leb-false c.args.len (length c.args.bytes.now) above)))
+
+pub returns-then-len-gt32-clause-not : goal.returns-then-len-gt32-clause-not
+returns-then-len-gt32-clause-not g c is = (
+  refl,
+  inr (elim c.then-len-gt32.branch [
+    | then-len-gt32-via-then-len-gt32 w ↦ run_below_count 32 c.args.len c.args.bytes.now w.if-len-gt32.true
+    | then-len-gt32-via-else-len-gt32+then-plain_in_front-len w ↦
+        subst (λ (front : List ℕ). prefix_len plain front < c.args.len) c.in-Some-split_first_chunk.ensures.cases.0
+        (omega (arith, w.plain_in_front.ensures.run, w.if-plain_in_front-len.true))
+  ]),
+)
 
 pub push_short_at-requires-clause-plain : goal.push_short_at-requires-clause-plain
 push_short_at-requires-clause-plain g c =
-    plain_less c.args.len (prefix_len plain c.in-Some.block.now) c.in-Some.block.now (omega (arith, c.if-plain_in_front-len.false, c.plain_in_front.ensures.run)) (before_plain c.in-Some.block.now)
+    let block = c.in-Some-split_first_chunk.block.now in
+    plain_less c.args.len (prefix_len plain block) block (omega (arith, c.if-plain_in_front-len.false, c.plain_in_front.ensures.run)) (before_plain block)
 
 pub returns-in-Ok-clause-put : goal.returns-in-Ok-clause-put
 returns-in-Ok-clause-put g c is =
     let fields = c.self.inside in
+    let block = c.in-Some-split_first_chunk.block.now in
     let long : c.len.result ≡ length (string_bytes fields.text) = omega (arith, c.len.ensures) in
-    let front = ap (take c.args.len) c.in-Some.ensures.cases.0 ∙ take-take c.args.len 32 c.args.bytes.now (omega (arith, c.if-plain_in_front-len.false, c.plain_in_front.ensures.within)) in
-    let put = put_pushed c.push_short_at.result fields.form c.in-Some-members.form fields.begin c.len.result (string_bytes fields.text) (string_bytes c.push_short_at.new.text) c.args.self.now
-    (decimal c.args.place, Words (take c.args.len c.in-Some.block.now)) (sym c.self.view_is) (sym c.members.ensures ∙ c.in-Some-members.is) c.self.invariant.0 long c.push_short_at.ensures in
+    let front = ap (take c.args.len) c.in-Some-split_first_chunk.ensures.cases.0 ∙ take-take c.args.len 32 c.args.bytes.now (omega (arith, c.if-plain_in_front-len.false, c.plain_in_front.ensures.within)) in
+    let put = put_pushed c.push_short_at.result fields.form c.in-Some.form fields.begin c.len.result (string_bytes fields.text) (string_bytes c.push_short_at.new.text) c.args.self.now
+    (decimal c.args.place, Words (take c.args.len block)) (sym c.self.view_is) (sym c.members.ensures ∙ c.in-Some.is) c.self.invariant.0 long c.push_short_at.ensures in
     rw (← front) (rw c.in-Ok.is at put)
