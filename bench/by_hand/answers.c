@@ -43,6 +43,7 @@ static inline Definition read_definition(const uint8_t *at)
     take_text(&at); /* the catalog */
     for (int i = 0; i < DEFINITION_NAMES; i++)
         definition.names[i] = take_text(&at);
+    test_bytes(at, bytes_end, 13);
     definition.column_length = (uint32_t)load(at + 3, 4);
     definition.flags = (uint16_t)load(at + 8, 2);
     return definition;
@@ -72,6 +73,7 @@ static inline void fold_row(Reading *reading, Text packet)
 
 INLINE void read_packet(Reading *reading, Way way, Text packet)
 {
+    bytes_end = packet.bytes + packet.len;
     size_t place = reading->place++;
     if (place == 0 || place == reading->columns + 1 || packet.len == END_LEN) {
         digest_text(&reading->digest, packet);

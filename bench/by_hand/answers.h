@@ -40,6 +40,7 @@ static inline Definition draw_definition(Draws *draws)
 
 static inline uint8_t *put_definition(uint8_t *to, const Definition *definition)
 {
+    test_bytes(to, room_end, 4);
     memcpy(to, "\3def", 4);
     to += 4;
     for (int i = 0; i < DEFINITION_NAMES; i++)
@@ -113,6 +114,7 @@ static inline void make_answer(Buffer *stream, Draws *draws, size_t columns, siz
                                bool is_own)
 {
     uint8_t *payload = malloc(row_room(columns));
+    room_end = payload + row_room(columns);
     uint8_t id = frame(stream, 0, payload, put_lenenc(payload, columns), is_own);
     for (size_t column = 0; column < columns; column++) {
         Definition definition = draw_definition(draws);

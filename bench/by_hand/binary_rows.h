@@ -87,21 +87,71 @@ static inline Text draw_short_text(Draws *draws)
 /* All parts are put; those that are not sent lie behind the end. */
 static inline uint8_t *put_date(uint8_t *to, Date date)
 {
+    test_bytes(to, room_end, sizeof date);
     memcpy(to, &date, sizeof date);
     return to + 1 + date.size;
 }
 
 static inline uint8_t *put_span(uint8_t *to, Span span)
 {
+    test_bytes(to, room_end, sizeof span);
     memcpy(to, &span, sizeof span);
     return to + 1 + span.size;
+}
+
+/* Copies what is taken, where it is there. */
+INLINE void take_into(void *value, const uint8_t *from, size_t size)
+{
+    test_bytes(from, bytes_end, size);
+    memcpy(value, from, size);
+}
+
+/* A date, of which just what is sent is read. */
+static inline Date take_tested_date(const uint8_t *from)
+{
+    Date date = {0};
+    test_bytes(from, bytes_end, 1);
+    switch (*from) {
+    case 0:
+        break;
+    case 4:
+        take_into(&date, from, 5);
+        break;
+    case 7:
+        take_into(&date, from, 8);
+        break;
+    default:
+        test(*from == 11);
+        take_into(&date, from, 12);
+    }
+    return date;
+}
+
+static inline Span take_tested_span(const uint8_t *from)
+{
+    Span span = {0};
+    test_bytes(from, bytes_end, 1);
+    switch (*from) {
+    case 0:
+        break;
+    case 8:
+        take_into(&span, from, 9);
+        break;
+    default:
+        test(*from == 12);
+        take_into(&span, from, 13);
+    }
+    return span;
 }
 
 /* What is not sent is read from what lies behind, and not used. */
 static inline Date take_date(const uint8_t **from)
 {
     Date date;
-    memcpy(&date, *from, sizeof date);
+    if (IS_TESTED)
+        date = take_tested_date(*from);
+    else
+        memcpy(&date, *from, sizeof date);
     *from += 1 + date.size;
     return date;
 }
@@ -109,7 +159,10 @@ static inline Date take_date(const uint8_t **from)
 static inline Span take_span(const uint8_t **from)
 {
     Span span;
-    memcpy(&span, *from, sizeof span);
+    if (IS_TESTED)
+        span = take_tested_span(*from);
+    else
+        memcpy(&span, *from, sizeof span);
     *from += 1 + span.size;
     return span;
 }
@@ -128,10 +181,26 @@ INLINE uint64_t cut(uint64_t word, uint8_t type)
     return word & UINT64_MAX >> (64 - 8 * width_of(type));
 }
 
+/* A number of 1, 2, 4 or 8 bytes, of which no other is read. */
+INLINE uint64_t load_just(const uint8_t *from, size_t width)
+{
+    switch (width) {
+    case 1:
+        return *from;
+    case 2:
+        return load(from, 2);
+    case 4:
+        return load(from, 4);
+    default:
+        return load(from, 8);
+    }
+}
+
 /* A number of a type, which is taken. */
 INLINE uint64_t take_number(const uint8_t **from, uint8_t type)
 {
-    uint64_t number = cut(load(*from, 8), type);
+    test_bytes(*from, bytes_end, width_of(type));
+    uint64_t number = IS_TESTED ? load_just(*from, width_of(type)) : cut(load(*from, 8), type);
     *from += width_of(type);
     return number;
 }
@@ -148,7 +217,7 @@ INLINE uint8_t *draw_into(uint8_t *to, Draws *draws, uint8_t type)
     case VAR_STRING:
         return put_text(to, draw_short_text(draws));
     default:
-        put(to, draw_word(draws), 8);
+        put(to, draw_word(draws), IS_TESTED ? width_of(type) : 8);
         return to + width_of(type);
     }
 }
@@ -176,6 +245,7 @@ static inline uint8_t make_binary_row(Buffer *stream, uint8_t id, Draws *draws, 
 {
     uint8_t payload[VALUES_ROOM];
     uint16_t nulls;
+    room_end = payload + sizeof payload;
     uint8_t *end = put_values(payload + ROW_HEAD, &nulls, 4, draws);
     put(put(payload, 0, 1), nulls, 2);
     return frame(stream, id, payload, end, is_own);

@@ -3,6 +3,10 @@
  *
  * All input is known to be well formed, memory is never refused, and nothing is checked. The reads
  * of a text may go up to 48 bytes past its end, and so may the writes of one: there is room.
+ *
+ * Compiled with TESTED, `answers`, `statements` and `server` make the tests that a library makes
+ * that trusts nobody: of the room for what is put, of the bytes for what is taken, of a packet's
+ * length and id. No byte is read or written past what it belongs to.
  */
 #pragma once
 
@@ -15,6 +19,28 @@ enum { PAST_END = 48 };
 
 /* Compiled into each of its few callers, for the constants that they give. */
 #define INLINE static inline __attribute__((always_inline))
+
+#ifdef TESTED
+enum { IS_TESTED = true };
+#else
+enum { IS_TESTED = false };
+#endif
+
+/* Where the room for what is put ends, and the bytes that are taken. */
+static const uint8_t *room_end __attribute__((unused));
+static const uint8_t *bytes_end __attribute__((unused));
+
+INLINE void test(bool holds)
+{
+    if (IS_TESTED && __builtin_expect(!holds, false))
+        abort();
+}
+
+/* Whether this many bytes stand from here to an end. */
+INLINE void test_bytes(const uint8_t *from, const uint8_t *end, size_t count)
+{
+    test((size_t)(end - from) >= count);
+}
 
 /* A text; without bytes it is NULL. */
 typedef struct {
@@ -38,6 +64,7 @@ INLINE uint64_t load(const uint8_t *from, size_t width)
 /* Puts a number's lowest bytes, and gives the place behind. */
 INLINE uint8_t *put(uint8_t *to, uint64_t number, size_t width)
 {
+    test_bytes(to, room_end, width);
     memcpy(to, &number, width);
     return to + width;
 }

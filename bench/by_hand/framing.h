@@ -6,7 +6,7 @@
 
 #include "bytes.h"
 
-enum { HEADER = 4, FULL_CHUNK = 0xffffff };
+enum { HEADER = 4, FULL_CHUNK = 0xffffff, LIMIT = 1 << 26 };
 
 static inline size_t chunk_len(const uint8_t *header)
 {
@@ -16,7 +16,8 @@ static inline size_t chunk_len(const uint8_t *header)
 static inline void frame_chunk(Buffer *out, uint8_t id, const uint8_t *bytes, size_t len)
 {
     uint8_t *to = buffer_end(out, HEADER + len);
-    put(to, len | (size_t)id << 24, 4);
+    uint32_t header = (uint32_t)(len | (size_t)id << 24);
+    memcpy(to, &header, HEADER);
     memcpy(to + HEADER, bytes, len);
     out->len += HEADER + len;
 }
@@ -30,6 +31,7 @@ static inline uint8_t frame(Buffer *out, uint8_t id, const uint8_t *payload, con
         out->len += HEADER + (size_t)(end - payload);
         return id;
     }
+    test((size_t)(end - payload) <= LIMIT);
     for (; end - payload >= FULL_CHUNK; payload += FULL_CHUNK)
         frame_chunk(out, id++, payload, FULL_CHUNK);
     frame_chunk(out, id++, payload, (size_t)(end - payload));
@@ -42,6 +44,7 @@ typedef struct {
     size_t step; /* how many bytes come at a read, at most */
     uint8_t *bytes;
     size_t room, begin, end; /* what is unread lies from `begin` to `end` */
+    uint8_t next_id;
 } Receiver;
 
 enum { READER_STEP = 8192 };
@@ -115,6 +118,7 @@ static inline Text next_packet(Receiver *receiver)
     if (!receive_at_least(receiver, HEADER))
         return (Text){0};
     size_t len = chunk_len(unread(receiver));
+    test(len <= LIMIT && unread(receiver)[3] == receiver->next_id++);
     receive_at_least(receiver, HEADER + len);
     Text packet = {unread(receiver) + HEADER, len};
     receiver->begin += HEADER + len;

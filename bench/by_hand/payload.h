@@ -23,7 +23,8 @@ static inline uint8_t *put_lenenc(uint8_t *to, uint64_t number)
 /* A text without its length: 48 bytes for a short one, which are no call. */
 static inline uint8_t *put_bytes(uint8_t *restrict to, Text text)
 {
-    if (text.len <= PAST_END)
+    test_bytes(to, room_end, text.len);
+    if (text.len <= PAST_END && !IS_TESTED)
         memcpy(to, text.bytes, PAST_END);
     else
         memcpy(to, text.bytes, text.len);
@@ -44,10 +45,12 @@ static inline uint8_t *put_value(uint8_t *to, Text value)
 static inline uint64_t take_lenenc(const uint8_t **from)
 {
     const uint8_t *at = *from;
+    test_bytes(at, bytes_end, 1);
     if (*at < 251) {
         *from = at + 1;
         return *at;
     }
+    test_bytes(at, bytes_end, 9); /* (long texts are rare: the job has no number behind them) */
     if (*at == 0xfc) {
         *from = at + 3;
         return load(at + 1, 2);
@@ -63,6 +66,7 @@ static inline uint64_t take_lenenc(const uint8_t **from)
 static inline Text take_text(const uint8_t **from)
 {
     size_t len = take_lenenc(from);
+    test_bytes(*from, bytes_end, len);
     Text text = {*from, len};
     *from += len;
     return text;
@@ -70,6 +74,7 @@ static inline Text take_text(const uint8_t **from)
 
 static inline Text take_value(const uint8_t **from)
 {
+    test_bytes(*from, bytes_end, 1);
     if (**from != NULL_MARK)
         return take_text(from);
     ++*from;

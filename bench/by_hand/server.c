@@ -96,6 +96,7 @@ uint64_t serve_answers(Draws *draws, size_t rounds, bool is_own)
     Digest digest = {0};
     for (size_t round = 0; round < rounds; round++) {
         Server server = {.payload = malloc(row_room(20)), .is_own = is_own};
+        room_end = server.payload + row_room(20);
         for (size_t size = 0; size < SIZES; size++)
             serve(&server, draws, rows_of[size]);
         digest_add(&digest, finish(&server.output));

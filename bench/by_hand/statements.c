@@ -17,6 +17,7 @@ static uint8_t make_execute(Buffer *stream, uint8_t id, Draws *draws)
 {
     uint8_t payload[VALUES_ROOM];
     uint16_t nulls;
+    room_end = payload + sizeof payload;
     uint8_t *end = put_values(payload + EXECUTE_HEAD, &nulls, 1, draws);
     uint8_t *to = put(put(payload, EXECUTE, 1), draw_byte(draws), 4);
     to = put(put(to, 0, 1), 1, 4);
@@ -92,9 +93,89 @@ INLINE void tell_values(Digest *digest, Draws *draws, const uint8_t *from, uint6
     *digest = local;
 }
 
+/* A value of any type, as a library hands it out. */
+typedef struct {
+    enum { NUMBER, DATE, SPAN, TEXT } kind;
+    union {
+        uint64_t number;
+        Date date;
+        Span span;
+        Text text;
+    };
+} Value;
+
+static inline Value take_any(const uint8_t **from, uint8_t type)
+{
+    switch (type) {
+    case DATETIME:
+        return (Value){.kind = DATE, .date = take_date(from)};
+    case TIME:
+        return (Value){.kind = SPAN, .span = take_span(from)};
+    case DECIMAL:
+    case VAR_STRING:
+        return (Value){.kind = TEXT, .text = take_text(from)};
+    case TINY:
+        return (Value){.kind = NUMBER, .number = take_number(from, TINY)};
+    case SHORT:
+        return (Value){.kind = NUMBER, .number = take_number(from, SHORT)};
+    case LONG:
+        return (Value){.kind = NUMBER, .number = take_number(from, LONG)};
+    default:
+        test(type == LONGLONG || type == DOUBLE);
+        return (Value){.kind = NUMBER, .number = take_number(from, LONGLONG)};
+    }
+}
+
+static void tell_any(Digest *digest, const Value *value)
+{
+    switch (value->kind) {
+    case DATE:
+        tell_date(digest, value->date);
+        break;
+    case SPAN:
+        tell_span(digest, value->span);
+        break;
+    case TEXT:
+        digest_text(digest, value->text);
+        break;
+    default:
+        digest_add(digest, value->number);
+    }
+}
+
+/* The same as `tell_values`, of values that are taken one by one, each by the type that stands at
+ * its place when it is taken, as the job does. */
+static void tell_each(Digest *digest, const uint8_t *from, const uint8_t *nulls, unsigned bit,
+                      const uint8_t *types, size_t step)
+{
+    for (int place = 0; place < VALUES; place++, bit++, types += step) {
+        if (nulls[bit / 8] >> bit % 8 & 1) {
+            digest_add(digest, 1);
+        } else {
+            Value value = take_any(&from, *types);
+            tell_any(digest, &value);
+        }
+    }
+    test(from == bytes_end);
+}
+
+static void read_tested(Digest *digest, const uint8_t *payload)
+{
+    test_bytes(payload, bytes_end, ROW_HEAD);
+    if (payload[0] == EXECUTE) {
+        test_bytes(payload, bytes_end, EXECUTE_HEAD);
+        digest_add(digest, load(payload + 1, 4));
+        tell_each(digest, payload + EXECUTE_HEAD, payload + 10, 0, payload + 13, 2);
+    } else {
+        tell_each(digest, payload + ROW_HEAD, payload + 1, 2, VALUE_TYPES, 1);
+    }
+}
+
 static void read_packet(Digest *digest, const uint8_t *payload)
 {
-    if (payload[0] == EXECUTE) {
+    if (IS_TESTED) {
+        read_tested(digest, payload);
+    } else if (payload[0] == EXECUTE) {
         digest_add(digest, load(payload + 1, 4));
         tell_values(digest, NULL, payload + EXECUTE_HEAD, load(payload + 10, 2), payload + 13, 2);
     } else {
@@ -112,6 +193,7 @@ static uint64_t execute(Draws *draws, size_t step)
     Receiver receiver = receiver_of(&stream, step);
     for (Text lent; (lent = next_packet(&receiver)).bytes;) {
         memcpy(buffer_end(&packet, lent.len + PAST_END), lent.bytes, lent.len);
+        bytes_end = packet.bytes + lent.len;
         read_packet(&digest, packet.bytes);
     }
     free(receiver.bytes);
