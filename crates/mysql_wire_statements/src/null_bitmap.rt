@@ -1,6 +1,6 @@
 //! Bitmaps of what is NULL.
 
-ghost use Rattle.std.specs.Prelude.{◌≡◌, ◌+◌, ◌↔◌, length, IsTrue};
+ghost use Rattle.std.specs.Prelude.{◌≡◌, ◌+◌, ◌/◌, ◌%◌, ◌↔◌, length, IsTrue};
 ghost use Rattle.wire_field.specs.Borrowed.{front-through};
 ghost use Rattle.wire_buf.specs.Reading.{Answers, Through, front_at};
 ghost use Rattle.mysql_wire_statements.specs.Bitmaps.{bitmap_len, IsSet};
@@ -26,6 +26,19 @@ pub type ParamNulls<'a> = NullBitmap<'a, 0>;
 /// Which columns of a row are NULL.
 pub type RowNulls<'a> = NullBitmap<'a, 2>;
 
+// Where a value's bit stands after the first ones: in which byte, and at which place there.
+#[inline(always)]
+fn place_of_bit(first: u8, place: usize) -> (usize, usize)
+    ensures { result ≡ ((first + place) / 8, (first + place) % 8) }
+{
+    if let Some(bit) = place.checked_add(first as usize) {
+        (bit / 8, bit % 8)
+    } else {
+        let bit = place % 8 + first as usize;
+        (place / 8 + bit / 8, bit % 8)
+    }
+}
+
 impl<'a, const FIRST: u8> NullBitmap<'a, FIRST> {
     /// How many bytes the bitmap of this many values has.
     pub fn len_for(count: usize) -> usize
@@ -38,9 +51,9 @@ impl<'a, const FIRST: u8> NullBitmap<'a, FIRST> {
     pub fn is_null(&self, place: usize) -> bool
         ensures { IsTrue result ↔ IsSet self.now.0.now (FIRST + place) }
     {
-        let bit = place % 8 + FIRST as usize;
-        match self.0.get(place / 8 + bit / 8) {
-            Some(byte) => (*byte >> (bit % 8)) % 2 == 1,
+        let (at, bit) = place_of_bit(FIRST, place);
+        match self.0.get(at) {
+            Some(byte) => (*byte >> bit) % 2 == 1,
             None => false,
         }
     }
