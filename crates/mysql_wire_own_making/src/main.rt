@@ -1,5 +1,6 @@
 //! What the jobs do themselves: `mysql_wire_own_making NAME SEED ROUNDS` draws, makes and tells what a
-//! job does, and neither writes nor reads a packet. It prints a digest, which is not the job's.
+//! job does, and neither writes nor reads a packet. It prints a digest, which is not the job's; with
+//! `all` in place of a name, one of each.
 #![tactic(auto)]
 
 mod answers;
@@ -11,6 +12,8 @@ use mysql_wire_jobs::draws::{Draws, Letters};
 use std::alloc::Global;
 use std::env;
 use std::process::ExitCode;
+
+const NAMES: [&str; 3] = ["answers", "statements", "server"];
 
 // The digest of what a job makes; none where memory is refused, or no job has the name.
 fn run(alloc: Global, name: &str, seed: u64, rounds: usize) -> Option<u64> {
@@ -24,6 +27,11 @@ fn run(alloc: Global, name: &str, seed: u64, rounds: usize) -> Option<u64> {
     }
 }
 
+fn print(rt: &HostRuntime, name: &str, seed: u64, rounds: usize) -> Option<()> {
+    let value = run(rt.alloc(), name, seed, rounds)?;
+    println!(rt; "{name} {value:016x}").ok()
+}
+
 // What the words ask for.
 fn print_asked(rt: &HostRuntime) -> Option<()> {
     let words: Vec<String> = env::args(rt).ok()?.skip(1).collect(rt.alloc()).ok()?;
@@ -32,8 +40,13 @@ fn print_asked(rt: &HostRuntime) -> Option<()> {
     };
     let seed = seed.parse::<u64>().ok()?;
     let rounds = rounds.parse::<usize>().ok()?;
-    let value = run(rt.alloc(), name.as_str(), seed, rounds)?;
-    println!(rt; "{name} {value:016x}").ok()
+    if name.as_str() != "all" {
+        return print(rt, name.as_str(), seed, rounds);
+    }
+    for name in NAMES {
+        print(rt, name, seed, rounds)?;
+    }
+    Some(())
 }
 
 fn main(rt: HostRuntime) -> ExitCode {
