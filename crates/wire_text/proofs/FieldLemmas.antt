@@ -1,5 +1,6 @@
 -- The text of fields.
 use Rattle.std.proofs.Common.{◌≡◌, ℕ, zero, suc, ap₂, drop, take-append-drop, List, [], ◌∷◌, ◌++◌, Bool, true, false, refl, ap, subst, sym, ◌∙◌, append_assoc, arith, Option, Some, None, Result, Ok, Err, OnOk, ◌+◌, ◌/◌, ◌%◌, ◌<◌, length, take, get_or}
+use Rattle.std.proofs.DigitsParse.{digits-IsUtf8}
 use Rattle.std.proofs.lemmas.Grind.{common_steps}
 use Rattle.std.specs.Prelude.{◌==◌, ◌&&◌, codes, nat_lt, not, slice_index_or, ◌≤◌}
 use Rattle.std.proofs.lemmas.Bool.{and_from, and_left, and_parts, eq-eqb, eqb-false, eqb-true, leb-true, ltb-true, not-true}
@@ -174,9 +175,9 @@ three_digits n more less =
     ∙ ap (λ (z : List ℕ). z ++ (48 + n % 10) ∷ []) (two_digits (n / 10) (omega (arith, more)) (omega (arith, less)))
     ∙ ap (λ (d : ℕ). (48 + d) ∷ (48 + n / 10 % 10) ∷ (48 + n % 10) ∷ []) high
 
--- a decimal digit
-pub digit_utf8 : (n : ℕ) → n < 10 → IsUtf8 ((48 + n) ∷ [])
-digit_utf8 n below = IsUtf8-from_ascii ((48 + n) ∷ []) (ascii_at (48 + n) [] (omega (arith, below)) (λ i. omega arith))
+-- the letters of a number are a text
+pub decimal_utf8 : (n : ℕ) (letters : List ℕ) → decimal n ≡ letters → IsUtf8 letters
+decimal_utf8 n letters are = subst IsUtf8 are (digits-IsUtf8 10 false n (omega arith) (omega arith))
 
 utf8_between : (front back name : List ℕ) → all_ascii front ≡ true → all_ascii back ≡ true → IsUtf8 name → IsUtf8 (front ++ (name ++ back))
 utf8_between front back name front_is back_is name_is =
@@ -196,8 +197,9 @@ two_between front back (one ∷ []) front_is back_is name_is some few = absurd (
 two_between front back (one ∷ two ∷ []) front_is back_is name_is some few = utf8_between front back (one ∷ two ∷ []) front_is back_is name_is
 two_between front back (one ∷ two ∷ three ∷ more) front_is back_is name_is some few = absurd (omega (arith, few))
 
-plain_words : (form : MemberForm) (words : List ℕ) → all_plain words ≡ true → value_text form (Words words) ≡ value_text form (Word words)
-plain_words form words is = rw (is_utf8-from_IsUtf8 words (plain_utf8 words is), escape-none_needs_escape words (plain_stand words is)) refl
+-- a text that needs no escape
+pub standing_words : (form : MemberForm) (words : List ℕ) → IsUtf8 words → none_needs_escape words ≡ true → value_text form (Words words) ≡ value_text form (Word words)
+standing_words form words utf8 stands = rw (is_utf8-from_IsUtf8 words utf8, escape-none_needs_escape words stands) refl
 
 with_value : (form : MemberForm) (first : Bool) (name : List ℕ) (one other : Value) → value_text form one ≡ value_text form other
     → member_part form first (name, one) ≡ member_part form first (name, other)
@@ -205,10 +207,15 @@ with_value member.Text first name one other same = ap (λ (z : List ℕ). codes 
 with_value member.Json true name one other same = ap (λ (z : List ℕ). codes ",\"fields\":{" ++ (codes "\"" ++ name ++ codes "\":" ++ z)) same
 with_value member.Json false name one other same = ap (λ (z : List ℕ). codes "," ++ (codes "\"" ++ name ++ codes "\":" ++ z)) same
 
--- plain letters are a text as they are
+-- stands in quotes as it is
+pub standing_member : (form : MemberForm) (first : Bool) (name words : List ℕ) → IsUtf8 words → none_needs_escape words ≡ true
+    → member_part form first (name, Words words) ≡ member_part form first (name, Word words)
+standing_member form first name words utf8 stands = with_value form first name (Words words) (Word words) (standing_words form words utf8 stands)
+
+-- and so do plain letters
 pub plain_member : (form : MemberForm) (first : Bool) (name words : List ℕ) → all_plain words ≡ true
     → member_part form first (name, Words words) ≡ member_part form first (name, Word words)
-plain_member form first name words is = with_value form first name (Words words) (Word words) (plain_words form words is)
+plain_member form first name words is = standing_member form first name words (plain_utf8 words is) (plain_stand words is)
 
 -- a name, and the value after it
 pub member_named : (form : MemberForm) (first : Bool) (name : List ℕ) (value : Value)

@@ -9,7 +9,7 @@ ghost use Rattle.wire_text.specs.Parts.{WritesMember};
 
 use crate::long::write_text_at;
 pub use crate::members::FieldValue;
-use crate::members::{MemberForm, push_closing, push_member, push_short_at, push_text_at};
+use crate::members::{MemberForm, push_closing, push_member, push_member_at, push_short_at};
 use crate::plain::plain_in_front;
 use crate::stop::Stop;
 use std::alloc::{AllocError, Allocator, Global};
@@ -178,22 +178,6 @@ impl<A: Allocator + Copy> Fields<A> {
         Ok(())
     }
 
-    // Puts a text that has no name but its place.
-    #[inline(always)]
-    fn put_text_at(&mut self, place: u64, bytes: &[u8]) -> Result<(), AllocError>
-        ensures { OnOk result (Puts ((decimal place, Words bytes.now) ∷ []) self.old self.new) }
-    {
-        let Some(form) = self.form.members() else {
-            return Ok(());
-        };
-        let is_first = self.text.len() == self.begin;
-        let pushed = push_text_at(&mut self.text, form, is_first, place, bytes);
-        if pushed.is_err() {
-            self.begin = 0;
-        }
-        pushed
-    }
-
     /// Puts the text that these bytes begin with, of this many bytes, which has no name but its place:
     /// whether it has. Where fields are shown, that is where it is short, of plain letters, and 32
     /// bytes are there; else nothing changes.
@@ -231,14 +215,15 @@ impl<A: Allocator + Copy> Fields<A> {
         ensures { OnOk result (Puts ((decimal place, value_of value.entry) ∷ [])
             self.old self.new) }
     {
-        if let FieldValue::Text(bytes) = value {
-            return self.put_text_at(place, bytes);
-        }
-        if self.is_hidden() {
+        let Some(form) = self.form.members() else {
             return Ok(());
+        };
+        let is_first = self.text.len() == self.begin;
+        let pushed = push_member_at(&mut self.text, form, is_first, place, value);
+        if pushed.is_err() {
+            self.begin = 0;
         }
-        let mut digits = itoa::Buffer::new();
-        self.put(digits.format(place), value)
+        pushed
     }
 
     /// Puts a text that has no name but its place, and writes all so far but its end: a long text is

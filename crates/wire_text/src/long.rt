@@ -7,7 +7,7 @@ ghost use Rattle.wire_text.specs.Fields.{Words, member_part, words_text};
 ghost use Rattle.wire_text.specs.Parts.{WritesSome, part_text};
 
 use crate::digits::push_digits;
-use crate::members::{MemberForm, octets_around, push_name};
+use crate::members::{MemberForm, octets_around, push_name_at};
 use crate::quoted::push_escaped;
 use crate::stop::Stop;
 use std::alloc::{AllocError, Allocator};
@@ -133,7 +133,6 @@ pub(crate) fn write_text_at<A: Allocator + Copy, W: Write>(
         (string_bytes text.old) (string_bytes text.new)
         (W.contents output.old) (W.contents output.new)) }
 {
-    let mut digits = itoa::Buffer::new();
-    push_name(text, form, is_first, digits.format(place))?;
+    push_name_at(text, form, is_first, place)?;
     write_words(text, form, bytes, output)
 }

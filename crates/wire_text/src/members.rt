@@ -1,13 +1,14 @@
 //! Members: a name and a value, on a line of its own or in an object of JSON.
 
-ghost use Rattle.std.specs.Prelude.{◌≡◌, ◌≢◌, ◌≤◌, ◌++◌, ℕ, List, [], codes, length, take, IsTrue, OnOk, string_bytes};
+ghost use Rattle.std.specs.Prelude.{◌≡◌, ◌≢◌, ◌≤◌, ◌++◌, ℕ, List, [], codes, length, take, IfSome, IsSome, IsTrue, OnOk, string_bytes};
 ghost use Rattle.std.specs.Fmt.{decimal};
-ghost use Rattle.wire_text.specs.Fields.{all_plain, digits_text, end_part, flags_text, member_part, name_part, octets_text, value_of, value_text, words_text, Word, Words};
+ghost use Rattle.std.specs.Str.{IsUtf8};
+ghost use Rattle.wire_text.specs.Fields.{all_plain, digits_text, end_part, flags_text, member_part, name_part, none_needs_escape, octets_text, value_of, value_text, words_text, Null, Word, Words};
 
 use crate::digits::push_digits_to;
 use crate::escapes::look_at;
 use crate::plain::{below_128, is_plain};
-use crate::put::{letter_of, push_between, push_few, push_number};
+use crate::put::{one_digit, push_between, push_few, push_number, two_digits};
 use crate::quoted::{push_escaped_words, push_in_quotes};
 use crate::wide::is_wide;
 use std::alloc::{AllocError, Allocator};
@@ -62,6 +63,21 @@ fn push_octets<A: Allocator + Copy>(
     text.push_str(after)
 }
 
+// The text of these bytes, where it is known to stand in quotes as it is.
+#[inline(always)]
+fn as_it_stands(bytes: &[u8]) -> Option<&str>
+    ensures stands { IfSome result (λ words. (words.now ≡ bytes.now) × IsUtf8 bytes.now
+        × IsTrue (none_needs_escape bytes.now)) }
+    ensures plain { IsTrue (all_plain bytes.now) → IsSome result }
+{
+    if is_plain(bytes) || is_wide(bytes) {
+        // (letters of ASCII are UTF-8, and so are those of three bytes)
+        Some(unsafe { std::str::from_utf8_unchecked(bytes) })
+    } else {
+        None
+    }
+}
+
 // A text, or else bytes, of which some are not of ASCII or need escapes.
 #[inline(never)]
 fn push_words<A: Allocator + Copy>(
@@ -72,11 +88,6 @@ fn push_words<A: Allocator + Copy>(
     ensures { OnOk result (string_bytes text.new
         ≡ string_bytes text.old ++ words_text form bytes.now) }
 {
-    if is_wide(bytes) {
-        // (letters of three bytes are UTF-8, and need no escape)
-        let words = unsafe { std::str::from_utf8_unchecked(bytes) };
-        return push_in_quotes(text, words);
-    }
     let (is_ascii, stands) = look_at(bytes);
     if is_ascii {
         let words = unsafe { std::str::from_utf8_unchecked(bytes) };
@@ -102,12 +113,9 @@ fn push_text<A: Allocator + Copy>(
     ensures { OnOk result (string_bytes text.new
         ≡ string_bytes text.old ++ words_text form bytes.now) }
 {
-    if is_plain(bytes) {
-        // What is of ASCII is UTF-8.
-        let words = unsafe { std::str::from_utf8_unchecked(bytes) };
-        push_in_quotes(text, words)
-    } else {
-        push_words(text, form, bytes)
+    match as_it_stands(bytes) {
+        Some(words) => push_in_quotes(text, words),
+        None => push_words(text, form, bytes),
     }
 }
 
@@ -124,6 +132,7 @@ fn push_flags<A: Allocator>(
     }
 }
 
+#[inline(always)]
 fn push_value<A: Allocator + Copy>(
     text: &mut String<A>,
     form: MemberForm,
@@ -193,7 +202,7 @@ fn push_plain_front<A: Allocator>(
     }
 }
 
-// A field of plain letters.
+// A field of a text that stands in quotes as it is.
 #[inline(always)]
 fn push_plain<A: Allocator>(
     text: &mut String<A>,
@@ -236,8 +245,18 @@ fn push_pair_name<A: Allocator>(text: &mut String<A>, name: &str) -> Result<(), 
     }
 }
 
+// The digits of a place, as its name.
+#[inline(always)]
+fn name_of(digits: &[u8]) -> &str
+    requires { IsUtf8 digits.now }
+    ensures { result.now ≡ digits.now }
+{
+    unsafe { std::str::from_utf8_unchecked(digits) }
+}
+
 // The name of a field, with what stands around it.
-pub(crate) fn push_name<A: Allocator>(
+#[inline(always)]
+fn push_name<A: Allocator>(
     text: &mut String<A>,
     form: MemberForm,
     is_first: bool,
@@ -256,6 +275,43 @@ pub(crate) fn push_name<A: Allocator>(
             }
         }
     }
+}
+
+// The same of a name that is a place, of three digits and more. (`cold`: without it LLVM takes two
+// digits for seldom, too, and calls `push_str` for them.)
+#[cold]
+#[inline(never)]
+fn push_name_far<A: Allocator>(
+    text: &mut String<A>,
+    form: MemberForm,
+    is_first: bool,
+    place: u64,
+) -> Result<(), AllocError>
+    ensures { OnOk result (string_bytes text.new
+        ≡ string_bytes text.old ++ name_part form is_first (decimal place)) }
+{
+    let mut digits = itoa::Buffer::new();
+    push_name(text, form, is_first, digits.format(place))
+}
+
+// The same of a name that is a place.
+#[inline(always)]
+pub(crate) fn push_name_at<A: Allocator>(
+    text: &mut String<A>,
+    form: MemberForm,
+    is_first: bool,
+    place: u64,
+) -> Result<(), AllocError>
+    ensures { OnOk result (string_bytes text.new
+        ≡ string_bytes text.old ++ name_part form is_first (decimal place)) }
+{
+    if place >= 100 {
+        return push_name_far(text, form, is_first, place);
+    }
+    if place >= 10 {
+        return push_name(text, form, is_first, name_of(&two_digits(place)));
+    }
+    push_name(text, form, is_first, name_of(&one_digit(place)))
 }
 
 // Appends as many of 32 bytes as are asked for. All are copied, since their count is no branch then:
@@ -299,9 +355,10 @@ fn push_short<A: Allocator>(
     text.push_str("\"")
 }
 
-// The same, of a place of two digits and more.
+// The same, of a place of three digits and more.
+#[cold]
 #[inline(never)]
-fn push_short_behind<A: Allocator>(
+fn push_short_far<A: Allocator>(
     text: &mut String<A>,
     form: MemberForm,
     is_first: bool,
@@ -317,6 +374,30 @@ fn push_short_behind<A: Allocator>(
 {
     let mut digits = itoa::Buffer::new();
     push_short(text, form, is_first, digits.format(place), block, len)
+}
+
+// The same, of a place of two digits and more.
+#[inline(never)]
+fn push_short_behind<A: Allocator>(
+    text: &mut String<A>,
+    form: MemberForm,
+    is_first: bool,
+    place: u64,
+    block: &[u8],
+    len: usize,
+) -> Result<(), AllocError>
+    requires within { len ≤ length block.now }
+    requires long { length block.now ≡ 32 }
+    requires plain { IsTrue (all_plain (take len block.now)) }
+    requires behind { 10 ≤ place }
+    ensures { OnOk result (string_bytes text.new ≡ string_bytes text.old
+        ++ member_part form is_first (decimal place, Words (take len block.now))) }
+{
+    if place >= 100 {
+        return push_short_far(text, form, is_first, place, block, len);
+    }
+    let digits = two_digits(place);
+    push_short(text, form, is_first, name_of(&digits), block, len)
 }
 
 // Room for such a text and what stands around it. Where there is less, just its bytes are appended, so
@@ -345,13 +426,11 @@ pub(crate) fn push_short_at<A: Allocator + Copy>(
     if place >= 10 {
         return push_short_behind(text, form, is_first, place, block, len);
     }
-    let digit = [letter_of(place)];
-    // A digit is of ASCII.
-    let name = unsafe { std::str::from_utf8_unchecked(&digit) };
-    push_short(text, form, is_first, name, block, len)
+    let digit = one_digit(place);
+    push_short(text, form, is_first, name_of(&digit), block, len)
 }
 
-// A text that is not plain letters.
+// A text that may not stand in quotes as it is.
 #[inline(never)]
 fn push_other_text<A: Allocator + Copy>(
     text: &mut String<A>,
@@ -379,18 +458,16 @@ fn push_named_text<A: Allocator + Copy>(
     ensures { OnOk result (string_bytes text.new
         ≡ string_bytes text.old ++ member_part form is_first (name.now, Words bytes.now)) }
 {
-    if is_plain(bytes) {
-        // What is of ASCII is UTF-8.
-        let words = unsafe { std::str::from_utf8_unchecked(bytes) };
-        push_plain(text, form, is_first, name, words)
-    } else {
-        push_other_text(text, form, is_first, name, bytes)
+    match as_it_stands(bytes) {
+        Some(words) => push_plain(text, form, is_first, name, words),
+        None => push_other_text(text, form, is_first, name, bytes),
     }
 }
 
-// A text whose name is its place, of two digits and more.
+// A text whose name is its place, of three digits and more.
+#[cold]
 #[inline(never)]
-fn push_text_behind<A: Allocator + Copy>(
+fn push_text_far<A: Allocator + Copy>(
     text: &mut String<A>,
     form: MemberForm,
     is_first: bool,
@@ -402,6 +479,26 @@ fn push_text_behind<A: Allocator + Copy>(
 {
     let mut digits = itoa::Buffer::new();
     push_named_text(text, form, is_first, digits.format(place), bytes)
+}
+
+// A text whose name is its place, of two digits and more.
+#[inline(never)]
+fn push_text_behind<A: Allocator + Copy>(
+    text: &mut String<A>,
+    form: MemberForm,
+    is_first: bool,
+    place: u64,
+    bytes: &[u8],
+) -> Result<(), AllocError>
+    requires { 10 ≤ place }
+    ensures { OnOk result (string_bytes text.new
+        ≡ string_bytes text.old ++ member_part form is_first (decimal place, Words bytes.now)) }
+{
+    if place >= 100 {
+        return push_text_far(text, form, is_first, place, bytes);
+    }
+    let digits = two_digits(place);
+    push_named_text(text, form, is_first, name_of(&digits), bytes)
 }
 
 // A text whose name is its place.
@@ -419,10 +516,58 @@ pub(crate) fn push_text_at<A: Allocator + Copy>(
     if place >= 10 {
         return push_text_behind(text, form, is_first, place, bytes);
     }
-    let digit = [letter_of(place)];
-    // A digit is of ASCII.
-    let name = unsafe { std::str::from_utf8_unchecked(&digit) };
-    push_named_text(text, form, is_first, name, bytes)
+    let digit = one_digit(place);
+    push_named_text(text, form, is_first, name_of(&digit), bytes)
+}
+
+// NULL, whose name is its place.
+#[inline(never)]
+fn push_null_at<A: Allocator>(
+    text: &mut String<A>,
+    form: MemberForm,
+    is_first: bool,
+    place: u64,
+) -> Result<(), AllocError>
+    ensures { OnOk result (string_bytes text.new
+        ≡ string_bytes text.old ++ member_part form is_first (decimal place, Null)) }
+{
+    push_name_at(text, form, is_first, place)?;
+    text.push_str("null")
+}
+
+// A value whose name is its place.
+#[inline(never)]
+fn push_value_at<A: Allocator + Copy>(
+    text: &mut String<A>,
+    form: MemberForm,
+    is_first: bool,
+    place: u64,
+    value: FieldValue<'_>,
+) -> Result<(), AllocError>
+    ensures { OnOk result (string_bytes text.new
+        ≡ string_bytes text.old ++ member_part form is_first (decimal place, value_of value.entry)) }
+{
+    push_name_at(text, form, is_first, place)?;
+    push_value(text, form, value)
+}
+
+// The same. Which value it is, a caller mostly knows.
+#[inline(always)]
+pub(crate) fn push_member_at<A: Allocator + Copy>(
+    text: &mut String<A>,
+    form: MemberForm,
+    is_first: bool,
+    place: u64,
+    value: FieldValue<'_>,
+) -> Result<(), AllocError>
+    ensures { OnOk result (string_bytes text.new
+        ≡ string_bytes text.old ++ member_part form is_first (decimal place, value_of value.entry)) }
+{
+    match value {
+        FieldValue::Text(bytes) => push_text_at(text, form, is_first, place, bytes),
+        FieldValue::Null => push_null_at(text, form, is_first, place),
+        _ => push_value_at(text, form, is_first, place, value),
+    }
 }
 
 pub(crate) fn push_member<A: Allocator + Copy>(

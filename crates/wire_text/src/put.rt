@@ -1,6 +1,6 @@
 //! What lines and fields are put together of.
 
-ghost use Rattle.std.specs.Prelude.{◌≡◌, ◌+◌, ◌<◌, ◌++◌, OnOk, string_bytes};
+ghost use Rattle.std.specs.Prelude.{◌≡◌, ◌+◌, ◌<◌, ◌≤◌, ◌++◌, OnOk, string_bytes};
 ghost use Rattle.std.specs.Fmt.{decimal};
 ghost use Rattle.std.specs.Str.{IsUtf8};
 
@@ -33,11 +33,31 @@ fn push_large_number<A: Allocator>(text: &mut String<A>, number: u64) -> Result<
 
 // The letter of a digit.
 #[inline(always)]
-pub(crate) fn letter_of(digit: u64) -> u8
+fn letter_of(digit: u64) -> u8
     requires { digit < 10 }
     ensures { result ≡ 48 + digit }
 {
     b'0' + digit as u8
+}
+
+// A number of one digit.
+#[inline(always)]
+pub(crate) fn one_digit(number: u64) -> [u8; 1]
+    requires { number < 10 }
+    ensures is { result ≡ decimal number }
+    ensures utf8 { IsUtf8 result }
+{
+    [letter_of(number)]
+}
+
+// A number of two digits.
+#[inline(always)]
+pub(crate) fn two_digits(number: u64) -> [u8; 2]
+    requires { (10 ≤ number) × (number < 100) }
+    ensures is { result ≡ decimal number }
+    ensures utf8 { IsUtf8 result }
+{
+    [letter_of(number / 10), letter_of(number % 10)]
 }
 
 /// Appends a number in decimal digits: up to three of them at once.
@@ -45,14 +65,14 @@ pub fn push_number<A: Allocator>(text: &mut String<A>, number: u64) -> Result<()
     ensures { OnOk result (string_bytes text.new ≡ string_bytes text.old ++ decimal number) }
 {
     if number < 10 {
-        return push_few(text, &[letter_of(number)]);
+        return push_few(text, &one_digit(number));
     }
-    let ones = letter_of(number % 10);
     if number < 100 {
-        return push_few(text, &[letter_of(number / 10), ones]);
+        return push_few(text, &two_digits(number));
     }
     if number < 1000 {
         let tens = letter_of(number / 10 % 10);
+        let ones = letter_of(number % 10);
         return push_few(text, &[letter_of(number / 100), tens, ones]);
     }
     push_large_number(text, number)

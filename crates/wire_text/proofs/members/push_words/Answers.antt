@@ -1,29 +1,15 @@
 use Rattle.std.proofs.Common.{sym, ◌∙◌}
 use Rattle.std.proofs.lemmas.Str.{is_utf8-from_IsUtf8}
 use Rattle.wire_text.proofs.FieldLemmas.{escape-none_needs_escape, is_utf8-false, utf8_if}
-use Rattle.wire_text.proofs.WideLemmas.{wide_stands, wide_utf8}
 use Rattle.wire_text.proofs.members.push_words.Goals as goal
 
 pub from_utf8_unchecked-words-requires : goal.from_utf8_unchecked-words-requires
-from_utf8_unchecked-words-requires g c = wide_utf8 c.args.bytes.now (c.is_wide.ensures c.if-is_wide.true)
-
-pub returns-then-is_wide : goal.returns-then-is_wide
-returns-then-is_wide g c =
-    let wide = c.is_wide.ensures c.if-is_wide.true in
-    rw (
-      is_utf8-from_IsUtf8 c.args.bytes.now (wide_utf8 c.args.bytes.now wide),
-      escape-none_needs_escape c.args.bytes.now (wide_stands c.args.bytes.now wide),
-      ← c.from_utf8_unchecked-words.ensures,
-    ) c.push_in_quotes.ensures
-
-pub from_utf8_unchecked-words-requires-then-is_ascii :
-    goal.from_utf8_unchecked-words-requires-then-is_ascii
-from_utf8_unchecked-words-requires-then-is_ascii g c = utf8_if c.args.bytes.now (sym c.look_at-is_ascii.ensures.0 ∙ c.if-is_ascii.true)
+from_utf8_unchecked-words-requires g c = utf8_if c.args.bytes.now (sym c.look_at-is_ascii.ensures.0 ∙ c.if-is_ascii.true)
 
 pub returns-then-is_ascii : goal.returns-then-is_ascii
 returns-then-is_ascii g c =
     let ascii = sym c.look_at-is_ascii.ensures.0 ∙ c.if-is_ascii.true in
-    rw (is_utf8-from_IsUtf8 c.args.bytes.now (utf8_if c.args.bytes.now ascii), ← c.from_utf8_unchecked-words-then-is_ascii.ensures)
+    rw (is_utf8-from_IsUtf8 c.args.bytes.now (utf8_if c.args.bytes.now ascii), ← c.from_utf8_unchecked-words.ensures)
     c.push_escaped_words.ensures
 
 pub returns-then-stands : goal.returns-then-stands
@@ -32,7 +18,7 @@ returns-then-stands g c =
       is_utf8-from_IsUtf8 c.args.bytes.now c.in-Ok.ensures.cases.1,
       escape-none_needs_escape c.args.bytes.now (sym c.look_at-is_ascii.ensures.1 ∙ c.if-stands.true),
       ← c.in-Ok.ensures.cases.0,
-    ) c.push_in_quotes-then-stands.ensures
+    ) c.push_in_quotes.ensures
 
 pub returns-else-stands : goal.returns-else-stands
 returns-else-stands g c =
