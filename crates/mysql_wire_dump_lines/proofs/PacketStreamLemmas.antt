@@ -1,10 +1,13 @@
 -- How a source goes from packet to packet.
-use Rattle.std.proofs.Common.{◌≡◌, ◌≢◌, ℕ, ◌+◌, ◌-◌, ◌≤◌, Bool, true, false, List, [], ◌∷◌, ◌++◌, length, drop, refl, sym, ap, ap₂, ◌∙◌, subst, append-nil, append_assoc, length-append, inr, arith, Option, Some, None, Result, Ok, Err, IfOk}
-use Rattle.std.proofs.Math.Seq.{drop-append_seam}
+use Rattle.std.proofs.Common.{◌≡◌, ◌≢◌, ℕ, ◌+◌, ◌-◌, ◌/◌, ◌%◌, ◌<◌, ◌≤◌, Bool, true, false, List, [], ◌∷◌, ◌++◌, length, take, drop, refl, sym, ap, ap₂, ◌∙◌, subst, append-nil, append_assoc, length-append, length-drop, inr, arith, Option, Some, None, Result, Ok, Err, IfOk}
+use Rattle.std.proofs.Math.Seq.{drop-append_seam, take-add}
+use Rattle.std.proofs.lemmas.List.{length-take-le, take-append-drop}
 use Rattle.std.proofs.KnownBytes.{Consumes-trans}
 use Rattle.std.specs.Io.KnownBytes.{Consumes, IsAtEnd}
 use Rattle.wire_codec.specs.Delivery.{Delivers, Waiting}
-use Rattle.wire_codec.specs.Framing.{framing}
+use Rattle.wire_codec.specs.Framing.{chunk, framing, header, max_payload}
+use Rattle.wire_codec.specs.declared.codec.header.Header.{Header}
+use Rattle.wire_codec.proofs.ChunkLemmas.{framing_short, no_blocks}
 use Rattle.wire_span.specs.declared.span.SpanError.TheVariants.{PacketsOutOfSync}
 use Rattle.wire_span.specs.Spans.{SpanState, CameTo, EatsSpans, IsBetween, IsOfAnotherId, StopsBefore, packets_of, opened_after, span_state}
 use Rattle.wire_span.specs.SpanLaws.{SpansDeliver, SpansEnd}
@@ -16,7 +19,7 @@ use Rattle.mysql_wire_dump_lines.specs.declared.packet_stream.PacketStream.{Pack
 use Rattle.mysql_wire_dump_lines.specs.declared.packet_stream.Step.{Step}
 use Rattle.mysql_wire_dump_lines.specs.declared.packet_stream.Step.TheVariants.{Waits, Goes, Whole, LosesSync}
 use Rattle.wire_text.specs.declared.stop.Stop.{Stop}
-use Rattle.mysql_wire_dump_lines.specs.PacketStreams.{BeginsWith, Collected, Collects, EndsAs, Found, HasPacket, IsIdle, IsReady, Stands, StandsNext, Stepped, SteppedAs, Steps, Took, TookAs, collected, framed, most}
+use Rattle.mysql_wire_dump_lines.specs.PacketStreams.{BeginsWith, Collected, Collects, EndsAs, Found, HasPacket, IsIdle, IsReady, LiesWhole, Stands, StandsNext, Stepped, SteppedAs, Steps, Took, TookAs, collected, framed, most}
 
 -- nothing is consumed
 pub consumes_none : (known : Option (List ℕ)) → Consumes known known []
@@ -440,3 +443,44 @@ found_none end old mid unread left came src consumed at limit taken most_is ends
   limit = limit;
   next_is = ends;
 }
+
+-- one more than an id with no full chunks
+with_none : (id blocks : ℕ) → blocks ≡ 0 → id + 1 ≡ id + blocks + 1
+with_none id blocks none = omega (arith, none)
+
+-- a packet of one chunk, which stands whole in front, is found there
+pub found_whole : {A : Type 0} (front : Header) (old new : PacketStream A) (payload : List ℕ) (known : Option (List ℕ)) → LiesWhole front old.src.items
+    → payload ≡ take front.len (drop 4 old.src.items) → new.src.items ≡ drop (4 + front.len) old.src.items → new.taken ≡ 4 + front.len
+    → span_state new.decoder ≡ record (span_state old.decoder) { id = (front.seq_id + 1) % 256 }
+    → new.len ≡ old.len + length payload → (new.len ≤ new.limit → new.held.items ≡ old.held.items ++ payload)
+    → new.at ≡ old.at → new.limit ≡ old.limit → IsIdle old → Found (Packet front.seq_id) old new known known
+unfolding chunk
+found_whole front old new payload known lies payload_is src taken state len held at limit ready =
+    let bytes : List ℕ = old.src.items in
+    let begun : List ℕ = take (4 + front.len) bytes in
+    let rest : length (drop 4 bytes) ≡ length bytes - 4 = length-drop 4 bytes in
+    let long : length payload ≡ front.len = ap length payload_is ∙ length-take-le front.len (drop 4 bytes) (omega (arith, rest, lies.there)) in
+    let short : length payload < max_payload = omega (arith, long, lies.short) in
+    let begun_is : begun ≡ framing front.seq_id payload =
+    take-add 4 front.len bytes ∙ ap₂ (λ (z w : List ℕ). z ++ w) (lies.spelled ∙ ap (λ (n : ℕ). header n front.seq_id) (sym long)) (sym payload_is)
+    ∙ sym (framing_short front.seq_id payload short) in
+    record {
+      came = [];
+      begun = begun;
+      consumed = consumes_none known;
+      split = append-nil bytes ∙ sym (take-append-drop (4 + front.len) bytes) ∙ ap (λ (z : List ℕ). begun ++ z) (sym src);
+      taken = taken ∙ sym (length-take-le (4 + front.len) bytes lies.there);
+      most_is = ap (λ (s : SpanState). s.limit) state ∙ ready.most_is;
+      at = at;
+      limit = limit;
+      next_is = (
+        payload,
+        record {
+          begun_is = begun_is;
+          len = len ∙ ap (λ (n : ℕ). n + length payload) ready.fresh.len ∙ omega arith;
+          held = λ within. held within ∙ ap (λ (z : List ℕ). z ++ payload) ready.fresh.held;
+          between = subst IsBetween (sym state) ready.fresh.between;
+          behind = ap (λ (s : SpanState). s.id) state ∙ ap (λ (n : ℕ). n % 256) (with_none front.seq_id (length payload / max_payload) (no_blocks (length payload) short));
+        },
+      );
+    }

@@ -1,7 +1,8 @@
 -- The packets of one direction.
 use Rattle.std.specs.Io.KnownBytes.{Consumes, IsAtEnd}
-use Rattle.std.specs.Prelude.{◌≡◌, ℕ, ◌+◌, ◌<◌, ◌≤◌, ◌⊎◌, List, [], ◌∷◌, ◌++◌, length, ⊤, Option, Some, None}
-use Rattle.wire_codec.specs.Framing.{framing, next_id}
+use Rattle.std.specs.Prelude.{◌≡◌, ℕ, ◌+◌, ◌<◌, ◌≤◌, ◌⊎◌, List, [], ◌∷◌, ◌++◌, length, take, ⊤, Option, Some, None}
+use Rattle.wire_codec.specs.Framing.{framing, header, max_payload, next_id}
+use Rattle.wire_codec.specs.declared.codec.header.Header.{Header}
 use Rattle.wire_codec.specs.Delivery.{Delivers, Splits, Waiting}
 use Rattle.wire_span.specs.Spans.{SpanState, CameTo, IsBetween, IsOfAnotherId, span_state}
 use Rattle.wire_span.specs.declared.span.SpanDecoder.{SpanDecoder}
@@ -183,6 +184,12 @@ pub record IsIdle {A : Type 0} (source : PacketStream A) : Type 0 where
 -- and its header, which bears this id, is there
 abbrev pub IsReady : {A : Type 0} → ℕ → PacketStream A → Type 0
 IsReady id source = IsIdle source × BeginsWith id source.src.items
+
+-- a packet of one chunk, which has this header, stands whole in front of these bytes
+pub record LiesWhole (front : Header) (bytes : List ℕ) : Type 0 where
+  pub short : front.len < max_payload
+  pub there : 4 + front.len ≤ length bytes
+  pub spelled : take 4 bytes ≡ header front.len front.seq_id
 
 -- what stands next was found in what was there and what was read then
 pub record Found {A : Type 0} (next : Next) (old new : PacketStream A) (unread left : Option (List ℕ)) :

@@ -4,7 +4,7 @@ ghost use Rattle.std.specs.Prelude.{◌≡◌, ◌++◌, OnOk, codes, string_byt
 ghost use Rattle.std.specs.Fmt.{decimal};
 ghost use Rattle.mysql_wire_dump_lines.specs.Lines.{bytes_part, ending_line, line_end, packet_front, packet_head, packet_line, refused_words, shown_bytes};
 ghost use Rattle.mysql_wire_dump_lines.specs.Names.{end_name};
-ghost use Rattle.mysql_wire_session_phases.specs.Names.{refusal_name, side_name};
+ghost use Rattle.mysql_wire_session_phases.specs.Names.{kind_name, refusal_name, side_name};
 
 use crate::packet_stream::End;
 use mysql_wire_session_phases::packet_kind::PacketKind;
@@ -101,22 +101,35 @@ fn push_bytes<A: Allocator + Copy>(
     }
 }
 
-// Two numbers, each with the words after it.
+// Two numbers, and words between them.
 #[inline(always)]
 fn push_counted<A: Allocator>(
     text: &mut String<A>,
     first: u64,
     between: &str,
     second: u64,
-    after: &str,
 ) -> Result<(), AllocError>
     ensures { OnOk result (string_bytes text.new
-        ≡ string_bytes text.old ++ (decimal first ++ between.now ++ decimal second ++ after.now)) }
+        ≡ string_bytes text.old ++ (decimal first ++ between.now ++ decimal second)) }
 {
     push_number(text, first)?;
     text.push_str(between)?;
-    push_number(text, second)?;
-    text.push_str(after)
+    push_number(text, second)
+}
+
+// A space, and what a packet is: of a row at once, since there are many.
+#[inline(always)]
+fn push_kind<A: Allocator>(text: &mut String<A>, kind: PacketKind) -> Result<(), AllocError>
+    ensures { OnOk result (string_bytes text.new
+        ≡ string_bytes text.old ++ (codes " " ++ kind_name kind)) }
+{
+    match kind {
+        PacketKind::Row => text.push_str(" row"),
+        _ => {
+            text.push_str(" ")?;
+            text.push_str(kind.name())
+        }
+    }
 }
 
 // Who sent a packet, and a space.
@@ -140,18 +153,16 @@ fn push_front<A: Allocator + Copy>(
 {
     let id = seen.id as u64;
     let len = seen.len as u64;
-    let kind = seen.kind.name();
     match form {
         LineForm::Text => {
             text.push_str(front_of(seen.side))?;
-            push_counted(text, id, " ", len, " ")?;
-            text.push_str(kind)
+            push_counted(text, id, " ", len)?;
+            push_kind(text, seen.kind)
         }
         LineForm::Json => {
             push_between(text, "{\"from\":\"", seen.side.name(), "\",\"id\":")?;
-            push_counted(text, id, ",\"length\":", len, ",\"packet\":\"")?;
-            text.push_str(kind)?;
-            text.push_str("\"")
+            push_counted(text, id, ",\"length\":", len)?;
+            push_between(text, ",\"packet\":\"", seen.kind.name(), "\"")
         }
     }
 }

@@ -5,12 +5,14 @@ ghost use Rattle.std.specs.Io.KnownBytes.{Consumes, IsAtEnd};
 ghost use Rattle.wire_span.specs.Spans.{span_state};
 ghost use Rattle.mysql_wire_dump_lines.specs.declared.packet_stream.Next.TheVariants.{Unread, Packet, Ended};
 ghost use Rattle.mysql_wire_dump_lines.specs.declared.packet_stream.End.TheVariants.{Encrypted};
-ghost use Rattle.mysql_wire_dump_lines.specs.PacketStreams.{AtEnd, Found, IsIdle, IsReady, LooksOn, PassesPacket, Stands, Stepped, Steps, Took, collects, id_of};
+ghost use Rattle.mysql_wire_dump_lines.specs.PacketStreams.{AtEnd, Found, IsIdle, IsReady, LiesWhole, LooksOn, PassesPacket, Stands, Stepped, Steps, Took, collects, id_of};
 
 use crate::status::Stop;
 use bytes::BytesMut;
 use std::alloc::Allocator;
 use std::io::Read;
+use wire_buf::lengths::MAX_PAYLOAD_LEN;
+use wire_codec::codec::header::{HEADER_LEN, Header};
 use wire_span::{SpanDecoder, SpanError, laws};
 
 // The room for one read, in bytes.
@@ -290,6 +292,23 @@ impl<A: Allocator + Copy> PacketStream<A> {
         Err(Stop::Io)
     }
 
+    // Takes a packet that lies whole in what was read, in one chunk.
+    #[inline(always)]
+    fn take_whole(&mut self, header: Header) -> Result<(), Stop>
+        requires { LiesWhole header self.old.src.items }
+        ensures found { OnOk result ((known : Option (List ℕ)) → IsIdle self.old
+            → Found (Packet header.seq_id) self.old self.new known known) }
+        ensures kept { (self.new.next ≡ self.old.next) × (self.new.limit ≡ self.old.limit) }
+    {
+        let count = HEADER_LEN + header.len;
+        let payload = &self.src.as_slice()[HEADER_LEN..count];
+        collect(&mut self.held, &mut self.len, self.limit, payload)?;
+        self.decoder.set_sequence_id(header.seq_id.wrapping_add(1));
+        self.src.advance(count);
+        self.taken = count as u64;
+        Ok(())
+    }
+
     // Looks for the next packet.
     fn find<R: Read>(&mut self, input: &mut R) -> Result<Next, Stop>
         ensures found { IfOk result (λ next. IsIdle self.old → Found next self.old self.new
@@ -300,14 +319,18 @@ impl<A: Allocator + Copy> PacketStream<A> {
             × AtEnd next (R.remaining input.new)) }
     {
         read_header(&mut self.src, input)?;
-        match self.src.as_slice() {
-            [] => Ok(Next::Ended(End::Between)),
-            [_, _, _, id, ..] => {
-                let id = *id;
-                self.take_packet(id, input)
-            }
-            _ => Ok(Next::Ended(End::Unfinished)),
+        let Some(header) = Header::read(self.src.as_slice()) else {
+            return Ok(Next::Ended(if self.src.is_empty() {
+                End::Between
+            } else {
+                End::Unfinished
+            }));
+        };
+        if header.len < MAX_PAYLOAD_LEN && header.len <= self.src.len() - HEADER_LEN {
+            self.take_whole(header)?;
+            return Ok(Next::Packet(header.seq_id));
         }
+        self.take_packet(header.seq_id, input)
     }
 
     /// Looks for the next packet, where it has not been looked for.

@@ -79,7 +79,14 @@ pub record Tells (side : Side) (id : ℕ) (payload : List ℕ) (known next : Ses
   pub puts : PutsPacket known.types (kind_of side id payload known) payload packet old new named
   pub goes_on : next ≡ after_packet side id (kind_of side id payload known) payload packet known
 
--- the same of a row of this kind
+-- a row of this kind was read and shown as this, and its fields were put
+pub record PutsRow (called : PacketKind) (payload : List ℕ) (known : SessionState)
+    (old new : Written) (named : PacketKind) : Type 0 where
+  pub row : Row
+  pub reads : RowReads known called payload row
+  pub puts : PutsRowFields known.types called row old new named
+
+-- and the session goes on after it
 pub record TellsRow (side : Side) (id : ℕ) (called : PacketKind) (payload : List ℕ)
     (known next : SessionState) (old new : Written) (named : PacketKind) : Type 0 where
   pub row : Row

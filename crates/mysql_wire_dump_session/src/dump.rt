@@ -4,7 +4,7 @@ ghost use Rattle.std.specs.Prelude.{◌≡◌, ◌≢◌, ◌<◌, ◌≤◌, �
 ghost use Rattle.std.specs.Str.{IsUtf8};
 ghost use Rattle.std.specs.Io.KnownBytes.{Appends};
 ghost use Rattle.mysql_wire_dump_session.specs.Dumped.{DumpEnds, Dumps, DumpsOver, ending_lines, field_form, status_of};
-ghost use Rattle.mysql_wire_dump_session.specs.Dumping.{GoesOver, IsCalled, ShowsFields, StartsDump, Tells, TellsRow, WritesFields, WritesRow, is_refused};
+ghost use Rattle.mysql_wire_dump_session.specs.Dumping.{GoesOver, IsCalled, PutsRow, ShowsFields, StartsDump, Tells, TellsRow, WritesFields, WritesRow, is_refused};
 ghost use Rattle.mysql_wire_dump_fields.specs.Packets.{PutsPacket};
 ghost use Rattle.mysql_wire_session.specs.Readings.{advanced};
 ghost use Rattle.mysql_wire_session.specs.State.{state_of};
@@ -106,7 +106,41 @@ fn show_other<A: Allocator + Copy>(
     }
 }
 
-// The same of a row of this kind, of which there are many.
+// Reads a row of this kind and puts its fields. The answer is what it is shown as.
+#[inline(always)]
+fn put_row_of<A: Allocator + Copy>(
+    global: Global,
+    session: &Session<A>,
+    fields: &mut Fields<A>,
+    kind: PacketKind,
+    payload: &[u8],
+) -> Result<PacketKind, Stop>
+    ensures { IfOk result (PutsRow kind payload.now (state_of session.now)
+        fields.old fields.new) }
+{
+    let row = session.read_row(kind, payload).map_err(stop_of)?;
+    Ok(show_row(global, fields, session.column_types(), kind, &row).map_err(stop_of)?)
+}
+
+// The same of any kind of row: one of texts, of which there are many, is not asked again what it is.
+#[inline(always)]
+fn put_row<A: Allocator + Copy>(
+    global: Global,
+    session: &Session<A>,
+    fields: &mut Fields<A>,
+    kind: PacketKind,
+    payload: &[u8],
+) -> Result<PacketKind, Stop>
+    ensures { IfOk result (PutsRow kind payload.now (state_of session.now)
+        fields.old fields.new) }
+{
+    match kind {
+        PacketKind::Row => put_row_of(global, session, fields, PacketKind::Row, payload),
+        _ => put_row_of(global, session, fields, kind, payload),
+    }
+}
+
+// Reads a row of this kind and puts its fields, and goes on after it.
 #[inline(always)]
 fn show_row_of<A: Allocator + Copy>(
     global: Global,
@@ -118,8 +152,7 @@ fn show_row_of<A: Allocator + Copy>(
     ensures { IfOk result (TellsRow came.0 came.1 came.2 payload.now (state_of session.old)
         (state_of session.new) fields.old fields.new) }
 {
-    let row = session.read_row(came.2, payload).map_err(stop_of)?;
-    let kind = show_row(global, fields, session.column_types(), came.2, &row).map_err(stop_of)?;
+    let kind = put_row(global, session, fields, came.2, payload)?;
     session.advance_by_kind(came.0, came.1, came.2, payload.len());
     Ok(kind)
 }

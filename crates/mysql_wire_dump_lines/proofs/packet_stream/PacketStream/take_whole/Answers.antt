@@ -1,0 +1,12 @@
+use Rattle.std.proofs.Common.{ℕ, List, take, drop, ap₂, arith, refl}
+use Rattle.wire_codec.specs.Framing.{max_payload_is}
+use Rattle.mysql_wire_dump_lines.proofs.PacketStreamLemmas.{found_whole}
+use Rattle.mysql_wire_dump_lines.proofs.packet_stream.PacketStream.take_whole.Goals as goal
+
+pub overflow_add-count : goal.overflow_add-count
+overflow_add-count g c = omega (arith, c.requires.short, max_payload_is)
+
+pub returns-clause-found : goal.returns-clause-found
+returns-clause-found g c known =
+    found_whole c.args.header c.args.self.now _ _ known c.requires (ap₂ (λ (n : ℕ) (z : List ℕ). take n (drop 4 z)) (omega arith) c.as_slice.ensures)
+    c.advance.ensures.items refl c.set_sequence_id.ensures c.in_ok-collect.ensures.len c.in_ok-collect.ensures.held refl refl
