@@ -4,9 +4,9 @@
  * All input is known to be well formed, memory is never refused, and nothing is checked. The reads
  * of a text may go up to 48 bytes past its end, and so may the writes of one: there is room.
  *
- * Compiled with TESTED, `answers`, `statements` and `server` make the tests that a library makes
- * that trusts nobody: of the room for what is put, of the bytes for what is taken, of a packet's
- * length and id. No byte is read or written past what it belongs to.
+ * Compiled with TESTED, `answers`, `statements`, `server` and `dump` make the tests that a library
+ * makes that trusts nobody: of the room for what is put, of the bytes for what is taken, of a
+ * packet's length and id. No byte of a caller's is read or written past a text's end.
  */
 #pragma once
 

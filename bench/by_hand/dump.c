@@ -11,12 +11,22 @@ typedef enum { LINES, FIELDS, JSON } Form;
 
 enum { TEXT_ROWS = 800, BINARY_ROWS = 200, READ_SIZE = 16384, WRITE_SIZE = 65536 };
 
+/* Reads a row whose values are not shown, for those that are refused. */
+static inline void pass_row(const uint8_t *payload, size_t columns)
+{
+    for (size_t column = 0; column < columns; column++)
+        take_value(&payload);
+    test(payload == bytes_end);
+}
+
 /* The line of a packet, whose place is counted from the column count's on; of rows in binary there
  * are no columns. A short one is shown as other words. */
 INLINE uint8_t *put_packet(uint8_t *out, Form form, Text packet, size_t place, size_t columns)
 {
     const bool is_json = form == JSON, is_read = form != LINES;
     const uint8_t *payload = packet.bytes;
+    room_end = out + lines_room(packet);
+    bytes_end = payload + packet.len;
     out = put_head(out, packet, is_json);
     if (packet.len < SHORT_PAYLOAD) {
         out = PUT_KIND(out, is_json, "statistics text");
@@ -28,6 +38,8 @@ INLINE uint8_t *put_packet(uint8_t *out, Form form, Text packet, size_t place, s
         out = PUT_KIND(out, is_json, "column");
         out = is_read ? put_definition_fields(out, payload, is_json) : out;
     } else {
+        if (IS_TESTED && !is_read)
+            pass_row(payload, columns);
         out = PUT_KIND(out, is_json, "row");
         out = is_read ? put_text_fields(out, payload, (int)columns, is_json) : out;
     }
