@@ -106,50 +106,27 @@ INLINE void take_into(void *value, const uint8_t *from, size_t size)
     memcpy(value, from, size);
 }
 
-/* A date, of which just what is sent is read. */
-static inline Date take_tested_date(const uint8_t *from)
+/* A date or a span, of which just what is sent is read: its size, and so many bytes behind it. */
+INLINE void take_sent(void *value, const uint8_t *from, size_t least, size_t usual, size_t most)
 {
-    Date date = {0};
     test_bytes(from, bytes_end, 1);
-    switch (*from) {
-    case 0:
-        break;
-    case 4:
-        take_into(&date, from, 5);
-        break;
-    case 7:
-        take_into(&date, from, 8);
-        break;
-    default:
-        test(*from == 11);
-        take_into(&date, from, 12);
-    }
-    return date;
-}
-
-static inline Span take_tested_span(const uint8_t *from)
-{
-    Span span = {0};
-    test_bytes(from, bytes_end, 1);
-    switch (*from) {
-    case 0:
-        break;
-    case 8:
-        take_into(&span, from, 9);
-        break;
-    default:
-        test(*from == 12);
-        take_into(&span, from, 13);
-    }
-    return span;
+    size_t size = *from;
+    if (size == usual)
+        take_into(value, from, 1 + usual);
+    else if (size == least)
+        take_into(value, from, 1 + least);
+    else if (size == most)
+        take_into(value, from, 1 + most);
+    else
+        test(size == 0);
 }
 
 /* What is not sent is read from what lies behind, and not used. */
 static inline Date take_date(const uint8_t **from)
 {
-    Date date;
+    Date date = {0};
     if (IS_TESTED)
-        date = take_tested_date(*from);
+        take_sent(&date, *from, 4, 7, 11);
     else
         memcpy(&date, *from, sizeof date);
     *from += 1 + date.size;
@@ -158,9 +135,9 @@ static inline Date take_date(const uint8_t **from)
 
 static inline Span take_span(const uint8_t **from)
 {
-    Span span;
+    Span span = {0};
     if (IS_TESTED)
-        span = take_tested_span(*from);
+        take_sent(&span, *from, 8, 8, 12);
     else
         memcpy(&span, *from, sizeof span);
     *from += 1 + span.size;

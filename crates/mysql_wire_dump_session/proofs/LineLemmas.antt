@@ -3,10 +3,7 @@ use Rattle.std.proofs.Common.{◌≡◌, ◌∙◌, ℕ, ◌≤◌, List, [], �
 use Rattle.std.proofs.KnownBytes.{Appends-nil}
 use Rattle.std.proofs.Math.Seq.{drop-append_seam}
 use Rattle.std.proofs.lemmas.List.{length-append, length-take, take-append-le, take_all}
-use Rattle.std.proofs.lemmas.Str.{IsCharBoundary-from_take}
 use Rattle.std.specs.Prelude.{◌<◌, IfOk, OnOk}
-use Rattle.std.specs.Str.{IsUtf8}
-use Rattle.std.specs.String.Boundary.{IsSplitPoint}
 use Rattle.mysql_wire_dump_session.specs.declared.dump.SessionLines.{SessionLines}
 use Rattle.mysql_wire_dump_session.specs.Dumped.{field_form}
 use Rattle.mysql_wire_dump_session.specs.Dumping.{NamesOne, PushesFields, PushesRead, ShowsFields, ShowsNext, WritesFields, WritesRead, WritesTheFields, is_refused}

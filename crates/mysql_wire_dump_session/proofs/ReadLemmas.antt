@@ -115,11 +115,11 @@ row_told : (side : Side) (id : ℕ) (payload : List ℕ) (called : PacketKind) (
     → called ≡ kind_of side id payload known → IsRow called → TellsRow side id called payload known next old new named
     → Tells side id payload known next old new named
 row_told side id payload called known next old new named called_so is told = record {
-  packet = packet.Row told.row;
-  reads = subst (λ (k : PacketKind). ReadsAs (opened k (length payload) known) k payload (packet.Row told.row)) called_so
-      (row_reads called payload known told.row is told.reads);
-  puts = subst (λ (k : PacketKind). PutsPacket known.types k payload (packet.Row told.row) old new named) called_so
-      (row_puts known.types called payload told.row old new named is told.puts);
+  packet = packet.Row told.put.row;
+  reads = subst (λ (k : PacketKind). ReadsAs (opened k (length payload) known) k payload (packet.Row told.put.row)) called_so
+      (row_reads called payload known told.put.row is told.put.reads);
+  puts = subst (λ (k : PacketKind). PutsPacket known.types k payload (packet.Row told.put.row) old new named) called_so
+      (row_puts known.types called payload told.put.row old new named is told.put.puts);
   goes_on = told.goes_on ∙ ap (λ (k : PacketKind). after_kind side id k (length payload) known) called_so;
 }
 
@@ -184,7 +184,7 @@ pub row_part : {side : Side} {id : ℕ} {called : PacketKind} {payload : List �
 row_part read reads writes goes_on = record {
   whole = writes.whole;
   written = writes.written;
-  tells = record { row = read; reads = reads; puts = writes.puts; goes_on = goes_on };
+  tells = record { put = record { row = read; reads = reads; puts = writes.puts }; goes_on = goes_on };
   appended = writes.appended;
   ends = writes.ends;
 }

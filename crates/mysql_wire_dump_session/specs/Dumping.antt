@@ -89,9 +89,7 @@ pub record PutsRow (called : PacketKind) (payload : List ℕ) (known : SessionSt
 -- and the session goes on after it
 pub record TellsRow (side : Side) (id : ℕ) (called : PacketKind) (payload : List ℕ)
     (known next : SessionState) (old new : Written) (named : PacketKind) : Type 0 where
-  pub row : Row
-  pub reads : RowReads known called payload row
-  pub puts : PutsRowFields known.types called row old new named
+  pub put : PutsRow called payload known old new named
   pub goes_on : next ≡ after_kind side id called (length payload) known
 
 -- it was, and all but an end of what was put may have been written

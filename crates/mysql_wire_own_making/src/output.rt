@@ -45,7 +45,7 @@ impl Output {
         self.put(len);
     }
 
-    /// Writes what was put.
+    /// Writes what was put: letters that are no draw of the job's.
     pub fn write(&mut self, letters: &Letters) -> Option<()> {
         let mut still = Draws::new(1);
         for _ in 0..self.pending / LONGEST {
