@@ -1,13 +1,17 @@
 -- What stands for a byte where JSON quotes it.
-use Rattle.std.proofs.Common.{◌≡◌, ℕ, zero, suc, ◌+◌, ◌*◌, ◌/◌, ◌%◌, ◌<◌, ◌≤◌, ◌⊎◌, inl, inr, leb, eqb, cond, drop, take, List, [], ◌∷◌, ◌++◌, Bool, true, false, refl, ap, ap₂, sym, subst, ◌∙◌, append_assoc, append-nil, take-append-drop, arith, length, get_or}
+use Rattle.std.proofs.Common.{◌≡◌, ℕ, zero, suc, ◌+◌, ◌*◌, ◌-◌, ◌/◌, ◌%◌, ◌<◌, ◌≤◌, ◌⊎◌, inl, inr, leb, eqb, cond, drop, take, List, [], ◌∷◌, ◌++◌, Bool, true, false, refl, ap, ap₂, sym, subst, ◌∙◌, append_assoc, append-nil, take-append-drop, arith, length, get_or}
 use Rattle.std.proofs.lemmas.Bool.{and_parts, eqb-true}
 use Rattle.std.proofs.lemmas.Bool.Decides.{leb_tells}
 use Rattle.std.proofs.lemmas.Grind.{flat_map-append}
-use Rattle.std.proofs.lemmas.List.{length-append, length-take, take_more, take-append-le, take_all}
+use Rattle.std.proofs.lemmas.List.{drop-drop, drop-take, length-append, length-drop, length-take, take_more, take-append-le, take-take, take_all}
+use Rattle.std.proofs.lemmas.List.Sums.{prefix_len-le-length}
+use Rattle.std.proofs.Math.Nat.{min-le_left}
+use Rattle.std.specs.List.{prefix_len}
 use Rattle.std.specs.Prelude.{◌&&◌, slice_index_or}
-use Rattle.json.specs.Print.{escape, escape_byte}
-use Rattle.wire_text.specs.Fields.{escape_mark}
-use Rattle.wire_text.proofs.FieldLemmas.{is_false}
+use Rattle.json.specs.Print.{escape, escape_byte, quoted}
+use Rattle.wire_text.specs.Fields.{escape_mark, needs_no_escape, none_needs_escape}
+use Rattle.wire_text.proofs.FieldLemmas.{escape-none_needs_escape, is_false}
+use Rattle.wire_text.proofs.StandLemmas.{run_passes, same_front}
 
 -- a test of all numbers below one
 abbrev upto : (ℕ → Bool) → ℕ → Bool
@@ -89,20 +93,21 @@ hex_letter byte letter below is same =
 
 -- ---- in a room
 
--- so much of the room is filled, after what stood there
-abbrev pub FilledTo : List ℕ → ℕ → List ℕ → ℕ → ℕ → List ℕ → Type 0
-FilledTo front begin words place at room = (length room ≡ 400) × (at ≤ begin + 6 * place) × (take at room ≡ front ++ escape (take place words))
+-- so much of a room of this size is filled, after what stood there
+abbrev pub FilledTo : List ℕ → ℕ → ℕ → List ℕ → ℕ → ℕ → List ℕ → Type 0
+FilledTo front begin size words place at room =
+    (length room ≡ size) × (at ≤ begin + 6 * place) × (take at room ≡ front ++ escape (take place words))
 
-pub filled_begins : (front words room : List ℕ) (begin : ℕ) → length room ≡ 400 → front ≡ take begin room → FilledTo front begin words 0 begin room
-filled_begins front words room begin long front_is = (long, omega arith, sym front_is ∙ sym (append-nil front))
+pub filled_begins : (front words room : List ℕ) (begin : ℕ) → front ≡ take begin room → FilledTo front begin (length room) words 0 begin room
+filled_begins front words room begin front_is = (refl, omega arith, sym front_is ∙ sym (append-nil front))
 
-block_in : (at len : ℕ) (room block : List ℕ) → at + 8 ≤ length room → length block ≡ 8 → len ≤ 8
-    → take (at + len) (take at room ++ (block ++ drop (at + 8) room)) ≡ take at room ++ take len block
-block_in at len room block within long short =
+block_in : (at len size : ℕ) (room block : List ℕ) → at + size ≤ length room → length block ≡ size → len ≤ size
+    → take (at + len) (take at room ++ (block ++ drop (at + size) room)) ≡ take at room ++ take len block
+block_in at len size room block within long short =
     let front : length (take at room) ≡ at = omega (arith, length-take at room, within) in
     let part : length (take len block) ≡ len = omega (arith, length-take len block, long, short) in
-    let rest = drop len block ++ drop (at + 8) room in
-    let parted = ap (λ (z : List ℕ). z ++ drop (at + 8) room) (sym (take-append-drop len block)) ∙ append_assoc (take len block) (drop len block) (drop (at + 8) room) in
+    let rest = drop len block ++ drop (at + size) room in
+    let parted = ap (λ (z : List ℕ). z ++ drop (at + size) room) (sym (take-append-drop len block)) ∙ append_assoc (take len block) (drop len block) (drop (at + size) room) in
     ap (λ (z : List ℕ). take (at + len) (take at room ++ z)) parted
     ∙ ap (take (at + len)) (sym (append_assoc (take at room) (take len block) rest))
     ∙ take-append-le (at + len) (take at room ++ take len block) rest (omega (arith, length-append (take at room) (take len block), front, part))
@@ -113,32 +118,132 @@ escape_more place words inside =
     ap escape (take_more words place 0 inside) ∙ flat_map-append escape_byte (take place words) (get_or words place 0 ∷ [])
     ∙ ap (λ (z : List ℕ). escape (take place words) ++ z) (append-nil (escape_byte (get_or words place 0)))
 
--- a block of a few bytes in the room
-pub block_put : (at len : ℕ) (room block new bytes : List ℕ) → at + 8 ≤ length room → length block ≡ 8 → len ≤ 6 → take len block ≡ bytes
-    → new ≡ take at room ++ block ++ drop (at + 8) room → take (at + len) new ≡ take at room ++ bytes
-block_put at len room block new bytes within long short is new_is =
-    ap (take (at + len)) (new_is ∙ append_assoc (take at room) block (drop (at + 8) room)) ∙ block_in at len room block within long (omega (arith, short))
+-- a block in the room
+pub block_put : (at len : ℕ) (room block new bytes : List ℕ) → at + length block ≤ length room → len ≤ length block → take len block ≡ bytes
+    → new ≡ take at room ++ block ++ drop (at + length block) room → take (at + len) new ≡ take at room ++ bytes
+block_put at len room block new bytes within short is new_is =
+    ap (take (at + len)) (new_is ∙ append_assoc (take at room) block (drop (at + length block) room)) ∙ block_in at len (length block) room block within refl short
     ∙ ap (λ (z : List ℕ). take at room ++ z) is
 
+pub block_long : (at : ℕ) (room block new : List ℕ) → at + length block ≤ length room → new ≡ take at room ++ block ++ drop (at + length block) room → length new ≡ length room
+block_long at room block new within new_is =
+    omega (
+      arith,
+      within,
+      ap length new_is,
+      length-append (take at room ++ block) (drop (at + length block) room),
+      length-append (take at room) block,
+      length-take at room,
+      length-drop (at + length block) room,
+    )
+
 -- one byte more
-pub filled_on : (front words : List ℕ) (begin place at next : ℕ) (room new : List ℕ) → FilledTo front begin words place at room → place < length words → length new ≡ 400
-    → next ≤ at + 6 → take next new ≡ take at room ++ escape_byte (get_or words place 0) → FilledTo front begin words (place + 1) next new
-filled_on front words begin place at next room new filled inside long short is = (
-  long,
+pub filled_on : (front words : List ℕ) (begin size place at next : ℕ) (room new : List ℕ) → FilledTo front begin size words place at room → place < length words
+    → length new ≡ length room → next ≤ at + 6 → take next new ≡ take at room ++ escape_byte (get_or words place 0) → FilledTo front begin size words (place + 1) next new
+filled_on front words begin size place at next room new filled inside long short is = (
+  long ∙ filled.0,
   omega (arith, filled.1, short),
   is ∙ ap (λ (z : List ℕ). z ++ escape_byte (get_or words place 0)) filled.2 ∙ append_assoc front (escape (take place words)) (escape_byte (get_or words place 0))
       ∙ ap (λ (z : List ℕ). front ++ z) (sym (escape_more place words inside)),
 )
+
+-- one part after another
+pub escape_append : (first second : List ℕ) → escape (first ++ second) ≡ escape first ++ escape second
+escape_append first second = flat_map-append escape_byte first second
+
+take_split : (n m : ℕ) (words : List ℕ) → take n words ++ take m (drop n words) ≡ take (n + m) words
+take_split n m words =
+    ap₂ (λ (a b : List ℕ). a ++ b) (sym (take-take n (n + m) words (omega arith))) (sym (drop-take n m words))
+    ∙ ap (λ (z : List ℕ). z ++ drop n (take (n + m) words)) refl ∙ take-append-drop n (take (n + m) words)
+
+-- more bytes that need none, in a block
+pub filled_by : (front words : List ℕ) (begin size place at n : ℕ) (room block new : List ℕ) → FilledTo front begin size words place at room → at + length block ≤ length room
+    → n ≤ length block → take n block ≡ take n (drop place words) → none_needs_escape (take n (drop place words)) ≡ true
+    → new ≡ take at room ++ block ++ drop (at + length block) room → FilledTo front begin size words (place + n) (at + n) new
+filled_by front words begin size place at n room block new filled within short same none new_is = (
+  block_long at room block new within new_is ∙ filled.0,
+  omega (arith, filled.1),
+  block_put at n room block new (escape (take n (drop place words))) within short (same ∙ sym (escape-none_needs_escape (take n (drop place words)) none)) new_is
+      ∙ ap (λ (z : List ℕ). z ++ escape (take n (drop place words))) filled.2 ∙ append_assoc front (escape (take place words)) (escape (take n (drop place words)))
+      ∙ ap (λ (z : List ℕ). front ++ z) (sym (escape_append (take place words) (take n (drop place words))) ∙ ap escape (take_split place n words)),
+)
+
+-- of the first sixteen bytes, so many come before the next that needs one
+abbrev pub RunIs : List ℕ → ℕ → ℕ → Type 0
+RunIs source place run = run ≡ prefix_len needs_no_escape (drop place (take 16 source))
+
+pub run_within : (source : List ℕ) (place run : ℕ) → RunIs source place run → run ≤ 16
+run_within source place run is =
+    omega (arith, is, prefix_len-le-length needs_no_escape (drop place (take 16 source)), length-drop place (take 16 source), length-take 16 source, min-le_left 16 (length source))
+
+-- those of them that are put
+pub run_put : (front source : List ℕ) (begin size place at n run : ℕ) (room block new : List ℕ) → FilledTo front begin size source place at room → RunIs source place run
+    → at + 16 ≤ length room → n ≤ run → place + n ≤ 16 → block ≡ take (place + 16 - place) (drop place source) → place + 16 ≤ length source
+    → new ≡ take at room ++ block ++ drop (at + length block) room → FilledTo front begin size source (place + n) (at + n) new
+run_put front source begin size place at n run room block new filled run_is room_left fewer inside block_is long new_is =
+    let size_is : place + 16 - place ≡ 16 = omega arith in
+    let block_same : block ≡ take 16 (drop place source) = block_is ∙ ap (λ (k : ℕ). take k (drop place source)) size_is in
+    let block_long : length block ≡ 16 = omega (arith, ap length block_same, length-take 16 (drop place source), length-drop place source, long) in
+    let seen = same_front place n 16 16 source inside (omega (arith, inside)) in
+    let few : n ≤ 16 = omega (arith, inside) in
+    let same = take-take n 16 (drop place source) few in
+    let none = ap none_needs_escape (sym same ∙ seen) ∙ run_passes needs_no_escape n (drop place (take 16 source)) (omega (arith, fewer, run_is)) in
+    filled_by front source begin size place at n room block new filled (omega (arith, block_long, room_left)) (omega (arith, block_long, few))
+    (ap (take n) block_same ∙ same) none new_is
+
+-- a part more
+pub part_put : (front words : List ℕ) (begin size place at len next : ℕ) (room part new : List ℕ) → FilledTo front begin size words place at room
+    → part ≡ take len (drop place words) → next ≤ at + 6 * len → take next new ≡ take at room ++ escape part → length new ≡ length room
+    → FilledTo front begin size words (place + len) next new
+part_put front words begin size place at len next room part new filled part_is short is long = (
+  long ∙ filled.0,
+  omega (arith, filled.1, short),
+  is ∙ ap₂ (λ (a b : List ℕ). a ++ escape b) filled.2 part_is ∙ append_assoc front (escape (take place words)) (escape (take len (drop place words)))
+      ∙ ap (λ (z : List ℕ). front ++ z) (sym (escape_append (take place words) (take len (drop place words))) ∙ ap escape (take_split place len words)),
+)
+
+-- the room is filled up to these bytes, which are left of some
+abbrev pub FilledBefore : List ℕ → ℕ → ℕ → List ℕ → List ℕ → ℕ → List ℕ → Type 0
+FilledBefore front begin size words rest at room =
+    (place : ℕ) × (rest ≡ drop place words) × (place ≤ length words) × FilledTo front begin size words place at room
+
+pub before_begins : (front words room : List ℕ) (begin : ℕ) → front ≡ take begin room → FilledBefore front begin (length room) words words begin room
+before_begins front words room begin front_is = (0, refl, omega arith, filled_begins front words room begin front_is)
+
+-- a part more of what is left
+pub before_on : (n : ℕ) (front words rest part behind : List ℕ) (begin size at next : ℕ) (room new : List ℕ) → FilledBefore front begin size words rest at room
+    → n ≤ length rest → part ≡ take n rest → behind ≡ take (length rest - n) (drop n rest) → next ≤ at + 6 * n → take next new ≡ take at room ++ escape part
+    → length new ≡ length room → FilledBefore front begin size words behind next new
+before_on n front words rest part behind begin size at next room new so_far within part_is behind_is short is long =
+    let left = ap length so_far.1 ∙ length-drop so_far.0 words in (
+      so_far.0 + n,
+      behind_is ∙ take_all (length rest - n) (drop n rest) (omega (arith, length-drop n rest)) ∙ ap (drop n) so_far.1 ∙ drop-drop n so_far.0 words ∙ ap (λ (k : ℕ). drop k words) (omega arith),
+      omega (arith, so_far.2, within, left),
+      part_put front words begin size so_far.0 at n next room part new so_far.3 (part_is ∙ ap (take n) so_far.1) short is long,
+    )
+
+-- the last of it
+pub before_ends : (front words rest : List ℕ) (begin size at next : ℕ) (room new : List ℕ) → FilledBefore front begin size words rest at room
+    → next ≤ at + 6 * length rest → take next new ≡ take at room ++ escape rest → length new ≡ length room
+    → (next ≤ begin + 6 * length words) × (take next new ≡ front ++ escape words) × (length new ≡ size)
+before_ends front words rest begin size at next room new so_far short is long =
+    let left = ap length so_far.1 ∙ length-drop so_far.0 words in
+    let all = part_put front words begin size so_far.0 at (length rest) next room rest new so_far.3
+    (sym (take_all (length rest) rest (omega arith)) ∙ ap (take (length rest)) so_far.1) short is long in (
+      omega (arith, all.1, left, so_far.2),
+      all.2 ∙ ap (λ (z : List ℕ). front ++ escape z) (take_all (so_far.0 + length rest) words (omega (arith, left))),
+      all.0,
+    )
+
+-- a text between quotes, after the first
+pub quoted_put : (words text filled : List ℕ) → filled ≡ 34 ∷ escape words → text ≡ filled ++ 34 ∷ [] → text ≡ quoted words
+quoted_put words text filled filled_is is = is ∙ ap (λ (z : List ℕ). z ++ 34 ∷ []) filled_is
 
 -- ---- block by block
 
 -- the escapes of what is done of some bytes stand after what was held, and this is left of them
 abbrev pub Escaped : List ℕ → List ℕ → List ℕ → List ℕ → Type 0
 Escaped words rest held text = (done : List ℕ) × (done ++ rest ≡ words) × (text ≡ held ++ escape done)
-
--- one part after another
-pub escape_append : (first second : List ℕ) → escape (first ++ second) ≡ escape first ++ escape second
-escape_append first second = flat_map-append escape_byte first second
 
 pub none_escaped : (held : List ℕ) (words : List ℕ) → Escaped words words held held
 none_escaped held words = ([], refl, sym (append-nil held))

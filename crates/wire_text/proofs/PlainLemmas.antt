@@ -180,25 +180,25 @@ pub run_to_other : (block : List ℕ) → length block ≡ 16 → (others_mask b
 run_to_other block long some = trailing_mask_l is_other 64 block (omega (arith, long)) (omega (arith, some)) ∙ same_run block
 
 -- of two blocks
-parts_run : (n : ℕ) (bytes : List ℕ)
-    → prefix_len plain bytes ≡ cond (eqb (prefix_len plain (take n bytes)) (length (take n bytes))) (length (take n bytes) + prefix_len plain (drop n bytes)) (prefix_len plain (take n bytes))
-parts_run n bytes = ap (prefix_len plain) (sym (take-append-drop n bytes)) ∙ prefix_len-append plain (take n bytes) (drop n bytes)
+parts_run : (p : ℕ → Bool) (n : ℕ) (bytes : List ℕ)
+    → prefix_len p bytes ≡ cond (eqb (prefix_len p (take n bytes)) (length (take n bytes))) (length (take n bytes) + prefix_len p (drop n bytes)) (prefix_len p (take n bytes))
+parts_run p n bytes = ap (prefix_len p) (sym (take-append-drop n bytes)) ∙ prefix_len-append p (take n bytes) (drop n bytes)
 
-pub run_in_first : (block : List ℕ) → 16 ≤ length block → prefix_len plain (take 16 block) < 16
-    → prefix_len plain (take 16 block) ≡ prefix_len plain block
-run_in_first block long less =
+pub run_in_first : (p : ℕ → Bool) (block : List ℕ) → 16 ≤ length block → prefix_len p (take 16 block) < 16
+    → prefix_len p (take 16 block) ≡ prefix_len p block
+run_in_first p block long less =
     let here = length-take-le 16 block long in
-    sym (parts_run 16 block ∙ ap (λ (b : Bool). cond b (length (take 16 block) + prefix_len plain (drop 16 block)) (prefix_len plain (take 16 block)))
-    (ne_eqb (prefix_len plain (take 16 block)) (length (take 16 block)) (λ is. omega (arith, here, is, less))))
+    sym (parts_run p 16 block ∙ ap (λ (b : Bool). cond b (length (take 16 block) + prefix_len p (drop 16 block)) (prefix_len p (take 16 block)))
+    (ne_eqb (prefix_len p (take 16 block)) (length (take 16 block)) (λ is. omega (arith, here, is, less))))
 
-pub run_past_first : (block : List ℕ) → 16 ≤ length block → 16 ≤ prefix_len plain (take 16 block)
-    → 16 + prefix_len plain (take (length block - 16) (drop 16 block)) ≡ prefix_len plain block
-run_past_first block long all =
+pub run_past_first : (p : ℕ → Bool) (block : List ℕ) → 16 ≤ length block → 16 ≤ prefix_len p (take 16 block)
+    → 16 + prefix_len p (take (length block - 16) (drop 16 block)) ≡ prefix_len p block
+run_past_first p block long all =
     let here = length-take-le 16 block long in
-    let whole : prefix_len plain (take 16 block) ≡ length (take 16 block) = omega (arith, here, all, prefix_len-le-length plain (take 16 block)) in
-    ap (λ (n : ℕ). 16 + n) (ap (prefix_len plain) (to_end 16 block)) ∙ ap (λ (n : ℕ). n + prefix_len plain (drop 16 block)) (sym here)
-    ∙ sym (parts_run 16 block ∙ ap (λ (b : Bool). cond b (length (take 16 block) + prefix_len plain (drop 16 block)) (prefix_len plain (take 16 block)))
-    (eq-eqb (prefix_len plain (take 16 block)) (length (take 16 block)) whole))
+    let whole : prefix_len p (take 16 block) ≡ length (take 16 block) = omega (arith, here, all, prefix_len-le-length p (take 16 block)) in
+    ap (λ (n : ℕ). 16 + n) (ap (prefix_len p) (to_end 16 block)) ∙ ap (λ (n : ℕ). n + prefix_len p (drop 16 block)) (sym here)
+    ∙ sym (parts_run p 16 block ∙ ap (λ (b : Bool). cond b (length (take 16 block) + prefix_len p (drop 16 block)) (prefix_len p (take 16 block)))
+    (eq-eqb (prefix_len p (take 16 block)) (length (take 16 block)) whole))
 
 suc_is : (n : ℕ) → suc n ≡ 1 + n
 suc_is n = omega arith
@@ -215,14 +215,14 @@ pub before_plain : (bytes : List ℕ) → all_plain (take (prefix_len plain byte
 before_plain [] = refl
 before_plain (byte ∷ bytes) = front_plain byte bytes (plain byte) refl (before_plain bytes)
 
--- no more stand in front of one that is not plain than there are
-pub run_below_count : (n len : ℕ) (bytes : List ℕ) → n < len → prefix_len plain (take n bytes) < len
-run_below_count n len bytes above =
-    omega (arith, above, prefix_len-le-length plain (take n bytes), length-take n bytes, min-le_left n (length bytes))
+-- no more stand in front of one that does not pass than there are
+pub run_below_count : (p : ℕ → Bool) (n len : ℕ) (bytes : List ℕ) → n < len → prefix_len p (take n bytes) < len
+run_below_count p n len bytes above =
+    omega (arith, above, prefix_len-le-length p (take n bytes), length-take n bytes, min-le_left n (length bytes))
 
-pub run_below_length : (n len : ℕ) (bytes : List ℕ) → length bytes < len → prefix_len plain (take n bytes) < len
-run_below_length n len bytes above =
-    omega (arith, above, prefix_len-le-length plain (take n bytes), length-take n bytes, min-le_right n (length bytes))
+pub run_below_length : (p : ℕ → Bool) (n len : ℕ) (bytes : List ℕ) → length bytes < len → prefix_len p (take n bytes) < len
+run_below_length p n len bytes above =
+    omega (arith, above, prefix_len-le-length p (take n bytes), length-take n bytes, min-le_right n (length bytes))
 
 -- fewer of the same bytes
 pub plain_less : (n k : ℕ) (bytes : List ℕ) → n ≤ k → all_plain (take k bytes) ≡ true → all_plain (take n bytes) ≡ true

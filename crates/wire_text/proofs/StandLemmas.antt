@@ -1,11 +1,13 @@
 -- Bytes that need no escape, and bytes of ASCII, seen sixteen at a time through a mask of the others.
-use Rattle.std.proofs.Common.{◌≡◌, ℕ, zero, suc, ◌+◌, ◌-◌, ◌*◌, ◌≤◌, ◌%◌, ◌^◌, leb, ltb, eqb, bit_or, replicate, drop, take, take-append-drop, List, [], ◌∷◌, ◌++◌, Bool, true, false, refl, ap, ap₂, sym, ◌∙◌, append_assoc, arith, length, nat_eq, map, cond}
+use Rattle.std.proofs.Common.{◌≡◌, ℕ, zero, suc, ◌+◌, ◌-◌, ◌*◌, ◌≤◌, ◌/◌, ◌%◌, ◌^◌, leb, ltb, eqb, bit_or, replicate, drop, take, take-append-drop, List, [], ◌∷◌, ◌++◌, Bool, true, false, refl, ap, ap₂, sym, ◌∙◌, append_assoc, arith, length, nat_eq, map, cond}
 use Rattle.std.proofs.lemmas.Bool.{and_parts}
 use Rattle.std.proofs.lemmas.List.Folds.{list_all-append}
-use Rattle.std.proofs.lemmas.List.{length-append, length-map}
-use Rattle.std.proofs.lemmas.Simd.{mask_l-mod, zip2_of_maps, zip2_splat, zip2_splat_left}
+use Rattle.std.proofs.lemmas.List.{drop-take, length-append, length-drop, length-map, take-take}
+use Rattle.std.proofs.lemmas.Simd.{leading_from_mask_l, mask_l-mod, trailing_mask_l, zip2_of_maps, zip2_splat, zip2_splat_left}
 use Rattle.std.specs.List.{list_all, prefix_len}
 use Rattle.std.specs.Prelude.{◌&&◌, not}
+use native.Mathlib.Nat.{div-div-eq-div-mul, div-one, mul_comm, pow-suc, zero-div}
+use lib.Count.{count_trailing_zeros}
 use lib.Lanes.{mask_l, top, zip2}
 use Rattle.wire_text.specs.Fields.{all_ascii, in_ascii, needs_escape, needs_no_escape, none_needs_escape, over_ascii}
 use Rattle.wire_text.proofs.FieldLemmas.{zero-false}
@@ -92,6 +94,49 @@ no_escape_bit bytes = none_set needs_escape needs_no_escape (λ x. not_not (need
 pub no_wide_bit : (bytes : List ℕ) → nat_eq (mask_l (map over_ascii bytes)) 0 ≡ all_ascii bytes
 no_wide_bit bytes = none_set over_ascii in_ascii (λ x. not_not (in_ascii x)) bytes
 
+-- ---- the first that needs one, and the first that is not of ASCII
+
+same_run : (p q : ℕ → Bool) → ((x : ℕ) → not (p x) ≡ q x) → (bytes : List ℕ) → prefix_len (λ x. not (p x)) bytes ≡ prefix_len q bytes
+same_run p q opposite [] = refl
+same_run p q opposite (byte ∷ bytes) = ap₂ (λ (b : Bool) (n : ℕ). cond b (1 + n) 0) (opposite byte) (same_run p q opposite bytes)
+
+-- the bits from one on are those of the bytes from there on
+halved : (first : Bool) (mask : ℕ) → (cond first 1 0 + 2 * mask) / 2 ≡ mask
+halved true mask = omega arith
+halved false mask = omega arith
+
+bits_from : (p : ℕ → Bool) (k : ℕ) (bytes : List ℕ) → mask_l (map p bytes) / 2 ^ k ≡ mask_l (map p (drop k bytes))
+bits_from p zero bytes = div-one (mask_l (map p bytes))
+bits_from p (suc k) [] = zero-div (2 ^ suc k)
+bits_from p (suc k) (byte ∷ bytes) =
+    ap (λ (n : ℕ). mask_l (map p (byte ∷ bytes)) / n) (pow-suc 2 k ∙ mul_comm (2 ^ k) 2)
+    ∙ sym (div-div-eq-div-mul (mask_l (map p (byte ∷ bytes))) 2 (2 ^ k))
+    ∙ ap (λ (n : ℕ). n / 2 ^ k) (halved (p byte) (mask_l (map p bytes))) ∙ bits_from p k bytes
+
+pub no_run_ends : (bits left done : ℕ) (block : List ℕ) → left ≡ bits / 2 ^ done → left ≡ 0 → length block ≡ 16 → bits ≡ mask_l (map needs_escape block)
+    → 16 - done ≡ prefix_len needs_no_escape (drop done block)
+no_run_ends bits left done block left_is none long bits_is =
+    let all = leading_from_mask_l needs_escape (drop done block) (sym (bits_from needs_escape done block) ∙ ap (λ (n : ℕ). n / 2 ^ done) (sym bits_is) ∙ sym left_is ∙ none) in
+    let run = same_run needs_escape needs_no_escape (λ x. not_not (needs_no_escape x)) (drop done block) in
+    omega (arith, all, run, long, length-drop done block)
+
+pub run_ends : (bits left done : ℕ) (block : List ℕ) → left ≡ bits / 2 ^ done → (left ≡ 0 → ⊥) → length block ≡ 16 → bits ≡ mask_l (map needs_escape block)
+    → count_trailing_zeros 64 left ≡ prefix_len needs_no_escape (drop done block)
+run_ends bits left done block left_is some long bits_is =
+    let mask = left_is ∙ ap (λ (n : ℕ). n / 2 ^ done) bits_is ∙ bits_from needs_escape done block in
+    ap (count_trailing_zeros 64) mask
+    ∙ trailing_mask_l needs_escape 64 (drop done block) (omega (arith, long, length-drop done block)) (omega (arith, mask, some))
+    ∙ same_run needs_escape needs_no_escape (λ x. not_not (needs_no_escape x)) (drop done block)
+
+pub all_in_ascii : (bytes : List ℕ) → length bytes ≡ 16 → mask_l (map over_ascii bytes) ≡ 0 → 16 ≡ prefix_len in_ascii bytes
+all_in_ascii bytes long none =
+    sym long ∙ sym (leading_from_mask_l over_ascii bytes none) ∙ same_run over_ascii in_ascii (λ x. not_not (in_ascii x)) bytes
+
+pub ascii_to_other : (bytes : List ℕ) → length bytes ≡ 16 → (mask_l (map over_ascii bytes) ≡ 0 → ⊥)
+    → count_trailing_zeros 64 (mask_l (map over_ascii bytes)) ≡ prefix_len in_ascii bytes
+ascii_to_other bytes long some =
+    trailing_mask_l over_ascii 64 bytes (omega (arith, long)) (omega (arith, some)) ∙ same_run over_ascii in_ascii (λ x. not_not (in_ascii x)) bytes
+
 -- ---- many bytes, block by block
 
 -- what is after bytes that all pass tells, also with some of those
@@ -160,12 +205,19 @@ look_ends k words rest last ascii stands last_ascii last_stands so_far within la
       ap₂ (λ (a b : Bool). a && b) so_far.3 (stands_is ∙ ap none_needs_escape last_is) ∙ last_all needs_no_escape k words so_far.0 rest so_far.1 inside,
     )
 
-stands_more : (first : Bool) (len n : ℕ) (rest : Bool) → suc n ≤ cond first (1 + len) 0 → (n ≤ len → rest ≡ true) → (first && rest) ≡ true
-stands_more true len n rest within others = others (omega (arith, within))
-stands_more false len n rest within others = absurd (omega (arith, within))
+passes_more : (first : Bool) (len n : ℕ) (rest : Bool) → suc n ≤ cond first (1 + len) 0 → (n ≤ len → rest ≡ true) → (first && rest) ≡ true
+passes_more true len n rest within others = others (omega (arith, within))
+passes_more false len n rest within others = absurd (omega (arith, within))
 
--- so many of the first need none
-pub run_stands : (n : ℕ) (bytes : List ℕ) → n ≤ prefix_len needs_no_escape bytes → none_needs_escape (take n bytes) ≡ true
-run_stands zero bytes within = refl
-run_stands (suc n) [] within = absurd (omega (arith, within))
-run_stands (suc n) (byte ∷ bytes) within = stands_more (needs_no_escape byte) (prefix_len needs_no_escape bytes) n _ within (run_stands n bytes)
+-- so many of the first pass
+pub run_passes : (p : ℕ → Bool) (n : ℕ) (bytes : List ℕ) → n ≤ prefix_len p bytes → list_all p (take n bytes) ≡ true
+run_passes p zero bytes within = refl
+run_passes p (suc n) [] within = absurd (omega (arith, within))
+run_passes p (suc n) (byte ∷ bytes) within = passes_more (p byte) (prefix_len p bytes) n _ within (run_passes p n bytes)
+
+-- what stands behind so many bytes, where others stand behind these
+pub same_front : (done n len size : ℕ) (source : List ℕ) → done + n ≤ len → n ≤ size
+    → take n (take size (drop done source)) ≡ take n (drop done (take len source))
+same_front done n len size source within few =
+    take-take n size (drop done source) few ∙ sym (drop-take done n source)
+    ∙ ap (drop done) (sym (take-take (done + n) len source within)) ∙ drop-take done n (take len source)

@@ -1,14 +1,15 @@
 //! Which bytes of a text need escapes, sixteen at a time.
 
-ghost use Rattle.std.specs.Prelude.{◌≡◌, ◌≤◌, length, map};
+ghost use Rattle.std.specs.Prelude.{◌≡◌, ◌≤◌, ℕ, List, drop, length, map};
+ghost use Rattle.std.specs.List.{prefix_len};
 ghost use Rattle.std.specs.Simd.Lanes.{mask_l};
-ghost use Rattle.wire_text.specs.Fields.{all_ascii, needs_escape, none_needs_escape, over_ascii};
+ghost use Rattle.wire_text.specs.Fields.{all_ascii, in_ascii, needs_escape, needs_no_escape, none_needs_escape, over_ascii};
 
 use std::simd::prelude::*;
 
 // A bit for each of sixteen bytes: whether it needs an escape.
 #[inline(always)]
-fn escape_bits(block: &[u8]) -> u64
+pub(crate) fn escape_bits(block: &[u8]) -> u64
     requires { length block.now ≡ 16 }
     ensures { result ≡ mask_l (map needs_escape block.now) }
 {
@@ -28,6 +29,47 @@ fn wide_bits(block: &[u8]) -> u64
     u8x16::from_slice(block)
         .simd_ge(u8x16::splat(0x80))
         .to_bitmask()
+}
+
+// How many of sixteen bytes come before the next that needs an escape, after those that are done.
+#[inline(always)]
+pub(crate) fn run_from(escapes: u64, done: usize) -> usize
+    requires { done ≤ 16 }
+    ensures { (block : List ℕ) → length block ≡ 16 → escapes ≡ mask_l (map needs_escape block)
+        → result ≡ prefix_len needs_no_escape (drop done block) }
+{
+    let left = escapes >> done;
+    if left == 0 {
+        16 - done
+    } else {
+        left.trailing_zeros() as usize
+    }
+}
+
+// How many of sixteen bytes come before the first that is not of ASCII.
+#[inline(always)]
+fn ascii_in_block(block: &[u8]) -> usize
+    requires { length block.now ≡ 16 }
+    ensures within { result ≤ 16 }
+    ensures run { result ≡ prefix_len in_ascii block.now }
+{
+    let wide = wide_bits(block);
+    if wide == 0 {
+        16
+    } else {
+        wide.trailing_zeros() as usize
+    }
+}
+
+// The same of 32 bytes.
+#[inline(always)]
+pub(crate) fn ascii_in_front(block: &[u8]) -> usize
+    requires { length block.now ≡ 32 }
+    ensures { result ≡ prefix_len in_ascii block.now }
+{
+    let front = ascii_in_block(&block[..16]);
+    let after = ascii_in_block(&block[16..]);
+    if front < 16 { front } else { 16 + after }
 }
 
 // Whether sixteen bytes are of ASCII, and whether none of them needs an escape.

@@ -4,12 +4,15 @@ ghost use Rattle.std.specs.Prelude.{◌≡◌, ◌<◌, ◌≤◌, ◌⊎◌, �
 ghost use Rattle.std.specs.List.{prefix_len};
 ghost use Rattle.std.specs.Fmt.{decimal};
 ghost use Rattle.wire_text.specs.FieldTables.{members_in, members_of};
-ghost use Rattle.wire_text.specs.Fields.{Puts, Words, ended, member_form, nothing, nothing_after, plain, value_of};
+ghost use Rattle.wire_text.specs.Fields.{Puts, Words, ended, in_ascii, member_form, nothing, nothing_after, plain, value_of};
 ghost use Rattle.wire_text.specs.Parts.{WritesMember};
 
+use crate::escapes::ascii_in_front;
 use crate::long::write_text_at;
 pub use crate::members::FieldValue;
-use crate::members::{MemberForm, push_closing, push_member, push_member_at, push_short_at};
+use crate::members::{
+    MemberForm, push_closing, push_escaped_at, push_member, push_member_at, push_short_at,
+};
 use crate::plain::plain_in_front;
 use crate::stop::Stop;
 use std::alloc::{AllocError, Allocator, Global};
@@ -178,16 +181,51 @@ impl<A: Allocator + Copy> Fields<A> {
         Ok(())
     }
 
+    // Puts the text that these bytes begin with, where it is of ASCII, and 48 bytes are there: whether
+    // it has.
+    #[inline(never)]
+    fn put_escaped_at(
+        &mut self,
+        form: MemberForm,
+        place: u64,
+        bytes: &[u8],
+        len: usize,
+    ) -> Result<bool, AllocError>
+        requires long { 32 ≤ length bytes.now }
+        requires within { len ≤ 32 }
+        requires shown { member_form self.old.form ≡ Some form }
+        ensures put { result ≡ Ok true
+            → Puts ((decimal place, Words (take len bytes.now)) ∷ []) self.old self.new }
+        ensures not { result ≡ Ok false → (self.new ≡ self.old)
+            × ((length bytes.now < 48) ⊎ (prefix_len in_ascii (take 32 bytes.now) < len)) }
+    {
+        let Some((source, _)) = bytes.split_first_chunk::<48>() else {
+            return Ok(false);
+        };
+        if ascii_in_front(&source[..32]) < len {
+            return Ok(false);
+        }
+        let is_first = self.text.len() == self.begin;
+        match push_escaped_at(&mut self.text, form, is_first, place, source, len) {
+            Ok(()) => Ok(true),
+            Err(error) => {
+                self.begin = 0;
+                Err(error)
+            }
+        }
+    }
+
     /// Puts the text that these bytes begin with, of this many bytes, which has no name but its place:
-    /// whether it has. Where fields are shown, that is where it is short, of plain letters, and 32
-    /// bytes are there; else nothing changes.
+    /// whether it has. Where fields are shown, that is where it is short, and 32 bytes are there if its
+    /// letters are plain, 48 if some need escapes; else nothing changes.
     #[inline(always)]
     pub fn put_short_at(&mut self, place: u64, bytes: &[u8], len: usize) -> Result<bool, AllocError>
         ensures within { result ≡ Ok true → len ≤ length bytes.now }
         ensures put { result ≡ Ok true
             → Puts ((decimal place, Words (take len bytes.now)) ∷ []) self.old self.new }
         ensures not { result ≡ Ok false → (self.new ≡ self.old)
-            × ((length bytes.now < 32) ⊎ (prefix_len plain (take 32 bytes.now) < len)) }
+            × ((length bytes.now < 32) ⊎ ((prefix_len plain (take 32 bytes.now) < len)
+            × ((length bytes.now < 48) ⊎ (prefix_len in_ascii (take 32 bytes.now) < len)))) }
         ensures hidden { self.old.form ≡ Hidden → len ≤ length bytes.now → result ≡ Ok true }
     {
         let Some(form) = self.form.members() else {
@@ -196,8 +234,11 @@ impl<A: Allocator + Copy> Fields<A> {
         let Some((block, _)) = bytes.split_first_chunk::<32>() else {
             return Ok(false);
         };
-        if len > block.len() || plain_in_front(block) < len {
+        if len > block.len() {
             return Ok(false);
+        }
+        if plain_in_front(block) < len {
+            return self.put_escaped_at(form, place, bytes, len);
         }
         let is_first = self.text.len() == self.begin;
         match push_short_at(&mut self.text, form, is_first, place, block, len) {

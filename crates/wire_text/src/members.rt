@@ -3,13 +3,13 @@
 ghost use Rattle.std.specs.Prelude.{◌≡◌, ◌≢◌, ◌≤◌, ◌++◌, ℕ, List, [], codes, length, take, IfSome, IsSome, IsTrue, OnOk, string_bytes};
 ghost use Rattle.std.specs.Fmt.{decimal};
 ghost use Rattle.std.specs.Str.{IsUtf8};
-ghost use Rattle.wire_text.specs.Fields.{all_plain, digits_text, end_part, flags_text, member_part, name_part, none_needs_escape, octets_text, value_of, value_text, words_text, Null, Word, Words};
+ghost use Rattle.wire_text.specs.Fields.{all_ascii, all_plain, digits_text, end_part, flags_text, member_part, name_part, none_needs_escape, octets_text, value_of, value_text, words_text, Null, Word, Words};
 
 use crate::digits::push_digits_to;
 use crate::escapes::look_at;
 use crate::plain::{below_128, is_plain};
 use crate::put::{one_digit, push_between, push_few, push_number, two_digits};
-use crate::quoted::{push_escaped_words, push_in_quotes};
+use crate::quoted::{push_escaped_words, push_front_escaped, push_in_quotes};
 use crate::wide::is_wide;
 use std::alloc::{AllocError, Allocator};
 
@@ -428,6 +428,26 @@ pub(crate) fn push_short_at<A: Allocator + Copy>(
     }
     let digit = one_digit(place);
     push_short(text, form, is_first, name_of(&digit), block, len)
+}
+
+// A text of ASCII that 48 bytes begin with, of which some need escapes, and whose name is its place.
+#[inline(always)]
+pub(crate) fn push_escaped_at<A: Allocator>(
+    text: &mut String<A>,
+    form: MemberForm,
+    is_first: bool,
+    place: u64,
+    source: &[u8],
+    len: usize,
+) -> Result<(), AllocError>
+    requires long { length source.now ≡ 48 }
+    requires within { len ≤ 32 }
+    requires ascii { IsTrue (all_ascii (take len source.now)) }
+    ensures { OnOk result (string_bytes text.new ≡ string_bytes text.old
+        ++ member_part form is_first (decimal place, Words (take len source.now))) }
+{
+    push_name_at(text, form, is_first, place)?;
+    push_front_escaped(text, source, len)
 }
 
 // A text that may not stand in quotes as it is.

@@ -1,11 +1,11 @@
 //! A text between quotes, with JSON's escapes.
 
-ghost use Rattle.std.specs.Prelude.{◌≡◌, ◌≤◌, ◌+◌, ◌∷◌, ◌++◌, [], length, take, drop, OnErr, OnOk, string_bytes};
+ghost use Rattle.std.specs.Prelude.{◌≡◌, ◌≤◌, ◌+◌, ◌*◌, ◌∷◌, ◌++◌, [], length, take, drop, IsTrue, OnErr, OnOk, string_bytes};
 ghost use Rattle.json.specs.Print.{escape, escape_byte, quoted};
-ghost use Rattle.wire_text.specs.Fields.{escape_mark, in_quotes};
+ghost use Rattle.wire_text.specs.Fields.{all_ascii, escape_mark, in_quotes};
 
 use crate::digits::DIGITS;
-use crate::escapes::none_needs_escape;
+use crate::escapes::{escape_bits, none_needs_escape, run_from};
 use crate::put::{push_between, push_few};
 use std::alloc::{AllocError, Allocator};
 use std::mem;
@@ -60,25 +60,21 @@ fn escape_of(byte: u8) -> ([u8; 8], usize)
     ([b'\\', letter, b'0', b'0', high, low, 0, 0], 6)
 }
 
-// The most bytes that are quoted at once, and the room for them: six bytes for each, what stands
-// before the first, and what is written after the last.
-const FEW: usize = 64;
-
-const ROOM: usize = 400;
-
+// Puts some bytes into the room.
 #[inline(always)]
-fn put_block(room: &mut [u8; 400], at: usize, block: &[u8; 8])
-    requires { at + 8 ≤ 400 }
-    ensures { room.new ≡ take at room.old ++ block.now ++ drop (at + 8) room.old }
+fn put_block(room: &mut [u8], at: usize, block: &[u8])
+    requires { at + length block.now ≤ length room.old }
+    ensures { room.new ≡ take at room.old ++ block.now ++ drop (at + length block.now) room.old }
 {
-    room[at..at + 8].copy_from_slice(block);
+    room[at..at + block.len()].copy_from_slice(block);
 }
 
 // Puts what stands for a byte into the room. The answer is the place after it.
 #[inline(always)]
-fn put_escaped(room: &mut [u8; 400], at: usize, byte: u8) -> usize
-    requires { at + 8 ≤ 400 }
-    ensures { (result ≤ at + 6) × (take result room.new ≡ take at room.old ++ escape_byte byte) }
+fn put_escaped(room: &mut [u8], at: usize, byte: u8) -> usize
+    requires { at + 8 ≤ length room.old }
+    ensures { (result ≤ at + 6) × (take result room.new ≡ take at room.old ++ escape_byte byte)
+        × (length room.new ≡ length room.old) }
 {
     if escape_letter_of(byte) == 0 {
         room[at] = byte;
@@ -89,12 +85,38 @@ fn put_escaped(room: &mut [u8; 400], at: usize, byte: u8) -> usize
     at + len
 }
 
-// Puts what stands for a few bytes into the room. The answer is the place after it.
+// Puts what stands for so many of the first sixteen bytes into the room: those before one that needs
+// an escape are copied as sixteen. The answer is the place after them.
 #[inline(always)]
-fn escape_few(room: &mut [u8; 400], begin: usize, words: &[u8]) -> usize
-    requires { (begin ≤ 8) × (length words.now ≤ 64) }
-    ensures { (result ≤ begin + 384)
-        × (take result room.new ≡ take begin room.old ++ escape words.now) }
+fn escape_part(room: &mut [u8], begin: usize, source: &[u8], len: usize) -> usize
+    requires long { length source.now ≡ 32 }
+    requires within { len ≤ 16 }
+    requires room { begin + 6 * len + 16 ≤ length room.old }
+    ensures { (result ≤ begin + 6 * len)
+        × (take result room.new ≡ take begin room.old ++ escape (take len source.now))
+        × (length room.new ≡ length room.old) }
+{
+    let escapes = escape_bits(&source[..16]);
+    let mut at = begin;
+    let mut done = 0;
+    let mut run = run_from(escapes, 0);
+    'escapes: while done + run < len {
+        put_block(room, at, &source[done..done + 16]);
+        at = put_escaped(room, at + run, source[done + run]);
+        done += run + 1;
+        run = run_from(escapes, done);
+    }
+    put_block(room, at, &source[done..done + 16]);
+    at + (len - done)
+}
+
+// Puts what stands for some bytes into the room, byte by byte. The answer is the place after it.
+#[inline(always)]
+fn escape_bytes(room: &mut [u8], begin: usize, words: &[u8]) -> usize
+    requires { begin + 6 * length words.now + 8 ≤ length room.old }
+    ensures { (result ≤ begin + 6 * length words.now)
+        × (take result room.new ≡ take begin room.old ++ escape words.now)
+        × (length room.new ≡ length room.old) }
 {
     let mut at = begin;
     'bytes: for byte in words {
@@ -103,17 +125,56 @@ fn escape_few(room: &mut [u8; 400], begin: usize, words: &[u8]) -> usize
     at
 }
 
-// The same, and a quote after it.
+// The same, sixteen at once where 32 are there.
 #[inline(always)]
-fn quote_few(room: &mut [u8; 400], begin: usize, words: &[u8]) -> usize
-    requires { (begin ≤ 8) × (length words.now ≤ 64) }
-    ensures { (result ≤ 400)
-        × (take result room.new ≡ take begin room.old ++ (escape words.now ++ 34 ∷ [])) }
+fn escape_few(room: &mut [u8], begin: usize, words: &[u8]) -> usize
+    requires { begin + 6 * length words.now + 16 ≤ length room.old }
+    ensures { (result ≤ begin + 6 * length words.now)
+        × (take result room.new ≡ take begin room.old ++ escape words.now)
+        × (length room.new ≡ length room.old) }
 {
-    let at = escape_few(room, begin, words);
+    let mut at = begin;
+    let mut rest = words;
+    'parts: while let Some((source, _)) = rest.split_first_chunk::<32>() {
+        at = escape_part(room, at, source, 16);
+        rest = &rest[16..];
+    }
+    escape_bytes(room, at, rest)
+}
+
+// The same of so many bytes that 48 begin with.
+#[inline(always)]
+fn escape_front(room: &mut [u8], begin: usize, source: &[u8], len: usize) -> usize
+    requires long { length source.now ≡ 48 }
+    requires within { len ≤ 32 }
+    requires room { begin + 6 * len + 16 ≤ length room.old }
+    ensures { (result ≤ begin + 6 * len)
+        × (take result room.new ≡ take begin room.old ++ escape (take len source.now))
+        × (length room.new ≡ length room.old) }
+{
+    let front = &source[..32];
+    if len <= 16 {
+        return escape_part(room, begin, front, len);
+    }
+    let at = escape_part(room, begin, front, 16);
+    escape_part(room, at, &source[16..48], len - 16)
+}
+
+// Puts a quote after what stands in the room. The answer is the place after it.
+#[inline(always)]
+fn put_quote(room: &mut [u8], at: usize) -> usize
+    requires { at + 1 ≤ length room.old }
+    ensures { (result ≡ at + 1) × (take result room.new ≡ take at room.old ++ 34 ∷ []) }
+{
     room[at] = b'"';
     at + 1
 }
+
+// The most bytes that are quoted at once, and the room for them: six bytes for each, a quote before
+// them, and what is written after the last.
+const FEW: usize = 64;
+
+const ROOM: usize = 408;
 
 // A text of a few bytes, of which some need escapes.
 #[inline(never)]
@@ -123,21 +184,95 @@ fn push_few_escaped<A: Allocator>(text: &mut String<A>, words: &str) -> Result<(
 {
     let mut room = [0; ROOM];
     room[0] = b'"';
-    let len = quote_few(&mut room, 1, words.as_bytes());
+    let at = escape_few(&mut room, 1, words.as_bytes());
+    let len = put_quote(&mut room, at);
     push_few(text, &room[..len])
 }
 
-// Some of the bytes of a text that is quoted.
-fn push_block<A: Allocator>(text: &mut Vec<u8, A>, block: &[u8]) -> Result<(), AllocError>
-    requires { length block.now ≤ 64 }
-    ensures ok { OnOk result (text.new.items ≡ text.old.items ++ escape block.now) }
-    ensures err { OnErr result (text.new.items ≡ text.old.items) }
+// The same room for 32 bytes.
+const SHORT_ROOM: usize = 216;
+
+// A text of ASCII that 48 bytes begin with, of which some need escapes.
+#[inline(always)]
+pub(crate) fn push_front_escaped<A: Allocator>(
+    text: &mut String<A>,
+    source: &[u8],
+    len: usize,
+) -> Result<(), AllocError>
+    requires long { length source.now ≡ 48 }
+    requires within { len ≤ 32 }
+    requires ascii { IsTrue (all_ascii (take len source.now)) }
+    ensures { OnOk result (string_bytes text.new
+        ≡ string_bytes text.old ++ quoted (take len source.now)) }
 {
+    let mut room = [0; SHORT_ROOM];
+    room[0] = b'"';
+    let at = escape_front(&mut room, 1, source, len);
+    let end = put_quote(&mut room, at);
+    push_few(text, &room[..end])
+}
+
+// Puts what stands for 64 bytes, which others follow, into the room. The answer is the place after it.
+#[inline(always)]
+fn escape_parts(room: &mut [u8], source: &[u8]) -> usize
+    requires long { length source.now ≡ 80 }
+    requires room { 400 ≤ length room.old }
+    ensures { (result ≤ length room.new) × (take result room.new ≡ escape (take 64 source.now))
+        × (length room.new ≡ length room.old) }
+{
+    let mut at = 0;
+    'parts: for part in 0..4 {
+        at = escape_part(room, at, &source[16 * part..16 * part + 32], 16);
+    }
+    at
+}
+
+// The same of the first 64 of some bytes.
+#[inline(always)]
+fn escape_block(room: &mut [u8], bytes: &[u8]) -> usize
+    requires long { 64 ≤ length bytes.now }
+    requires room { 400 ≤ length room.old }
+    ensures { (result ≤ length room.new) × (take result room.new ≡ escape (take 64 bytes.now))
+        × (length room.new ≡ length room.old) }
+{
+    match bytes.split_first_chunk::<80>() {
+        Some((source, _)) => escape_parts(room, source),
+        None => escape_few(room, 0, &bytes[..64]),
+    }
+}
+
+// The first 64 of some bytes of a text that is quoted.
+fn push_block<A: Allocator>(
+    text: &mut Vec<u8, A>,
+    room: &mut [u8],
+    bytes: &[u8],
+) -> Result<(), AllocError>
+    requires long { 64 ≤ length bytes.now }
+    requires room { 400 ≤ length room.old }
+    ensures ok { OnOk result (text.new.items ≡ text.old.items ++ escape (take 64 bytes.now)) }
+    ensures err { OnErr result (text.new.items ≡ text.old.items) }
+    ensures room { length room.new ≡ length room.old }
+{
+    let block = &bytes[..64];
     if none_needs_escape(block) {
         return text.extend_from_slice(block);
     }
-    let mut room = [0; ROOM];
-    let len = escape_few(&mut room, 0, block);
+    let len = escape_block(room, bytes);
+    text.extend_from_slice(&room[..len])
+}
+
+// The last bytes of such a text.
+fn push_last<A: Allocator>(
+    text: &mut Vec<u8, A>,
+    room: &mut [u8],
+    rest: &[u8],
+) -> Result<(), AllocError>
+    requires short { length rest.now ≤ 64 }
+    requires room { 400 ≤ length room.old }
+    ensures ok { OnOk result (text.new.items ≡ text.old.items ++ escape rest.now) }
+    ensures err { OnErr result (text.new.items ≡ text.old.items) }
+{
+    let len = escape_few(room, 0, rest);
     text.extend_from_slice(&room[..len])
 }
 
@@ -149,12 +284,13 @@ pub(crate) fn push_escaped<A: Allocator>(
     ensures ok { OnOk result (text.new.items ≡ text.old.items ++ escape words.now) }
     ensures front { take (length text.old.items) text.new.items ≡ text.old.items }
 {
+    let mut room = [0; ROOM];
     let mut rest = words;
-    'rounds: while let Some((block, after)) = rest.split_first_chunk::<64>() {
-        push_block(text, block)?;
+    'rounds: while let Some((_, after)) = rest.split_first_chunk::<64>() {
+        push_block(text, &mut room, rest)?;
         rest = after;
     }
-    push_block(text, rest)
+    push_last(text, &mut room, rest)
 }
 
 // A text between quotes.

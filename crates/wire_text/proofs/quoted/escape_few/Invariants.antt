@@ -1,6 +1,9 @@
-use Rattle.std.proofs.Common.{take}
-use Rattle.wire_text.proofs.EscapeLemmas.{FilledTo}
+use Rattle.std.proofs.Common.{length, take}
+use Rattle.wire_text.proofs.EscapeLemmas.{FilledBefore}
 use Rattle.wire_text.proofs.quoted.escape_few.Given as goal
 
-abbrev pub invariant-bytes : goal.invariant-bytes
-invariant-bytes l = FilledTo (take l.begin l.fn.room) l.begin l.words l.byte-index l.at l.room
+abbrev pub decreases-parts : goal.decreases-parts
+decreases-parts l = length l.rest
+
+abbrev pub invariant-parts : goal.invariant-parts
+invariant-parts l = FilledBefore (take l.begin l.fn.room) l.begin (length l.fn.room) l.words l.rest l.at l.room

@@ -1,12 +1,11 @@
-use Rattle.std.proofs.Common.{◌≡◌, ◌∙◌, ◌<◌, List, ℕ, ap, arith, inr, leb, length, refl, string_bytes, subst, sym, take, false}
+use Rattle.std.proofs.Common.{◌≡◌, ◌∙◌, ap, arith, inr, leb, length, refl, string_bytes, sym, take, false}
 use Rattle.std.proofs.lemmas.Bool.{leb-false}
 use Rattle.std.proofs.lemmas.List.{take-take}
 use Rattle.std.specs.Fmt.{decimal}
 use Rattle.wire_text.proofs.FieldLemmas.{put_hidden, put_pushed}
 use Rattle.wire_text.proofs.PlainLemmas.{before_plain, plain_less, run_below_count, run_below_length}
 use Rattle.std.specs.List.{prefix_len}
-use Rattle.wire_text.specs.Fields.{Words, Written, plain}
-use Rattle.wire_text.proofs.fields.Fields.put_short_at.Goals.{then-len-gt32-via-else-len-gt32+then-plain_in_front-len, then-len-gt32-via-then-len-gt32}
+use Rattle.wire_text.specs.Fields.{Words, Written, in_ascii, plain}
 use Rattle.wire_text.proofs.fields.Fields.put_short_at.Goals as goal
 
 pub returns-in_default-clause-put : goal.returns-in_default-clause-put
@@ -16,17 +15,13 @@ returns-in_default-clause-put g c is =
 pub returns-in_default-clause-not : goal.returns-in_default-clause-not
 returns-in_default-clause-not g c is =
     let above : leb c.args.len (length c.args.bytes.now) ≡ false = cc is in
-    (refl, inr (run_below_length 32 c.args.len c.args.bytes.now (leb-false c.args.len (length c.args.bytes.now) above)))
+    let fewer = leb-false c.args.len (length c.args.bytes.now) above in
+    (refl, inr (run_below_length plain 32 c.args.len c.args.bytes.now fewer, inr (run_below_length in_ascii 32 c.args.len c.args.bytes.now fewer)))
 
 pub returns-then-len-gt32-clause-not : goal.returns-then-len-gt32-clause-not
 returns-then-len-gt32-clause-not g c is = (
   refl,
-  inr (elim c.then-len-gt32.branch [
-    | then-len-gt32-via-then-len-gt32 w ↦ run_below_count 32 c.args.len c.args.bytes.now w.if-len-gt32.true
-    | then-len-gt32-via-else-len-gt32+then-plain_in_front-len w ↦
-        subst (λ (front : List ℕ). prefix_len plain front < c.args.len) c.in-Some-split_first_chunk.ensures.cases.0
-        (omega (arith, w.plain_in_front.ensures.run, w.if-plain_in_front-len.true))
-  ]),
+  inr (run_below_count plain 32 c.args.len c.args.bytes.now c.if-len-gt32.true, inr (run_below_count in_ascii 32 c.args.len c.args.bytes.now c.if-len-gt32.true)),
 )
 
 pub push_short_at-requires-clause-plain : goal.push_short_at-requires-clause-plain
