@@ -1,5 +1,5 @@
 -- The definition of a column.
-use Rattle.std.specs.Prelude.{ℕ, List, ◌++◌, ◌⊎◌, Result, Ok, Err}
+use Rattle.std.specs.Prelude.{◌≡◌, ℕ, List, ◌++◌, ◌⊎◌, Result, Ok, Err}
 use Rattle.std.proofs.Common.{inl, inr}
 use Rattle.wire_buf.specs.declared.error.WireError.{WireError}
 use Rattle.wire_field.specs.Rows.{ReadsBoth, both-back}
@@ -35,6 +35,11 @@ column_fields column = (
     ),
   ),
 )
+
+-- these bytes were put after what stood there, or where memory is refused a part of them may be
+abbrev pub PutsAfter : {X Y : Type 0} → Result X Y → List ℕ → List ℕ → List ℕ → Type 0
+PutsAfter (Ok _) old new bytes = new ≡ old ++ bytes
+PutsAfter (Err _) old new bytes = (part : List ℕ) × (new ≡ old ++ part)
 
 -- ---- lemmas
 

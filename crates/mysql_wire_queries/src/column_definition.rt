@@ -8,21 +8,22 @@ ghost use Rattle.wire_buf.specs.Reading.{Through};
 ghost use Rattle.mysql_wire_parts.specs.InOrder.{packet, both, array, const_u8, byte, number, lenenc_text, text_bytes};
 ghost use Rattle.mysql_wire_parts.specs.Optional.{BothIf, IsThere, OnIf, bytes_if, has, kept_field, optional, side};
 ghost use Rattle.wire_const.specs.FlagSets.{mariadb_capabilities_bits};
-ghost use Rattle.mysql_wire_queries.specs.Columns.{column_fields, pair};
+ghost use Rattle.mysql_wire_queries.specs.Columns.{column_fields, pair, PutsAfter};
 ghost use Rattle.wire_field.specs.Rows.{ReadsBoth};
 ghost use Rattle.std.proofs.Common.{subst};
 
-use mysql_wire_parts::by_ref::{ByRef, ByRefIf};
 use mysql_wire_parts::optional::{Optional, known_text, value_of};
-use std::alloc::{Allocator, Global};
+use std::alloc::{AllocError, Allocator, Global};
 use wire_buf::error::WireError;
 use wire_buf::io::ParseBuf;
 use wire_buf::proto::{HasSize, MyDeserialize, MySerialize, Varying};
 use wire_const::{ColumnFlags, ColumnType, Flags, MariadbCapabilities};
+use wire_ext::BufMutExt;
 use wire_field::converted::RawConst;
 use wire_field::row::{Both, Either};
 use wire_forms::constant::ConstU8;
 use wire_forms::lenenc::LenEnc;
+use wire_repr::append::all_or_nothing;
 use wire_repr::int::LeU16;
 use wire_repr::wire::Wire;
 use wire_values::flags::RawFlags;
@@ -114,6 +115,117 @@ fn metadata_under(capabilities: MariadbCapabilities) -> Either<(), ()>
     }
 }
 
+// Puts a text. Where memory is refused, a part of it may stand there.
+#[inline(always)]
+fn put_text<A: Allocator>(
+    buf: &mut Vec<u8, A>,
+    text: &RawBytes<'_, LenEnc>,
+) -> Result<(), AllocError>
+    ensures { PutsAfter result buf.old.items buf.new.items (text_bytes text.now.0) }
+{
+    match buf.put_lenenc_str(text.0.as_slice()) {
+        Ok(()) => Ok(()),
+        Err(_) => Err(AllocError),
+    }
+}
+
+// Puts some bytes.
+#[inline(always)]
+fn put<A: Allocator>(buf: &mut Vec<u8, A>, bytes: &[u8]) -> Result<(), AllocError>
+    ensures { PutsAfter result buf.old.items buf.new.items bytes.now }
+{
+    buf.extend_from_slice(bytes)
+}
+
+#[inline(always)]
+fn put_pair<A: Allocator>(
+    buf: &mut Vec<u8, A>,
+    first: &RawBytes<'_, LenEnc>,
+    second: &RawBytes<'_, LenEnc>,
+) -> Result<(), AllocError>
+    ensures { PutsAfter result buf.old.items buf.new.items
+        (text_bytes first.now.0 ++ text_bytes second.now.0) }
+{
+    put_text(buf, first)?;
+    put_text(buf, second)
+}
+
+// Puts the texts that each server says.
+fn put_names<A: Allocator>(
+    buf: &mut Vec<u8, A>,
+    column: &ColumnDefinition41<'_>,
+) -> Result<(), AllocError>
+    ensures { PutsAfter result buf.old.items buf.new.items
+        ((text_bytes column.now.catalog.0 ++ text_bytes column.now.schema.0)
+        ++ ((text_bytes column.now.table.0 ++ text_bytes column.now.org_table.0)
+        ++ (text_bytes column.now.name.0 ++ text_bytes column.now.org_name.0))) }
+{
+    put_pair(buf, &column.catalog, &column.schema)?;
+    put_pair(buf, &column.table, &column.org_table)?;
+    put_pair(buf, &column.name, &column.org_name)
+}
+
+fn put_metadata<A: Allocator>(
+    buf: &mut Vec<u8, A>,
+    metadata: &Option<RawBytes<'_, LenEnc>>,
+) -> Result<(), AllocError>
+    ensures { PutsAfter result buf.old.items buf.new.items
+        (bytes_if (λ text. text_bytes text.0) metadata.now) }
+{
+    match metadata {
+        Some(text) => put_text(buf, text),
+        None => Ok(()),
+    }
+}
+
+#[inline(always)]
+fn put_sizes<A: Allocator>(
+    buf: &mut Vec<u8, A>,
+    column: &ColumnDefinition41<'_>,
+) -> Result<(), AllocError>
+    ensures { PutsAfter result buf.old.items buf.new.items
+        (0x0c ∷ (le_bytes 2 column.now.character_set ++ le_bytes 4 column.now.column_length)) }
+{
+    put(buf, &[0x0c])?;
+    put(buf, &column.character_set.to_le_bytes())?;
+    put(buf, &column.column_length.to_le_bytes())
+}
+
+#[inline(always)]
+fn put_kind<A: Allocator>(
+    buf: &mut Vec<u8, A>,
+    column: &ColumnDefinition41<'_>,
+) -> Result<(), AllocError>
+    ensures { PutsAfter result buf.old.items buf.new.items
+        (column.now.column_type.0 ∷ le_bytes 2 column.now.flags.0
+        ++ column.now.decimals ∷ column.now.reserved) }
+{
+    put(buf, &[column.column_type.0])?;
+    put(buf, &column.flags.0.to_le_bytes())?;
+    put(buf, &[column.decimals])?;
+    put(buf, &column.reserved)
+}
+
+// Puts a definition. Where memory is refused, a part of it may stand there.
+fn put_definition<A: Allocator>(
+    buf: &mut Vec<u8, A>,
+    column: &ColumnDefinition41<'_>,
+) -> Result<(), AllocError>
+    ensures { PutsAfter result buf.old.items buf.new.items
+        (((text_bytes column.now.catalog.0 ++ text_bytes column.now.schema.0)
+        ++ ((text_bytes column.now.table.0 ++ text_bytes column.now.org_table.0)
+        ++ (text_bytes column.now.name.0 ++ text_bytes column.now.org_name.0)))
+        ++ (bytes_if (λ text. text_bytes text.0) column.now.extended_metadata
+        ++ (0x0c ∷ (le_bytes 2 column.now.character_set ++ le_bytes 4 column.now.column_length)
+        ++ (column.now.column_type.0 ∷ le_bytes 2 column.now.flags.0
+        ++ column.now.decimals ∷ column.now.reserved)))) }
+{
+    put_names(buf, column)?;
+    put_metadata(buf, &column.extended_metadata)?;
+    put_sizes(buf, column)?;
+    put_kind(buf, column)
+}
+
 impl MySerialize for ColumnDefinition41<'_> {
     ghost bytes = { λ column. ((text_bytes column.catalog.0 ++ text_bytes column.schema.0)
         ++ ((text_bytes column.table.0 ++ text_bytes column.org_table.0)
@@ -124,19 +236,9 @@ impl MySerialize for ColumnDefinition41<'_> {
         ++ column.decimals ∷ column.reserved))) };
 
     fn serialize<A: Allocator>(&self, buf: &mut Vec<u8, A>) -> Result<(), WireError> {
-        let schemas = Both(ByRef(&self.catalog), ByRef(&self.schema));
-        let tables = Both(ByRef(&self.table), ByRef(&self.org_table));
-        let names = Both(ByRef(&self.name), ByRef(&self.org_name));
-        let sizes = Both(
-            ConstU8::<(), 0x0c>::new(),
-            Both(self.character_set, self.column_length),
-        );
-        let kind = Both(
-            Both(self.column_type.0, self.flags.0),
-            Both(self.decimals, self.reserved),
-        );
-        let numbers = Both(ByRefIf(&self.extended_metadata), Both(sizes, kind));
-        Both(Both(schemas, Both(tables, names)), numbers).serialize(buf)
+        let at = buf.len();
+        let put = put_definition(buf, self).is_ok();
+        all_or_nothing(put, at, buf)
     }
 }
 
