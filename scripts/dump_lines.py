@@ -134,6 +134,13 @@ SHORT_VALUES = [
                     "\u6f22\u5b57" * 8, "\ud55c" * 6, "\u0800" * 6, "caf\u00e9", "\U0001f600", "c" * 20,
                     b"\xfe12", b"\xe6\xbc" + b"d" * 14, b"\xed\xa0\x80" * 6, "e" * 33)),
 ]
+# The values of a row of texts of ASCII with escapes: of each length to 33 bytes one in front, one at
+# the end, and escapes alone, and of some lengths above 64 bytes.
+ESCAPED_VALUES = [
+    *[value_of(text) for length in range(1, 34)
+      for text in ('"' + "a" * (length - 1), "b" * (length - 1) + "\n", "\1" * length)],
+    *[value_of('{"c":"d"}\t' * count + "e" * count) for count in range(6, 16)],
+]
 # The values of a long row. Those of 64 KiB and more are written by parts of as much: one that fills
 # two, one with a letter of two bytes between two, with escapes, and one that is no text.
 LONG_VALUES = [NULL, value_of("a"), value_of("x" * 65535), NULL, value_of("y" * 131072),
@@ -271,6 +278,7 @@ SESSIONS = [
     *[row_session(*row, has_json) for has_json in (False, True) for row in (
         ("a row of 101 values", [value_of(str(place % 10)) for place in range(101)]),
         ("a row of short texts", SHORT_VALUES),
+        ("a row of texts with escapes", ESCAPED_VALUES),
         ("a long row", LONG_VALUES),
         ("a long row whose first value is written", LONG_VALUES[4:]),
     )],
