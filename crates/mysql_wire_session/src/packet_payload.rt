@@ -56,7 +56,6 @@ pub trait PacketPayload<'a>: Payload<'a> {
 impl<'a> PacketPayload<'a> for HandshakeV10<'a> {
     ghost packet = { packets.Greeting };
 
-    #[inline(always)]
     fn into_packet(self) -> Packet<'a> {
         Packet::Greeting(self)
     }
@@ -65,7 +64,6 @@ impl<'a> PacketPayload<'a> for HandshakeV10<'a> {
 impl<'a> PacketPayload<'a> for SslRequest {
     ghost packet = { packets.TlsRequest };
 
-    #[inline(always)]
     fn into_packet(self) -> Packet<'a> {
         Packet::TlsRequest(self)
     }
@@ -74,7 +72,6 @@ impl<'a> PacketPayload<'a> for SslRequest {
 impl<'a> PacketPayload<'a> for HandshakeResponse41<'a> {
     ghost packet = { packets.Login };
 
-    #[inline(always)]
     fn into_packet(self) -> Packet<'a> {
         Packet::Login(self)
     }
@@ -83,7 +80,6 @@ impl<'a> PacketPayload<'a> for HandshakeResponse41<'a> {
 impl<'a> PacketPayload<'a> for AuthSwitchRequest<'a> {
     ghost packet = { packets.AuthSwitch };
 
-    #[inline(always)]
     fn into_packet(self) -> Packet<'a> {
         Packet::AuthSwitch(self)
     }
@@ -92,7 +88,6 @@ impl<'a> PacketPayload<'a> for AuthSwitchRequest<'a> {
 impl<'a> PacketPayload<'a> for AuthMoreData<'a> {
     ghost packet = { packets.AuthMoreData };
 
-    #[inline(always)]
     fn into_packet(self) -> Packet<'a> {
         Packet::AuthMoreData(self)
     }
@@ -101,7 +96,6 @@ impl<'a> PacketPayload<'a> for AuthMoreData<'a> {
 impl<'a> PacketPayload<'a> for AuthSwitchResponse<'a> {
     ghost packet = { packets.AuthAnswer };
 
-    #[inline(always)]
     fn into_packet(self) -> Packet<'a> {
         Packet::AuthAnswer(self)
     }
@@ -110,7 +104,6 @@ impl<'a> PacketPayload<'a> for AuthSwitchResponse<'a> {
 impl<'a> PacketPayload<'a> for OkPacket<'a> {
     ghost packet = { packets.Ok };
 
-    #[inline(always)]
     fn into_packet(self) -> Packet<'a> {
         Packet::Ok(self)
     }
@@ -119,7 +112,6 @@ impl<'a> PacketPayload<'a> for OkPacket<'a> {
 impl<'a> PacketPayload<'a> for RowsEnd<'a> {
     ghost packet = { packets.RowsEnd };
 
-    #[inline(always)]
     fn into_packet(self) -> Packet<'a> {
         Packet::RowsEnd(self)
     }
@@ -128,7 +120,6 @@ impl<'a> PacketPayload<'a> for RowsEnd<'a> {
 impl<'a> PacketPayload<'a> for ErrPacket<'a> {
     ghost packet = { packets.Error };
 
-    #[inline(always)]
     fn into_packet(self) -> Packet<'a> {
         Packet::Error(self)
     }
@@ -137,7 +128,6 @@ impl<'a> PacketPayload<'a> for ErrPacket<'a> {
 impl<'a> PacketPayload<'a> for ProgressReport<'a> {
     ghost packet = { packets.Progress };
 
-    #[inline(always)]
     fn into_packet(self) -> Packet<'a> {
         Packet::Progress(self)
     }
@@ -146,7 +136,6 @@ impl<'a> PacketPayload<'a> for ProgressReport<'a> {
 impl<'a> PacketPayload<'a> for EofPacket {
     ghost packet = { packets.Eof };
 
-    #[inline(always)]
     fn into_packet(self) -> Packet<'a> {
         Packet::Eof(self)
     }
@@ -155,7 +144,6 @@ impl<'a> PacketPayload<'a> for EofPacket {
 impl<'a> PacketPayload<'a> for ColumnCount {
     ghost packet = { packets.ColumnCount };
 
-    #[inline(always)]
     fn into_packet(self) -> Packet<'a> {
         Packet::ColumnCount(self)
     }
@@ -164,7 +152,6 @@ impl<'a> PacketPayload<'a> for ColumnCount {
 impl<'a> PacketPayload<'a> for ColumnDefinition41<'a> {
     ghost packet = { packets.Column };
 
-    #[inline(always)]
     fn into_packet(self) -> Packet<'a> {
         Packet::Column(self)
     }
@@ -173,7 +160,6 @@ impl<'a> PacketPayload<'a> for ColumnDefinition41<'a> {
 impl<'a> PacketPayload<'a> for LocalInfileRequest<'a> {
     ghost packet = { packets.LocalInfile };
 
-    #[inline(always)]
     fn into_packet(self) -> Packet<'a> {
         Packet::LocalInfile(self)
     }
@@ -182,7 +168,6 @@ impl<'a> PacketPayload<'a> for LocalInfileRequest<'a> {
 impl<'a> PacketPayload<'a> for ComStmtPrepareOk {
     ghost packet = { packets.Prepared };
 
-    #[inline(always)]
     fn into_packet(self) -> Packet<'a> {
         Packet::Prepared(self)
     }
@@ -191,7 +176,6 @@ impl<'a> PacketPayload<'a> for ComStmtPrepareOk {
 impl<'a> PacketPayload<'a> for StatisticsText<'a> {
     ghost packet = { packets.Statistics };
 
-    #[inline(always)]
     fn into_packet(self) -> Packet<'a> {
         Packet::Statistics(self)
     }
@@ -200,7 +184,6 @@ impl<'a> PacketPayload<'a> for StatisticsText<'a> {
 impl<'a> PacketPayload<'a> for ComStmtPrepare<'a> {
     ghost packet = { packets.Prepare };
 
-    #[inline(always)]
     fn into_packet(self) -> Packet<'a> {
         Packet::Prepare(self)
     }
@@ -209,7 +192,6 @@ impl<'a> PacketPayload<'a> for ComStmtPrepare<'a> {
 impl<'a> PacketPayload<'a> for ComStmtExecute<'a> {
     ghost packet = { packets.Execute };
 
-    #[inline(always)]
     fn into_packet(self) -> Packet<'a> {
         Packet::Execute(self)
     }
@@ -218,7 +200,6 @@ impl<'a> PacketPayload<'a> for ComStmtExecute<'a> {
 impl<'a> PacketPayload<'a> for ComStmtSendLongData<'a> {
     ghost packet = { packets.LongData };
 
-    #[inline(always)]
     fn into_packet(self) -> Packet<'a> {
         Packet::LongData(self)
     }
@@ -227,7 +208,6 @@ impl<'a> PacketPayload<'a> for ComStmtSendLongData<'a> {
 impl<'a> PacketPayload<'a> for ComStmtClose {
     ghost packet = { packets.CloseStatement };
 
-    #[inline(always)]
     fn into_packet(self) -> Packet<'a> {
         Packet::CloseStatement(self)
     }
@@ -236,7 +216,6 @@ impl<'a> PacketPayload<'a> for ComStmtClose {
 impl<'a> PacketPayload<'a> for ComStmtReset {
     ghost packet = { packets.ResetStatement };
 
-    #[inline(always)]
     fn into_packet(self) -> Packet<'a> {
         Packet::ResetStatement(self)
     }
@@ -245,7 +224,6 @@ impl<'a> PacketPayload<'a> for ComStmtReset {
 impl<'a> PacketPayload<'a> for ComStmtFetch {
     ghost packet = { packets.Fetch };
 
-    #[inline(always)]
     fn into_packet(self) -> Packet<'a> {
         Packet::Fetch(self)
     }
@@ -254,7 +232,6 @@ impl<'a> PacketPayload<'a> for ComStmtFetch {
 impl<'a> PacketPayload<'a> for ComFieldList<'a> {
     ghost packet = { packets.FieldList };
 
-    #[inline(always)]
     fn into_packet(self) -> Packet<'a> {
         Packet::FieldList(self)
     }
@@ -263,7 +240,6 @@ impl<'a> PacketPayload<'a> for ComFieldList<'a> {
 impl<'a> PacketPayload<'a> for ComSetOption {
     ghost packet = { packets.SetOption };
 
-    #[inline(always)]
     fn into_packet(self) -> Packet<'a> {
         Packet::SetOption(self)
     }
@@ -272,7 +248,6 @@ impl<'a> PacketPayload<'a> for ComSetOption {
 impl<'a> PacketPayload<'a> for ComStatistics {
     ghost packet = { packets.StatisticsRequest };
 
-    #[inline(always)]
     fn into_packet(self) -> Packet<'a> {
         Packet::StatisticsRequest(self)
     }
@@ -281,7 +256,6 @@ impl<'a> PacketPayload<'a> for ComStatistics {
 impl<'a> PacketPayload<'a> for ComResetConnection {
     ghost packet = { packets.ResetConnection };
 
-    #[inline(always)]
     fn into_packet(self) -> Packet<'a> {
         Packet::ResetConnection(self)
     }
@@ -290,7 +264,6 @@ impl<'a> PacketPayload<'a> for ComResetConnection {
 impl<'a> PacketPayload<'a> for ComProcessKill {
     ghost packet = { packets.ProcessKill };
 
-    #[inline(always)]
     fn into_packet(self) -> Packet<'a> {
         Packet::ProcessKill(self)
     }
@@ -299,7 +272,6 @@ impl<'a> PacketPayload<'a> for ComProcessKill {
 impl<'a> PacketPayload<'a> for ComDebug {
     ghost packet = { packets.Debug };
 
-    #[inline(always)]
     fn into_packet(self) -> Packet<'a> {
         Packet::Debug(self)
     }
@@ -308,7 +280,6 @@ impl<'a> PacketPayload<'a> for ComDebug {
 impl<'a> PacketPayload<'a> for ComRegisterSlave<'a> {
     ghost packet = { packets.RegisterSlave };
 
-    #[inline(always)]
     fn into_packet(self) -> Packet<'a> {
         Packet::RegisterSlave(self)
     }
@@ -317,7 +288,6 @@ impl<'a> PacketPayload<'a> for ComRegisterSlave<'a> {
 impl<'a> PacketPayload<'a> for ComBinlogDump<'a> {
     ghost packet = { packets.BinlogDump };
 
-    #[inline(always)]
     fn into_packet(self) -> Packet<'a> {
         Packet::BinlogDump(self)
     }
@@ -326,7 +296,6 @@ impl<'a> PacketPayload<'a> for ComBinlogDump<'a> {
 impl<'a> PacketPayload<'a> for ComBinlogDumpGtid<'a> {
     ghost packet = { packets.BinlogDumpGtid };
 
-    #[inline(always)]
     fn into_packet(self) -> Packet<'a> {
         Packet::BinlogDumpGtid(self)
     }
@@ -335,7 +304,6 @@ impl<'a> PacketPayload<'a> for ComBinlogDumpGtid<'a> {
 impl<'a> PacketPayload<'a> for ComQuit {
     ghost packet = { λ read. packets.Command (commands.Quit read) };
 
-    #[inline(always)]
     fn into_packet(self) -> Packet<'a> {
         Packet::Command(ClientCommand::Quit(self))
     }
@@ -344,7 +312,6 @@ impl<'a> PacketPayload<'a> for ComQuit {
 impl<'a> PacketPayload<'a> for ComInitDb<'a> {
     ghost packet = { λ read. packets.Command (commands.InitDb read) };
 
-    #[inline(always)]
     fn into_packet(self) -> Packet<'a> {
         Packet::Command(ClientCommand::InitDb(self))
     }
@@ -353,7 +320,6 @@ impl<'a> PacketPayload<'a> for ComInitDb<'a> {
 impl<'a> PacketPayload<'a> for ComQuery<'a> {
     ghost packet = { λ read. packets.Command (commands.Query read) };
 
-    #[inline(always)]
     fn into_packet(self) -> Packet<'a> {
         Packet::Command(ClientCommand::Query(self))
     }
@@ -362,7 +328,6 @@ impl<'a> PacketPayload<'a> for ComQuery<'a> {
 impl<'a> PacketPayload<'a> for ComQueryWithAttributes<'a> {
     ghost packet = { λ read. packets.Command (commands.AttributedQuery read) };
 
-    #[inline(always)]
     fn into_packet(self) -> Packet<'a> {
         Packet::Command(ClientCommand::AttributedQuery(self))
     }
@@ -371,7 +336,6 @@ impl<'a> PacketPayload<'a> for ComQueryWithAttributes<'a> {
 impl<'a> PacketPayload<'a> for ComPing {
     ghost packet = { λ read. packets.Command (commands.Ping read) };
 
-    #[inline(always)]
     fn into_packet(self) -> Packet<'a> {
         Packet::Command(ClientCommand::Ping(self))
     }
@@ -380,7 +344,6 @@ impl<'a> PacketPayload<'a> for ComPing {
 impl<'a> PacketPayload<'a> for ComChangeUser<'a> {
     ghost packet = { λ read. packets.Command (commands.ChangeUser read) };
 
-    #[inline(always)]
     fn into_packet(self) -> Packet<'a> {
         Packet::Command(ClientCommand::ChangeUser(self))
     }

@@ -72,7 +72,7 @@ lost_unready false P e = absurd (false≢true e)
 pub lent_ready : {A : Type 0} (lent : Option (Found A)) (found : Found A) (src : List ℕ) (lost : Bool) (P : Type 0) → lent ≡ Some found → lost ≡ false
     → (true ≡ true → (lost ≡ false) × (IsSome (packet_of lent src) ⊎ P)) × ((lost ≡ false) × (IsSome (packet_of lent src) ⊎ P) → true ≡ true)
 lent_ready None found src lost P e here = absurd cc
-lent_ready (Some InFront) found src lost P e here = (λ f. (here, inl refl), λ w. refl)
+lent_ready (Some (InFront chunk)) found src lost P e here = (λ f. (here, inl refl), λ w. refl)
 lent_ready (Some (Copied packet)) found src lost P e here = (λ f. (here, inl refl), λ w. refl)
 
 -- and one with a packet in front
@@ -111,7 +111,7 @@ decoded codec behind src from held kept new dst answer a b decodes stands = rw (
 -- a packet is lent
 pub lent_some : {A : Type 0} (lent : Option (Found A)) (src : List ℕ) (is : Bool) → is ≡ is_some lent → is ≡ true → IsNone (packet_of lent src) → ⊥
 lent_some None src is e f none = false≢true (sym e ∙ f)
-lent_some (Some InFront) src is e f none = false≢true (sym none)
+lent_some (Some (InFront chunk)) src is e f none = false≢true (sym none)
 lent_some (Some (Copied packet)) src is e f none = false≢true (sym none)
 
 pub lent_not : {A : Type 0} (lent : Option (Found A)) (src : List ℕ) (is : Bool) → is ≡ is_some lent → is ≡ false → IsSome (packet_of lent src) → ⊥

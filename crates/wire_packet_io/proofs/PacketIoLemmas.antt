@@ -166,11 +166,11 @@ ends_by answer lost before mid after unread left last old_reads new_reads all s 
 
 -- what was found is no end
 pub found_ends : {A : Type 0} (found : Found A) (src : List ℕ) → answer_over (Ok (Some found)) src ≢ Ok None
-found_ends InFront src e = absurd cc
+found_ends (InFront chunk) src e = absurd cc
 found_ends (Copied packet) src e = absurd cc
 
 pub apart_unread : {A : Type 0} (found : Option (Found A)) (src : List ℕ) → IsCopied found → unread_behind found src ≡ src
-apart_unread (Some InFront) src h = absurd h
+apart_unread (Some (InFront chunk)) src h = absurd h
 apart_unread found src h = refl
 
 pub above_zero : (n : ℕ) → n ≢ 0 → 0 < n

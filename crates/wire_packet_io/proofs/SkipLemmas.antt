@@ -221,7 +221,7 @@ left_whole other lost full unread left old_reads new_reads skipped codec src k h
 
 -- no packet is lent
 pub unlent : {A : Type 0} (found : Option (Found A)) (src : List ℕ) → IsNone (packet_of found src) → unread_behind found src ≡ src
-unlent (Some InFront) src h = absurd cc
+unlent (Some (InFront chunk)) src h = absurd cc
 unlent (Some (Copied packet)) src h = absurd cc
 unlent None src h = refl
 

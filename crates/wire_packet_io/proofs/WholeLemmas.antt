@@ -82,7 +82,7 @@ pub relays_front : {A : Type 0} (lent : Option (Found A)) (copied : Option SpanD
 relays_front None None codec behind src rest unread reads len here id next pending more held none alone whole rest_is limit here_is low next_is put =
     relays_whole codec behind src rest unread reads len here id next pending more held whole rest_is limit here_is low next_is put
 relays_front None (Some decoder) codec behind src rest unread reads len here id next pending more held none alone whole rest_is limit here_is low next_is put = absurd cc
-relays_front (Some InFront) copied codec behind src rest unread reads len here id next pending more held none alone whole rest_is limit here_is low next_is put = absurd cc
+relays_front (Some (InFront chunk)) copied codec behind src rest unread reads len here id next pending more held none alone whole rest_is limit here_is low next_is put = absurd cc
 relays_front (Some (Copied packet)) copied codec behind src rest unread reads len here id next pending more held none alone whole rest_is limit here_is low next_is put = absurd cc
 
 -- what was put: its header, and the part of what was read
@@ -109,7 +109,7 @@ pub begins_front : {A : Type 0} (lent : Option (Found A)) (copied : Option SpanD
 begins_front None None codec ends start after last src new unread held more none alone first end is f =
     subst (λ (s : SpanState). Copies ends s src held last unread more) first (rw (end, is) f)
 begins_front None (Some decoder) codec ends start after last src new unread held more none alone first end is f = absurd cc
-begins_front (Some InFront) copied codec ends start after last src new unread held more none alone first end is f = absurd cc
+begins_front (Some (InFront chunk)) copied codec ends start after last src new unread held more none alone first end is f = absurd cc
 begins_front (Some (Copied packet)) copied codec ends start after last src new unread held more none alone first end is f = absurd cc
 
 -- a codec after a packet that was copied

@@ -50,13 +50,13 @@ found_in (Err error) = None
 
 -- the packet that was found, where these bytes were read
 abbrev pub packet_of : {A : Type 0} → Option (Found A) → List ℕ → Option (List ℕ)
-packet_of (Some InFront) src = Some (front_payload src)
+packet_of (Some (InFront chunk)) src = Some (front_payload src)
 packet_of (Some (Copied packet)) src = Some packet.items
 packet_of None src = None
 
 -- the bytes after it
 abbrev pub unread_behind : {A : Type 0} → Option (Found A) → List ℕ → List ℕ
-unread_behind (Some InFront) src = drop (4 + chunk_len src) src
+unread_behind (Some (InFront chunk)) src = drop (4 + chunk_len src) src
 unread_behind (Some (Copied packet)) src = src
 unread_behind None src = src
 
@@ -78,15 +78,15 @@ lender found input =
 abbrev pub input_state : {R A : Type 0} → PacketCodec → Option (Found A) → Input R A → CodecState
 input_state codec found input = reading_state codec (lender found input)
 
--- where it lies in front, it has come whole
+-- where it lies in front, its chunk has come whole
 abbrev pub IsThere : {A : Type 0} → Option (Found A) → List ℕ → Type 0
-IsThere (Some InFront) src = 4 + chunk_len src ≤ length src
+IsThere (Some (InFront chunk)) src = (chunk ≡ 4 + chunk_len src) × (chunk ≤ length src)
 IsThere (Some (Copied packet)) src = ⊤
 IsThere None src = ⊤
 
 -- it doesn't lie in front
 abbrev pub IsCopied : {A : Type 0} → Option (Found A) → Type 0
-IsCopied (Some InFront) = ⊥
+IsCopied (Some (InFront chunk)) = ⊥
 IsCopied (Some (Copied packet)) = ⊤
 IsCopied None = ⊤
 

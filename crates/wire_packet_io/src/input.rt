@@ -36,8 +36,9 @@ const LARGE: usize = 2 * READ_SIZE;
 /// A packet that was found.
 #[derive(Debug, Drop)]
 pub enum Found<A: Allocator + Copy> {
-    /// It lies in one chunk at the front of what was read, and the codec is after it.
-    InFront,
+    /// It lies in one chunk at the front of what was read, and the codec is after it: the bytes of
+    /// the chunk, with its header.
+    InFront(usize),
     /// It was put together.
     Copied(Vec<u8, A>),
 }
@@ -175,8 +176,8 @@ impl<R: Read, A: Allocator + Copy> Input<R, A> {
             × (codec.new.max_allowed_packet ≡ codec.old.max_allowed_packet) }
     {
         if lends && codec.front_packet(&self.src, self.dst.as_slice()).is_some() {
-            codec.accept_front(&self.src);
-            return Ok(Some(Found::InFront));
+            let chunk = codec.accept_front(&self.src);
+            return Ok(Some(Found::InFront(chunk)));
         }
         self.decode(codec)
     }
@@ -239,18 +240,17 @@ impl<R: Read, A: Allocator + Copy> Input<R, A> {
         self.lost || codec.stands_before(unread, self.dst.as_slice())
     }
 
-    /// Drops the chunk in front. It asks that it has come whole.
-    pub(crate) fn skip_front(&mut self)
-        requires { 4 + chunk_len self.old.src.items ≤ length self.old.src.items }
+    /// Drops the chunk in front, which has this many bytes. It asks that it has come whole.
+    pub(crate) fn skip_front(&mut self, chunk: usize)
+        requires chunk { chunk ≡ 4 + chunk_len self.old.src.items }
+        requires whole { chunk ≤ length self.old.src.items }
         ensures skipped { self.new.src.items
             ≡ drop (4 + chunk_len self.old.src.items) self.old.src.items }
         ensures rest { self.new ≡ record self.old { src = self.new.src } }
     {
-        if let Some(header) = Header::read(self.src.as_slice()) {
-            self.src.advance(HEADER_LEN + header.len);
-            if header.len >= LARGE {
-                move_to_front(&mut self.src);
-            }
+        self.src.advance(chunk);
+        if chunk >= HEADER_LEN + LARGE {
+            move_to_front(&mut self.src);
         }
     }
 }
@@ -332,36 +332,22 @@ impl<R: Read, A: Allocator + Copy> Input<R, A> {
     }
 }
 
-// The chunk in front, its payload and what follows it, where it has come whole.
-fn split_front(src: &[u8]) -> (&[u8], &[u8])
-    ensures payload { 4 + chunk_len src.now ≤ length src.now
-        → result.0.now ≡ payload_in_front src.now }
-    ensures rest { 4 + chunk_len src.now ≤ length src.now
-        → result.1.now ≡ drop (4 + chunk_len src.now) src.now }
+/// The payload of the chunk in front, which has this many bytes. It asks that it has come whole.
+#[inline(always)]
+pub(crate) fn front_payload(src: &[u8], chunk: usize) -> &[u8]
+    requires chunk { chunk ≡ 4 + chunk_len src.now }
+    requires whole { chunk ≤ length src.now }
+    ensures { result.now ≡ payload_in_front src.now }
 {
-    match Header::read(src) {
-        Some(header) if header.len <= src.len() - HEADER_LEN => {
-            (
-                &src[HEADER_LEN..HEADER_LEN + header.len],
-                &src[HEADER_LEN + header.len..],
-            )
-        }
-        _ => (&[], src),
-    }
+    &src[HEADER_LEN..chunk]
 }
 
-/// The payload of the chunk in front, where it has come whole.
-pub(crate) fn front_payload(src: &[u8]) -> &[u8]
-    ensures { 4 + chunk_len src.now ≤ length src.now
-        → result.now ≡ payload_in_front src.now }
+/// What follows the chunk in front, in the same way.
+#[inline(always)]
+pub(crate) fn behind_front(src: &[u8], chunk: usize) -> &[u8]
+    requires chunk { chunk ≡ 4 + chunk_len src.now }
+    requires whole { chunk ≤ length src.now }
+    ensures { result.now ≡ drop (4 + chunk_len src.now) src.now }
 {
-    split_front(src).0
-}
-
-/// What follows the chunk in front, where it has come whole.
-pub(crate) fn behind_front(src: &[u8]) -> &[u8]
-    ensures { 4 + chunk_len src.now ≤ length src.now
-        → result.now ≡ drop (4 + chunk_len src.now) src.now }
-{
-    split_front(src).1
+    &src[chunk..]
 }

@@ -111,7 +111,7 @@ impl<R: Read, A: Allocator + Copy> PacketReader<R, A> {
         ensures { result.now ≡ self.now.unread }
     {
         match &self.lent {
-            Some(Found::InFront) => behind_front(self.input.src.as_slice()),
+            Some(Found::InFront(chunk)) => behind_front(self.input.src.as_slice(), *chunk),
             Some(Found::Copied(_)) | None => self.input.src.as_slice(),
         }
     }
@@ -175,15 +175,15 @@ impl<R: Read, A: Allocator + Copy> PacketReader<R, A> {
         match self.lent.take() {
             None => Ok(None),
             Some(Found::Copied(packet)) => Ok(Some(packet)),
-            Some(Found::InFront) => {
+            Some(Found::InFront(chunk)) => {
                 let alloc = *self.input.dst.allocator();
-                match Vec::from_slice(alloc, front_payload(self.input.src.as_slice())) {
+                match Vec::from_slice(alloc, front_payload(self.input.src.as_slice(), chunk)) {
                     Ok(packet) => {
-                        self.input.skip_front();
+                        self.input.skip_front(chunk);
                         Ok(Some(packet))
                     }
                     Err(_) => {
-                        self.lent = Some(Found::InFront);
+                        self.lent = Some(Found::InFront(chunk));
                         Err(PacketIoError::OutOfMemory)
                     }
                 }
@@ -203,7 +203,7 @@ fn apart<A: Allocator + Copy>(
 {
     match found? {
         Some(Found::Copied(packet)) => Ok(Some(packet)),
-        Some(Found::InFront) => unreachable!(),
+        Some(Found::InFront(_)) => unreachable!(),
         None => Ok(None),
     }
 }
@@ -384,7 +384,7 @@ impl<R: Read, A: Allocator + Copy> PacketReader<R, A> {
     {
         match &self.lent {
             None => &[],
-            Some(Found::InFront) => front_payload(self.input.src.as_slice()),
+            Some(Found::InFront(chunk)) => front_payload(self.input.src.as_slice(), *chunk),
             Some(Found::Copied(packet)) => packet.as_slice(),
         }
     }
@@ -394,8 +394,8 @@ impl<R: Read, A: Allocator + Copy> PacketReader<R, A> {
     pub fn take_packet(&mut self)
         ensures { self.new ≡ record self.old { lent = None } }
     {
-        if let Some(Found::InFront) = self.lent.take() {
-            self.input.skip_front();
+        if let Some(Found::InFront(chunk)) = self.lent.take() {
+            self.input.skip_front(chunk);
         }
     }
 }

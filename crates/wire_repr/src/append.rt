@@ -42,6 +42,7 @@ pub fn append_le<A: Allocator>(
 }
 
 /// Where a part of what was to be appended was refused, takes away what was: all after this length.
+#[inline(always)]
 pub fn all_or_nothing<A: Allocator>(
     all: bool,
     at: usize,

@@ -125,6 +125,8 @@ impl<'a, T: BytesRepr, A: Allocator> Default for RawBytes<'a, T, A> {
 impl<'a, T: BytesRepr, A: Allocator> MySerialize for RawBytes<'a, T, A> {
     ghost bytes = { λ text. T.BytesRepr.bytes (cow_slice_items text.0) };
 
+    // No call: an answer has room for an `io::Error`, and would be handed on through memory.
+    #[inline(always)]
     fn serialize<B: Allocator>(&self, buf: &mut Vec<u8, B>) -> Result<(), WireError> {
         T::serialize(self.0.as_slice(), buf)
     }

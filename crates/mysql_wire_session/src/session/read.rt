@@ -57,7 +57,6 @@ use std::alloc::{Allocator, Global};
 use wire_const::{CapabilityFlags, Flags};
 
 // What is known of a payload that its type refuses: why.
-#[inline(always)]
 fn refused<'a>(error: PayloadError) -> Result<Packet<'a>, SessionError>
     ensures { RefusedFor error result }
 {
@@ -254,7 +253,6 @@ impl<A: Allocator + Copy> Session<A> {
 
     /// What a payload of this kind, `Row` or `BinaryRow`, is read as; one of another kind is not, and
     /// is `Unread`. The session is as before; `advance_by_kind` goes on after a row.
-    #[inline(always)]
     pub fn read_row<'a>(&self, kind: PacketKind, payload: &'a [u8]) -> Result<Row<'a>, SessionError>
         ensures { RowGives (state_of self.now) kind payload.entry.now result }
     {
