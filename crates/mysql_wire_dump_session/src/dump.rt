@@ -79,10 +79,13 @@ fn show_received<A: Allocator + Copy>(
     ensures goes { OnOk result (state_of session.new
         ≡ advanced received.now (state_of session.old)) }
 {
-    let types = session.column_types();
-    let kind = show_packet(global, fields, types, received).map_err(stop_of)?;
-    session.advance(received).map_err(stop_of)?;
-    Ok(kind)
+    match show_packet(global, fields, session.column_types(), received) {
+        Ok(kind) => match session.advance(received) {
+            Ok(()) => Ok(kind),
+            Err(error) => Err(stop_of(error)),
+        },
+        Err(error) => Err(stop_of(error)),
+    }
 }
 
 // Reads a packet and puts its fields, and goes on after it.
@@ -118,8 +121,13 @@ fn put_row_of<A: Allocator + Copy>(
     ensures { IfOk result (PutsRow kind payload.now (state_of session.now)
         fields.old fields.new) }
 {
-    let row = session.read_row(kind, payload).map_err(stop_of)?;
-    Ok(show_row(global, fields, session.column_types(), kind, &row).map_err(stop_of)?)
+    match session.read_row(kind, payload) {
+        Ok(row) => match show_row(global, fields, session.column_types(), kind, &row) {
+            Ok(kind) => Ok(kind),
+            Err(error) => Err(stop_of(error)),
+        },
+        Err(error) => Err(stop_of(error)),
+    }
 }
 
 // The same of any kind of row: one of texts, of which there are many, is not asked again what it is.
