@@ -198,11 +198,18 @@ fn write_row_of<A: Allocator + Copy, W: Write>(
         (state_of session.new) fields.old fields.new
         (W.contents output.old) (W.contents output.new)) }
 {
-    let row = session.read_row(came.2, payload).map_err(stop_of)?;
+    let row = match session.read_row(came.2, payload) {
+        Ok(row) => row,
+        Err(error) => return Err(stop_of(error)),
+    };
     let types = session.column_types();
-    let kind = write_row(global, fields, types, came.2, &row, output).map_err(stop_of)?;
-    session.advance_by_kind(came.0, came.1, came.2, payload.len());
-    Ok(kind)
+    match write_row(global, fields, types, came.2, &row, output) {
+        Ok(kind) => {
+            session.advance_by_kind(came.0, came.1, came.2, payload.len());
+            Ok(kind)
+        }
+        Err(error) => Err(stop_of(error)),
+    }
 }
 
 // All fields of such a row, after a text; the session goes on after it.
@@ -340,11 +347,16 @@ impl<A: Allocator + Copy> SessionLines<A> {
         if !self.options.has_fields || !matches!(kind, PacketKind::Row) {
             return Ok(false);
         }
-        let row = self.session.read_row(kind, payload).map_err(stop_of)?;
+        let row = match self.session.read_row(kind, payload) {
+            Ok(row) => row,
+            Err(error) => return Err(stop_of(error)),
+        };
         let mut hidden = Fields::new(*self.text.allocator());
         let types = self.session.column_types();
-        let shown = show_row(self.global, &mut hidden, types, kind, &row).map_err(stop_of)?;
-        Ok(!is_refused(shown))
+        match show_row(self.global, &mut hidden, types, kind, &row) {
+            Ok(shown) => Ok(!is_refused(shown)),
+            Err(error) => Err(stop_of(error)),
+        }
     }
 
     // Puts the fields of such a row, and goes on after it: all but an end of the text is written. The
