@@ -1,4 +1,4 @@
-use Rattle.mysql_wire_queries.proofs.ColumnLemmas.{part_next, puts_next, puts_part}
+use Rattle.mysql_wire_queries.proofs.ColumnLemmas.{puts_next, puts_part}
 use Rattle.mysql_wire_queries.proofs.column_definition.put_pair.Goals as goal
 
 pub returns : goal.returns

@@ -1,4 +1,4 @@
-use Rattle.std.proofs.Common.{ap, append_assoc, arith, length, refl, string_bytes, subst, sym, List, ℕ, ◌++◌, ◌≡◌, ◌≤◌, ◌∙◌, IsUtf8}
+use Rattle.std.proofs.Common.{ap, append_assoc, arith, length, refl, string_bytes, subst, sym, List, ℕ, ◌++◌, ◌≡◌, ◌∙◌, IsUtf8}
 use Rattle.std.proofs.lemmas.List.{length-append}
 use Rattle.std.proofs.lemmas.Str.{IsUtf8-string_bytes}
 use Rattle.mysql_wire_dump_session.specs.Dumped.{field_form}
