@@ -5,7 +5,7 @@ use crate::columns::next_definition;
 use crate::streams::{Again, Last, Passed, both_sides};
 use bytes::BytesMut;
 use mysql_wire::io::{BufMutExt, ParseBuf};
-use mysql_wire::misc::raw::bytes::{LenEnc, NullBytes, RawBytes};
+use mysql_wire::misc::raw::bytes::{BytesRepr, LenEnc, NullBytes, RawBytes};
 use mysql_wire::proto::codec::{PacketCodec, packet_to_chunks};
 use mysql_wire::proto::packet_io::{PacketReader, PacketWriter};
 use mysql_wire_packets::ok_packet::{InfoForm, OkPacket};
@@ -14,36 +14,69 @@ use mysql_wire_queries::text_row::{TextRow, TextValue};
 use mysql_wire_queries::text_values::TextValues;
 use std::alloc::Global;
 
+// Frames a packet in each way: whether there was memory.
+fn is_framed(codec: &mut PacketCodec, packet: &[u8], framed: &mut BytesMut) -> bool {
+    let mut left = packet;
+    let mut again = packet;
+    packet_to_chunks(0, &mut left, framed).is_ok() && codec.encode(&mut again, framed).is_ok()
+}
+
+// Queues a packet, and writes it: how many bytes are written.
+fn queued(codec: &mut PacketCodec, packet: &[u8], writer: &mut PacketWriter<Last>) -> usize {
+    let mut left = packet;
+    let is_queued = writer.queue(codec, &mut left).is_ok();
+    let pending = writer.pending().len();
+    if is_queued && writer.write_pending().is_ok() {
+        pending
+    } else {
+        0
+    }
+}
+
 // A packet, framed and queued: how many bytes its chunks have.
 fn sent(alloc: Global, packet: &[u8]) -> Option<usize> {
-    let mut framed = BytesMut::new(alloc);
-    let mut left = packet;
-    packet_to_chunks(0, &mut left, &mut framed).ok()?;
-    let mut codec = PacketCodec::default();
-    left = packet;
-    codec.encode(&mut left, &mut framed).ok()?;
     let mut writer = PacketWriter::new(alloc, Last::new(alloc)).ok()?;
-    left = packet;
-    writer.queue(&mut codec, &mut left).ok()?;
-    let pending = writer.pending().len();
-    writer.write_pending().ok()?;
-    Some(framed.len() + pending)
+    let mut framed = BytesMut::new(alloc);
+    let mut codec = PacketCodec::default();
+    if !is_framed(&mut codec, packet, &mut framed) {
+        return None;
+    }
+    let pending = queued(&mut codec, packet, &mut writer);
+    Some(framed.len().wrapping_add(pending))
+}
+
+// The next packet, handed out: how many bytes it has.
+fn taken(reader: &mut PacketReader<Again<'_>>, codec: &mut PacketCodec) -> Option<usize> {
+    if !reader.fits(codec) {
+        return None;
+    }
+    match reader.next_packet(codec) {
+        Ok(Some(packet)) => Some(packet.len()),
+        Ok(None) | Err(_) => None,
+    }
+}
+
+// The same of one that is lent.
+fn lent(reader: &mut PacketReader<Again<'_>>, codec: &mut PacketCodec) -> Option<usize> {
+    if !reader.fits(codec) {
+        return None;
+    }
+    match reader.fill_packet(codec) {
+        Ok(true) => {}
+        Ok(false) | Err(_) => return None,
+    }
+    let len = reader.packet().len();
+    reader.take_packet();
+    Some(len)
 }
 
 // The first two packets of a stream: how many bytes they have.
 fn received(alloc: Global, stream: &[u8]) -> Option<usize> {
     let mut reader = PacketReader::new(alloc, Again::new(stream)).ok()?;
     let mut codec = PacketCodec::default();
-    if !reader.fits(&codec) {
-        return None;
-    }
-    let first = reader.next_packet(&mut codec).ok()??.len();
-    if !reader.fits(&codec) || !reader.fill_packet(&mut codec).ok()? {
-        return None;
-    }
-    let second = reader.packet().len();
-    reader.take_packet();
-    Some(first.wrapping_add(second))
+    let first = taken(&mut reader, &mut codec);
+    let second = lent(&mut reader, &mut codec);
+    Some(first?.wrapping_add(second?))
 }
 
 // The next packet, passed on: how many bytes are written.
@@ -51,17 +84,16 @@ fn relay(passed: &mut Passed<'_>) -> Option<usize> {
     if !passed.reader.can_copy(&passed.codec) {
         return None;
     }
-    passed
+    let is_relayed = passed
         .reader
         .relay_packet(
             &mut passed.codec,
             &mut passed.writer,
             &mut passed.writer_codec,
         )
-        .ok()?;
+        .is_ok();
     let pending = passed.writer.pending().len();
-    passed.writer.write_pending().ok()?;
-    Some(pending)
+    (is_relayed && passed.writer.write_pending().is_ok()).then_some(pending)
 }
 
 // The same of a stream's first.
@@ -69,16 +101,19 @@ fn passed_on(alloc: Global, stream: &[u8]) -> Option<usize> {
     relay(&mut both_sides(alloc, stream, stream.len() as u64).ok()?)
 }
 
+// The first text of some bytes: how many bytes it has.
+fn parsed_len<R: BytesRepr<Ctx = ()>>(alloc: Global, bytes: &[u8]) -> Option<usize> {
+    match ParseBuf(bytes).parse::<RawBytes<R>>(alloc, ()) {
+        Ok(text) => Some(text.as_bytes().len()),
+        Err(_) => None,
+    }
+}
+
 // The first text or number of some bytes, read in each way: how many bytes the texts have.
 fn read(alloc: Global, bytes: &[u8]) -> Option<usize> {
-    let counted = ParseBuf(bytes).parse::<RawBytes<LenEnc>>(alloc, ()).ok()?;
-    let ended = ParseBuf(bytes)
-        .parse::<RawBytes<NullBytes>>(alloc, ())
-        .ok()?;
-    let texts = counted
-        .as_bytes()
-        .len()
-        .wrapping_add(ended.as_bytes().len());
+    let counted = parsed_len::<LenEnc>(alloc, bytes)?;
+    let ended = parsed_len::<NullBytes>(alloc, bytes)?;
+    let texts = counted.wrapping_add(ended);
     let number = ParseBuf(bytes).checked_eat_lenenc_int()?;
     let text = ParseBuf(bytes).eat_null_str().len();
     Some(texts.wrapping_add(text).wrapping_add(number as usize))
@@ -88,11 +123,11 @@ fn read(alloc: Global, bytes: &[u8]) -> Option<usize> {
 fn written(alloc: Global, bytes: &[u8]) -> Option<usize> {
     let (mut out, mut shared) = (Vec::new(alloc), BytesMut::new(alloc));
     let text = ParseBuf(bytes).checked_eat_lenenc_str()?;
-    out.put_lenenc_str(text).ok()?;
-    out.put_lenenc_int(text.len() as u64).ok()?;
-    shared.put_lenenc_str(text).ok()?;
-    shared.put_lenenc_int(text.len() as u64).ok()?;
-    Some(out.len() + shared.len())
+    let is_written = out.put_lenenc_str(text).is_ok()
+        && out.put_lenenc_int(text.len() as u64).is_ok()
+        && shared.put_lenenc_str(text).is_ok()
+        && shared.put_lenenc_int(text.len() as u64).is_ok();
+    is_written.then_some(out.len() + shared.len())
 }
 
 fn of_value(value: TextValue<'_>) -> usize {
