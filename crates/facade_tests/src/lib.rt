@@ -1,19 +1,13 @@
-//! The callers of `mysql_wire_examples` and `field_examples`, run; of the program's commands what the
-//! built program can't show. Memory: every call of the layers under refused memory, what it leaves
-//! then and how it goes on (`memory_support` has the calls), and how much calls ask for; an answer
-//! counted by a session, with each request refused.
+//! The callers of `mysql_wire_examples` and `field_examples`, run; and of the program's commands what
+//! the built program can't show.
 #![tactic(auto)]
 
 #[cfg(test)]
 mod both_ends;
 #[cfg(test)]
-mod budget;
-#[cfg(test)]
 mod callers;
 #[cfg(test)]
 mod commands;
-#[cfg(test)]
-mod counted;
 #[cfg(test)]
 mod field_callers;
 #[cfg(test)]
@@ -22,8 +16,6 @@ mod in_place;
 mod long_packet;
 #[cfg(test)]
 mod measured;
-#[cfg(test)]
-mod memory;
 #[cfg(test)]
 mod own_fields;
 #[cfg(test)]
