@@ -3,18 +3,8 @@ use Rattle.std.proofs.Common.{◌≡◌, ◌∙◌, ℕ, zero, suc, ◌+◌, ◌
 use Rattle.std.proofs.lemmas.Bool.{cases_lt}
 use Rattle.std.proofs.lemmas.Fmt.{decimal_digit, decimal_step}
 use Rattle.std.proofs.lemmas.List.{length-append}
-use Rattle.std.proofs.lemmas.Str.{IsUtf8-from_ascii}
-use Rattle.std.proofs.lemmas.Str.Ascii.{IsAscii-cons, IsAscii-nil}
 use Rattle.std.specs.Fmt.{char_count, decimal, padded_integral}
-use Rattle.std.specs.Str.{IsAscii, IsUtf8}
-use Rattle.mysql_wire_dump_fields.specs.TemporalTexts.{AreLetters, zeros}
-
-letters_ascii : (bytes : List ℕ) → AreLetters bytes → IsAscii bytes
-letters_ascii [] are = IsAscii-nil
-letters_ascii (byte ∷ bytes) are = IsAscii-cons byte bytes are.0 (letters_ascii bytes are.1)
-
-pub letters_utf8 : (bytes : List ℕ) → AreLetters bytes → IsUtf8 bytes
-letters_utf8 bytes are = IsUtf8-from_ascii bytes (letters_ascii bytes are)
+use Rattle.mysql_wire_dump_fields.specs.TemporalTexts.{zeros}
 
 abbrev noughts : ℕ → List ℕ
 noughts n = replicate n 48

@@ -1,6 +1,6 @@
 -- Dates and times as they are shown.
 use Rattle.std.specs.Fmt.{decimal, format_spec, padded_integral}
-use Rattle.std.specs.Prelude.{ℕ, ◌+◌, ◌*◌, ◌-◌, ◌^◌, ◌==◌, ◌<◌, ⊤, false, List, [], ◌∷◌, ◌++◌, codes, if◌then◌else◌}
+use Rattle.std.specs.Prelude.{ℕ, ◌+◌, ◌*◌, ◌-◌, ◌^◌, ◌==◌, false, List, [], ◌∷◌, ◌++◌, codes, if◌then◌else◌}
 use Rattle.mysql_wire_temporal.specs.declared.temporal.Clock.{Clock}
 use Rattle.mysql_wire_temporal.specs.declared.temporal.Day.{Day}
 use Rattle.mysql_wire_temporal.specs.declared.temporal.Span.{Span}
@@ -13,11 +13,6 @@ use Rattle.mysql_wire_temporal.specs.declared.temporal.BinaryTime.TheVariants as
 abbrev pub zeros : ℕ → ℕ → List ℕ
 zeros width number =
     padded_integral (format_spec 32 0 4 width (2 ^ 64 - 1)) false [] (decimal number)
-
--- letters of ASCII
-abbrev pub AreLetters : List ℕ → Type 0
-AreLetters [] = ⊤
-AreLetters (byte ∷ bytes) = (byte < 128) × AreLetters bytes
 
 abbrev pub day_text : Day → List ℕ
 day_text day = zeros 4 day.year ++ codes "-" ++ zeros 2 day.month ++ codes "-" ++ zeros 2 day.day

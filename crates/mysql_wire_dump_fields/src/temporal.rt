@@ -1,20 +1,11 @@
 //! Dates and times as people write them.
 
 ghost use Rattle.std.specs.Prelude.{◌≡◌, ◌≤◌, ◌<◌, ◌++◌, OnOk, codes, string_bytes};
-ghost use Rattle.mysql_wire_dump_fields.specs.TemporalTexts.{AreLetters, clock_text, date_text, day_text, moment_text, span_text, time_text, zeros};
+ghost use Rattle.mysql_wire_dump_fields.specs.TemporalTexts.{clock_text, date_text, day_text, moment_text, span_text, time_text, zeros};
 
 use mysql_wire_statements::temporal::{BinaryDate, BinaryTime, Clock, Day, Span};
 use std::alloc::{AllocError, Allocator};
-use wire_text::put::push_number;
-
-// Appends a few letters of ASCII at once.
-#[inline(always)]
-fn push_letters<A: Allocator>(text: &mut String<A>, letters: &[u8]) -> Result<(), AllocError>
-    requires { AreLetters letters.now }
-    ensures { OnOk result (string_bytes text.new ≡ string_bytes text.old ++ letters.now) }
-{
-    text.push_str(unsafe { std::str::from_utf8_unchecked(letters) })
-}
+use wire_text::put::{PutWord, push_letters, push_number};
 
 // A day of a year of five digits, or of a month or a day of three, is written as any number is.
 fn push_day<A: Allocator>(text: &mut String<A>, day: &Day) -> Result<(), AllocError>
@@ -135,17 +126,22 @@ fn push_moment<A: Allocator>(
     push_clock(text, clock.hour as u64, clock)
 }
 
-/// Appends a day, with the time of day that is sent.
-pub fn push_date<A: Allocator>(text: &mut String<A>, date: &BinaryDate) -> Result<(), AllocError>
-    ensures { OnOk result (string_bytes text.new ≡ string_bytes text.old ++ date_text date.now) }
-{
-    match date {
-        BinaryDate::Zero => text.push_str("0000-00-00 00:00:00"),
-        BinaryDate::Date(day) => push_day(text, day),
-        BinaryDate::Seconds(day, clock) => push_moment(text, day, clock),
-        BinaryDate::Micros(day, clock, micros) => {
-            push_moment(text, day, clock)?;
-            push_micros(text, *micros)
+// A day, with the time of day that is sent.
+#[derive(Clone, Copy)]
+pub(crate) struct DateWord(pub BinaryDate);
+
+impl PutWord for DateWord {
+    ghost letters = { λ word. date_text word.0 };
+
+    fn push<A: Allocator>(&self, text: &mut String<A>) -> Result<(), AllocError> {
+        match &self.0 {
+            BinaryDate::Zero => text.push_str("0000-00-00 00:00:00"),
+            BinaryDate::Date(day) => push_day(text, day),
+            BinaryDate::Seconds(day, clock) => push_moment(text, day, clock),
+            BinaryDate::Micros(day, clock, micros) => {
+                push_moment(text, day, clock)?;
+                push_micros(text, *micros)
+            }
         }
     }
 }
@@ -164,16 +160,21 @@ fn push_span<A: Allocator>(text: &mut String<A>, span: &Span) -> Result<(), Allo
     )
 }
 
-/// Appends a span of time, in hours.
-pub fn push_time<A: Allocator>(text: &mut String<A>, time: &BinaryTime) -> Result<(), AllocError>
-    ensures { OnOk result (string_bytes text.new ≡ string_bytes text.old ++ time_text time.now) }
-{
-    match time {
-        BinaryTime::Zero => text.push_str("00:00:00"),
-        BinaryTime::Seconds(span) => push_span(text, span),
-        BinaryTime::Micros(span, micros) => {
-            push_span(text, span)?;
-            push_micros(text, *micros)
+// A span of time, in hours.
+#[derive(Clone, Copy)]
+pub(crate) struct TimeWord(pub BinaryTime);
+
+impl PutWord for TimeWord {
+    ghost letters = { λ word. time_text word.0 };
+
+    fn push<A: Allocator>(&self, text: &mut String<A>) -> Result<(), AllocError> {
+        match &self.0 {
+            BinaryTime::Zero => text.push_str("00:00:00"),
+            BinaryTime::Seconds(span) => push_span(text, span),
+            BinaryTime::Micros(span, micros) => {
+                push_span(text, span)?;
+                push_micros(text, *micros)
+            }
         }
     }
 }

@@ -5,6 +5,7 @@ ghost use Rattle.std.specs.Fmt.{decimal};
 ghost use Rattle.mysql_wire_dump_lines.specs.Lines.{bytes_part, ending_line, line_end, packet_front, packet_head, packet_line, refused_words, shown_bytes};
 ghost use Rattle.mysql_wire_dump_lines.specs.Names.{end_name};
 ghost use Rattle.mysql_wire_session_phases.specs.Names.{kind_name, refusal_name, side_name};
+ghost use Rattle.wire_text.specs.Fields.{AreLetters};
 
 use crate::packet_stream::End;
 use mysql_wire_session_phases::packet_kind::PacketKind;
@@ -12,7 +13,7 @@ use mysql_wire_session_phases::refusal::Refusal;
 use mysql_wire_session_phases::side::Side;
 use std::alloc::{AllocError, Allocator};
 use wire_text::digits::push_digits_to;
-use wire_text::put::{push_between, push_number};
+use wire_text::put::{push_between, push_letters, push_number};
 
 /// How packets are shown.
 #[derive(Clone, Copy)]
@@ -101,45 +102,70 @@ fn push_bytes<A: Allocator + Copy>(
     }
 }
 
-// Two numbers, and words between them.
+// A packet's length, and what it is.
 #[inline(always)]
-fn push_counted<A: Allocator>(
+fn push_kind<A: Allocator>(
     text: &mut String<A>,
-    first: u64,
-    between: &str,
-    second: u64,
+    len: u64,
+    kind: PacketKind,
 ) -> Result<(), AllocError>
     ensures { OnOk result (string_bytes text.new
-        ≡ string_bytes text.old ++ (decimal first ++ between.now ++ decimal second)) }
-{
-    push_number(text, first)?;
-    text.push_str(between)?;
-    push_number(text, second)
-}
-
-// A space, and what a packet is: of a row at once, since there are many.
-#[inline(always)]
-fn push_kind<A: Allocator>(text: &mut String<A>, kind: PacketKind) -> Result<(), AllocError>
-    ensures { OnOk result (string_bytes text.new
-        ≡ string_bytes text.old ++ (codes " " ++ kind_name kind)) }
+        ≡ string_bytes text.old ++ (decimal len ++ codes " " ++ kind_name kind)) }
 {
     match kind {
-        PacketKind::Row => text.push_str(" row"),
+        PacketKind::Row => push_row(text, len),
         _ => {
+            push_number(text, len)?;
             text.push_str(" ")?;
             text.push_str(kind.name())
         }
     }
 }
 
-// Who sent a packet, and a space.
-fn front_of(side: Side) -> &'static str
-    ensures { result.now ≡ side_name side ++ codes " " }
+// The letters of who sent a packet.
+#[inline(always)]
+fn letters_of(side: Side) -> [u8; 6]
+    ensures name { result ≡ side_name side }
+    ensures letters { AreLetters result }
 {
     match side {
-        Side::Client => "client ",
-        Side::Server => "server ",
+        Side::Client => *b"client",
+        Side::Server => *b"server",
     }
+}
+
+// Who sent a packet, and the id of its first chunk, with a space after each, in one append.
+fn push_sender<A: Allocator>(text: &mut String<A>, side: Side, id: u8) -> Result<(), AllocError>
+    ensures { OnOk result (string_bytes text.new ≡ string_bytes text.old
+        ++ (side_name side ++ codes " " ++ decimal id ++ codes " ")) }
+{
+    let [a, b, c, d, e, f] = letters_of(side);
+    let ones = b'0' + id % 10;
+    if id < 10 {
+        return push_letters(text, &[a, b, c, d, e, f, b' ', ones, b' ']);
+    }
+    let tens = b'0' + id / 10 % 10;
+    if id < 100 {
+        return push_letters(text, &[a, b, c, d, e, f, b' ', tens, ones, b' ']);
+    }
+    let hundreds = b'0' + id / 100;
+    push_letters(text, &[a, b, c, d, e, f, b' ', hundreds, tens, ones, b' '])
+}
+
+// A row's length, and what it is: of three digits, as of most, in one append.
+#[inline(always)]
+fn push_row<A: Allocator>(text: &mut String<A>, len: u64) -> Result<(), AllocError>
+    ensures { OnOk result (string_bytes text.new
+        ≡ string_bytes text.old ++ (decimal len ++ codes " row")) }
+{
+    if len < 100 || len >= 1000 {
+        push_number(text, len)?;
+        return text.push_str(" row");
+    }
+    let hundreds = b'0' + (len / 100) as u8;
+    let tens = b'0' + (len / 10 % 10) as u8;
+    let ones = b'0' + (len % 10) as u8;
+    push_letters(text, &[hundreds, tens, ones, b' ', b'r', b'o', b'w'])
 }
 
 // Who sent a packet, the id of its first chunk, its length, and what it is.
@@ -151,17 +177,17 @@ fn push_front<A: Allocator + Copy>(
     ensures { OnOk result (string_bytes text.new
         ≡ string_bytes text.old ++ packet_front form seen.now) }
 {
-    let id = seen.id as u64;
     let len = seen.len as u64;
     match form {
         LineForm::Text => {
-            text.push_str(front_of(seen.side))?;
-            push_counted(text, id, " ", len)?;
-            push_kind(text, seen.kind)
+            push_sender(text, seen.side, seen.id)?;
+            push_kind(text, len, seen.kind)
         }
         LineForm::Json => {
             push_between(text, "{\"from\":\"", seen.side.name(), "\",\"id\":")?;
-            push_counted(text, id, ",\"length\":", len)?;
+            push_number(text, seen.id as u64)?;
+            text.push_str(",\"length\":")?;
+            push_number(text, len)?;
             push_between(text, ",\"packet\":\"", seen.kind.name(), "\"")
         }
     }

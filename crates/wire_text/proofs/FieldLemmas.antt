@@ -14,12 +14,13 @@ use Rattle.std.specs.Fmt.{decimal}
 use Rattle.std.proofs.lemmas.Fmt.{decimal_digit, decimal_step}
 use Rattle.std.specs.String.Boundary.{IsSplitPoint}
 use Rattle.std.proofs.lemmas.Str.{IsCharBoundary-from_take, IsUtf8-append, IsUtf8-from_ascii, IsUtf8-from_is_utf8, is_utf8-from_IsUtf8}
+use Rattle.std.proofs.lemmas.Str.Ascii.{IsAscii-cons, IsAscii-nil}
 use Rattle.wire_text.specs.declared.fields.FieldForm.{FieldForm}
 use Rattle.wire_text.specs.declared.fields.Field.{Field}
 use Rattle.wire_text.specs.declared.fields.FieldForm.TheVariants.{Hidden, Text, Json}
 use Rattle.wire_text.specs.declared.members.MemberForm.{MemberForm}
 use Rattle.wire_text.specs.declared.members.MemberForm.TheVariants as member
-use Rattle.wire_text.specs.Fields.{Member, Puts, Written, all_ascii, all_plain, none_needs_escape, end_part, ended, ended_after, fields_text, line, member_form, member_part, name_part, nothing_after, pair, plain, put, puts, needs_no_escape, shown_after, value_text, with_end, with_member, Value, Word, Words}
+use Rattle.wire_text.specs.Fields.{AreLetters, Member, Puts, Written, all_ascii, all_plain, none_needs_escape, end_part, ended, ended_after, fields_text, line, member_form, member_part, name_part, nothing_after, pair, plain, put, puts, needs_no_escape, shown_after, value_text, with_end, with_member, Value, Word, Words}
 use Rattle.wire_text.specs.FieldTables.{members_in, members_of}
 use Rattle.wire_text.specs.Parts.{is_none}
 
@@ -178,6 +179,13 @@ three_digits n more less =
 -- the letters of a number are a text
 pub decimal_utf8 : (n : ℕ) (letters : List ℕ) → decimal n ≡ letters → IsUtf8 letters
 decimal_utf8 n letters are = subst IsUtf8 are (digits-IsUtf8 10 false n (omega arith) (omega arith))
+
+letters_ascii : (bytes : List ℕ) → AreLetters bytes → IsAscii bytes
+letters_ascii [] are = IsAscii-nil
+letters_ascii (byte ∷ bytes) are = IsAscii-cons byte bytes are.0 (letters_ascii bytes are.1)
+
+pub letters_utf8 : (bytes : List ℕ) → AreLetters bytes → IsUtf8 bytes
+letters_utf8 bytes are = IsUtf8-from_ascii bytes (letters_ascii bytes are)
 
 utf8_between : (front back name : List ℕ) → all_ascii front ≡ true → all_ascii back ≡ true → IsUtf8 name → IsUtf8 (front ++ (name ++ back))
 utf8_between front back name front_is back_is name_is =

@@ -1,7 +1,7 @@
 -- The text of fields.
 use Rattle.std.specs.Fmt.{decimal, digits}
 use Rattle.std.specs.List.{flat_map, list_all}
-use Rattle.std.specs.Prelude.{◌≡◌, ◌==◌, ◌&&◌, ℕ, nat_le, nat_lt, Bool, true, false, not, List, [], ◌∷◌, ◌++◌, Option, Some, None, codes, if◌then◌else◌}
+use Rattle.std.specs.Prelude.{◌≡◌, ◌==◌, ◌&&◌, ◌<◌, ⊤, ℕ, nat_le, nat_lt, Bool, true, false, not, List, [], ◌∷◌, ◌++◌, Option, Some, None, codes, if◌then◌else◌}
 use Rattle.std.specs.Str.{is_utf8}
 use Rattle.hex.specs.Hex.{encode_lower}
 use Rattle.json.specs.Print.{escape_letter, quoted}
@@ -60,6 +60,11 @@ plain byte = needs_no_escape byte && nat_lt byte 128
 
 abbrev pub all_plain : List ℕ → Bool
 all_plain = list_all plain
+
+-- letters of ASCII
+abbrev pub AreLetters : List ℕ → Type 0
+AreLetters [] = ⊤
+AreLetters (byte ∷ bytes) = (byte < 128) × AreLetters bytes
 
 abbrev pub in_ascii : ℕ → Bool
 in_ascii byte = nat_lt byte 128

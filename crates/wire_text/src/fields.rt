@@ -1,10 +1,10 @@
 //! The fields of a packet, as text or as members of a JSON object.
 
-ghost use Rattle.std.specs.Prelude.{◌≡◌, ◌<◌, ◌≤◌, ◌⊎◌, ◌↔◌, ◌∷◌, ◌++◌, [], length, take, false, true, IsTrue, Ok, OnOk, string_bytes};
+ghost use Rattle.std.specs.Prelude.{◌≡◌, ◌<◌, ◌≤◌, ◌⊎◌, ◌∷◌, ◌++◌, [], length, take, false, true, Ok, OnOk, string_bytes};
 ghost use Rattle.std.specs.List.{prefix_len};
 ghost use Rattle.std.specs.Fmt.{decimal};
 ghost use Rattle.wire_text.specs.FieldTables.{members_in, members_of};
-ghost use Rattle.wire_text.specs.Fields.{Puts, Words, ended, in_ascii, member_form, nothing, nothing_after, plain, value_of};
+ghost use Rattle.wire_text.specs.Fields.{Puts, Word, Words, ended, in_ascii, member_form, nothing, nothing_after, plain, value_of};
 ghost use Rattle.wire_text.specs.Parts.{WritesMember};
 
 use crate::escapes::ascii_in_front;
@@ -12,8 +12,10 @@ use crate::long::write_text_at;
 pub use crate::members::FieldValue;
 use crate::members::{
     MemberForm, push_closing, push_escaped_at, push_member, push_member_at, push_short_at,
+    push_word_at,
 };
 use crate::plain::plain_in_front;
+use crate::put::PutWord;
 use crate::stop::Stop;
 use std::alloc::{AllocError, Allocator, Global};
 use std::io::Write;
@@ -113,11 +115,6 @@ impl<A: Allocator + Copy> Fields<A> {
         self.text
     }
 
-    /// The allocator of the text.
-    pub fn alloc(&self) -> A {
-        *self.text.allocator()
-    }
-
     /// What was put so far.
     pub fn text(&self) -> &str
         ensures { result.now ≡ self.now.text }
@@ -132,14 +129,6 @@ impl<A: Allocator + Copy> Fields<A> {
         self.form = form;
         self.begin = 0;
         self.text.clear();
-    }
-
-    /// Whether no field is shown.
-    #[inline(always)]
-    pub fn is_hidden(&self) -> bool
-        ensures { IsTrue result ↔ (self.now.form ≡ Hidden) }
-    {
-        matches!(self.form, FieldForm::Hidden)
     }
 
     /// Puts a field.
@@ -261,6 +250,22 @@ impl<A: Allocator + Copy> Fields<A> {
         };
         let is_first = self.text.len() == self.begin;
         let pushed = push_member_at(&mut self.text, form, is_first, place, value);
+        if pushed.is_err() {
+            self.begin = 0;
+        }
+        pushed
+    }
+
+    /// Puts a word that has no name but its place.
+    pub fn put_word_at<T: PutWord>(&mut self, place: u64, word: &T) -> Result<(), AllocError>
+        ensures { OnOk result (Puts ((decimal place, Word (T.letters word.now)) ∷ [])
+            self.old self.new) }
+    {
+        let Some(form) = self.form.members() else {
+            return Ok(());
+        };
+        let is_first = self.text.len() == self.begin;
+        let pushed = push_word_at(&mut self.text, form, is_first, place, word);
         if pushed.is_err() {
             self.begin = 0;
         }

@@ -8,7 +8,7 @@ ghost use Rattle.wire_text.specs.Fields.{all_ascii, all_plain, digits_text, end_
 use crate::digits::push_digits_to;
 use crate::escapes::look_at;
 use crate::plain::{below_128, is_plain};
-use crate::put::{one_digit, push_between, push_few, push_number, two_digits};
+use crate::put::{PutWord, one_digit, push_between, push_few, push_number, two_digits};
 use crate::quoted::{push_escaped_words, push_front_escaped, push_in_quotes};
 use crate::wide::is_wide;
 use std::alloc::{AllocError, Allocator};
@@ -33,7 +33,7 @@ pub enum FieldValue<'a> {
     Bytes(&'a [u8]),
     /// The text of a number.
     Printed(&'a str),
-    /// A word in quotes, which JSON need not escape: of a date, of what is no number.
+    /// A word in quotes, which JSON need not escape: of what is no number.
     Word(&'a str),
 }
 
@@ -553,6 +553,23 @@ fn push_null_at<A: Allocator>(
 {
     push_name_at(text, form, is_first, place)?;
     text.push_str("null")
+}
+
+// A word whose name is its place, made where it stands.
+pub(crate) fn push_word_at<A: Allocator, T: PutWord>(
+    text: &mut String<A>,
+    form: MemberForm,
+    is_first: bool,
+    place: u64,
+    word: &T,
+) -> Result<(), AllocError>
+    ensures { OnOk result (string_bytes text.new ≡ string_bytes text.old
+        ++ member_part form is_first (decimal place, Word (T.letters word.now))) }
+{
+    push_name_at(text, form, is_first, place)?;
+    text.push_str("\"")?;
+    word.push(text)?;
+    text.push_str("\"")
 }
 
 // A value whose name is its place.

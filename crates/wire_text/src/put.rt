@@ -1,10 +1,22 @@
 //! What lines and fields are put together of.
 
-ghost use Rattle.std.specs.Prelude.{◌≡◌, ◌+◌, ◌<◌, ◌≤◌, ◌++◌, OnOk, string_bytes};
+ghost use Rattle.std.specs.Prelude.{◌≡◌, ◌+◌, ◌<◌, ◌≤◌, ◌++◌, ℕ, List, OnOk, string_bytes};
 ghost use Rattle.std.specs.Fmt.{decimal};
 ghost use Rattle.std.specs.Str.{IsUtf8};
+ghost use Rattle.wire_text.specs.Fields.{AreLetters};
 
 use std::alloc::{AllocError, Allocator};
+
+/// What makes a word where it is put, so that it takes no memory of its own.
+pub trait PutWord {
+    /// Its letters, which stand in quotes as they are.
+    ghost letters: { Self → List ℕ };
+
+    /// Appends them.
+    fn push<A: Allocator>(&self, text: &mut String<A>) -> Result<(), AllocError>
+        ensures { OnOk result (string_bytes text.new
+            ≡ string_bytes text.old ++ letters self.now) };
+}
 
 /// Appends words, between two others.
 #[inline(always)]
@@ -58,6 +70,15 @@ pub(crate) fn two_digits(number: u64) -> [u8; 2]
     ensures utf8 { IsUtf8 result }
 {
     [letter_of(number / 10), letter_of(number % 10)]
+}
+
+/// Appends a few letters of ASCII at once.
+#[inline(always)]
+pub fn push_letters<A: Allocator>(text: &mut String<A>, letters: &[u8]) -> Result<(), AllocError>
+    requires { AreLetters letters.now }
+    ensures { OnOk result (string_bytes text.new ≡ string_bytes text.old ++ letters.now) }
+{
+    push_few(text, letters)
 }
 
 /// Appends a number in decimal digits: up to three of them at once.

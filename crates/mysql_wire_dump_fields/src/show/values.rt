@@ -4,16 +4,14 @@ ghost use Rattle.std.specs.Float.{binary32, binary64};
 ghost use Rattle.std.specs.Fmt.{decimal};
 ghost use Rattle.std.specs.Prelude.{◌≡◌, ◌∷◌, [], ◌++◌, false, true, None, Ok, IfOk, OnOk};
 ghost use Rattle.wire_text.specs.Fields.{Puts, Word, Written};
-ghost use Rattle.mysql_wire_dump_fields.specs.TemporalTexts.{date_text, time_text};
 ghost use Rattle.mysql_wire_dump_fields.specs.ValueFields.{IsTypeOf, row_bytes_fields, PutsColumn, PutsFloat, PutsRow, PutsShown, PutsText, PutsTexts, PutsValues};
 
 use super::Show;
-use crate::temporal::{push_date, push_time};
+use crate::temporal::{DateWord, TimeWord};
 use mysql_wire_queries::text_row::TextValue;
 use mysql_wire_session_phases::refusal::{Refusal, SessionError};
 use mysql_wire_statements::binary_row::BinaryRow;
 use mysql_wire_statements::binary_value::BinaryValue;
-use mysql_wire_statements::temporal::{BinaryDate, BinaryTime};
 use ryu::Buffer;
 use std::alloc::{AllocError, Allocator, Global};
 use std::num::{f32_from_bits_with_nan, f64_from_bits_with_nan};
@@ -147,43 +145,6 @@ fn put_double<A: Allocator + Copy>(
     }
 }
 
-// Room for most dates and spans of time.
-const TEMPORAL_ROOM: usize = 32;
-
-// Puts a date, in quotes.
-fn put_date<A: Allocator + Copy>(
-    fields: &mut Fields<A>,
-    place: u64,
-    date: &BinaryDate,
-) -> Result<(), AllocError>
-    ensures { OnOk result (Puts ((decimal place, Word (date_text date.now)) ∷ [])
-        fields.old fields.new) }
-{
-    if fields.is_hidden() {
-        return Ok(());
-    }
-    let mut text = String::with_capacity(fields.alloc(), TEMPORAL_ROOM)?;
-    push_date(&mut text, date)?;
-    fields.put_at(place, FieldValue::Word(text.as_str()))
-}
-
-// Puts a span of time, in quotes.
-fn put_time<A: Allocator + Copy>(
-    fields: &mut Fields<A>,
-    place: u64,
-    time: &BinaryTime,
-) -> Result<(), AllocError>
-    ensures { OnOk result (Puts ((decimal place, Word (time_text time.now)) ∷ [])
-        fields.old fields.new) }
-{
-    if fields.is_hidden() {
-        return Ok(());
-    }
-    let mut text = String::with_capacity(fields.alloc(), TEMPORAL_ROOM)?;
-    push_time(&mut text, time)?;
-    fields.put_at(place, FieldValue::Word(text.as_str()))
-}
-
 // Puts a value in its binary form.
 fn put_value<A: Allocator + Copy>(
     fields: &mut Fields<A>,
@@ -201,8 +162,8 @@ fn put_value<A: Allocator + Copy>(
         BinaryValue::Text(text) => fields.put_at(place, FieldValue::Text(*text)),
         BinaryValue::Float(bits) => put_float(fields, place, *bits),
         BinaryValue::Double(bits) => put_double(fields, place, *bits),
-        BinaryValue::Date(date) => put_date(fields, place, date),
-        BinaryValue::Time(time) => put_time(fields, place, time),
+        BinaryValue::Date(date) => fields.put_word_at(place, &DateWord(*date)),
+        BinaryValue::Time(time) => fields.put_word_at(place, &TimeWord(*time)),
     }
 }
 
