@@ -172,7 +172,6 @@ impl<A: Allocator + Copy> Fields<A> {
 
     // Puts the text that these bytes begin with, where it is of ASCII, and 48 bytes are there: whether
     // it has.
-    #[inline(never)]
     fn put_escaped_at(
         &mut self,
         form: MemberForm,

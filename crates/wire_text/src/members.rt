@@ -431,7 +431,7 @@ pub(crate) fn push_short_at<A: Allocator + Copy>(
 }
 
 // A text of ASCII that 48 bytes begin with, of which some need escapes, and whose name is its place.
-#[inline(always)]
+#[inline(never)]
 pub(crate) fn push_escaped_at<A: Allocator>(
     text: &mut String<A>,
     form: MemberForm,
