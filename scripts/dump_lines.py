@@ -141,6 +141,15 @@ ESCAPED_VALUES = [
       for text in ('"' + "a" * (length - 1), "b" * (length - 1) + "\n", "\1" * length)],
     *[value_of('{"c":"d"}\t' * count + "e" * count) for count in range(6, 16)],
 ]
+# Eight letters, those of each set with an escape of a letter.
+SETS = ["".join('"\\\b\t\n\f\r'[(number + place) % 7] if number >> place & 1 else "abcdefgh"[place]
+                for place in range(8)) for number in range(256)]
+# The values of a row of such texts: each set in front of another and behind it, and all of them.
+SET_VALUES = [
+    *[value_of(SETS[number] + SETS[255 - number] + SETS[255 - number] + SETS[number])
+      for number in range(128)],
+    value_of("".join(SETS)),
+]
 # The values of a long row. Those of 64 KiB and more are written by parts of as much: one that fills
 # two, one with a letter of two bytes between two, with escapes, and one that is no text.
 LONG_VALUES = [NULL, value_of("a"), value_of("x" * 65535), NULL, value_of("y" * 131072),
@@ -279,6 +288,7 @@ SESSIONS = [
         ("a row of 101 values", [value_of(str(place % 10)) for place in range(101)]),
         ("a row of short texts", SHORT_VALUES),
         ("a row of texts with escapes", ESCAPED_VALUES),
+        ("a row of texts of each set of escapes", SET_VALUES),
         ("a long row", LONG_VALUES),
         ("a long row whose first value is written", LONG_VALUES[4:]),
     )],

@@ -14,7 +14,7 @@ use Rattle.wire_text.proofs.FieldLemmas.{escape-none_needs_escape, is_false}
 use Rattle.wire_text.proofs.StandLemmas.{run_passes, same_front}
 
 -- a test of all numbers below one
-abbrev upto : (ℕ → Bool) → ℕ → Bool
+abbrev pub upto : (ℕ → Bool) → ℕ → Bool
 upto p zero = true
 upto p (suc n) = p n && upto p n
 
@@ -23,13 +23,13 @@ upto_last : (p : ℕ → Bool) (n x : ℕ) → p n ≡ true → (x < n → p x �
 upto_last p n x last others (inl less) below = others less.1
 upto_last p n x last others (inr more) below = subst (λ (k : ℕ). p k ≡ true) (omega (arith, more.1, below)) last
 
-upto_holds : (p : ℕ → Bool) (n x : ℕ) → upto p n ≡ true → x < n → p x ≡ true
+pub upto_holds : (p : ℕ → Bool) (n x : ℕ) → upto p n ≡ true → x < n → p x ≡ true
 upto_holds p zero x is below = absurd (omega (arith, below))
 upto_holds p (suc n) x is below =
     let parts = and_parts (p n) _ is in
     upto_last p n x parts.0 (upto_holds p n x parts.1) (leb_tells (suc x) n) below
 
-abbrev list_same : List ℕ → List ℕ → Bool
+abbrev pub list_same : List ℕ → List ℕ → Bool
 list_same [] [] = true
 list_same [] (y ∷ ys) = false
 list_same (x ∷ xs) [] = false
@@ -38,7 +38,7 @@ list_same (x ∷ xs) (y ∷ ys) = eqb x y && list_same xs ys
 pub false-true : false ≡ true → ⊥
 false-true is = subst (λ (test : Bool). cond test ⊥ (Unit {0})) is tt
 
-list_same_is : (xs ys : List ℕ) → list_same xs ys ≡ true → xs ≡ ys
+pub list_same_is : (xs ys : List ℕ) → list_same xs ys ≡ true → xs ≡ ys
 list_same_is [] [] is = refl
 list_same_is [] (y ∷ ys) is = absurd (false-true is)
 list_same_is (x ∷ xs) [] is = absurd (false-true is)
@@ -234,6 +234,12 @@ before_ends front words rest begin size at next room new so_far short is long =
       all.2 ∙ ap (λ (z : List ℕ). front ++ escape z) (take_all (so_far.0 + length rest) words (omega (arith, left))),
       all.0,
     )
+
+-- bytes in front of others
+pub filled_front : (words put behind : List ℕ) → put ≡ words → take (length words) (put ++ behind) ≡ words
+filled_front words put behind is =
+    ap (λ (z : List ℕ). take (length words) (z ++ behind)) is ∙ take-append-le (length words) words behind (omega arith)
+    ∙ take_all (length words) words (omega arith)
 
 -- a text between quotes, after the first
 pub quoted_put : (words text filled : List ℕ) → filled ≡ 34 ∷ escape words → text ≡ filled ++ 34 ∷ [] → text ≡ quoted words

@@ -1,3 +1,4 @@
+pub mod BackslashLemmas
 pub mod DigitLemmas
 pub mod EscapeLemmas
 pub mod FieldLemmas

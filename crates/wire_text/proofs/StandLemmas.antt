@@ -47,7 +47,7 @@ lanes_escape (byte ∷ bytes) = ap₂ (λ (a : Bool) (b : List Bool). a ∷ b) (
 abbrev hit : ℕ → ℕ → ℕ
 hit a b = cond (eqb a b) 255 0
 
-abbrev below : ℕ → ℕ → ℕ
+abbrev pub below : ℕ → ℕ → ℕ
 below a b = cond (ltb a b) 255 0
 
 abbrev at_most : ℕ → ℕ → ℕ
@@ -82,7 +82,7 @@ one_more false mask rest is = ap (λ (n : ℕ). nat_eq n 0) (omega arith) ∙ no
 one_more true mask rest is = zero-false (1 + 2 * mask) (λ is. omega (arith, is))
 
 -- no bit is set just where all pass the opposite test
-none_set : (p q : ℕ → Bool) → ((x : ℕ) → not (p x) ≡ q x) → (bytes : List ℕ) → nat_eq (mask_l (map p bytes)) 0 ≡ list_all q bytes
+pub none_set : (p q : ℕ → Bool) → ((x : ℕ) → not (p x) ≡ q x) → (bytes : List ℕ) → nat_eq (mask_l (map p bytes)) 0 ≡ list_all q bytes
 none_set p q opposite [] = refl
 none_set p q opposite (byte ∷ bytes) =
     one_more (p byte) (mask_l (map p bytes)) (list_all q bytes) (none_set p q opposite bytes)

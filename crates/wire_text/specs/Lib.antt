@@ -1,3 +1,4 @@
+pub mod Backslashes
 pub mod Digits
 pub mod Fields
 pub mod FieldTables

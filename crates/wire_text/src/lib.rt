@@ -2,11 +2,13 @@
 //! members of a JSON object.
 #![tactic(auto)]
 
+mod backslashes;
 pub mod digits;
 mod escapes;
 pub mod fields;
 mod long;
 mod members;
+mod places;
 mod plain;
 pub mod put;
 mod quoted;

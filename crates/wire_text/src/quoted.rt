@@ -1,14 +1,19 @@
 //! A text between quotes, with JSON's escapes.
 
-ghost use Rattle.std.specs.Prelude.{◌≡◌, ◌≤◌, ◌+◌, ◌*◌, ◌∷◌, ◌++◌, [], length, take, drop, IsTrue, OnErr, OnOk, string_bytes};
+ghost use Rattle.std.specs.Prelude.{◌≡◌, ◌<◌, ◌≤◌, ◌+◌, ◌*◌, Bool, List, ◌∷◌, ◌++◌, [], length, take, drop, IsTrue, OnErr, OnOk, string_bytes};
 ghost use Rattle.json.specs.Print.{escape, escape_byte, quoted};
+ghost use Rattle.std.specs.Int.RustNames.{count_ones};
+ghost use Rattle.std.specs.Simd.Lanes.{mask_l};
+ghost use Rattle.wire_text.specs.Backslashes.{backslashed};
 ghost use Rattle.wire_text.specs.Fields.{all_ascii, escape_mark, in_quotes};
 
+use crate::backslashes::{control_bits, last_eight, letters_of, with_backslashes};
 use crate::digits::DIGITS;
 use crate::escapes::{escape_bits, none_needs_escape, run_from};
 use crate::put::{push_between, push_few};
 use std::alloc::{AllocError, Allocator};
 use std::mem;
+use std::simd::prelude::*;
 
 // A text between quotes, as it is.
 #[inline(always)]
@@ -85,10 +90,41 @@ fn put_escaped(room: &mut [u8], at: usize, byte: u8) -> usize
     at + len
 }
 
-// Puts what stands for so many of the first sixteen bytes into the room: those before one that needs
-// an escape are copied as sixteen. The answer is the place after them.
+// Puts eight letters into the room, with a backslash before each whose bit is set. The answer is the
+// place after them.
 #[inline(always)]
-fn escape_part(room: &mut [u8], begin: usize, source: &[u8], len: usize) -> usize
+fn put_eight(room: &mut [u8], at: usize, letters: u8x16, escapes: usize) -> usize
+    requires bits { escapes < 256 }
+    requires room { at + 16 ≤ length room.old }
+    ensures place { result ≡ at + (8 + count_ones escapes) }
+    ensures put { (set : List Bool) → length set ≡ 8 → escapes ≡ mask_l set
+        → take result room.new ≡ take at room.old ++ backslashed set (take 8 letters) }
+    ensures long { length room.new ≡ length room.old }
+{
+    put_block(room, at, &with_backslashes(letters, escapes));
+    at + (8 + escapes.count_ones() as usize)
+}
+
+// The same of sixteen, but the answer is the place after so many of them.
+#[inline(always)]
+fn put_sixteen(room: &mut [u8], begin: usize, letters: u8x16, escapes: u64, len: usize) -> usize
+    requires bits { escapes < 65536 }
+    requires within { len ≤ 16 }
+    requires room { begin + 32 ≤ length room.old }
+    ensures put { (set : List Bool) → length set ≡ 16 → escapes ≡ mask_l set
+        → (result ≤ begin + 2 * len)
+        × (take result room.new ≡ take begin room.old ++ backslashed (take len set) (take len letters)) }
+    ensures long { length room.new ≡ length room.old }
+{
+    let at = put_eight(room, begin, letters, (escapes % 256) as usize);
+    put_eight(room, at, last_eight(letters), (escapes >> 8) as usize);
+    begin + (len + (escapes % (1 << len)).count_ones() as usize)
+}
+
+// Puts what stands for so many of the first sixteen bytes into the room, escape by escape: those before
+// one are copied as sixteen. The answer is the place after them.
+#[inline(never)]
+fn escape_runs(room: &mut [u8], begin: usize, source: &[u8], len: usize) -> usize
     requires long { length source.now ≡ 32 }
     requires within { len ≤ 16 }
     requires room { begin + 6 * len + 16 ≤ length room.old }
@@ -110,36 +146,28 @@ fn escape_part(room: &mut [u8], begin: usize, source: &[u8], len: usize) -> usiz
     at + (len - done)
 }
 
-// Puts what stands for some bytes into the room, byte by byte. The answer is the place after it.
+// The same, eight bytes at once, but where an escape is of digits.
 #[inline(always)]
-fn escape_bytes(room: &mut [u8], begin: usize, words: &[u8]) -> usize
-    requires { begin + 6 * length words.now + 8 ≤ length room.old }
-    ensures { (result ≤ begin + 6 * length words.now)
-        × (take result room.new ≡ take begin room.old ++ escape words.now)
+fn escape_part(room: &mut [u8], begin: usize, source: &[u8], len: usize) -> usize
+    requires long { length source.now ≡ 32 }
+    requires within { len ≤ 16 }
+    requires room { begin + 112 ≤ length room.old }
+    ensures { (result ≤ begin + 6 * len)
+        × (take result room.new ≡ take begin room.old ++ escape (take len source.now))
         × (length room.new ≡ length room.old) }
 {
-    let mut at = begin;
-    'bytes: for byte in words {
-        at = put_escaped(room, at, *byte);
+    let block = &source[..16];
+    let within = 1 << len;
+    let escapes = escape_bits(block);
+    if escapes % within == 0 {
+        put_block(room, begin, block);
+        return begin + len;
     }
-    at
-}
-
-// The same, sixteen at once where 32 are there.
-#[inline(always)]
-fn escape_few(room: &mut [u8], begin: usize, words: &[u8]) -> usize
-    requires { begin + 6 * length words.now + 16 ≤ length room.old }
-    ensures { (result ≤ begin + 6 * length words.now)
-        × (take result room.new ≡ take begin room.old ++ escape words.now)
-        × (length room.new ≡ length room.old) }
-{
-    let mut at = begin;
-    let mut rest = words;
-    'parts: while let Some((source, _)) = rest.split_first_chunk::<32>() {
-        at = escape_part(room, at, source, 16);
-        rest = &rest[16..];
+    let letters = letters_of(u8x16::from_slice(block));
+    if control_bits(letters) % within != 0 {
+        return escape_runs(room, begin, source, len);
     }
-    escape_bytes(room, at, rest)
+    put_sixteen(room, begin, letters, escapes, len)
 }
 
 // The same of so many bytes that 48 begin with.
@@ -147,7 +175,8 @@ fn escape_few(room: &mut [u8], begin: usize, words: &[u8]) -> usize
 fn escape_front(room: &mut [u8], begin: usize, source: &[u8], len: usize) -> usize
     requires long { length source.now ≡ 48 }
     requires within { len ≤ 32 }
-    requires room { begin + 6 * len + 16 ≤ length room.old }
+    requires room { begin + 112 ≤ length room.old }
+    requires more { 16 < len → begin + 208 ≤ length room.old }
     ensures { (result ≤ begin + 6 * len)
         × (take result room.new ≡ take begin room.old ++ escape (take len source.now))
         × (length room.new ≡ length room.old) }
@@ -158,6 +187,39 @@ fn escape_front(room: &mut [u8], begin: usize, source: &[u8], len: usize) -> usi
     }
     let at = escape_part(room, begin, front, 16);
     escape_part(room, at, &source[16..48], len - 16)
+}
+
+// The same of fewer than 32 bytes, with spaces behind them.
+#[inline(always)]
+fn escape_last(room: &mut [u8], begin: usize, words: &[u8]) -> usize
+    requires short { length words.now < 32 }
+    requires room { begin + 112 ≤ length room.old }
+    requires more { 16 < length words.now → begin + 208 ≤ length room.old }
+    ensures { (result ≤ begin + 6 * length words.now)
+        × (take result room.new ≡ take begin room.old ++ escape words.now)
+        × (length room.new ≡ length room.old) }
+{
+    let mut source = [b' '; 48];
+    source[..words.len()].copy_from_slice(words);
+    escape_front(room, begin, &source, words.len())
+}
+
+// The same of a few bytes, sixteen at once.
+#[inline(always)]
+fn escape_few(room: &mut [u8], begin: usize, words: &[u8]) -> usize
+    requires short { length words.now ≤ 64 }
+    requires room { begin + 496 ≤ length room.old }
+    ensures { (result ≤ begin + 6 * length words.now)
+        × (take result room.new ≡ take begin room.old ++ escape words.now)
+        × (length room.new ≡ length room.old) }
+{
+    let mut at = begin;
+    let mut rest = words;
+    'parts: while let Some((source, _)) = rest.split_first_chunk::<32>() {
+        at = escape_part(room, at, source, 16);
+        rest = &rest[16..];
+    }
+    escape_last(room, at, rest)
 }
 
 // Puts a quote after what stands in the room. The answer is the place after it.
@@ -174,7 +236,7 @@ fn put_quote(room: &mut [u8], at: usize) -> usize
 // them, and what is written after the last.
 const FEW: usize = 64;
 
-const ROOM: usize = 408;
+const ROOM: usize = 504;
 
 // A text of a few bytes, of which some need escapes.
 #[inline(never)]
@@ -216,7 +278,7 @@ pub(crate) fn push_front_escaped<A: Allocator>(
 #[inline(always)]
 fn escape_parts(room: &mut [u8], source: &[u8]) -> usize
     requires long { length source.now ≡ 80 }
-    requires room { 400 ≤ length room.old }
+    requires room { 496 ≤ length room.old }
     ensures { (result ≤ length room.new) × (take result room.new ≡ escape (take 64 source.now))
         × (length room.new ≡ length room.old) }
 {
@@ -231,7 +293,7 @@ fn escape_parts(room: &mut [u8], source: &[u8]) -> usize
 #[inline(always)]
 fn escape_block(room: &mut [u8], bytes: &[u8]) -> usize
     requires long { 64 ≤ length bytes.now }
-    requires room { 400 ≤ length room.old }
+    requires room { 496 ≤ length room.old }
     ensures { (result ≤ length room.new) × (take result room.new ≡ escape (take 64 bytes.now))
         × (length room.new ≡ length room.old) }
 {
@@ -248,7 +310,7 @@ fn push_block<A: Allocator>(
     bytes: &[u8],
 ) -> Result<(), AllocError>
     requires long { 64 ≤ length bytes.now }
-    requires room { 400 ≤ length room.old }
+    requires room { 496 ≤ length room.old }
     ensures ok { OnOk result (text.new.items ≡ text.old.items ++ escape (take 64 bytes.now)) }
     ensures err { OnErr result (text.new.items ≡ text.old.items) }
     ensures room { length room.new ≡ length room.old }
@@ -268,7 +330,7 @@ fn push_last<A: Allocator>(
     rest: &[u8],
 ) -> Result<(), AllocError>
     requires short { length rest.now ≤ 64 }
-    requires room { 400 ≤ length room.old }
+    requires room { 496 ≤ length room.old }
     ensures ok { OnOk result (text.new.items ≡ text.old.items ++ escape rest.now) }
     ensures err { OnErr result (text.new.items ≡ text.old.items) }
 {

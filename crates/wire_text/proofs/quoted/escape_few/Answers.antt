@@ -12,5 +12,5 @@ parts-preserved c =
 
 pub returns : goal.returns
 returns c =
-    before_ends (take c.args.begin c.args.room.now) c.args.words.now c.parts.rest.now c.args.begin (length c.args.room.now) c.parts.at c.escape_bytes.result c.parts.room c.escape_bytes.new.room
-    c.parts.invariant c.escape_bytes.ensures.0 c.escape_bytes.ensures.1 c.escape_bytes.ensures.2
+    before_ends (take c.args.begin c.args.room.now) c.args.words.now c.parts.rest.now c.args.begin (length c.args.room.now) c.parts.at c.escape_last.result c.parts.room c.escape_last.new.room
+    c.parts.invariant c.escape_last.ensures.0 c.escape_last.ensures.1 c.escape_last.ensures.2

@@ -1,33 +1,45 @@
-use Rattle.std.proofs.Common.{ℕ, arith, length, length-take-le, refl, subst, take, ◌+◌, ◌-◌}
-use Rattle.wire_text.proofs.EscapeLemmas.{FilledTo, filled_on, run_put, run_within}
+use Rattle.std.proofs.Common.{List, ap, arith, length, map, refl, subst, sym, take, ℕ, ◌++◌, ◌<◌, ◌^◌, ◌+◌, ◌≡◌, ◌∙◌}
+use Rattle.std.proofs.lemmas.List.{length-map, length-take-le, take-take, take_all}
+use Rattle.std.proofs.lemmas.Simd.{mask_l-lt}
+use Rattle.std.specs.Simd.Lanes.{mask_l}
+use Rattle.json.specs.Print.{escape}
+use Rattle.wire_text.specs.Backslashes.{backslashed}
+use Rattle.wire_text.specs.Fields.{needs_escape, none_needs_escape}
+use Rattle.wire_text.proofs.EscapeLemmas.{FilledTo, filled_begins, filled_by}
+use Rattle.wire_text.proofs.BackslashLemmas.{first_letters, first_need_none}
 use Rattle.wire_text.proofs.quoted.escape_part.Goals as goal
 
-pub overflow_add-done : goal.overflow_add-done
-overflow_add-done c =
-    omega (arith, c.escapes.invariant.0, c.ranges.len, run_within c.args.source.now c.escapes.done c.escapes.run c.escapes.invariant.1, c.requires.within)
-
-pub escapes-preserved : goal.escapes-preserved
-escapes-preserved c =
-    let inv = c.escapes.invariant in
-    let inside = c.escapes-test.true in
+pub returns-then-escapes-within-eq0 : goal.returns-then-escapes-within-eq0
+returns-then-escapes-within-eq0 c =
+    let source = c.args.source.now in
     let front = take c.args.begin c.args.room.now in
     let size = length c.args.room.now in
-    let put = run_put front c.args.source.now c.args.begin size c.escapes.done c.escapes.at c.escapes.run c.escapes.run c.escapes.room _ c.put_block.new.room inv.2 inv.1
-    (omega (arith, c.requires.room, inv.0, inv.2.0, inv.2.1)) (omega arith) (omega (arith, inside, c.requires.within)) refl (omega (arith, inside, c.requires.long, c.requires.within)) c.put_block.ensures in
-    let one = filled_on front c.args.source.now c.args.begin size (c.escapes.done + c.escapes.run) (c.escapes.at + c.escapes.run) c.put_escaped-at.result c.put_block.new.room c.put_escaped-at.new.room put
-    (omega (arith, inside, c.requires.long, c.requires.within)) c.put_escaped-at.ensures.2 c.put_escaped-at.ensures.0 c.put_escaped-at.ensures.1 in (
-      omega (arith, inside),
-      c.run_from-run-in-escapes.ensures (take 16 c.args.source.now) (length-take-le 16 c.args.source.now (omega (arith, c.requires.long))) c.escape_bits-escapes.ensures,
-      subst (λ (n : ℕ). FilledTo front c.args.begin size c.args.source.now n c.put_escaped-at.result c.put_escaped-at.new.room) (omega arith) one,
-    )
+    let len = c.args.len in
+    let long = length-take-le 16 source (omega (arith, c.requires.long)) in
+    let none = ap none_needs_escape (sym (take-take len 16 source c.requires.within))
+    ∙ first_need_none len c.escape_bits-escapes.result (take 16 source) c.requires.within c.escape_bits-escapes.ensures c.if-escapes-within-eq0.true in
+    let put = filled_by front source c.args.begin size 0 c.args.begin len c.args.room.now (take 16 source) c.put_block.new.room
+    (filled_begins front source c.args.room.now c.args.begin refl) (omega (arith, c.requires.room, long)) (omega (arith, c.requires.within, long))
+    (take-take len 16 source c.requires.within) none c.put_block.ensures in
+    let all = subst (λ (n : ℕ). FilledTo front c.args.begin size source n (c.args.begin + len) c.put_block.new.room) (omega arith) put in
+    (all.1, all.2, all.0)
+
+pub put_sixteen-requires-clause-bits : goal.put_sixteen-requires-clause-bits
+put_sixteen-requires-clause-bits c =
+    let set = map needs_escape (take 16 c.args.source.now) in
+    let many = length-map (take 16 c.args.source.now) needs_escape ∙ length-take-le 16 c.args.source.now (omega (arith, c.requires.long)) in
+    let less : mask_l set < 2 ^ 16 = subst (λ (n : ℕ). mask_l set < 2 ^ n) many (mask_l-lt set) in omega (arith, less, c.escape_bits-escapes.ensures)
 
 pub returns : goal.returns
 returns c =
-    let inv = c.escapes.invariant in
-    let behind = c.escapes-test.false in
-    let front = take c.args.begin c.args.room.now in
-    let size = length c.args.room.now in
-    let put = run_put front c.args.source.now c.args.begin size c.escapes.done c.escapes.at (c.args.len - c.escapes.done) c.escapes.run c.escapes.room _ c.put_block-2.new.room inv.2 inv.1
-    (omega (arith, c.requires.room, inv.0, inv.2.0, inv.2.1)) (omega (arith, behind)) (omega (arith, inv.0, c.requires.within)) refl (omega (arith, inv.0, c.requires.long, c.requires.within)) c.put_block-2.ensures in
-    let all = subst (λ (n : ℕ). FilledTo front c.args.begin size c.args.source.now n (c.escapes.at + (c.args.len - c.escapes.done)) c.put_block-2.new.room) (omega (arith, inv.0)) put in
-    (all.1, all.2, all.0)
+    let source = c.args.source.now in
+    let block = take 16 source in
+    let long = length-take-le 16 source (omega (arith, c.requires.long)) in
+    let put = c.put_sixteen.ensures.put (map needs_escape block) (length-map block needs_escape ∙ long) c.escape_bits-escapes.ensures in
+    let letters = c.letters_of-letters.result in
+    let escapes = subst (λ (z : List ℕ). escape (take c.args.len z) ≡ backslashed (take c.args.len (map needs_escape z)) (take c.args.len letters))
+    (take_all 16 block (omega (arith, long))) (c.letters_of-letters.ensures.escapes c.args.len (first_letters c.args.len c.control_bits.result letters c.requires.within c.control_bits.ensures c.if-control_bits-within-ne0.false)) in (
+      omega (arith, put.0),
+      put.1 ∙ ap (λ (z : List ℕ). take c.args.begin c.args.room.now ++ z) (sym escapes ∙ ap escape (take-take c.args.len 16 source c.requires.within)),
+      c.put_sixteen.ensures.long,
+    )

@@ -1,6 +1,6 @@
 use Rattle.std.proofs.Common.{length, take, ◌≤◌, ◌-◌}
 use Rattle.wire_text.proofs.EscapeLemmas.{FilledTo, RunIs}
-use Rattle.wire_text.proofs.quoted.escape_part.Given as goal
+use Rattle.wire_text.proofs.quoted.escape_runs.Given as goal
 
 abbrev pub decreases-escapes : goal.decreases-escapes
 decreases-escapes l = l.len - l.done
