@@ -168,6 +168,29 @@ fn push_row<A: Allocator>(text: &mut String<A>, len: u64) -> Result<(), AllocErr
     push_letters(text, &[hundreds, tens, ones, b' ', b'r', b'o', b'w'])
 }
 
+// The front of a packet's object: who sent it.
+#[inline(always)]
+fn object_front(side: Side) -> &'static str
+    ensures { result.now ≡ codes "{\"from\":\"" ++ side_name side ++ codes "\",\"id\":" }
+{
+    match side {
+        Side::Client => "{\"from\":\"client\",\"id\":",
+        Side::Server => "{\"from\":\"server\",\"id\":",
+    }
+}
+
+// What a packet is, as a member: of a row, as of most, in one append.
+#[inline(always)]
+fn push_kind_member<A: Allocator>(text: &mut String<A>, kind: PacketKind) -> Result<(), AllocError>
+    ensures { OnOk result (string_bytes text.new ≡ string_bytes text.old
+        ++ (codes ",\"packet\":\"" ++ kind_name kind ++ codes "\"")) }
+{
+    match kind {
+        PacketKind::Row => text.push_str(",\"packet\":\"row\""),
+        _ => push_between(text, ",\"packet\":\"", kind.name(), "\""),
+    }
+}
+
 // Who sent a packet, the id of its first chunk, its length, and what it is.
 fn push_front<A: Allocator + Copy>(
     text: &mut String<A>,
@@ -184,11 +207,11 @@ fn push_front<A: Allocator + Copy>(
             push_kind(text, len, seen.kind)
         }
         LineForm::Json => {
-            push_between(text, "{\"from\":\"", seen.side.name(), "\",\"id\":")?;
+            text.push_str(object_front(seen.side))?;
             push_number(text, seen.id as u64)?;
             text.push_str(",\"length\":")?;
             push_number(text, len)?;
-            push_between(text, ",\"packet\":\"", seen.kind.name(), "\"")
+            push_kind_member(text, seen.kind)
         }
     }
 }
