@@ -94,7 +94,7 @@ fn look_at_few(words: &[u8]) -> (bool, bool)
 
 // The same of any bytes; the last sixteen with some of those in front of them.
 #[inline(always)]
-pub(crate) fn look_at(words: &[u8]) -> (bool, bool)
+fn look_at(words: &[u8]) -> (bool, bool)
     ensures { (result.0 ≡ all_ascii words.now) × (result.1 ≡ none_needs_escape words.now) }
 {
     if words.len() < 16 {
@@ -111,6 +111,15 @@ pub(crate) fn look_at(words: &[u8]) -> (bool, bool)
     }
     let (last_is_ascii, last_stands) = look_at_block(&words[words.len() - 16..]);
     (is_ascii & last_is_ascii, stands & last_stands)
+}
+
+// Whether these bytes are of ASCII.
+#[inline(always)]
+pub(crate) fn is_ascii(words: &[u8]) -> bool
+    ensures { result ≡ all_ascii words.now }
+{
+    let (is_ascii, _) = look_at(words);
+    is_ascii
 }
 
 // Whether none of these bytes needs an escape.

@@ -6,7 +6,7 @@ ghost use Rattle.std.specs.Str.{IsUtf8};
 ghost use Rattle.wire_text.specs.Fields.{all_ascii, all_plain, digits_text, end_part, flags_text, member_part, name_part, none_needs_escape, octets_text, value_of, value_text, words_text, Null, Word, Words};
 
 use crate::digits::push_digits_to;
-use crate::escapes::look_at;
+use crate::escapes::{is_ascii, none_needs_escape};
 use crate::plain::{below_128, is_plain};
 use crate::put::{PutWord, one_digit, push_between, push_few, push_number, two_digits};
 use crate::quoted::{push_escaped_words, push_front_escaped, push_in_quotes};
@@ -88,14 +88,13 @@ fn push_words<A: Allocator + Copy>(
     ensures { OnOk result (string_bytes text.new
         ≡ string_bytes text.old ++ words_text form bytes.now) }
 {
-    let (is_ascii, stands) = look_at(bytes);
-    if is_ascii {
+    if is_ascii(bytes) {
         let words = unsafe { std::str::from_utf8_unchecked(bytes) };
         return push_escaped_words(text, words);
     }
     match std::str::from_utf8(bytes) {
         Ok(words) => {
-            if stands {
+            if none_needs_escape(bytes) {
                 push_in_quotes(text, words)
             } else {
                 push_escaped_words(text, words)
