@@ -1,7 +1,7 @@
 -- Letters with a backslash before each that has an escape.
 use Rattle.std.proofs.Common.{◌≡◌, ℕ, zero, suc, ◌+◌, ◌-◌, ◌*◌, ◌/◌, ◌%◌, ◌^◌, ◌<◌, ◌≤◌, ltb, eqb, cond, List, [], ◌∷◌, ◌++◌, Bool, true, false, map, length, take, drop, get_or, replicate, nat_eq, refl, sym, ap, ap₂, subst, ◌∙◌, arith, append_assoc, take-append-drop, w8, Fits}
 use Rattle.std.proofs.lemmas.Bool.{and_parts, eqb-true, ltb-true}
-use Rattle.std.proofs.lemmas.List.{drop_more, drop-drop, get_or-map, get_or-take, get_or_append_left, get_or-append_right, length-drop, length-take, length-take-le, take-append-le, take-take, take_all}
+use Rattle.std.proofs.lemmas.List.{drop_more, drop-drop, get_or-map, get_or-take, get_or_append_left, get_or-append_right, length-drop, length-take, length-take-le, take-append-le, take-map, take-take, take_all}
 use Rattle.std.proofs.lemmas.Simd.{bitmask_splat, mask_l-lt, mask_l-mod, ones-mask_l_cons, pick_l_left, pick_l-range_with_len, splat_is_map, swz_l, SwzOk}
 use Rattle.std.proofs.Math.Nat.{min-le_left, pow-le-pow_right}
 use Rattle.std.specs.Int.RustNames.{count_ones}
@@ -13,7 +13,7 @@ use Rattle.wire_text.specs.Backslashes.{are_letters, backslashed, is_control, le
 use Rattle.wire_text.specs.Fields.{needs_escape, none_needs_escape}
 use Rattle.wire_text.proofs.DigitLemmas.{IsBlock, looked_up, places_fit}
 use Rattle.wire_text.proofs.EscapeLemmas.{false-true, list_same, list_same_is, upto, upto_holds}
-use Rattle.wire_text.proofs.StandLemmas.{below, no_escape_bit, none_set}
+use Rattle.wire_text.proofs.StandLemmas.{below, halved, no_escape_bit, none_set}
 
 -- ---- the letter of each byte
 
@@ -149,10 +149,6 @@ row_places k row is below = places_fit (λ j. j % 16) (row_of k) row (row_block 
 
 -- ---- sets of letters
 
-halved : (escaped : Bool) (n : ℕ) → (cond escaped 1 0 + 2 * n) / 2 ≡ n
-halved true n = omega arith
-halved false n = omega arith
-
 odd : (escaped : Bool) (n : ℕ) → nat_eq ((cond escaped 1 0 + 2 * n) % 2) 1 ≡ escaped
 odd true n =
     let is : (1 + 2 * n) % 2 ≡ 1 = omega arith in ap (λ (k : ℕ). nat_eq k 1) is
@@ -193,11 +189,6 @@ at_places f letters slot places (false ∷ set) i is =
     ap₂ (λ (a : ℕ) (b : List ℕ). a ∷ b) (places i inside) (at_places f letters slot places set (i + 1) (omega (arith, is)))
     ∙ ap (backslashed (false ∷ set)) (sym (drop_more letters i 0 inside))
 
-take_map : (f : ℕ → ℕ) (n : ℕ) (v : List ℕ) → take n (map f v) ≡ map f (take n v)
-take_map f zero v = refl
-take_map f (suc n) [] = refl
-take_map f (suc n) (x ∷ v) = ap (λ (z : List ℕ). f x ∷ z) (take_map f n v)
-
 -- eight letters and eight backslashes
 abbrev order : List ℕ
 order = 0 ∷ 1 ∷ 2 ∷ 3 ∷ 4 ∷ 5 ∷ 6 ∷ 7 ∷ 16 ∷ 16 ∷ 16 ∷ 16 ∷ 16 ∷ 16 ∷ 16 ∷ 16 ∷ []
@@ -234,7 +225,7 @@ eight_put letters row escapes set long is below eight mask_is =
     let many : length places ≡ 8 + count_ones escapes = omega (arith, many_places set 0, eight, ones) in
     let short : 8 + count_ones escapes ≤ 16 = omega (arith, eight, count_within set, ones) in
     let set_here : set_of 8 escapes ≡ set = ap₂ (λ (a b : ℕ). set_of a b) (sym eight) mask_is ∙ set_is set in
-    ap (take (8 + count_ones escapes)) (picked letters row escapes is below) ∙ take_map (source_at letters) (8 + count_ones escapes) (row_of escapes)
+    ap (take (8 + count_ones escapes)) (picked letters row escapes is below) ∙ take-map (source_at letters) (8 + count_ones escapes) (row_of escapes)
     ∙ ap (map (source_at letters))
     (take-take (8 + count_ones escapes) 16 (places_from 0 (set_of 8 escapes) ++ replicate 8 8) short
     ∙ ap (λ (z : List Bool). take (8 + count_ones escapes) (places_from 0 z ++ replicate 8 8)) set_here
@@ -362,15 +353,10 @@ low_bits len within =
 
 -- ---- tests of the first bits
 
-take_marks : (p : ℕ → Bool) (n : ℕ) (v : List ℕ) → take n (map p v) ≡ map p (take n v)
-take_marks p zero v = refl
-take_marks p (suc n) [] = refl
-take_marks p (suc n) (x ∷ v) = ap (λ (z : List Bool). p x ∷ z) (take_marks p n v)
-
 first_marks : (p : ℕ → Bool) (len bits : ℕ) (v : List ℕ) → len ≤ 16 → bits ≡ mask_l (map p v)
     → bits % (1 * 2 ^ len % 18446744073709551616) ≡ mask_l (map p (take len v))
 first_marks p len bits v within is =
-    ap₂ (λ (a b : ℕ). a % b) is (low_bits len within) ∙ first_bits len (map p v) ∙ ap mask_l (take_marks p len v)
+    ap₂ (λ (a b : ℕ). a % b) is (low_bits len within) ∙ first_bits len (map p v) ∙ ap mask_l (take-map p len v)
 
 pub first_need_none : (len bits : ℕ) (v : List ℕ) → len ≤ 16 → bits ≡ mask_l (map needs_escape v) → bits % (1 * 2 ^ len % 18446744073709551616) ≡ 0
     → none_needs_escape (take len v) ≡ true

@@ -101,7 +101,7 @@ same_run p q opposite [] = refl
 same_run p q opposite (byte ∷ bytes) = ap₂ (λ (b : Bool) (n : ℕ). cond b (1 + n) 0) (opposite byte) (same_run p q opposite bytes)
 
 -- the bits from one on are those of the bytes from there on
-halved : (first : Bool) (mask : ℕ) → (cond first 1 0 + 2 * mask) / 2 ≡ mask
+pub halved : (first : Bool) (mask : ℕ) → (cond first 1 0 + 2 * mask) / 2 ≡ mask
 halved true mask = omega arith
 halved false mask = omega arith
 
