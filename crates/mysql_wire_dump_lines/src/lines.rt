@@ -135,7 +135,8 @@ fn letters_of(side: Side) -> [u8; 6]
 }
 
 // Who sent a packet, and the id of its first chunk, with a space after each, in one append.
-fn push_sender<A: Allocator>(text: &mut String<A>, side: Side, id: u8) -> Result<(), AllocError>
+#[inline(always)]
+fn push_sender_of<A: Allocator>(text: &mut String<A>, side: Side, id: u8) -> Result<(), AllocError>
     ensures { OnOk result (string_bytes text.new ≡ string_bytes text.old
         ++ (side_name side ++ codes " " ++ decimal id ++ codes " ")) }
 {
@@ -150,6 +151,17 @@ fn push_sender<A: Allocator>(text: &mut String<A>, side: Side, id: u8) -> Result
     }
     let hundreds = b'0' + id / 100;
     push_letters(text, &[a, b, c, d, e, f, b' ', hundreds, tens, ones, b' '])
+}
+
+// The same. Each side has code of its own, in which the letters of its name are a few words.
+fn push_sender<A: Allocator>(text: &mut String<A>, side: Side, id: u8) -> Result<(), AllocError>
+    ensures { OnOk result (string_bytes text.new ≡ string_bytes text.old
+        ++ (side_name side ++ codes " " ++ decimal id ++ codes " ")) }
+{
+    match side {
+        Side::Client => push_sender_of(text, Side::Client, id),
+        Side::Server => push_sender_of(text, Side::Server, id),
+    }
 }
 
 // A row's length, and what it is: of three digits, as of most, in one append.

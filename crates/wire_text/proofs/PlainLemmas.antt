@@ -6,8 +6,10 @@ use Rattle.std.proofs.lemmas.List.{length-append, length-drop, length-map, lengt
 use Rattle.std.specs.Prelude.{◌&&◌, not}
 use lib.Lanes.{mask_l, top, zip2}
 use Rattle.std.proofs.lemmas.Bool.Decides.{leb_tells}
-use Rattle.std.proofs.lemmas.Simd.{leading_from_mask_l, mask_l-mod, trailing_mask_l, zip2_of_maps, zip2_splat, zip2_splat_left}
+use Rattle.std.proofs.lemmas.Grind.{or_before_shift}
+use Rattle.std.proofs.lemmas.Simd.{leading_from_mask_l, mask_l-lt, mask_l-mod, trailing_mask_l, zip2_of_maps, zip2_splat, zip2_splat_left}
 use lib.Count.{count_trailing_zeros}
+use native.Mathlib.Nat.{two-pow-succ}
 use Rattle.std.specs.List.{prefix_len}
 use Rattle.std.proofs.lemmas.List.Sums.{prefix_len-le-length}
 use Rattle.wire_text.specs.Fields.{all_ascii, all_plain, needs_no_escape, plain}
@@ -172,12 +174,34 @@ same_run [] = refl
 same_run (byte ∷ bytes) = ap₂ (λ (b : Bool) (n : ℕ). cond b (1 + n) 0) (not_not (plain byte)) (same_run bytes)
 
 -- where no bit is set all are plain, and else the lowest tells how many are before the first that is not
-pub run_of_all : (block : List ℕ) → length block ≡ 16 → others_mask block ≡ 0 → 16 ≡ prefix_len plain block
-run_of_all block long none = sym long ∙ sym (leading_from_mask_l is_other block none) ∙ same_run block
+pub run_of_all : (block : List ℕ) → others_mask block ≡ 0 → length block ≡ prefix_len plain block
+run_of_all block none = sym (leading_from_mask_l is_other block none) ∙ same_run block
 
-pub run_to_other : (block : List ℕ) → length block ≡ 16 → (others_mask block ≡ 0 → ⊥)
+pub run_to_other : (block : List ℕ) → length block ≤ 64 → (others_mask block ≡ 0 → ⊥)
     → count_trailing_zeros 64 (others_mask block) ≡ prefix_len plain block
-run_to_other block long some = trailing_mask_l is_other 64 block (omega (arith, long)) (omega (arith, some)) ∙ same_run block
+run_to_other block short some = trailing_mask_l is_other 64 block (omega (arith, short)) (omega (arith, some)) ∙ same_run block
+
+lanes_below : (bytes : List ℕ) → length bytes ≡ 16 → others_mask bytes < 2 ^ 16
+lanes_below bytes long =
+    omega (arith, subst (λ (n : ℕ). others_mask bytes < 2 ^ n) (length-map bytes is_other ∙ long) (mask_l-lt (map is_other bytes)))
+
+-- the bits of more bytes stand over those of the first
+over_first : (n : ℕ) (first rest : List ℕ) → length first ≡ n → others_mask (first ++ rest) ≡ others_mask rest * 2 ^ n + others_mask first
+over_first zero [] rest is = omega arith
+over_first zero (byte ∷ first) rest is = absurd (omega (arith, is))
+over_first (suc n) [] rest is = absurd (omega (arith, is))
+over_first (suc n) (byte ∷ first) rest is =
+    let more = over_first n first rest (omega (arith, is)) in
+    let over : others_mask rest * 2 ^ suc n ≡ others_mask rest * 2 ^ n + others_mask rest * 2 ^ n =
+    ap (λ (p : ℕ). others_mask rest * p) (two-pow-succ n) ∙ omega arith in
+    omega (arith, more, over)
+
+-- the bits of two blocks
+pub both_others : (first rest : List ℕ) → length first ≡ 16 → length rest ≡ 16
+    → bit_or (others_mask first) (others_mask rest * 65536 % 18446744073709551616) ≡ others_mask (first ++ rest)
+both_others first rest here long =
+    or_before_shift (others_mask first) (others_mask rest) (2 ^ 16) (2 ^ 64) refl (lanes_below first here) (omega (arith, lanes_below rest long))
+    ∙ sym (over_first 16 first rest here)
 
 -- of two blocks
 parts_run : (p : ℕ → Bool) (n : ℕ) (bytes : List ℕ)

@@ -5,7 +5,7 @@ ghost use Rattle.std.specs.Fmt.{decimal};
 ghost use Rattle.std.specs.Str.{IsUtf8};
 ghost use Rattle.wire_text.specs.Fields.{all_ascii, all_plain, digits_text, end_part, flags_text, member_part, name_part, none_needs_escape, octets_text, value_of, value_text, words_text, Null, Word, Words};
 
-use crate::digits::push_digits_to;
+use crate::digits::{fill, push_digits_to};
 use crate::escapes::{is_ascii, none_needs_escape};
 use crate::plain::{below_128, is_plain};
 use crate::put::{PutWord, one_digit, push_between, push_few, push_number, two_digits};
@@ -313,24 +313,121 @@ pub(crate) fn push_name_at<A: Allocator>(
     push_name(text, form, is_first, name_of(&one_digit(place)))
 }
 
-// Appends as many of 32 bytes as are asked for. All are copied, since their count is no branch then:
-// those behind become some letters of ASCII, and are cut off.
+// Appends a few letters, and after them as many of 32 bytes as are asked for. All are copied, since
+// their count is no branch then: those behind become some letters of ASCII, and are cut off.
 #[inline(always)]
-fn push_front<A: Allocator>(
+fn push_with_front<A: Allocator>(
     text: &mut String<A>,
+    letters: &[u8],
+    block: &[u8],
+    len: usize,
+) -> Result<(), AllocError>
+    requires few { length letters.now ≤ 8 }
+    requires letters { IsUtf8 letters.now }
+    requires within { len ≤ length block.now }
+    requires long { length block.now ≡ 32 }
+    requires plain { IsTrue (all_plain (take len block.now)) }
+    ensures { OnOk result (string_bytes text.new
+        ≡ string_bytes text.old ++ (letters.now ++ take len block.now)) }
+{
+    let end = text.len() + letters.len() + len;
+    let mut room = [0; 40];
+    let all = &mut room[..letters.len() + 32];
+    fill(all, letters, &below_128(block));
+    push_few(text, all)?;
+    text.truncate(end);
+    Ok(())
+}
+
+// A name and the quote after it, on a line of its own, and the text's letters.
+#[inline(always)]
+fn push_short_line<A: Allocator>(
+    text: &mut String<A>,
+    name: &str,
     block: &[u8],
     len: usize,
 ) -> Result<(), AllocError>
     requires within { len ≤ length block.now }
     requires long { length block.now ≡ 32 }
     requires plain { IsTrue (all_plain (take len block.now)) }
-    ensures { OnOk result (string_bytes text.new
-        ≡ string_bytes text.old ++ take len block.now) }
+    ensures { OnOk result (string_bytes text.new ≡ string_bytes text.old
+        ++ ((codes "\n  " ++ name.now ++ codes " \"") ++ take len block.now)) }
 {
-    let end = text.len() + len;
-    push_few(text, &below_128(block))?;
-    text.truncate(end);
-    Ok(())
+    match name.as_bytes() {
+        [one] => push_with_front(text, &[b'\n', b' ', b' ', *one, b' ', b'"'], block, len),
+        [one, two] => {
+            push_with_front(
+                text,
+                &[b'\n', b' ', b' ', *one, *two, b' ', b'"'],
+                block,
+                len,
+            )
+        }
+        _ => {
+            push_between(text, "\n  ", name, " \"")?;
+            push_with_front(text, &[], block, len)
+        }
+    }
+}
+
+// The same after another member of an object.
+#[inline(always)]
+fn push_short_pair<A: Allocator>(
+    text: &mut String<A>,
+    name: &str,
+    block: &[u8],
+    len: usize,
+) -> Result<(), AllocError>
+    requires within { len ≤ length block.now }
+    requires long { length block.now ≡ 32 }
+    requires plain { IsTrue (all_plain (take len block.now)) }
+    ensures { OnOk result (string_bytes text.new ≡ string_bytes text.old
+        ++ ((codes ",\"" ++ name.now ++ codes "\":\"") ++ take len block.now)) }
+{
+    match name.as_bytes() {
+        [one] => push_with_front(text, &[b',', b'"', *one, b'"', b':', b'"'], block, len),
+        [one, two] => {
+            push_with_front(
+                text,
+                &[b',', b'"', *one, *two, b'"', b':', b'"'],
+                block,
+                len,
+            )
+        }
+        _ => {
+            push_between(text, ",\"", name, "\":\"")?;
+            push_with_front(text, &[], block, len)
+        }
+    }
+}
+
+// The name of a field, the quote after it, and the text's letters.
+#[inline(always)]
+fn push_short_words<A: Allocator>(
+    text: &mut String<A>,
+    form: MemberForm,
+    is_first: bool,
+    name: &str,
+    block: &[u8],
+    len: usize,
+) -> Result<(), AllocError>
+    requires within { len ≤ length block.now }
+    requires long { length block.now ≡ 32 }
+    requires plain { IsTrue (all_plain (take len block.now)) }
+    ensures { OnOk result (string_bytes text.new ≡ string_bytes text.old
+        ++ ((name_part form is_first name.now ++ codes "\"") ++ take len block.now)) }
+{
+    match form {
+        MemberForm::Text => push_short_line(text, name, block, len),
+        MemberForm::Json => {
+            if is_first {
+                push_between(text, ",\"fields\":{\"", name, "\":\"")?;
+                push_with_front(text, &[], block, len)
+            } else {
+                push_short_pair(text, name, block, len)
+            }
+        }
+    }
 }
 
 // A text of plain letters, which 32 bytes begin with.
@@ -349,8 +446,7 @@ fn push_short<A: Allocator>(
     ensures { OnOk result (string_bytes text.new ≡ string_bytes text.old
         ++ member_part form is_first (name.now, Word (take len block.now))) }
 {
-    push_plain_front(text, form, is_first, name)?;
-    push_front(text, block, len)?;
+    push_short_words(text, form, is_first, name, block, len)?;
     text.push_str("\"")
 }
 
@@ -419,7 +515,7 @@ pub(crate) fn push_short_at<A: Allocator + Copy>(
     ensures { OnOk result (string_bytes text.new ≡ string_bytes text.old
         ++ member_part form is_first (decimal place, Words (take len block.now))) }
 {
-    if text.capacity().saturating_sub(text.len()) < SHORT_ROOM {
+    if text.capacity() - text.len() < SHORT_ROOM {
         return push_text_at(text, form, is_first, place, &block[..len]);
     }
     if place >= 10 {

@@ -51,19 +51,13 @@ fn is_plain_block(block: &[u8]) -> bool
     others_of(block) == 0
 }
 
-// How many of sixteen bytes stand before one that is not plain.
+// The same of 32 bytes.
 #[inline(always)]
-fn plain_in_block(block: &[u8]) -> usize
-    requires { length block.now ≡ 16 }
-    ensures within { result ≤ 16 }
-    ensures run { result ≡ prefix_len plain block.now }
+fn others_of_both(block: &[u8]) -> u64
+    requires { length block.now ≡ 32 }
+    ensures { result ≡ others_mask block.now }
 {
-    let others = others_of(block);
-    if others == 0 {
-        16
-    } else {
-        others.trailing_zeros() as usize
-    }
+    others_of(&block[..16]) | others_of(&block[16..]) << 16
 }
 
 /// How many of 32 bytes stand before one that is not plain. No branch asks how many there are.
@@ -73,9 +67,12 @@ pub(crate) fn plain_in_front(block: &[u8]) -> usize
     ensures within { result ≤ 32 }
     ensures run { result ≡ prefix_len plain block.now }
 {
-    let front = plain_in_block(&block[..16]);
-    let after = plain_in_block(&block[16..]);
-    if front < 16 { front } else { 16 + after }
+    let others = others_of_both(block);
+    if others == 0 {
+        32
+    } else {
+        others.trailing_zeros() as usize
+    }
 }
 
 // The same of fewer bytes: of eight and more, and of four and more, the first and the last.

@@ -5,7 +5,7 @@ use Rattle.mysql_wire_session_phases.specs.declared.side.Side.{Side}
 use Rattle.mysql_wire_session_phases.specs.declared.side.Side.TheVariants.{Client, Server}
 use Rattle.mysql_wire_session_phases.specs.Names.{side_name}
 use Rattle.wire_text.proofs.FieldLemmas.{three_digits, two_digits}
-use Rattle.mysql_wire_dump_lines.proofs.lines.push_sender.Goals as goal
+use Rattle.mysql_wire_dump_lines.proofs.lines.push_sender_of.Goals as goal
 
 abbrev letters : List ℕ → List ℕ → List ℕ
 letters name rest = get_or name 0 0 ∷ get_or name 1 0 ∷ get_or name 2 0 ∷ get_or name 3 0 ∷ get_or name 4 0 ∷ get_or name 5 0 ∷ rest
