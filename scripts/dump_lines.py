@@ -92,17 +92,25 @@ def shown_numbers(fields, has_json):
         yield name, hex(value) if is_hex else json.dumps(value)
 
 
-def row_session(name, values, has_json, tail=b"", refusal=""):
+def row_of(values, has_json):
+    """The bytes of a row of these values, and its fields as they are shown."""
+    return (b"".join(value for value, _, _ in values),
+            [(str(place), forms[has_json]) for place, (_, *forms) in enumerate(values)])
+
+
+def row_session(name, values, has_json, tail=b"", refusal="", more=()):
     """A row of these values, each with how text and JSON show it, as a row. Behind them stand bytes
-    that are refused, of one column more where they end too early."""
+    that are refused, of one column more where they end too early; then more rows of as many."""
     columns = len(values) + (refusal == "unexpected end")
-    row = b"".join(value for value, _, _ in values) + tail
-    shown = [(str(place), forms[has_json]) for place, (_, *forms) in enumerate(values)]
+    row, shown = row_of(values, has_json)
+    row += tail
+    others = [(packet, "row", fields)
+              for packet, fields in (row_of(others, has_json) for others in more)]
     count, column, eof = (list(shown_numbers(fields, has_json)) for fields in
                           ([("column_count", columns)], COLUMN_FIELDS, EOF_FIELDS))
     is_row = (row, "bytes", shown, refusal) if refusal else (row, "row", shown)
     packets = [(bytes([columns]), "column count", count), *[(COLUMN, "column", column)] * columns,
-               (EOF, "eof", eof), is_row, (EOF, "eof", eof)]
+               (EOF, "eof", eof), is_row, *others, (EOF, "eof", eof)]
     lines = ["client 0 9 query", '  query "SELECT 1"']
     if has_json:
         lines = ['{"from":"client","id":0,"length":9,"packet":"query","fields":{"query":"SELECT 1"}}']
@@ -150,6 +158,10 @@ SET_VALUES = [
       for number in range(128)],
     value_of("".join(SETS)),
 ]
+# Rows that end in a text of each length to 40 bytes, in which a quote stands or none, behind few bytes
+# and many.
+LAST_VALUES = [[value_of("y" * before), value_of(last)] for before in (0, 9, 40)
+               for length in range(41) for last in ("x" * length, ("x" * length + '"')[1:])]
 # The values of a long row. Those of 64 KiB and more are written by parts of as much: one that fills
 # two, one with a letter of two bytes between two, with escapes, and one that is no text.
 LONG_VALUES = [NULL, value_of("a"), value_of("x" * 65535), NULL, value_of("y" * 131072),
@@ -295,6 +307,8 @@ SESSIONS = [
     *[row_session("a long row, refused", LONG_VALUES, has_json, *behind)
       for has_json in (False, True)
       for behind in ((b"\5ab", "unexpected end"), (b"\xfb", "trailing bytes"))],
+    *[row_session("rows that end in a text of each length", LAST_VALUES[0], has_json,
+                  more=LAST_VALUES[1:]) for has_json in (False, True)],
     binary_session(),
     # the piece after the one numbered 255 is numbered 0, and so is the end of the other file
     file_session(300),

@@ -3,7 +3,7 @@ use Rattle.std.proofs.Common.{◌≡◌, ◌≢◌, ◌<◌, ℕ, ◌+◌, true,
 use Rattle.std.proofs.KnownBytes.{Appends-nil, Appends-trans}
 use Rattle.std.specs.Io.KnownBytes.{Appends}
 use Rattle.wire_text.specs.Fields.{Member, Octets, Puts, Written, put, puts}
-use Rattle.mysql_wire_dump_fields.specs.ValueFields.{AreTexts, AreValues, IsNoText, IsNoValueAt, PutsColumn, PutsText, PutsTexts, PutsValues, WritesText, WritesTexts, rest_if}
+use Rattle.mysql_wire_dump_fields.specs.ValueFields.{TextsSoFar, AreTexts, AreValues, IsNoText, IsNoValueAt, PutsColumn, PutsText, PutsTexts, PutsValues, WritesText, WritesTexts, rest_if}
 use Rattle.mysql_wire_session_phases.specs.declared.refusal.Refusal.{Refusal}
 use Rattle.mysql_wire_session_phases.specs.declared.refusal.Refusal.TheVariants.{TrailingBytes}
 use Rattle.mysql_wire_statements.specs.declared.binary_row.BinaryRow.{BinaryRow}
@@ -14,14 +14,6 @@ use Rattle.wire_text.proofs.FieldLemmas.{puts_append}
 use Rattle.wire_text.proofs.PartLemmas.{end_itself, nothing_written}
 use Rattle.wire_text.specs.Parts.{IsEnd}
 
--- the texts up to this place were put; with those after them they are those of the payload
-pub record Texts (place : ℕ) (payload bytes : List ℕ) (start now : Written) : Type 0 where
-  pub before : List Member
-  pub count : length before ≡ place
-  pub puts : Puts before start now
-  pub goes : (members : List Member) (rest : List ℕ) → AreTexts place bytes members rest
-      → AreTexts 0 payload (before ++ members) rest
-
 -- one more was put
 puts_one : (start old new : Written) (before : List Member) (member : Member)
     → Puts before start old → Puts (member ∷ []) old new → Puts (before ++ member ∷ []) start new
@@ -30,7 +22,7 @@ puts_one start old new before member was is = record {
       ∙ sym (puts_append start before (member ∷ []));
 }
 
-pub texts-none : (payload : List ℕ) (start : Written) → Texts 0 payload payload start start
+pub texts-none : (payload : List ℕ) (start : Written) → TextsSoFar 0 payload payload start start
 texts-none payload start = record {
   before = [];
   count = refl;
@@ -39,8 +31,8 @@ texts-none payload start = record {
 }
 
 pub texts-more : (place : ℕ) (payload bytes rest : List ℕ) (start old new : Written)
-    → Texts place payload bytes start old → PutsText place bytes rest None old new
-    → Texts (place + 1) payload rest start new
+    → TextsSoFar place payload bytes start old → PutsText place bytes rest None old new
+    → TextsSoFar (place + 1) payload rest start new
 texts-more place payload bytes rest start old new so one = record {
   before = so.before ++ one.0 ∷ [];
   count = omega (arith, length-append so.before (one.0 ∷ []), so.count);
@@ -50,7 +42,7 @@ texts-more place payload bytes rest start old new so one = record {
 }
 
 pub texts-all : (place : ℕ) (payload bytes : List ℕ) (start now : Written)
-    → (so : Texts place payload bytes start now) → AreTexts 0 payload so.before bytes
+    → (so : TextsSoFar place payload bytes start now) → AreTexts 0 payload so.before bytes
 texts-all place payload bytes start now so =
     rw append-nil at (so.goes [] bytes refl)
 
@@ -95,7 +87,7 @@ values-all nulls types place payload bytes start now so =
 
 -- a row of texts that was refused
 pub texts-refused : (columns place : ℕ) (payload bytes : List ℕ) (start old new : Written) (refusal : Refusal)
-    → Texts place payload bytes start old → place < columns → IsNoText bytes refusal × (new ≡ old)
+    → TextsSoFar place payload bytes start old → place < columns → IsNoText bytes refusal × (new ≡ old)
     → PutsTexts columns payload (Some refusal) start new
 texts-refused columns place payload bytes start old new refusal so below refused = record {
   members = so.before;
@@ -107,7 +99,7 @@ texts-refused columns place payload bytes start old new refusal so below refused
 
 -- one after which bytes stand
 pub texts-trailing : (columns : ℕ) (payload bytes : List ℕ) (start now : Written)
-    → Texts columns payload bytes start now → bytes ≢ [] → PutsTexts columns payload (Some TrailingBytes) start now
+    → TextsSoFar columns payload bytes start now → bytes ≢ [] → PutsTexts columns payload (Some TrailingBytes) start now
 texts-trailing columns payload bytes start now so some = record {
   members = so.before;
   rest = bytes;
@@ -118,7 +110,7 @@ texts-trailing columns payload bytes start now so some = record {
 
 -- and one that was read
 pub texts-ended : (columns : ℕ) (payload bytes : List ℕ) (start now : Written)
-    → Texts columns payload bytes start now → bytes ≡ [] → PutsTexts columns payload None start now
+    → TextsSoFar columns payload bytes start now → bytes ≡ [] → PutsTexts columns payload None start now
 texts-ended columns payload bytes start now so none = record {
   members = so.before;
   rest = bytes;
@@ -126,6 +118,16 @@ texts-ended columns payload bytes start now so none = record {
   ends = (so.count, none);
   puts = so.puts;
 }
+
+-- so a row ends with what is left of it
+pub texts-left : (columns : ℕ) (payload bytes : List ℕ) (start now : Written) (refusal : Option Refusal)
+    → TextsSoFar columns payload bytes start now → (bytes ≡ [] → refusal ≡ None) → (bytes ≢ [] → refusal ≡ Some TrailingBytes)
+    → PutsTexts columns payload refusal start now
+texts-left columns payload [] start now refusal so none some =
+    subst (λ (r : Option Refusal). PutsTexts columns payload r start now) (sym (none refl)) (texts-ended columns payload [] start now so refl)
+texts-left columns payload (byte ∷ bytes) start now refusal so none some =
+    let more : byte ∷ bytes ≢ [] = λ none. cc none in
+    subst (λ (r : Option Refusal). PutsTexts columns payload r start now) (sym (some more)) (texts-trailing columns payload (byte ∷ bytes) start now so more)
 
 -- the same of values in their binary form
 pub values-refused : (types : List ℕ) (place : ℕ) (row : BinaryRow) (bytes : List ℕ) (start old new : Written) (refusal : Refusal)
@@ -172,7 +174,7 @@ rest-there (byte ∷ bytes) is = refl
 pub record Writing (place : ℕ) (payload bytes : List ℕ) (start end : Written) (before now : Option (List ℕ)) : Type 0 where
   pub whole : Written
   pub written : List ℕ
-  pub texts : Texts place payload bytes start whole
+  pub texts : TextsSoFar place payload bytes start whole
   pub appended : Appends before now written
   pub ends : IsEnd written whole end
 

@@ -3,4 +3,5 @@ pub mod ConnectionFields
 pub mod AnswerFields
 pub mod CommandFields
 pub mod ValueFields
+pub mod RowEnds
 pub mod Packets

@@ -68,6 +68,14 @@ pub record PutsTexts (columns : ℕ) (payload : List ℕ) (refusal : Option Refu
   pub ends : EndsRow columns refusal members rest
   pub puts : Puts members old new
 
+-- the texts up to this place were put; with those after them they are those of the payload
+pub record TextsSoFar (place : ℕ) (payload bytes : List ℕ) (start now : Written) : Type 0 where
+  pub before : List Member
+  pub count : length before ≡ place
+  pub puts : Puts before start now
+  pub goes : (members : List Member) (rest : List ℕ) → AreTexts place bytes members rest
+      → AreTexts 0 payload (before ++ members) rest
+
 -- a text was put, or refused
 abbrev pub PutsText : ℕ → List ℕ → List ℕ → Option Refusal → Written → Written → Type 0
 PutsText place bytes rest None old new =

@@ -11,6 +11,7 @@ mod commands;
 mod connection;
 mod long_row;
 mod packet;
+mod row_end;
 mod unread;
 mod values;
 

@@ -2,11 +2,14 @@
 
 ghost use Rattle.std.specs.Float.{binary32, binary64};
 ghost use Rattle.std.specs.Fmt.{decimal};
-ghost use Rattle.std.specs.Prelude.{◌≡◌, ◌∷◌, [], ◌++◌, false, true, None, Ok, IfOk, OnOk};
+ghost use Rattle.std.specs.Prelude.{◌≡◌, ◌≢◌, ◌≤◌, ◌∷◌, [], ◌++◌, false, true, None, Some, Ok, IfOk, OnOk};
 ghost use Rattle.wire_text.specs.Fields.{Puts, Word, Written};
-ghost use Rattle.mysql_wire_dump_fields.specs.ValueFields.{IsTypeOf, row_bytes_fields, PutsColumn, PutsFloat, PutsRow, PutsShown, PutsText, PutsTexts, PutsValues};
+ghost use Rattle.mysql_wire_dump_fields.specs.RowEnds.{IsBehind, IsEndOf};
+ghost use Rattle.mysql_wire_dump_fields.specs.ValueFields.{IsTypeOf, row_bytes_fields, PutsColumn, PutsFloat, PutsRow, PutsShown, PutsText, PutsTexts, PutsValues, TextsSoFar};
+ghost use Rattle.mysql_wire_session_phases.specs.declared.refusal.Refusal.TheVariants.{TrailingBytes};
 
 use super::Show;
+use super::row_end::RowEnd;
 use crate::temporal::{DateWord, TimeWord};
 use mysql_wire_queries::text_row::TextValue;
 use mysql_wire_session_phases::refusal::{Refusal, SessionError};
@@ -21,10 +24,10 @@ use wire_const::ColumnType;
 use wire_text::fields::{Field, FieldValue, Fields};
 
 // The longest text whose length is one byte.
-const LONGEST: u8 = 250;
+const LONGEST: usize = 250;
 
-// Reads the text of a column, and puts it, where none is shown, or it is short, of plain letters, and
-// others follow: whether it has.
+// Reads the text of a column, and puts it, where none is shown, or it is short and others follow: whether
+// it has.
 #[inline(always)]
 fn put_short<A: Allocator + Copy>(
     fields: &mut Fields<A>,
@@ -39,15 +42,45 @@ fn put_short<A: Allocator + Copy>(
     let Some((len, behind)) = rest.0.split_first() else {
         return Ok(false);
     };
-    if *len > LONGEST || !fields.put_short_at(place, behind, *len as usize)? {
+    let len = *len as usize;
+    if len > LONGEST || !fields.put_short_at(place, behind, len)? {
         return Ok(false);
     }
-    rest.0 = &behind[*len as usize..];
+    rest.0 = &behind[len..];
+    Ok(true)
+}
+
+// The same of one of a row's last texts, which is looked at with the zeros behind the row's end.
+#[inline(always)]
+fn put_last<A: Allocator + Copy>(
+    fields: &mut Fields<A>,
+    place: u64,
+    rest: &mut ParseBuf<'_>,
+    end: &RowEnd,
+) -> Result<bool, SessionError>
+    requires { IsEndOf end.now rest.old.0.now }
+    ensures put { result ≡ Ok true
+        → PutsText place rest.old.0.now rest.new.0.now None fields.old fields.new }
+    ensures not { result ≡ Ok false
+        → (fields.new ≡ fields.old) × (rest.new.0.now ≡ rest.old.0.now) }
+{
+    let Some((len, left)) = rest.0.split_first() else {
+        return Ok(false);
+    };
+    let len = *len as usize;
+    if len > LONGEST || len > left.len() {
+        return Ok(false);
+    }
+    if !fields.put_short_at(place, end.widened(left), len)? {
+        return Ok(false);
+    }
+    rest.0 = &left[len..];
     Ok(true)
 }
 
 // Reads the text of a column, and puts it. The answer is why it is none.
-fn put_text<A: Allocator + Copy>(
+#[inline(always)]
+fn put_any<A: Allocator + Copy>(
     global: Global,
     fields: &mut Fields<A>,
     place: u64,
@@ -56,9 +89,6 @@ fn put_text<A: Allocator + Copy>(
     ensures { IfOk result (λ refusal. PutsText place rest.old.0.now rest.new.0.now refusal
         fields.old fields.new) }
 {
-    if put_short(fields, place, rest)? {
-        return Ok(None);
-    }
     match rest.parse::<TextValue<'_>>(global, ()) {
         Ok(TextValue::Null) => {
             fields.put_at(place, FieldValue::Null)?;
@@ -72,7 +102,80 @@ fn put_text<A: Allocator + Copy>(
     }
 }
 
-// Reads a row of this many columns, value by value, and puts each. The answer is why it is none.
+// The same: a short one at once.
+fn put_text<A: Allocator + Copy>(
+    global: Global,
+    fields: &mut Fields<A>,
+    place: u64,
+    rest: &mut ParseBuf<'_>,
+) -> Result<Option<Refusal>, SessionError>
+    ensures { IfOk result (λ refusal. PutsText place rest.old.0.now rest.new.0.now refusal
+        fields.old fields.new) }
+{
+    if put_short(fields, place, rest)? {
+        return Ok(None);
+    }
+    put_any(global, fields, place, rest)
+}
+
+// The same of one of a row's last texts.
+fn put_last_text<A: Allocator + Copy>(
+    global: Global,
+    fields: &mut Fields<A>,
+    place: u64,
+    rest: &mut ParseBuf<'_>,
+    end: &RowEnd,
+) -> Result<Option<Refusal>, SessionError>
+    requires { IsEndOf end.now rest.old.0.now }
+    ensures { IfOk result (λ refusal. PutsText place rest.old.0.now rest.new.0.now refusal
+        fields.old fields.new) }
+{
+    if put_last(fields, place, rest, end)? {
+        return Ok(None);
+    }
+    put_any(global, fields, place, rest)
+}
+
+// Why a row is none, of which all values were read and this is left.
+fn left_over(rest: &ParseBuf<'_>) -> Option<Refusal>
+    ensures none { rest.now.0.now ≡ [] → result ≡ None }
+    ensures some { rest.now.0.now ≢ [] → result ≡ Some TrailingBytes }
+{
+    if rest.0.is_empty() {
+        None
+    } else {
+        Some(Refusal::TrailingBytes)
+    }
+}
+
+// Reads the last values of a row, those from this place on, and puts each. The answer is why it is none.
+#[inline(never)]
+fn put_end<A: Allocator + Copy>(
+    global: Global,
+    fields: &mut Fields<A>,
+    places: (u64, u64),
+    left: &[u8],
+    payload: &[u8],
+) -> Result<Option<Refusal>, SessionError>
+    requires order { places.0 ≤ places.1 }
+    requires behind { IsBehind payload.now left.now }
+    ensures { (begun : Written) → TextsSoFar places.0 payload.now left.now begun fields.old
+        → IfOk result (λ refusal. PutsTexts places.1 payload.now refusal begun fields.new) }
+{
+    let mut end = RowEnd::new();
+    end.take(payload);
+    let mut rest = ParseBuf(left);
+    'values: for place in places.0..places.1 {
+        match put_last_text(global, fields, place, &mut rest, &end)? {
+            None => {}
+            Some(refusal) => return Ok(Some(refusal)),
+        }
+    }
+    Ok(left_over(&rest))
+}
+
+// Reads a row of this many columns, value by value, and puts each. The answer is why it is none. The
+// last values have a loop of their own, in which no branch asks how many bytes follow.
 fn put_texts<A: Allocator + Copy>(
     global: Global,
     fields: &mut Fields<A>,
@@ -84,16 +187,15 @@ fn put_texts<A: Allocator + Copy>(
 {
     let mut rest = ParseBuf(payload);
     'values: for place in 0..columns {
+        if rest.0.len() <= 32 && !fields.is_hidden() {
+            return put_end(global, fields, (place, columns), rest.0, payload);
+        }
         match put_text(global, fields, place, &mut rest)? {
             None => {}
             Some(refusal) => return Ok(Some(refusal)),
         }
     }
-    Ok(if rest.0.is_empty() {
-        None
-    } else {
-        Some(Refusal::TrailingBytes)
-    })
+    Ok(left_over(&rest))
 }
 
 /// Reads a row of this many columns, value by value, and puts each. The answer is why it is none.
