@@ -187,7 +187,7 @@ fn put_texts<A: Allocator + Copy>(
 {
     let mut rest = ParseBuf(payload);
     'values: for place in 0..columns {
-        if rest.0.len() <= 32 && !fields.is_hidden() {
+        if !fields.is_hidden() && rest.0.len() <= 32 {
             return put_end(global, fields, (place, columns), rest.0, payload);
         }
         match put_text(global, fields, place, &mut rest)? {
