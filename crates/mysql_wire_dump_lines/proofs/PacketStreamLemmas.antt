@@ -19,7 +19,7 @@ use Rattle.mysql_wire_dump_lines.specs.declared.packet_stream.PacketStream.{Pack
 use Rattle.mysql_wire_dump_lines.specs.declared.packet_stream.Step.{Step}
 use Rattle.mysql_wire_dump_lines.specs.declared.packet_stream.Step.TheVariants.{Waits, Goes, Whole, LosesSync}
 use Rattle.wire_text.specs.declared.stop.Stop.{Stop}
-use Rattle.mysql_wire_dump_lines.specs.PacketStreams.{BeginsWith, Collected, Collects, EndsAs, Found, HasPacket, IsIdle, IsReady, LiesWhole, Stands, StandsNext, Stepped, SteppedAs, Steps, Took, TookAs, collected, framed, most}
+use Rattle.mysql_wire_dump_lines.specs.PacketStreams.{BeginsWith, Collected, Collects, EndsAs, Found, HasPacket, IsFresh, IsIdle, IsReady, LiesWhole, Stands, StandsNext, Stepped, SteppedAs, Steps, Took, TookAs, behind_lent, collected, collecting, collects, framed, most, payload_in, unread_of}
 
 -- nothing is consumed
 pub consumes_none : (known : Option (List ℕ)) → Consumes known known []
@@ -180,7 +180,16 @@ pub record Going {A : Type 0} (id : ℕ) (old now : PacketStream A) (unread left
   pub most_is : now.decoder.max_allowed_packet ≡ most
   pub at : now.at ≡ old.at
   pub limit : now.limit ≡ old.limit
-  pub collects : Collects id begun opened (collected now)
+  pub lends_none : now.lent ≡ None
+  pub collects : Collects id begun opened (collecting now)
+
+-- a source that lends nothing has what it collected
+pub collected-none : {A : Type 0} (source : PacketStream A) → source.lent ≡ None → collected source ≡ collecting source
+collected-none source none =
+    ap (λ (lent : Option ℕ). collects source.decoder source.len source.limit (payload_in lent source.src.items source.held.items) (behind_lent lent source.src.items)) none
+
+pub unread-none : {A : Type 0} (source : PacketStream A) → source.lent ≡ None → unread_of source ≡ source.src.items
+unread-none source none = ap (λ (lent : Option ℕ). behind_lent lent source.src.items) none
 
 -- the bytes that were there, split anew where some were eaten
 pub split_on : (old came begun src eaten rest : List ℕ) → old ++ came ≡ begun ++ src → src ≡ eaten ++ rest → old ++ came ≡ (begun ++ eaten) ++ rest
@@ -214,25 +223,28 @@ goes_on id old now next unread left later going step =
       most_is = step.most_is ∙ going.most_is;
       at = step.at ∙ going.at;
       limit = step.limit ∙ going.limit;
+      lends_none = step.lent ∙ going.lends_none;
       collects = eats.3.1;
     }
 
 -- it ends so, or is lost
 pub found_by : {A : Type 0} (id : ℕ) (how : Step) (stands : Next) (old now next : PacketStream A) (unread left later : Option (List ℕ))
     → Going id old now unread left → Stepped how now next left later
-    → ((begun : List ℕ) → SteppedAs how id begun (collected next) → StandsNext stands begun (collected next)) → Found stands old next unread later
+    → ((begun : List ℕ) → SteppedAs how id begun (collecting next) → StandsNext stands begun (collecting next)) → Found stands old next unread later
 found_by id how stands old now next unread left later going step is =
     let eats = step.eats id going.begun going.opened going.most_is going.collects in
+    let none : next.lent ≡ None = step.lent ∙ going.lends_none in
     record {
       came = going.came ++ step.came;
       begun = going.begun ++ eats.0;
       consumed = Consumes-trans unread left later going.came step.came going.consumed step.consumed;
-      split = split_step old.src.items going.came going.begun now.src.items step.came eats.0 next.src.items going.split eats.1;
+      split = split_step old.src.items going.came going.begun now.src.items step.came eats.0 next.src.items going.split eats.1
+          ∙ ap (λ (z : List ℕ). (going.begun ++ eats.0) ++ z) (sym (unread-none next none));
       taken = taken_on next.taken now.taken (length (going.begun ++ eats.0)) (length going.begun) (length eats.0) eats.2 going.taken (length-append going.begun eats.0);
       most_is = step.most_is ∙ going.most_is;
       at = step.at ∙ going.at;
       limit = step.limit ∙ going.limit;
-      next_is = is (going.begun ++ eats.0) eats.3;
+      next_is = subst (λ (has : Collected). StandsNext stands (going.begun ++ eats.0) has) (sym (collected-none next none)) (is (going.begun ++ eats.0) eats.3);
     }
 
 -- the header of what comes stays in front where more comes
@@ -282,21 +294,22 @@ step_taken how old new left took other = record {
         eats.0,
         append-nil old.src.items ∙ eats.1,
         eats.2,
-        stepped_as how id (begun ++ eats.0) (collected new) other eats.3,
+        stepped_as how id (begun ++ eats.0) (collecting new) other eats.3,
       );
   most_is = took.most_is;
   at = took.at;
   limit = took.limit;
   next = took.next;
+  lent = took.lent;
   end = λ waits. absurd (other waits);
 }
 
 -- and one that reads more
 pub step_read : {A : Type 0} (old mid new : PacketStream A) (left later : Option (List ℕ)) (more : List ℕ) → Took Waits old mid
-    → new.src.items ≡ mid.src.items ++ more → Consumes left later more → collected new ≡ record (collected mid) { unread = new.src.items }
+    → new.src.items ≡ mid.src.items ++ more → Consumes left later more → collecting new ≡ record (collecting mid) { unread = new.src.items }
     → new.taken ≡ mid.taken → new.decoder.max_allowed_packet ≡ mid.decoder.max_allowed_packet → new.at ≡ mid.at → new.limit ≡ mid.limit → new.next ≡ mid.next
-    → Stepped Goes old new left later
-step_read old mid new left later more took src consumed same taken most_is at limit next = record {
+    → new.lent ≡ mid.lent → Stepped Goes old new left later
+step_read old mid new left later more took src consumed same taken most_is at limit next lent = record {
   came = more;
   consumed = consumed;
   eats = λ id begun opened most collects.
@@ -307,13 +320,14 @@ step_read old mid new left later more took src consumed same taken most_is at li
         (
           eats.3.1.0,
           subst (λ (has : Collected). Collects id (begun ++ eats.0) eats.3.1.0 has) (sym same)
-              (collects_more id (begun ++ eats.0) eats.3.1.0 (collected mid) new.src.items more src eats.3.1.1),
+              (collects_more id (begun ++ eats.0) eats.3.1.0 (collecting mid) new.src.items more src eats.3.1.1),
         ),
       );
   most_is = most_is ∙ took.most_is;
   at = at ∙ took.at;
   limit = limit ∙ took.limit;
   next = next ∙ took.next;
+  lent = lent ∙ took.lent;
   end = λ waits. absurd (goes_waits waits);
 }
 
@@ -325,8 +339,8 @@ none_of (byte ∷ more) none = absurd (omega (arith, none))
 pub step_ended : {A : Type 0} → SpansDeliver → (old mid new : PacketStream A) (left later : Option (List ℕ)) (more : List ℕ) → Took Waits old mid
     → length more ≡ 0 → new.src.items ≡ mid.src.items ++ more → Consumes left later more → IsAtEnd later
     → new.taken ≡ mid.taken → new.decoder.max_allowed_packet ≡ mid.decoder.max_allowed_packet → new.at ≡ mid.at → new.limit ≡ mid.limit → new.next ≡ mid.next
-    → Stepped Waits old new left later
-step_ended law old mid new left later more took none src consumed ended taken most_is at limit next = record {
+    → new.lent ≡ mid.lent → Stepped Waits old new left later
+step_ended law old mid new left later more took none src consumed ended taken most_is at limit next lent = record {
   came = more;
   consumed = consumed;
   eats = λ id begun opened most collects.
@@ -335,13 +349,14 @@ step_ended law old mid new left later more took none src consumed ended taken mo
         eats.0,
         ap (λ (z : List ℕ). z ++ more) eats.1 ∙ append_assoc eats.0 mid.src.items more ∙ ap (λ (z : List ℕ). eats.0 ++ z) (sym src),
         taken ∙ eats.2,
-        unfinished law id (begun ++ eats.0) eats.3.1.0 (record (collected mid) { unread = new.src.items }) empty
-            (collects_more id (begun ++ eats.0) eats.3.1.0 (collected mid) new.src.items more src eats.3.1.1),
+        unfinished law id (begun ++ eats.0) eats.3.1.0 (record (collecting mid) { unread = new.src.items }) empty
+            (collects_more id (begun ++ eats.0) eats.3.1.0 (collecting mid) new.src.items more src eats.3.1.1),
       );
   most_is = most_is ∙ took.most_is;
   at = at ∙ took.at;
   limit = limit ∙ took.limit;
   next = next ∙ took.next;
+  lent = lent ∙ took.lent;
   end = λ waits. ended;
 }
 
@@ -354,15 +369,17 @@ framed_more (first ∷ packets) packet =
 -- what stood next is passed
 pub passed : {A : Type 0} (old new : PacketStream A) (packets : List (ℕ × List ℕ)) (came : List ℕ) (id : ℕ) (payload : List ℕ)
     → (stands : Stands packets came old) → HasPacket id payload stands.begun (collected old)
-    → new.src.items ≡ old.src.items → new.at ≡ old.at + old.taken → new.taken ≡ 0 → new.len ≡ 0 → new.held.items ≡ []
+    → new.src.items ≡ unread_of old → new.lent ≡ None → new.at ≡ old.at + old.taken → new.taken ≡ 0 → new.len ≡ 0 → new.held.items ≡ []
     → span_state new.decoder ≡ span_state old.decoder → new.decoder.max_allowed_packet ≡ old.decoder.max_allowed_packet
     → new.next ≡ Unread → Stands (packets ++ (id, payload) ∷ []) came new
-passed old new packets came id payload stands has src at taken len held state most_is next =
+passed old new packets came id payload stands has src none at taken len held state most_is next =
     let framing_is : stands.begun ≡ framing id payload = has.begun_is in
+    let has_none = collected-none new none in
     record {
       begun = [];
-      is = stands.is ∙ sym (append_assoc (framed packets) stands.begun old.src.items)
-          ∙ ap₂ (λ (z w : List ℕ). z ++ w) (ap (λ (z : List ℕ). framed packets ++ z) framing_is ∙ sym (framed_more packets (id, payload))) (sym src);
+      is = stands.is ∙ sym (append_assoc (framed packets) stands.begun (unread_of old))
+          ∙ ap₂ (λ (z w : List ℕ). z ++ w) (ap (λ (z : List ℕ). framed packets ++ z) framing_is ∙ sym (framed_more packets (id, payload)))
+          (sym src ∙ sym (unread-none new none));
       at = let front = length-append (framed packets) (framing id payload) in
           let more = ap length (framed_more packets (id, payload)) in
           let begun_len = ap length framing_is in
@@ -372,16 +389,19 @@ passed old new packets came id payload stands has src at taken len held state mo
       taken = taken;
       most_is = most_is ∙ stands.most_is;
       next = subst (λ (n : Next). StandsNext n [] (collected new)) (sym next)
-          (record { begun_is = refl; len = len; held = held; between = subst IsBetween (sym state) has.between });
+          (subst (λ (has : Collected). IsFresh [] has) (sym has_none)
+          (record { begun_is = refl; len = len; held = held; between = subst IsBetween (sym state) has.between }));
+      lends = λ _. none;
     }
 
 -- what is next was found
 pub looked : {A : Type 0} (old new : PacketStream A) (next : Next) (packets : List (ℕ × List ℕ)) (came : List ℕ) (unread left : Option (List ℕ))
-    → Stands packets came old → old.next ≡ Unread → Found next old new unread left
+    → Stands packets came old → old.next ≡ Unread → next ≢ Unread → Found next old new unread left
     → (more : List ℕ) × Consumes unread left more × Stands packets (came ++ more) (record new { next = next })
-looked old new next packets came unread left stands is found =
+looked old new next packets came unread left stands is seen found =
     let fresh = subst (λ (n : Next). StandsNext n stands.begun (collected old)) is stands.next in
-    let was : came ≡ framed packets ++ old.src.items = stands.is ∙ ap (λ (z : List ℕ). framed packets ++ (z ++ old.src.items)) fresh.begun_is in (
+    let was : came ≡ framed packets ++ old.src.items = stands.is ∙ ap (λ (z : List ℕ). framed packets ++ (z ++ unread_of old)) fresh.begun_is
+        ∙ ap (λ (z : List ℕ). framed packets ++ z) (unread-none old (stands.lends is)) in (
       found.came,
       found.consumed,
       record {
@@ -392,16 +412,26 @@ looked old new next packets came unread left stands is found =
         taken = found.taken;
         most_is = found.most_is;
         next = found.next_is;
+        lends = λ unseen. absurd (seen unseen);
       },
     )
+
+-- or was found before
+pub looked_before : {A : Type 0} (source : PacketStream A) (packets : List (ℕ × List ℕ)) (came : List ℕ) (left : Option (List ℕ)) → Stands packets came source
+    → (more : List ℕ) × Consumes left left more × Stands packets (came ++ more) source
+looked_before source packets came left stands =
+    ([], consumes_none left, subst (λ (bytes : List ℕ). Stands packets bytes source) (sym (append-nil came)) stands)
 
 -- a source that stands before a packet it has not looked at
 pub idle : {A : Type 0} (source : PacketStream A) (packets : List (ℕ × List ℕ)) (came : List ℕ) → source.next ≡ Unread → Stands packets came source → IsIdle source
 idle source packets came is stands =
-    let fresh = subst (λ (n : Next). StandsNext n stands.begun (collected source)) is stands.next in
+    let none = stands.lends is in
+    let fresh = subst (λ (has : Collected). IsFresh stands.begun has) (collected-none source none)
+        (subst (λ (n : Next). StandsNext n stands.begun (collected source)) is stands.next) in
     record {
       most_is = stands.most_is;
       taken = stands.taken ∙ ap length fresh.begun_is;
+      lends_none = none;
       fresh = record { begun_is = refl; len = fresh.len; held = fresh.held; between = fresh.between };
     }
 
@@ -431,17 +461,17 @@ found_behind (Err stop) id old mid new unread left later came src consumed at li
 -- where no packet is next, nothing was taken
 pub found_none : {A : Type 0} (end : End) (old mid : PacketStream A) (unread left : Option (List ℕ)) (came : List ℕ) → mid.src.items ≡ old.src.items ++ came
     → Consumes unread left came → mid.at ≡ old.at → mid.limit ≡ old.limit → mid.taken ≡ old.taken → mid.decoder.max_allowed_packet ≡ old.decoder.max_allowed_packet
-    → EndsAs end mid.src.items → IsIdle old → Found (Ended end) old mid unread left
-found_none end old mid unread left came src consumed at limit taken most_is ends idle = record {
+    → mid.lent ≡ old.lent → EndsAs end mid.src.items → IsIdle old → Found (Ended end) old mid unread left
+found_none end old mid unread left came src consumed at limit taken most_is lent ends idle = record {
   came = came;
   begun = [];
   consumed = consumed;
-  split = sym src;
+  split = sym src ∙ sym (unread-none mid (lent ∙ idle.lends_none));
   taken = taken ∙ idle.taken;
   most_is = most_is ∙ idle.most_is;
   at = at;
   limit = limit;
-  next_is = ends;
+  next_is = subst (λ (z : List ℕ). EndsAs end z) (sym (unread-none mid (lent ∙ idle.lends_none))) ends;
 }
 
 -- one more than an id with no full chunks
@@ -449,26 +479,34 @@ with_none : (id blocks : ℕ) → blocks ≡ 0 → id + 1 ≡ id + blocks + 1
 with_none id blocks none = omega (arith, none)
 
 -- a packet of one chunk, which stands whole in front, is found there
-pub found_whole : {A : Type 0} (front : Header) (old new : PacketStream A) (payload : List ℕ) (known : Option (List ℕ)) → LiesWhole front old.src.items
-    → payload ≡ take front.len (drop 4 old.src.items) → new.src.items ≡ drop (4 + front.len) old.src.items → new.taken ≡ 4 + front.len
+pub found_whole : {A : Type 0} (front : Header) (old new : PacketStream A) (known : Option (List ℕ)) → LiesWhole front old.src.items
+    → new.src.items ≡ old.src.items → new.lent ≡ Some (4 + front.len) → new.taken ≡ 4 + front.len
     → span_state new.decoder ≡ record (span_state old.decoder) { id = (front.seq_id + 1) % 256 }
-    → new.len ≡ old.len + length payload → (new.len ≤ new.limit → new.held.items ≡ old.held.items ++ payload)
-    → new.at ≡ old.at → new.limit ≡ old.limit → IsIdle old → Found (Packet front.seq_id) old new known known
+    → new.len ≡ front.len → new.at ≡ old.at → new.limit ≡ old.limit → IsIdle old → Found (Packet front.seq_id) old new known known
 unfolding chunk
-found_whole front old new payload known lies payload_is src taken state len held at limit ready =
+found_whole front old new known lies src lent taken state len at limit ready =
     let bytes : List ℕ = old.src.items in
     let begun : List ℕ = take (4 + front.len) bytes in
+    let payload : List ℕ = take front.len (drop 4 bytes) in
     let rest : length (drop 4 bytes) ≡ length bytes - 4 = length-drop 4 bytes in
-    let long : length payload ≡ front.len = ap length payload_is ∙ length-take-le front.len (drop 4 bytes) (omega (arith, rest, lies.there)) in
+    let long : length payload ≡ front.len = length-take-le front.len (drop 4 bytes) (omega (arith, rest, lies.there)) in
     let short : length payload < max_payload = omega (arith, long, lies.short) in
+    let parts : begun ≡ take 4 bytes ++ payload = take-add 4 front.len bytes in
     let begun_is : begun ≡ framing front.seq_id payload =
-    take-add 4 front.len bytes ∙ ap₂ (λ (z w : List ℕ). z ++ w) (lies.spelled ∙ ap (λ (n : ℕ). header n front.seq_id) (sym long)) (sym payload_is)
+    parts ∙ ap (λ (z : List ℕ). z ++ payload) (lies.spelled ∙ ap (λ (n : ℕ). header n front.seq_id) (sym long))
     ∙ sym (framing_short front.seq_id payload short) in
+    let front_is : length (take 4 bytes) ≡ 4 = length-take-le 4 bytes (omega (arith, lies.there)) in
+    let payload_is : drop 4 begun ≡ payload =
+    ap₂ (λ (n : ℕ) (z : List ℕ). drop n z) (sym front_is) parts ∙ drop-append_seam (take 4 bytes) payload in
+    let unread_is : unread_of new ≡ drop (4 + front.len) bytes =
+    ap₂ (λ (l : Option ℕ) (z : List ℕ). behind_lent l z) lent src in
+    let held_is : payload_in new.lent new.src.items new.held.items ≡ payload =
+    ap₂ (λ (l : Option ℕ) (z : List ℕ). payload_in l z new.held.items) lent src ∙ payload_is in
     record {
       came = [];
       begun = begun;
       consumed = consumes_none known;
-      split = append-nil bytes ∙ sym (take-append-drop (4 + front.len) bytes) ∙ ap (λ (z : List ℕ). begun ++ z) (sym src);
+      split = append-nil bytes ∙ sym (take-append-drop (4 + front.len) bytes) ∙ ap (λ (z : List ℕ). begun ++ z) (sym unread_is);
       taken = taken ∙ sym (length-take-le (4 + front.len) bytes lies.there);
       most_is = ap (λ (s : SpanState). s.limit) state ∙ ready.most_is;
       at = at;
@@ -477,8 +515,8 @@ found_whole front old new payload known lies payload_is src taken state len held
         payload,
         record {
           begun_is = begun_is;
-          len = len ∙ ap (λ (n : ℕ). n + length payload) ready.fresh.len ∙ omega arith;
-          held = λ within. held within ∙ ap (λ (z : List ℕ). z ++ payload) ready.fresh.held;
+          len = len ∙ sym long;
+          held = λ within. held_is;
           between = subst IsBetween (sym state) ready.fresh.between;
           behind = ap (λ (s : SpanState). s.id) state ∙ ap (λ (n : ℕ). n % 256) (with_none front.seq_id (length payload / max_payload) (no_blocks (length payload) short));
         },

@@ -1,6 +1,6 @@
 -- The packets of one direction.
 use Rattle.std.specs.Io.KnownBytes.{Consumes, IsAtEnd}
-use Rattle.std.specs.Prelude.{◌≡◌, ℕ, ◌+◌, ◌<◌, ◌≤◌, ◌⊎◌, List, [], ◌∷◌, ◌++◌, length, take, ⊤, Option, Some, None}
+use Rattle.std.specs.Prelude.{◌≡◌, ℕ, ◌+◌, ◌<◌, ◌≤◌, ◌⊎◌, List, [], ◌∷◌, ◌++◌, length, take, drop, ⊤, Option, Some, None}
 use Rattle.wire_codec.specs.Framing.{framing, header, max_payload, next_id}
 use Rattle.wire_codec.specs.declared.codec.header.Header.{Header}
 use Rattle.wire_codec.specs.Delivery.{Delivers, Splits, Waiting}
@@ -52,8 +52,30 @@ abbrev pub collects : SpanDecoder → ℕ → ℕ → List ℕ → List ℕ → 
 collects decoder len limit held unread =
     record { state = span_state decoder; len = len; limit = limit; held = held; unread = unread }
 
+-- the next packet's bytes: where it is lent, they lie in front of what was read, in a chunk of this
+-- many bytes, and else they were put together
+abbrev pub payload_in : Option ℕ → List ℕ → List ℕ → List ℕ
+payload_in None src held = held
+payload_in (Some chunk) src held = drop 4 (take chunk src)
+
+-- the bytes after it, of those that were read
+abbrev pub behind_lent : Option ℕ → List ℕ → List ℕ
+behind_lent None src = src
+behind_lent (Some chunk) src = drop chunk src
+
+abbrev pub payload_of : {A : Type 0} → PacketStream A → List ℕ
+payload_of source = payload_in source.lent source.src.items source.held.items
+
+abbrev pub unread_of : {A : Type 0} → PacketStream A → List ℕ
+unread_of source = behind_lent source.lent source.src.items
+
 abbrev pub collected : {A : Type 0} → PacketStream A → Collected
 collected source =
+    collects source.decoder source.len source.limit (payload_of source) (unread_of source)
+
+-- the same of a source that lends nothing
+abbrev pub collecting : {A : Type 0} → PacketStream A → Collected
+collecting source =
     collects source.decoder source.len source.limit source.held.items source.src.items
 
 -- a packet of this id comes: `begun` of its framing, and `opened` of its payload
@@ -89,11 +111,12 @@ StandsNext (Ended end) begun has = EndsAs end (begun ++ has.unread)
 pub record Stands {A : Type 0} (packets : List (ℕ × List ℕ)) (input : List ℕ)
     (source : PacketStream A) : Type 0 where
   pub begun : List ℕ
-  pub is : input ≡ framed packets ++ (begun ++ source.src.items)
+  pub is : input ≡ framed packets ++ (begun ++ unread_of source)
   pub at : source.at ≡ length (framed packets)
   pub taken : source.taken ≡ length begun
   pub most_is : source.decoder.max_allowed_packet ≡ most
   pub next : StandsNext source.next begun (collected source)
+  pub lends : source.next ≡ Unread → source.lent ≡ None
 
 -- more of the input is read, and the packets before the next stay the same
 abbrev pub LooksOn : {A : Type 0} → Option (List ℕ) → Option (List ℕ) → PacketStream A → PacketStream A
@@ -145,13 +168,14 @@ id_of (Ended end) = None
 -- what was read was taken on by a step
 pub record Took {A : Type 0} (step : Step) (old new : PacketStream A) : Type 0 where
   pub eats : (id : ℕ) (begun opened : List ℕ) → old.decoder.max_allowed_packet ≡ most
-      → Collects id begun opened (collected old)
+      → Collects id begun opened (collecting old)
       → (eaten : List ℕ) × (old.src.items ≡ eaten ++ new.src.items)
-      × (new.taken ≡ old.taken + length eaten) × TookAs step id (begun ++ eaten) (collected new)
+      × (new.taken ≡ old.taken + length eaten) × TookAs step id (begun ++ eaten) (collecting new)
   pub most_is : new.decoder.max_allowed_packet ≡ old.decoder.max_allowed_packet
   pub at : new.at ≡ old.at
   pub limit : new.limit ≡ old.limit
   pub next : new.next ≡ old.next
+  pub lent : new.lent ≡ old.lent
 
 -- how a packet goes on, where no more is to be read for it
 abbrev pub SteppedAs : Step → ℕ → List ℕ → Collected → Type 0
@@ -166,20 +190,22 @@ pub record Stepped {A : Type 0} (step : Step) (old new : PacketStream A) (unread
   pub came : List ℕ
   pub consumed : Consumes unread left came
   pub eats : (id : ℕ) (begun opened : List ℕ) → old.decoder.max_allowed_packet ≡ most
-      → Collects id begun opened (collected old)
+      → Collects id begun opened (collecting old)
       → (eaten : List ℕ) × (old.src.items ++ came ≡ eaten ++ new.src.items)
-      × (new.taken ≡ old.taken + length eaten) × SteppedAs step id (begun ++ eaten) (collected new)
+      × (new.taken ≡ old.taken + length eaten) × SteppedAs step id (begun ++ eaten) (collecting new)
   pub most_is : new.decoder.max_allowed_packet ≡ old.decoder.max_allowed_packet
   pub at : new.at ≡ old.at
   pub limit : new.limit ≡ old.limit
   pub next : new.next ≡ old.next
+  pub lent : new.lent ≡ old.lent
   pub end : step ≡ Waits → IsAtEnd left
 
 -- nothing was taken of the next packet
 pub record IsIdle {A : Type 0} (source : PacketStream A) : Type 0 where
   pub most_is : source.decoder.max_allowed_packet ≡ most
   pub taken : source.taken ≡ 0
-  pub fresh : IsFresh [] (collected source)
+  pub lends_none : source.lent ≡ None
+  pub fresh : IsFresh [] (collecting source)
 
 -- and its header, which bears this id, is there
 abbrev pub IsReady : {A : Type 0} → ℕ → PacketStream A → Type 0
@@ -197,7 +223,7 @@ pub record Found {A : Type 0} (next : Next) (old new : PacketStream A) (unread l
   pub came : List ℕ
   pub begun : List ℕ
   pub consumed : Consumes unread left came
-  pub split : old.src.items ++ came ≡ begun ++ new.src.items
+  pub split : old.src.items ++ came ≡ begun ++ unread_of new
   pub taken : new.taken ≡ length begun
   pub most_is : new.decoder.max_allowed_packet ≡ most
   pub at : new.at ≡ old.at

@@ -1,11 +1,11 @@
 //! The packets of one direction.
 
-ghost use Rattle.std.specs.Prelude.{◌≡◌, ◌≢◌, ◌+◌, ◌<◌, ◌≤◌, ℕ, List, [], ◌++◌, length, Option, Some, None, IfOk, IfSome, OnOk, MatchOption};
+ghost use Rattle.std.specs.Prelude.{◌≡◌, ◌≢◌, ◌+◌, ◌<◌, ◌≤◌, ℕ, List, [], ◌++◌, drop, length, take, Option, Some, None, IfOk, IfSome, OnOk, MatchOption};
 ghost use Rattle.std.specs.Io.KnownBytes.{Consumes, IsAtEnd};
 ghost use Rattle.wire_span.specs.Spans.{span_state};
 ghost use Rattle.mysql_wire_dump_lines.specs.declared.packet_stream.Next.TheVariants.{Unread, Packet, Ended};
 ghost use Rattle.mysql_wire_dump_lines.specs.declared.packet_stream.End.TheVariants.{Encrypted};
-ghost use Rattle.mysql_wire_dump_lines.specs.PacketStreams.{AtEnd, Found, IsIdle, IsReady, LiesWhole, LooksOn, PassesPacket, Stands, Stepped, Steps, Took, collects, id_of};
+ghost use Rattle.mysql_wire_dump_lines.specs.PacketStreams.{AtEnd, Found, IsIdle, IsReady, LiesWhole, LooksOn, PassesPacket, Stands, Stepped, Steps, Took, collects, id_of, payload_of, unread_of};
 
 use crate::status::Stop;
 use bytes::BytesMut;
@@ -63,7 +63,9 @@ pub struct PacketStream<A: Allocator + Copy> {
     decoder: SpanDecoder,
     limit: usize,
     next: Next,
-    // The bytes of the next packet, where it is within the limit, and how many it has.
+    // The bytes of the next packet's chunk, with its header, where it lies whole in front of what was
+    // read; else the packet's bytes that came, where it is within the limit. And how many it has.
+    lent: Option<usize>,
     held: Vec<u8, A>,
     len: usize,
     // How many bytes the packets before it have, with their headers, and how many it has.
@@ -160,6 +162,15 @@ fn take_span<A: Allocator + Copy>(
     }
 }
 
+// The payload of the chunk in front, which has this many bytes.
+#[inline(always)]
+fn front_payload(src: &[u8], chunk: usize) -> &[u8]
+    ensures { result.now ≡ drop 4 (take chunk src.now) }
+{
+    let (front, _) = src.split_at(chunk.min(src.len()));
+    front.split_at(HEADER_LEN.min(front.len())).1
+}
+
 impl<A: Allocator + Copy> PacketStream<A> {
     /// A direction of which nothing was read.
     pub fn new(alloc: A, limit: usize) -> Self
@@ -174,6 +185,7 @@ impl<A: Allocator + Copy> PacketStream<A> {
             decoder,
             limit,
             next: Next::Unread,
+            lent: None,
             held: Vec::new(alloc),
             len: 0,
             at: 0,
@@ -215,12 +227,14 @@ impl<A: Allocator + Copy> PacketStream<A> {
     /// The next packet's payload, where it is within the limit.
     pub fn payload(&self) -> Option<&[u8]>
         ensures { MatchOption result (self.now.limit < self.now.len)
-            (λ payload. (self.now.len ≤ self.now.limit) × (payload.now ≡ self.now.held.items)) }
+            (λ payload. (self.now.len ≤ self.now.limit) × (payload.now ≡ payload_of self.now)) }
     {
         if self.len > self.limit {
-            None
-        } else {
-            Some(self.held.as_slice())
+            return None;
+        }
+        match self.lent {
+            Some(chunk) => Some(front_payload(self.src.as_slice(), chunk)),
+            None => Some(self.held.as_slice()),
         }
     }
 
@@ -292,21 +306,19 @@ impl<A: Allocator + Copy> PacketStream<A> {
         Err(Stop::Io)
     }
 
-    // Takes a packet that lies whole in what was read, in one chunk.
+    // Lends a packet that lies whole in what was read, in one chunk.
     #[inline(always)]
-    fn take_whole(&mut self, header: Header) -> Result<(), Stop>
+    fn lend_whole(&mut self, header: Header)
         requires { LiesWhole header self.old.src.items }
-        ensures found { OnOk result ((known : Option (List ℕ)) → IsIdle self.old
-            → Found (Packet header.seq_id) self.old self.new known known) }
+        ensures found { (known : Option (List ℕ)) → IsIdle self.old
+            → Found (Packet header.seq_id) self.old self.new known known }
         ensures kept { (self.new.next ≡ self.old.next) × (self.new.limit ≡ self.old.limit) }
     {
         let count = HEADER_LEN + header.len;
-        let payload = &self.src.as_slice()[HEADER_LEN..count];
-        collect(&mut self.held, &mut self.len, self.limit, payload)?;
+        self.lent = Some(count);
+        self.len = header.len;
         self.decoder.set_sequence_id(header.seq_id.wrapping_add(1));
-        self.src.advance(count);
         self.taken = count as u64;
-        Ok(())
     }
 
     // Looks for the next packet.
@@ -327,7 +339,7 @@ impl<A: Allocator + Copy> PacketStream<A> {
             }));
         };
         if header.len < MAX_PAYLOAD_LEN && header.len <= self.src.len() - HEADER_LEN {
-            self.take_whole(header)?;
+            self.lend_whole(header);
             return Ok(Next::Packet(header.seq_id));
         }
         self.take_packet(header.seq_id, input)
@@ -351,6 +363,19 @@ impl<A: Allocator + Copy> PacketStream<A> {
         Ok(())
     }
 
+    // Drops the chunk that is lent, where one is.
+    #[inline(always)]
+    fn drop_lent(&mut self)
+        ensures unread { self.new.src.items ≡ unread_of self.old }
+        ensures none { self.new.lent ≡ None }
+        ensures rest { self.new ≡ record self.old { src = self.new.src; lent = None } }
+    {
+        if let Some(chunk) = self.lent {
+            self.src.advance(chunk.min(self.src.len()));
+            self.lent = None;
+        }
+    }
+
     /// Goes on after the next packet.
     pub fn advance(&mut self) -> Result<(), Stop>
         ensures passes { OnOk result (PassesPacket self.old self.new) }
@@ -360,6 +385,7 @@ impl<A: Allocator + Copy> PacketStream<A> {
         let Some(at) = self.at.checked_add(self.taken) else {
             return Err(Stop::Io);
         };
+        self.drop_lent();
         self.at = at;
         self.taken = 0;
         self.len = 0;

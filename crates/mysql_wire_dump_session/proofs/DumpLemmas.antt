@@ -29,7 +29,7 @@ use Rattle.mysql_wire_session.specs.Readings.{passed}
 use Rattle.mysql_wire_session_packets.specs.declared.packet.Packet.{Packet as AnyPacket}
 use Rattle.mysql_wire_session_packets.specs.declared.packet.Packet.TheVariants as packet
 use Rattle.mysql_wire_dump_lines.specs.Lines.{bytes_part, line_end, packet_front, packet_line}
-use Rattle.mysql_wire_dump_lines.specs.PacketStreams.{AtEnd, HasPacket, Stands, StandsNext, collected, id_of}
+use Rattle.mysql_wire_dump_lines.specs.PacketStreams.{AtEnd, HasPacket, Stands, StandsNext, collected, id_of, payload_of, unread_of}
 use Rattle.mysql_wire_dump_lines.proofs.PacketStreamLemmas.{consumes_none}
 use Rattle.mysql_wire_dump_lines.specs.NextSenders.{next_sender}
 
@@ -154,8 +154,8 @@ one_told options seen payload held fields known next limit limit_is len_is held_
 pub client_shown : {A : Type 0} (old new : Dump A) (middle : SessionState) (id : ℕ) (kind : PacketKind) (bytes fields part : List ℕ) → old.client.next ≡ Packet id
     → (old.client.limit < old.client.len → PassesOver (field_form old.lines.options) Client id old.client.len (state_of old.lines.session) middle fields kind)
     → (old.client.len ≤ old.client.limit
-    → NamesOne (field_form old.lines.options) Client id old.client.held.items (state_of old.lines.session) middle fields kind)
-    → (old.client.len ≤ old.client.limit → bytes ≡ old.client.held.items)
+    → NamesOne (field_form old.lines.options) Client id (payload_of old.client) (state_of old.lines.session) middle fields kind)
+    → (old.client.len ≤ old.client.limit → bytes ≡ payload_of old.client)
     → part ++ string_bytes new.lines.text ≡ string_bytes old.lines.text ++ packet_line old.lines.options.form (record { side = Client; id = id; len = old.client.len; kind = kind }) bytes fields
     → state_of new.lines.session ≡ middle → new.lines.options ≡ old.lines.options → new.server ≡ old.server
     → new.client.limit ≡ old.client.limit
@@ -169,7 +169,7 @@ client_shown {A = A} old new middle id kind bytes fields part is large named sam
     let has = pass.1 in
     let seen : Seen = record { side = Client; id = id; len = old.client.len; kind = kind } in
     let limit_is : old.client.limit ≡ old.lines.options.limit = dumping.client_limit in
-    let it = one_told old.lines.options seen payload old.client.held.items fields (state_of old.lines.session) middle old.client.limit limit_is has.len has.held large named in
+    let it = one_told old.lines.options seen payload (payload_of old.client) fields (state_of old.lines.session) middle old.client.limit limit_is has.len has.held large named in
     let one : Shown = shown_as seen payload fields (state_of old.lines.session) it.0 in
     let here : Pends old.client.next (Some id) = subst (λ (n : Next). Pends n (Some id)) (sym is) refl in
     let turn_is : next_sender old.lines.session.phase (id_behind 0 shown) (Some id) (id_of old.server.next) ≡ Some Client =
@@ -202,8 +202,8 @@ client_shown {A = A} old new middle id kind bytes fields part is large named sam
 pub server_shown : {A : Type 0} (old new : Dump A) (middle : SessionState) (id : ℕ) (kind : PacketKind) (bytes fields part : List ℕ) → old.server.next ≡ Packet id
     → (old.server.limit < old.server.len → PassesOver (field_form old.lines.options) Server id old.server.len (state_of old.lines.session) middle fields kind)
     → (old.server.len ≤ old.server.limit
-    → NamesOne (field_form old.lines.options) Server id old.server.held.items (state_of old.lines.session) middle fields kind)
-    → (old.server.len ≤ old.server.limit → bytes ≡ old.server.held.items)
+    → NamesOne (field_form old.lines.options) Server id (payload_of old.server) (state_of old.lines.session) middle fields kind)
+    → (old.server.len ≤ old.server.limit → bytes ≡ payload_of old.server)
     → part ++ string_bytes new.lines.text ≡ string_bytes old.lines.text ++ packet_line old.lines.options.form (record { side = Server; id = id; len = old.server.len; kind = kind }) bytes fields
     → state_of new.lines.session ≡ middle → new.lines.options ≡ old.lines.options → new.client ≡ old.client
     → new.server.limit ≡ old.server.limit
@@ -217,7 +217,7 @@ server_shown {A = A} old new middle id kind bytes fields part is large named sam
     let has = pass.1 in
     let seen : Seen = record { side = Server; id = id; len = old.server.len; kind = kind } in
     let limit_is : old.server.limit ≡ old.lines.options.limit = dumping.server_limit in
-    let it = one_told old.lines.options seen payload old.server.held.items fields (state_of old.lines.session) middle old.server.limit limit_is has.len has.held large named in
+    let it = one_told old.lines.options seen payload (payload_of old.server) fields (state_of old.lines.session) middle old.server.limit limit_is has.len has.held large named in
     let one : Shown = shown_as seen payload fields (state_of old.lines.session) it.0 in
     let here : Pends old.server.next (Some id) = subst (λ (n : Next). Pends n (Some id)) (sym is) refl in
     let turn_is : next_sender old.lines.session.phase (id_behind 0 shown) (id_of old.client.next) (Some id) ≡ Some Server =
@@ -539,7 +539,7 @@ goes_on more first middle last client client_between client_left server server_b
 side_ends : {A : Type 0} (source : PacketStream A) (packets : List (ℕ × List ℕ)) (bytes : List ℕ) (end : End) → Stands packets bytes source → source.next ≡ Ended end
     → SideEnds bytes packets end
 side_ends source packets bytes end stands is = record {
-  rest = stands.begun ++ source.src.items;
+  rest = stands.begun ++ unread_of source;
   is = stands.is;
   ends = subst (λ (n : Next). StandsNext n stands.begun (collected source)) is stands.next;
 }

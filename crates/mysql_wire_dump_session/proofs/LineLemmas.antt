@@ -13,6 +13,7 @@ use Rattle.mysql_wire_dump_lines.specs.declared.lines.Seen.{Seen}
 use Rattle.mysql_wire_dump_lines.specs.Lines.{line_end, packet_head, packet_line}
 use Rattle.mysql_wire_dump_lines.specs.declared.packet_stream.Next.TheVariants as next
 use Rattle.mysql_wire_dump_lines.specs.declared.packet_stream.PacketStream.{PacketStream}
+use Rattle.mysql_wire_dump_lines.specs.PacketStreams.{payload_of}
 use Rattle.mysql_wire_dump_session.proofs.ReadLemmas.{passed_over}
 use Rattle.mysql_wire_session.specs.Readings.{kind_of, passed}
 use Rattle.mysql_wire_session.specs.State.{SessionState, state_of}
@@ -184,7 +185,7 @@ read_unwritten (Err _) side id len payload old new before read = tt
 -- ---- the next packet of a stream
 
 pub next_read : {A T E : Type 0} (result : Result T E) (side : Side) (source : PacketStream A) (old new : SessionLines A) (id len : ℕ) (payload : List ℕ) (before now : Option (List ℕ))
-    → source.next ≡ next.Packet id → len ≡ source.len → source.len ≤ source.limit → payload ≡ source.held.items
+    → source.next ≡ next.Packet id → len ≡ source.len → source.len ≤ source.limit → payload ≡ payload_of source
     → OnOk result (WritesRead side id len payload old new before now) → OnOk result (ShowsNext side source old new before now)
 next_read (Ok _) side source old new id len payload before now is_next len_is within payload_is read = record {
   id = id;

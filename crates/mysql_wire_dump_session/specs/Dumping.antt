@@ -27,7 +27,7 @@ use Rattle.wire_text.specs.Fields.{Written, nothing_after}
 use Rattle.wire_text.specs.Parts.{IsEnd}
 use Rattle.mysql_wire_session_packets.specs.declared.packet.Packet.{Packet}
 use Rattle.mysql_wire_session_packets.specs.declared.packet.Packet.TheVariants as packet
-use Rattle.mysql_wire_dump_lines.specs.PacketStreams.{AtEnd, Stands, id_of}
+use Rattle.mysql_wire_dump_lines.specs.PacketStreams.{AtEnd, Stands, id_of, payload_of}
 use Rattle.mysql_wire_dump_lines.specs.NextSenders.{next_sender}
 
 -- what may stand next of a side: where it was not looked at, anything
@@ -192,8 +192,8 @@ pub record ShowsNext {A : Type 0} (side : Side) (source : PacketStream A)
   pub large : source.limit < source.len → PassesOver (field_form old.options) side id source.len
       (state_of old.session) (state_of new.session) fields kind
   pub named : source.len ≤ source.limit → NamesOne (field_form old.options) side id
-      source.held.items (state_of old.session) (state_of new.session) fields kind
-  pub held : source.len ≤ source.limit → bytes ≡ source.held.items
+      (payload_of source) (state_of old.session) (state_of new.session) fields kind
+  pub held : source.len ≤ source.limit → bytes ≡ payload_of source
   pub written : List ℕ
   pub appended : Appends before now written
   pub line : written ++ string_bytes new.text ≡ string_bytes old.text

@@ -14,8 +14,8 @@ begins_at (a ∷ b ∷ []) long = absurd (omega (arith, long))
 begins_at (a ∷ b ∷ c ∷ []) long = absurd (omega (arith, long))
 begins_at (a ∷ b ∷ c ∷ id ∷ more) long = (a, b, c, more, refl)
 
-pub take_whole-requires : goal.take_whole-requires
-take_whole-requires g c =
+pub lend_whole-requires : goal.lend_whole-requires
+lend_whole-requires g c =
     let said = rw c.as_slice.ensures at c.in-Some.ensures in
     record {
       short = search (rules, max_payload_is);
@@ -27,10 +27,11 @@ pub returns-then-header-len-clause-found : goal.returns-then-header-len-clause-f
 returns-then-header-len-clause-found g c idle =
     let came = c.in_ok-read_header.ensures.came in
     let left = g.R.Read.remaining c.read_header.new.input in
-    found_after (Packet c.in-Some.header.seq_id) c.args.self.now _ c.take_whole.new.self (g.R.Read.remaining c.args.input.now) left left
-    came.0 came.1 came.2 refl refl (c.in_ok-take_whole.ensures.found left (record {
+    found_after (Packet c.in-Some.header.seq_id) c.args.self.now _ c.lend_whole.new.self (g.R.Read.remaining c.args.input.now) left left
+    came.0 came.1 came.2 refl refl (c.lend_whole.ensures.found left (record {
       most_is = idle.most_is;
       taken = idle.taken;
+      lends_none = idle.lends_none;
       fresh = record { begun_is = idle.fresh.begun_is; len = idle.fresh.len; held = idle.fresh.held; between = idle.fresh.between };
     }))
 
@@ -44,6 +45,7 @@ returns-clause-found g c =
       record {
         most_is = idle.most_is;
         taken = idle.taken;
+        lends_none = idle.lends_none;
         fresh = record { begun_is = idle.fresh.begun_is; len = idle.fresh.len; held = idle.fresh.held; between = idle.fresh.between };
       },
       begins,
@@ -54,5 +56,5 @@ returns-else-is_empty-clause-found g c idle =
     let came = c.in_ok-read_header.ensures.came in
     let said = rw c.as_slice.ensures at c.in_default.ensures in
     let short : length c.read_header.new.src.items < 4 = search (rules, said.there) in
-    found_none Unfinished c.args.self.now _ (g.R.Read.remaining c.args.input.now) (g.R.Read.remaining c.read_header.new.input) came.0 came.1 came.2 refl refl refl refl
+    found_none Unfinished c.args.self.now _ (g.R.Read.remaining c.args.input.now) (g.R.Read.remaining c.read_header.new.input) came.0 came.1 came.2 refl refl refl refl refl
     (inl short) idle

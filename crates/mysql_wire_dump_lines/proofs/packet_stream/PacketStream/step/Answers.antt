@@ -16,7 +16,7 @@ returns-then-branch-eq0 g c =
     let took = subst (λ (s : Step). Took s c.args.self.now c.take_read.new.self) waits c.in_ok-step.ensures in
     let came = c.in_ok-read_more.ensures.came in
     step_ended c.spans_deliver.ensures c.args.self.now c.take_read.new.self _ (g.R.Read.remaining c.args.input.now) (g.R.Read.remaining c.read_more.new.input) came.0 took
-    (came.1 ∙ c.if-branch-eq0.true) came.2 came.3 (c.in_ok-read_more.ensures.end c.if-branch-eq0.true) refl refl refl refl refl
+    (came.1 ∙ c.if-branch-eq0.true) came.2 came.3 (c.in_ok-read_more.ensures.end c.if-branch-eq0.true) refl refl refl refl refl refl
 
 pub returns-else-branch-eq0 : goal.returns-else-branch-eq0
 returns-else-branch-eq0 g c =
@@ -24,4 +24,4 @@ returns-else-branch-eq0 g c =
     let took = subst (λ (s : Step). Took s c.args.self.now c.take_read.new.self) waits c.in_ok-step.ensures in
     let came = c.in_ok-read_more.ensures.came in
     step_read c.args.self.now c.take_read.new.self _ (g.R.Read.remaining c.args.input.now) (g.R.Read.remaining c.read_more.new.input) came.0 took
-    came.2 came.3 refl refl refl refl refl refl
+    came.2 came.3 refl refl refl refl refl refl refl
