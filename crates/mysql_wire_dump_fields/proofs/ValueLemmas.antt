@@ -30,6 +30,11 @@ texts-none payload start = record {
   goes = λ members rest are. are;
 }
 
+-- a member that is put changes nothing of how fields are shown
+pub one_put-form : (member : Member) (old new : Written) → Puts (member ∷ []) old new → new.form ≡ old.form
+unfolding put
+one_put-form member old new put = ap (λ (written : Written). written.form) put.are
+
 pub texts-more : (place : ℕ) (payload bytes rest : List ℕ) (start old new : Written)
     → TextsSoFar place payload bytes start old → PutsText place bytes rest None old new
     → TextsSoFar (place + 1) payload rest start new

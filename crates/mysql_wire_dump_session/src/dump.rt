@@ -251,6 +251,7 @@ fn show_fields<A: Allocator + Copy>(
 
 // Makes the line of a packet that is refused, of which a text has all but the end as of one that is
 // none: it begins at one place, and its fields at another.
+#[cold]
 fn push_again<A: Allocator + Copy>(
     text: &mut String<A>,
     begun: usize,
@@ -277,6 +278,7 @@ impl<A: Allocator + Copy> SessionLines<A> {
     ghost use Rattle.mysql_wire_session_phases.specs.declared.packet_kind.PacketKind.TheVariants.{Row, TooLarge};
 
     // Appends the line of a packet that is passed over.
+    #[cold]
     fn push_passed(&mut self, side: Side, id: u8, len: usize) -> Result<(), AllocError>
         ensures goes { state_of self.new.session ≡ passed side id len (state_of self.old.session) }
         ensures line { OnOk result (string_bytes self.new.text ≡ string_bytes self.old.text
@@ -339,6 +341,7 @@ impl<A: Allocator + Copy> SessionLines<A> {
     }
 
     // Whether a packet that came is a row of texts whose fields are shown, and no value is refused.
+    #[cold]
     fn is_shown_row(&self, side: Side, id: u8, payload: &[u8]) -> Result<bool, Stop>
         ensures { IfOk result (λ is. is ≡ true
             → kind_of side id payload.now (state_of self.now.session) ≡ Row) }
@@ -385,6 +388,7 @@ impl<A: Allocator + Copy> SessionLines<A> {
     }
 
     // Writes the line of such a row but an end, and goes on after it.
+    #[cold]
     fn write_row<W: Write>(
         &mut self,
         side: Side,

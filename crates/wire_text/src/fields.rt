@@ -9,9 +9,9 @@ ghost use Rattle.wire_text.specs.Parts.{WritesMember};
 
 use crate::escapes::ascii_in_front;
 use crate::long::write_text_at;
-pub use crate::members::FieldValue;
+pub use crate::members::{FieldValue, MemberForm};
 use crate::members::{
-    MemberForm, push_closing, push_escaped_at, push_member, push_member_at, push_short_at,
+    push_closing, push_escaped_at, push_member, push_member_at, push_short_at,
     push_word_at,
 };
 use crate::plain::plain_in_front;
@@ -122,6 +122,14 @@ impl<A: Allocator + Copy> Fields<A> {
         &self.text.as_str()[self.begin..]
     }
 
+    /// How fields are shown, where they are.
+    #[inline(always)]
+    pub fn shown_form(&self) -> Option<MemberForm>
+        ensures { result ≡ member_form self.now.form }
+    {
+        self.form.members()
+    }
+
     /// Whether no field is shown.
     #[inline(always)]
     pub fn is_hidden(&self) -> bool
@@ -224,7 +232,29 @@ impl<A: Allocator + Copy> Fields<A> {
             × ((length bytes.now < 48) ⊎ (prefix_len in_ascii (take 32 bytes.now) < len)))) }
         ensures hidden { self.old.form ≡ Hidden → len ≤ length bytes.now → result ≡ Ok true }
     {
-        let Some(form) = self.form.members() else {
+        self.put_short_in(self.shown_form(), place, bytes, len)
+    }
+
+    /// `put_short_at`, where it is known how fields are shown: a caller that puts many texts has code
+    /// for each form, which doesn't ask again.
+    #[inline(always)]
+    pub fn put_short_in(
+        &mut self,
+        form: Option<MemberForm>,
+        place: u64,
+        bytes: &[u8],
+        len: usize,
+    ) -> Result<bool, AllocError>
+        requires { form ≡ member_form self.old.form }
+        ensures within { result ≡ Ok true → len ≤ length bytes.now }
+        ensures put { result ≡ Ok true
+            → Puts ((decimal place, Words (take len bytes.now)) ∷ []) self.old self.new }
+        ensures not { result ≡ Ok false → (self.new ≡ self.old)
+            × ((length bytes.now < 32) ⊎ ((prefix_len plain (take 32 bytes.now) < len)
+            × ((length bytes.now < 48) ⊎ (prefix_len in_ascii (take 32 bytes.now) < len)))) }
+        ensures hidden { self.old.form ≡ Hidden → len ≤ length bytes.now → result ≡ Ok true }
+    {
+        let Some(form) = form else {
             return Ok(len <= bytes.len());
         };
         let Some((block, _)) = bytes.split_first_chunk::<32>() else {

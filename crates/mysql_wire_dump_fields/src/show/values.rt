@@ -3,7 +3,7 @@
 ghost use Rattle.std.specs.Float.{binary32, binary64};
 ghost use Rattle.std.specs.Fmt.{decimal};
 ghost use Rattle.std.specs.Prelude.{◌≡◌, ◌≢◌, ◌≤◌, ◌∷◌, [], ◌++◌, false, true, None, Some, Ok, IfOk, OnOk};
-ghost use Rattle.wire_text.specs.Fields.{Puts, Word, Written};
+ghost use Rattle.wire_text.specs.Fields.{Puts, Word, Written, member_form};
 ghost use Rattle.mysql_wire_dump_fields.specs.RowEnds.{IsBehind, IsEndOf};
 ghost use Rattle.mysql_wire_dump_fields.specs.ValueFields.{IsTypeOf, row_bytes_fields, PutsColumn, PutsFloat, PutsRow, PutsShown, PutsText, PutsTexts, PutsValues, TextsSoFar};
 ghost use Rattle.mysql_wire_session_phases.specs.declared.refusal.Refusal.TheVariants.{TrailingBytes};
@@ -21,7 +21,7 @@ use std::num::{f32_from_bits_with_nan, f64_from_bits_with_nan};
 use wire_buf::error::WireError;
 use wire_buf::io::ParseBuf;
 use wire_const::ColumnType;
-use wire_text::fields::{Field, FieldValue, Fields};
+use wire_text::fields::{Field, FieldValue, Fields, MemberForm};
 
 // The longest text whose length is one byte.
 const LONGEST: usize = 250;
@@ -31,9 +31,11 @@ const LONGEST: usize = 250;
 #[inline(always)]
 fn put_short<A: Allocator + Copy>(
     fields: &mut Fields<A>,
+    form: Option<MemberForm>,
     place: u64,
     rest: &mut ParseBuf<'_>,
 ) -> Result<bool, SessionError>
+    requires { form ≡ member_form fields.old.form }
     ensures put { result ≡ Ok true
         → PutsText place rest.old.0.now rest.new.0.now None fields.old fields.new }
     ensures not { result ≡ Ok false
@@ -43,7 +45,7 @@ fn put_short<A: Allocator + Copy>(
         return Ok(false);
     };
     let len = *len as usize;
-    if len > LONGEST || !fields.put_short_at(place, behind, len)? {
+    if len > LONGEST || !fields.put_short_in(form, place, behind, len)? {
         return Ok(false);
     }
     rest.0 = &behind[len..];
@@ -103,16 +105,19 @@ fn put_any<A: Allocator + Copy>(
 }
 
 // The same: a short one at once.
+#[inline(always)]
 fn put_text<A: Allocator + Copy>(
     global: Global,
     fields: &mut Fields<A>,
+    form: Option<MemberForm>,
     place: u64,
     rest: &mut ParseBuf<'_>,
 ) -> Result<Option<Refusal>, SessionError>
+    requires { form ≡ member_form fields.old.form }
     ensures { IfOk result (λ refusal. PutsText place rest.old.0.now rest.new.0.now refusal
         fields.old fields.new) }
 {
-    if put_short(fields, place, rest)? {
+    if put_short(fields, form, place, rest)? {
         return Ok(None);
     }
     put_any(global, fields, place, rest)
@@ -174,8 +179,35 @@ fn put_end<A: Allocator + Copy>(
     Ok(left_over(&rest))
 }
 
-// Reads a row of this many columns, value by value, and puts each. The answer is why it is none. The
-// last values have a loop of their own, in which no branch asks how many bytes follow.
+// Reads a row of this many columns, value by value, and puts each, where it is known how fields are
+// shown. The answer is why it is none. The last values have a loop of their own, in which no branch
+// asks how many bytes follow.
+#[inline(always)]
+fn put_texts_in<A: Allocator + Copy>(
+    global: Global,
+    fields: &mut Fields<A>,
+    form: Option<MemberForm>,
+    columns: u64,
+    payload: &[u8],
+) -> Result<Option<Refusal>, SessionError>
+    requires { form ≡ member_form fields.old.form }
+    ensures { IfOk result (λ refusal. PutsTexts columns payload.now refusal
+        fields.old fields.new) }
+{
+    let mut rest = ParseBuf(payload);
+    'values: for place in 0..columns {
+        if form.is_some() && rest.0.len() <= 32 {
+            return put_end(global, fields, (place, columns), rest.0, payload);
+        }
+        match put_text(global, fields, form, place, &mut rest)? {
+            None => {}
+            Some(refusal) => return Ok(Some(refusal)),
+        }
+    }
+    Ok(left_over(&rest))
+}
+
+// The same. Each form has code of its own, in which no text asks for it.
 fn put_texts<A: Allocator + Copy>(
     global: Global,
     fields: &mut Fields<A>,
@@ -185,17 +217,15 @@ fn put_texts<A: Allocator + Copy>(
     ensures { IfOk result (λ refusal. PutsTexts columns payload.now refusal
         fields.old fields.new) }
 {
-    let mut rest = ParseBuf(payload);
-    'values: for place in 0..columns {
-        if !fields.is_hidden() && rest.0.len() <= 32 {
-            return put_end(global, fields, (place, columns), rest.0, payload);
+    match fields.shown_form() {
+        None => put_texts_in(global, fields, None, columns, payload),
+        Some(MemberForm::Text) => {
+            put_texts_in(global, fields, Some(MemberForm::Text), columns, payload)
         }
-        match put_text(global, fields, place, &mut rest)? {
-            None => {}
-            Some(refusal) => return Ok(Some(refusal)),
+        Some(MemberForm::Json) => {
+            put_texts_in(global, fields, Some(MemberForm::Json), columns, payload)
         }
     }
-    Ok(left_over(&rest))
 }
 
 /// Reads a row of this many columns, value by value, and puts each. The answer is why it is none.

@@ -6,7 +6,7 @@ use Rattle.mysql_wire_dump_fields.proofs.show.values.put_short.Goals as goal
 
 pub returns-clause-put : goal.returns-clause-put
 returns-clause-put g c is =
-    let put = c.in_ok-put_short_at.ensures in
+    let put = c.in_ok-put_short_in.ensures in
     let came = ap Ok c.if-not-branch.false in (
       (decimal c.args.place, Words (take c.in-Some.len.now c.in-Some.behind.now)),
       (

@@ -1,8 +1,9 @@
-use Rattle.std.proofs.Common.{ℕ, arith, subst}
+use Rattle.std.proofs.Common.{◌∙◌, ℕ, ap, arith, subst, sym}
+use Rattle.wire_text.specs.Fields.{member_form}
 use Rattle.mysql_wire_dump_fields.specs.ValueFields.{TextsSoFar}
 use Rattle.mysql_wire_dump_fields.proofs.RowEndLemmas.{further}
-use Rattle.mysql_wire_dump_fields.proofs.ValueLemmas.{texts-left, texts-more, texts-refused}
-use Rattle.mysql_wire_dump_fields.proofs.show.values.put_texts.Goals as goal
+use Rattle.mysql_wire_dump_fields.proofs.ValueLemmas.{one_put-form, texts-left, texts-more, texts-refused}
+use Rattle.mysql_wire_dump_fields.proofs.show.values.put_texts_in.Goals as goal
 
 pub returns-in-Some : goal.returns-in-Some
 returns-in-Some g c =
@@ -15,6 +16,7 @@ values-preserved g c =
       texts-more c.values.place c.args.payload.now c.values.rest.0.now c.put_text.new.rest.0.now c.args.fields.now c.values.fields c.put_text.new.fields
           c.values.invariant.0 put,
       further c.args.payload.now c.values.rest.0.now c.put_text.new.rest.0.now put.1.0.eaten put.1.0.behind_is c.values.invariant.1,
+      c.values.invariant.2 ∙ ap member_form (sym (one_put-form put.0 c.values.fields c.put_text.new.fields put.1.1)),
     )
 
 pub returns : goal.returns

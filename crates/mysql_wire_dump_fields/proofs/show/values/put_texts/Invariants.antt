@@ -1,6 +1,0 @@
-use Rattle.mysql_wire_dump_fields.specs.RowEnds.{IsBehind}
-use Rattle.mysql_wire_dump_fields.specs.ValueFields.{TextsSoFar}
-use Rattle.mysql_wire_dump_fields.proofs.show.values.put_texts.Given as goal
-
-abbrev pub invariant-values : goal.invariant-values
-invariant-values g l = TextsSoFar l.place l.payload l.rest.0.now l.fn.fields l.fields × IsBehind l.payload l.rest.0.now
