@@ -401,7 +401,7 @@ pub looked : {A : Type 0} (old new : PacketStream A) (next : Next) (packets : Li
 looked old new next packets came unread left stands is seen found =
     let fresh = subst (λ (n : Next). StandsNext n stands.begun (collected old)) is stands.next in
     let was : came ≡ framed packets ++ old.src.items = stands.is ∙ ap (λ (z : List ℕ). framed packets ++ (z ++ unread_of old)) fresh.begun_is
-        ∙ ap (λ (z : List ℕ). framed packets ++ z) (unread-none old (stands.lends is)) in (
+    ∙ ap (λ (z : List ℕ). framed packets ++ z) (unread-none old (stands.lends is)) in (
       found.came,
       found.consumed,
       record {
@@ -427,7 +427,7 @@ pub idle : {A : Type 0} (source : PacketStream A) (packets : List (ℕ × List �
 idle source packets came is stands =
     let none = stands.lends is in
     let fresh = subst (λ (has : Collected). IsFresh stands.begun has) (collected-none source none)
-        (subst (λ (n : Next). StandsNext n stands.begun (collected source)) is stands.next) in
+    (subst (λ (n : Next). StandsNext n stands.begun (collected source)) is stands.next) in
     record {
       most_is = stands.most_is;
       taken = stands.taken ∙ ap length fresh.begun_is;

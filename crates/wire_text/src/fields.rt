@@ -11,8 +11,7 @@ use crate::escapes::ascii_in_front;
 use crate::long::write_text_at;
 pub use crate::members::{FieldValue, MemberForm};
 use crate::members::{
-    push_closing, push_escaped_at, push_member, push_member_at, push_short_at,
-    push_word_at,
+    push_closing, push_escaped_at, push_member, push_member_at, push_short_at, push_word_at,
 };
 use crate::plain::plain_in_front;
 use crate::put::PutWord;

@@ -11,5 +11,5 @@ returns-clause-passes g c packets came id is stands =
       next.0,
       next.1,
       passed c.args.self.now _ packets came id next.0 stands next.1 c.drop_lent.ensures.unread c.drop_lent.ensures.none (search rules) refl refl c.clear.ensures.items
-      (ap (λ s. span_state s.decoder) c.drop_lent.ensures.rest) (ap (λ s. s.decoder.max_allowed_packet) c.drop_lent.ensures.rest) refl,
+          (ap (λ s. span_state s.decoder) c.drop_lent.ensures.rest) (ap (λ s. s.decoder.max_allowed_packet) c.drop_lent.ensures.rest) refl,
     )
