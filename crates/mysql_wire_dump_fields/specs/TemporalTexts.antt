@@ -1,6 +1,6 @@
 -- Dates and times as they are shown.
 use Rattle.std.specs.Fmt.{decimal, format_spec, padded_integral}
-use Rattle.std.specs.Prelude.{ℕ, ◌+◌, ◌*◌, ◌-◌, ◌^◌, ◌==◌, false, List, [], ◌∷◌, ◌++◌, codes, if◌then◌else◌}
+use Rattle.std.specs.Prelude.{ℕ, ◌+◌, ◌*◌, ◌-◌, ◌^◌, ◌==◌, false, List, [], ◌++◌, codes, if◌then◌else◌}
 use Rattle.mysql_wire_temporal.specs.declared.temporal.Clock.{Clock}
 use Rattle.mysql_wire_temporal.specs.declared.temporal.Day.{Day}
 use Rattle.mysql_wire_temporal.specs.declared.temporal.Span.{Span}

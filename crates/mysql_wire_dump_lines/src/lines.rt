@@ -164,19 +164,23 @@ fn push_sender<A: Allocator>(text: &mut String<A>, side: Side, id: u8) -> Result
     }
 }
 
-// A row's length, and what it is: of three digits, as of most, in one append.
+// A row's length, and what it is: of two or three digits, as of most, in one append.
 #[inline(always)]
 fn push_row<A: Allocator>(text: &mut String<A>, len: u64) -> Result<(), AllocError>
     ensures { OnOk result (string_bytes text.new
         ≡ string_bytes text.old ++ (decimal len ++ codes " row")) }
 {
-    if len < 100 || len >= 1000 {
+    if len < 10 || len >= 1000 {
         push_number(text, len)?;
         return text.push_str(" row");
     }
+    let ones = b'0' + (len % 10) as u8;
+    if len < 100 {
+        let tens = b'0' + (len / 10) as u8;
+        return push_letters(text, &[tens, ones, b' ', b'r', b'o', b'w']);
+    }
     let hundreds = b'0' + (len / 100) as u8;
     let tens = b'0' + (len / 10 % 10) as u8;
-    let ones = b'0' + (len % 10) as u8;
     push_letters(text, &[hundreds, tens, ones, b' ', b'r', b'o', b'w'])
 }
 
