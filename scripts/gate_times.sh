@@ -3,8 +3,9 @@
 # processor seconds of the proof, of the tests' proof and of the edits. They are read once a second
 # off the checks that run, so that each may miss a second. After the table stand the sums, and the
 # longest chain of jobs that wait for one another: by the clock, from the first check of a job to the
-# end of its last one, and in processor seconds. The gate's own output goes to the file that is named
-# (gate.log at the top, if none is).
+# end of its last one, and in processor seconds; and all seconds at one speed of the host, which is
+# measured every ten seconds by a loop of awk, with the minutes that docs/GATE.md counts. The gate's
+# own output goes to the file that is named (gate.log at the top, if none is).
 set -u
 top=$(cd "$(dirname "$0")/.." && pwd)
 source "$top/scripts/start.sh"
@@ -13,8 +14,14 @@ log=${1:-gate.log}
 samples=$(mktemp)
 trap 'rm -f "$samples"' EXIT
 
-# A line for each check that runs: what it checks, its process, its seconds so far, and the second
-# of the run.
+# The seconds of a processor that a loop takes.
+loop_seconds() {
+    local TIMEFORMAT=%U
+    { time awk 'BEGIN { for (i = 0; i < 3000000; i++) sum += i }'; } 2>&1
+}
+
+# A line for each check that runs: what it checks, its process, its seconds so far, the second of the
+# run, and the seconds of the loop.
 sample() {
     ps -eo pid=,cputimes=,args= | grep '[/]rattle [a-z]* --crate-name ' | while read -r pid seconds args; do
         # (the C library's archive is built after the gate's own checks)
@@ -26,14 +33,19 @@ sample() {
             *) continue ;;
         esac
         [ "$kind" = proof ] && case $args in *' --test'*) kind=tests ;; esac
-        echo "${crate%% *} $kind $pid $seconds $((SECONDS - begun))"
+        echo "${crate%% *} $kind $pid $seconds $((SECONDS - begun)) $loop"
     done
 }
 
 begun=$SECONDS
 .ci/run > "$log" 2>&1 &
 gate=$!
+measured=-10
 while kill -0 "$gate" 2> /dev/null; do
+    if [ $((SECONDS - measured)) -ge 10 ]; then
+        measured=$SECONDS
+        loop=$(loop_seconds)
+    fi
     sample >> "$samples"
     sleep 1
 done
@@ -103,5 +115,12 @@ longest_chain() {
 }
 longest_chain clock
 longest_chain processor
+# Each second counts as many as the loop took then less than at the end.
+awk '{ key = $1 " " $2 " " $3; at_one_speed[$1] += ($4 - seconds[key]) / $6; seconds[key] = $4; loop = $6 }
+    END {
+        for (crate in at_one_speed) all += at_one_speed[crate] * loop
+        yardstick = (at_one_speed["wire_const"] + at_one_speed["wire_span"] + at_one_speed["refusing_allocator"]) * loop
+        printf "at one speed: %d s, of them the yardstick %d s: %.1f minutes\n", all, yardstick, all * 174 / yardstick / 60
+    }' "$samples"
 echo "$((SECONDS - begun)) s; $(tail -n 1 "$log")"
 exit $status
