@@ -51,7 +51,7 @@ fn is_plain_block(block: &[u8]) -> bool
     others_of(block) == 0
 }
 
-// The same of 32 bytes.
+// Which of 32 bytes are not plain, a bit for each.
 #[inline(always)]
 fn others_of_both(block: &[u8]) -> u64
     requires { length block.now ≡ 32 }
