@@ -1,6 +1,6 @@
 //! The fields of a packet, as text or as members of a JSON object.
 
-ghost use Rattle.std.specs.Prelude.{◌≡◌, ◌↔◌, ◌<◌, ◌≤◌, ◌⊎◌, IsTrue, ◌∷◌, ◌++◌, [], length, take, false, true, Ok, OnOk, string_bytes};
+ghost use Rattle.std.specs.Prelude.{◌≡◌, ◌<◌, ◌≤◌, ◌⊎◌, ◌∷◌, ◌++◌, [], length, take, false, true, Ok, OnOk, string_bytes};
 ghost use Rattle.std.specs.List.{prefix_len};
 ghost use Rattle.std.specs.Fmt.{decimal};
 ghost use Rattle.wire_text.specs.FieldTables.{members_in, members_of};
@@ -127,14 +127,6 @@ impl<A: Allocator + Copy> Fields<A> {
         ensures { result ≡ member_form self.now.form }
     {
         self.form.members()
-    }
-
-    /// Whether no field is shown.
-    #[inline(always)]
-    pub fn is_hidden(&self) -> bool
-        ensures { IsTrue result ↔ (self.now.form ≡ Hidden) }
-    {
-        matches!(self.form, FieldForm::Hidden)
     }
 
     /// Begins the fields of another packet, after no text.
