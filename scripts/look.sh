@@ -31,6 +31,7 @@ printf 'unframe\n8192\n100\n' > "$work/cases/unframe.args"
 try() {
     local crate=$1
     shift
+    : > "$work/$crate"
     (cd "$top/crates/$crate" && exec rt try --steps 1000 "$@") < /dev/null > "$work/$crate" \
         2> "$work/log.$crate" & tried[$crate]=$!
 }
