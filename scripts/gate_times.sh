@@ -115,12 +115,14 @@ longest_chain() {
 }
 longest_chain clock
 longest_chain processor
-# Each second counts as many as the loop took then less than at the end.
+# A second counts by how much faster the loop was then than at the end.
 awk '{ key = $1 " " $2 " " $3; at_one_speed[$1] += ($4 - seconds[key]) / $6; seconds[key] = $4; loop = $6 }
     END {
         for (crate in at_one_speed) all += at_one_speed[crate] * loop
         yardstick = (at_one_speed["wire_const"] + at_one_speed["wire_span"] + at_one_speed["refusing_allocator"]) * loop
-        printf "at one speed: %d s, of them the yardstick %d s: %.1f minutes\n", all, yardstick, all * 174 / yardstick / 60
+        printf "at one speed: %d s, of them the yardstick %d s", all, yardstick
+        if (yardstick > 0) printf ": %.1f minutes", all * 174 / yardstick / 60
+        printf "\n"
     }' "$samples"
 echo "$((SECONDS - begun)) s; $(tail -n 1 "$log")"
 exit $status
