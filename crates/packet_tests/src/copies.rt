@@ -142,7 +142,7 @@ fn goes_long(alloc: Global, (parts, zeros, id): (&[(&[u8], usize)], usize, u8)) 
         zeros: zeros.wrapping_add(4 * usize::from(id)),
         ..copied
     };
-    goes(alloc, Way::Copied, &copied, 3, 16384) & goes(alloc, Way::PassedOn, &passed_on, 6, 16384)
+    goes(alloc, Way::Copied, &copied, 3, 131072) & goes(alloc, Way::PassedOn, &passed_on, 6, 16384)
 }
 
 // No request is larger than the buffer of one read and its growth, or what is pending of it.

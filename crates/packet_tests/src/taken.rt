@@ -148,16 +148,20 @@ impl<'a, A: Allocator + Copy> Taker<'a, Parts<'a>, Narrow, A> {
         }
     }
 
-    // Whether what was handed out or written is as the row says, each read was of 8192 bytes, and
-    // no copy was flushed. And how often the writer was.
-    fn ends(self, row: &Row) -> (bool, usize) {
+    // Whether what was handed out or written is as the row says, each read was of 8192 bytes, or, of a
+    // copy, of more in a large chunk, and no copy was flushed. And how often the writer was.
+    fn ends(self, row: &Row, way: Way) -> (bool, usize) {
         let Taker {
             reader,
             out,
             writer,
             ..
         } = self;
-        let is_even = reader.into_inner().odd_reads == 0;
+        let input = reader.into_inner();
+        let is_even = match way {
+            Way::Copied => input.odd_copies == 0,
+            _ => input.odd_reads == 0,
+        };
         let sent = writer.into_inner();
         (is_even & row.is_sent(&out, &sent), sent.flushes)
     }
@@ -376,7 +380,7 @@ where
     A: Allocator + Copy,
 {
     let mut taker = Taker::new(heap, alloc, kept, row);
-    taker.says_all(way, row) & taker.ends(row).0
+    taker.says_all(way, row) & taker.ends(row, way).0
 }
 
 /// Whether a row goes as it says by a way, where no request for memory is refused, and where each
@@ -417,7 +421,7 @@ pub type Steps = (Row<'static>, &'static [Step], usize);
 fn plays_in<A: Allocator + Copy>(heap: &Heap, alloc: A, kept: Global, steps: &Steps) -> bool {
     let (row, steps, flushes) = steps;
     let mut taker = Taker::new(heap, alloc, kept, row);
-    taker.goes_on(*steps) & (taker.ends(row) == (true, *flushes))
+    taker.goes_on(*steps) & (taker.ends(row, Way::HandedOut) == (true, *flushes))
 }
 
 /// Whether the steps go as they say.

@@ -28,7 +28,8 @@ impl Read for OneByOne<'_> {
 
 /// Gives parts, each in reads of its own: these bytes, and this many zeros after them, which take no
 /// memory. Gives this many bytes a read at most, and fails once, at the read of this number. Counts the
-/// reads that are asked for another number of bytes than 8192.
+/// reads that are asked for another number of bytes than 8192, and those of a copy that are asked for
+/// another: for as many of a part's zeros as are left, where these are more, up to 65536.
 #[derive(Drop)]
 pub struct Parts<'a> {
     parts: &'a [(&'a [u8], usize)],
@@ -38,6 +39,7 @@ pub struct Parts<'a> {
     pub until_fault: usize,
     kind: ErrorKind,
     pub odd_reads: usize,
+    pub odd_copies: usize,
 }
 
 impl<'a> Parts<'a> {
@@ -56,6 +58,7 @@ impl<'a> Parts<'a> {
             until_fault,
             kind,
             odd_reads: 0,
+            odd_copies: 0,
         }
     }
 
@@ -86,6 +89,8 @@ impl Read for Parts<'_> {
     fn read(&mut self, buf: &mut [u8]) -> io::Result<usize> {
         let is_odd = usize::from(buf.len() != 8192);
         self.odd_reads = self.odd_reads.saturating_add(is_odd);
+        let is_odd = usize::from(buf.len() != self.zeros.min(65536).max(8192));
+        self.odd_copies = self.odd_copies.saturating_add(is_odd);
         self.until_fault = self.until_fault.wrapping_sub(1);
         if self.until_fault == usize::MAX {
             return Err(io::Error::from(self.kind));

@@ -1,7 +1,8 @@
 -- A packet whose bytes are written as they come.
-use Rattle.std.proofs.Common.{◌≡◌, ℕ, ◌+◌, ◌-◌, ◌%◌, ◌^◌, ◌<◌, ◌≤◌, ◌⊎◌, List, [], ◌∷◌, ◌++◌, length, take, drop, min, slice_index, refl, sym, ap, ap₂, ◌∙◌, subst, arith, append_assoc, append-nil, length-append, length-drop, take-take, take-append-drop, inr, Option, Some, None, IfSome, IsNone, MatchOption, IfErr, Result, Ok, Err, Bool, false, IsTrue, IsFalse}
-use Rattle.std.proofs.lemmas.List.{length-take-le}
-use Rattle.std.proofs.lemmas.List.Elements.{All-push, All-nil, All-head}
+use Rattle.std.proofs.Common.{◌≡◌, ℕ, ◌+◌, ◌-◌, ◌%◌, ◌^◌, ◌<◌, ◌≤◌, ◌⊎◌, List, [], ◌∷◌, ◌++◌, length, get_or, take, drop, min, slice_index, refl, sym, ap, ap₂, ◌∙◌, subst, arith, append_assoc, append-nil, length-append, length-drop, take-take, take-append-drop, inl, inr, take_at, Option, Some, None, IfSome, IsNone, MatchOption, IfErr, Result, Ok, Err, Bool, false, IsTrue, IsFalse}
+use Rattle.std.proofs.lemmas.List.{get_or_append_left, get_or-append_right, length-take-le, take-append-le}
+use Rattle.std.proofs.lemmas.List.Elements.{All-head}
+use Rattle.std.proofs.lemmas.Bool.{cases_lt}
 use Rattle.std.proofs.KnownBytes.{Consumes-nil, Consumes-trans, Consumes-kept, Appends-nil, Appends-trans, Appends-kept}
 use Rattle.std.specs.Io.KnownBytes.{Consumes, Appends, Keeps, IsAtEnd}
 use Rattle.wire_codec.specs.Framing.{header, framing}
@@ -15,15 +16,15 @@ use Rattle.wire_codec.proofs.CodecLemmas.{stands_without}
 use Rattle.wire_codec.proofs.RunLemmas.{nothing_whole}
 use Rattle.wire_span.specs.declared.span.SpanDecoder.{SpanDecoder}
 use Rattle.wire_span.specs.Renumbering.{sent}
-use Rattle.wire_span.specs.Passing.{most_bytes, most_here}
+use Rattle.wire_span.specs.Passing.{left_in, most_bytes, most_here}
 use Rattle.wire_span.proofs.SpanLemmas.{nothing_came, spans_begin_is}
 use Rattle.wire_span.proofs.MixLemmas.{spans_end_is}
 use Rattle.wire_span.proofs.PassingLemmas.{merged_spans}
 use Rattle.wire_packet_io.specs.declared.error.PacketIoError.{PacketIoError}
 use Rattle.wire_packet_io.specs.declared.error.PacketIoError.TheVariants.{Io, UnexpectedEnd, OutOfMemory}
-use Rattle.wire_packet_io.specs.PacketIo.{joined_reads, read_size, EndsEmpty, ReadFails}
-use Rattle.wire_packet_io.specs.Copying.{has_ended, Copies, CopiedPacket, CopiesNext, CopyStops, EndsRead, IsSpanRefusal, StepsCopy, StopsHere, WaitsBehind, WaitsHere}
-use Rattle.wire_packet_io.proofs.PacketIoLemmas.{length-zero, reads_more, each_more, counted_more, last_empty, length-push}
+use Rattle.wire_packet_io.specs.PacketIo.{joined_reads, EndsEmpty, ReadFails}
+use Rattle.wire_packet_io.specs.Copying.{copy_read_size, has_ended, Copies, CopiedPacket, CopiesNext, CopyStops, EndsRead, IsSpanRefusal, StepsCopy, StopsHere, ReadsBehind, WaitsHere}
+use Rattle.wire_packet_io.proofs.PacketIoLemmas.{length-zero, reads_more, counted_more, last_empty, length-push}
 
 -- nothing came, in a span of no bytes
 pub copied_none : (a : SpanState) (P : List ℕ) → EatsSpans a P (([], false) ∷ []) P a
@@ -156,8 +157,8 @@ abbrev pub so_far : Result Bool PacketIoError
 so_far = Err OutOfMemory
 
 -- the reads of a call so far, and what came
-pub reads_start : (before : SpanState) (old : List ℕ) (unread : Option (List ℕ)) (reads : ℕ)
-    → CopiesNext before old unread unread reads reads so_far [] before old
+pub reads_start : {asked : ℕ → ℕ} (before : SpanState) (old : List ℕ) (unread : Option (List ℕ)) (reads : ℕ)
+    → CopiesNext asked before old unread unread reads reads so_far [] before old
 reads_start before old unread reads = record {
   reads = [];
   consumed = Consumes-nil unread;
@@ -165,23 +166,40 @@ reads_start before old unread reads = record {
   ended = tt;
   waits = λ j less. absurd (omega arith);
   counted = (λ none. refl, λ some. absurd (omega arith));
-  small = All-nil (λ (read : List ℕ). length read ≤ read_size);
 }
 
+-- what holds of each read and the reads before it, and of one more
+pub each_read : (P : List (List ℕ) → List ℕ → Type 0) (reads : List (List ℕ)) (piece : List ℕ)
+    → ((j : ℕ) → j < length reads → P (take j reads) (get_or reads j [])) → P reads piece
+    → (j : ℕ) → j < length (reads ++ piece ∷ []) → P (take j (reads ++ piece ∷ [])) (get_or (reads ++ piece ∷ []) j [])
+each_read P reads piece old new j less =
+    let e = length-append reads (piece ∷ []) in
+    elim (cases_lt j (length reads)) [
+      | inl inside ↦
+          let same : get_or (reads ++ piece ∷ []) j [] ≡ get_or reads j [] = get_or_append_left reads (piece ∷ []) [] j inside in
+          rw (same, take-append-le j reads (piece ∷ []) (omega arith)) (old j inside)
+      | inr last ↦
+          let is : length reads ≡ j = omega arith in
+          let first : j - length reads ≡ 0 = omega arith in
+          let same : get_or (reads ++ piece ∷ []) j [] ≡ piece =
+          get_or-append_right reads (piece ∷ []) (length reads) j [] refl (omega arith) ∙ ap (λ (k : ℕ). get_or (piece ∷ []) k []) first in
+          rw (same, take_at reads (piece ∷ []) j is) new
+    ]
+
 -- and more of what is unread
-pub reads_go : (result : Result Bool PacketIoError) (before mid after : SpanState) (old src new : List ℕ) (unread left last : Option (List ℕ)) (old_reads new_reads all : ℕ) (b c : List ℕ)
-    → (s : CopiesNext before old unread left old_reads new_reads so_far b mid src) → mid.limit ≡ before.limit → last ≡ left → all ≡ new_reads
-    → EatsSpans mid src ((c, has_ended result) ∷ []) new after → EndsRead result s.reads → CopiesNext before old unread last old_reads all result (b ++ c) after new
+pub reads_go : {asked : ℕ → ℕ} (result : Result Bool PacketIoError) (before mid after : SpanState) (old src new : List ℕ) (unread left last : Option (List ℕ)) (old_reads new_reads all : ℕ) (b c : List ℕ)
+    → (s : CopiesNext asked before old unread left old_reads new_reads so_far b mid src) → mid.limit ≡ before.limit → last ≡ left → all ≡ new_reads
+    → EatsSpans mid src ((c, has_ended result) ∷ []) new after → EndsRead result s.reads → CopiesNext asked before old unread last old_reads all result (b ++ c) after new
 reads_go result before mid after old src new unread left last old_reads new_reads all b c s limit same count eats ended =
     let more = copied_more before mid after (old ++ joined_reads s.reads) src new b c (has_ended result) limit s.eats eats in
-    rw (same, count) (record { reads = s.reads; consumed = s.consumed; eats = more; ended = ended; waits = s.waits; counted = s.counted; small = s.small })
+    rw (same, count) (record { reads = s.reads; consumed = s.consumed; eats = more; ended = ended; waits = s.waits; counted = s.counted })
 
 -- and one read more
-abbrev pub reads_read : (before after : SpanState) (old src new : List ℕ) (unread left last : Option (List ℕ)) (old_reads new_reads all : ℕ) (b : List ℕ) (n : ℕ)
-    → CopiesNext before old unread left old_reads new_reads so_far b after src → WaitsHere after src
-    → (came : List ℕ) × (length came ≡ n) × (new ≡ src ++ came) × Consumes left last came → n ≤ read_size → all ≡ min (new_reads + 1) (2 ^ 64 - 1)
-    → CopiesNext before old unread last old_reads all so_far b after new
-reads_read before after old src new unread left last old_reads new_reads all b n s waiting (piece, size, is, took) most count =
+abbrev pub reads_read : {asked : ℕ → ℕ} (before after : SpanState) (old src new : List ℕ) (unread left last : Option (List ℕ)) (old_reads new_reads all : ℕ) (b : List ℕ) (n : ℕ)
+    → CopiesNext asked before old unread left old_reads new_reads so_far b after src → WaitsHere after src
+    → (came : List ℕ) × (length came ≡ n) × (new ≡ src ++ came) × Consumes left last came → n ≤ asked (left_in after.place) → all ≡ min (new_reads + 1) (2 ^ 64 - 1)
+    → CopiesNext asked before old unread last old_reads all so_far b after new
+reads_read {asked = asked} before after old src new unread left last old_reads new_reads all b n s waiting (piece, size, is, took) most count =
     let joined = reads_more s.reads piece in
     let all_in : (old ++ joined_reads s.reads) ++ piece ≡ old ++ joined_reads (s.reads ++ piece ∷ []) =
     append_assoc old (joined_reads s.reads) piece ∙ ap (λ (z : List ℕ). old ++ z) (sym joined) in
@@ -192,18 +210,18 @@ reads_read before after old src new unread left last old_reads new_reads all b n
           (subst (λ (z : List ℕ). EatsSpans before ((old ++ joined_reads s.reads) ++ piece) ((b, false) ∷ []) z after) (sym is)
           (copied_ahead before after (old ++ joined_reads s.reads) src piece b false s.eats));
       ended = tt;
-      waits = each_more (λ (z : List (List ℕ)). WaitsBehind before (old ++ joined_reads z)) s.reads piece s.waits (b, src, after, s.eats, waiting);
+      waits = each_read (λ (z : List (List ℕ)) (read : List ℕ). ReadsBehind asked before (old ++ joined_reads z) read) s.reads piece s.waits
+          (b, src, after, s.eats, waiting, subst (λ (k : ℕ). k ≤ asked (left_in after.place)) (sym size) most);
       counted = counted_more old_reads new_reads all (length s.reads) _ s.counted count (length-push s.reads piece);
-      small = All-push (λ (read : List ℕ). length read ≤ read_size) s.reads piece s.small (omega (arith, size, most));
     }
 
 -- a call of these reads that ends otherwise, but not with the packet
-pub reads_end : (result : Result Bool PacketIoError) (before after : SpanState) (old new : List ℕ) (unread left : Option (List ℕ)) (old_reads new_reads : ℕ) (b : List ℕ)
-    → (s : CopiesNext before old unread left old_reads new_reads so_far b after new) → has_ended result ≡ false → EndsRead result s.reads
-    → CopiesNext before old unread left old_reads new_reads result b after new
+pub reads_end : {asked : ℕ → ℕ} (result : Result Bool PacketIoError) (before after : SpanState) (old new : List ℕ) (unread left : Option (List ℕ)) (old_reads new_reads : ℕ) (b : List ℕ)
+    → (s : CopiesNext asked before old unread left old_reads new_reads so_far b after new) → has_ended result ≡ false → EndsRead result s.reads
+    → CopiesNext asked before old unread left old_reads new_reads result b after new
 reads_end result before after old new unread left old_reads new_reads b s going ended =
     let eats = subst (λ (e : Bool). EatsSpans before (old ++ joined_reads s.reads) ((b, e) ∷ []) new after) (sym going) s.eats in
-    record { reads = s.reads; consumed = s.consumed; eats = eats; ended = ended; waits = s.waits; counted = s.counted; small = s.small }
+    record { reads = s.reads; consumed = s.consumed; eats = eats; ended = ended; waits = s.waits; counted = s.counted }
 
 ends_read : (result : Result Bool PacketIoError) (reads : List (List ℕ)) → EndsEmpty reads → EndsRead result reads
 ends_read (Ok false) reads empty = empty
@@ -211,10 +229,10 @@ ends_read (Err UnexpectedEnd) reads empty = empty
 ends_read other reads empty = tt
 
 -- the last read gave nothing
-pub reads_ended : (result : Result Bool PacketIoError) (before after : SpanState) (old src new : List ℕ) (unread left last : Option (List ℕ)) (old_reads new_reads all : ℕ) (b : List ℕ) (n : ℕ)
-    → CopiesNext before old unread left old_reads new_reads so_far b after src → WaitsHere after src
-    → (came : List ℕ) × (length came ≡ n) × (new ≡ src ++ came) × Consumes left last came → n ≤ read_size → all ≡ min (new_reads + 1) (2 ^ 64 - 1)
-    → n ≡ 0 → has_ended result ≡ false → CopiesNext before old unread last old_reads all result b after new
+pub reads_ended : {asked : ℕ → ℕ} (result : Result Bool PacketIoError) (before after : SpanState) (old src new : List ℕ) (unread left last : Option (List ℕ)) (old_reads new_reads all : ℕ) (b : List ℕ) (n : ℕ)
+    → CopiesNext asked before old unread left old_reads new_reads so_far b after src → WaitsHere after src
+    → (came : List ℕ) × (length came ≡ n) × (new ≡ src ++ came) × Consumes left last came → n ≤ asked (left_in after.place) → all ≡ min (new_reads + 1) (2 ^ 64 - 1)
+    → n ≡ 0 → has_ended result ≡ false → CopiesNext asked before old unread last old_reads all result b after new
 reads_ended result before after old src new unread left last old_reads new_reads all b n s waiting came most count none going =
     reads_end result before after old new unread last old_reads all b
     (reads_read before after old src new unread left last old_reads new_reads all b n s waiting came most count) going
@@ -226,16 +244,16 @@ stops_unended UnexpectedEnd state unread reads h = absurd h
 stops_unended other state unread reads h = tt
 
 -- a read failed, or memory for it was refused
-pub reads_fail : (error : PacketIoError) (before after : SpanState) (old src new : List ℕ) (unread left last : Option (List ℕ)) (old_reads new_reads all : ℕ) (b : List ℕ)
-    → CopiesNext before old unread left old_reads new_reads so_far b after src → WaitsHere after src → new ≡ src → Keeps left last → ReadFails error new_reads all
-    → CopiesNext before old unread last old_reads all (Err error) b after new
+pub reads_fail : {asked : ℕ → ℕ} (error : PacketIoError) (before after : SpanState) (old src new : List ℕ) (unread left last : Option (List ℕ)) (old_reads new_reads all : ℕ) (b : List ℕ)
+    → CopiesNext asked before old unread left old_reads new_reads so_far b after src → WaitsHere after src → new ≡ src → Keeps left last → ReadFails error new_reads all
+    → CopiesNext asked before old unread last old_reads all (Err error) b after new
 reads_fail (Io error) before after old src new unread left last old_reads new_reads all b s waiting is kept count =
     reads_end (Err (Io error)) before after old new unread last old_reads all b
     (reads_read before after old src new unread left last old_reads new_reads all b 0 s waiting
     ([], refl, is ∙ sym (append-nil src), Consumes-kept left left last [] (Consumes-nil left) kept) (omega arith) count) refl tt
 reads_fail OutOfMemory before after old src new unread left last old_reads new_reads all b s waiting is kept count =
     let consumed = Consumes-kept unread left last (joined_reads s.reads) s.consumed kept in
-    rw (is, count) (record { reads = s.reads; consumed = consumed; eats = s.eats; ended = tt; waits = s.waits; counted = s.counted; small = s.small })
+    rw (is, count) (record { reads = s.reads; consumed = consumed; eats = s.eats; ended = tt; waits = s.waits; counted = s.counted })
 reads_fail other before after old src new unread left last old_reads new_reads all b s waiting is kept count = absurd count
 
 -- the input ended
@@ -252,11 +270,11 @@ copies_more ends a m z P Q T held some more same f g =
     (f.0 ++ g.0, copied_more a m z P Q T f.0 g.0 ends same f.1 g.1, Appends-trans held some more f.0 g.0 f.2 g.2)
 
 -- in a call, after its reads so far
-pub copies_go : (result : Result Bool PacketIoError) (before mid after : SpanState) (old src new : List ℕ) (unread left last : Option (List ℕ)) (old_reads new_reads all : ℕ) (held some more : Option (List ℕ))
+pub copies_go : {asked : ℕ → ℕ} (result : Result Bool PacketIoError) (before mid after : SpanState) (old src new : List ℕ) (unread left last : Option (List ℕ)) (old_reads new_reads all : ℕ) (held some more : Option (List ℕ))
     → mid.limit ≡ before.limit → last ≡ left → all ≡ new_reads
-    → (s : (b : List ℕ) × Appends held some b × CopiesNext before old unread left old_reads new_reads so_far b mid src)
+    → (s : (b : List ℕ) × Appends held some b × CopiesNext asked before old unread left old_reads new_reads so_far b mid src)
     → Copies (has_ended result) mid src some after new more → EndsRead result s.2.reads
-    → (b : List ℕ) × Appends held more b × CopiesNext before old unread last old_reads all result b after new
+    → (b : List ℕ) × Appends held more b × CopiesNext asked before old unread last old_reads all result b after new
 copies_go result before mid after old src new unread left last old_reads new_reads all held some more limit same count s f ended = (
   s.0 ++ f.0,
   Appends-trans held some more s.0 f.0 s.1 f.2,
@@ -281,7 +299,7 @@ can_after (Some d) lost codec unread held lent decoder none empty header kept un
 
 -- what a call that began in front of a packet wrote is the packet
 pub copied_packet_is : CopiedPacket
-copied_packet_is before after old new unread left old_reads new_reads written small between ends call =
+copied_packet_is asked before after old new unread left old_reads new_reads written small between ends call =
     let L : ℕ = before.limit in
     let came = call.eats.2 before.id L [] [] [] (omega arith) (spans_begin_is before L small between) in
     let is = spans_end_is before.id L call.eats.0 (written ∷ []) [] after small ends came in (
@@ -298,9 +316,9 @@ read_stops OutOfMemory state src new old_reads new_reads left waiting is failed 
 read_stops other state src new old_reads new_reads left waiting is failed = absurd failed
 
 -- a call after bytes that went before its first read
-pub reads_before : (result : Result Bool PacketIoError) (before mid after : SpanState) (old src new : List ℕ) (unread left : Option (List ℕ)) (old_reads new_reads : ℕ) (b c : List ℕ)
-    → mid.limit ≡ before.limit → EatsSpans before old ((b, false) ∷ []) src mid → CopiesNext mid src unread left old_reads new_reads result c after new
-    → CopiesNext before old unread left old_reads new_reads result (b ++ c) after new
+pub reads_before : {asked : ℕ → ℕ} (result : Result Bool PacketIoError) (before mid after : SpanState) (old src new : List ℕ) (unread left : Option (List ℕ)) (old_reads new_reads : ℕ) (b c : List ℕ)
+    → mid.limit ≡ before.limit → EatsSpans before old ((b, false) ∷ []) src mid → CopiesNext asked mid src unread left old_reads new_reads result c after new
+    → CopiesNext asked before old unread left old_reads new_reads result (b ++ c) after new
 reads_before result before mid after old src new unread left old_reads new_reads b c limit eats s =
     let J : List ℕ = joined_reads s.reads in
     record {
@@ -311,17 +329,20 @@ reads_before result before mid after old src new unread left old_reads new_reads
       waits = λ j less.
           let T : List ℕ = joined_reads (take j s.reads) in
           let w = s.waits j less in
-          (b ++ w.0, w.1, w.2, copied_more before mid w.2 (old ++ T) (src ++ T) w.1 b w.0 false limit (copied_ahead before mid old src T b false eats) w.3, w.4);
+          (b ++ w.0, w.1, w.2, copied_more before mid w.2 (old ++ T) (src ++ T) w.1 b w.0 false limit (copied_ahead before mid old src T b false eats) w.3, w.4, w.5);
       counted = s.counted;
-      small = s.small;
     }
 
-pub copies_before : (result : Result Bool PacketIoError) (before mid after : SpanState) (old src new : List ℕ) (unread again left : Option (List ℕ)) (old_reads reads_again new_reads : ℕ) (held some more : Option (List ℕ))
+pub copies_before : {asked : ℕ → ℕ} (result : Result Bool PacketIoError) (before mid after : SpanState) (old src new : List ℕ) (unread again left : Option (List ℕ)) (old_reads reads_again new_reads : ℕ) (held some more : Option (List ℕ))
     → mid.limit ≡ before.limit → again ≡ unread → reads_again ≡ old_reads → Copies false before old held mid src some
-    → (b : List ℕ) × Appends some more b × CopiesNext mid src again left reads_again new_reads result b after new
-    → (b : List ℕ) × Appends held more b × CopiesNext before old unread left old_reads new_reads result b after new
+    → (b : List ℕ) × Appends some more b × CopiesNext asked mid src again left reads_again new_reads result b after new
+    → (b : List ℕ) × Appends held more b × CopiesNext asked before old unread left old_reads new_reads result b after new
 copies_before result before mid after old src new unread again left old_reads reads_again new_reads held some more limit same count f s = (
   f.0 ++ s.0,
   Appends-trans held some more f.0 s.0 f.2 s.1,
   reads_before result before mid after old src new unread left old_reads new_reads f.0 s.0 limit f.1 (rw (same, count) at s.2),
 )
+
+-- what a read gave is no longer than is asked for at this place
+pub copied_size : (n left place : ℕ) → left ≡ place → n ≤ copy_read_size left → n ≤ copy_read_size place
+copied_size n left place is most = subst (λ (k : ℕ). n ≤ copy_read_size k) is most

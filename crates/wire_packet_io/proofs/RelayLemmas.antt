@@ -103,11 +103,11 @@ gone_more ended before mid after id number next b c out old some new held more l
 }
 
 -- in a call, after its reads so far
-pub relays_go : (result : Result Bool PacketIoError) (before mid after : SpanState) (id number next : ℕ) (old src new : List ℕ) (unread left last : Option (List ℕ)) (old_reads new_reads all : ℕ) (pending some now : List ℕ) (held more then : Option (List ℕ))
+pub relays_go : {asked : ℕ → ℕ} (result : Result Bool PacketIoError) (before mid after : SpanState) (id number next : ℕ) (old src new : List ℕ) (unread left last : Option (List ℕ)) (old_reads new_reads all : ℕ) (pending some now : List ℕ) (held more then : Option (List ℕ))
     → mid.limit ≡ before.limit → last ≡ left → all ≡ new_reads → then ≡ more
-    → (s : (b : List ℕ) × CopiesNext before old unread left old_reads new_reads so_far b mid src × PassesOn before id b false mid number pending some held more)
+    → (s : (b : List ℕ) × CopiesNext asked before old unread left old_reads new_reads so_far b mid src × PassesOn before id b false mid number pending some held more)
     → Relays (has_ended result) mid number src some after next new now → EndsRead result s.1.reads
-    → (b : List ℕ) × CopiesNext before old unread last old_reads all result b after new × PassesOn before id b (has_ended result) after next pending now held then
+    → (b : List ℕ) × CopiesNext asked before old unread last old_reads all result b after new × PassesOn before id b (has_ended result) after next pending now held then
 relays_go result before mid after id number next old src new unread left last old_reads new_reads all pending some now held more then limit same count kept s f ended = (
   s.0 ++ f.0,
   reads_go result before mid after old src new unread left last old_reads new_reads all s.0 f.0 s.1 limit same count f.2 ended,
@@ -163,7 +163,7 @@ relay_at_end other state unread left pending h going e end none = absurd cc
 
 -- laws
 pub relayed_front_is : RelayedFront
-relayed_front_is before after id next old new unread left old_reads new_reads result bytes pending rest held more small other between going call gone =
+relayed_front_is asked before after id next old new unread left old_reads new_reads result bytes pending rest held more small other between going call gone =
     let L : ℕ = before.limit in
     let came = subst (λ (e : Bool). SpansOn before call.eats.0 ((bytes, e) ∷ []) after) going call.eats.2 in
     let went = subst (λ (e : Bool). SpansOn (sent before id) gone.out ((bytes, e) ∷ []) (sent after next)) going gone.spans in (
@@ -172,9 +172,9 @@ relayed_front_is before after id next old new unread left old_reads new_reads re
     )
 
 pub relayed_packet_is : RelayedPacket
-relayed_packet_is before after id next old new unread left old_reads new_reads bytes pending rest held more small other between ends call gone =
+relayed_packet_is asked before after id next old new unread left old_reads new_reads bytes pending rest held more small other between ends call gone =
     let L : ℕ = before.limit in
-    let came = copied_packet_is before after old new unread left old_reads new_reads bytes small between ends call in
+    let came = copied_packet_is asked before after old new unread left old_reads new_reads bytes small between ends call in
     let went = gone.spans id L [] [] [] (omega arith) (spans_begin_is (sent before id) L other between) in
     let is = spans_end_is id L gone.out (bytes ∷ []) [] (sent after next) other ends went in
     (came.0, is.0 ∙ append-nil (framing id bytes), came.1, came.2, is.2)

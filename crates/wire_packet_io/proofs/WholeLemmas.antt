@@ -58,10 +58,10 @@ whole_is codec before mid after src len number next start limit_mid limit_after 
     }
 
 -- and goes out after what is pending
-pub relays_whole : (codec behind : PacketCodec) (src rest : List ℕ) (unread : Option (List ℕ)) (reads len here id next : ℕ) (pending more : List ℕ) (held : Option (List ℕ))
+pub relays_whole : {asked : ℕ → ℕ} (codec behind : PacketCodec) (src rest : List ℕ) (unread : Option (List ℕ)) (reads len here id next : ℕ) (pending more : List ℕ) (held : Option (List ℕ))
     → LiesWhole codec src len here → rest ≡ drop (4 + len) src → behind.max_allowed_packet ≡ codec.max_allowed_packet → expected_id behind ≡ here
     → id < 256 → next ≡ (id + 1) % 256 → more ≡ pending ++ (header len id ++ payload_of len src)
-    → (b : List ℕ) × CopiesNext (in_front codec) src unread unread reads reads (Ok true) b (in_front behind) rest
+    → (b : List ℕ) × CopiesNext asked (in_front codec) src unread unread reads reads (Ok true) b (in_front behind) rest
     × PassesOn (in_front codec) id b true (in_front behind) next pending more held held
 relays_whole codec behind src rest unread reads len here id next pending more held whole rest_is limit here_is low next_is put =
     let a : SpanState = in_front codec in
@@ -73,11 +73,11 @@ relays_whole codec behind src rest unread reads len here id next pending more he
     (x, header len id ++ x, whole.eats, whole.goes id low, put) tt)
 
 -- at a reader that lends nothing and copies nothing
-pub relays_front : {A : Type 0} (lent : Option (Found A)) (copied : Option SpanDecoder) (codec behind : PacketCodec) (src rest : List ℕ) (unread : Option (List ℕ)) (reads len here id next : ℕ) (pending more : List ℕ) (held : Option (List ℕ))
+pub relays_front : {A : Type 0} {asked : ℕ → ℕ} (lent : Option (Found A)) (copied : Option SpanDecoder) (codec behind : PacketCodec) (src rest : List ℕ) (unread : Option (List ℕ)) (reads len here id next : ℕ) (pending more : List ℕ) (held : Option (List ℕ))
     → IsNone (packet_of lent src) → IsNone copied
     → LiesWhole codec src len here → rest ≡ drop (4 + len) src → behind.max_allowed_packet ≡ codec.max_allowed_packet → expected_id behind ≡ here
     → id < 256 → next ≡ (id + 1) % 256 → more ≡ pending ++ (header len id ++ payload_of len src)
-    → (b : List ℕ) × CopiesNext (copied_to copied codec) (unread_behind lent src) unread unread reads reads (Ok true) b (copied_to copied behind) (unread_behind lent rest)
+    → (b : List ℕ) × CopiesNext asked (copied_to copied codec) (unread_behind lent src) unread unread reads reads (Ok true) b (copied_to copied behind) (unread_behind lent rest)
     × PassesOn (copied_to copied codec) id b true (copied_to copied behind) next pending more held held
 relays_front None None codec behind src rest unread reads len here id next pending more held none alone whole rest_is limit here_is low next_is put =
     relays_whole codec behind src rest unread reads len here id next pending more held whole rest_is limit here_is low next_is put

@@ -1,5 +1,5 @@
 -- A packet whose bytes are written as they come.
-use Rattle.std.specs.Prelude.{◌≡◌, ℕ, ◌+◌, ◌<◌, ◌≤◌, ◌⊎◌, List, [], ◌∷◌, ◌++◌, length, take, All, Option, Some, None, MatchOption, IsNone, IsSome, Result, Ok, Err, Bool, true, false, IsTrue, IsFalse, ⊤}
+use Rattle.std.specs.Prelude.{◌≡◌, ℕ, ◌+◌, ◌<◌, ◌≤◌, ◌⊎◌, List, [], ◌∷◌, ◌++◌, length, get_or, take, max, min, Option, Some, None, MatchOption, IsNone, IsSome, Result, Ok, Err, Bool, true, false, IsTrue, IsFalse, ⊤}
 use Rattle.std.specs.Io.KnownBytes.{Consumes, Appends, Keeps, IsAtEnd}
 use Rattle.wire_codec.specs.declared.codec.packet.PacketCodec.{PacketCodec}
 use Rattle.wire_codec.specs.Codec.{expected_id, Stands}
@@ -38,11 +38,18 @@ HasPlace reading = IsSome reading.copied ⊎ IsFalse reading.is_lost
 abbrev pub WaitsHere : SpanState → List ℕ → Type 0
 WaitsHere state unread = (length unread < 4) × (0 < left_in state.place → unread ≡ [])
 
--- and the input is such, after bytes that go in one span
-abbrev pub WaitsBehind : SpanState → List ℕ → Type 0
-WaitsBehind before input =
+-- the most bytes of a read of `copy_packet`, where this many are to come of the open chunk: of a large
+-- one up to 65536, and none behind it
+abbrev pub copy_read_size : ℕ → ℕ
+copy_read_size left = max read_size (min 65536 left)
+
+-- and the input is such, after bytes that go in one span; what is read there is no longer than what is
+-- asked for where so many bytes are to come of the open chunk
+abbrev pub ReadsBehind : (ℕ → ℕ) → SpanState → List ℕ → List ℕ → Type 0
+ReadsBehind asked before input read =
     (bytes : List ℕ) × (left : List ℕ) × (after : SpanState)
     × EatsSpans before input ((bytes, false) ∷ []) left after × WaitsHere after left
+    × (length read ≤ asked (left_in after.place))
 
 -- whether a call ended a packet
 abbrev pub has_ended : Result Bool PacketIoError → Bool
@@ -85,7 +92,7 @@ EndsRead other reads = ⊤
 
 -- a call of `copy_packet` from this place, where this was unread: its reads one by one, and
 -- the bytes that were written, which came in one span
-pub record CopiesNext (before : SpanState) (old : List ℕ) (unread left : Option (List ℕ))
+pub record CopiesNext (asked : ℕ → ℕ) (before : SpanState) (old : List ℕ) (unread left : Option (List ℕ))
     (old_reads new_reads : ℕ) (result : Result Bool PacketIoError) (written : List ℕ)
     (after : SpanState) (new : List ℕ) : Type 0 where
   pub reads : List (List ℕ)
@@ -93,17 +100,17 @@ pub record CopiesNext (before : SpanState) (old : List ℕ) (unread left : Optio
   pub eats : EatsSpans before (old ++ joined_reads reads) ((written, has_ended result) ∷ []) new after
   pub ended : EndsRead result reads
   -- each read is made where nothing can go before more has come
-  pub waits : (j : ℕ) → j < length reads → WaitsBehind before (old ++ joined_reads (take j reads))
+  pub waits : (j : ℕ) → j < length reads
+      → ReadsBehind asked before (old ++ joined_reads (take j reads)) (get_or reads j [])
   pub counted : CountsUp old_reads new_reads (length reads)
-  pub small : All (λ read. length read ≤ read_size) reads
 
 -- a call of `copy_packet`: what it reads is a packet's bytes, and a writer gets them
 abbrev pub CopiesTo : {R W : Type 0} → (R → Option (List ℕ)) → (W → Option (List ℕ)) → SpanState
     → Reading R → W → Result Bool PacketIoError → SpanState → Reading R → W → Type 0
 CopiesTo remaining contents before old held result after new more =
     (written : List ℕ) × Appends (contents held) (contents more) written
-    × CopiesNext before old.unread (remaining old.reader) (remaining new.reader) old.reads new.reads
-    result written after new.unread
+    × CopiesNext copy_read_size before old.unread (remaining old.reader) (remaining new.reader)
+    old.reads new.reads result written after new.unread
 
 -- the front of what was unread is written, in one span
 abbrev pub Copies : Bool → SpanState → List ℕ → Option (List ℕ) → SpanState → List ℕ
@@ -141,8 +148,8 @@ IsSpanRefusal span.PacketsOutOfSync error = error ≡ PacketsOutOfSync
 -- written, which is within the limit, and the id is the one after it
 abbrev pub CopiedPacket : Type 0
 CopiedPacket =
-    (before after : SpanState) (old new : List ℕ) (unread left : Option (List ℕ))
+    (asked : ℕ → ℕ) (before after : SpanState) (old new : List ℕ) (unread left : Option (List ℕ))
     (old_reads new_reads : ℕ) (written : List ℕ) → before.id < 256 → IsBetween before → IsBetween after
-    → (call : CopiesNext before old unread left old_reads new_reads (Ok true) written after new)
+    → (call : CopiesNext asked before old unread left old_reads new_reads (Ok true) written after new)
     → (old ++ joined_reads call.reads ≡ framing before.id written ++ new)
     × (length written ≤ before.limit) × (after.id ≡ next_id before.id written)

@@ -11,7 +11,7 @@ use Rattle.wire_span.specs.Passing.{most_bytes}
 use Rattle.wire_span.specs.Renumbering.{sent}
 use Rattle.wire_packet_io.specs.declared.error.PacketIoError.{PacketIoError}
 use Rattle.wire_packet_io.specs.declared.error.PacketIoError.TheVariants.{Io, UnexpectedEnd, WriteZero, PacketTooLarge, PacketsOutOfSync, OutOfMemory}
-use Rattle.wire_packet_io.specs.PacketIo.{joined_reads, Writing}
+use Rattle.wire_packet_io.specs.PacketIo.{joined_reads, read_size, Writing}
 use Rattle.wire_packet_io.specs.Lending.{Reading}
 use Rattle.wire_packet_io.specs.Copying.{CopiesNext, WaitsHere, copied_to, has_ended}
 
@@ -31,8 +31,8 @@ abbrev pub RelaysTo : {R W : Type 0} → (R → Option (List ℕ)) → (W → Op
     → Reading R → ℕ → Writing W → Result Bool PacketIoError → SpanState → Reading R → ℕ → Writing W
     → Type 0
 RelaysTo remaining contents before old id held result after new next more =
-    (bytes : List ℕ) × CopiesNext before old.unread (remaining old.reader) (remaining new.reader)
-    old.reads new.reads result bytes after new.unread
+    (bytes : List ℕ) × CopiesNext (λ left. read_size) before old.unread (remaining old.reader)
+    (remaining new.reader) old.reads new.reads result bytes after new.unread
     × PassesOn before id bytes (has_ended result) after next held.pending more.pending
     (contents held.writer) (contents more.writer)
 
@@ -103,11 +103,11 @@ RelayStops (Err error) state unread left pending = StopsRelay error state unread
 -- the ids of each side
 abbrev pub RelayedFront : Type 0
 RelayedFront =
-    (before after : SpanState) (id next : ℕ) (old new : List ℕ) (unread left : Option (List ℕ))
+    (asked : ℕ → ℕ) (before after : SpanState) (id next : ℕ) (old new : List ℕ) (unread left : Option (List ℕ))
     (old_reads new_reads : ℕ) (result : Result Bool PacketIoError) (bytes pending rest : List ℕ)
     (held more : Option (List ℕ)) → before.id < 256 → id < 256 → IsBetween before
     → has_ended result ≡ false
-    → (call : CopiesNext before old unread left old_reads new_reads result bytes after new)
+    → (call : CopiesNext asked before old unread left old_reads new_reads result bytes after new)
     → (gone : PassesOn before id bytes (has_ended result) after next pending rest held more)
     → CameTo before.id before.limit call.eats.0 [] bytes after
     × CameTo id before.limit gone.out [] bytes (sent after next)
@@ -116,10 +116,10 @@ RelayedFront =
 -- the same bytes, each with the ids of its side, and is within the limit
 abbrev pub RelayedPacket : Type 0
 RelayedPacket =
-    (before after : SpanState) (id next : ℕ) (old new : List ℕ) (unread left : Option (List ℕ))
+    (asked : ℕ → ℕ) (before after : SpanState) (id next : ℕ) (old new : List ℕ) (unread left : Option (List ℕ))
     (old_reads new_reads : ℕ) (bytes pending rest : List ℕ) (held more : Option (List ℕ))
     → before.id < 256 → id < 256 → IsBetween before → IsBetween after
-    → (call : CopiesNext before old unread left old_reads new_reads (Ok true) bytes after new)
+    → (call : CopiesNext asked before old unread left old_reads new_reads (Ok true) bytes after new)
     → (gone : PassesOn before id bytes true after next pending rest held more)
     → (old ++ joined_reads call.reads ≡ framing before.id bytes ++ new)
     × (gone.out ≡ framing id bytes) × (length bytes ≤ before.limit)

@@ -5,6 +5,7 @@ ghost use Rattle.std.specs.Io.KnownBytes.{Consumes, IsAtEnd, Keeps};
 ghost use Rattle.wire_codec.specs.Codec.{codec_state, Stands};
 ghost use Rattle.wire_codec.specs.Delivery.{chunk_len};
 ghost use Rattle.wire_codec.specs.InPlace.{front_payload as payload_in_front};
+ghost use Rattle.wire_packet_io.specs.Copying.{copy_read_size};
 ghost use Rattle.wire_packet_io.specs.PacketIo.{ReadFails, TakesPacket, EndsAt, FitsAt, read_size};
 ghost use Rattle.wire_codec.specs.Skipping.{MaySkip};
 ghost use Rattle.wire_packet_io.specs.Skips.{IsRefusal, SkipsOn, skipping};
@@ -26,6 +27,9 @@ use wire_codec::codec::{PacketCodec, Skipped};
 
 // The most bytes of one read.
 const READ_SIZE: usize = 8192;
+
+// The most of one that is written as it comes, in a large chunk.
+const COPY_SIZE: usize = 65536;
 
 // At most this many bytes are moved by way of the stack.
 const FEW: usize = 256;
@@ -80,7 +84,40 @@ fn make_read_room<A: Allocator + Copy>(src: &mut BytesMut<A>) -> Result<(), Allo
 }
 
 impl<R: Read, A: Allocator + Copy> Input<R, A> {
-    // One read of at most 8192 bytes. The answer is how many came.
+    // One read of at most this many bytes, for which there is room. The answer is how many came.
+    #[inline(always)]
+    fn read_behind(&mut self, most: usize) -> Result<usize, PacketIoError>
+        requires some { 0 < most }
+        requires room { most ≤ self.old.src.spare }
+        ensures ok { IfOk result (λ n. (came : List ℕ) × (length came ≡ n)
+            × (self.new.src.items ≡ self.old.src.items ++ came)
+            × Consumes (R.remaining self.old.reader) (R.remaining self.new.reader) came) }
+        ensures small { IfOk result (λ n. n ≤ most) }
+        ensures end { IfOk result (λ n. n ≡ 0 → IsAtEnd (R.remaining self.new.reader)) }
+        ensures err { OnErr result (self.new.src.items ≡ self.old.src.items) }
+        ensures kept { OnErr result (Keeps (R.remaining self.old.reader)
+            (R.remaining self.new.reader)) }
+        ensures read { OnOk result (self.new.reads ≡ min (self.old.reads + 1) (2 ^ 64 - 1)) }
+        ensures failed { IfErr result (λ error. ReadFails error self.old.reads self.new.reads) }
+        ensures dst { self.new.dst ≡ self.old.dst }
+        ensures lost { self.new.lost ≡ self.old.lost }
+    {
+        let len = self.src.len();
+        self.src.advance_mut(most);
+        self.reads = self.reads.saturating_add(1);
+        match self.reader.read(&mut self.src.as_mut_slice()[len..]) {
+            Ok(count) => {
+                self.src.truncate(len + count);
+                Ok(count)
+            }
+            Err(error) => {
+                self.src.truncate(len);
+                Err(PacketIoError::Io(error))
+            }
+        }
+    }
+
+    // The same of at most 8192 bytes.
     fn read_more(&mut self) -> Result<usize, PacketIoError>
         ensures ok { IfOk result (λ n. (came : List ℕ) × (length came ≡ n)
             × (self.new.src.items ≡ self.old.src.items ++ came)
@@ -98,19 +135,34 @@ impl<R: Read, A: Allocator + Copy> Input<R, A> {
         if make_read_room(&mut self.src).is_err() {
             return Err(PacketIoError::OutOfMemory);
         }
-        let len = self.src.len();
-        self.src.advance_mut(READ_SIZE);
-        self.reads = self.reads.saturating_add(1);
-        match self.reader.read(&mut self.src.as_mut_slice()[len..]) {
-            Ok(count) => {
-                self.src.truncate(len + count);
-                Ok(count)
-            }
-            Err(error) => {
-                self.src.truncate(len);
-                Err(PacketIoError::Io(error))
-            }
+        self.read_behind(READ_SIZE)
+    }
+
+    // The same of what is written as it comes, where this many bytes are to come of the open chunk: of
+    // a large chunk up to 65536, and none behind it. No part of a loop over small packets.
+    #[inline(never)]
+    fn read_to_copy(&mut self, left: usize) -> Result<usize, PacketIoError>
+        ensures ok { IfOk result (λ n. (came : List ℕ) × (length came ≡ n)
+            × (self.new.src.items ≡ self.old.src.items ++ came)
+            × Consumes (R.remaining self.old.reader) (R.remaining self.new.reader) came) }
+        ensures small { IfOk result (λ n. n ≤ copy_read_size left) }
+        ensures end { IfOk result (λ n. n ≡ 0 → IsAtEnd (R.remaining self.new.reader)) }
+        ensures err { OnErr result (self.new.src.items ≡ self.old.src.items) }
+        ensures kept { OnErr result (Keeps (R.remaining self.old.reader)
+            (R.remaining self.new.reader)) }
+        ensures read { OnOk result (self.new.reads ≡ min (self.old.reads + 1) (2 ^ 64 - 1)) }
+        ensures failed { IfErr result (λ error. ReadFails error self.old.reads self.new.reads) }
+        ensures dst { self.new.dst ≡ self.old.dst }
+        ensures lost { self.new.lost ≡ self.old.lost }
+    {
+        if left <= READ_SIZE {
+            return self.read_more();
         }
+        let most = left.min(COPY_SIZE);
+        if self.src.reserve(most).is_err() {
+            return Err(PacketIoError::OutOfMemory);
+        }
+        self.read_behind(most)
     }
 
     // Room for two chunks, where a full one has come whole and nothing is held: so the vector of a

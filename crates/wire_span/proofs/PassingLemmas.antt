@@ -1,16 +1,13 @@
 -- A packet's bytes that go by, some at a time.
 use Rattle.std.proofs.Common.{◌≡◌, ℕ, ◌+◌, ◌%◌, ◌<◌, ◌≤◌, ◌==◌, List, [], ◌∷◌, ◌++◌, refl, sym, ap, subst, arith, append_assoc, ◌⊎◌, Bool, true, false, inl, inr, IsTrue, IsFalse, eqb-true, ◌*◌, ◌-◌}
-use Rattle.std.specs.Int.NonZero.{non_zero_usize_get}
 use Rattle.wire_span.specs.declared.span.Place.{Place}
 use Rattle.wire_span.specs.declared.span.Place.TheVariants.{InHeader, InChunk}
-use Rattle.wire_span.specs.declared.span.SpanError.{SpanError}
 use Rattle.wire_codec.specs.Framing.{max_payload, header}
-use Rattle.wire_span.specs.Spans.{SpanPlace, AtHeader, Within, SpanState, CameTo, SpansOn, StopsBefore, packets_of, opened_after, place_of, header_came}
-use Rattle.wire_span.specs.SpanSteps.{RefusesChunk}
+use Rattle.wire_span.specs.Spans.{SpanPlace, AtHeader, SpanState, CameTo, SpansOn, place_of, header_came}
 use Rattle.wire_span.specs.Renumbering.{sent}
 use Rattle.wire_span.specs.Passing.{left_in, most_here}
-use Rattle.wire_span.proofs.SpanLemmas.{at_place, joined_spans_is, stops_is}
-use Rattle.wire_span.proofs.RenumberLemmas.{Passes, header_on, chunk_on}
+use Rattle.wire_span.proofs.SpanLemmas.{at_place, joined_spans_is}
+use Rattle.wire_span.proofs.RenumberLemmas.{Passes, header_on}
 
 -- a span that ends no packet, and the one after it, are one
 pub merged_spans : (a m z : SpanState) (x y b c : List ℕ) (ends : Bool) → m.limit ≡ a.limit

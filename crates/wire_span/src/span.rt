@@ -4,6 +4,7 @@ ghost use Rattle.std.specs.Prelude.{◌≡◌, ◌≢◌, ℕ, ◌+◌, ◌%◌,
 ghost use Rattle.wire_codec.specs.Framing.{max_payload, header};
 ghost use Rattle.wire_span.specs.Spans.{front_bytes, header_came, span_state, spans_of, EatsSpans, StopsBefore, IsBetween};
 ghost use Rattle.wire_span.specs.SpanSteps.{TakesSpan, RefusesChunk};
+ghost use Rattle.wire_span.specs.declared.span.Place.TheVariants.{InChunk};
 
 use std::num::NonZeroUsize;
 use thiserror::Error;
@@ -232,6 +233,26 @@ impl SpanDecoder {
         Ok(())
     }
 
+    // Stands among a chunk's bytes, of which so many are to come. Where it stood there already, no
+    // other part of the place is written.
+    #[inline(always)]
+    fn stand_in(&mut self, still: NonZeroUsize, of_full: bool)
+        ensures { self.new ≡ record self.old { place = InChunk still of_full } }
+    {
+        match &mut self.place {
+            Place::InChunk { left, is_full } => {
+                *left = still;
+                *is_full = of_full;
+            }
+            Place::InHeader(_) => {
+                self.place = Place::InChunk {
+                    left: still,
+                    is_full: of_full,
+                };
+            }
+        }
+    }
+
     // Hands out what came of the open chunk, of which this many bytes are to come.
     #[inline(always)]
     fn take_span<'a>(
@@ -258,7 +279,7 @@ impl SpanDecoder {
         *piece = rest;
         match NonZeroUsize::new(left - bytes.len()) {
             Some(left) => {
-                self.place = Place::InChunk { left, is_full };
+                self.stand_in(left, is_full);
                 if bytes.is_empty() {
                     return None;
                 }
@@ -314,6 +335,9 @@ impl SpanDecoder {
             StopsBefore (span_state self.old) piece.old.now error) }
         ensures limit { self.new.max_allowed_packet ≡ self.old.max_allowed_packet }
     {
+        if piece.is_empty() {
+            return Ok(None);
+        }
         match self.place {
             Place::InChunk { left, is_full } => Ok(self.take_span(left.get(), is_full, piece)),
             Place::InHeader(came) => match came.read(piece) {

@@ -3,6 +3,7 @@ pub mod DigitLemmas
 pub mod EscapeLemmas
 pub mod FieldLemmas
 pub mod PartLemmas
+pub mod MaskLemmas
 pub mod PlainLemmas
 pub mod StandLemmas
 pub mod WideLemmas

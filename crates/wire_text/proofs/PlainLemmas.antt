@@ -4,10 +4,10 @@ use Rattle.std.proofs.lemmas.Bool.{and_from, and_parts, eq-eqb, lt-ltb, ltb-true
 use Rattle.std.proofs.lemmas.List.Folds.{list_all-append, prefix_len-append}
 use Rattle.std.proofs.lemmas.List.{length-append, length-drop, length-map, length-take, length-take-le, take_all, take-take}
 use Rattle.std.specs.Prelude.{◌&&◌, not}
-use lib.Lanes.{mask_l, top, zip2}
+use lib.Lanes.{mask_l, zip2}
 use Rattle.std.proofs.lemmas.Bool.Decides.{leb_tells}
 use Rattle.std.proofs.lemmas.Grind.{or_before_shift}
-use Rattle.std.proofs.lemmas.Simd.{leading_from_mask_l, mask_l-lt, mask_l-mod, trailing_mask_l, zip2_of_maps, zip2_splat, zip2_splat_left}
+use Rattle.std.proofs.lemmas.Simd.{leading_from_mask_l, mask_l-lt, trailing_mask_l, zip2_splat}
 use lib.Count.{count_trailing_zeros}
 use native.Mathlib.Nat.{two-pow-succ}
 use Rattle.std.specs.List.{prefix_len}
@@ -31,30 +31,6 @@ pub none_other : (bytes : List ℕ) → nat_eq (mask_l (map is_other bytes)) 0 �
 none_other [] = refl
 none_other (byte ∷ bytes) = one_more (plain byte) (mask_l (map is_other bytes)) (all_plain bytes) (none_other bytes)
 
--- a lane of the four comparisons together
-abbrev of_four : Bool → Bool → Bool → Bool → ℕ
-of_four low high quote backslash =
-    bit_or (bit_or (bit_or (cond low 255 0) (cond high 255 0)) (cond quote 255 0)) (cond backslash 255 0)
-
-top_of_four : (low high quote backslash : Bool)
-    → top 7 (of_four low high quote backslash) ≡ not (((not quote && not backslash) && not low) && not high)
-top_of_four true true true true = refl
-top_of_four true true true false = refl
-top_of_four true true false true = refl
-top_of_four true true false false = refl
-top_of_four true false true true = refl
-top_of_four true false true false = refl
-top_of_four true false false true = refl
-top_of_four true false false false = refl
-top_of_four false true true true = refl
-top_of_four false true true false = refl
-top_of_four false true false true = refl
-top_of_four false true false false = refl
-top_of_four false false true true = refl
-top_of_four false false true false = refl
-top_of_four false false false true = refl
-top_of_four false false false false = refl
-
 either_way : (a b : ℕ) → ((leb (suc a) b ≡ true) × (suc a ≤ b)) ⊎ ((leb (suc a) b ≡ false) × (b < suc a))
     → ((leb b a ≡ true) × (b ≤ a)) ⊎ ((leb b a ≡ false) × (a < b)) → not (ltb a b) ≡ leb b a
 either_way a b (inl less) (inl more) = absurd (omega (arith, less.1, more.1))
@@ -68,42 +44,6 @@ not_less a b = either_way a b (leb_tells (suc a) b) (leb_tells b a)
 pub not_not : (a : Bool) → not (not a) ≡ a
 not_not true = refl
 not_not false = refl
-
-abbrev lane : ℕ → ℕ
-lane byte = of_four (ltb byte 32) (leb 128 byte) (eqb byte 34) (eqb byte 92)
-
-lane_other : (byte : ℕ) → top 7 (lane byte) ≡ is_other byte
-lane_other byte =
-    top_of_four (ltb byte 32) (leb 128 byte) (eqb byte 34) (eqb byte 92)
-    ∙ ap₂ (λ (low high : Bool). not (((not (eqb byte 34) && not (eqb byte 92)) && low) && high)) (not_less byte 32)
-    (ap not (sym (not_less byte 128)) ∙ not_not (ltb byte 128))
-
-lanes_other : (bytes : List ℕ) → map (top 7) (map lane bytes) ≡ map is_other bytes
-lanes_other [] = refl
-lanes_other (byte ∷ bytes) = ap₂ (λ (a : Bool) (b : List Bool). a ∷ b) (lane_other byte) (lanes_other bytes)
-
-abbrev hit : ℕ → ℕ → ℕ
-hit a b = cond (eqb a b) 255 0
-
-abbrev below : ℕ → ℕ → ℕ
-below a b = cond (ltb a b) 255 0
-
-abbrev at_most : ℕ → ℕ → ℕ
-at_most a b = cond (leb a b) 255 0
-
--- the four comparisons of sixteen bytes
-pub compared : (v : List ℕ) → length v ≡ 16
-    → mask_l (map (top 7) (zip2 bit_or (zip2 bit_or (zip2 bit_or (zip2 below v (replicate 16 32)) (zip2 at_most (replicate 16 128) v))
-    (zip2 hit v (replicate 16 34))) (zip2 hit v (replicate 16 92)))) % 2 ^ 64 ≡ others_mask v
-compared v long =
-    let low = zip2_splat below v 16 32 long in
-    let high = zip2_splat_left at_most 128 16 v long in
-    let quote = zip2_splat hit v 16 34 long in
-    let backslash = zip2_splat hit v 16 92 long in
-    let all = zip2_of_maps bit_or _ _ v (zip2_of_maps bit_or _ _ v (zip2_of_maps bit_or _ _ v low high) quote) backslash in
-    ap (λ (z : List ℕ). mask_l (map (top 7) z) % 2 ^ 64) all
-    ∙ ap (λ (z : List Bool). mask_l z % 2 ^ 64) (lanes_other v)
-    ∙ mask_l-mod (map is_other v) 64 (omega (arith, length-map v is_other, long))
 
 -- of a list whose front is plain, what is after it tells, also with some of the front
 pub behind_plain : (k : ℕ) (done rest : List ℕ) → k ≤ length done → all_plain done ≡ true → all_plain (drop k (done ++ rest)) ≡ all_plain rest

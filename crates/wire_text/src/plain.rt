@@ -28,18 +28,25 @@ fn all_plain(words: &[u8]) -> bool
     all
 }
 
-// Which of sixteen bytes are not plain, a bit for each.
+// Which of sixteen bytes are not plain, a bit for each. One comparison tells the control characters and
+// those not of ASCII: with the highest bit turned these are the lowest.
+#[inline(always)]
+fn others_in(bytes: u8x16) -> u64
+    ensures { result ≡ others_mask bytes }
+{
+    let other = (bytes ^ u8x16::splat(0x80)).simd_lt(u8x16::splat(0xa0))
+        | bytes.simd_eq(u8x16::splat(b'"'))
+        | bytes.simd_eq(u8x16::splat(b'\\'));
+    other.to_bitmask()
+}
+
+// The same of a slice.
 #[inline(always)]
 fn others_of(block: &[u8]) -> u64
     requires { length block.now ≡ 16 }
     ensures { result ≡ others_mask block.now }
 {
-    let bytes = u8x16::from_slice(block);
-    let other = bytes.simd_lt(u8x16::splat(0x20))
-        | bytes.simd_ge(u8x16::splat(0x80))
-        | bytes.simd_eq(u8x16::splat(b'"'))
-        | bytes.simd_eq(u8x16::splat(b'\\'));
-    other.to_bitmask()
+    others_in(u8x16::from_slice(block))
 }
 
 // The same of sixteen bytes at once.

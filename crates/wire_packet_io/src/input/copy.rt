@@ -184,7 +184,7 @@ impl<R: Read, A: Allocator + Copy> Input<R, A> {
                 Ok(false) => {}
                 Err(error) => return Err(error),
             }
-            match self.read_more() {
+            match self.read_to_copy(decoder.chunk_left()) {
                 Ok(0) => return self.at_copys_end(decoder),
                 Ok(_) => {}
                 Err(error) => return Err(error),

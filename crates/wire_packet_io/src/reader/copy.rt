@@ -33,7 +33,8 @@ impl<R: Read, A: Allocator + Copy> PacketReader<R, A> {
 
     /// Writes the bytes of the next packet, without its headers, as they come: true where it has
     /// ended, false where the input ends between two packets. No more is kept of it than one read
-    /// brings, whatever its size. As `std::io::copy` it doesn't flush.
+    /// brings, whatever its size. A read is of 8192 bytes at most; where more are to come of a chunk,
+    /// of those, up to 65536. As `std::io::copy` it doesn't flush.
     ///
     /// It asks for a reader between two packets, with nothing lent or held; `can_copy` is the test.
     /// A chunk is refused as soon as its header has come, with `PacketTooLarge` where the packet

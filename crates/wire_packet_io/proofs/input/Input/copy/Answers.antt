@@ -4,7 +4,7 @@ use Rattle.wire_span.specs.Spans.{span_state}
 use Rattle.wire_packet_io.specs.Lending.{lender}
 use Rattle.wire_packet_io.specs.Copying.{CopiesTo}
 use Rattle.wire_packet_io.proofs.PacketIoLemmas.{above_zero}
-use Rattle.wire_packet_io.proofs.CopyLemmas.{copies_go, stops_by, stops_unended, reads_start, reads_read, reads_ended, reads_fail, at_end, read_nearer, read_stops, waits_still, so_far}
+use Rattle.wire_packet_io.proofs.CopyLemmas.{copied_size, copies_go, stops_by, stops_unended, reads_start, reads_read, reads_ended, reads_fail, at_end, read_nearer, read_stops, waits_still, so_far}
 use Rattle.wire_packet_io.proofs.input.Input.copy.Given as given
 use Rattle.wire_packet_io.proofs.input.Input.copy.Goals as goal
 use Rattle.wire_packet_io.proofs.input.Input.copy.Goals.{In-Ok-false}
@@ -45,7 +45,7 @@ returns-in-Ok-eq0-clause-copies g c =
     let waits = rw c.in-Ok-false.field-0-test at c.in-Ok-false.ensures.ends in (
       s.0,
       s.1,
-      reads_ended c.at_copys_end.result _ _ _ _ _ _ _ _ _ _ _ s.0 _ s.2 waits c.in-Ok-eq0.ensures.ok c.in-Ok-eq0.ensures.small c.in-Ok-eq0.ensures.read
+      reads_ended c.at_copys_end.result _ _ _ _ _ _ _ _ _ _ _ s.0 _ s.2 waits c.in-Ok-eq0.ensures.ok (copied_size c.in-Ok-eq0.field-0 c.chunk_left.result _ c.chunk_left.ensures c.in-Ok-eq0.ensures.small) c.in-Ok-eq0.ensures.read
           c.in-Ok-eq0.field-0-test c.at_copys_end.ensures.going,
     )
 
@@ -57,17 +57,17 @@ reads-preserved g c =
     record {
       uncut = c.copy_unread.ensures.kept.0;
       limit = c.copy_unread.ensures.kept.1 ∙ inv.limit;
-      held = c.read_more.ensures.dst ∙ ap (λ z. z.dst) c.copy_unread.ensures.kept.2 ∙ inv.held;
-      lost = c.read_more.ensures.lost ∙ ap (λ z. z.lost) c.copy_unread.ensures.kept.2 ∙ inv.lost;
-      so_far = (s.0, s.1, reads_read _ _ _ _ _ _ _ _ _ _ _ s.0 _ s.2 waits c.in-Ok.ensures.ok c.in-Ok.ensures.small c.in-Ok.ensures.read);
+      held = c.read_to_copy.ensures.dst ∙ ap (λ z. z.dst) c.copy_unread.ensures.kept.2 ∙ inv.held;
+      lost = c.read_to_copy.ensures.lost ∙ ap (λ z. z.lost) c.copy_unread.ensures.kept.2 ∙ inv.lost;
+      so_far = (s.0, s.1, reads_read _ _ _ _ _ _ _ _ _ _ _ s.0 _ s.2 waits c.in-Ok.ensures.ok (copied_size c.in-Ok.field-0 c.chunk_left.result _ c.chunk_left.ensures c.in-Ok.ensures.small) c.in-Ok.ensures.read);
     }
 
-pub returns-in-Err-read_more-clause-copies : goal.returns-in-Err-read_more-clause-copies
-returns-in-Err-read_more-clause-copies g c =
-    let s = went g (goal.at.returns-in-Err-read_more-clause-copies g c).In-Ok-false in
+pub returns-in-Err-read_to_copy-clause-copies : goal.returns-in-Err-read_to_copy-clause-copies
+returns-in-Err-read_to_copy-clause-copies g c =
+    let s = went g (goal.at.returns-in-Err-read_to_copy-clause-copies g c).In-Ok-false in
     let waits = rw c.in-Ok-false.field-0-test at c.in-Ok-false.ensures.ends in
-    let read = c.in-Err-read_more.ensures in
-    (s.0, s.1, reads_fail c.in-Err-read_more.error _ _ _ _ _ _ _ _ _ _ _ s.0 s.2 waits read.err read.kept read.failed)
+    let read = c.in-Err-read_to_copy.ensures in
+    (s.0, s.1, reads_fail c.in-Err-read_to_copy.error _ _ _ _ _ _ _ _ _ _ _ s.0 s.2 waits read.err read.kept read.failed)
 
 pub returns-in-Err-clause-stops : goal.returns-in-Err-clause-stops
 returns-in-Err-clause-stops g c = stops_by c.in-Err.error _ _ _ c.in-Err.ensures.ends
@@ -76,18 +76,18 @@ pub returns-in-Ok-eq0-clause-stops : goal.returns-in-Ok-eq0-clause-stops
 returns-in-Ok-eq0-clause-stops g c =
     at_end c.at_copys_end.result _ _ _ c.at_copys_end.ensures.stops c.at_copys_end.ensures.going c.at_copys_end.ensures.only (c.in-Ok-eq0.ensures.end c.in-Ok-eq0.field-0-test)
 
-pub returns-in-Err-read_more-clause-stops : goal.returns-in-Err-read_more-clause-stops
-returns-in-Err-read_more-clause-stops g c =
+pub returns-in-Err-read_to_copy-clause-stops : goal.returns-in-Err-read_to_copy-clause-stops
+returns-in-Err-read_to_copy-clause-stops g c =
     let waits = rw c.in-Ok-false.field-0-test at c.in-Ok-false.ensures.ends in
-    read_stops c.in-Err-read_more.error _ _ _ _ _ _ waits c.in-Err-read_more.ensures.err c.in-Err-read_more.ensures.failed
+    read_stops c.in-Err-read_to_copy.error _ _ _ _ _ _ waits c.in-Err-read_to_copy.ensures.err c.in-Err-read_to_copy.ensures.failed
 
 pub at_copys_end-requires : goal.at_copys_end-requires
 at_copys_end-requires g c =
-    waits_still (span_state c.copy_unread.new.decoder) c.copy_unread.new.self.src.items c.read_more.new.self.src.items _ _ _
+    waits_still (span_state c.copy_unread.new.decoder) c.copy_unread.new.self.src.items c.read_to_copy.new.self.src.items _ _ _
     (rw c.in-Ok-false.field-0-test at c.in-Ok-false.ensures.ends) c.in-Ok-eq0.ensures.ok c.in-Ok-eq0.field-0-test
 
 pub reads-smaller : goal.reads-smaller
 reads-smaller g c =
-    read_nearer (span_state c.reads.decoder) (span_state c.copy_unread.new.decoder) c.reads.self.src.items c.copy_unread.new.self.src.items c.read_more.new.self.src.items _ _ _
+    read_nearer (span_state c.reads.decoder) (span_state c.copy_unread.new.decoder) c.reads.self.src.items c.copy_unread.new.self.src.items c.read_to_copy.new.self.src.items _ _ _
     ((rw c.in-Ok-false.field-0-test at c.in-Ok-false.ensures.fewer) refl) c.copy_unread.ensures.kept.0 (rw c.in-Ok-false.field-0-test at c.in-Ok-false.ensures.ends)
     c.in-Ok.ensures.ok (above_zero c.in-Ok.field-0 c.in-Ok.field-0-test.1)
