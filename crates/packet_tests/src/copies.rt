@@ -126,7 +126,8 @@ const LONG_ROWS: &[(&[(&[u8], usize)], usize, u8)] = &[
     ),
 ];
 
-// Whether such a packet is copied whole, and passed on in chunks of the same lengths.
+// Whether such a packet is copied whole, also where no write of more than 8192 bytes is taken, and passed
+// on in chunks of the same lengths.
 fn goes_long(alloc: Global, (parts, zeros, id): (&[(&[u8], usize)], usize, u8)) -> bool {
     let copied = Row {
         parts,
@@ -142,7 +143,13 @@ fn goes_long(alloc: Global, (parts, zeros, id): (&[(&[u8], usize)], usize, u8)) 
         zeros: zeros.wrapping_add(4 * usize::from(id)),
         ..copied
     };
-    goes(alloc, Way::Copied, &copied, 3, 131072) & goes(alloc, Way::PassedOn, &passed_on, 6, 16384)
+    let in_messages = Row {
+        longest: 8192,
+        ..copied
+    };
+    goes(alloc, Way::Copied, &copied, 3, 131072)
+        & goes(alloc, Way::Copied, &in_messages, 3, 131072)
+        & goes(alloc, Way::PassedOn, &passed_on, 6, 16384)
 }
 
 // No request is larger than the buffer of one read and its growth, or what is pending of it.

@@ -35,8 +35,9 @@ pub struct Row<'a> {
     pub parts: &'a [(&'a [u8], usize)],
     pub at_once: usize,
     pub until_fault: usize,
-    /// How many bytes a write takes, and which write or flush fails.
+    /// How many bytes a write takes, how many it may have, and which write or flush fails.
     pub room: usize,
+    pub longest: usize,
     pub until_refusal: usize,
     pub limit: usize,
     /// The limit from the second call on.
@@ -60,6 +61,7 @@ pub const ROW: Row = Row {
     at_once: usize::MAX,
     until_fault: usize::MAX,
     room: usize::MAX,
+    longest: usize::MAX,
     until_refusal: usize::MAX,
     limit: 3,
     later_limit: 3,
@@ -138,11 +140,13 @@ impl<'a, A: Allocator + Copy> Taker<'a, Parts<'a>, Narrow, A> {
             ErrorKind::Interrupted,
         );
         let output = Narrow::new(kept, row.room, row.until_refusal, ErrorKind::BrokenPipe);
+        let mut out = Narrow::new(kept, row.room, row.until_refusal, ErrorKind::BrokenPipe);
+        out.longest = row.longest;
         Taker {
             heap,
             codec: codec_at(row.ids.0, row.limit),
             reader: PacketReader::new(alloc, input).unwrap(),
-            out: Narrow::new(kept, row.room, row.until_refusal, ErrorKind::BrokenPipe),
+            out,
             writer: PacketWriter::new(alloc, output).unwrap(),
             writer_codec: codec_at(row.ids.1, 0),
         }

@@ -105,11 +105,13 @@ impl Read for Parts<'_> {
     }
 }
 
-/// Takes this many bytes a write at most, and fails once, at the write or flush of this number.
+/// Takes this many bytes a write at most, refuses a longer write than it may be, and fails once, at the
+/// write or flush of this number.
 #[derive(Drop)]
 pub struct Narrow {
     pub taken: Vec<u8>,
     pub at_once: usize,
+    pub longest: usize,
     pub until_fault: usize,
     pub kind: ErrorKind,
     pub flushes: usize,
@@ -121,6 +123,7 @@ impl Narrow {
         Narrow {
             taken: Vec::new(alloc),
             at_once,
+            longest: usize::MAX,
             until_fault,
             kind,
             flushes: 0,
@@ -131,7 +134,7 @@ impl Narrow {
 impl Write for Narrow {
     fn write(&mut self, buf: &[u8]) -> io::Result<usize> {
         self.until_fault = self.until_fault.wrapping_sub(1);
-        if self.until_fault == usize::MAX {
+        if (self.until_fault == usize::MAX) | (buf.len() > self.longest) {
             return Err(io::Error::from(self.kind));
         }
         let room = buf.len().min(self.at_once);

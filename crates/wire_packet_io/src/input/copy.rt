@@ -1,17 +1,60 @@
 //! The loop that writes a packet's bytes as they come.
 
-ghost use Rattle.std.specs.Prelude.{◌≡◌, ◌+◌, ◌<◌, ◌≤◌, [], length, None, true, false, Ok, IfOk, OnErr, IfErr, IsTrue, IsFalse, Bool};
+ghost use Rattle.std.specs.Io.KnownBytes.{WriteAppends};
+ghost use Rattle.std.specs.Prelude.{◌≡◌, ◌+◌, ◌<◌, ◌≤◌, ℕ, List, [], length, Option, None, true, false, Ok, IfOk, OnErr, IfErr, IsTrue, IsFalse, Bool};
 ghost use Rattle.wire_span.specs.Spans.{header_came, span_state, IsBetween};
 ghost use Rattle.wire_span.specs.Passing.{left_in, most_bytes};
 ghost use Rattle.wire_packet_io.specs.Copying.{has_ended, Copies, CopiesTo, CopyStops, EndsCopy, IsSpanRefusal, StepsCopy, StopsHere, WaitsHere};
 ghost use Rattle.wire_packet_io.specs.Lending.{lender};
 
-use super::Input;
+use super::{Input, READ_SIZE};
 use crate::error::PacketIoError;
 use std::alloc::Allocator;
-use std::io::{Read, Write};
+use std::io;
+use std::io::{ErrorKind, Read, Write};
 use wire_codec::codec::header::{HEADER_LEN, Header};
 use wire_span::{SpanDecoder, SpanError};
+
+// Goes on where a write of these bytes was answered so. One of which nothing was taken is offered again,
+// as long as a read of most packets: a writer that takes a write whole or not at all may take no more.
+#[cold]
+#[inline(never)]
+fn offer_front<W: Write>(
+    writer: &mut W,
+    bytes: &[u8],
+    answer: io::Result<usize>,
+) -> io::Result<usize>
+    requires { IfOk answer (λ count. count ≤ length bytes.now) }
+    ensures bound { IfOk result (λ count. count ≤ length bytes.now) }
+    ensures bytes { (before : Option (List ℕ))
+        → WriteAppends before (W.contents writer.old) answer bytes.now
+        → WriteAppends before (W.contents writer.new) result bytes.now }
+{
+    let count = match answer {
+        Ok(count) if count > 0 => count,
+        Err(error) if error.kind() == ErrorKind::Interrupted => return Err(error),
+        answer => {
+            let len = bytes.len().min(READ_SIZE);
+            if len == bytes.len() {
+                return answer;
+            }
+            writer.write(&bytes[..len])?
+        }
+    };
+    Ok(count)
+}
+
+// Writes a front of these bytes. The answer is how many.
+#[inline(always)]
+fn write_front<W: Write>(writer: &mut W, bytes: &[u8]) -> io::Result<usize>
+    ensures bound { IfOk result (λ count. count ≤ length bytes.now) }
+    ensures bytes { WriteAppends (W.contents writer.old) (W.contents writer.new) result bytes.now }
+{
+    match writer.write(bytes) {
+        Ok(count) if count > 0 => Ok(count),
+        answer => offer_front(writer, bytes, answer),
+    }
+}
 
 // The reader's name for a refusal of a header.
 pub(super) fn refusal(error: SpanError) -> PacketIoError
@@ -45,7 +88,7 @@ impl<R: Read, A: Allocator + Copy> Input<R, A> {
         if len == 0 {
             return Ok(None);
         }
-        match writer.write(&self.src.as_slice()[..len]) {
+        match write_front(writer, &self.src.as_slice()[..len]) {
             Ok(0) => Err(PacketIoError::WriteZero),
             Ok(count) => {
                 self.src.advance(count);

@@ -7,6 +7,6 @@ pub returns-in-Ok-clause-steps : goal.returns-in-Ok-clause-steps
 returns-in-Ok-clause-steps g c =
     let n = c.min-len.result in
     bytes_step (span_state c.args.decoder.now) (span_state c.pass_bytes.new.self) c.args.self.now.src.items c.advance.new.self.items (take n c.as_slice.result.now)
-    n c.in-Ok.count c.pass_bytes.result (g.W.Write.contents c.args.writer.now) (g.W.Write.contents c.write.new.self)
+    n c.in-Ok.count c.pass_bytes.result (g.W.Write.contents c.args.writer.now) (g.W.Write.contents c.write_front.new.writer)
     (ap (λ z. take n z) c.as_slice.ensures) (omega (arith, c.min-len.ensures, c.len.ensures.value)) c.in-Ok.ensures.bound (omega (arith, c.in-Ok.count-test.1))
     c.advance.ensures.items c.pass_bytes.ensures.id c.pass_bytes.ensures.came c.in-Ok.ensures.bytes c.pass_bytes.ensures.between c.pass_bytes.ensures.fewer
