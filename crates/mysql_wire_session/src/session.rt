@@ -31,6 +31,9 @@ use wire_const::{CapabilityFlags, Flags, MariadbCapabilities, StatusFlags};
 fn id_after(id: u8, len: usize) -> u8
     ensures { result ≡ id_after id len }
 {
+    if len < MAX_PAYLOAD_LEN {
+        return id.wrapping_add(1);
+    }
     ((id as usize + len / MAX_PAYLOAD_LEN + 1) % 256) as u8
 }
 
@@ -160,12 +163,28 @@ impl<A: Allocator + Copy> Session<A> {
         }
     }
 
-    /// What a packet is, whose payload has this length and front, and whose first chunk bears this
-    /// id. The front is the first three bytes or more, or the whole payload.
-    pub fn classify(&self, side: Side, id: u8, len: usize, front: &[u8]) -> PacketKind
+    // What any packet is.
+    #[inline(never)]
+    fn classify_any(&self, side: Side, id: u8, len: usize, front: &[u8]) -> PacketKind
         ensures { result ≡ kind_by_front (expectation_of (state_of self.now)) side id len front.now }
     {
         kind_by_front(self.expectation(), side, id, len, front)
+    }
+
+    /// What a packet is, whose payload has this length and front, and whose first chunk bears this
+    /// id. The front is the first three bytes or more, or the whole payload.
+    #[inline(always)]
+    pub fn classify(&self, side: Side, id: u8, len: usize, front: &[u8]) -> PacketKind
+        ensures { result ≡ kind_by_front (expectation_of (state_of self.now)) side id len front.now }
+    {
+        // A row, of which there are many, is known by its first byte.
+        match (side, self.phase, front) {
+            (Side::Server, Phase::Rows, [first, ..]) if *first < 0xfe => match self.row_form {
+                RowForm::Binary => PacketKind::BinaryRow,
+                RowForm::Text | RowForm::Unknown => PacketKind::Row,
+            },
+            _ => self.classify_any(side, id, len, front),
+        }
     }
 
     /// What a packet is read as, whose first chunk bears this id. The session is as before; `advance`

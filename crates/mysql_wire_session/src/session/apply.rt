@@ -117,8 +117,20 @@ impl<A: Allocator + Copy> Session<A> {
         }
     }
 
-    // Goes on after a packet, whether or not its type reads it.
+    // Goes on after a packet, whether or not its type reads it. A server's row says no more.
+    #[inline(always)]
     pub(super) fn go_on(&mut self, side: Side, kind: PacketKind, len: usize)
+        ensures { state_of self.new ≡ state_after side kind len (state_of self.old) }
+    {
+        match (side, kind) {
+            (Side::Server, PacketKind::Row | PacketKind::BinaryRow) => {}
+            _ => self.go_on_by_kind(side, kind, len),
+        }
+    }
+
+    // The same of any packet.
+    #[inline(never)]
+    fn go_on_by_kind(&mut self, side: Side, kind: PacketKind, len: usize)
         ensures { state_of self.new ≡ state_after side kind len (state_of self.old) }
     {
         match side {
