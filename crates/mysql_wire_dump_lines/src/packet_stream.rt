@@ -321,8 +321,22 @@ impl<A: Allocator + Copy> PacketStream<A> {
         self.taken = count as u64;
     }
 
-    // Looks for the next packet.
-    fn find<R: Read>(&mut self, input: &mut R) -> Result<Next, Stop>
+    // The header of a packet that lies whole in what was read, in one chunk.
+    #[inline(always)]
+    fn whole_header(&self) -> Option<Header>
+        ensures { IfSome result (λ header. LiesWhole header self.now.src.items) }
+    {
+        let header = Header::read(self.src.as_slice())?;
+        if header.len < MAX_PAYLOAD_LEN && header.len <= self.src.len() - HEADER_LEN {
+            Some(header)
+        } else {
+            None
+        }
+    }
+
+    // Looks for the next packet by a read, where none lies whole in what was read before.
+    #[inline(never)]
+    fn find_by_read<R: Read>(&mut self, input: &mut R) -> Result<Next, Stop>
         ensures found { IfOk result (λ next. IsIdle self.old → Found next self.old self.new
             (R.remaining input.old) (R.remaining input.new)) }
         ensures seen { IfOk result (λ next. next ≢ Ended Encrypted) }
@@ -331,6 +345,10 @@ impl<A: Allocator + Copy> PacketStream<A> {
             × AtEnd next (R.remaining input.new)) }
     {
         read_header(&mut self.src, input)?;
+        if let Some(header) = self.whole_header() {
+            self.lend_whole(header);
+            return Ok(Next::Packet(header.seq_id));
+        }
         let Some(header) = Header::read(self.src.as_slice()) else {
             return Ok(Next::Ended(if self.src.is_empty() {
                 End::Between
@@ -338,14 +356,30 @@ impl<A: Allocator + Copy> PacketStream<A> {
                 End::Unfinished
             }));
         };
-        if header.len < MAX_PAYLOAD_LEN && header.len <= self.src.len() - HEADER_LEN {
-            self.lend_whole(header);
-            return Ok(Next::Packet(header.seq_id));
-        }
         self.take_packet(header.seq_id, input)
     }
 
+    // Looks for the next packet.
+    #[inline(always)]
+    fn find<R: Read>(&mut self, input: &mut R) -> Result<Next, Stop>
+        ensures found { IfOk result (λ next. IsIdle self.old → Found next self.old self.new
+            (R.remaining input.old) (R.remaining input.new)) }
+        ensures seen { IfOk result (λ next. next ≢ Ended Encrypted) }
+        ensures kept { IfOk result (λ next. (self.new.next ≡ self.old.next)
+            × (self.new.limit ≡ self.old.limit) × (next ≢ Unread)
+            × AtEnd next (R.remaining input.new)) }
+    {
+        match self.whole_header() {
+            Some(header) => {
+                self.lend_whole(header);
+                Ok(Next::Packet(header.seq_id))
+            }
+            None => self.find_by_read(input),
+        }
+    }
+
     /// Looks for the next packet, where it has not been looked for.
+    #[inline(always)]
     pub fn peek<R: Read>(&mut self, input: &mut R) -> Result<(), Stop>
         ensures looks { OnOk result
             (LooksOn (R.remaining input.old) (R.remaining input.new) self.old self.new) }
