@@ -1,3 +1,4 @@
 pub mod PacketStreamLemmas
+pub mod DigitLemmas
 pub mod NumberLemmas
 pub mod ArgumentLemmas

@@ -1,6 +1,6 @@
 //! The lines that are written.
 
-ghost use Rattle.std.specs.Prelude.{◌≡◌, ◌++◌, OnOk, codes, string_bytes};
+ghost use Rattle.std.specs.Prelude.{◌≡◌, ◌<◌, ◌≤◌, ◌++◌, OnOk, codes, string_bytes};
 ghost use Rattle.std.specs.Fmt.{decimal};
 ghost use Rattle.mysql_wire_dump_lines.specs.Lines.{bytes_part, ending_line, line_end, packet_front, packet_head, packet_line, refused_words, shown_bytes};
 ghost use Rattle.mysql_wire_dump_lines.specs.Names.{end_name};
@@ -103,7 +103,6 @@ fn push_bytes<A: Allocator + Copy>(
 }
 
 // A packet's length, and what it is.
-#[inline(always)]
 fn push_kind<A: Allocator>(
     text: &mut String<A>,
     len: u64,
@@ -112,14 +111,9 @@ fn push_kind<A: Allocator>(
     ensures { OnOk result (string_bytes text.new
         ≡ string_bytes text.old ++ (decimal len ++ codes " " ++ kind_name kind)) }
 {
-    match kind {
-        PacketKind::Row => push_row(text, len),
-        _ => {
-            push_number(text, len)?;
-            text.push_str(" ")?;
-            text.push_str(kind.name())
-        }
-    }
+    push_short_number(text, len)?;
+    text.push_str(" ")?;
+    text.push_str(kind.name())
 }
 
 // The letters of who sent a packet.
@@ -164,24 +158,85 @@ fn push_sender<A: Allocator>(text: &mut String<A>, side: Side, id: u8) -> Result
     }
 }
 
-// A row's length, and what it is: of two or three digits, as of most, in one append.
+// A server's row, whose length has two digits, in one append.
 #[inline(always)]
-fn push_row<A: Allocator>(text: &mut String<A>, len: u64) -> Result<(), AllocError>
-    ensures { OnOk result (string_bytes text.new
-        ≡ string_bytes text.old ++ (decimal len ++ codes " row")) }
+fn push_row_of_tens<A: Allocator>(text: &mut String<A>, id: u8, len: u64) -> Result<(), AllocError>
+    requires { (10 ≤ len) × (len < 100) }
+    ensures { OnOk result (string_bytes text.new ≡ string_bytes text.old
+        ++ (codes "server " ++ decimal id ++ codes " " ++ decimal len ++ codes " row")) }
 {
-    if len < 10 || len >= 1000 {
-        push_number(text, len)?;
-        return text.push_str(" row");
+    let [a, b, c, d, e, f, s] = *b"server ";
+    let [w, x, y, z] = *b" row";
+    let (l, m) = (b'0' + (len / 10) as u8, b'0' + (len % 10) as u8);
+    let ones = b'0' + id % 10;
+    if id < 10 {
+        return push_letters(text, &[a, b, c, d, e, f, s, ones, s, l, m, w, x, y, z]);
     }
-    let ones = b'0' + (len % 10) as u8;
-    if len < 100 {
-        let tens = b'0' + (len / 10) as u8;
-        return push_letters(text, &[tens, ones, b' ', b'r', b'o', b'w']);
+    let tens = b'0' + id / 10 % 10;
+    if id < 100 {
+        return push_letters(
+            text,
+            &[a, b, c, d, e, f, s, tens, ones, s, l, m, w, x, y, z],
+        );
     }
-    let hundreds = b'0' + (len / 100) as u8;
-    let tens = b'0' + (len / 10 % 10) as u8;
-    push_letters(text, &[hundreds, tens, ones, b' ', b'r', b'o', b'w'])
+    let hundreds = b'0' + id / 100;
+    push_letters(
+        text,
+        &[
+            a, b, c, d, e, f, s, hundreds, tens, ones, s, l, m, w, x, y, z,
+        ],
+    )
+}
+
+// The same of one whose length has three.
+#[inline(always)]
+fn push_row_of_hundreds<A: Allocator>(
+    text: &mut String<A>,
+    id: u8,
+    len: u64,
+) -> Result<(), AllocError>
+    requires { (100 ≤ len) × (len < 1000) }
+    ensures { OnOk result (string_bytes text.new ≡ string_bytes text.old
+        ++ (codes "server " ++ decimal id ++ codes " " ++ decimal len ++ codes " row")) }
+{
+    let [a, b, c, d, e, f, s] = *b"server ";
+    let [w, x, y, z] = *b" row";
+    let (k, l) = (b'0' + (len / 100) as u8, b'0' + (len / 10 % 10) as u8);
+    let m = b'0' + (len % 10) as u8;
+    let ones = b'0' + id % 10;
+    if id < 10 {
+        return push_letters(text, &[a, b, c, d, e, f, s, ones, s, k, l, m, w, x, y, z]);
+    }
+    let tens = b'0' + id / 10 % 10;
+    if id < 100 {
+        return push_letters(
+            text,
+            &[a, b, c, d, e, f, s, tens, ones, s, k, l, m, w, x, y, z],
+        );
+    }
+    let hundreds = b'0' + id / 100;
+    push_letters(
+        text,
+        &[
+            a, b, c, d, e, f, s, hundreds, tens, ones, s, k, l, m, w, x, y, z,
+        ],
+    )
+}
+
+// A number: of up to three digits, as most, without a call.
+#[inline(always)]
+fn push_short_number<A: Allocator>(text: &mut String<A>, number: u64) -> Result<(), AllocError>
+    ensures { OnOk result (string_bytes text.new ≡ string_bytes text.old ++ decimal number) }
+{
+    if number < 10 || number >= 1000 {
+        return push_number(text, number);
+    }
+    let ones = b'0' + (number % 10) as u8;
+    if number < 100 {
+        return push_letters(text, &[b'0' + (number / 10) as u8, ones]);
+    }
+    let tens = b'0' + (number / 10 % 10) as u8;
+    push_letters(text, &[b'0' + (number / 100) as u8, tens, ones])
 }
 
 // The front of a packet's object: who sent it.
@@ -224,15 +279,40 @@ fn push_front<A: Allocator + Copy>(
         }
         LineForm::Json => {
             text.push_str(object_front(seen.side))?;
-            push_number(text, seen.id as u64)?;
+            push_short_number(text, seen.id as u64)?;
             text.push_str(",\"length\":")?;
-            push_number(text, len)?;
+            push_short_number(text, len)?;
             push_kind_member(text, seen.kind)
         }
     }
 }
 
+// The line of any packet as far as its fields: who sent it, and the id of its first chunk, its length,
+// and what it is.
+#[inline(never)]
+fn push_any_head<A: Allocator + Copy>(
+    text: &mut String<A>,
+    form: LineForm,
+    from: (Side, u8),
+    len: usize,
+    kind: PacketKind,
+    payload: &[u8],
+) -> Result<(), AllocError>
+    ensures { OnOk result (string_bytes text.new ≡ string_bytes text.old ++ packet_head form
+        (record { side = from.0; id = from.1; len = len; kind = kind }) payload.now) }
+{
+    let seen = Seen {
+        side: from.0,
+        id: from.1,
+        len,
+        kind,
+    };
+    push_front(text, form, &seen)?;
+    push_bytes(text, form, kind, payload)
+}
+
 /// Appends the line of a packet as far as its fields.
+#[inline(always)]
 pub fn push_head<A: Allocator + Copy>(
     text: &mut String<A>,
     form: LineForm,
@@ -242,11 +322,27 @@ pub fn push_head<A: Allocator + Copy>(
     ensures { OnOk result (string_bytes text.new
         ≡ string_bytes text.old ++ packet_head form seen.now payload.now) }
 {
-    push_front(text, form, seen)?;
-    push_bytes(text, form, seen.kind, payload)
+    let len = seen.len as u64;
+    match (form, seen.side, seen.kind) {
+        (LineForm::Text, Side::Server, PacketKind::Row) if len >= 10 && len < 100 => {
+            push_row_of_tens(text, seen.id, len)
+        }
+        (LineForm::Text, Side::Server, PacketKind::Row) if len >= 100 && len < 1000 => {
+            push_row_of_hundreds(text, seen.id, len)
+        }
+        _ => push_any_head(
+            text,
+            form,
+            (seen.side, seen.id),
+            seen.len,
+            seen.kind,
+            payload,
+        ),
+    }
 }
 
 /// Appends the end of a packet's line.
+#[inline(always)]
 pub fn push_end<A: Allocator + Copy>(text: &mut String<A>, form: LineForm) -> Result<(), AllocError>
     ensures { OnOk result (string_bytes text.new ≡ string_bytes text.old ++ line_end form) }
 {

@@ -1,10 +1,9 @@
-use Rattle.std.proofs.Common.{◌≡◌, ◌∙◌, ℕ, ◌+◌, ◌/◌, ◌%◌, ◌<◌, ◌≤◌, List, [], ◌∷◌, ◌++◌, ap, arith, get_or, refl, sym}
-use Rattle.std.proofs.lemmas.Fmt.{decimal_digit}
-use Rattle.std.specs.Fmt.{decimal}
+use Rattle.std.proofs.Common.{◌≡◌, ℕ, List, ◌∷◌, ◌++◌, arith, get_or, refl}
 use Rattle.mysql_wire_session_phases.specs.declared.side.Side.{Side}
 use Rattle.mysql_wire_session_phases.specs.declared.side.Side.TheVariants.{Client, Server}
 use Rattle.mysql_wire_session_phases.specs.Names.{side_name}
-use Rattle.wire_text.proofs.FieldLemmas.{three_digits, two_digits}
+use Rattle.wire_text.proofs.FieldLemmas.{three_digits}
+use Rattle.mysql_wire_dump_lines.proofs.DigitLemmas.{one_digit, tens_of}
 use Rattle.mysql_wire_dump_lines.proofs.lines.push_sender_of.Goals as goal
 
 abbrev letters : List ℕ → List ℕ → List ℕ
@@ -13,16 +12,6 @@ letters name rest = get_or name 0 0 ∷ get_or name 1 0 ∷ get_or name 2 0 ∷ 
 spelled : (side : Side) (rest : List ℕ) → letters (side_name side) rest ≡ side_name side ++ rest
 spelled Client rest = refl
 spelled Server rest = refl
-
-one_digit : (n : ℕ) → n < 10 → decimal n ≡ (48 + n % 10) ∷ []
-one_digit n small =
-    let same : n % 10 ≡ n = omega (arith, small) in
-    decimal_digit n small ∙ ap (λ (d : ℕ). (48 + d) ∷ []) (sym same)
-
-tens_of : (n : ℕ) → 10 ≤ n → n < 100 → decimal n ≡ (48 + n / 10 % 10) ∷ (48 + n % 10) ∷ []
-tens_of n more less =
-    let same : n / 10 % 10 ≡ n / 10 = omega (arith, less) in
-    two_digits n more less ∙ ap (λ (d : ℕ). (48 + d) ∷ (48 + n % 10) ∷ []) (sym same)
 
 pub returns-then-id-lt10 : goal.returns-then-id-lt10
 returns-then-id-lt10 g c =
