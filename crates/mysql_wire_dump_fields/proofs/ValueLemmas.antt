@@ -2,15 +2,15 @@
 use Rattle.std.proofs.Common.{◌≡◌, ◌≢◌, ◌<◌, ℕ, ◌+◌, true, false, List, [], ◌∷◌, ◌++◌, length, get_or, take, refl, sym, subst, ap, ◌∙◌, inl, inr, append-nil, append_assoc, length-append, arith, Option, Some, None}
 use Rattle.std.proofs.KnownBytes.{Appends-nil, Appends-trans}
 use Rattle.std.specs.Io.KnownBytes.{Appends}
-use Rattle.wire_text.specs.Fields.{Member, Octets, Puts, Written, put, puts}
-use Rattle.mysql_wire_dump_fields.specs.ValueFields.{TextsSoFar, AreTexts, AreValues, IsNoText, IsNoValueAt, PutsColumn, PutsText, PutsTexts, PutsValues, WritesText, WritesTexts, rest_if}
+use Rattle.wire_text.specs.Fields.{Member, Octets, Puts, Written, member_form, put, puts}
+use Rattle.mysql_wire_dump_fields.specs.ValueFields.{IsTextAt, TextsSoFar, AreTexts, AreValues, IsNoText, IsNoValueAt, PutsColumn, PutsText, PutsTexts, PutsValues, WritesText, WritesTexts, rest_if}
 use Rattle.mysql_wire_session_phases.specs.declared.refusal.Refusal.{Refusal}
 use Rattle.mysql_wire_session_phases.specs.declared.refusal.Refusal.TheVariants.{TrailingBytes}
 use Rattle.mysql_wire_statements.specs.declared.binary_row.BinaryRow.{BinaryRow}
 use Rattle.std.proofs.lemmas.List.{take_all}
 use Rattle.std.proofs.lemmas.Grind.{common_steps}
 use Rattle.std.specs.Prelude.{◌==◌, codes}
-use Rattle.wire_text.proofs.FieldLemmas.{puts_append}
+use Rattle.wire_text.proofs.FieldLemmas.{put_hidden, puts_append}
 use Rattle.wire_text.proofs.PartLemmas.{end_itself, nothing_written}
 use Rattle.wire_text.specs.Parts.{IsEnd}
 
@@ -45,6 +45,12 @@ texts-more place payload bytes rest start old new so one = record {
   goes = λ members end are. rw (append_assoc so.before (one.0 ∷ []) members)
       (so.goes (one.0 ∷ members) end (rest, (one.1.0, are)));
 }
+
+-- one that is not shown changes nothing
+pub texts-passed : (place : ℕ) (payload bytes rest : List ℕ) (fields : Written) (member : Member) → member_form fields.form ≡ None
+    → TextsSoFar place payload bytes fields fields → IsTextAt place bytes member rest → TextsSoFar (place + 1) payload rest fields fields
+texts-passed place payload bytes rest fields member hidden so at =
+    texts-more place payload bytes rest fields fields fields so (member, (at, put_hidden fields.form fields member refl hidden))
 
 pub texts-all : (place : ℕ) (payload bytes : List ℕ) (start now : Written)
     → (so : TextsSoFar place payload bytes start now) → AreTexts 0 payload so.before bytes

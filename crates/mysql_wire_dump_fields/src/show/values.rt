@@ -20,6 +20,7 @@ use std::alloc::{AllocError, Allocator, Global};
 use std::num::{f32_from_bits_with_nan, f64_from_bits_with_nan};
 use wire_buf::error::WireError;
 use wire_buf::io::ParseBuf;
+use wire_buf::lengths::MAX_PAYLOAD_LEN;
 use wire_const::ColumnType;
 use wire_text::fields::{Field, FieldValue, Fields, MemberForm};
 
@@ -228,8 +229,8 @@ fn put_texts<A: Allocator + Copy>(
     }
 }
 
-/// Reads a row of this many columns, value by value, and puts each. The answer is why it is none.
-pub fn text_row<A: Allocator + Copy>(
+// The same, of any row.
+fn any_row<A: Allocator + Copy>(
     global: Global,
     fields: &mut Fields<A>,
     columns: u64,
@@ -239,6 +240,48 @@ pub fn text_row<A: Allocator + Copy>(
         fields.old fields.new) }
 {
     put_texts(global, fields, columns, payload)
+}
+
+// Whether a row of one chunk has just this many values, each NULL or a text whose length is one byte:
+// where fields are hidden, nothing is put of it.
+#[inline(never)]
+fn is_short_row(columns: u64, payload: &[u8]) -> bool
+    ensures { result ≡ true → (fields : Written) → member_form fields.form ≡ None
+        → PutsTexts columns payload.now None fields fields }
+{
+    if payload.len() >= MAX_PAYLOAD_LEN {
+        return false;
+    }
+    let mut at = 0;
+    'texts: for place in 0..columns {
+        let Some(first) = payload.get(at) else {
+            return false;
+        };
+        at += 1;
+        if *first as usize <= LONGEST {
+            at += *first as usize;
+        } else if *first != 0xfb {
+            return false;
+        }
+    }
+    at == payload.len()
+}
+
+/// Reads a row of this many columns, value by value, and puts each. The answer is why it is none.
+#[inline(always)]
+pub fn text_row<A: Allocator + Copy>(
+    global: Global,
+    fields: &mut Fields<A>,
+    columns: u64,
+    payload: &[u8],
+) -> Result<Option<Refusal>, SessionError>
+    ensures { IfOk result (λ refusal. PutsTexts columns payload.now refusal
+        fields.old fields.new) }
+{
+    if fields.shown_form().is_none() && is_short_row(columns, payload) {
+        return Ok(None);
+    }
+    any_row(global, fields, columns, payload)
 }
 
 // Puts a number of these bits.
