@@ -257,7 +257,8 @@ fn push_again<A: Allocator + Copy>(
     begun: usize,
     head: usize,
     form: LineForm,
-    seen: &Seen,
+    came: (Side, u8, PacketKind),
+    len: usize,
     payload: &[u8],
 ) -> Result<(), AllocError>
     requires begun { IsUtf8 (take begun (string_bytes text.old)) }
@@ -265,11 +266,18 @@ fn push_again<A: Allocator + Copy>(
     requires order { begun ≤ head }
     requires within { head ≤ length (string_bytes text.old) }
     ensures { OnOk result (string_bytes text.new ≡ take begun (string_bytes text.old)
-        ++ packet_line form seen.now payload.now (drop head (string_bytes text.old))) }
+        ++ packet_line form (record { side = came.0; id = came.1; len = len; kind = came.2 })
+        payload.now (drop head (string_bytes text.old))) }
 {
+    let seen = Seen {
+        side: came.0,
+        id: came.1,
+        len,
+        kind: came.2,
+    };
     let fields = text.split_off(head)?;
     text.truncate(begun);
-    push_packet(text, form, seen, payload, fields.as_str())
+    push_packet(text, form, &seen, payload, fields.as_str())
 }
 
 impl<A: Allocator + Copy> SessionLines<A> {
@@ -332,8 +340,8 @@ impl<A: Allocator + Copy> SessionLines<A> {
         let head = self.text.len();
         let kind = self.push_fields((side, id, kind), payload)?;
         if is_refused(kind) {
-            let seen = Seen { kind, ..seen };
-            push_again(&mut self.text, begun, head, form, &seen, payload)?;
+            let came = (side, id, kind);
+            push_again(&mut self.text, begun, head, form, came, len, payload)?;
         } else {
             push_end(&mut self.text, form)?;
         }
@@ -526,16 +534,25 @@ impl<A: Allocator + Copy> Dump<A> {
         }
     }
 
+    // Writes the text.
+    #[cold]
+    fn write_text<W: Write>(&mut self, output: &mut W) -> Result<(), Stop>
+        ensures { OnOk result (WritesMuch W.contents self.old output.old self.new output.new) }
+    {
+        let text = &mut self.lines.text;
+        output.write_all(text.as_bytes())?;
+        text.clear();
+        Ok(())
+    }
+
     // Writes the text, where there is much of it.
     fn write_much<W: Write>(&mut self, output: &mut W) -> Result<(), Stop>
         ensures { OnOk result (WritesMuch W.contents self.old output.old self.new output.new) }
     {
-        let text = &mut self.lines.text;
-        if text.len() >= WRITE_SIZE {
-            output.write_all(text.as_bytes())?;
-            text.clear();
+        if self.lines.text.len() < WRITE_SIZE {
+            return Ok(());
         }
-        Ok(())
+        self.write_text(output)
     }
 
     // Why the client has no more packets, and the server.

@@ -21,7 +21,7 @@ truncate-requires g c within =
 pub returns : goal.returns
 returns g c =
     let all = string_bytes c.args.text.now in
-    subst (λ (z : List ℕ × List ℕ). OnOk c.push_packet.result (string_bytes c.push_packet.new.text ≡ z.0 ++ packet_line c.args.form c.args.seen.now c.args.payload.now z.1))
+    subst (λ (z : List ℕ × List ℕ). OnOk c.push_packet.result (string_bytes c.push_packet.new.text ≡ z.0 ++ packet_line c.args.form (record { side = c.args.came.0; id = c.args.came.1; len = c.args.len; kind = c.args.came.2 }) c.args.payload.now z.1))
     (ap₂ (λ (a b : List ℕ). (a, b))
     (c.truncate.ensures.bytes ∙ ap (take c.args.begun) c.in_ok-fields.ensures.bytes ∙ shorter_part c.args.begun c.args.head all c.requires.order c.requires.within)
     (c.as_str.ensures.value ∙ c.in_ok-fields.ensures.tail)) c.push_packet.ensures
