@@ -56,12 +56,12 @@ short_text_behind place n bytes behind rest bytes_are below there rest_is = reco
   member_is = refl;
 }
 
--- and of NULL
-pub null_behind : (place : ℕ) (bytes behind : List ℕ) → bytes ≡ 0xfb ∷ behind → IsTextAt place bytes (decimal place, Null) behind
-null_behind place bytes behind bytes_are = record {
+-- the mark of NULL is read as such
+pub null_text : (place mark : ℕ) (bytes behind : List ℕ) → bytes ≡ mark ∷ behind → mark ≡ 0xfb → IsTextAt place bytes (decimal place, Null) behind
+null_text place mark bytes behind bytes_are mark_is = record {
   value = None;
   eaten = 1;
-  reads = rw (bytes_are) (inl (refl, (refl, refl)));
+  reads = rw (bytes_are) (rw (mark_is) (inl (refl, (refl, refl))));
   behind_is = sym (ap (drop 1) bytes_are);
   member_is = refl;
 }
@@ -77,8 +77,8 @@ pub null_passed : (place at first default : ℕ) (payload : List ℕ) → at < l
     → ArePassed place payload (drop at payload) → ArePassed (place + 1) payload (drop (at + 1) payload)
 null_passed place at first default payload below is null so fields hidden =
     texts-passed place payload (drop at payload) (drop (at + 1) payload) fields (decimal place, Null) hidden (so fields hidden)
-    (null_behind place (drop at payload) (drop (at + 1) payload)
-    (drop_more payload at default below ∙ ap (λ (z : ℕ). z ∷ drop (at + 1) payload) (sym is ∙ null)))
+    (null_text place first (drop at payload) (drop (at + 1) payload)
+    (drop_more payload at default below ∙ ap (λ (z : ℕ). z ∷ drop (at + 1) payload) (sym is)) null)
 
 pub short_passed : (place at first default : ℕ) (payload : List ℕ) → at < length payload → first ≡ get_or payload at default → first < 251
     → at + 1 + first ≤ length payload

@@ -27,6 +27,9 @@ use wire_text::fields::{Field, FieldValue, Fields, MemberForm};
 // The longest text whose length is one byte.
 const LONGEST: usize = 250;
 
+// What stands for NULL.
+const NULL: u8 = 0xfb;
+
 // Reads the text of a column, and puts it, where none is shown, or it is short and others follow: whether
 // it has.
 #[inline(always)]
@@ -81,8 +84,74 @@ fn put_last<A: Allocator + Copy>(
     Ok(true)
 }
 
-// Reads the text of a column, and puts it. The answer is why it is none.
+// The same of any text whose length is one byte.
 #[inline(always)]
+fn put_known<A: Allocator + Copy>(
+    fields: &mut Fields<A>,
+    place: u64,
+    rest: &mut ParseBuf<'_>,
+) -> Result<bool, SessionError>
+    ensures put { result ≡ Ok true
+        → PutsText place rest.old.0.now rest.new.0.now None fields.old fields.new }
+    ensures not { result ≡ Ok false
+        → (fields.new ≡ fields.old) × (rest.new.0.now ≡ rest.old.0.now) }
+{
+    let Some((len, after)) = rest.0.split_first() else {
+        return Ok(false);
+    };
+    let len = *len as usize;
+    if len > LONGEST || len > after.len() {
+        return Ok(false);
+    }
+    fields.put_at(place, FieldValue::Text(&after[..len]))?;
+    rest.0 = &after[len..];
+    Ok(true)
+}
+
+// The same of NULL.
+#[inline(always)]
+fn put_null<A: Allocator + Copy>(
+    fields: &mut Fields<A>,
+    place: u64,
+    rest: &mut ParseBuf<'_>,
+) -> Result<bool, SessionError>
+    ensures put { result ≡ Ok true
+        → PutsText place rest.old.0.now rest.new.0.now None fields.old fields.new }
+    ensures not { result ≡ Ok false
+        → (fields.new ≡ fields.old) × (rest.new.0.now ≡ rest.old.0.now) }
+{
+    let Some((mark, behind)) = rest.0.split_first() else {
+        return Ok(false);
+    };
+    if *mark != NULL {
+        return Ok(false);
+    }
+    fields.put_at(place, FieldValue::Null)?;
+    rest.0 = behind;
+    Ok(true)
+}
+
+// The same of either.
+#[inline(always)]
+fn put_usual<A: Allocator + Copy>(
+    fields: &mut Fields<A>,
+    place: u64,
+    rest: &mut ParseBuf<'_>,
+) -> Result<bool, SessionError>
+    ensures put { result ≡ Ok true
+        → PutsText place rest.old.0.now rest.new.0.now None fields.old fields.new }
+    ensures not { result ≡ Ok false
+        → (fields.new ≡ fields.old) × (rest.new.0.now ≡ rest.old.0.now) }
+{
+    if put_known(fields, place, rest)? {
+        return Ok(true);
+    }
+    put_null(fields, place, rest)
+}
+
+// Reads the text of a column, and puts it. The answer is why it is none.
+#[cold]
+#[inline(never)]
 fn put_any<A: Allocator + Copy>(
     global: Global,
     fields: &mut Fields<A>,
@@ -105,6 +174,27 @@ fn put_any<A: Allocator + Copy>(
     }
 }
 
+// The same, where it is no short text. What is left is read from a copy, so that a loop need not keep it
+// in memory.
+#[inline(always)]
+fn put_other<A: Allocator + Copy>(
+    global: Global,
+    fields: &mut Fields<A>,
+    place: u64,
+    rest: &mut ParseBuf<'_>,
+) -> Result<Option<Refusal>, SessionError>
+    ensures { IfOk result (λ refusal. PutsText place rest.old.0.now rest.new.0.now refusal
+        fields.old fields.new) }
+{
+    if put_usual(fields, place, rest)? {
+        return Ok(None);
+    }
+    let mut left = ParseBuf(rest.0);
+    let refusal = put_any(global, fields, place, &mut left)?;
+    rest.0 = left.0;
+    Ok(refusal)
+}
+
 // The same: a short one at once.
 #[inline(always)]
 fn put_text<A: Allocator + Copy>(
@@ -121,7 +211,7 @@ fn put_text<A: Allocator + Copy>(
     if put_short(fields, form, place, rest)? {
         return Ok(None);
     }
-    put_any(global, fields, place, rest)
+    put_other(global, fields, place, rest)
 }
 
 // The same of one of a row's last texts.
@@ -139,7 +229,7 @@ fn put_last_text<A: Allocator + Copy>(
     if put_last(fields, place, rest, end)? {
         return Ok(None);
     }
-    put_any(global, fields, place, rest)
+    put_other(global, fields, place, rest)
 }
 
 // Why a row is none, of which all values were read and this is left.
