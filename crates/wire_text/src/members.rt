@@ -215,7 +215,7 @@ fn push_plain<A: Allocator>(
 {
     push_plain_front(text, form, is_first, name)?;
     text.push_str(words)?;
-    text.push_str("\"")
+    text.push('"')
 }
 
 // A name on a line of its own. One of one or two bytes goes in one append with what stands around it.
@@ -447,7 +447,7 @@ fn push_short<A: Allocator>(
         ++ member_part form is_first (name.now, Word (take len block.now))) }
 {
     push_short_words(text, form, is_first, name, block, len)?;
-    text.push_str("\"")
+    text.push('"')
 }
 
 // The same, of a place of three digits and more.
@@ -662,9 +662,9 @@ pub(crate) fn push_word_at<A: Allocator, T: PutWord>(
         ++ member_part form is_first (decimal place, Word (T.letters word.now))) }
 {
     push_name_at(text, form, is_first, place)?;
-    text.push_str("\"")?;
+    text.push('"')?;
     word.push(text)?;
-    text.push_str("\"")
+    text.push('"')
 }
 
 // A value whose name is its place.
