@@ -74,7 +74,7 @@ fn put_last<A: Allocator + Copy>(
         return Ok(false);
     };
     let len = *len as usize;
-    if len > LONGEST || len > left.len() {
+    if len > left.len() || left.len() >= 32 {
         return Ok(false);
     }
     if !fields.put_short_at(place, end.widened(left), len)? {

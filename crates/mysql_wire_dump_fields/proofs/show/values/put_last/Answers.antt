@@ -18,7 +18,7 @@ returns-clause-put g c is =
     let same = sym (take-take len (length left) c.widened.result.now c.if-len-left.false) ∙ ap (take len) c.widened.ensures in (
       (decimal c.args.place, Words (take len left)),
       (
-        short_text c.args.place len c.args.rest.now.0.now left c.in-Some.ensures.cases.0 (omega (arith, c.if-len-gt-LONGEST.false)) c.if-len-left.false,
+        short_text c.args.place len c.args.rest.now.0.now left c.in-Some.ensures.cases.0 (omega (arith, c.if-len-left.false, c.if-left-ge32.false)) c.if-len-left.false,
         subst (λ (z : List ℕ). Puts ((decimal c.args.place, Words z) ∷ []) c.args.fields.now c.put_short_at.new.self) same
             (put.put (ap Ok c.if-not-branch.false)),
       ),
