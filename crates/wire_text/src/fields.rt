@@ -212,22 +212,8 @@ impl<A: Allocator + Copy> Fields<A> {
 
     /// Puts the text that these bytes begin with, of this many bytes, which has no name but its place:
     /// whether it has. Where fields are shown, that is where it is short, and 32 bytes are there if its
-    /// letters are plain, 48 if some need escapes; else nothing changes.
-    #[inline(always)]
-    pub fn put_short_at(&mut self, place: u64, bytes: &[u8], len: usize) -> Result<bool, AllocError>
-        ensures within { result ≡ Ok true → len ≤ length bytes.now }
-        ensures put { result ≡ Ok true
-            → Puts ((decimal place, Words (take len bytes.now)) ∷ []) self.old self.new }
-        ensures not { result ≡ Ok false → (self.new ≡ self.old)
-            × ((length bytes.now < 32) ⊎ ((prefix_len plain (take 32 bytes.now) < len)
-            × ((length bytes.now < 48) ⊎ (prefix_len in_ascii (take 32 bytes.now) < len)))) }
-        ensures hidden { self.old.form ≡ Hidden → len ≤ length bytes.now → result ≡ Ok true }
-    {
-        self.put_short_in(self.shown_form(), place, bytes, len)
-    }
-
-    /// `put_short_at`, where it is known how fields are shown: a caller that puts many texts has code
-    /// for each form, which doesn't ask again.
+    /// letters are plain, 48 if some need escapes; else nothing changes. It is known how fields are
+    /// shown: a caller that puts many texts has code for each form, which doesn't ask again.
     #[inline(always)]
     pub fn put_short_in(
         &mut self,

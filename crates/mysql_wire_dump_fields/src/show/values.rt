@@ -60,11 +60,13 @@ fn put_short<A: Allocator + Copy>(
 #[inline(always)]
 fn put_last<A: Allocator + Copy>(
     fields: &mut Fields<A>,
+    form: Option<MemberForm>,
     place: u64,
     rest: &mut ParseBuf<'_>,
     end: &RowEnd,
 ) -> Result<bool, SessionError>
-    requires { IsEndOf end.now rest.old.0.now }
+    requires shown { form ≡ member_form fields.old.form }
+    requires end { IsEndOf end.now rest.old.0.now }
     ensures put { result ≡ Ok true
         → PutsText place rest.old.0.now rest.new.0.now None fields.old fields.new }
     ensures not { result ≡ Ok false
@@ -77,7 +79,7 @@ fn put_last<A: Allocator + Copy>(
     if len > left.len() || left.len() >= 32 {
         return Ok(false);
     }
-    if !fields.put_short_at(place, end.widened(left), len)? {
+    if !fields.put_short_in(form, place, end.widened(left), len)? {
         return Ok(false);
     }
     rest.0 = &left[len..];
@@ -218,15 +220,17 @@ fn put_text<A: Allocator + Copy>(
 fn put_last_text<A: Allocator + Copy>(
     global: Global,
     fields: &mut Fields<A>,
+    form: Option<MemberForm>,
     place: u64,
     rest: &mut ParseBuf<'_>,
     end: &RowEnd,
 ) -> Result<Option<Refusal>, SessionError>
-    requires { IsEndOf end.now rest.old.0.now }
+    requires shown { form ≡ member_form fields.old.form }
+    requires end { IsEndOf end.now rest.old.0.now }
     ensures { IfOk result (λ refusal. PutsText place rest.old.0.now rest.new.0.now refusal
         fields.old fields.new) }
 {
-    if put_last(fields, place, rest, end)? {
+    if put_last(fields, form, place, rest, end)? {
         return Ok(None);
     }
     put_other(global, fields, place, rest)
@@ -249,10 +253,12 @@ fn left_over(rest: &ParseBuf<'_>) -> Option<Refusal>
 fn put_end<A: Allocator + Copy>(
     global: Global,
     fields: &mut Fields<A>,
+    form: Option<MemberForm>,
     places: (u64, u64),
     left: &[u8],
     payload: &[u8],
 ) -> Result<Option<Refusal>, SessionError>
+    requires shown { form ≡ member_form fields.old.form }
     requires order { places.0 ≤ places.1 }
     requires behind { IsBehind payload.now left.now }
     ensures { (begun : Written) → TextsSoFar places.0 payload.now left.now begun fields.old
@@ -262,7 +268,7 @@ fn put_end<A: Allocator + Copy>(
     end.take(payload);
     let mut rest = ParseBuf(left);
     'values: for place in places.0..places.1 {
-        match put_last_text(global, fields, place, &mut rest, &end)? {
+        match put_last_text(global, fields, form, place, &mut rest, &end)? {
             None => {}
             Some(refusal) => return Ok(Some(refusal)),
         }
@@ -288,7 +294,7 @@ fn put_texts_in<A: Allocator + Copy>(
     let mut rest = ParseBuf(payload);
     'values: for place in 0..columns {
         if form.is_some() && rest.0.len() <= 32 {
-            return put_end(global, fields, (place, columns), rest.0, payload);
+            return put_end(global, fields, form, (place, columns), rest.0, payload);
         }
         match put_text(global, fields, form, place, &mut rest)? {
             None => {}

@@ -1,7 +1,8 @@
-use Rattle.std.proofs.Common.{ℕ, arith, subst}
+use Rattle.std.proofs.Common.{◌∙◌, ℕ, ap, arith, subst, sym}
+use Rattle.wire_text.specs.Fields.{member_form}
 use Rattle.mysql_wire_dump_fields.specs.ValueFields.{TextsSoFar}
 use Rattle.mysql_wire_dump_fields.proofs.RowEndLemmas.{is_end_behind}
-use Rattle.mysql_wire_dump_fields.proofs.ValueLemmas.{texts-left, texts-more, texts-refused}
+use Rattle.mysql_wire_dump_fields.proofs.ValueLemmas.{one_put-form, texts-left, texts-more, texts-refused}
 use Rattle.mysql_wire_dump_fields.proofs.show.values.put_end.Goals as goal
 
 pub returns-in-Some : goal.returns-in-Some
@@ -15,6 +16,7 @@ values-preserved g c =
       λ begun so. texts-more c.values.place c.args.payload.now c.values.rest.0.now c.put_last_text.new.rest.0.now begun c.values.fields
           c.put_last_text.new.fields (c.values.invariant.0 begun so) put,
       is_end_behind c.take.new.self put.1.0.eaten c.values.rest.0.now c.put_last_text.new.rest.0.now put.1.0.behind_is c.values.invariant.1,
+      c.values.invariant.2 ∙ ap member_form (sym (one_put-form put.0 c.values.fields c.put_last_text.new.fields put.1.1)),
     )
 
 pub returns : goal.returns

@@ -1,4 +1,5 @@
-use Rattle.wire_text.specs.Fields.{Written}
+use Rattle.std.proofs.Common.{◌≡◌}
+use Rattle.wire_text.specs.Fields.{Written, member_form}
 use Rattle.mysql_wire_dump_fields.specs.RowEnds.{IsEndOf}
 use Rattle.mysql_wire_dump_fields.specs.ValueFields.{TextsSoFar}
 use Rattle.mysql_wire_dump_fields.proofs.show.values.put_end.Given as goal
@@ -7,4 +8,4 @@ abbrev pub invariant-values : goal.invariant-values
 invariant-values g l =
     ((begun : Written) → TextsSoFar l.fn.places.0 l.payload l.left begun l.fn.fields
     → TextsSoFar l.place l.payload l.rest.0.now begun l.fields)
-    × IsEndOf l.end l.rest.0.now
+    × IsEndOf l.end l.rest.0.now × (l.form ≡ member_form l.fields.form)
