@@ -198,6 +198,12 @@ one_between front back [] front_is back_is name_is some few = absurd (omega (ari
 one_between front back (one ∷ []) front_is back_is name_is some few = utf8_between front back (one ∷ []) front_is back_is name_is
 one_between front back (one ∷ two ∷ more) front_is back_is name_is some few = absurd (omega (arith, few))
 
+-- a name of one byte
+pub one_of : (name : List ℕ) → 1 ≤ length name → length name < 2 → slice_index_or name 0 0 ∷ [] ≡ name
+one_of [] some few = absurd (omega (arith, some))
+one_of (one ∷ []) some few = refl
+one_of (one ∷ two ∷ more) some few = absurd (omega (arith, few))
+
 pub two_between : (front back name : List ℕ) → all_ascii front ≡ true → all_ascii back ≡ true → IsUtf8 name → 2 ≤ length name → length name < 3
     → IsUtf8 (front ++ (slice_index_or name 0 0 ∷ slice_index_or name 1 0 ∷ back))
 two_between front back [] front_is back_is name_is some few = absurd (omega (arith, some))

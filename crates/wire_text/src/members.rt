@@ -3,7 +3,7 @@
 ghost use Rattle.std.specs.Prelude.{◌≡◌, ◌≢◌, ◌≤◌, ◌++◌, ℕ, List, [], codes, length, take, IfSome, IsSome, IsTrue, OnOk, string_bytes};
 ghost use Rattle.std.specs.Fmt.{decimal};
 ghost use Rattle.std.specs.Str.{IsUtf8};
-ghost use Rattle.wire_text.specs.Fields.{all_ascii, all_plain, digits_text, end_part, flags_text, member_part, name_part, none_needs_escape, octets_text, value_of, value_text, words_text, Null, Word, Words};
+ghost use Rattle.wire_text.specs.Fields.{all_ascii, all_plain, digits_text, end_part, flags_text, member_part, name_part, none_needs_escape, octets_text, value_of, value_text, words_text, Null, Number, Word, Words};
 
 use crate::digits::{fill, push_digits_to};
 use crate::escapes::{is_ascii, none_needs_escape};
@@ -322,7 +322,7 @@ fn push_with_front<A: Allocator>(
     block: &[u8],
     len: usize,
 ) -> Result<(), AllocError>
-    requires few { length letters.now ≤ 8 }
+    requires few { length letters.now ≤ 16 }
     requires letters { IsUtf8 letters.now }
     requires within { len ≤ length block.now }
     requires long { length block.now ≡ 32 }
@@ -331,7 +331,7 @@ fn push_with_front<A: Allocator>(
         ≡ string_bytes text.old ++ (letters.now ++ take len block.now)) }
 {
     let end = text.len() + letters.len() + len;
-    let mut room = [0; 40];
+    let mut room = [0; 48];
     let all = &mut room[..letters.len() + 32];
     fill(all, letters, &below_128(block));
     push_few(text, all)?;
@@ -401,6 +401,39 @@ fn push_short_pair<A: Allocator>(
     }
 }
 
+// The same before the first member.
+#[inline(always)]
+fn push_short_first<A: Allocator>(
+    text: &mut String<A>,
+    name: &str,
+    block: &[u8],
+    len: usize,
+) -> Result<(), AllocError>
+    requires within { len ≤ length block.now }
+    requires long { length block.now ≡ 32 }
+    requires plain { IsTrue (all_plain (take len block.now)) }
+    ensures { OnOk result (string_bytes text.new ≡ string_bytes text.old
+        ++ ((codes ",\"fields\":{\"" ++ name.now ++ codes "\":\"") ++ take len block.now)) }
+{
+    match name.as_bytes() {
+        [one] => {
+            push_with_front(
+                text,
+                &[
+                    b',', b'"', b'f', b'i', b'e', b'l', b'd', b's', b'"', b':', b'{', b'"', *one,
+                    b'"', b':', b'"',
+                ],
+                block,
+                len,
+            )
+        }
+        _ => {
+            push_between(text, ",\"fields\":{\"", name, "\":\"")?;
+            push_with_front(text, &[], block, len)
+        }
+    }
+}
+
 // The name of a field, the quote after it, and the text's letters.
 #[inline(always)]
 fn push_short_words<A: Allocator>(
@@ -421,8 +454,7 @@ fn push_short_words<A: Allocator>(
         MemberForm::Text => push_short_line(text, name, block, len),
         MemberForm::Json => {
             if is_first {
-                push_between(text, ",\"fields\":{\"", name, "\":\"")?;
-                push_with_front(text, &[], block, len)
+                push_short_first(text, name, block, len)
             } else {
                 push_short_pair(text, name, block, len)
             }
@@ -667,6 +699,22 @@ pub(crate) fn push_word_at<A: Allocator, T: PutWord>(
     text.push('"')
 }
 
+// A number whose name is its place.
+#[inline(never)]
+fn push_number_at<A: Allocator>(
+    text: &mut String<A>,
+    form: MemberForm,
+    is_first: bool,
+    place: u64,
+    number: u64,
+) -> Result<(), AllocError>
+    ensures { OnOk result (string_bytes text.new
+        ≡ string_bytes text.old ++ member_part form is_first (decimal place, Number number)) }
+{
+    push_name_at(text, form, is_first, place)?;
+    push_number(text, number)
+}
+
 // A value whose name is its place.
 #[inline(never)]
 fn push_value_at<A: Allocator + Copy>(
@@ -698,6 +746,7 @@ pub(crate) fn push_member_at<A: Allocator + Copy>(
     match value {
         FieldValue::Text(bytes) => push_text_at(text, form, is_first, place, bytes),
         FieldValue::Null => push_null_at(text, form, is_first, place),
+        FieldValue::Number(number) => push_number_at(text, form, is_first, place, number),
         _ => push_value_at(text, form, is_first, place, value),
     }
 }
