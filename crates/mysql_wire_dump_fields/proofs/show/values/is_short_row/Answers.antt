@@ -14,14 +14,14 @@ texts-preserved c =
     let first_is = c.in-Some.ensures.lookup.1 in
     let so = c.texts.invariant.1 (omega (arith, below)) in
     elim c.if-first-le-LONGEST.branch [
-    then-first-le-LONGEST w ↦ rw (w.at-is) (
-      omega (arith, below, w.if-first-le-LONGEST.true),
-      λ within. short_passed c.texts.place c.texts.at c.in-Some.first.now _ payload below first_is (omega (arith, w.if-first-le-LONGEST.true)) within so,
-    )
-    | else-first-le-LONGEST+else-first w ↦ rw (w.at-is) (
-      omega (arith, below),
-      λ within. null_passed c.texts.place c.texts.at c.in-Some.first.now _ payload below first_is (search (rules, w.if-first.false)) so,
-    )
+      | then-first-le-LONGEST w ↦ rw (w.at-is) (
+        omega (arith, below, w.if-first-le-LONGEST.true),
+        λ within. short_passed c.texts.place c.texts.at c.in-Some.first.now _ payload below first_is (omega (arith, w.if-first-le-LONGEST.true)) within so,
+      )
+      | else-first-le-LONGEST+else-first w ↦ rw (w.at-is) (
+        omega (arith, below),
+        λ within. null_passed c.texts.place c.texts.at c.in-Some.first.now _ payload below first_is (search (rules, w.if-first.false)) so,
+      )
     ]
 
 pub returns : goal.returns
