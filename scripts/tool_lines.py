@@ -68,6 +68,9 @@ PIECES = [
     ("reframe 0", b"", 0, b""),
     ("reframe 1", b"\1\0\0\0a\2\0\0\1bc", 4, b"\1\0\0\0a"),
     ("reframe 4294967295", b"\1\0\0\0a\0\0\0\1\0\0\0\5", 5, b"\1\0\0\0a\0\0\0\1"),
+    # A chunk of another id, of which a byte is missing, and whole.
+    ("reframe 10", b"\1\0\0\0a\2\0\0\5b", 3, b"\1\0\0\0a"),
+    ("reframe 10", b"\1\0\0\0a\2\0\0\5bc", 5, b"\1\0\0\0a"),
 ]
 
 # Lines that ask for no command: nothing is read, and nothing is written.
@@ -164,6 +167,7 @@ FAULTS = [
     # Each packet is written before the next read. Room for a read, and for the framing.
     ("reframe 3", THREE, 8, 0, THREE, 99, 2),
     ("reframe 3", b"\1\0\0\0a\0\0\0\5", 9, 5, b"\1\0\0\0a", 99, 2),
+    ("reframe 3", b"\1\0\0\0a\2\0\0\5bc", 11, 5, b"\1\0\0\0a", 99, 2),
 ]
 
 # The most requests for memory of one of these, beside those for its words, and of `unframe` where a
@@ -335,6 +339,10 @@ def of_long_packets(folder):
         line = "reframe %d" % (length - 1)
         found.append((line, goes(line, data, 4, data[:5], folder)))
         yield "reframe of a packet of %d bytes" % length, joined(found)
+    whole = b"\1\0\0\0a\xff\xff\xff\1" + b"D" * 16777215 + b"\2\0\0\5bc"
+    found = [(status, goes("reframe 99999999", data, status, whole[:5], folder))
+             for data, status in [(whole, 5), (whole[:-1], 3), (whole[:-3], 3)]]
+    yield "reframe of a packet whose second chunk is of another id", joined(found)
 
 
 def packets(count):
@@ -494,6 +502,20 @@ def of_few_requests(folder):
     yield "requests of unframe of 8000 packets", fault
 
 
+def of_long_requests(folder):
+    """The same where `reframe` is refused memory for a packet of two chunks: it asks for less, or ends."""
+    data = b"\1\0\0\0a\xff\xff\xff\1" + b"D" * 16777215 + b"\1\0\0\2c"
+    line, found = "reframe 99999999", []
+    before, _, _ = refused_words(line, folder)
+    for number in itertools.count(before):
+        status, text, said, _ = run(line, data, folder, REFUSED=number)
+        if "refused" not in said:
+            break
+        is_right = (status, text) == (0, data) or (status == 6 and text in (b"", data[:5]))
+        found.append((number, None if is_right else "%d, %d bytes" % (status, len(text))))
+    yield "reframe of two chunks, refused memory", joined(found) if found else "no request"
+
+
 def of_sends(folder):
     """The same where each read brings this many bytes, and one fails: `reframe` has sent each packet
     that came whole, and nothing else."""
@@ -524,7 +546,8 @@ def of_failing(folder):
         return
     library = ["-shared", "-fPIC", "-o", folder / "failing.so"]
     subprocess.run([compiler, *library, FAILING], check=True)
-    for checks in (of_single_bytes, of_faults, of_few_requests, of_sends, of_offered_packets):
+    for checks in (of_single_bytes, of_faults, of_few_requests, of_long_requests, of_sends,
+                   of_offered_packets):
         yield from checks(folder)
 
 

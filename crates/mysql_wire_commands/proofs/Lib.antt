@@ -3,6 +3,7 @@ pub mod ReadLemmas
 pub mod UnframeLemmas
 pub mod NumberLemmas
 pub mod ArgumentLemmas
+pub mod LongPacketLemmas
 pub mod ReframeLemmas
 pub mod SenderLemmas
 pub mod PacketLineLemmas

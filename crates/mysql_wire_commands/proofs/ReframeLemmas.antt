@@ -1,8 +1,8 @@
 -- One packet after another.
-use Rattle.std.proofs.Common.{◌≡◌, ◌≢◌, ℕ, ◌≤◌, ◌⊎◌, List, [], ◌∷◌, ◌++◌, length, refl, sym, ap, ◌∙◌, subst, arith, append_assoc, append-nil, Option, None, Some, IsSome, Ok, Err, Bool, true, ne_eqb, if◌then◌else◌, Result, inl, inr, zero-le}
+use Rattle.std.proofs.Common.{◌≡◌, ◌≢◌, ℕ, ◌≤◌, ◌⊎◌, List, [], ◌∷◌, ◌++◌, length, refl, sym, ap, ◌∙◌, subst, arith, append_assoc, append-nil, Option, None, Some, IsSome, Ok, Err, Bool, true, ne_eqb, if◌then◌else◌, Result, inl, inr, zero-le, ◌<◌, ◌+◌, zero, suc, length-append}
 use Rattle.std.proofs.lemmas.List.Elements.{All-nil}
 use Rattle.wire_codec.specs.Framing.{max_payload, framing, front, next_id, id_after, stream}
-use Rattle.wire_codec.specs.Delivery.{Continues, Ending, Waiting, TooLarge, OutOfSync, Delivers, Splits}
+use Rattle.wire_codec.specs.Delivery.{chunk_len, Continues, Ending, Waiting, TooLarge, OutOfSync, Delivers, Splits}
 use Rattle.wire_codec.specs.Codec.{CodecState, first_id, input_of, DecodesFrom}
 use Rattle.wire_codec.specs.Runs.{RunsTo}
 use Rattle.wire_codec.specs.Laws.{JoinedRuns, JoinedSplits, NothingRead, BetweenPackets, StreamAppend, IdAfterAppend, empty_state}
@@ -11,8 +11,14 @@ use Rattle.std.specs.Result.{IfOk}
 use Rattle.wire_text.specs.declared.stop.Stop.{Stop}
 use Rattle.wire_text.specs.declared.stop.Stop.TheVariants.{Io, Memory}
 use Rattle.wire_text.specs.Stops.{exit_status_of}
-use Rattle.mysql_wire_commands.specs.Reframe.{Reframing, Reframed, ReframeEnds, Sends}
-use Rattle.std.specs.Io.KnownBytes.{Appends}
+use Rattle.mysql_wire_commands.specs.declared.reframe.Ended.{Ended}
+use Rattle.mysql_wire_commands.specs.declared.reframe.Ended.TheVariants as ended
+use Rattle.mysql_wire_commands.specs.LongPackets.{EndsLong, LosesSync}
+use Rattle.mysql_wire_commands.specs.Reframe.{Reframing, Reframed, ReframeEnds, Sends, Drops, EndsCopying, Finishes}
+use Rattle.wire_codec.proofs.RunLemmas.{chunk_len_append, splits_extend}
+use Rattle.wire_span.specs.declared.span.SpanError.TheVariants as span
+use Rattle.wire_span.specs.SpanLaws.{SpansStop}
+use Rattle.std.specs.Io.KnownBytes.{Appends, Consumes, IsAtEnd}
 use Rattle.std.proofs.KnownBytes.{Appends-nil, Appends-trans}
 
 -- nothing read yet
@@ -91,11 +97,11 @@ left_behind : (limit : ℕ) (before : CodecState) (encodes : ℕ) (input text mo
 left_behind limit before encodes input text more u ending unfinished rest d =
     ap (λ (n : ℕ). front n unfinished ++ rest) (sym u.goes_on) ∙ sym d.splits.is
 
-none_left : (left : List ℕ) → left ≡ [] → 0 ≡ ending_status Waiting (length left)
+pub none_left : (left : List ℕ) → left ≡ [] → 0 ≡ ending_status Waiting (length left)
 none_left [] is = refl
 none_left (x ∷ left) is = absurd cc
 
-some_left : (left : List ℕ) → left ≢ [] → 3 ≡ ending_status Waiting (length left)
+pub some_left : (left : List ℕ) → left ≢ [] → 3 ≡ ending_status Waiting (length left)
 some_left [] is = absurd (is refl)
 some_left (x ∷ left) is = sym (ap (λ (none : Bool). if none then 0 else 3) (ne_eqb (length (x ∷ left)) 0 (λ none. absurd (omega arith))))
 
@@ -152,19 +158,27 @@ reframed_out_of_sync joined limit before encodes input text more unfinished rest
 }
 
 -- a command that gave up promises nothing of what was written
-pub reframe_status : (limit : ℕ) (answer : Result ℕ Stop) (unread left written now : Option (List ℕ))
-    → IfOk answer (λ status. ReframeEnds limit status unread left written now) → ReframeEnds limit (exit_status_of answer) unread left written now
-reframe_status limit (Ok status) unread left written now is = is
-reframe_status limit (Err Io) unread left written now is = record {
+gave_up : (limit : ℕ) (why : Stop) (unread left written now : Option (List ℕ)) → ReframeEnds limit (exit_status_of (Err why)) unread left written now
+gave_up limit Io unread left written now = record {
   cases = inr (inl refl);
   text = λ h. absurd (omega (arith, h));
   all_read = λ h. absurd (omega (arith, h));
 }
-reframe_status limit (Err Memory) unread left written now is = record {
+gave_up limit Memory unread left written now = record {
   cases = inr (inr (inr (inr (inr refl))));
   text = λ h. absurd (omega (arith, h));
   all_read = λ h. absurd (omega (arith, h));
 }
+
+-- what it answers, once the chunk in front has come
+pub reframe_status : (limit : ℕ) (finish : Result Ended Stop) (answer : Result ℕ Stop) (unread left last written now : Option (List ℕ))
+    → IfOk finish (λ at. EndsCopying limit at unread left written now) → IfOk answer (λ status. Finishes finish status left last)
+    → ReframeEnds limit (exit_status_of answer) unread last written now
+reframe_status limit finish (Err why) unread left last written now ends is = gave_up limit why unread last written now
+reframe_status limit (Ok (ended.At expected)) (Ok status) unread left last written now ends is =
+    subst (λ (z : ℕ). ReframeEnds limit z unread last written now) (sym is.0) (subst (λ (z : Option (List ℕ)). ReframeEnds limit expected unread z written now) (sym is.1) ends)
+reframe_status limit (Ok (ended.OutOfSync lacking)) (Ok status) unread left last written now ends is = ends status last is
+reframe_status limit (Err why) (Ok status) unread left last written now ends is = absurd is
 
 -- of what was framed, all but what is pending was written
 abbrev pub SoWritten : List ℕ → List ℕ → Option (List ℕ) → Option (List ℕ) → Type 0
@@ -189,16 +203,9 @@ passed_on text pending more left before between after so_far sends =
     (so_far.0, ap (λ (z : List ℕ). z ++ more) so_far.1 ∙ append_assoc so_far.0 pending more, so_far.2) in
     sent_on (text ++ more) (pending ++ more) left before between after queued sends
 
-pub all_sent : (text pending : List ℕ) (before between after : Option (List ℕ)) → SoWritten text pending before between → Appends between after pending → Appends before after text
-all_sent text pending before between after so_far sends =
-    subst (λ (z : List ℕ). Appends before after z) (sym so_far.1) (Appends-trans _ _ _ so_far.0 pending so_far.2 sends)
-
--- ended with a status, once all is written
-pub ended_with : (answer : Result ℕ Stop) (status limit : ℕ) (unread left written now : Option (List ℕ)) (Sent : Type 0)
-    → IfOk answer (λ ended. (ended ≡ status) × Sent) → (Sent → ReframeEnds limit status unread left written now)
-    → IfOk answer (λ ended. ReframeEnds limit ended unread left written now)
-ended_with (Ok ended) status limit unread left written now Sent is ends = subst (λ (z : ℕ). ReframeEnds limit z unread left written now) (sym is.0) (ends is.1)
-ended_with (Err why) status limit unread left written now Sent is ends = tt
+pub none_left_pending : (text pending : List ℕ) (before now : Option (List ℕ)) → SoWritten text pending before now → pending ≡ [] → Appends before now text
+none_left_pending text pending before now so_far none =
+    subst (λ (z : List ℕ). Appends before now z) (sym (so_far.1 ∙ ap (λ (z : List ℕ). so_far.0 ++ z) none ∙ append-nil so_far.0)) so_far.2
 
 pub some_lent : (lent : Option (List ℕ)) → IsSome lent → (packet : List ℕ) × (lent ≡ Some packet)
 some_lent None is = absurd cc
@@ -216,3 +223,110 @@ at_four P (inr e) = absurd (omega (arith, e))
 pub at_five : (P : Type 0) → ◌≡◌ {A = ℕ} 5 0 ⊎ ◌≡◌ {A = ℕ} 5 3 → P
 at_five P (inl e) = absurd (omega (arith, e))
 at_five P (inr e) = absurd (omega (arith, e))
+
+-- in front of a packet, what is to come is all that has not been taken
+delivers_at : BetweenPackets → (before : CodecState) (id limit : ℕ) → id < 256 → before.id ≡ id → before.limit ≡ limit → before.header ≡ None → before.held ≡ []
+    → (more unfinished rest : List ℕ) (ending : Ending) → Delivers [] (before.unread ++ more) id limit [] ending unfinished rest
+    → Delivers before.held (input_of before ++ more) (first_id before) before.limit [] ending unfinished rest
+delivers_at between before id limit small is same none nothing more unfinished rest ending d =
+    let here = between before (subst (λ (n : ℕ). n < 256) (sym is) small) none nothing in
+    subst (λ (z : List ℕ). Delivers z (input_of before ++ more) (first_id before) before.limit [] ending unfinished rest) (sym nothing)
+    (subst (λ (z : List ℕ). Delivers [] (z ++ more) (first_id before) before.limit [] ending unfinished rest) (sym here.2)
+    (subst (λ (n : ℕ). Delivers [] (before.unread ++ more) n before.limit [] ending unfinished rest) (sym (here.1 ∙ is))
+    (subst (λ (n : ℕ). Delivers [] (before.unread ++ more) id n [] ending unfinished rest) (sym same) d)))
+
+-- a packet that was taken whole
+pub reframing_long : JoinedSplits → StreamAppend → IdAfterAppend → BetweenPackets → (limit : ℕ) (before after : CodecState) (encodes next id : ℕ) (input text more packet : List ℕ)
+    → Reframing limit before encodes input text → id < 256 → before.id ≡ id → before.header ≡ None → before.held ≡ []
+    → (before.unread ++ more ≡ framing id packet ++ after.unread) × (length packet ≤ limit) × (after.id ≡ next_id id packet)
+    → after.header ≡ None → after.held ≡ [] → after.limit ≡ limit → next ≡ next_id encodes packet
+    → Reframing limit after next (input ++ more) (text ++ framing encodes packet)
+reframing_long joined stream-append id_after-append between limit before after encodes next id input text more packet u small is none nothing takes none_after held same numbered =
+    let here = between before (subst (λ (n : ℕ). n < 256) (sym is) small) none nothing in
+    let first : first_id before ≡ id = here.1 ∙ is in
+    let limit_is = u.same_limit in
+    reframing_more joined stream-append id_after-append between limit before after encodes next input text more packet u (
+      ap (λ (z : List ℕ). z ++ more) here.2 ∙ takes.0 ∙ ap (λ (n : ℕ). framing n packet ++ after.unread) (sym first),
+      subst (λ (z : List ℕ). Continues z before.limit packet) (sym nothing) (record { begins = refl; small = let fits = takes.1 in omega (arith, limit_is) }),
+      takes.2 ∙ ap (λ (n : ℕ). next_id n packet) (sym first),
+      none_after,
+    ) held (same ∙ sym limit_is) numbered
+
+-- the exit statuses
+status_of : (ending : Ending) (left status : ℕ) → status ≡ ending_status ending left
+    → (status ≡ 0) ⊎ (status ≡ 2) ⊎ (status ≡ 3) ⊎ (status ≡ 4) ⊎ (status ≡ 5) ⊎ (status ≡ 6)
+status_of Waiting zero status is = inl is
+status_of Waiting (suc left) status is =
+    inr (inr (inl (is ∙ ap (λ (none : Bool). if none then 0 else 3) (ne_eqb (suc left) 0 (λ none. absurd (omega arith))))))
+status_of TooLarge left status is = inr (inr (inr (inl is)))
+status_of OutOfSync left status is = inr (inr (inr (inr (inl is))))
+
+-- the packets ended in front of one
+pub ended_long : JoinedRuns → BetweenPackets → (limit : ℕ) (before : CodecState) (encodes status id : ℕ) (input text more : List ℕ) (unread last written now : Option (List ℕ))
+    → Reframing limit before encodes input text → id < 256 → before.id ≡ id → before.header ≡ None → before.held ≡ []
+    → EndsLong id limit (before.unread ++ more) status last → Consumes unread last (input ++ more) → Appends written now text
+    → ReframeEnds limit status unread last written now
+ended_long joined between limit before encodes status id input text more unread last written now u small same none nothing (ending, unfinished, rest, d, is, at_end) came went =
+    let here = between before (subst (λ (n : ℕ). n < 256) (sym same) small) none nothing in
+    record {
+      cases = status_of ending _ status is;
+      text = λ _. (
+        input ++ more,
+        text,
+        came,
+        record {
+          payloads = u.payloads;
+          ending = ending;
+          unfinished = unfinished;
+          rest = rest;
+          delivered = all_delivered joined limit before encodes input text more u ending unfinished rest
+              (delivers_at between before id limit small same u.same_limit none nothing more unfinished rest ending d);
+          is = u.is;
+          ends = is ∙ ap (λ (n : ℕ). ending_status ending (length (front n unfinished ++ rest))) (sym (here.1 ∙ same) ∙ u.goes_on);
+        },
+        went,
+      );
+      all_read = at_end;
+    }
+
+no_rest : (x y z : List ℕ) → 4 ≤ length y → x ++ (y ++ z) ≢ []
+no_rest x y z long none =
+    let size = ap (λ (w : List ℕ). length w) none in
+    let all = length-append x (y ++ z) in
+    let back = length-append y z in
+    absurd (omega (arith, long, size, all, back))
+
+-- once bytes of a chunk of another id were dropped
+pub dropped : SpansStop → (id limit lacking status : ℕ) (input : List ℕ) (left last : Option (List ℕ)) → LosesSync id limit input lacking → (drops : Drops lacking status left last)
+    → EndsLong id limit (input ++ drops.0) status last
+dropped stop id limit lacking status input left last (held, rest, splits, other, lacks) (gone, took, inl (is, all)) =
+    let long = other.0 in
+    let size = length-append rest gone in (
+      OutOfSync,
+      held,
+      rest ++ gone,
+      stop span.PacketsOutOfSync input id limit [] held rest splits other gone (omega (arith, long, size, all, lacks)),
+      is,
+      λ h. at_five _ (rw is at h),
+    )
+dropped stop id limit lacking status input left last (held, rest, splits, other, lacks) (gone, took, inr (is, few, at_end)) =
+    let long = other.0 in
+    let size = length-append rest gone in
+    let same : chunk_len (rest ++ gone) ≡ chunk_len rest = chunk_len_append rest gone long in
+    let whole : chunk_len rest ≢ 0 = λ none. absurd (omega (arith, long, few, lacks, none)) in
+    let fits : length held + chunk_len rest ≤ limit = elim other.1 [ inl none ↦ absurd (whole none) | inr small ↦ small ] in (
+      Waiting,
+      held,
+      rest ++ gone,
+      record {
+        splits = splits_extend [] input id limit [] held rest gone splits;
+        ends = inr (omega (arith, same, whole), omega (arith, same, fits), omega (arith, long, size, same, few, lacks));
+      },
+      is ∙ some_left (front id held ++ (rest ++ gone)) (no_rest (front id held) rest gone long),
+      λ _. at_end,
+    )
+
+-- the input ended, or the packets did
+pub ends_here : (id limit status : ℕ) (input : List ℕ) (left : Option (List ℕ)) (ending : Ending) → (d : (unfinished : List ℕ) × (rest : List ℕ) × Delivers [] input id limit [] ending unfinished rest)
+    → ((all : List ℕ) → all ≡ input → status ≡ ending_status ending (length all)) → ((status ≡ 0) ⊎ (status ≡ 3) → IsAtEnd left) → EndsLong id limit input status left
+ends_here id limit status input left ending d is at_end = (ending, d.0, d.1, d.2, is (front id d.0 ++ d.1) (sym d.2.splits.is), at_end)

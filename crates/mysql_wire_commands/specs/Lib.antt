@@ -1,3 +1,4 @@
+pub mod LongPackets
 pub mod Numbers
 pub mod Reads
 pub mod Reframe

@@ -7,6 +7,7 @@ mod chunk_writer;
 pub mod frame;
 mod input;
 mod lines;
+mod long_packet;
 mod output;
 mod packet_lines;
 mod piece_lines;

@@ -1,12 +1,10 @@
 //! `reframe LIMIT`: whole packets from input to output.
 
-ghost use Rattle.std.specs.Prelude.{◌≡◌, ◌≤◌, ◌++◌, [], length, None, IsNone, IsFalse, OnOk, Err, IfOk, IfErr};
-ghost use Rattle.std.specs.Io.KnownBytes.{Appends};
-ghost use Rattle.wire_codec.specs.Codec.{expected_id, header_of};
-ghost use Rattle.wire_codec.specs.Framing.{framing, next_id};
-ghost use Rattle.wire_text.specs.declared.stop.Stop.{Stop};
-ghost use Rattle.mysql_wire_commands.specs.Reframe.{ReframeEnds, Sends, StartsReading};
+ghost use Rattle.std.specs.Prelude.{◌≡◌, [], OnOk, IfOk};
+ghost use Rattle.mysql_wire_commands.specs.LongPackets.{IsAtHeader, IsInFront};
+ghost use Rattle.mysql_wire_commands.specs.Reframe.{CopiesOn, Drops, EndsCopying, Finishes, ReframeEnds, StartsReading, place_of};
 
+use crate::long_packet::{LongPacket, Taken, codec_at, may_be_long};
 use crate::sender::Sender;
 use crate::status::{Stop, exit_status};
 use std::alloc::Allocator;
@@ -18,37 +16,65 @@ use wire_packet_io::{PacketIoError, PacketReader};
 // How many bytes wait for the next packet, at most; a larger packet is written at once.
 const MOST_HELD_BACK: usize = 8192;
 
-// A codec at id 0, under a limit.
-fn codec_under(limit: usize) -> PacketCodec
-    ensures id { expected_id result ≡ 0 }
-    ensures header { header_of result ≡ None }
-    ensures limit { result.max_allowed_packet ≡ limit }
-{
-    let mut codec = PacketCodec::default();
-    codec.max_allowed_packet = limit;
-    codec
+// How many bytes are dropped at once.
+const PIECE: usize = 4096;
+
+// Why no packet more is copied.
+#[derive(Clone, Copy)]
+enum Ended {
+    // The exit status says it.
+    At(u8),
+    // A chunk of another id is in front, of which this many bytes have not come.
+    OutOfSync(usize),
 }
 
-// Ends with this status, once all is written.
-fn end<A: Allocator + Copy, W: Write>(to: &mut Sender<W, A>, status: u8) -> Result<u8, Stop>
-    ensures { IfOk result (λ ended. (ended ≡ status) × Appends (W.contents to.old.chunks.writer)
-        (W.contents to.new.chunks.writer) to.old.pending.items) }
+// Passes on packets that lie whole in what was read, up to as many bytes as may be pending.
+fn pass_ready<A: Allocator + Copy, R: Read, W: Write>(
+    from: &mut PacketReader<R, A>,
+    decoder: &mut PacketCodec,
+    to: &mut Sender<W, A>,
+    encoder: &mut PacketCodec,
+) -> Result<(), Stop>
+    requires front { IsInFront from.old }
+    requires codec { IsAtHeader decoder.old }
+    requires limit { encoder.old.max_allowed_packet ≡ decoder.old.max_allowed_packet }
+    ensures copies { OnOk result (CopiesOn
+        (place_of R.remaining W.contents from.old decoder.old to.old encoder.old)
+        (place_of R.remaining W.contents from.new decoder.new to.new encoder.new)) }
+    ensures front { OnOk result (IsInFront from.new) }
+    ensures codec { OnOk result (IsAtHeader decoder.new) }
+    ensures limits { (decoder.new.max_allowed_packet ≡ decoder.old.max_allowed_packet)
+        × (encoder.new.max_allowed_packet ≡ encoder.old.max_allowed_packet) }
 {
-    to.send(false)?;
-    Ok(status)
+    laws::joined_splits();
+    laws::stream_append();
+    laws::id_after_append();
+    laws::between_packets();
+    'ready: for _ in 0..MOST_HELD_BACK {
+        if to.pending.len() >= MOST_HELD_BACK || !from.is_ready(decoder) {
+            return Ok(());
+        }
+        // It is there.
+        let Ok(true) = from.fill_packet(decoder) else {
+            return Err(Stop::Io);
+        };
+        to.pass_on(encoder, from.packet())?;
+        from.take_packet();
+    }
+    Ok(())
 }
 
 // Copies whole packets, framed from id 0 on. What is framed waits while the next packet is there
-// whole, and is written before a read. The answer is the exit status, or why it gave up.
+// whole, and is written before a read.
 fn copy_packets<A: Allocator + Copy, R: Read, W: Write>(
+    alloc: A,
     limit: usize,
     from: &mut PacketReader<R, A>,
     to: &mut Sender<W, A>,
-) -> Result<u8, Stop>
-    requires reader { StartsReading from.old.unread from.old.held from.old.is_lost }
-    requires lent { IsNone from.old.lent }
+) -> Result<Ended, Stop>
+    requires reader { StartsReading from.old }
     requires writer { to.old.pending.items ≡ [] }
-    ensures { IfOk result (λ status. ReframeEnds limit status
+    ensures { IfOk result (λ ended. EndsCopying limit ended
         (R.remaining from.old.reader) (R.remaining from.new.reader)
         (W.contents to.old.chunks.writer) (W.contents to.new.chunks.writer)) }
 {
@@ -58,26 +84,71 @@ fn copy_packets<A: Allocator + Copy, R: Read, W: Write>(
     laws::stream_append();
     laws::id_after_append();
     laws::between_packets();
-    let mut decoder = codec_under(limit);
-    let mut encoder = codec_under(limit);
+    wire_span::laws::spans_stop();
+    let mut decoder = codec_at(limit, 0);
+    let mut encoder = codec_at(limit, 0);
+    let mut long = LongPacket::new(alloc);
     'packets: for _ in 0..u64::MAX {
-        let is_more_kept = to.pending.len() < MOST_HELD_BACK && from.reads() < u64::MAX;
-        to.send(is_more_kept && from.is_ready(&decoder))?;
+        pass_ready(from, &mut decoder, to, &mut encoder)?;
+        to.send(false)?;
         if from.reads() == u64::MAX {
             return Err(Stop::Io);
         }
+        if may_be_long(from.unread()) {
+            match long.take(limit, decoder.sequence_id(), from)? {
+                Taken::Whole(next) => {
+                    decoder.begin_at(next);
+                    to.pass_on(&mut encoder, long.bytes.as_slice())?;
+                    continue 'packets;
+                }
+                Taken::Ends(status) => return Ok(Ended::At(status)),
+                Taken::OutOfSync(lacking) => return Ok(Ended::OutOfSync(lacking)),
+            }
+        }
         match from.fill_packet(&mut decoder) {
             Ok(true) => to.pass_on(&mut encoder, from.packet())?,
-            Ok(false) => return end(to, 0),
-            Err(PacketIoError::UnexpectedEnd) => return end(to, 3),
-            Err(PacketIoError::PacketTooLarge) => return end(to, 4),
-            Err(PacketIoError::PacketsOutOfSync) => return end(to, 5),
+            Ok(false) => return Ok(Ended::At(0)),
+            Err(PacketIoError::UnexpectedEnd) => return Ok(Ended::At(3)),
+            Err(PacketIoError::PacketTooLarge) => return Ok(Ended::At(4)),
+            Err(PacketIoError::PacketsOutOfSync) => return Ok(Ended::At(5)),
             Err(PacketIoError::OutOfMemory) => return Err(Stop::Memory),
             Err(_) => return Err(Stop::Io),
         }
         from.take_packet();
     }
     Err(Stop::Io)
+}
+
+// Reads this many bytes more of a chunk of another id, and drops them. The answer is the exit status:
+// 5, or 3 where the input ends before.
+fn drop_bytes<R: Read>(input: &mut R, count: usize) -> Result<u8, Stop>
+    ensures { IfOk result (λ status. Drops count status (R.remaining input.old)
+        (R.remaining input.new)) }
+{
+    let mut piece = [0; PIECE];
+    let mut left = count;
+    'reads: while left > 0 {
+        let most = left.min(PIECE);
+        let Ok(came) = input.read(&mut piece[..most]) else {
+            return Err(Stop::Io);
+        };
+        if came == 0 {
+            return Ok(3);
+        }
+        left -= came;
+    }
+    Ok(5)
+}
+
+// Ends with this exit status, once the chunk in front has come.
+fn finish<R: Read>(ended: Result<Ended, Stop>, input: &mut R) -> Result<u8, Stop>
+    ensures { IfOk result (λ status. Finishes ended status (R.remaining input.old)
+        (R.remaining input.new)) }
+{
+    match ended? {
+        Ended::At(status) => Ok(status),
+        Ended::OutOfSync(lacking) => drop_bytes(input, lacking),
+    }
 }
 
 /// Copies whole packets from input to output, under a limit of `limit` payload bytes a packet, each
@@ -98,6 +169,8 @@ pub fn run_reframe<A: Allocator + Copy, R: Read, W: Write>(
         unreachable!();
     };
     let mut to = Sender::new(alloc, output);
-    let status = exit_status(copy_packets(limit, &mut from, &mut to));
-    (status, from.into_inner(), to.into_inner())
+    let ended = copy_packets(alloc, limit, &mut from, &mut to);
+    let (mut input, output) = (from.into_inner(), to.into_inner());
+    let status = exit_status(finish(ended, &mut input));
+    (status, input, output)
 }

@@ -1,138 +1,238 @@
-use Rattle.std.proofs.Common.{◌≡◌, inl, inr, sym, ℕ, List, [], ◌++◌, ◌∙◌, refl, ap}
+use Rattle.std.proofs.Common.{◌≡◌, inl, inr, sym, ℕ, List, [], ◌++◌, ◌∙◌, refl, ap, arith, subst, append_assoc}
 use Rattle.std.proofs.KnownBytes.{Consumes-nil, Consumes-trans}
 use Rattle.std.proofs.lemmas.Bool.{false≢true}
 use Rattle.wire_codec.specs.Codec.{codec_state, expected_id}
 use Rattle.wire_codec.specs.Framing.{framing}
 use Rattle.wire_packet_io.specs.PacketIo.{joined_reads}
-use Rattle.mysql_wire_commands.proofs.ReframeLemmas.{reframing_start, reframing_more, reframed_whole, reframed_short, reframed_too_large, reframed_out_of_sync, none_written, sent_on, passed_on, all_sent, ended_with, some_lent, none_lent, at_four, at_five}
+use Rattle.mysql_wire_commands.specs.LongPackets.{EndsLong}
+use Rattle.mysql_wire_commands.proofs.ReframeLemmas.{reframing_start, reframing_more, reframing_long, reframed_whole, reframed_short, reframed_too_large, reframed_out_of_sync, ended_long, dropped, none_written, sent_on, passed_on, none_left_pending, some_lent, none_lent, at_four, at_five}
 use Rattle.mysql_wire_commands.proofs.reframe.copy_packets.Goals as goal
 
 pub packets-init : goal.packets-init
 packets-init g c =
-    let decoder = c.codec_under-decoder.ensures in
-    let encoder = c.codec_under-encoder.ensures in
+    let decoder = c.codec_at-decoder.ensures in
+    let encoder = c.codec_at-encoder.ensures in
     let reader = c.requires.reader in
+    let id = decoder.id in
     record {
-      found = reader.2;
-      lent = c.requires.lent;
+      front = record {
+        not_copied = reader.not_copied;
+        not_lost = reader.not_lost;
+        not_lent = reader.not_lent;
+        not_held = reader.none_held;
+      };
+      codec = (decoder.header, omega (arith, id));
+      decoder = decoder.limit;
       encoder = encoder.limit;
       so_far = (
         [],
         [],
-        reframing_start c.nothing_read.ensures c.args.limit (codec_state c.codec_under-decoder.result c.args.from.now.unread c.args.from.now.held)
-            (expected_id c.codec_under-encoder.result) decoder.id decoder.header reader.0 reader.1 decoder.limit encoder.id,
+        reframing_start c.nothing_read.ensures c.args.limit (codec_state c.codec_at-decoder.result c.args.from.now.unread c.args.from.now.held)
+            (expected_id c.codec_at-encoder.result) decoder.id decoder.header reader.none_unread reader.none_held decoder.limit encoder.id,
         Consumes-nil _,
         none_written c.args.to.now.pending.items _ c.requires.writer,
       );
     }
 
+pub packets-preserved-in-Whole : goal.packets-preserved-in-Whole
+packets-preserved-in-Whole g c =
+    let inv = c.packets.invariant in
+    let so = c.in_ok-pass_ready.ensures.copies c.args.limit _ _ inv.so_far in
+    let sent = sent_on so.1 c.pass_ready.new.to.pending.items c.send.new.self.pending.items _ _ _ so.4 c.in_ok-send.ensures.sent in
+    let before = codec_state c.pass_ready.new.decoder c.pass_ready.new.from.unread c.pass_ready.new.from.held in
+    let front = c.in_ok-pass_ready.ensures.front in
+    let codec = c.in_ok-pass_ready.ensures.codec in
+    let limits = c.pass_ready.ensures.limits in
+    let took = rw c.in-Whole.is at c.in_ok-next.ensures.takes in
+    let packet : List ℕ = c.take.new.self.bytes.items in
+    let put = c.in_ok-pass_on-in-Whole.ensures in
+    let first = expected_id c.pass_ready.new.encoder in
+    let begun = c.begin_at.ensures in
+    let next = took.2.2 in
+    let taken = c.in_ok-next.ensures.front (rw c.in-Whole.is tt) in
+    let passed = rw c.as_slice.ensures.value at put.sent in
+    record {
+      front = taken;
+      codec = (begun.header, let id = begun.id in omega (arith, id, next));
+      decoder = begun.limit ∙ limits.0 ∙ inv.decoder;
+      encoder = put.limit ∙ limits.1 ∙ inv.encoder;
+      so_far = (
+        so.0 ++ took.0,
+        so.1 ++ framing first packet,
+        reframing_long c.joined_splits.ensures c.stream_append.ensures c.id_after_append.ensures c.between_packets.ensures c.args.limit before
+            (codec_state c.begin_at.new.self c.take.new.from.unread c.take.new.from.held) first (expected_id c.pass_on.new.encoder) c.sequence_id.result so.0 so.1 took.0 packet
+            so.2 (rw c.sequence_id.ensures codec.1) (sym c.sequence_id.ensures) codec.0 front.not_held (took.2.0, took.2.1, begun.id ∙ next)
+            begun.header taken.not_held (begun.limit ∙ limits.0 ∙ inv.decoder) (rw c.as_slice.ensures.value at put.next),
+        Consumes-trans _ _ _ so.0 took.0 so.3 took.1,
+        passed_on so.1 c.send.new.self.pending.items (framing first packet) c.pass_on.new.self.pending.items _ _ _ sent passed,
+      );
+    }
+
+pub returns-in-Ends : goal.returns-in-Ends
+returns-in-Ends g c =
+    let inv = c.packets.invariant in
+    let so = c.in_ok-pass_ready.ensures.copies c.args.limit _ _ inv.so_far in
+    let sent = sent_on so.1 c.pass_ready.new.to.pending.items c.send.new.self.pending.items _ _ _ so.4 c.in_ok-send.ensures.sent in
+    let before = codec_state c.pass_ready.new.decoder c.pass_ready.new.from.unread c.pass_ready.new.from.held in
+    let front = c.in_ok-pass_ready.ensures.front in
+    let codec = c.in_ok-pass_ready.ensures.codec in
+    let went = none_left_pending so.1 c.send.new.self.pending.items _ _ sent (c.in_ok-send.ensures.idle refl) in
+    let took = rw c.in-Ends.is at c.in_ok-next.ensures.takes in
+    ended_long c.joined_runs.ensures c.between_packets.ensures c.args.limit before (expected_id c.pass_ready.new.encoder) _ c.sequence_id.result so.0 so.1 took.0 _ _ _ _
+    so.2 (rw c.sequence_id.ensures codec.1) (sym c.sequence_id.ensures) codec.0 front.not_held took.2 (Consumes-trans _ _ _ so.0 took.0 so.3 took.1) went
+
+pub returns-in-OutOfSync : goal.returns-in-OutOfSync
+returns-in-OutOfSync g c =
+    let inv = c.packets.invariant in
+    let so = c.in_ok-pass_ready.ensures.copies c.args.limit _ _ inv.so_far in
+    let sent = sent_on so.1 c.pass_ready.new.to.pending.items c.send.new.self.pending.items _ _ _ so.4 c.in_ok-send.ensures.sent in
+    let before = codec_state c.pass_ready.new.decoder c.pass_ready.new.from.unread c.pass_ready.new.from.held in
+    let front = c.in_ok-pass_ready.ensures.front in
+    let codec = c.in_ok-pass_ready.ensures.codec in
+    let went = none_left_pending so.1 c.send.new.self.pending.items _ _ sent (c.in_ok-send.ensures.idle refl) in
+    let took = rw c.in-OutOfSync.is at c.in_ok-next.ensures.takes in
+    λ status last drops.
+    let ends = dropped c.spans_stop.ensures c.sequence_id.result c.args.limit _ status _ _ last took.2 drops in
+    ended_long c.joined_runs.ensures c.between_packets.ensures c.args.limit before (expected_id c.pass_ready.new.encoder) status c.sequence_id.result so.0 so.1 (took.0 ++ drops.0) _ _ _ _
+    so.2 (rw c.sequence_id.ensures codec.1) (sym c.sequence_id.ensures) codec.0 front.not_held
+    (subst (λ (z : List ℕ). EndsLong c.sequence_id.result c.args.limit z status last) (append_assoc before.unread took.0 drops.0) ends)
+    (Consumes-trans _ _ _ so.0 (took.0 ++ drops.0) so.3 (Consumes-trans _ _ _ took.0 drops.0 took.1 drops.1)) went
+
 pub packets-preserved : goal.packets-preserved
 packets-preserved g c =
-    let old = c.packets.invariant.so_far in
-    let before = codec_state c.packets.decoder c.packets.from.unread c.packets.from.held in
+    let inv = c.packets.invariant in
+    let so = c.in_ok-pass_ready.ensures.copies c.args.limit _ _ inv.so_far in
+    let sent = sent_on so.1 c.pass_ready.new.to.pending.items c.send.new.self.pending.items _ _ _ so.4 c.in_ok-send.ensures.sent in
+    let before = codec_state c.pass_ready.new.decoder c.pass_ready.new.from.unread c.pass_ready.new.from.held in
+    let front = c.in_ok-pass_ready.ensures.front in
+    let codec = c.in_ok-pass_ready.ensures.codec in
     let after = codec_state c.fill_packet.new.codec c.fill_packet.new.self.unread c.fill_packet.new.self.held in
+    let limits = c.pass_ready.ensures.limits in
     let lent = some_lent c.fill_packet.new.self.lent (c.in-Ok-true.ensures.lends.0.0 c.in-Ok-true.field-0-test) in
     let packet : List ℕ = lent.0 in
-    let came = (rw lent.1 at c.in-Ok-true.ensures.fills) c.packets.invariant.found c.packets.invariant.lent in
+    let came = (rw lent.1 at c.in-Ok-true.ensures.fills) front.not_lost front.not_lent in
     let more : List ℕ = joined_reads came.reads in
     let put = c.in_ok-pass_on-in-Ok-true.ensures in
     let shown : c.packet.result.now ≡ packet = rw lent.1 at c.packet.ensures in
-    let first = expected_id c.packets.encoder in
+    let first = expected_id c.pass_ready.new.encoder in
     let passed = rw shown at put.sent in
     let next = rw shown at put.next in
     let taken = c.take_packet.ensures in
-    let sent = sent_on old.1 c.packets.to.pending.items c.send.new.self.pending.items _ _ _ old.4 c.in_ok-send.ensures.sent in
+    let rest = c.fill_packet.ensures.rest in
+    let rising = came.answers.0.2 in
     record {
-      found = ap (λ z. z.is_lost) taken ∙ c.in-Ok-true.ensures.lends.1;
-      lent = rw (ap (λ z. z.lent) taken) refl;
-      encoder = put.limit ∙ c.packets.invariant.encoder;
+      front = record {
+        not_copied = rw (ap (λ z. z.copied) taken, rest.1) front.not_copied;
+        not_lost = ap (λ z. z.is_lost) taken ∙ c.in-Ok-true.ensures.lends.1;
+        not_lent = rw (ap (λ z. z.lent) taken) refl;
+        not_held = ap (λ z. z.held) taken ∙ came.answers.1;
+      };
+      codec = (came.answers.0.3, omega (arith, rising));
+      decoder = rest.2 ∙ limits.0 ∙ inv.decoder;
+      encoder = put.limit ∙ limits.1 ∙ inv.encoder;
       so_far = rw (ap (λ z. z.unread) taken, ap (λ z. z.held) taken, ap (λ z. z.reader) taken) (
-        old.0 ++ more,
-        old.1 ++ framing first packet,
-        reframing_more c.joined_splits.ensures c.stream_append.ensures c.id_after_append.ensures c.between_packets.ensures c.args.limit before after first (expected_id c.pass_on.new.encoder)
-            old.0 old.1 more packet old.2 came.answers.0 came.answers.1 c.fill_packet.ensures.rest.2 next,
-        Consumes-trans _ _ _ old.0 more old.3 came.consumed,
-        passed_on old.1 c.send.new.self.pending.items (framing first packet) c.pass_on.new.self.pending.items _ _ _ sent passed,
+        so.0 ++ more,
+        so.1 ++ framing first packet,
+        reframing_more c.joined_splits.ensures c.stream_append.ensures c.id_after_append.ensures c.between_packets.ensures c.args.limit before after first (expected_id c.pass_on-in-Ok-true.new.encoder)
+            so.0 so.1 more packet so.2 came.answers.0 came.answers.1 rest.2 next,
+        Consumes-trans _ _ _ so.0 more so.3 came.consumed,
+        passed_on so.1 c.send.new.self.pending.items (framing first packet) c.pass_on-in-Ok-true.new.self.pending.items _ _ _ sent passed,
       );
     }
 
 pub returns-in-Ok-false : goal.returns-in-Ok-false
 returns-in-Ok-false g c =
-    let old = c.packets.invariant.so_far in
-    let before = codec_state c.packets.decoder c.packets.from.unread c.packets.from.held in
+    let inv = c.packets.invariant in
+    let so = c.in_ok-pass_ready.ensures.copies c.args.limit _ _ inv.so_far in
+    let sent = sent_on so.1 c.pass_ready.new.to.pending.items c.send.new.self.pending.items _ _ _ so.4 c.in_ok-send.ensures.sent in
+    let before = codec_state c.pass_ready.new.decoder c.pass_ready.new.from.unread c.pass_ready.new.from.held in
+    let front = c.in_ok-pass_ready.ensures.front in
+    let codec = c.in_ok-pass_ready.ensures.codec in
+    let went = none_left_pending so.1 c.send.new.self.pending.items _ _ sent (c.in_ok-send.ensures.idle refl) in
     let after = codec_state c.fill_packet.new.codec c.fill_packet.new.self.unread c.fill_packet.new.self.held in
     let none = none_lent c.fill_packet.new.self.lent (λ some. false≢true (sym c.in-Ok-false.field-0-test ∙ c.in-Ok-false.ensures.lends.0.1 some)) in
-    let came = (rw none at c.in-Ok-false.ensures.fills) c.packets.invariant.found c.packets.invariant.lent in
+    let came = (rw none at c.in-Ok-false.ensures.fills) front.not_lost front.not_lent in
     let more : List ℕ = joined_reads came.reads in
-    let sent = sent_on old.1 c.packets.to.pending.items c.send.new.self.pending.items _ _ _ old.4 c.in_ok-send.ensures.sent in
-    ended_with c.end.result 0 c.args.limit _ _ _ _ _ c.end.ensures (λ written. record {
+    record {
       cases = inl refl;
       text = λ _. (
-        old.0 ++ more,
-        old.1,
-        Consumes-trans _ _ _ old.0 more old.3 came.consumed,
-        reframed_whole c.joined_runs.ensures c.args.limit before after (expected_id c.packets.encoder) old.0 old.1 more old.2 came.answers.0 came.answers.1,
-        all_sent old.1 c.send.new.self.pending.items _ _ _ sent written,
+        so.0 ++ more,
+        so.1,
+        Consumes-trans _ _ _ so.0 more so.3 came.consumed,
+        reframed_whole c.joined_runs.ensures c.args.limit before after (expected_id c.pass_ready.new.encoder) so.0 so.1 more so.2 came.answers.0 came.answers.1,
+        went,
       );
       all_read = λ _. came.sees_end.1;
-    })
+    }
 
 pub returns-in-Err-UnexpectedEnd : goal.returns-in-Err-UnexpectedEnd
 returns-in-Err-UnexpectedEnd g c =
-    let old = c.packets.invariant.so_far in
-    let before = codec_state c.packets.decoder c.packets.from.unread c.packets.from.held in
+    let inv = c.packets.invariant in
+    let so = c.in_ok-pass_ready.ensures.copies c.args.limit _ _ inv.so_far in
+    let sent = sent_on so.1 c.pass_ready.new.to.pending.items c.send.new.self.pending.items _ _ _ so.4 c.in_ok-send.ensures.sent in
+    let before = codec_state c.pass_ready.new.decoder c.pass_ready.new.from.unread c.pass_ready.new.from.held in
+    let front = c.in_ok-pass_ready.ensures.front in
+    let codec = c.in_ok-pass_ready.ensures.codec in
+    let went = none_left_pending so.1 c.send.new.self.pending.items _ _ sent (c.in_ok-send.ensures.idle refl) in
     let after = codec_state c.fill_packet.new.codec c.fill_packet.new.self.unread c.fill_packet.new.self.held in
-    let came = (rw c.in-Err-UnexpectedEnd.field-0-is at c.in-Err-UnexpectedEnd.ensures.fills) c.packets.invariant.found c.packets.invariant.lent in
+    let came = (rw c.in-Err-UnexpectedEnd.field-0-is at c.in-Err-UnexpectedEnd.ensures.fills) front.not_lost front.not_lent in
     let more : List ℕ = joined_reads came.reads in
-    let sent = sent_on old.1 c.packets.to.pending.items c.send.new.self.pending.items _ _ _ old.4 c.in_ok-send.ensures.sent in
-    ended_with c.end-in-Err-UnexpectedEnd.result 3 c.args.limit _ _ _ _ _ c.end-in-Err-UnexpectedEnd.ensures (λ written. record {
+    record {
       cases = inr (inr (inl refl));
       text = λ _. (
-        old.0 ++ more,
-        old.1,
-        Consumes-trans _ _ _ old.0 more old.3 came.consumed,
-        reframed_short c.joined_runs.ensures c.args.limit before after (expected_id c.packets.encoder) old.0 old.1 more old.2 came.answers.0 came.answers.1,
-        all_sent old.1 c.send.new.self.pending.items _ _ _ sent written,
+        so.0 ++ more,
+        so.1,
+        Consumes-trans _ _ _ so.0 more so.3 came.consumed,
+        reframed_short c.joined_runs.ensures c.args.limit before after (expected_id c.pass_ready.new.encoder) so.0 so.1 more so.2 came.answers.0 came.answers.1,
+        went,
       );
       all_read = λ _. came.sees_end.1;
-    })
+    }
 
 pub returns-in-Err-PacketTooLarge : goal.returns-in-Err-PacketTooLarge
 returns-in-Err-PacketTooLarge g c =
-    let old = c.packets.invariant.so_far in
-    let before = codec_state c.packets.decoder c.packets.from.unread c.packets.from.held in
+    let inv = c.packets.invariant in
+    let so = c.in_ok-pass_ready.ensures.copies c.args.limit _ _ inv.so_far in
+    let sent = sent_on so.1 c.pass_ready.new.to.pending.items c.send.new.self.pending.items _ _ _ so.4 c.in_ok-send.ensures.sent in
+    let before = codec_state c.pass_ready.new.decoder c.pass_ready.new.from.unread c.pass_ready.new.from.held in
+    let front = c.in_ok-pass_ready.ensures.front in
+    let codec = c.in_ok-pass_ready.ensures.codec in
+    let went = none_left_pending so.1 c.send.new.self.pending.items _ _ sent (c.in_ok-send.ensures.idle refl) in
     let after = codec_state c.fill_packet.new.codec c.fill_packet.new.self.unread c.fill_packet.new.self.held in
-    let came = (rw c.in-Err-PacketTooLarge.field-0-is at c.in-Err-PacketTooLarge.ensures.fills) c.packets.invariant.found c.packets.invariant.lent in
+    let came = (rw c.in-Err-PacketTooLarge.field-0-is at c.in-Err-PacketTooLarge.ensures.fills) front.not_lost front.not_lent in
     let more : List ℕ = joined_reads came.reads in
-    let sent = sent_on old.1 c.packets.to.pending.items c.send.new.self.pending.items _ _ _ old.4 c.in_ok-send.ensures.sent in
-    ended_with c.end-in-Err-PacketTooLarge.result 4 c.args.limit _ _ _ _ _ c.end-in-Err-PacketTooLarge.ensures (λ written. record {
+    record {
       cases = inr (inr (inr (inl refl)));
       text = λ _. (
-        old.0 ++ more,
-        old.1,
-        Consumes-trans _ _ _ old.0 more old.3 came.consumed,
-        reframed_too_large c.joined_runs.ensures c.args.limit before (expected_id c.packets.encoder) old.0 old.1 more _ _ old.2 came.answers.0,
-        all_sent old.1 c.send.new.self.pending.items _ _ _ sent written,
+        so.0 ++ more,
+        so.1,
+        Consumes-trans _ _ _ so.0 more so.3 came.consumed,
+        reframed_too_large c.joined_runs.ensures c.args.limit before (expected_id c.pass_ready.new.encoder) so.0 so.1 more _ _ so.2 came.answers.0,
+        went,
       );
       all_read = at_four _;
-    })
+    }
 
 pub returns-in-Err-PacketsOutOfSync : goal.returns-in-Err-PacketsOutOfSync
 returns-in-Err-PacketsOutOfSync g c =
-    let old = c.packets.invariant.so_far in
-    let before = codec_state c.packets.decoder c.packets.from.unread c.packets.from.held in
+    let inv = c.packets.invariant in
+    let so = c.in_ok-pass_ready.ensures.copies c.args.limit _ _ inv.so_far in
+    let sent = sent_on so.1 c.pass_ready.new.to.pending.items c.send.new.self.pending.items _ _ _ so.4 c.in_ok-send.ensures.sent in
+    let before = codec_state c.pass_ready.new.decoder c.pass_ready.new.from.unread c.pass_ready.new.from.held in
+    let front = c.in_ok-pass_ready.ensures.front in
+    let codec = c.in_ok-pass_ready.ensures.codec in
+    let went = none_left_pending so.1 c.send.new.self.pending.items _ _ sent (c.in_ok-send.ensures.idle refl) in
     let after = codec_state c.fill_packet.new.codec c.fill_packet.new.self.unread c.fill_packet.new.self.held in
-    let came = (rw c.in-Err-PacketsOutOfSync.field-0-is at c.in-Err-PacketsOutOfSync.ensures.fills) c.packets.invariant.found c.packets.invariant.lent in
+    let came = (rw c.in-Err-PacketsOutOfSync.field-0-is at c.in-Err-PacketsOutOfSync.ensures.fills) front.not_lost front.not_lent in
     let more : List ℕ = joined_reads came.reads in
-    let sent = sent_on old.1 c.packets.to.pending.items c.send.new.self.pending.items _ _ _ old.4 c.in_ok-send.ensures.sent in
-    ended_with c.end-in-Err-PacketsOutOfSync.result 5 c.args.limit _ _ _ _ _ c.end-in-Err-PacketsOutOfSync.ensures (λ written. record {
+    record {
       cases = inr (inr (inr (inr (inl refl))));
       text = λ _. (
-        old.0 ++ more,
-        old.1,
-        Consumes-trans _ _ _ old.0 more old.3 came.consumed,
-        reframed_out_of_sync c.joined_runs.ensures c.args.limit before (expected_id c.packets.encoder) old.0 old.1 more came.answers.0 came.answers.1 old.2 came.answers.2,
-        all_sent old.1 c.send.new.self.pending.items _ _ _ sent written,
+        so.0 ++ more,
+        so.1,
+        Consumes-trans _ _ _ so.0 more so.3 came.consumed,
+        reframed_out_of_sync c.joined_runs.ensures c.args.limit before (expected_id c.pass_ready.new.encoder) so.0 so.1 more came.answers.0 came.answers.1 so.2 came.answers.2,
+        went,
       );
       all_read = at_five _;
-    })
+    }
