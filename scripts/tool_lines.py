@@ -339,8 +339,12 @@ def of_long_packets(folder):
         line = "reframe %d" % (length - 1)
         found.append((line, goes(line, data, 4, data[:5], folder)))
         yield "reframe of a packet of %d bytes" % length, joined(found)
-    whole = b"\1\0\0\0a\xff\xff\xff\1" + b"D" * 16777215 + b"\2\0\0\5bc"
-    found = [(status, goes("reframe 99999999", data, status, whole[:5], folder))
+    full, line = b"D" * 16777215, "reframe 99999999"
+    data = b"".join(b"\xff\xff\xff" + bytes([index]) + full + b"\1\0\0" + bytes([index + 1]) + b"E"
+                    for index in (0, 2, 4))
+    yield "reframe of packets of two chunks", goes(line, data, 0, data, folder)
+    whole = b"\1\0\0\0a\xff\xff\xff\1" + full + b"\2\0\0\5bc"
+    found = [(status, goes(line, data, status, whole[:5], folder))
              for data, status in [(whole, 5), (whole[:-1], 3), (whole[:-3], 3)]]
     yield "reframe of a packet whose second chunk is of another id", joined(found)
 
