@@ -1,9 +1,13 @@
 -- One packet after another.
-use Rattle.std.proofs.Common.{◌≡◌, ◌≢◌, ℕ, ◌≤◌, ◌⊎◌, List, [], ◌∷◌, ◌++◌, length, refl, sym, ap, ◌∙◌, subst, arith, append_assoc, append-nil, Option, None, Some, IsSome, Ok, Err, Bool, true, ne_eqb, if◌then◌else◌, Result, inl, inr, zero-le, ◌<◌, ◌+◌, zero, suc, length-append}
+use Rattle.std.proofs.Common.{◌≡◌, ◌≢◌, ℕ, ◌≤◌, ◌⊎◌, List, [], ◌∷◌, ◌++◌, length, refl, sym, ap, ◌∙◌, subst, arith, append_assoc, append-nil, Option, None, Some, IsSome, Ok, Err, Bool, true, ne_eqb, if◌then◌else◌, Result, inl, inr, zero-le, ◌<◌, ◌+◌, zero, suc, length-append, ◌^◌, ◌-◌, take}
 use Rattle.std.proofs.lemmas.List.Elements.{All-nil}
 use Rattle.wire_codec.specs.Framing.{max_payload, framing, front, next_id, id_after, stream}
 use Rattle.wire_codec.specs.Delivery.{chunk_len, Continues, Ending, Waiting, TooLarge, OutOfSync, Delivers, Splits}
-use Rattle.wire_codec.specs.Codec.{CodecState, first_id, input_of, DecodesFrom}
+use Rattle.wire_codec.specs.Codec.{CodecState, first_id, expected_id, header_of, input_of, DecodesFrom}
+use Rattle.wire_codec.specs.declared.codec.packet.PacketCodec.{PacketCodec}
+use Rattle.wire_packet_io.specs.Lending.{Reading, reading_state}
+use Rattle.wire_packet_io.specs.PacketIo.{joined_reads, CountsUp}
+use Rattle.wire_span.proofs.RenumberLemmas.{take_front}
 use Rattle.wire_codec.specs.Runs.{RunsTo}
 use Rattle.wire_codec.specs.Laws.{JoinedRuns, JoinedSplits, NothingRead, BetweenPackets, StreamAppend, IdAfterAppend, empty_state}
 use Rattle.mysql_wire_commands.specs.Unframe.{ending_status}
@@ -19,7 +23,7 @@ use Rattle.wire_codec.proofs.RunLemmas.{chunk_len_append, splits_extend}
 use Rattle.wire_span.specs.declared.span.SpanError.TheVariants as span
 use Rattle.wire_span.specs.SpanLaws.{SpansStop}
 use Rattle.std.specs.Io.KnownBytes.{Appends, Consumes, IsAtEnd}
-use Rattle.std.proofs.KnownBytes.{Appends-nil, Appends-trans}
+use Rattle.std.proofs.KnownBytes.{Appends-nil, Appends-trans, Consumes-trans}
 
 -- nothing read yet
 pub reframing_start : NothingRead → (limit : ℕ) (state : CodecState) (encodes : ℕ) → state.id ≡ 0 → state.header ≡ None → state.unread ≡ [] → state.held ≡ [] → state.limit ≡ limit
@@ -330,3 +334,72 @@ dropped stop id limit lacking status input left last (held, rest, splits, other,
 pub ends_here : (id limit status : ℕ) (input : List ℕ) (left : Option (List ℕ)) (ending : Ending) → (d : (unfinished : List ℕ) × (rest : List ℕ) × Delivers [] input id limit [] ending unfinished rest)
     → ((all : List ℕ) → all ≡ input → status ≡ ending_status ending (length all)) → ((status ≡ 0) ⊎ (status ≡ 3) → IsAtEnd left) → EndsLong id limit input status left
 ends_here id limit status input left ending d is at_end = (ending, d.0, d.1, d.2, is (front id d.0 ++ d.1) (sym d.2.splits.is), at_end)
+
+-- the id is that of the decoder, in front of a packet
+pub renumbered : BetweenPackets → (limit : ℕ) (state : CodecState) (encodes : ℕ) (input text : List ℕ) → state.id < 256 → state.header ≡ None → state.held ≡ []
+    → Reframing limit state encodes input text → Reframing limit state state.id input text
+renumbered between limit state encodes input text small none nothing u = record {
+  payloads = u.payloads;
+  split = u.split;
+  goes_on = u.goes_on;
+  stands = u.stands;
+  same_limit = u.same_limit;
+  numbered = sym (between state small none nothing).1 ∙ u.goes_on;
+  is = u.is;
+}
+
+-- where the count of reads stays, none was made
+pub no_reads : (reads : List (List ℕ)) (old new : ℕ) → CountsUp old new (length reads) → new ≡ old → old < 2 ^ 64 - 1 → joined_reads reads ≡ []
+no_reads [] old new counts same below = refl
+no_reads (read ∷ reads) old new counts same below = let rises = counts.1 (omega arith) in absurd (omega (arith, rises, same, below))
+
+-- what was passed over since a place, and so far
+abbrev pub Skips : {R : Type 0} → (R → Option (List ℕ)) → Reading R → PacketCodec → Reading R → PacketCodec → Type 0
+Skips remaining before codec after next = (gone : List ℕ) × (before.unread ≡ gone ++ after.unread)
+    × ((limit : ℕ) (unread : Option (List ℕ)) (input text : List ℕ) → Reframing limit (reading_state codec before) (expected_id codec) input text
+    → Consumes unread (remaining before.reader) input
+    → Reframing limit (reading_state next after) (expected_id next) input (text ++ gone) × Consumes unread (remaining after.reader) input)
+
+pub skipped_none : {R : Type 0} (remaining : R → Option (List ℕ)) (reading : Reading R) (codec : PacketCodec) → Skips remaining reading codec reading codec
+skipped_none remaining reading codec = (
+  [],
+  refl,
+  λ limit unread input text u came. (subst (λ (z : List ℕ). Reframing limit (reading_state codec reading) (expected_id codec) input z) (sym (append-nil text)) u, came),
+)
+
+-- a packet more, with no read
+pub skipped_more : {R : Type 0} → JoinedSplits → StreamAppend → IdAfterAppend → BetweenPackets → (remaining : R → Option (List ℕ)) (start before after : Reading R) (first codec next : PacketCodec) (packet more : List ℕ)
+    → Skips remaining start first before codec → expected_id codec < 256 → header_of codec ≡ None → before.held ≡ []
+    → DecodesFrom (first_id (reading_state codec before)) (input_of (reading_state codec before) ++ more) before.held codec.max_allowed_packet (Ok true) (expected_id next) (header_of next) after.unread packet
+    → after.held ≡ [] → next.max_allowed_packet ≡ codec.max_allowed_packet → more ≡ [] → Consumes (remaining before.reader) (remaining after.reader) more
+    → Skips remaining start first after next
+skipped_more joined stream-append id_after-append between remaining start before after first codec next packet more (gone, is, so_far) small none nothing d held same no_more took =
+    let id = expected_id codec in
+    let here = between (reading_state codec before) small none nothing in
+    let front : before.unread ≡ framing id packet ++ after.unread =
+    sym (append-nil before.unread) ∙ ap (λ (z : List ℕ). before.unread ++ z) (sym no_more) ∙ ap (λ (z : List ℕ). z ++ more) (sym here.2) ∙ d.0
+    ∙ ap (λ (n : ℕ). framing n packet ++ after.unread) here.1 in (
+      gone ++ framing id packet,
+      is ∙ ap (λ (z : List ℕ). gone ++ z) front ∙ sym (append_assoc gone (framing id packet) after.unread),
+      λ limit unread input text u came.
+          let old = so_far limit unread input text u came in
+          let one = reframing_more joined stream-append id_after-append between limit (reading_state codec before) (reading_state next after) id (expected_id next) input (text ++ gone) more packet
+          old.0 d held same (d.2 ∙ ap (λ (n : ℕ). next_id n packet) here.1) in
+          let all : input ++ more ≡ input = ap (λ (z : List ℕ). input ++ z) no_more ∙ append-nil input in (
+            subst (λ (z : List ℕ). Reframing limit (reading_state next after) (expected_id next) z (text ++ (gone ++ framing id packet))) all
+                (subst (λ (z : List ℕ). Reframing limit (reading_state next after) (expected_id next) (input ++ more) z) (append_assoc text gone (framing id packet)) one),
+            subst (λ (z : List ℕ). Consumes unread (remaining after.reader) z) all (Consumes-trans _ _ _ input more old.1 took),
+          ),
+    )
+
+-- these bytes more are pending
+pub more_sends : (text pending more : List ℕ) (before now : Option (List ℕ)) → SoWritten text pending before now → SoWritten (text ++ more) (pending ++ more) before now
+more_sends text pending more before now so_far = (so_far.0, ap (λ (z : List ℕ). z ++ more) so_far.1 ∙ append_assoc so_far.0 pending more, so_far.2)
+
+-- all that is left was there
+pub gone_is : (all gone left : List ℕ) (len : ℕ) → all ≡ gone ++ left → length left + len ≡ length all → take len all ≡ gone
+gone_is all gone left len is size =
+    let both = length-append gone left in
+    let total = ap (λ (z : List ℕ). length z) is in
+    let same : len ≡ length gone = omega (arith, both, total, size) in
+    ap (λ (z : List ℕ). take len z) is ∙ ap (λ (n : ℕ). take n (gone ++ left)) same ∙ take_front gone left

@@ -10,6 +10,7 @@ use Rattle.mysql_wire_commands.specs.declared.reframe.Ended.{Ended}
 use Rattle.mysql_wire_commands.specs.declared.reframe.Ended.TheVariants.{At, OutOfSync}
 use Rattle.mysql_wire_commands.specs.declared.sender.Sender.{Sender}
 use Rattle.wire_text.specs.declared.stop.Stop.{Stop}
+use Rattle.mysql_wire_commands.specs.LongPackets.{IsAtHeader, IsInFront}
 use Rattle.mysql_wire_commands.specs.Unframe.{ending_status}
 
 -- what `reframe` writes of the bytes it reads under a limit, and its status: the packets that these
@@ -110,3 +111,15 @@ abbrev pub CopiesOn : CopyPlace → CopyPlace → Type 0
 CopiesOn before after =
     (limit : ℕ) (unread written : Option (List ℕ)) → Copying limit unread written before
     → Copying limit unread written after
+
+-- with no read, packets that lay in front are passed over: the codec's ids are theirs
+abbrev pub SkipsWhole : {R : Type 0} → (R → Option (List ℕ)) → Reading R → PacketCodec → Reading R
+    → PacketCodec → Type 0
+SkipsWhole remaining before codec after next =
+    IsInFront after × IsAtHeader next
+    × ((gone : List ℕ) × (before.unread ≡ gone ++ after.unread)
+    × ((limit : ℕ) (unread : Option (List ℕ)) (input text : List ℕ)
+    → Reframing limit (reading_state codec before) (expected_id codec) input text
+    → Consumes unread (remaining before.reader) input
+    → Reframing limit (reading_state next after) (expected_id next) input (text ++ gone)
+    × Consumes unread (remaining after.reader) input))

@@ -37,16 +37,16 @@ packets-init g c =
 pub packets-preserved-in-Whole : goal.packets-preserved-in-Whole
 packets-preserved-in-Whole g c =
     let inv = c.packets.invariant in
-    let so = c.in_ok-pass_ready.ensures.copies c.args.limit _ _ inv.so_far in
-    let sent = sent_on so.1 c.pass_ready.new.to.pending.items c.send.new.self.pending.items _ _ _ so.4 c.in_ok-send.ensures.sent in
-    let before = codec_state c.pass_ready.new.decoder c.pass_ready.new.from.unread c.pass_ready.new.from.held in
-    let front = c.in_ok-pass_ready.ensures.front in
-    let codec = c.in_ok-pass_ready.ensures.codec in
-    let limits = c.pass_ready.ensures.limits in
+    let so = c.in_ok-pass_whole.ensures.copies c.args.limit _ _ inv.so_far in
+    let sent = sent_on so.1 c.pass_whole.new.to.pending.items c.send.new.self.pending.items _ _ _ so.4 c.in_ok-send.ensures.sent in
+    let before = codec_state c.pass_whole.new.decoder c.pass_whole.new.from.unread c.pass_whole.new.from.held in
+    let front = c.in_ok-pass_whole.ensures.front in
+    let codec = c.in_ok-pass_whole.ensures.codec in
+    let limits = c.pass_whole.ensures.limits in
     let took = rw c.in-Whole.is at c.in_ok-next.ensures.takes in
     let packet : List ℕ = c.take.new.self.bytes.items in
     let put = c.in_ok-pass_on-in-Whole.ensures in
-    let first = expected_id c.pass_ready.new.encoder in
+    let first = expected_id c.pass_whole.new.encoder in
     let begun = c.begin_at.ensures in
     let next = took.2.2 in
     let taken = c.in_ok-next.ensures.front (rw c.in-Whole.is tt) in
@@ -71,29 +71,29 @@ packets-preserved-in-Whole g c =
 pub returns-in-Ends : goal.returns-in-Ends
 returns-in-Ends g c =
     let inv = c.packets.invariant in
-    let so = c.in_ok-pass_ready.ensures.copies c.args.limit _ _ inv.so_far in
-    let sent = sent_on so.1 c.pass_ready.new.to.pending.items c.send.new.self.pending.items _ _ _ so.4 c.in_ok-send.ensures.sent in
-    let before = codec_state c.pass_ready.new.decoder c.pass_ready.new.from.unread c.pass_ready.new.from.held in
-    let front = c.in_ok-pass_ready.ensures.front in
-    let codec = c.in_ok-pass_ready.ensures.codec in
+    let so = c.in_ok-pass_whole.ensures.copies c.args.limit _ _ inv.so_far in
+    let sent = sent_on so.1 c.pass_whole.new.to.pending.items c.send.new.self.pending.items _ _ _ so.4 c.in_ok-send.ensures.sent in
+    let before = codec_state c.pass_whole.new.decoder c.pass_whole.new.from.unread c.pass_whole.new.from.held in
+    let front = c.in_ok-pass_whole.ensures.front in
+    let codec = c.in_ok-pass_whole.ensures.codec in
     let went = none_left_pending so.1 c.send.new.self.pending.items _ _ sent (c.in_ok-send.ensures.idle refl) in
     let took = rw c.in-Ends.is at c.in_ok-next.ensures.takes in
-    ended_long c.joined_runs.ensures c.between_packets.ensures c.args.limit before (expected_id c.pass_ready.new.encoder) _ c.sequence_id.result so.0 so.1 took.0 _ _ _ _
+    ended_long c.joined_runs.ensures c.between_packets.ensures c.args.limit before (expected_id c.pass_whole.new.encoder) _ c.sequence_id.result so.0 so.1 took.0 _ _ _ _
     so.2 (rw c.sequence_id.ensures codec.1) (sym c.sequence_id.ensures) codec.0 front.not_held took.2 (Consumes-trans _ _ _ so.0 took.0 so.3 took.1) went
 
 pub returns-in-OutOfSync : goal.returns-in-OutOfSync
 returns-in-OutOfSync g c =
     let inv = c.packets.invariant in
-    let so = c.in_ok-pass_ready.ensures.copies c.args.limit _ _ inv.so_far in
-    let sent = sent_on so.1 c.pass_ready.new.to.pending.items c.send.new.self.pending.items _ _ _ so.4 c.in_ok-send.ensures.sent in
-    let before = codec_state c.pass_ready.new.decoder c.pass_ready.new.from.unread c.pass_ready.new.from.held in
-    let front = c.in_ok-pass_ready.ensures.front in
-    let codec = c.in_ok-pass_ready.ensures.codec in
+    let so = c.in_ok-pass_whole.ensures.copies c.args.limit _ _ inv.so_far in
+    let sent = sent_on so.1 c.pass_whole.new.to.pending.items c.send.new.self.pending.items _ _ _ so.4 c.in_ok-send.ensures.sent in
+    let before = codec_state c.pass_whole.new.decoder c.pass_whole.new.from.unread c.pass_whole.new.from.held in
+    let front = c.in_ok-pass_whole.ensures.front in
+    let codec = c.in_ok-pass_whole.ensures.codec in
     let went = none_left_pending so.1 c.send.new.self.pending.items _ _ sent (c.in_ok-send.ensures.idle refl) in
     let took = rw c.in-OutOfSync.is at c.in_ok-next.ensures.takes in
     λ status last drops.
     let ends = dropped c.spans_stop.ensures c.sequence_id.result c.args.limit _ status _ _ last took.2 drops in
-    ended_long c.joined_runs.ensures c.between_packets.ensures c.args.limit before (expected_id c.pass_ready.new.encoder) status c.sequence_id.result so.0 so.1 (took.0 ++ drops.0) _ _ _ _
+    ended_long c.joined_runs.ensures c.between_packets.ensures c.args.limit before (expected_id c.pass_whole.new.encoder) status c.sequence_id.result so.0 so.1 (took.0 ++ drops.0) _ _ _ _
     so.2 (rw c.sequence_id.ensures codec.1) (sym c.sequence_id.ensures) codec.0 front.not_held
     (subst (λ (z : List ℕ). EndsLong c.sequence_id.result c.args.limit z status last) (append_assoc before.unread took.0 drops.0) ends)
     (Consumes-trans _ _ _ so.0 (took.0 ++ drops.0) so.3 (Consumes-trans _ _ _ took.0 drops.0 took.1 drops.1)) went
@@ -101,20 +101,20 @@ returns-in-OutOfSync g c =
 pub packets-preserved : goal.packets-preserved
 packets-preserved g c =
     let inv = c.packets.invariant in
-    let so = c.in_ok-pass_ready.ensures.copies c.args.limit _ _ inv.so_far in
-    let sent = sent_on so.1 c.pass_ready.new.to.pending.items c.send.new.self.pending.items _ _ _ so.4 c.in_ok-send.ensures.sent in
-    let before = codec_state c.pass_ready.new.decoder c.pass_ready.new.from.unread c.pass_ready.new.from.held in
-    let front = c.in_ok-pass_ready.ensures.front in
-    let codec = c.in_ok-pass_ready.ensures.codec in
+    let so = c.in_ok-pass_whole.ensures.copies c.args.limit _ _ inv.so_far in
+    let sent = sent_on so.1 c.pass_whole.new.to.pending.items c.send.new.self.pending.items _ _ _ so.4 c.in_ok-send.ensures.sent in
+    let before = codec_state c.pass_whole.new.decoder c.pass_whole.new.from.unread c.pass_whole.new.from.held in
+    let front = c.in_ok-pass_whole.ensures.front in
+    let codec = c.in_ok-pass_whole.ensures.codec in
     let after = codec_state c.fill_packet.new.codec c.fill_packet.new.self.unread c.fill_packet.new.self.held in
-    let limits = c.pass_ready.ensures.limits in
+    let limits = c.pass_whole.ensures.limits in
     let lent = some_lent c.fill_packet.new.self.lent (c.in-Ok-true.ensures.lends.0.0 c.in-Ok-true.field-0-test) in
     let packet : List ℕ = lent.0 in
     let came = (rw lent.1 at c.in-Ok-true.ensures.fills) front.not_lost front.not_lent in
     let more : List ℕ = joined_reads came.reads in
     let put = c.in_ok-pass_on-in-Ok-true.ensures in
     let shown : c.packet.result.now ≡ packet = rw lent.1 at c.packet.ensures in
-    let first = expected_id c.pass_ready.new.encoder in
+    let first = expected_id c.pass_whole.new.encoder in
     let passed = rw shown at put.sent in
     let next = rw shown at put.next in
     let taken = c.take_packet.ensures in
@@ -143,11 +143,11 @@ packets-preserved g c =
 pub returns-in-Ok-false : goal.returns-in-Ok-false
 returns-in-Ok-false g c =
     let inv = c.packets.invariant in
-    let so = c.in_ok-pass_ready.ensures.copies c.args.limit _ _ inv.so_far in
-    let sent = sent_on so.1 c.pass_ready.new.to.pending.items c.send.new.self.pending.items _ _ _ so.4 c.in_ok-send.ensures.sent in
-    let before = codec_state c.pass_ready.new.decoder c.pass_ready.new.from.unread c.pass_ready.new.from.held in
-    let front = c.in_ok-pass_ready.ensures.front in
-    let codec = c.in_ok-pass_ready.ensures.codec in
+    let so = c.in_ok-pass_whole.ensures.copies c.args.limit _ _ inv.so_far in
+    let sent = sent_on so.1 c.pass_whole.new.to.pending.items c.send.new.self.pending.items _ _ _ so.4 c.in_ok-send.ensures.sent in
+    let before = codec_state c.pass_whole.new.decoder c.pass_whole.new.from.unread c.pass_whole.new.from.held in
+    let front = c.in_ok-pass_whole.ensures.front in
+    let codec = c.in_ok-pass_whole.ensures.codec in
     let went = none_left_pending so.1 c.send.new.self.pending.items _ _ sent (c.in_ok-send.ensures.idle refl) in
     let after = codec_state c.fill_packet.new.codec c.fill_packet.new.self.unread c.fill_packet.new.self.held in
     let none = none_lent c.fill_packet.new.self.lent (λ some. false≢true (sym c.in-Ok-false.field-0-test ∙ c.in-Ok-false.ensures.lends.0.1 some)) in
@@ -159,7 +159,7 @@ returns-in-Ok-false g c =
         so.0 ++ more,
         so.1,
         Consumes-trans _ _ _ so.0 more so.3 came.consumed,
-        reframed_whole c.joined_runs.ensures c.args.limit before after (expected_id c.pass_ready.new.encoder) so.0 so.1 more so.2 came.answers.0 came.answers.1,
+        reframed_whole c.joined_runs.ensures c.args.limit before after (expected_id c.pass_whole.new.encoder) so.0 so.1 more so.2 came.answers.0 came.answers.1,
         went,
       );
       all_read = λ _. came.sees_end.1;
@@ -168,11 +168,11 @@ returns-in-Ok-false g c =
 pub returns-in-Err-UnexpectedEnd : goal.returns-in-Err-UnexpectedEnd
 returns-in-Err-UnexpectedEnd g c =
     let inv = c.packets.invariant in
-    let so = c.in_ok-pass_ready.ensures.copies c.args.limit _ _ inv.so_far in
-    let sent = sent_on so.1 c.pass_ready.new.to.pending.items c.send.new.self.pending.items _ _ _ so.4 c.in_ok-send.ensures.sent in
-    let before = codec_state c.pass_ready.new.decoder c.pass_ready.new.from.unread c.pass_ready.new.from.held in
-    let front = c.in_ok-pass_ready.ensures.front in
-    let codec = c.in_ok-pass_ready.ensures.codec in
+    let so = c.in_ok-pass_whole.ensures.copies c.args.limit _ _ inv.so_far in
+    let sent = sent_on so.1 c.pass_whole.new.to.pending.items c.send.new.self.pending.items _ _ _ so.4 c.in_ok-send.ensures.sent in
+    let before = codec_state c.pass_whole.new.decoder c.pass_whole.new.from.unread c.pass_whole.new.from.held in
+    let front = c.in_ok-pass_whole.ensures.front in
+    let codec = c.in_ok-pass_whole.ensures.codec in
     let went = none_left_pending so.1 c.send.new.self.pending.items _ _ sent (c.in_ok-send.ensures.idle refl) in
     let after = codec_state c.fill_packet.new.codec c.fill_packet.new.self.unread c.fill_packet.new.self.held in
     let came = (rw c.in-Err-UnexpectedEnd.field-0-is at c.in-Err-UnexpectedEnd.ensures.fills) front.not_lost front.not_lent in
@@ -183,7 +183,7 @@ returns-in-Err-UnexpectedEnd g c =
         so.0 ++ more,
         so.1,
         Consumes-trans _ _ _ so.0 more so.3 came.consumed,
-        reframed_short c.joined_runs.ensures c.args.limit before after (expected_id c.pass_ready.new.encoder) so.0 so.1 more so.2 came.answers.0 came.answers.1,
+        reframed_short c.joined_runs.ensures c.args.limit before after (expected_id c.pass_whole.new.encoder) so.0 so.1 more so.2 came.answers.0 came.answers.1,
         went,
       );
       all_read = λ _. came.sees_end.1;
@@ -192,11 +192,11 @@ returns-in-Err-UnexpectedEnd g c =
 pub returns-in-Err-PacketTooLarge : goal.returns-in-Err-PacketTooLarge
 returns-in-Err-PacketTooLarge g c =
     let inv = c.packets.invariant in
-    let so = c.in_ok-pass_ready.ensures.copies c.args.limit _ _ inv.so_far in
-    let sent = sent_on so.1 c.pass_ready.new.to.pending.items c.send.new.self.pending.items _ _ _ so.4 c.in_ok-send.ensures.sent in
-    let before = codec_state c.pass_ready.new.decoder c.pass_ready.new.from.unread c.pass_ready.new.from.held in
-    let front = c.in_ok-pass_ready.ensures.front in
-    let codec = c.in_ok-pass_ready.ensures.codec in
+    let so = c.in_ok-pass_whole.ensures.copies c.args.limit _ _ inv.so_far in
+    let sent = sent_on so.1 c.pass_whole.new.to.pending.items c.send.new.self.pending.items _ _ _ so.4 c.in_ok-send.ensures.sent in
+    let before = codec_state c.pass_whole.new.decoder c.pass_whole.new.from.unread c.pass_whole.new.from.held in
+    let front = c.in_ok-pass_whole.ensures.front in
+    let codec = c.in_ok-pass_whole.ensures.codec in
     let went = none_left_pending so.1 c.send.new.self.pending.items _ _ sent (c.in_ok-send.ensures.idle refl) in
     let after = codec_state c.fill_packet.new.codec c.fill_packet.new.self.unread c.fill_packet.new.self.held in
     let came = (rw c.in-Err-PacketTooLarge.field-0-is at c.in-Err-PacketTooLarge.ensures.fills) front.not_lost front.not_lent in
@@ -207,7 +207,7 @@ returns-in-Err-PacketTooLarge g c =
         so.0 ++ more,
         so.1,
         Consumes-trans _ _ _ so.0 more so.3 came.consumed,
-        reframed_too_large c.joined_runs.ensures c.args.limit before (expected_id c.pass_ready.new.encoder) so.0 so.1 more _ _ so.2 came.answers.0,
+        reframed_too_large c.joined_runs.ensures c.args.limit before (expected_id c.pass_whole.new.encoder) so.0 so.1 more _ _ so.2 came.answers.0,
         went,
       );
       all_read = at_four _;
@@ -216,11 +216,11 @@ returns-in-Err-PacketTooLarge g c =
 pub returns-in-Err-PacketsOutOfSync : goal.returns-in-Err-PacketsOutOfSync
 returns-in-Err-PacketsOutOfSync g c =
     let inv = c.packets.invariant in
-    let so = c.in_ok-pass_ready.ensures.copies c.args.limit _ _ inv.so_far in
-    let sent = sent_on so.1 c.pass_ready.new.to.pending.items c.send.new.self.pending.items _ _ _ so.4 c.in_ok-send.ensures.sent in
-    let before = codec_state c.pass_ready.new.decoder c.pass_ready.new.from.unread c.pass_ready.new.from.held in
-    let front = c.in_ok-pass_ready.ensures.front in
-    let codec = c.in_ok-pass_ready.ensures.codec in
+    let so = c.in_ok-pass_whole.ensures.copies c.args.limit _ _ inv.so_far in
+    let sent = sent_on so.1 c.pass_whole.new.to.pending.items c.send.new.self.pending.items _ _ _ so.4 c.in_ok-send.ensures.sent in
+    let before = codec_state c.pass_whole.new.decoder c.pass_whole.new.from.unread c.pass_whole.new.from.held in
+    let front = c.in_ok-pass_whole.ensures.front in
+    let codec = c.in_ok-pass_whole.ensures.codec in
     let went = none_left_pending so.1 c.send.new.self.pending.items _ _ sent (c.in_ok-send.ensures.idle refl) in
     let after = codec_state c.fill_packet.new.codec c.fill_packet.new.self.unread c.fill_packet.new.self.held in
     let came = (rw c.in-Err-PacketsOutOfSync.field-0-is at c.in-Err-PacketsOutOfSync.ensures.fills) front.not_lost front.not_lent in
@@ -231,7 +231,7 @@ returns-in-Err-PacketsOutOfSync g c =
         so.0 ++ more,
         so.1,
         Consumes-trans _ _ _ so.0 more so.3 came.consumed,
-        reframed_out_of_sync c.joined_runs.ensures c.args.limit before (expected_id c.pass_ready.new.encoder) so.0 so.1 more came.answers.0 came.answers.1 so.2 came.answers.2,
+        reframed_out_of_sync c.joined_runs.ensures c.args.limit before (expected_id c.pass_whole.new.encoder) so.0 so.1 more came.answers.0 came.answers.1 so.2 came.answers.2,
         went,
       );
       all_read = at_five _;
