@@ -5,6 +5,7 @@ ghost use Rattle.std.specs.Fmt.{decimal};
 ghost use Rattle.std.specs.Prelude.{◌≡◌, ◌≢◌, ◌≤◌, ◌∷◌, [], ◌++◌, false, true, None, Some, Ok, IfOk, OnOk};
 ghost use Rattle.wire_text.specs.Fields.{Puts, Word, Written, member_form};
 ghost use Rattle.mysql_wire_dump_fields.specs.RowEnds.{IsBehind, IsEndOf};
+ghost use Rattle.mysql_wire_dump_fields.specs.TemporalTexts.{date_text, time_text};
 ghost use Rattle.mysql_wire_dump_fields.specs.ValueFields.{IsTypeOf, row_bytes_fields, PutsColumn, PutsFloat, PutsRow, PutsShown, PutsText, PutsTexts, PutsValues, TextsSoFar};
 ghost use Rattle.mysql_wire_session_phases.specs.declared.refusal.Refusal.TheVariants.{TrailingBytes};
 
@@ -15,6 +16,7 @@ use mysql_wire_queries::text_row::TextValue;
 use mysql_wire_session_phases::refusal::{Refusal, SessionError};
 use mysql_wire_statements::binary_row::BinaryRow;
 use mysql_wire_statements::binary_value::BinaryValue;
+use mysql_wire_statements::temporal::{BinaryDate, BinaryTime};
 use ryu::Buffer;
 use std::alloc::{AllocError, Allocator, Global};
 use std::num::{f32_from_bits_with_nan, f64_from_bits_with_nan};
@@ -381,6 +383,7 @@ pub fn text_row<A: Allocator + Copy>(
 }
 
 // Puts a number of these bits.
+#[inline(never)]
 fn put_float<A: Allocator + Copy>(
     fields: &mut Fields<A>,
     place: u64,
@@ -399,6 +402,7 @@ fn put_float<A: Allocator + Copy>(
 }
 
 // Puts a number of these bits.
+#[inline(never)]
 fn put_double<A: Allocator + Copy>(
     fields: &mut Fields<A>,
     place: u64,
@@ -416,7 +420,35 @@ fn put_double<A: Allocator + Copy>(
     }
 }
 
-// Puts a value in its binary form.
+// Puts a date.
+#[inline(never)]
+fn put_date<A: Allocator + Copy>(
+    fields: &mut Fields<A>,
+    place: u64,
+    date: BinaryDate,
+) -> Result<(), AllocError>
+    ensures { OnOk result (Puts ((decimal place, Word (date_text date)) ∷ [])
+        fields.old fields.new) }
+{
+    fields.put_word_at(place, &DateWord(date))
+}
+
+// Puts a span of time.
+#[inline(never)]
+fn put_time<A: Allocator + Copy>(
+    fields: &mut Fields<A>,
+    place: u64,
+    time: BinaryTime,
+) -> Result<(), AllocError>
+    ensures { OnOk result (Puts ((decimal place, Word (time_text time)) ∷ [])
+        fields.old fields.new) }
+{
+    fields.put_word_at(place, &TimeWord(time))
+}
+
+// Puts a value in its binary form. What has a printed form, or parts, is put by calls: so the value is
+// kept in registers.
+#[inline(always)]
 fn put_value<A: Allocator + Copy>(
     fields: &mut Fields<A>,
     place: u64,
@@ -433,8 +465,8 @@ fn put_value<A: Allocator + Copy>(
         BinaryValue::Text(text) => fields.put_at(place, FieldValue::Text(*text)),
         BinaryValue::Float(bits) => put_float(fields, place, *bits),
         BinaryValue::Double(bits) => put_double(fields, place, *bits),
-        BinaryValue::Date(date) => fields.put_word_at(place, &DateWord(*date)),
-        BinaryValue::Time(time) => fields.put_word_at(place, &TimeWord(*time)),
+        BinaryValue::Date(date) => put_date(fields, place, *date),
+        BinaryValue::Time(time) => put_time(fields, place, *time),
     }
 }
 
