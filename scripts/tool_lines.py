@@ -327,6 +327,14 @@ def of_writes(folder):
         yield "writes of unframe of %d packets" % len(lengths), fault
 
 
+def of_sent_together(folder):
+    """The same of what one write of `reframe` has, where a read brings many packets, and two reads do."""
+    for count, together in [(20, [20]), (40, [26, 14])]:
+        found = list(map(len, writes("reframe 300", packets(count), folder)))
+        fault = None if found == [304 * number for number in together] else str(found)
+        yield "writes of reframe of %d packets" % count, fault
+
+
 def of_long_packets(folder):
     """The same of packets that `reframe` writes from where they lie, between short ones."""
     for length in LONG:
@@ -562,6 +570,7 @@ def main():
     with tempfile.TemporaryDirectory() as name:
         folder = pathlib.Path(name)
         found = [*of_rows(folder), *of_streams(folder), *of_many(folder), *of_writes(folder)]
+        found += of_sent_together(folder)
         found += [*of_reads(), *of_waits(), *of_refused_writes(folder)]
         found += [*of_long_packets(folder), *of_other_lines(folder), *of_failing(folder)]
     for name, fault in found:
