@@ -1,5 +1,5 @@
 -- A reader of packets that lends nothing when it is called.
-use Rattle.std.proofs.Common.{◌≡◌, ◌⊎◌, [], IfSome, ℕ, ◌++◌, List, length, refl, rules, sym, ◌∙◌, subst, inl, inr, IsNone, IsSome, Option, Some, None, Result, Ok, Err, Bool, true, false}
+use Rattle.std.proofs.Common.{◌≡◌, ◌⊎◌, ◌+◌, [], IfSome, ℕ, ◌++◌, List, length, drop, refl, rules, sym, ◌∙◌, subst, inl, inr, IsNone, IsSome, Option, Some, None, Result, Ok, Err, Bool, true, false}
 use Rattle.std.specs.Option.{is_some}
 use Rattle.std.specs.Io.KnownBytes.{Consumes}
 use Rattle.wire_codec.specs.declared.codec.packet.PacketCodec.{PacketCodec}
@@ -7,6 +7,7 @@ use Rattle.std.proofs.lemmas.Bool.{false≢true}
 use Rattle.wire_codec.specs.declared.codec.error.PacketCodecError.{PacketCodecError}
 use Rattle.wire_codec.specs.Codec.{CodecState, codec_state, DecodesPacket, Stands}
 use Rattle.wire_codec.specs.InPlace.{HasFront, behind_front}
+use Rattle.wire_codec.specs.Delivery.{chunk_len}
 use Rattle.wire_codec.proofs.RunLemmas.{stands_append}
 use Rattle.wire_packet_io.specs.declared.error.PacketIoError.{PacketIoError}
 use Rattle.wire_packet_io.specs.declared.error.PacketIoError.TheVariants.{PacketTooLarge, PacketsOutOfSync, OutOfMemory}
@@ -14,7 +15,7 @@ use Rattle.wire_packet_io.specs.declared.input.Found.{Found}
 use Rattle.wire_packet_io.specs.declared.input.Found.TheVariants.{InFront, Copied}
 use Rattle.wire_packet_io.specs.PacketIo.{Answer, FitsAt, NextPacket, TakesPacket}
 use Rattle.wire_packet_io.specs.Lending.{IsCopied, answer_over, found_in, packet_of, unread_behind}
-use Rattle.wire_packet_io.proofs.PacketIoLemmas.{apart_unread, is_standing}
+use Rattle.wire_packet_io.proofs.PacketIoLemmas.{apart_unread, ends_by, is_standing, starts}
 
 -- it goes on where the codec stands
 pub stands_unlent : {A : Type 0} (lent : Option (Found A)) (is lost : Bool) (codec : PacketCodec) (src held : List ℕ) → is ≡ is_some lent → is ≡ false → lost ≡ false
@@ -28,6 +29,17 @@ pub reads_unlent : {A : Type 0} (lent : Option (Found A)) (is : Bool) (codec : P
     → NextPacket (codec_state codec (unread_behind lent src) held) unread left old_reads new_reads answer after
 reads_unlent None is codec src held unread left old_reads new_reads answer after e f next = next
 reads_unlent (Some packet) is codec src held unread left old_reads new_reads answer after e f next = absurd cc
+
+-- a packet that lies in front is read at once
+pub reads_front : {A : Type 0} (lent : Option (Found A)) (is lost : Bool) (codec behind : PacketCodec) (src held packet : List ℕ) (chunk reads : ℕ) (unread : Option (List ℕ))
+    → is ≡ is_some lent → is ≡ false → lost ≡ false → FitsAt lost (codec_state codec (unread_behind lent src) held) → chunk ≡ 4 + chunk_len src
+    → TakesPacket (codec_state codec src held) (Ok (Some packet)) lost (codec_state behind (drop chunk src) held)
+    → NextPacket (codec_state codec (unread_behind lent src) held) unread unread reads reads (Ok (Some packet)) (codec_state behind (drop (4 + chunk_len src) src) held)
+reads_front lent is lost codec behind src held packet chunk reads unread e f found fits there takes =
+    let before = codec_state codec src held in
+    let begun = starts before unread reads (stands_unlent lent is lost codec src held e f found fits) in
+    let next = ends_by (Ok (Some packet)) lost before before (codec_state behind (drop chunk src) held) unread unread unread reads reads reads begun refl refl (λ same. absurd cc) takes in
+    reads_unlent lent is codec src held unread unread reads reads (Ok (Some packet)) _ e f (rw (there) at next)
 
 -- and a packet that was put together is before what is unread then
 pub reads_apart : {A : Type 0} (lent : Option (Found A)) (found : Result (Option (Found A)) PacketIoError) (is : Bool) (codec behind : PacketCodec) (src held new kept : List ℕ)

@@ -1,6 +1,6 @@
 //! What is read, and the loop that finds a packet in it.
 
-ghost use Rattle.std.specs.Prelude.{Some, None, IsSome, false, ◌≡◌, ◌⊎◌, ℕ, ◌+◌, ◌-◌, ◌^◌, ◌<◌, ◌≤◌, ◌↔◌, List, [], ◌++◌, length, min, drop, Ok, Err, IfOk, OnErr, OnOk, IfErr, IsTrue, IsFalse};
+ghost use Rattle.std.specs.Prelude.{Some, None, IfSome, IsNone, IsSome, false, ◌≡◌, ◌⊎◌, ℕ, ◌+◌, ◌-◌, ◌^◌, ◌<◌, ◌≤◌, ◌↔◌, List, [], ◌++◌, length, min, drop, Ok, Err, IfOk, OnErr, OnOk, IfErr, IsTrue, IsFalse};
 ghost use Rattle.std.specs.Io.KnownBytes.{Consumes, IsAtEnd, Keeps};
 ghost use Rattle.wire_codec.specs.Codec.{codec_state, Stands};
 ghost use Rattle.wire_codec.specs.Delivery.{chunk_len};
@@ -209,6 +209,26 @@ impl<R: Read, A: Allocator + Copy> Input<R, A> {
         }
     }
 
+    /// Finds a packet that lies whole in one chunk in front of what was read: how many bytes the chunk
+    /// has, with its header.
+    #[inline(always)]
+    pub(crate) fn find_front(&self, codec: &mut PacketCodec) -> Option<usize>
+        requires stands { Stands (input_state codec.old None self.now) }
+        requires found { IsFalse self.now.lost }
+        ensures takes { IfSome result (λ chunk. TakesPacket (input_state codec.old None self.now)
+            (Ok (Some (payload_in_front self.now.src.items))) self.now.lost
+            (codec_state codec.new (drop chunk self.now.src.items) self.now.dst.items)) }
+        ensures chunk { IfSome result (λ chunk. chunk ≡ 4 + chunk_len self.now.src.items) }
+        ensures whole { IfSome result (λ chunk. chunk ≤ length self.now.src.items) }
+        ensures none { IsNone result → codec.new ≡ codec.old }
+        ensures limit { codec.new.max_allowed_packet ≡ codec.old.max_allowed_packet }
+    {
+        if codec.front_packet(&self.src, self.dst.as_slice()).is_none() {
+            return None;
+        }
+        Some(codec.accept_front(&self.src))
+    }
+
     // Finds a packet in what was read: where it lies, where `lends` says so and it lies whole in
     // one chunk.
     #[inline(always)]
@@ -227,9 +247,10 @@ impl<R: Read, A: Allocator + Copy> Input<R, A> {
         ensures kept { (self.new.reader ≡ self.old.reader) × (self.new.reads ≡ self.old.reads)
             × (codec.new.max_allowed_packet ≡ codec.old.max_allowed_packet) }
     {
-        if lends && codec.front_packet(&self.src, self.dst.as_slice()).is_some() {
-            let chunk = codec.accept_front(&self.src);
-            return Ok(Some(Found::InFront(chunk)));
+        if lends {
+            if let Some(chunk) = self.find_front(codec) {
+                return Ok(Some(Found::InFront(chunk)));
+            }
         }
         self.decode(codec)
     }

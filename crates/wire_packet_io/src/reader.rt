@@ -368,6 +368,11 @@ impl<R: Read, A: Allocator + Copy> PacketReader<R, A> {
         if self.lent.is_some() {
             return Ok(true);
         }
+        // No room is made for a refusal where there is none.
+        if let Some(chunk) = self.input.find_front(codec) {
+            self.lent = Some(Found::InFront(chunk));
+            return Ok(true);
+        }
         match self.input.next(codec, true) {
             Ok(found) => {
                 self.lent = found;
@@ -394,7 +399,12 @@ impl<R: Read, A: Allocator + Copy> PacketReader<R, A> {
     pub fn take_packet(&mut self)
         ensures { self.new ≡ record self.old { lent = None } }
     {
-        if let Some(Found::InFront(chunk)) = self.lent.take() {
+        let front = match &self.lent {
+            Some(Found::InFront(chunk)) => Some(*chunk),
+            Some(Found::Copied(_)) | None => None,
+        };
+        self.lent = None;
+        if let Some(chunk) = front {
             self.input.skip_front(chunk);
         }
     }
