@@ -345,18 +345,25 @@ sixteen_put len begin escapes set letters last room middle new at end long many 
           (ap (λ (k : ℕ). take (len + k) (backslashed set letters)) ones ∙ few_backslashed len set letters (omega (arith, many, long))),
     )
 
-pub low_bits : (len : ℕ) → len ≤ 16 → 1 * 2 ^ len % 18446744073709551616 ≡ 2 ^ len
-low_bits len within =
+pub bits_within : (len : ℕ) → len ≤ 32 → 1 * 2 ^ len % 18446744073709551616 ≡ 2 ^ len
+bits_within len within =
     let two : 0 < 2 = omega arith in
-    let least : 2 ^ len ≤ 2 ^ 16 = pow-le-pow_right two within in
-    let below : 2 ^ len ≤ 65536 = least in omega (arith, below)
+    let least : 2 ^ len ≤ 2 ^ 32 = pow-le-pow_right two within in
+    let below : 2 ^ len ≤ 4294967296 = least in omega (arith, below)
+
+pub low_bits : (len : ℕ) → len ≤ 16 → 1 * 2 ^ len % 18446744073709551616 ≡ 2 ^ len
+low_bits len within = bits_within len (omega (arith, within))
 
 -- ---- tests of the first bits
 
+pub marks_within : (p : ℕ → Bool) (len bits : ℕ) (v : List ℕ) → len ≤ 32 → bits ≡ mask_l (map p v)
+    → bits % (1 * 2 ^ len % 18446744073709551616) ≡ mask_l (map p (take len v))
+marks_within p len bits v within is =
+    ap₂ (λ (a b : ℕ). a % b) is (bits_within len within) ∙ first_bits len (map p v) ∙ ap mask_l (take-map p len v)
+
 first_marks : (p : ℕ → Bool) (len bits : ℕ) (v : List ℕ) → len ≤ 16 → bits ≡ mask_l (map p v)
     → bits % (1 * 2 ^ len % 18446744073709551616) ≡ mask_l (map p (take len v))
-first_marks p len bits v within is =
-    ap₂ (λ (a b : ℕ). a % b) is (low_bits len within) ∙ first_bits len (map p v) ∙ ap mask_l (take-map p len v)
+first_marks p len bits v within is = marks_within p len bits v (omega (arith, within)) is
 
 pub first_need_none : (len bits : ℕ) (v : List ℕ) → len ≤ 16 → bits ≡ mask_l (map needs_escape v) → bits % (1 * 2 ^ len % 18446744073709551616) ≡ 0
     → none_needs_escape (take len v) ≡ true

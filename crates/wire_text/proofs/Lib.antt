@@ -2,6 +2,7 @@ pub mod BackslashLemmas
 pub mod DigitLemmas
 pub mod EscapeLemmas
 pub mod FieldLemmas
+pub mod FillLemmas
 pub mod PartLemmas
 pub mod MaskLemmas
 pub mod PlainLemmas

@@ -121,27 +121,40 @@ pub run_to_other : (block : List ℕ) → length block ≤ 64 → (others_mask b
     → count_trailing_zeros 64 (others_mask block) ≡ prefix_len plain block
 run_to_other block short some = trailing_mask_l is_other 64 block (omega (arith, short)) (omega (arith, some)) ∙ same_run block
 
-lanes_below : (bytes : List ℕ) → length bytes ≡ 16 → others_mask bytes < 2 ^ 16
-lanes_below bytes long =
-    omega (arith, subst (λ (n : ℕ). others_mask bytes < 2 ^ n) (length-map bytes is_other ∙ long) (mask_l-lt (map is_other bytes)))
+lanes_below : (p : ℕ → Bool) (bytes : List ℕ) → length bytes ≡ 16 → mask_l (map p bytes) < 2 ^ 16
+lanes_below p bytes long =
+    omega (arith, subst (λ (n : ℕ). mask_l (map p bytes) < 2 ^ n) (length-map bytes p ∙ long) (mask_l-lt (map p bytes)))
 
 -- the bits of more bytes stand over those of the first
-over_first : (n : ℕ) (first rest : List ℕ) → length first ≡ n → others_mask (first ++ rest) ≡ others_mask rest * 2 ^ n + others_mask first
-over_first zero [] rest is = omega arith
-over_first zero (byte ∷ first) rest is = absurd (omega (arith, is))
-over_first (suc n) [] rest is = absurd (omega (arith, is))
-over_first (suc n) (byte ∷ first) rest is =
-    let more = over_first n first rest (omega (arith, is)) in
-    let over : others_mask rest * 2 ^ suc n ≡ others_mask rest * 2 ^ n + others_mask rest * 2 ^ n =
-    ap (λ (p : ℕ). others_mask rest * p) (two-pow-succ n) ∙ omega arith in
+over_first : (p : ℕ → Bool) (n : ℕ) (first rest : List ℕ) → length first ≡ n
+    → mask_l (map p (first ++ rest)) ≡ mask_l (map p rest) * 2 ^ n + mask_l (map p first)
+over_first p zero [] rest is = omega arith
+over_first p zero (byte ∷ first) rest is = absurd (omega (arith, is))
+over_first p (suc n) [] rest is = absurd (omega (arith, is))
+over_first p (suc n) (byte ∷ first) rest is =
+    let more = over_first p n first rest (omega (arith, is)) in
+    let over : mask_l (map p rest) * 2 ^ suc n ≡ mask_l (map p rest) * 2 ^ n + mask_l (map p rest) * 2 ^ n =
+    ap (λ (q : ℕ). mask_l (map p rest) * q) (two-pow-succ n) ∙ omega arith in
     omega (arith, more, over)
 
 -- the bits of two blocks
+pub both_bits : (p : ℕ → Bool) (first rest : List ℕ) → length first ≡ 16 → length rest ≡ 16
+    → bit_or (mask_l (map p first)) (mask_l (map p rest) * 65536 % 18446744073709551616) ≡ mask_l (map p (first ++ rest))
+both_bits p first rest here long =
+    or_before_shift (mask_l (map p first)) (mask_l (map p rest)) (2 ^ 16) (2 ^ 64) refl (lanes_below p first here) (omega (arith, lanes_below p rest long))
+    ∙ sym (over_first p 16 first rest here)
+
+pub bits_of_block : (p : ℕ → Bool) (block first rest : List ℕ) (a b : ℕ) → length block ≡ 32 → first ≡ take 16 block → rest ≡ drop 16 block
+    → a ≡ mask_l (map p first) → b ≡ mask_l (map p rest) → bit_or a (b * 65536 % 18446744073709551616) ≡ mask_l (map p block)
+bits_of_block p block first rest a b long first_is rest_is a_is b_is =
+    ap₂ (λ (x y : ℕ). bit_or x (y * 65536 % 18446744073709551616)) (a_is ∙ ap (λ (z : List ℕ). mask_l (map p z)) first_is)
+    (b_is ∙ ap (λ (z : List ℕ). mask_l (map p z)) rest_is)
+    ∙ both_bits p (take 16 block) (drop 16 block) (omega (arith, long, length-take 16 block)) (omega (arith, long, length-drop 16 block))
+    ∙ ap (λ (z : List ℕ). mask_l (map p z)) (take-append-drop 16 block)
+
 pub both_others : (first rest : List ℕ) → length first ≡ 16 → length rest ≡ 16
     → bit_or (others_mask first) (others_mask rest * 65536 % 18446744073709551616) ≡ others_mask (first ++ rest)
-both_others first rest here long =
-    or_before_shift (others_mask first) (others_mask rest) (2 ^ 16) (2 ^ 64) refl (lanes_below first here) (omega (arith, lanes_below rest long))
-    ∙ sym (over_first 16 first rest here)
+both_others first rest here long = both_bits is_other first rest here long
 
 -- of two blocks
 parts_run : (p : ℕ → Bool) (n : ℕ) (bytes : List ℕ)
@@ -217,3 +230,37 @@ seven_front (suc len) [] is = refl
 seven_front (suc len) (x ∷ xs) is =
     let parts = and_parts (plain x) _ is in
     ap₂ (λ (a : ℕ) (b : List ℕ). a ∷ b) (seven_same x parts.0) (seven_front len xs parts.1)
+
+-- the first 32 bytes and the last, which may share some
+pub both_ends_plain : (words front end : List ℕ) → 32 ≤ length words → length words ≤ 64 → front ≡ take 32 words
+    → end ≡ drop (length words - 32) words → (all_plain front && all_plain end) ≡ true → all_plain words ≡ true
+both_ends_plain words front end long within front_is end_is are =
+    sym (ends_plain 32 (length words - 32) words (omega (arith, within)) long)
+    ∙ ap₂ (λ (a b : List ℕ). all_plain a && all_plain b) (sym front_is) (sym end_is) ∙ are
+
+-- some of plain letters
+pub front_plain_too : (n : ℕ) (words : List ℕ) → all_plain words ≡ true → all_plain (take n words) ≡ true
+front_plain_too zero words is = refl
+front_plain_too (suc n) [] is = refl
+front_plain_too (suc n) (byte ∷ words) is =
+    let parts = and_parts (plain byte) _ is in and_from _ _ parts.0 (front_plain_too n words parts.1)
+
+pub plain_in_ascii : (words : List ℕ) → all_plain words ≡ true → all_ascii words ≡ true
+plain_in_ascii [] is = refl
+plain_in_ascii (byte ∷ words) is =
+    let parts = and_parts (plain byte) _ is in and_from _ _ (and_parts (needs_no_escape byte) _ parts.0).1 (plain_in_ascii words parts.1)
+
+-- a text between quotes, put in two parts
+pub quoted_parts : (name quote front end words : List ℕ) → front ++ end ≡ words
+    → name ++ (quote ++ (words ++ quote)) ≡ ((name ++ quote) ++ front) ++ (end ++ quote)
+quoted_parts name quote front end words is =
+    ap (λ (z : List ℕ). name ++ (quote ++ (z ++ quote))) (sym is) ∙ ap (λ (z : List ℕ). name ++ (quote ++ z)) (append_assoc front end quote)
+    ∙ sym (append_assoc name quote (front ++ (end ++ quote))) ∙ sym (append_assoc (name ++ quote) front (end ++ quote))
+
+pub cut_and_end : (n : ℕ) (words : List ℕ) → n ≤ 32 → take n (take 32 words) ++ drop n words ≡ words
+cut_and_end n words within = ap (λ (z : List ℕ). z ++ drop n words) (take-take n 32 words within) ∙ take-append-drop n words
+
+pub plain_behind : (n : ℕ) (words : List ℕ) → all_plain words ≡ true → all_plain (drop n words) ≡ true
+plain_behind zero words is = is
+plain_behind (suc n) [] is = is
+plain_behind (suc n) (byte ∷ words) is = plain_behind n words (and_parts (plain byte) _ is).1

@@ -145,7 +145,7 @@ behind_all p zero done rest within is = list_all-append p done rest ∙ ap (λ (
 behind_all p (suc k) [] rest within is = absurd (omega (arith, within))
 behind_all p (suc k) (byte ∷ done) rest within is = behind_all p k done rest (omega (arith, within)) (and_parts (p byte) _ is).1
 
-pass_behind : (p : ℕ → Bool) (k : ℕ) (bytes : List ℕ) → list_all p bytes ≡ true → list_all p (drop k bytes) ≡ true
+pub pass_behind : (p : ℕ → Bool) (k : ℕ) (bytes : List ℕ) → list_all p bytes ≡ true → list_all p (drop k bytes) ≡ true
 pass_behind p zero bytes is = is
 pass_behind p (suc k) [] is = is
 pass_behind p (suc k) (byte ∷ bytes) is = pass_behind p k bytes (and_parts (p byte) _ is).1

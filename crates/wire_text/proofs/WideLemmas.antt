@@ -1,5 +1,5 @@
 -- Letters of three bytes each, seen sixteen bytes at a time through masks.
-use Rattle.std.proofs.Common.{◌≡◌, ℕ, zero, suc, ◌+◌, ◌-◌, ◌*◌, ◌/◌, ◌<◌, ◌≤◌, ◌%◌, ◌^◌, ◌==◌, inl, inr, leb, eqb, bit_and, replicate, drop, take, take-append-drop, List, [], ◌∷◌, ◌++◌, Bool, true, false, refl, ap, ap₂, sym, ◌∙◌, append_assoc, arith, length, map, cond, lt-ltb, le-ltb, le-leb, get_or}
+use Rattle.std.proofs.Common.{◌≡◌, ℕ, zero, suc, ◌+◌, ◌-◌, ◌*◌, ◌/◌, ◌<◌, ◌≤◌, ◌%◌, ◌^◌, ◌==◌, inl, inr, leb, eqb, bit_and, replicate, drop, take, take-append-drop, List, [], ◌∷◌, ◌++◌, Bool, true, false, refl, ap, ap₂, sym, ◌∙◌, append_assoc, arith, length, map, cond, lt-ltb, le-ltb, le-leb, get_or, w8, Fits}
 use Rattle.std.proofs.lemmas.Bool.{and_from, and_parts, cases_lt, eqb-false, leb-true, ne_eqb, not-true}
 use Rattle.std.proofs.lemmas.List.{drop-drop, drop_at, length-append, length-map, length-take-le, take-take, take_all, take_at}
 use Rattle.std.proofs.lemmas.Simd.{mask_l-mod, zip2_of_maps, zip2_splat, zip2_splat_left}
@@ -8,8 +8,10 @@ use Rattle.std.specs.Prelude.{◌&&◌, not}
 use Rattle.std.specs.Str.{IsUtf8}
 use lib.Lanes.{mask_l, top, zip2}
 use lib.Utf8.{encode, low_scalar, next, scalar}
-use Rattle.wire_text.specs.Fields.{are_wide, begins_three, goes_on, needs_no_escape, none_needs_escape}
-use Rattle.wire_text.proofs.EscapeLemmas.{false-true}
+use Rattle.wire_text.specs.Fields.{all_ascii, are_wide, begins_three, goes_on, needs_no_escape, none_needs_escape}
+use Rattle.std.proofs.lemmas.Nat.{and_mask}
+use Rattle.wire_text.proofs.BackslashLemmas.{bits_within, first_bits, marks_within}
+use Rattle.wire_text.proofs.EscapeLemmas.{false-true, list_same, list_same_is, upto, upto_holds}
 
 -- ---- the masks
 
@@ -135,6 +137,46 @@ wide_end (byte ∷ block) long first later =
     ap are_wide (sym (take_all 15 block (omega (arith, long))))
     ∙ wide_lanes 5 block [] [] (others_of _ _ _ _ (same_bits (map begins_three (byte ∷ block)) (false ∷ leads 5 []) (omega (arith, length-map block begins_three, long)) first))
     (others_of _ _ _ _ (same_bits (map goes_on (byte ∷ block)) (true ∷ goings 5 []) (omega (arith, length-map block goes_on, long)) later))
+
+-- ---- so many of 32 bytes
+
+set_within : (len : ℕ) (set : List Bool) → len ≤ 32 → mask_l set % (1 * 2 ^ len % 18446744073709551616) ≡ mask_l (take len set)
+set_within len set within = ap (λ (n : ℕ). mask_l set % n) (bits_within len within) ∙ first_bits len set
+
+take_leads : (n m : ℕ) (tail : List Bool) → n ≤ m → take (thrice n) (leads m tail) ≡ leads n []
+take_leads zero m tail less = refl
+take_leads (suc n) zero tail less = absurd (omega (arith, less))
+take_leads (suc n) (suc m) tail less = ap (λ (z : List Bool). true ∷ false ∷ false ∷ z) (take_leads n m tail (omega (arith, less)))
+
+take_goings : (n m : ℕ) (tail : List Bool) → n ≤ m → take (thrice n) (goings m tail) ≡ goings n []
+take_goings zero m tail less = refl
+take_goings (suc n) zero tail less = absurd (omega (arith, less))
+take_goings (suc n) (suc m) tail less = ap (λ (z : List Bool). false ∷ true ∷ true ∷ z) (take_goings n m tail (omega (arith, less)))
+
+same_within : (p : ℕ → Bool) (len bits number : ℕ) (block : List ℕ) (set : List Bool) → length block ≡ 32 → length set ≡ 32 → len ≤ 32
+    → bits ≡ mask_l (map p block) → number ≡ mask_l set
+    → bits % (1 * 2 ^ len % 18446744073709551616) ≡ number % (1 * 2 ^ len % 18446744073709551616) → map p (take len block) ≡ take len set
+same_within p len bits number block set long many within bits_is number_is same =
+    same_bits (map p (take len block)) (take len set)
+    (omega (arith, length-map (take len block) p, length-take-le len block (omega (arith, long, within)), length-take-le len set (omega (arith, many, within))))
+    (sym (marks_within p len bits block within bits_is) ∙ same ∙ ap (λ (n : ℕ). n % (1 * 2 ^ len % 18446744073709551616)) number_is ∙ set_within len set within)
+
+pub wide_within : (block : List ℕ) (len first later : ℕ) → length block ≡ 32 → len ≤ 32 → len % 3 ≡ 0 → first ≡ mask_l (map begins_three block)
+    → later ≡ mask_l (map goes_on block) → first % (1 * 2 ^ len % 18446744073709551616) ≡ 1227133513 % (1 * 2 ^ len % 18446744073709551616)
+    → later % (1 * 2 ^ len % 18446744073709551616) ≡ 3067833782 % (1 * 2 ^ len % 18446744073709551616) → are_wide (take len block) ≡ true
+wide_within block len first later long within thirds first_is later_is firsts laters =
+    let n = len / 3 in
+    let count : thrice n ≡ len = omega (arith, thrice_is n, thirds) in
+    let few : n ≤ 10 = omega (arith, within) in
+    let lead_set = leads 10 (true ∷ false ∷ []) in
+    let going_set = goings 10 (false ∷ true ∷ []) in
+    let front = take len block in
+    let begin = same_within begins_three len first 1227133513 block lead_set long refl within first_is refl firsts
+    ∙ ap (λ (k : ℕ). take k lead_set) (sym count) ∙ take_leads n 10 (true ∷ false ∷ []) few in
+    let on = same_within goes_on len later 3067833782 block going_set long refl within later_is refl laters
+    ∙ ap (λ (k : ℕ). take k going_set) (sym count) ∙ take_goings n 10 (false ∷ true ∷ []) few in
+    ap are_wide (sym (take_all (thrice n) front (omega (arith, count, length-take-le len block (omega (arith, long, within))))))
+    ∙ wide_lanes n front [] [] begin on
 
 -- ---- many of them
 
@@ -275,3 +317,31 @@ wide_stands (a ∷ b ∷ c ∷ rest) is =
     let letter = and_parts _ _ parts.0 in
     let front = and_parts _ _ letter.0 in
     and_from _ _ (lead_stands a front.0) (and_from _ _ (high_stands b front.1) (and_from _ _ (high_stands c letter.1) (wide_stands rest parts.1)))
+
+-- ---- so many bytes as they are, and the low seven bits of those behind
+
+abbrev row : ℕ → List ℕ
+row len = replicate len 255 ++ replicate (32 - len) 127
+
+abbrev part : List ℕ → ℕ → List ℕ
+part table len = take 32 (take (64 - (32 - len)) (drop (32 - len) table))
+
+pub row_is : (table : List ℕ) (len : ℕ) → upto (λ k. list_same (part table k) (row k)) 33 ≡ true → len ≤ 32 → part table len ≡ row len
+row_is table len all within =
+    list_same_is _ _ (upto_holds (λ k. list_same (part table k) (row k)) 33 len all (omega (arith, within)))
+
+pub front_kept : (len : ℕ) (block tail : List ℕ) → ((i : ℕ) → Fits w8 (get_or block i 0)) → take len (zip2 bit_and block (replicate len 255 ++ tail)) ≡ take len block
+front_kept zero block tail fits = refl
+front_kept (suc len) [] tail fits = refl
+front_kept (suc len) (x ∷ xs) tail fits =
+    ap₂ (λ (a : ℕ) (b : List ℕ). a ∷ b) (and_mask x 8 ∙ omega (arith, (fits 0).fits)) (front_kept len xs tail (λ i. fits (suc i)))
+
+pub seven_behind : (len : ℕ) (block tail : List ℕ) → drop len (zip2 bit_and block (replicate len 255 ++ tail)) ≡ zip2 bit_and (drop len block) tail
+seven_behind zero block tail = refl
+seven_behind (suc len) [] tail = refl
+seven_behind (suc len) (x ∷ xs) tail = seven_behind len xs tail
+
+pub seven_all : (n : ℕ) (block : List ℕ) → all_ascii (zip2 bit_and block (replicate n 127)) ≡ true
+seven_all n [] = refl
+seven_all zero (x ∷ xs) = refl
+seven_all (suc n) (x ∷ xs) = and_from _ _ (lt-ltb (bit_and x 127) 128 (omega (arith, and_mask x 7))) (seven_all n xs)

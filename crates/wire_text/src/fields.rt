@@ -1,19 +1,14 @@
 //! The fields of a packet, as text or as members of a JSON object.
 
 ghost use Rattle.std.specs.Prelude.{◌≡◌, ◌<◌, ◌≤◌, ◌⊎◌, ◌∷◌, ◌++◌, [], length, take, false, true, Ok, OnOk, string_bytes};
-ghost use Rattle.std.specs.List.{prefix_len};
 ghost use Rattle.std.specs.Fmt.{decimal};
 ghost use Rattle.wire_text.specs.FieldTables.{members_in, members_of};
-ghost use Rattle.wire_text.specs.Fields.{Puts, Word, Words, ended, in_ascii, member_form, nothing, nothing_after, plain, value_of};
+ghost use Rattle.wire_text.specs.Fields.{Puts, Word, Words, ended, member_form, nothing, nothing_after, value_of};
 ghost use Rattle.wire_text.specs.Parts.{WritesMember};
 
-use crate::escapes::ascii_in_front;
 use crate::long::write_text_at;
 pub use crate::members::{FieldValue, MemberForm};
-use crate::members::{
-    push_closing, push_escaped_at, push_member, push_member_at, push_short_at, push_word_at,
-};
-use crate::plain::plain_in_front;
+use crate::members::{push_closing, push_front_at, push_member, push_member_at, push_word_at};
 use crate::put::PutWord;
 use crate::stop::Stop;
 use std::alloc::{AllocError, Allocator, Global};
@@ -177,43 +172,10 @@ impl<A: Allocator + Copy> Fields<A> {
         Ok(())
     }
 
-    // Puts the text that these bytes begin with, where it is of ASCII, and 48 bytes are there: whether
-    // it has.
-    fn put_escaped_at(
-        &mut self,
-        form: MemberForm,
-        place: u64,
-        bytes: &[u8],
-        len: usize,
-    ) -> Result<bool, AllocError>
-        requires long { 32 ≤ length bytes.now }
-        requires within { len ≤ 32 }
-        requires shown { member_form self.old.form ≡ Some form }
-        ensures put { result ≡ Ok true
-            → Puts ((decimal place, Words (take len bytes.now)) ∷ []) self.old self.new }
-        ensures not { result ≡ Ok false → (self.new ≡ self.old)
-            × ((length bytes.now < 48) ⊎ (prefix_len in_ascii (take 32 bytes.now) < len)) }
-    {
-        let Some((source, _)) = bytes.split_first_chunk::<48>() else {
-            return Ok(false);
-        };
-        if ascii_in_front(&source[..32]) < len {
-            return Ok(false);
-        }
-        let is_first = self.text.len() == self.begin;
-        match push_escaped_at(&mut self.text, form, is_first, place, source, len) {
-            Ok(()) => Ok(true),
-            Err(error) => {
-                self.begin = 0;
-                Err(error)
-            }
-        }
-    }
-
     /// Puts the text that these bytes begin with, of this many bytes, which has no name but its place:
-    /// whether it has. Where fields are shown, that is where it is short, and 32 bytes are there if its
-    /// letters are plain, 48 if some need escapes; else nothing changes. It is known how fields are
-    /// shown: a caller that puts many texts has code for each form, which doesn't ask again.
+    /// whether it has. Where fields are shown, that is where 32 bytes are there, and all of the text's;
+    /// else nothing changes. It is known how fields are shown: a caller that puts many texts has code
+    /// for each form, which doesn't ask again.
     #[inline(always)]
     pub fn put_short_in(
         &mut self,
@@ -227,24 +189,20 @@ impl<A: Allocator + Copy> Fields<A> {
         ensures put { result ≡ Ok true
             → Puts ((decimal place, Words (take len bytes.now)) ∷ []) self.old self.new }
         ensures not { result ≡ Ok false → (self.new ≡ self.old)
-            × ((length bytes.now < 32) ⊎ ((prefix_len plain (take 32 bytes.now) < len)
-            × ((length bytes.now < 48) ⊎ (prefix_len in_ascii (take 32 bytes.now) < len)))) }
+            × ((length bytes.now < 32) ⊎ (length bytes.now < len)) }
         ensures hidden { self.old.form ≡ Hidden → len ≤ length bytes.now → result ≡ Ok true }
     {
         let Some(form) = form else {
             return Ok(len <= bytes.len());
         };
-        let Some((block, _)) = bytes.split_first_chunk::<32>() else {
-            return Ok(false);
-        };
-        if len > block.len() {
+        if bytes.len() < 32 {
             return Ok(false);
         }
-        if plain_in_front(block) < len {
-            return self.put_escaped_at(form, place, bytes, len);
+        if len > 32 && len > bytes.len() {
+            return Ok(false);
         }
         let is_first = self.text.len() == self.begin;
-        match push_short_at(&mut self.text, form, is_first, place, block, len) {
+        match push_front_at(&mut self.text, form, is_first, place, bytes, len) {
             Ok(()) => Ok(true),
             Err(error) => {
                 self.begin = 0;

@@ -1,17 +1,18 @@
 //! Members: a name and a value, on a line of its own or in an object of JSON.
 
-ghost use Rattle.std.specs.Prelude.{◌≡◌, ◌≢◌, ◌≤◌, ◌++◌, ℕ, List, [], codes, length, take, IfSome, IsSome, IsTrue, OnOk, string_bytes};
+ghost use Rattle.std.specs.Prelude.{◌≡◌, ◌≢◌, ◌≤◌, ◌+◌, ◌∷◌, ◌++◌, false, ℕ, List, [], codes, drop, length, take, IfSome, IsSome, IsTrue, OnOk, string_bytes};
 ghost use Rattle.std.specs.Fmt.{decimal};
 ghost use Rattle.std.specs.Str.{IsUtf8};
-ghost use Rattle.wire_text.specs.Fields.{all_ascii, all_plain, digits_text, end_part, flags_text, member_part, name_part, none_needs_escape, octets_text, value_of, value_text, words_text, Null, Number, Word, Words};
+ghost use Rattle.wire_text.specs.Fields.{all_ascii, all_plain, are_wide, digits_text, end_part, flags_text, member_part, name_part, none_needs_escape, octets_text, value_of, value_text, words_text, Null, Number, Word, Words};
 
-use crate::digits::{fill, push_digits_to};
-use crate::escapes::{is_ascii, none_needs_escape};
-use crate::plain::{below_128, is_plain};
+use crate::digits::push_digits_to;
+use crate::escapes::{ascii_in_front, is_ascii, none_needs_escape};
+use crate::plain::{below_128, is_longer_plain, is_plain, plain_in_front};
 use crate::put::{PutWord, one_digit, push_between, push_few, push_number, two_digits};
 use crate::quoted::{push_escaped_words, push_front_escaped, push_in_quotes};
-use crate::wide::is_wide;
+use crate::wide::{ascii_behind, is_wide, is_wide_in_front};
 use std::alloc::{AllocError, Allocator};
+use std::simd::prelude::*;
 
 /// How members are shown.
 #[derive(Clone, Copy)]
@@ -313,27 +314,37 @@ pub(crate) fn push_name_at<A: Allocator>(
     push_name(text, form, is_first, name_of(&one_digit(place)))
 }
 
-// Appends a few letters, and after them as many of 32 bytes as are asked for. All are copied, since
-// their count is no branch then: those behind become some letters of ASCII, and are cut off.
+// Fills a place with letters, and 32 bytes after them.
+#[inline(always)]
+fn fill_with(place: &mut [u8], letters: &[u8], bytes: u8x32)
+    requires { length letters.now + 32 ≡ length place.old }
+    ensures { place.new ≡ letters.now ++ bytes }
+{
+    place[..letters.len()].copy_from_slice(letters);
+    bytes.copy_to_slice(&mut place[letters.len()..]);
+}
+
+// Appends a few letters, and after them as many of 32 bytes as are asked for. All are appended, since
+// their count is no branch then: those behind are of ASCII, and are cut off.
 #[inline(always)]
 fn push_with_front<A: Allocator>(
     text: &mut String<A>,
     letters: &[u8],
-    block: &[u8],
+    bytes: u8x32,
     len: usize,
 ) -> Result<(), AllocError>
     requires few { length letters.now ≤ 16 }
     requires letters { IsUtf8 letters.now }
-    requires within { len ≤ length block.now }
-    requires long { length block.now ≡ 32 }
-    requires plain { IsTrue (all_plain (take len block.now)) }
+    requires within { len ≤ 32 }
+    requires words { IsUtf8 (take len bytes) }
+    requires behind { IsTrue (all_ascii (drop len bytes)) }
     ensures { OnOk result (string_bytes text.new
-        ≡ string_bytes text.old ++ (letters.now ++ take len block.now)) }
+        ≡ string_bytes text.old ++ (letters.now ++ take len bytes)) }
 {
     let end = text.len() + letters.len() + len;
     let mut room = [0; 48];
     let all = &mut room[..letters.len() + 32];
-    fill(all, letters, &below_128(block));
+    fill_with(all, letters, bytes);
     push_few(text, all)?;
     text.truncate(end);
     Ok(())
@@ -344,28 +355,28 @@ fn push_with_front<A: Allocator>(
 fn push_short_line<A: Allocator>(
     text: &mut String<A>,
     name: &str,
-    block: &[u8],
+    bytes: u8x32,
     len: usize,
 ) -> Result<(), AllocError>
-    requires within { len ≤ length block.now }
-    requires long { length block.now ≡ 32 }
-    requires plain { IsTrue (all_plain (take len block.now)) }
+    requires within { len ≤ 32 }
+    requires words { IsUtf8 (take len bytes) }
+    requires behind { IsTrue (all_ascii (drop len bytes)) }
     ensures { OnOk result (string_bytes text.new ≡ string_bytes text.old
-        ++ ((codes "\n  " ++ name.now ++ codes " \"") ++ take len block.now)) }
+        ++ ((codes "\n  " ++ name.now ++ codes " \"") ++ take len bytes)) }
 {
     match name.as_bytes() {
-        [one] => push_with_front(text, &[b'\n', b' ', b' ', *one, b' ', b'"'], block, len),
+        [one] => push_with_front(text, &[b'\n', b' ', b' ', *one, b' ', b'"'], bytes, len),
         [one, two] => {
             push_with_front(
                 text,
                 &[b'\n', b' ', b' ', *one, *two, b' ', b'"'],
-                block,
+                bytes,
                 len,
             )
         }
         _ => {
             push_between(text, "\n  ", name, " \"")?;
-            push_with_front(text, &[], block, len)
+            push_with_front(text, &[], bytes, len)
         }
     }
 }
@@ -375,28 +386,28 @@ fn push_short_line<A: Allocator>(
 fn push_short_pair<A: Allocator>(
     text: &mut String<A>,
     name: &str,
-    block: &[u8],
+    bytes: u8x32,
     len: usize,
 ) -> Result<(), AllocError>
-    requires within { len ≤ length block.now }
-    requires long { length block.now ≡ 32 }
-    requires plain { IsTrue (all_plain (take len block.now)) }
+    requires within { len ≤ 32 }
+    requires words { IsUtf8 (take len bytes) }
+    requires behind { IsTrue (all_ascii (drop len bytes)) }
     ensures { OnOk result (string_bytes text.new ≡ string_bytes text.old
-        ++ ((codes ",\"" ++ name.now ++ codes "\":\"") ++ take len block.now)) }
+        ++ ((codes ",\"" ++ name.now ++ codes "\":\"") ++ take len bytes)) }
 {
     match name.as_bytes() {
-        [one] => push_with_front(text, &[b',', b'"', *one, b'"', b':', b'"'], block, len),
+        [one] => push_with_front(text, &[b',', b'"', *one, b'"', b':', b'"'], bytes, len),
         [one, two] => {
             push_with_front(
                 text,
                 &[b',', b'"', *one, *two, b'"', b':', b'"'],
-                block,
+                bytes,
                 len,
             )
         }
         _ => {
             push_between(text, ",\"", name, "\":\"")?;
-            push_with_front(text, &[], block, len)
+            push_with_front(text, &[], bytes, len)
         }
     }
 }
@@ -406,14 +417,14 @@ fn push_short_pair<A: Allocator>(
 fn push_short_first<A: Allocator>(
     text: &mut String<A>,
     name: &str,
-    block: &[u8],
+    bytes: u8x32,
     len: usize,
 ) -> Result<(), AllocError>
-    requires within { len ≤ length block.now }
-    requires long { length block.now ≡ 32 }
-    requires plain { IsTrue (all_plain (take len block.now)) }
+    requires within { len ≤ 32 }
+    requires words { IsUtf8 (take len bytes) }
+    requires behind { IsTrue (all_ascii (drop len bytes)) }
     ensures { OnOk result (string_bytes text.new ≡ string_bytes text.old
-        ++ ((codes ",\"fields\":{\"" ++ name.now ++ codes "\":\"") ++ take len block.now)) }
+        ++ ((codes ",\"fields\":{\"" ++ name.now ++ codes "\":\"") ++ take len bytes)) }
 {
     match name.as_bytes() {
         [one] => {
@@ -423,13 +434,13 @@ fn push_short_first<A: Allocator>(
                     b',', b'"', b'f', b'i', b'e', b'l', b'd', b's', b'"', b':', b'{', b'"', *one,
                     b'"', b':', b'"',
                 ],
-                block,
+                bytes,
                 len,
             )
         }
         _ => {
             push_between(text, ",\"fields\":{\"", name, "\":\"")?;
-            push_with_front(text, &[], block, len)
+            push_with_front(text, &[], bytes, len)
         }
     }
 }
@@ -441,45 +452,65 @@ fn push_short_words<A: Allocator>(
     form: MemberForm,
     is_first: bool,
     name: &str,
-    block: &[u8],
+    bytes: u8x32,
     len: usize,
 ) -> Result<(), AllocError>
-    requires within { len ≤ length block.now }
-    requires long { length block.now ≡ 32 }
-    requires plain { IsTrue (all_plain (take len block.now)) }
+    requires within { len ≤ 32 }
+    requires words { IsUtf8 (take len bytes) }
+    requires behind { IsTrue (all_ascii (drop len bytes)) }
     ensures { OnOk result (string_bytes text.new ≡ string_bytes text.old
-        ++ ((name_part form is_first name.now ++ codes "\"") ++ take len block.now)) }
+        ++ ((name_part form is_first name.now ++ codes "\"") ++ take len bytes)) }
 {
     match form {
-        MemberForm::Text => push_short_line(text, name, block, len),
+        MemberForm::Text => push_short_line(text, name, bytes, len),
         MemberForm::Json => {
             if is_first {
-                push_short_first(text, name, block, len)
+                push_short_first(text, name, bytes, len)
             } else {
-                push_short_pair(text, name, block, len)
+                push_short_pair(text, name, bytes, len)
             }
         }
     }
 }
 
-// A text of plain letters, which 32 bytes begin with.
+// A quote for which there is no room.
+#[cold]
+#[inline(never)]
+fn push_quote_far<A: Allocator>(text: &mut String<A>) -> Result<(), AllocError>
+    ensures { OnOk result (string_bytes text.new ≡ string_bytes text.old ++ codes "\"") }
+{
+    text.push('"')
+}
+
+// A quote. (A call that asks for memory would need registers saved: this one is the last.)
+#[inline(always)]
+fn push_quote<A: Allocator>(text: &mut String<A>) -> Result<(), AllocError>
+    ensures { OnOk result (string_bytes text.new ≡ string_bytes text.old ++ codes "\"") }
+{
+    if text.len() == text.capacity() {
+        return push_quote_far(text);
+    }
+    text.push('"')
+}
+
+// A text of so many of 32 bytes, which stand in quotes as they are.
 #[inline(always)]
 fn push_short<A: Allocator>(
     text: &mut String<A>,
     form: MemberForm,
     is_first: bool,
     name: &str,
-    block: &[u8],
+    bytes: u8x32,
     len: usize,
 ) -> Result<(), AllocError>
-    requires within { len ≤ length block.now }
-    requires long { length block.now ≡ 32 }
-    requires plain { IsTrue (all_plain (take len block.now)) }
+    requires within { len ≤ 32 }
+    requires words { IsUtf8 (take len bytes) }
+    requires behind { IsTrue (all_ascii (drop len bytes)) }
     ensures { OnOk result (string_bytes text.new ≡ string_bytes text.old
-        ++ member_part form is_first (name.now, Word (take len block.now))) }
+        ++ member_part form is_first (name.now, Word (take len bytes))) }
 {
-    push_short_words(text, form, is_first, name, block, len)?;
-    text.push('"')
+    push_short_words(text, form, is_first, name, bytes, len)?;
+    push_quote(text)
 }
 
 // The same, of a place of three digits and more.
@@ -500,12 +531,23 @@ fn push_short_far<A: Allocator>(
         ++ member_part form is_first (decimal place, Words (take len block.now))) }
 {
     let mut digits = itoa::Buffer::new();
-    push_short(text, form, is_first, digits.format(place), block, len)
+    push_short(
+        text,
+        form,
+        is_first,
+        digits.format(place),
+        below_128(block),
+        len,
+    )
 }
+
+// Room for such a text and what stands around it. Where there is less, just its bytes are appended, so
+// that no more memory is asked for.
+const SHORT_ROOM: usize = 128;
 
 // The same, of a place of two digits and more.
 #[inline(never)]
-fn push_short_behind<A: Allocator>(
+fn push_short_behind<A: Allocator + Copy>(
     text: &mut String<A>,
     form: MemberForm,
     is_first: bool,
@@ -520,20 +562,26 @@ fn push_short_behind<A: Allocator>(
     ensures { OnOk result (string_bytes text.new ≡ string_bytes text.old
         ++ member_part form is_first (decimal place, Words (take len block.now))) }
 {
-    if place >= 100 {
+    if text.capacity() - text.len() < SHORT_ROOM {
+        return push_any_far(text, form, is_first, place, &block[..len]);
+    }
+    if is_first || place >= 100 {
         return push_short_far(text, form, is_first, place, block, len);
     }
     let digits = two_digits(place);
-    push_short(text, form, is_first, name_of(&digits), block, len)
+    push_short(
+        text,
+        form,
+        is_first,
+        name_of(&digits),
+        below_128(block),
+        len,
+    )
 }
-
-// Room for such a text and what stands around it. Where there is less, just its bytes are appended, so
-// that no more memory is asked for.
-const SHORT_ROOM: usize = 128;
 
 // A text of plain letters, which 32 bytes begin with, and whose name is its place.
 #[inline(always)]
-pub(crate) fn push_short_at<A: Allocator + Copy>(
+fn push_short_at<A: Allocator + Copy>(
     text: &mut String<A>,
     form: MemberForm,
     is_first: bool,
@@ -547,19 +595,93 @@ pub(crate) fn push_short_at<A: Allocator + Copy>(
     ensures { OnOk result (string_bytes text.new ≡ string_bytes text.old
         ++ member_part form is_first (decimal place, Words (take len block.now))) }
 {
-    if text.capacity() - text.len() < SHORT_ROOM {
-        return push_text_at(text, form, is_first, place, &block[..len]);
-    }
     if place >= 10 {
         return push_short_behind(text, form, is_first, place, block, len);
     }
+    if text.capacity() - text.len() < SHORT_ROOM {
+        return push_text_at(text, form, is_first, place, &block[..len]);
+    }
     let digit = one_digit(place);
-    push_short(text, form, is_first, name_of(&digit), block, len)
+    push_short(text, form, is_first, name_of(&digit), below_128(block), len)
+}
+
+// Any text, where there is little room, or its place is of three digits and more.
+#[cold]
+#[inline(never)]
+fn push_any_far<A: Allocator + Copy>(
+    text: &mut String<A>,
+    form: MemberForm,
+    is_first: bool,
+    place: u64,
+    bytes: &[u8],
+) -> Result<(), AllocError>
+    ensures { OnOk result (string_bytes text.new
+        ≡ string_bytes text.old ++ member_part form is_first (decimal place, Words bytes.now)) }
+{
+    push_any_text_at(text, form, is_first, place, bytes)
+}
+
+// A text of letters of three bytes, which 32 bytes begin with, and whose name is its place.
+#[inline(never)]
+fn push_wide_at<A: Allocator + Copy>(
+    text: &mut String<A>,
+    form: MemberForm,
+    is_first: bool,
+    place: u64,
+    block: &[u8],
+    len: usize,
+) -> Result<(), AllocError>
+    requires within { len ≤ 32 }
+    requires long { length block.now ≡ 32 }
+    requires wide { IsTrue (are_wide (take len block.now)) }
+    ensures { OnOk result (string_bytes text.new ≡ string_bytes text.old
+        ++ member_part form is_first (decimal place, Words (take len block.now))) }
+{
+    if text.capacity() - text.len() < SHORT_ROOM {
+        return push_any_far(text, form, is_first, place, &block[..len]);
+    }
+    let bytes = ascii_behind(block, len);
+    if place < 10 {
+        let digit = one_digit(place);
+        return push_short(text, form, is_first, name_of(&digit), bytes, len);
+    }
+    if is_first || place >= 100 {
+        return push_any_far(text, form, is_first, place, &block[..len]);
+    }
+    let digits = two_digits(place);
+    push_short(text, form, is_first, name_of(&digits), bytes, len)
+}
+
+// The text that these bytes begin with, of up to 32 bytes, whose name is its place: it is not of plain
+// letters alone.
+#[inline(never)]
+fn push_other_at<A: Allocator + Copy>(
+    text: &mut String<A>,
+    form: MemberForm,
+    is_first: bool,
+    place: u64,
+    bytes: &[u8],
+    len: usize,
+) -> Result<(), AllocError>
+    requires within { len ≤ 32 }
+    requires long { 32 ≤ length bytes.now }
+    ensures { OnOk result (string_bytes text.new ≡ string_bytes text.old
+        ++ member_part form is_first (decimal place, Words (take len bytes.now))) }
+{
+    if is_wide_in_front(&bytes[..32], len) {
+        return push_wide_at(text, form, is_first, place, &bytes[..32], len);
+    }
+    if let Some((source, _)) = bytes.split_first_chunk::<48>() {
+        if ascii_in_front(&source[..32]) >= len {
+            return push_escaped_at(text, form, is_first, place, source, len);
+        }
+    }
+    push_text_at(text, form, is_first, place, &bytes[..len])
 }
 
 // A text of ASCII that 48 bytes begin with, of which some need escapes, and whose name is its place.
 #[inline(never)]
-pub(crate) fn push_escaped_at<A: Allocator>(
+fn push_escaped_at<A: Allocator>(
     text: &mut String<A>,
     form: MemberForm,
     is_first: bool,
@@ -648,9 +770,113 @@ fn push_text_behind<A: Allocator + Copy>(
     push_named_text(text, form, is_first, name_of(&digits), bytes)
 }
 
+// Fills a place with 32 bytes, and a quote after them.
+#[inline(always)]
+fn fill_to_quote(place: &mut [u8], bytes: u8x32)
+    requires { length place.old ≡ 33 }
+    ensures { place.new ≡ bytes ++ 34 ∷ [] }
+{
+    bytes.copy_to_slice(place);
+    place[32] = b'"';
+}
+
+// The last bytes of a text, where there may be no room for them.
+#[cold]
+#[inline(never)]
+fn push_end_far<A: Allocator>(text: &mut String<A>, bytes: &[u8]) -> Result<(), AllocError>
+    requires { IsTrue (all_plain bytes.now) }
+    ensures { OnOk result (string_bytes text.new
+        ≡ string_bytes text.old ++ (bytes.now ++ codes "\"")) }
+{
+    push_few(text, bytes)?;
+    text.push('"')
+}
+
+// The last 32 bytes of a text of plain letters, and the quote after them.
+#[inline(always)]
+fn push_end<A: Allocator>(text: &mut String<A>, bytes: &[u8]) -> Result<(), AllocError>
+    requires long { length bytes.now ≡ 32 }
+    requires plain { IsTrue (all_plain bytes.now) }
+    ensures { OnOk result (string_bytes text.new
+        ≡ string_bytes text.old ++ (bytes.now ++ codes "\"")) }
+{
+    if text.capacity() - text.len() < 33 {
+        return push_end_far(text, bytes);
+    }
+    let mut room = [0; 48];
+    let all = &mut room[..33];
+    fill_to_quote(all, u8x32::from_slice(bytes));
+    push_few(text, all)
+}
+
+// A text of 32 to 64 plain letters: its first 32 are cut where its last 32 begin.
+#[inline(always)]
+fn push_longer<A: Allocator>(
+    text: &mut String<A>,
+    form: MemberForm,
+    is_first: bool,
+    name: &str,
+    bytes: &[u8],
+) -> Result<(), AllocError>
+    requires long { (32 ≤ length bytes.now) × (length bytes.now ≤ 64) }
+    requires plain { IsTrue (all_plain bytes.now) }
+    ensures { OnOk result (string_bytes text.new ≡ string_bytes text.old
+        ++ member_part form is_first (name.now, Word bytes.now)) }
+{
+    let len = bytes.len() - 32;
+    push_short_words(text, form, is_first, name, u8x32::from_slice(bytes), len)?;
+    push_end(text, &bytes[len..])
+}
+
+// The same, whose name is its place.
+#[inline(never)]
+fn push_longer_at<A: Allocator + Copy>(
+    text: &mut String<A>,
+    form: MemberForm,
+    is_first: bool,
+    place: u64,
+    bytes: &[u8],
+) -> Result<(), AllocError>
+    requires long { (32 ≤ length bytes.now) × (length bytes.now ≤ 64) }
+    requires plain { IsTrue (all_plain bytes.now) }
+    ensures { OnOk result (string_bytes text.new
+        ≡ string_bytes text.old ++ member_part form is_first (decimal place, Words bytes.now)) }
+{
+    if text.capacity() - text.len() < SHORT_ROOM {
+        return push_any_far(text, form, is_first, place, bytes);
+    }
+    if place < 10 {
+        let digit = one_digit(place);
+        return push_longer(text, form, is_first, name_of(&digit), bytes);
+    }
+    if is_first || place >= 100 {
+        return push_any_far(text, form, is_first, place, bytes);
+    }
+    let digits = two_digits(place);
+    push_longer(text, form, is_first, name_of(&digits), bytes)
+}
+
 // A text whose name is its place.
 #[inline(never)]
-pub(crate) fn push_text_at<A: Allocator + Copy>(
+fn push_text_at<A: Allocator + Copy>(
+    text: &mut String<A>,
+    form: MemberForm,
+    is_first: bool,
+    place: u64,
+    bytes: &[u8],
+) -> Result<(), AllocError>
+    ensures { OnOk result (string_bytes text.new
+        ≡ string_bytes text.old ++ member_part form is_first (decimal place, Words bytes.now)) }
+{
+    if is_longer_plain(bytes) {
+        return push_longer_at(text, form, is_first, place, bytes);
+    }
+    push_any_text_at(text, form, is_first, place, bytes)
+}
+
+// The same, of any bytes.
+#[inline(never)]
+fn push_any_text_at<A: Allocator + Copy>(
     text: &mut String<A>,
     form: MemberForm,
     is_first: bool,
@@ -667,6 +893,101 @@ pub(crate) fn push_text_at<A: Allocator + Copy>(
     push_named_text(text, form, is_first, name_of(&digit), bytes)
 }
 
+// The text that these bytes begin with, of this many bytes, whose name is its place.
+#[inline(always)]
+pub(crate) fn push_front_at<A: Allocator + Copy>(
+    text: &mut String<A>,
+    form: MemberForm,
+    is_first: bool,
+    place: u64,
+    bytes: &[u8],
+    len: usize,
+) -> Result<(), AllocError>
+    requires long { 32 ≤ length bytes.now }
+    requires within { len ≤ length bytes.now }
+    ensures { OnOk result (string_bytes text.new ≡ string_bytes text.old
+        ++ member_part form is_first (decimal place, Words (take len bytes.now))) }
+{
+    if len > 32 {
+        return push_text_at(text, form, is_first, place, &bytes[..len]);
+    }
+    let block = &bytes[..32];
+    if plain_in_front(block) < len {
+        return push_other_at(text, form, is_first, place, bytes, len);
+    }
+    push_short_at(text, form, is_first, place, block, len)
+}
+
+// NULL, where it is the first value, there is little room, or its place is of three digits and more.
+#[cold]
+#[inline(never)]
+fn push_null_far<A: Allocator>(
+    text: &mut String<A>,
+    form: MemberForm,
+    is_first: bool,
+    place: u64,
+) -> Result<(), AllocError>
+    ensures { OnOk result (string_bytes text.new
+        ≡ string_bytes text.old ++ member_part form is_first (decimal place, Null)) }
+{
+    push_name_at(text, form, is_first, place)?;
+    text.push_str("null")
+}
+
+// A name on a line of its own, and NULL.
+#[inline(always)]
+fn push_line_null<A: Allocator>(text: &mut String<A>, name: &str) -> Result<(), AllocError>
+    ensures { OnOk result (string_bytes text.new
+        ≡ string_bytes text.old ++ (codes "\n  " ++ name.now ++ codes " null")) }
+{
+    match name.as_bytes() {
+        [one] => push_few(
+            text,
+            &[b'\n', b' ', b' ', *one, b' ', b'n', b'u', b'l', b'l'],
+        ),
+        [one, two] => push_few(
+            text,
+            &[b'\n', b' ', b' ', *one, *two, b' ', b'n', b'u', b'l', b'l'],
+        ),
+        _ => push_between(text, "\n  ", name, " null"),
+    }
+}
+
+// The same after another member of an object.
+#[inline(always)]
+fn push_pair_null<A: Allocator>(text: &mut String<A>, name: &str) -> Result<(), AllocError>
+    ensures { OnOk result (string_bytes text.new
+        ≡ string_bytes text.old ++ (codes ",\"" ++ name.now ++ codes "\":null")) }
+{
+    match name.as_bytes() {
+        [one] => push_few(
+            text,
+            &[b',', b'"', *one, b'"', b':', b'n', b'u', b'l', b'l'],
+        ),
+        [one, two] => push_few(
+            text,
+            &[b',', b'"', *one, *two, b'"', b':', b'n', b'u', b'l', b'l'],
+        ),
+        _ => push_between(text, ",\"", name, "\":null"),
+    }
+}
+
+// The same in either form.
+#[inline(always)]
+fn push_null<A: Allocator>(
+    text: &mut String<A>,
+    form: MemberForm,
+    name: &str,
+) -> Result<(), AllocError>
+    ensures { OnOk result (string_bytes text.new
+        ≡ string_bytes text.old ++ member_part form false (name.now, Null)) }
+{
+    match form {
+        MemberForm::Text => push_line_null(text, name),
+        MemberForm::Json => push_pair_null(text, name),
+    }
+}
+
 // NULL, whose name is its place.
 #[inline(never)]
 fn push_null_at<A: Allocator>(
@@ -678,8 +999,13 @@ fn push_null_at<A: Allocator>(
     ensures { OnOk result (string_bytes text.new
         ≡ string_bytes text.old ++ member_part form is_first (decimal place, Null)) }
 {
-    push_name_at(text, form, is_first, place)?;
-    text.push_str("null")
+    if is_first || place >= 100 || text.capacity() - text.len() < SHORT_ROOM {
+        return push_null_far(text, form, is_first, place);
+    }
+    if place >= 10 {
+        return push_null(text, form, name_of(&two_digits(place)));
+    }
+    push_null(text, form, name_of(&one_digit(place)))
 }
 
 // A word whose name is its place, made where it stands.

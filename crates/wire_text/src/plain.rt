@@ -1,8 +1,8 @@
 //! Which bytes of a text stand in quotes as they are.
 
-ghost use Rattle.std.specs.Prelude.{◌≡◌, ◌≤◌, ◌%◌, length, map};
+ghost use Rattle.std.specs.Prelude.{◌≡◌, ◌≤◌, ℕ, true, length, take};
 ghost use Rattle.std.specs.List.{prefix_len};
-ghost use Rattle.wire_text.specs.Fields.{all_plain, needs_no_escape, plain};
+ghost use Rattle.wire_text.specs.Fields.{all_ascii, all_plain, needs_no_escape, plain};
 ghost use Rattle.wire_text.specs.Plain.{others_mask};
 
 use crate::digits::fill;
@@ -121,11 +121,36 @@ pub(crate) fn is_plain(words: &[u8]) -> bool
     is_plain_block(&words[words.len() - 16..])
 }
 
+// Whether 32 bytes are plain.
+#[inline(always)]
+fn are_both_plain(block: &[u8]) -> bool
+    requires { length block.now ≡ 32 }
+    ensures { result ≡ all_plain block.now }
+{
+    is_plain_block(&block[..16]) & is_plain_block(&block[16..])
+}
+
+// Whether these are 32 to 64 bytes, all of them plain: the first 32, and the last. No branch asks how many
+// there are.
+#[inline(always)]
+pub(crate) fn is_longer_plain(words: &[u8]) -> bool
+    ensures { result ≡ true → (32 ≤ length words.now) × (length words.now ≤ 64)
+        × (all_plain words.now ≡ true) }
+{
+    let len = words.len();
+    if len < 32 || len > 64 {
+        return false;
+    }
+    are_both_plain(&words[..32]) & are_both_plain(&words[len - 32..])
+}
+
 // Of 32 bytes those of ASCII as they are, and of the others the low seven bits.
 #[inline(always)]
-pub(crate) fn below_128(block: &[u8]) -> [u8; 32]
+pub(crate) fn below_128(block: &[u8]) -> u8x32
     requires { length block.now ≡ 32 }
-    ensures { result ≡ map (λ byte. byte % 128) block.now }
+    ensures front { (len : ℕ) → all_plain (take len block.now) ≡ true
+        → take len result ≡ take len block.now }
+    ensures ascii { all_ascii result ≡ true }
 {
-    (u8x32::from_slice(block) & u8x32::splat(0x7f)).to_array()
+    u8x32::from_slice(block) & u8x32::splat(0x7f)
 }

@@ -1,8 +1,8 @@
 //! Texts of letters of three bytes each, such as Chinese ones, sixteen bytes at a time.
 
-ghost use Rattle.std.specs.Prelude.{◌≡◌, ◌<◌, ◌%◌, true, length, take, drop, map};
+ghost use Rattle.std.specs.Prelude.{◌≡◌, ◌<◌, ◌≤◌, ◌%◌, true, length, take, drop, map};
 ghost use Rattle.std.specs.Simd.Lanes.{mask_l};
-ghost use Rattle.wire_text.specs.Fields.{are_wide, begins_three, goes_on};
+ghost use Rattle.wire_text.specs.Fields.{all_ascii, are_wide, begins_three, goes_on};
 
 use std::simd::prelude::*;
 
@@ -85,4 +85,51 @@ pub(crate) fn is_wide(words: &[u8]) -> bool
         rest = &rest[15..];
     }
     is_wide_end(&words[words.len() - 16..])
+}
+
+// Which bits of 32 bytes tell that letters begin there, and go on.
+#[inline(always)]
+fn bits_of_both(block: &[u8]) -> (u64, u64)
+    requires { length block.now ≡ 32 }
+    ensures { (result.0 ≡ mask_l (map begins_three block.now))
+        × (result.1 ≡ mask_l (map goes_on block.now)) }
+{
+    let (front, after) = block.split_at(16);
+    let leads = lead_bits(front) | lead_bits(after) << 16;
+    let going = going_bits(front) | going_bits(after) << 16;
+    (leads, going)
+}
+
+// Whether so many of 32 bytes are known to be such letters alone. No branch asks how many there are.
+#[inline(always)]
+pub(crate) fn is_wide_in_front(block: &[u8], len: usize) -> bool
+    requires long { length block.now ≡ 32 }
+    requires within { len ≤ 32 }
+    ensures { result ≡ true → are_wide (take len block.now) ≡ true }
+{
+    if block[0] < 0x80 || len % 3 != 0 {
+        return false;
+    }
+    let within = 1 << len;
+    let (leads, going) = bits_of_both(block);
+    leads % within == 0x49249249 % within && going % within == 0xb6db6db6 % within
+}
+
+// All bits of 32 bytes, and behind them the low seven bits of as many.
+const BITS: [u8; 64] = [
+    0xff, 0xff, 0xff, 0xff, 0xff, 0xff, 0xff, 0xff, 0xff, 0xff, 0xff, 0xff, 0xff, 0xff, 0xff, 0xff,
+    0xff, 0xff, 0xff, 0xff, 0xff, 0xff, 0xff, 0xff, 0xff, 0xff, 0xff, 0xff, 0xff, 0xff, 0xff, 0xff,
+    0x7f, 0x7f, 0x7f, 0x7f, 0x7f, 0x7f, 0x7f, 0x7f, 0x7f, 0x7f, 0x7f, 0x7f, 0x7f, 0x7f, 0x7f, 0x7f,
+    0x7f, 0x7f, 0x7f, 0x7f, 0x7f, 0x7f, 0x7f, 0x7f, 0x7f, 0x7f, 0x7f, 0x7f, 0x7f, 0x7f, 0x7f, 0x7f,
+];
+
+// So many of 32 bytes as they are, and the low seven bits of those behind.
+#[inline(always)]
+pub(crate) fn ascii_behind(block: &[u8], len: usize) -> u8x32
+    requires long { length block.now ≡ 32 }
+    requires within { len ≤ 32 }
+    ensures front { take len result ≡ take len block.now }
+    ensures behind { all_ascii (drop len result) ≡ true }
+{
+    u8x32::from_slice(block) & u8x32::from_slice(&BITS[32 - len..])
 }

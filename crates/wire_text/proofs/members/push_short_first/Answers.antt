@@ -8,14 +8,14 @@ push_with_front-requires-clause-letters g c =
 
 pub returns-in-len1 : goal.returns-in-len1
 returns-in-len1 g c =
-    let words = take c.args.len c.args.block.now in
+    let words = take c.args.len c.args.bytes in
     let is = one_of c.as_bytes.result.now c.in-len1.len_at_least c.in-len1.len_below ∙ c.as_bytes.ensures.value in
     subst (λ (z : List ℕ). OnOk c.push_with_front.result (string_bytes c.push_with_front.new.text ≡ string_bytes c.args.text.now
     ++ ((codes ",\"fields\":{\"" ++ z ++ codes "\":\"") ++ words))) is c.push_with_front.ensures
 
 pub returns-in_ok-push_between-in_default : goal.returns-in_ok-push_between-in_default
 returns-in_ok-push_between-in_default g c =
-    let words = take c.args.len c.args.block.now in
+    let words = take c.args.len c.args.bytes in
     let front = codes ",\"fields\":{\"" ++ c.args.name.now ++ codes "\":\"" in
     joined c.push_with_front-in_default.result (string_bytes c.args.text.now) (string_bytes c.push_between.new.text) (string_bytes c.push_with_front-in_default.new.text)
     front words (front ++ words) c.in_ok-push_between-in_default.ensures c.push_with_front-in_default.ensures refl
