@@ -1,8 +1,8 @@
 -- Bytes that need no escape, and bytes of ASCII, seen sixteen at a time through a mask of the others.
 use Rattle.std.proofs.Common.{◌≡◌, ℕ, zero, suc, ◌+◌, ◌-◌, ◌*◌, ◌≤◌, ◌/◌, ◌%◌, ◌^◌, leb, ltb, eqb, bit_or, replicate, drop, take, take-append-drop, List, [], ◌∷◌, ◌++◌, Bool, true, false, refl, ap, ap₂, sym, ◌∙◌, append_assoc, arith, length, nat_eq, map, cond}
-use Rattle.std.proofs.lemmas.Bool.{and_parts}
+use Rattle.std.proofs.lemmas.Bool.{and_from, and_parts}
 use Rattle.std.proofs.lemmas.List.Folds.{list_all-append}
-use Rattle.std.proofs.lemmas.List.{drop-take, length-append, length-drop, length-map, take-take}
+use Rattle.std.proofs.lemmas.List.{drop-drop, drop-take, length-append, length-drop, length-map, take-take}
 use Rattle.std.proofs.lemmas.Simd.{leading_from_mask_l, mask_l-mod, trailing_mask_l, zip2_of_maps, zip2_splat, zip2_splat_left}
 use Rattle.std.specs.List.{list_all, prefix_len}
 use Rattle.std.specs.Prelude.{◌&&◌, not}
@@ -221,3 +221,12 @@ pub same_front : (done n len size : ℕ) (source : List ℕ) → done + n ≤ le
 same_front done n len size source within few =
     take-take n size (drop done source) few ∙ sym (drop-take done n source)
     ∙ ap (drop done) (sym (take-take (done + n) len source within)) ∙ drop-take done n (take len source)
+
+-- the first 32 bytes and the last, which may share some
+pub both_ends : (p : ℕ → Bool) (k : ℕ) (words : List ℕ) → k ≤ 32 → list_all p (take 32 words) ≡ true → list_all p (drop k words) ≡ true
+    → list_all p words ≡ true
+both_ends p k words within front end =
+    let place : 32 ≡ k + (32 - k) = omega (arith, within) in
+    let behind : list_all p (drop 32 words) ≡ true =
+    ap (λ (n : ℕ). list_all p (drop n words)) place ∙ ap (list_all p) (sym (drop-drop (32 - k) k words)) ∙ pass_behind p (32 - k) (drop k words) end in
+    ap (list_all p) (sym (take-append-drop 32 words)) ∙ list_all-append p (take 32 words) (drop 32 words) ∙ and_from _ _ front behind

@@ -1,6 +1,6 @@
 //! Which bytes of a text need escapes, sixteen at a time.
 
-ghost use Rattle.std.specs.Prelude.{◌≡◌, ◌≤◌, ℕ, List, drop, length, map};
+ghost use Rattle.std.specs.Prelude.{◌≡◌, ◌≤◌, true, ℕ, List, drop, length, map};
 ghost use Rattle.std.specs.List.{prefix_len};
 ghost use Rattle.std.specs.Simd.Lanes.{mask_l};
 ghost use Rattle.wire_text.specs.Fields.{all_ascii, in_ascii, needs_escape, needs_no_escape, none_needs_escape, over_ascii};
@@ -129,4 +129,26 @@ pub(crate) fn none_needs_escape(words: &[u8]) -> bool
 {
     let (_, stands) = look_at(words);
     stands
+}
+
+// Whether 32 bytes are of ASCII.
+#[inline(always)]
+fn are_both_ascii(block: &[u8]) -> bool
+    requires { length block.now ≡ 32 }
+    ensures { result ≡ all_ascii block.now }
+{
+    (wide_bits(&block[..16]) == 0) & (wide_bits(&block[16..]) == 0)
+}
+
+// Whether these are 32 to 64 bytes, all of them of ASCII: the first 32, and the last.
+#[inline(always)]
+pub(crate) fn is_longer_ascii(words: &[u8]) -> bool
+    ensures { result ≡ true → (32 ≤ length words.now) × (length words.now ≤ 64)
+        × (all_ascii words.now ≡ true) }
+{
+    let len = words.len();
+    if len < 32 || len > 64 {
+        return false;
+    }
+    are_both_ascii(&words[..32]) & are_both_ascii(&words[len - 32..])
 }

@@ -1,6 +1,6 @@
 //! The fields of a packet, as text or as members of a JSON object.
 
-ghost use Rattle.std.specs.Prelude.{◌≡◌, ◌<◌, ◌≤◌, ◌⊎◌, ◌∷◌, ◌++◌, [], length, take, false, true, Ok, OnOk, string_bytes};
+ghost use Rattle.std.specs.Prelude.{◌≡◌, ◌<◌, ◌≤◌, ◌⊎◌, ◌∷◌, ◌++◌, [], length, take, false, true, Ok, Some, OnOk, string_bytes};
 ghost use Rattle.std.specs.Fmt.{decimal};
 ghost use Rattle.wire_text.specs.FieldTables.{members_in, members_of};
 ghost use Rattle.wire_text.specs.Fields.{Puts, Word, Words, ended, member_form, nothing, nothing_after, value_of};
@@ -8,7 +8,9 @@ ghost use Rattle.wire_text.specs.Parts.{WritesMember};
 
 use crate::long::write_text_at;
 pub use crate::members::{FieldValue, MemberForm};
-use crate::members::{push_closing, push_front_at, push_member, push_member_at, push_word_at};
+use crate::members::{
+    push_closing, push_front_at, push_member, push_member_at, push_text_at, push_word_at,
+};
 use crate::put::PutWord;
 use crate::stop::Stop;
 use std::alloc::{AllocError, Allocator, Global};
@@ -172,6 +174,34 @@ impl<A: Allocator + Copy> Fields<A> {
         Ok(())
     }
 
+    // Puts the text that these bytes begin with, of this many bytes: whether as many are there.
+    #[inline(always)]
+    fn put_longer_in(
+        &mut self,
+        form: MemberForm,
+        place: u64,
+        bytes: &[u8],
+        len: usize,
+    ) -> Result<bool, AllocError>
+        requires { member_form self.old.form ≡ Some form }
+        ensures within { result ≡ Ok true → len ≤ length bytes.now }
+        ensures put { result ≡ Ok true
+            → Puts ((decimal place, Words (take len bytes.now)) ∷ []) self.old self.new }
+        ensures not { result ≡ Ok false → (self.new ≡ self.old) × (length bytes.now < len) }
+    {
+        if len > bytes.len() {
+            return Ok(false);
+        }
+        let is_first = self.text.len() == self.begin;
+        match push_text_at(&mut self.text, form, is_first, place, &bytes[..len]) {
+            Ok(()) => Ok(true),
+            Err(error) => {
+                self.begin = 0;
+                Err(error)
+            }
+        }
+    }
+
     /// Puts the text that these bytes begin with, of this many bytes, which has no name but its place:
     /// whether it has. Where fields are shown, that is where 32 bytes are there, and all of the text's;
     /// else nothing changes. It is known how fields are shown: a caller that puts many texts has code
@@ -198,8 +228,8 @@ impl<A: Allocator + Copy> Fields<A> {
         if bytes.len() < 32 {
             return Ok(false);
         }
-        if len > 32 && len > bytes.len() {
-            return Ok(false);
+        if len > 32 {
+            return self.put_longer_in(form, place, bytes, len);
         }
         let is_first = self.text.len() == self.begin;
         match push_front_at(&mut self.text, form, is_first, place, bytes, len) {

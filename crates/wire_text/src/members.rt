@@ -6,10 +6,10 @@ ghost use Rattle.std.specs.Str.{IsUtf8};
 ghost use Rattle.wire_text.specs.Fields.{all_ascii, all_plain, are_wide, digits_text, end_part, flags_text, member_part, name_part, none_needs_escape, octets_text, value_of, value_text, words_text, Null, Number, Word, Words};
 
 use crate::digits::push_digits_to;
-use crate::escapes::{ascii_in_front, is_ascii, none_needs_escape};
+use crate::escapes::{ascii_in_front, is_ascii, is_longer_ascii, none_needs_escape};
 use crate::plain::{below_128, is_longer_plain, is_plain, plain_in_front};
 use crate::put::{PutWord, one_digit, push_between, push_few, push_number, two_digits};
-use crate::quoted::{push_escaped_words, push_front_escaped, push_in_quotes};
+use crate::quoted::{push_escaped_words, push_few_escaped, push_front_escaped, push_in_quotes};
 use crate::wide::{ascii_behind, is_wide, is_wide_in_front};
 use std::alloc::{AllocError, Allocator};
 use std::simd::prelude::*;
@@ -856,9 +856,27 @@ fn push_longer_at<A: Allocator + Copy>(
     push_longer(text, form, is_first, name_of(&digits), bytes)
 }
 
+// A text of ASCII of up to 64 bytes, of which some need escapes, and whose name is its place.
+#[inline(never)]
+fn push_longer_escaped<A: Allocator>(
+    text: &mut String<A>,
+    form: MemberForm,
+    is_first: bool,
+    place: u64,
+    bytes: &[u8],
+) -> Result<(), AllocError>
+    requires long { length bytes.now ≤ 64 }
+    requires ascii { IsTrue (all_ascii bytes.now) }
+    ensures { OnOk result (string_bytes text.new
+        ≡ string_bytes text.old ++ member_part form is_first (decimal place, Words bytes.now)) }
+{
+    push_name_at(text, form, is_first, place)?;
+    push_few_escaped(text, unsafe { std::str::from_utf8_unchecked(bytes) })
+}
+
 // A text whose name is its place.
 #[inline(never)]
-fn push_text_at<A: Allocator + Copy>(
+pub(crate) fn push_text_at<A: Allocator + Copy>(
     text: &mut String<A>,
     form: MemberForm,
     is_first: bool,
@@ -870,6 +888,9 @@ fn push_text_at<A: Allocator + Copy>(
 {
     if is_longer_plain(bytes) {
         return push_longer_at(text, form, is_first, place, bytes);
+    }
+    if is_longer_ascii(bytes) {
+        return push_longer_escaped(text, form, is_first, place, bytes);
     }
     push_any_text_at(text, form, is_first, place, bytes)
 }
@@ -893,7 +914,7 @@ fn push_any_text_at<A: Allocator + Copy>(
     push_named_text(text, form, is_first, name_of(&digit), bytes)
 }
 
-// The text that these bytes begin with, of this many bytes, whose name is its place.
+// The text that these bytes begin with, of up to 32 bytes, whose name is its place.
 #[inline(always)]
 pub(crate) fn push_front_at<A: Allocator + Copy>(
     text: &mut String<A>,
@@ -904,13 +925,10 @@ pub(crate) fn push_front_at<A: Allocator + Copy>(
     len: usize,
 ) -> Result<(), AllocError>
     requires long { 32 ≤ length bytes.now }
-    requires within { len ≤ length bytes.now }
+    requires within { len ≤ 32 }
     ensures { OnOk result (string_bytes text.new ≡ string_bytes text.old
         ++ member_part form is_first (decimal place, Words (take len bytes.now))) }
 {
-    if len > 32 {
-        return push_text_at(text, form, is_first, place, &bytes[..len]);
-    }
     let block = &bytes[..32];
     if plain_in_front(block) < len {
         return push_other_at(text, form, is_first, place, bytes, len);

@@ -240,7 +240,10 @@ const ROOM: usize = 504;
 
 // A text of a few bytes, of which some need escapes.
 #[inline(never)]
-fn push_few_escaped<A: Allocator>(text: &mut String<A>, words: &str) -> Result<(), AllocError>
+pub(crate) fn push_few_escaped<A: Allocator>(
+    text: &mut String<A>,
+    words: &str,
+) -> Result<(), AllocError>
     requires { length words.now ≤ 64 }
     ensures { OnOk result (string_bytes text.new ≡ string_bytes text.old ++ quoted words.now) }
 {

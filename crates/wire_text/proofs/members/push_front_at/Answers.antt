@@ -11,4 +11,4 @@ push_short_at-requires-clause-plain g c =
     plain_less c.args.len (prefix_len plain block) block (omega (arith, c.if-plain_in_front-len.false, c.plain_in_front.ensures.run)) (before_plain block)
 
 pub returns : goal.returns
-returns g c = rw (← take-take c.args.len 32 c.args.bytes.now c.if-len-gt32.false) c.push_short_at.ensures
+returns g c = rw (← take-take c.args.len 32 c.args.bytes.now c.requires.within) c.push_short_at.ensures
