@@ -1043,6 +1043,38 @@ pub(crate) fn push_word_at<A: Allocator, T: PutWord>(
     text.push('"')
 }
 
+// A number, where it is the first value, there is little room, or its place is of three digits and more.
+#[cold]
+#[inline(never)]
+fn push_number_far<A: Allocator>(
+    text: &mut String<A>,
+    form: MemberForm,
+    is_first: bool,
+    place: u64,
+    number: u64,
+) -> Result<(), AllocError>
+    ensures { OnOk result (string_bytes text.new
+        ≡ string_bytes text.old ++ member_part form is_first (decimal place, Number number)) }
+{
+    push_name_at(text, form, is_first, place)?;
+    push_number(text, number)
+}
+
+// A number of this name, after another member.
+#[inline(always)]
+fn push_named_number<A: Allocator>(
+    text: &mut String<A>,
+    form: MemberForm,
+    name: &str,
+    number: u64,
+) -> Result<(), AllocError>
+    ensures { OnOk result (string_bytes text.new
+        ≡ string_bytes text.old ++ member_part form false (name.now, Number number)) }
+{
+    push_name(text, form, false, name)?;
+    push_number(text, number)
+}
+
 // A number whose name is its place.
 #[inline(never)]
 fn push_number_at<A: Allocator>(
@@ -1055,8 +1087,13 @@ fn push_number_at<A: Allocator>(
     ensures { OnOk result (string_bytes text.new
         ≡ string_bytes text.old ++ member_part form is_first (decimal place, Number number)) }
 {
-    push_name_at(text, form, is_first, place)?;
-    push_number(text, number)
+    if is_first || place >= 100 || text.capacity() - text.len() < SHORT_ROOM {
+        return push_number_far(text, form, is_first, place, number);
+    }
+    if place >= 10 {
+        return push_named_number(text, form, name_of(&two_digits(place)), number);
+    }
+    push_named_number(text, form, name_of(&one_digit(place)), number)
 }
 
 // A value whose name is its place.
