@@ -64,9 +64,9 @@ fn long_text<'a>(mut buf: ParseBuf<'a>) -> (Result<TextValue<'a>, TextFault>, Pa
     }
 }
 
-// Reads a value.
+// Reads a value whose first byte is no length of one byte.
 #[inline(always)]
-pub(crate) fn read_value<'a>(buf: &mut ParseBuf<'a>) -> Result<TextValue<'a>, TextFault>
+fn read_marked<'a>(buf: &mut ParseBuf<'a>) -> Result<TextValue<'a>, TextFault>
     ensures { Reads ReadsTextValue buf.old.0.now (told result) buf.new.0.now }
 {
     match buf.0.first() {
@@ -74,11 +74,21 @@ pub(crate) fn read_value<'a>(buf: &mut ParseBuf<'a>) -> Result<TextValue<'a>, Te
             buf.skip(1);
             Ok(TextValue::Null)
         }
-        Some(0xfc..) => {
+        _ => {
             let (answer, rest) = long_text(*buf);
             *buf = rest;
             answer
         }
+    }
+}
+
+// Reads a value. Most are short texts: one comparison tells them.
+#[inline(always)]
+pub(crate) fn read_value<'a>(buf: &mut ParseBuf<'a>) -> Result<TextValue<'a>, TextFault>
+    ensures { Reads ReadsTextValue buf.old.0.now (told result) buf.new.0.now }
+{
+    match buf.0.first() {
+        Some(0xfb..) => read_marked(buf),
         _ => match buf.checked_eat_lenenc_str() {
             Some(text) => Ok(TextValue::Text(text)),
             None => Err(TextFault::UnexpectedEof),

@@ -184,6 +184,18 @@ impl<'de, T: Wire<'de, H>, U: Wire<'de, H>, H: Allocator + Copy> Wire<'de, H> fo
     ghost of_size = { λ either size value stated. Prim.cc };
 }
 
+// Drops the first of two values, where the second is refused.
+#[cold]
+#[inline(never)]
+fn drop_refused<A: Drop>(_first: A) {}
+
+// The same of a copy that is made here, so that the first stays in registers where nothing is refused.
+#[inline(always)]
+fn drop_first<A: Drop>(first: A) {
+    let moved = first;
+    drop_refused(moved);
+}
+
 /// Two values, the second after the first. The context is a pair of theirs.
 ///
 /// As a connection attribute's key and value:
@@ -228,8 +240,13 @@ impl<'de, A: MyDeserialize<'de, H>, B: MyDeserialize<'de, H>, H: Allocator + Cop
     ) -> Result<Self, WireError> {
         let (first_ctx, second_ctx) = ctx;
         let first: A = buf.parse_in(alloc, first_ctx)?;
-        let second: B = buf.parse_in(alloc, second_ctx)?;
-        Ok(Both(first, second))
+        match buf.parse_in(alloc, second_ctx) {
+            Ok(second) => Ok(Both(first, second)),
+            Err(error) => {
+                drop_first(first);
+                Err(error)
+            }
+        }
     }
 }
 

@@ -118,6 +118,8 @@ impl<R: Read, A: Allocator + Copy> Input<R, A> {
     }
 
     // The same of at most 8192 bytes.
+    // No call, so that room for an `io::Error` is zeroed only where there is a read.
+    #[inline(always)]
     fn read_more(&mut self) -> Result<usize, PacketIoError>
         ensures ok { IfOk result (λ n. (came : List ℕ) × (length came ≡ n)
             × (self.new.src.items ≡ self.old.src.items ++ came)
@@ -256,6 +258,8 @@ impl<R: Read, A: Allocator + Copy> Input<R, A> {
     }
 
     // What the end of the input means here.
+    // No call, for the reason at `read_more`.
+    #[inline(always)]
     fn at_end(&self) -> Result<Option<Found<A>>, PacketIoError>
         ensures ends { EndsAt (answer_over result self.now.src.items) (length self.now.src.items)
             (length self.now.dst.items) }
@@ -330,6 +334,8 @@ impl<R: Read, A: Allocator + Copy> Input<R, A> {
 
 impl<R: Read, A: Allocator + Copy> Input<R, A> {
     // The reader's name for a refusal of the codec. A chunk of another id loses the stream.
+    // No call, for the reason at `read_more`.
+    #[inline(always)]
     fn refuse(&mut self, error: PacketCodecError) -> PacketIoError
         ensures name { IsRefusal error result }
         ensures lost { IsFalse self.old.lost

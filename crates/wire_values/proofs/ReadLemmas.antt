@@ -139,15 +139,15 @@ pub one-more : (pushed reserved len i : ℕ) → pushed ≡ reserved + 1 → res
 one-more pushed reserved len i more same is = omega (arith, more, same, is)
 
 pub room-stays : (from room reserved pushed : ℕ) → from ≤ room → room ≤ reserved
-    → reserved ≤ pushed → from ≤ pushed
+    → pushed ≡ reserved → from ≤ pushed
 room-stays from room reserved pushed a b c = omega (arith, a, b, c)
 
 pub same-room : (room : ℕ) → room ≤ room
 same-room room = omega arith
 
--- a push into room that was reserved is not refused
-pub has-room : (len room : ℕ) → len + 1 ≤ room → room ≤ len → ⊥
-has-room len room there full = omega (arith, there, full)
+-- there is room for one more
+pub has-room : (len room : ℕ) → len + 1 ≤ room → len < room
+has-room len room there = omega (arith, there)
 
 from-none : (count : ℕ) → count ≡ count - 0
 from-none count = omega arith

@@ -14,6 +14,7 @@ use wire_buf::proto::{MyDeserialize, ReadSize};
 const FIRST_ROOM: usize = 64;
 
 // Values one after another, room being taken before each where it is missing.
+#[inline(always)]
 fn read_each<'de, T: MyDeserialize<'de, A, Ctx = ()>, A: Allocator + Copy>(
     alloc: A,
     start: Vec<T, A>,
@@ -29,13 +30,14 @@ fn read_each<'de, T: MyDeserialize<'de, A, Ctx = ()>, A: Allocator + Copy>(
     for i in 0..count {
         items.reserve(1)?;
         let item: T = buf.parse_in(alloc, ())?;
-        items.push(item)?;
+        items.push_reserved(item);
     }
     Ok(items)
 }
 
 // Values one after another. Room for the first of them is asked for before, for no more than bytes
-// are left; a refusal is passed over, since room for one is taken then.
+// are left; a refusal is passed over, since room for one is taken then. A buffer of its own stays in
+// registers.
 #[inline(always)]
 fn read_some<'de, T: MyDeserialize<'de, A, Ctx = ()>, A: Allocator + Copy>(
     alloc: A,
@@ -48,7 +50,10 @@ fn read_some<'de, T: MyDeserialize<'de, A, Ctx = ()>, A: Allocator + Copy>(
 {
     let mut items = Vec::new(alloc);
     let _ = items.reserve(count.min(FIRST_ROOM).min(buf.len()));
-    read_each(alloc, items, count, buf)
+    let mut rest = *buf;
+    let read = read_each(alloc, items, count, &mut rest);
+    *buf = rest;
+    read
 }
 
 // Values of a size, from a block of their own. Room is taken for all of them, once their bytes are

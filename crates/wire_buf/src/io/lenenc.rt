@@ -30,12 +30,16 @@ impl<'a> ParseBuf<'a> {
     pub fn checked_eat_lenenc_int(&mut self) -> Option<u64>
         ensures { ReadsNumber IsLenencOrMark 1 self.old.0.now result self.new.0.now }
     {
-        match self.checked_eat_u8()? {
-            byte @ 0..=0xfa => Some(byte as u64),
+        let byte = self.checked_eat_u8()?;
+        // Most are of one byte: one comparison for them, and no table of jumps.
+        if byte < 0xfb {
+            return Some(byte as u64);
+        }
+        match byte {
             0xfc => Some(self.checked_eat_u16_le()? as u64),
             0xfd => Some(self.checked_eat_u24_le()? as u64),
             0xfe => self.checked_eat_u64_le(),
-            0xfb | 0xff => Some(0),
+            _ => Some(0),
         }
     }
 

@@ -30,21 +30,20 @@ pub loop-i-preserved : goal.loop-i-preserved
 loop-i-preserved g c = record {
   so_far = more-at (vec_capacity c.args.start < c.args.count)
       (Parses g.T.Size.ReadSize.SIZE (g.T.MyDeserialize.reads tt)) c.args.count
-      c.args.buf.now.0.now c.loop-i.items.items c.reserve.new.self.items c.push.new.self.items
+      c.args.buf.now.0.now c.loop-i.items.items c.reserve.new.self.items c.push_reserved.new.self.items
       c.loop-i.i c.loop-i.buf.0.now c.in_ok-item.item c.parse_in.new.self.0.now
       c.loop-i-test.true c.loop-i.invariant.so_far c.in_ok-item.ensures c.reserve.ensures.items
-      c.in_ok-push.ensures.items;
-  len = one-more (vec_len c.push.new.self) (vec_len c.reserve.new.self) (vec_len c.loop-i.items)
-      c.loop-i.i c.in_ok-push.ensures.len c.reserve.ensures.len c.loop-i.invariant.len;
+      c.push_reserved.ensures.items;
+  len = one-more (vec_len c.push_reserved.new.self) (vec_len c.reserve.new.self) (vec_len c.loop-i.items)
+      c.loop-i.i c.push_reserved.ensures.len c.reserve.ensures.len c.loop-i.invariant.len;
   room = room-stays (vec_capacity c.args.start) (vec_capacity c.loop-i.items)
-      (vec_capacity c.reserve.new.self) (vec_capacity c.push.new.self) c.loop-i.invariant.room
-      c.reserve.ensures.capacity c.in_ok-push.ensures.capacity;
+      (vec_capacity c.reserve.new.self) (vec_capacity c.push_reserved.new.self) c.loop-i.invariant.room
+      c.reserve.ensures.capacity c.push_reserved.ensures.capacity;
 }
 
-pub returns-in_err-push : goal.returns-in_err-push
-returns-in_err-push g c =
-    absurd (has-room (vec_len c.reserve.new.self) (vec_capacity c.reserve.new.self)
-    c.in_ok-reserve.ensures.ok c.in_err-push.ensures.full)
+pub push_reserved-requires : goal.push_reserved-requires
+push_reserved-requires g c =
+    has-room (vec_len c.reserve.new.self) (vec_capacity c.reserve.new.self) c.in_ok-reserve.ensures.ok
 
 pub loop-i-init : goal.loop-i-init
 loop-i-init g c = record {

@@ -1,4 +1,4 @@
-use Rattle.std.proofs.Common.{◌≡◌, ◌<◌, ◌∷◌, Some, inl, inr, refl, arith}
+use Rattle.std.proofs.Common.{◌≡◌, ◌<◌, ◌⊎◌, ◌∷◌, Some, inl, inr, refl, arith}
 use Rattle.wire_buf.specs.LenencLemmas.{first_byte, reads_behind, reads_byte, reads_mark}
 use Rattle.wire_buf.proofs.io.ParseBuf.checked_eat_lenenc_int.Goals as goal
 
@@ -29,15 +29,16 @@ returns-in-254 c =
     reads_behind 254 8 old mid _ _ is refl (λ n bytes form. inr (inr (inr form)))
     c.checked_eat_u64_le.ensures
 
-pub returns-in-251 : goal.returns-in-251
-returns-in-251 c =
+pub returns-in_default : goal.returns-in_default
+returns-in_default c =
     let old = c.args.self.now.0.now in
     let mid = c.checked_eat_u8.new.self.0.now in
+    let mark : (c.in_ok-byte.byte ≡ 0xfb) ⊎ (c.in_ok-byte.byte ≡ 0xff) = grind arith in
     reads_mark old c.in_ok-byte.byte mid (first_byte old c.in_ok-byte.byte mid c.in_ok-byte.ensures)
-    c.in-251.is
+    mark
 
-pub returns-in-0-to-250 : goal.returns-in-0-to-250
-returns-in-0-to-250 c =
+pub returns-then-byte-lt251 : goal.returns-then-byte-lt251
+returns-then-byte-lt251 c =
     let old = c.args.self.now.0.now in
     let mid = c.checked_eat_u8.new.self.0.now in
     let low : c.in_ok-byte.byte < 251 = grind arith in
