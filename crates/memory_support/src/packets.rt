@@ -125,6 +125,15 @@ impl<'a, A: Allocator + Copy> Source<'a, A> {
         self.reader.take_packet();
         is_ready
     }
+
+    /// Drops all unread bytes, behind a packet that stands ready: whether they were these.
+    pub fn consume(&mut self, bytes: &[u8]) -> bool {
+        self.reader.take_packet();
+        let unread = self.reader.unread();
+        let (len, all) = (unread.len(), same(unread, bytes));
+        self.reader.consume(len);
+        all & self.reader.unread().is_empty()
+    }
 }
 
 /// A writer to nowhere.

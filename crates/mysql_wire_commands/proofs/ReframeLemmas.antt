@@ -1,12 +1,11 @@
 -- One packet after another.
-use Rattle.std.proofs.Common.{◌≡◌, ◌≢◌, ℕ, ◌≤◌, ◌⊎◌, List, [], ◌∷◌, ◌++◌, length, refl, sym, ap, ◌∙◌, subst, arith, append_assoc, append-nil, Option, None, Some, IsSome, Ok, Err, Bool, true, ne_eqb, if◌then◌else◌, Result, inl, inr, zero-le, ◌<◌, ◌+◌, zero, suc, length-append, ◌^◌, ◌-◌, take}
+use Rattle.std.proofs.Common.{◌≡◌, ◌≢◌, ℕ, ◌≤◌, ◌⊎◌, List, [], ◌∷◌, ◌++◌, length, refl, sym, ap, ◌∙◌, subst, arith, append_assoc, append-nil, Option, None, Some, IsSome, Ok, Err, Bool, true, ne_eqb, if◌then◌else◌, Result, inl, inr, zero-le, ◌<◌, ◌+◌, zero, suc, length-append, take, drop}
+use Rattle.std.proofs.lemmas.List.{drop-drop, length-drop, take-append-drop}
 use Rattle.std.proofs.lemmas.List.Elements.{All-nil}
 use Rattle.wire_codec.specs.Framing.{max_payload, framing, front, next_id, id_after, stream}
 use Rattle.wire_codec.specs.Delivery.{chunk_len, Continues, Ending, Waiting, TooLarge, OutOfSync, Delivers, Splits}
-use Rattle.wire_codec.specs.Codec.{CodecState, first_id, expected_id, header_of, input_of, DecodesFrom}
+use Rattle.wire_codec.specs.Codec.{CodecState, codec_state, first_id, expected_id, header_of, input_of, DecodesFrom, DecodesPacket}
 use Rattle.wire_codec.specs.declared.codec.packet.PacketCodec.{PacketCodec}
-use Rattle.wire_packet_io.specs.Lending.{Reading, reading_state}
-use Rattle.wire_packet_io.specs.PacketIo.{joined_reads, CountsUp}
 use Rattle.wire_span.proofs.RenumberLemmas.{take_front}
 use Rattle.wire_codec.specs.Runs.{RunsTo}
 use Rattle.wire_codec.specs.Laws.{JoinedRuns, JoinedSplits, NothingRead, BetweenPackets, StreamAppend, IdAfterAppend, empty_state}
@@ -17,13 +16,13 @@ use Rattle.wire_text.specs.declared.stop.Stop.TheVariants.{Io, Memory}
 use Rattle.wire_text.specs.Stops.{exit_status_of}
 use Rattle.mysql_wire_commands.specs.declared.reframe.Ended.{Ended}
 use Rattle.mysql_wire_commands.specs.declared.reframe.Ended.TheVariants as ended
-use Rattle.mysql_wire_commands.specs.LongPackets.{EndsLong, LosesSync}
-use Rattle.mysql_wire_commands.specs.Reframe.{Reframing, Reframed, ReframeEnds, Sends, Drops, EndsCopying, Finishes}
+use Rattle.mysql_wire_commands.specs.LongPackets.{EndsLong, IsAtHeader, LosesSync}
+use Rattle.mysql_wire_commands.specs.Reframe.{PassesWhole, Reframing, Reframed, ReframeEnds, Sends, Drops, EndsCopying, Finishes}
 use Rattle.wire_codec.proofs.RunLemmas.{chunk_len_append, splits_extend}
 use Rattle.wire_span.specs.declared.span.SpanError.TheVariants as span
 use Rattle.wire_span.specs.SpanLaws.{SpansStop}
 use Rattle.std.specs.Io.KnownBytes.{Appends, Consumes, IsAtEnd}
-use Rattle.std.proofs.KnownBytes.{Appends-nil, Appends-trans, Consumes-trans}
+use Rattle.std.proofs.KnownBytes.{Appends-nil, Appends-trans}
 
 -- nothing read yet
 pub reframing_start : NothingRead → (limit : ℕ) (state : CodecState) (encodes : ℕ) → state.id ≡ 0 → state.header ≡ None → state.unread ≡ [] → state.held ≡ [] → state.limit ≡ limit
@@ -348,54 +347,6 @@ renumbered between limit state encodes input text small none nothing u = record 
   is = u.is;
 }
 
--- where the count of reads stays, none was made
-pub no_reads : (reads : List (List ℕ)) (old new : ℕ) → CountsUp old new (length reads) → new ≡ old → old < 2 ^ 64 - 1 → joined_reads reads ≡ []
-no_reads [] old new counts same below = refl
-no_reads (read ∷ reads) old new counts same below = let rises = counts.1 (omega arith) in absurd (omega (arith, rises, same, below))
-
--- what was passed over since a place, and so far
-abbrev pub Skips : {R : Type 0} → (R → Option (List ℕ)) → Reading R → PacketCodec → Reading R → PacketCodec → Type 0
-Skips remaining before codec after next = (gone : List ℕ) × (before.unread ≡ gone ++ after.unread)
-    × ((limit : ℕ) (unread : Option (List ℕ)) (input text : List ℕ) → Reframing limit (reading_state codec before) (expected_id codec) input text
-    → Consumes unread (remaining before.reader) input
-    → Reframing limit (reading_state next after) (expected_id next) input (text ++ gone) × Consumes unread (remaining after.reader) input)
-
-pub skipped_none : {R : Type 0} (remaining : R → Option (List ℕ)) (reading : Reading R) (codec : PacketCodec) → Skips remaining reading codec reading codec
-skipped_none remaining reading codec = (
-  [],
-  refl,
-  λ limit unread input text u came. (subst (λ (z : List ℕ). Reframing limit (reading_state codec reading) (expected_id codec) input z) (sym (append-nil text)) u, came),
-)
-
--- a packet more, with no read
-pub skipped_more : {R : Type 0} → JoinedSplits → StreamAppend → IdAfterAppend → BetweenPackets → (remaining : R → Option (List ℕ)) (start before after : Reading R) (first codec next : PacketCodec) (packet more : List ℕ)
-    → Skips remaining start first before codec → expected_id codec < 256 → header_of codec ≡ None → before.held ≡ []
-    → DecodesFrom (first_id (reading_state codec before)) (input_of (reading_state codec before) ++ more) before.held codec.max_allowed_packet (Ok true) (expected_id next) (header_of next) after.unread packet
-    → after.held ≡ [] → next.max_allowed_packet ≡ codec.max_allowed_packet → more ≡ [] → Consumes (remaining before.reader) (remaining after.reader) more
-    → Skips remaining start first after next
-skipped_more joined stream-append id_after-append between remaining start before after first codec next packet more (gone, is, so_far) small none nothing d held same no_more took =
-    let id = expected_id codec in
-    let here = between (reading_state codec before) small none nothing in
-    let front : before.unread ≡ framing id packet ++ after.unread =
-    sym (append-nil before.unread) ∙ ap (λ (z : List ℕ). before.unread ++ z) (sym no_more) ∙ ap (λ (z : List ℕ). z ++ more) (sym here.2) ∙ d.0
-    ∙ ap (λ (n : ℕ). framing n packet ++ after.unread) here.1 in (
-      gone ++ framing id packet,
-      is ∙ ap (λ (z : List ℕ). gone ++ z) front ∙ sym (append_assoc gone (framing id packet) after.unread),
-      λ limit unread input text u came.
-          let old = so_far limit unread input text u came in
-          let one = reframing_more joined stream-append id_after-append between limit (reading_state codec before) (reading_state next after) id (expected_id next) input (text ++ gone) more packet
-          old.0 d held same (d.2 ∙ ap (λ (n : ℕ). next_id n packet) here.1) in
-          let all : input ++ more ≡ input = ap (λ (z : List ℕ). input ++ z) no_more ∙ append-nil input in (
-            subst (λ (z : List ℕ). Reframing limit (reading_state next after) (expected_id next) z (text ++ (gone ++ framing id packet))) all
-                (subst (λ (z : List ℕ). Reframing limit (reading_state next after) (expected_id next) (input ++ more) z) (append_assoc text gone (framing id packet)) one),
-            subst (λ (z : List ℕ). Consumes unread (remaining after.reader) z) all (Consumes-trans _ _ _ input more old.1 took),
-          ),
-    )
-
--- these bytes more are pending
-pub more_sends : (text pending more : List ℕ) (before now : Option (List ℕ)) → SoWritten text pending before now → SoWritten (text ++ more) (pending ++ more) before now
-more_sends text pending more before now so_far = (so_far.0, ap (λ (z : List ℕ). z ++ more) so_far.1 ∙ append_assoc so_far.0 pending more, so_far.2)
-
 -- all that is left was there
 pub gone_is : (all gone left : List ℕ) (len : ℕ) → all ≡ gone ++ left → length left + len ≡ length all → take len all ≡ gone
 gone_is all gone left len is size =
@@ -403,3 +354,58 @@ gone_is all gone left len is size =
     let total = ap (λ (z : List ℕ). length z) is in
     let same : len ≡ length gone = omega (arith, both, total, size) in
     ap (λ (z : List ℕ). take len z) is ∙ ap (λ (n : ℕ). take n (gone ++ left)) same ∙ take_front gone left
+
+-- a codec with the same id and limit, in front of the same bytes
+pub begun_again : (limit : ℕ) (codec other : PacketCodec) (unread held input text : List ℕ) → expected_id other ≡ expected_id codec → header_of other ≡ header_of codec
+    → other.max_allowed_packet ≡ codec.max_allowed_packet → held ≡ [] → Reframing limit (codec_state codec unread held) (expected_id codec) input text
+    → Reframing limit (codec_state other unread []) (expected_id other) input text
+begun_again limit codec other unread held input text id header most nothing u =
+    rw (id, header, most) (subst (λ (z : List ℕ). Reframing limit (codec_state codec unread z) (expected_id codec) input text) nothing u)
+
+-- a front, and the front of what is left
+taken_more : (len more : ℕ) (all : List ℕ) → len ≤ length all → more ≤ length (drop len all) → take (len + more) all ≡ take len all ++ take more (drop len all)
+taken_more len more all fits whole =
+    let rest = drop len all in
+    let lacks = length-drop len all in
+    let dropped = length-drop more rest in
+    let is : all ≡ (take len all ++ take more rest) ++ drop more rest =
+    sym (append_assoc (take len all) (take more rest) (drop more rest) ∙ ap (λ (z : List ℕ). take len all ++ z) (take-append-drop more rest) ∙ take-append-drop len all) in
+    gone_is all (take len all ++ take more rest) (drop more rest) (len + more) is (omega (arith, fits, whole, lacks, dropped))
+
+-- nothing is passed over yet
+pub passed_none : (codec : PacketCodec) (unread : List ℕ) → IsAtHeader codec → PassesWhole codec unread 0 codec
+passed_none codec unread at = (
+  zero-le,
+  at,
+  λ limit input text u. subst (λ (z : List ℕ). Reframing limit (codec_state codec unread []) (expected_id codec) input z) (sym (append-nil text)) u,
+)
+
+-- a packet more
+pub passed_more : JoinedSplits → StreamAppend → IdAfterAppend → BetweenPackets → (first codec next : PacketCodec) (unread packet : List ℕ) (len more : ℕ)
+    → PassesWhole first unread len codec → more ≤ length (drop len unread)
+    → DecodesPacket (codec_state codec (drop len unread) []) (Ok true) (codec_state next (drop more (drop len unread)) packet)
+    → next.max_allowed_packet ≡ codec.max_allowed_packet → PassesWhole first unread (len + more) next
+passed_more joined stream-append id_after-append between first codec next unread packet len more (fits, at, so_far) whole d same =
+    let rest = drop len unread in
+    let before = codec_state codec rest [] in
+    let after = codec_state next (drop more rest) [] in
+    let id = expected_id codec in
+    let here = between before at.1 at.0 refl in
+    let behind : drop more rest ≡ drop (len + more) unread = drop-drop more len unread in
+    let is : rest ≡ framing id packet ++ drop more rest = sym here.2 ∙ d.0 ∙ ap (λ (n : ℕ). framing n packet ++ drop more rest) here.1 in
+    let dropped = length-drop more rest in
+    let lacks = length-drop len unread in
+    let gone : take more rest ≡ framing id packet = gone_is rest (framing id packet) (drop more rest) more is (omega (arith, dropped, whole)) in
+    let total : take (len + more) unread ≡ take len unread ++ framing id packet = taken_more len more unread fits whole ∙ ap (λ (z : List ℕ). take len unread ++ z) gone in
+    let rising = d.2 in (
+      omega (arith, fits, whole, lacks),
+      (d.3, omega (arith, rising)),
+      λ limit input text u.
+          let one = reframing_more joined stream-append id_after-append between limit before after id (expected_id next) input (text ++ take len unread) [] packet
+          (so_far limit input text u) (append-nil (input_of before) ∙ d.0, d.1, d.2, d.3) refl same (d.2 ∙ ap (λ (n : ℕ). next_id n packet) here.1) in
+          rw (← behind, total, ← append_assoc text (take len unread) (framing id packet), ← append-nil input) one,
+    )
+
+-- these bytes more are pending
+pub more_sends : (text pending more : List ℕ) (before now : Option (List ℕ)) → SoWritten text pending before now → SoWritten (text ++ more) (pending ++ more) before now
+more_sends text pending more before now so_far = (so_far.0, ap (λ (z : List ℕ). z ++ more) so_far.1 ∙ append_assoc so_far.0 pending more, so_far.2)

@@ -1,16 +1,16 @@
 -- What `reframe` writes.
 use Rattle.std.specs.Io.KnownBytes.{Appends, Consumes, IsAtEnd}
-use Rattle.std.specs.Prelude.{◌≡◌, ◌⊎◌, ◌<◌, ℕ, List, [], ◌++◌, length, Option, IsNone, IsFalse, Result, Ok, Err}
+use Rattle.std.specs.Prelude.{◌≡◌, ◌⊎◌, ◌<◌, ◌≤◌, ℕ, List, [], ◌++◌, length, take, drop, Option, IsNone, IsFalse, Result, Ok, Err}
 use Rattle.wire_codec.specs.Framing.{front, stream, id_after}
 use Rattle.wire_codec.specs.Delivery.{Ending, Delivers, Splits}
-use Rattle.wire_codec.specs.Codec.{CodecState, first_id, expected_id, Stands}
+use Rattle.wire_codec.specs.Codec.{CodecState, codec_state, first_id, expected_id, Stands}
 use Rattle.wire_codec.specs.declared.codec.packet.PacketCodec.{PacketCodec}
 use Rattle.wire_packet_io.specs.Lending.{Reading, reading_state}
 use Rattle.mysql_wire_commands.specs.declared.reframe.Ended.{Ended}
 use Rattle.mysql_wire_commands.specs.declared.reframe.Ended.TheVariants.{At, OutOfSync}
 use Rattle.mysql_wire_commands.specs.declared.sender.Sender.{Sender}
 use Rattle.wire_text.specs.declared.stop.Stop.{Stop}
-use Rattle.mysql_wire_commands.specs.LongPackets.{IsAtHeader, IsInFront}
+use Rattle.mysql_wire_commands.specs.LongPackets.{IsAtHeader}
 use Rattle.mysql_wire_commands.specs.Unframe.{ending_status}
 
 -- what `reframe` writes of the bytes it reads under a limit, and its status: the packets that these
@@ -112,14 +112,12 @@ CopiesOn before after =
     (limit : ℕ) (unread written : Option (List ℕ)) → Copying limit unread written before
     → Copying limit unread written after
 
--- with no read, packets that lay in front are passed over: the codec's ids are theirs
-abbrev pub SkipsWhole : {R : Type 0} → (R → Option (List ℕ)) → Reading R → PacketCodec → Reading R
-    → PacketCodec → Type 0
-SkipsWhole remaining before codec after next =
-    IsInFront after × IsAtHeader next
-    × ((gone : List ℕ) × (before.unread ≡ gone ++ after.unread)
-    × ((limit : ℕ) (unread : Option (List ℕ)) (input text : List ℕ)
-    → Reframing limit (reading_state codec before) (expected_id codec) input text
-    → Consumes unread (remaining before.reader) input
-    → Reframing limit (reading_state next after) (expected_id next) input (text ++ gone)
-    × Consumes unread (remaining after.reader) input))
+-- packets that lie in front of these bytes are passed over: so many bytes are theirs, and the codec
+-- is after them
+abbrev pub PassesWhole : PacketCodec → List ℕ → ℕ → PacketCodec → Type 0
+PassesWhole codec unread len after =
+    (len ≤ length unread) × IsAtHeader after
+    × ((limit : ℕ) (input text : List ℕ)
+    → Reframing limit (codec_state codec unread []) (expected_id codec) input text
+    → Reframing limit (codec_state after (drop len unread) []) (expected_id after) input
+    (text ++ take len unread))

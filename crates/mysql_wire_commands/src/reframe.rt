@@ -2,16 +2,14 @@
 
 ghost use Rattle.std.specs.Prelude.{◌≡◌, ◌≤◌, [], OnOk, IfOk, length};
 ghost use Rattle.mysql_wire_commands.specs.LongPackets.{IsAtHeader, IsInFront};
-ghost use Rattle.mysql_wire_commands.specs.Reframe.{CopiesOn, Drops, SkipsWhole, EndsCopying, Finishes, ReframeEnds, StartsReading, place_of};
+ghost use Rattle.mysql_wire_commands.specs.Reframe.{CopiesOn, Drops, PassesWhole, EndsCopying, Finishes, ReframeEnds, StartsReading, place_of};
 
 use crate::long_packet::{LongPacket, Taken, codec_at, may_be_long};
 use crate::sender::Sender;
 use crate::status::{Stop, exit_status};
 use std::alloc::Allocator;
 use std::io::{Read, Write};
-use wire_buf::lengths::MAX_PAYLOAD_LEN;
 use wire_codec::codec::PacketCodec;
-use wire_codec::codec::header::{HEADER_LEN, Header};
 use wire_codec::laws;
 use wire_packet_io::{PacketIoError, PacketReader};
 
@@ -30,52 +28,26 @@ enum Ended {
     OutOfSync(usize),
 }
 
-// The packets of one chunk that lie whole in front of this codec, up to `most` bytes and one packet
-// more: how many bytes they have with their headers, and how many they are.
-fn whole_packets(unread: &[u8], codec: &PacketCodec, most: usize) -> (usize, usize)
-    ensures { result.0 ≤ length unread.now }
-{
-    let (mut len, mut count, mut seq_id) = (0, 0, codec.sequence_id());
-    'packets: while len < most {
-        let rest = unread.split_at(len).1;
-        let Some(header) = Header::read(rest) else {
-            return (len, count);
-        };
-        let whole = HEADER_LEN + header.len;
-        let is_accepted = header.seq_id == seq_id && header.len <= codec.max_allowed_packet;
-        if !is_accepted || header.len == MAX_PAYLOAD_LEN || rest.len() < whole {
-            return (len, count);
-        }
-        len += whole;
-        count += 1;
-        seq_id = seq_id.wrapping_add(1);
-    }
-    (len, count)
-}
-
-// Passes over this many packets that lie whole in what was read.
-fn skip_whole<A: Allocator + Copy, R: Read>(
-    from: &mut PacketReader<R, A>,
-    decoder: &mut PacketCodec,
-    count: usize,
-) -> Result<(), Stop>
-    requires front { IsInFront from.old }
-    requires codec { IsAtHeader decoder.old }
-    ensures skips { OnOk result (SkipsWhole R.remaining from.old decoder.old from.new decoder.new) }
-    ensures limit { decoder.new.max_allowed_packet ≡ decoder.old.max_allowed_packet }
+// Goes after the packets of one chunk that lie whole in front of this codec, up to `most` bytes and
+// one packet more. The answer is how many bytes they have with their headers.
+fn whole_packets(unread: &[u8], codec: &mut PacketCodec, most: usize) -> usize
+    requires codec { IsAtHeader codec.old }
+    ensures passes { PassesWhole codec.old unread.now result codec.new }
+    ensures limit { codec.new.max_allowed_packet ≡ codec.old.max_allowed_packet }
 {
     laws::joined_splits();
     laws::stream_append();
     laws::id_after_append();
     laws::between_packets();
-    let reads = from.reads();
-    'packets: for _ in 0..count {
-        match from.fill_packet(decoder) {
-            Ok(true) if reads < u64::MAX && from.reads() == reads => from.take_packet(),
-            _ => return Err(Stop::Io),
+    let mut len = 0;
+    'packets: while len < most {
+        let rest = unread.split_at(len).1;
+        if codec.front_packet_in(rest, &[]).is_none() {
+            return len;
         }
+        len += codec.accept_front_in(rest);
     }
-    Ok(())
+    len
 }
 
 // Passes on packets that lie whole in what was read, as they lie there, up to as many bytes as may be
@@ -85,31 +57,28 @@ fn pass_whole<A: Allocator + Copy, R: Read, W: Write>(
     decoder: &mut PacketCodec,
     to: &mut Sender<W, A>,
     encoder: &mut PacketCodec,
-) -> Result<(), Stop>
+)
     requires front { IsInFront from.old }
     requires codec { IsAtHeader decoder.old }
-    ensures copies { OnOk result (CopiesOn
+    ensures copies { CopiesOn
         (place_of R.remaining W.contents from.old decoder.old to.old encoder.old)
-        (place_of R.remaining W.contents from.new decoder.new to.new encoder.new)) }
-    ensures front { OnOk result (IsInFront from.new) }
-    ensures codec { OnOk result (IsAtHeader decoder.new) }
+        (place_of R.remaining W.contents from.new decoder.new to.new encoder.new) }
+    ensures front { IsInFront from.new }
+    ensures codec { IsAtHeader decoder.new }
     ensures limits { (decoder.new.max_allowed_packet ≡ decoder.old.max_allowed_packet)
         × (encoder.new.max_allowed_packet ≡ encoder.old.max_allowed_packet) }
 {
     laws::between_packets();
     let most = MOST_HELD_BACK.saturating_sub(to.pending.len());
     let unread = from.unread();
-    let all = unread.len();
-    let (len, count) = whole_packets(unread, decoder, most);
+    let mut behind = codec_at(decoder.max_allowed_packet, decoder.sequence_id());
+    let len = whole_packets(unread, &mut behind, most);
     let Ok(()) = to.pending.extend_from_slice(unread.split_at(len).0) else {
-        return Ok(());
+        return;
     };
-    skip_whole(from, decoder, count)?;
-    if from.unread().len() + len != all {
-        return Err(Stop::Io);
-    }
-    encoder.set_sequence_id(decoder.sequence_id());
-    Ok(())
+    from.consume(len);
+    encoder.set_sequence_id(behind.sequence_id());
+    *decoder = behind;
 }
 
 // Copies whole packets, framed from id 0 on. What is framed waits while the next packet is there
@@ -137,7 +106,7 @@ fn copy_packets<A: Allocator + Copy, R: Read, W: Write>(
     let mut encoder = codec_at(limit, 0);
     let mut long = LongPacket::new(alloc);
     'packets: for _ in 0..u64::MAX {
-        pass_whole(from, &mut decoder, to, &mut encoder)?;
+        pass_whole(from, &mut decoder, to, &mut encoder);
         to.send(false)?;
         if from.reads() == u64::MAX {
             return Err(Stop::Io);

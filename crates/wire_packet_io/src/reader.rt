@@ -1,6 +1,6 @@
 //! Packets from a reader.
 
-ghost use Rattle.std.specs.Prelude.{ℕ, List, IsOk, IsNone, IsSome, IfSome, Some, None, MatchOption, ◌≡◌, ◌<◌, ◌↔◌, ◌⊎◌, [], Err, IfOk, OnErr, OnOk, IfErr, Ok, true, false, IsTrue, IsFalse};
+ghost use Rattle.std.specs.Prelude.{ℕ, List, IsOk, IsNone, IsSome, IfSome, Some, None, MatchOption, ◌≡◌, ◌<◌, ◌≤◌, ◌↔◌, ◌⊎◌, [], length, drop, Err, IfOk, OnErr, OnOk, IfErr, Ok, true, false, IsTrue, IsFalse};
 ghost use Rattle.wire_codec.specs.Codec.{Stands, DecodesPacket};
 ghost use Rattle.wire_codec.specs.Skipping.{MaySkip};
 ghost use Rattle.wire_codec.specs.InPlace.{HasFront, behind_front as behind};
@@ -114,6 +114,19 @@ impl<R: Read, A: Allocator + Copy> PacketReader<R, A> {
             Some(Found::InFront(chunk)) => behind_front(self.input.src.as_slice(), *chunk),
             Some(Found::Copied(_)) | None => self.input.src.as_slice(),
         }
+    }
+
+    /// Drops this many of the unread bytes, as `BufRead::consume` does: those of packets that were
+    /// passed on as they lie, say, which `PacketCodec::front_packet_in` finds in `unread`. The codec
+    /// is to be after them then: `fits` tells. It asks that no packet is lent.
+    ///
+    /// <https://dev.mysql.com/doc/dev/mysql-server/latest/page_protocol_basic_packets.html>
+    pub fn consume(&mut self, count: usize)
+        requires count { count ≤ length self.old.unread }
+        requires none { IsNone self.old.lent }
+        ensures { self.new ≡ record self.old { unread = drop count self.old.unread } }
+    {
+        self.input.src.advance(count);
     }
 
     /// How many reads were made; past `u64::MAX` it stays there.

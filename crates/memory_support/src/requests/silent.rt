@@ -106,6 +106,7 @@ const ROWS: &[(&[&str], Group)] = &[
             "PacketReader::can_skip",
             "PacketReader::can_copy",
             "PacketReader::unread",
+            "PacketReader::consume",
             "PacketReader::reads",
             "PacketReader::into_inner",
             // Of a packet that stands ready.
@@ -253,16 +254,16 @@ fn skips<A: Allocator + Copy>(heap: &Heap, alloc: A) -> bool {
 
 // ---- readers and writers
 
-// Whether a packet that was read is lent, and taken.
+// Whether a packet that was read is lent, and taken, and what is behind it dropped.
 fn reader_lends<A: Allocator + Copy>(heap: &Heap, alloc: A) -> bool {
-    let Some(mut from) = Source::new(alloc, b"\x02\0\0\0ab") else {
+    let Some(mut from) = Source::new(alloc, b"\x02\0\0\0ab\x01\0\0\x01c") else {
         return false;
     };
     heap.refuse(NEVER);
     let mut all = from.fill() == Ok(true);
     heap.refuse(0);
     all &= (from.fill() == Ok(true)) & from.lends(b"ab") & from.take();
-    all & from.reader.unread().is_empty() & !from.take()
+    all & from.consume(b"\x01\0\0\x01c") & !from.take()
 }
 
 fn reader_works<A: Allocator + Copy>(alloc: A) -> bool {

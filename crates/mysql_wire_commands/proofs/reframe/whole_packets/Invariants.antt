@@ -1,8 +1,12 @@
-use Rattle.std.proofs.Common.{◌≤◌, ◌-◌, length}
+use Rattle.std.proofs.Common.{◌≡◌, ◌-◌, length}
+use Rattle.mysql_wire_commands.specs.Reframe.{PassesWhole}
 use Rattle.mysql_wire_commands.proofs.reframe.whole_packets.Given as goal
 
 abbrev pub invariant-packets : goal.invariant-packets
-invariant-packets l = (l.len ≤ length l.fn.unread) × (l.count ≤ l.len)
+invariant-packets l = record {
+  passes : PassesWhole l.fn.codec l.fn.unread l.len l.codec;
+  limit : l.codec.max_allowed_packet ≡ l.fn.codec.max_allowed_packet;
+}
 
 abbrev pub decreases-packets : goal.decreases-packets
 decreases-packets l = length l.fn.unread - l.len
