@@ -98,19 +98,29 @@ fn words_given(rt: &HostRuntime) -> Option<Vec<String>> {
     env::args(rt).ok()?.skip(1).collect(rt.alloc()).ok()
 }
 
-fn print_asked(rt: &HostRuntime) -> Option<()> {
-    let words = words_given(rt)?;
-    let [seed, rounds] = words.as_slice() else {
+// A seed and a number of rounds. No destructor waits here, where ways lead out early.
+fn read_words(words: &[String]) -> Option<(u64, usize)> {
+    let [seed, rounds] = words else {
         return None;
     };
     let seed = seed.parse::<u64>().ok()?;
     let rounds = rounds.parse::<usize>().ok()?;
+    Some((seed, rounds))
+}
+
+fn print(rt: &HostRuntime, counts: Counts) -> Option<()> {
     let Counts {
         digest,
         read,
         written,
-    } = dump_all(rt.alloc(), seed, rounds)?;
+    } = counts;
     println!(rt; "session {digest:016x} {read} {written}").ok()
+}
+
+fn print_asked(rt: &HostRuntime) -> Option<()> {
+    let words = words_given(rt)?;
+    let (seed, rounds) = read_words(words.as_slice())?;
+    print(rt, dump_all(rt.alloc(), seed, rounds)?)
 }
 
 fn main(rt: HostRuntime) -> ExitCode {
