@@ -21,7 +21,7 @@ use Rattle.std_heap.specs.contracts.GlobalAllocator.TheImpl.{ghosts, dict}
 use Rattle.std_heap.proofs.Global.TheLaws as heap
 use Rattle.mysql_wire_c.specs.contracts.session.FollowedSession as FollowedSession
 use Rattle.mysql_wire_c.proofs.session.FollowedSession.TheLaws as session
-use Rattle.mysql_wire_side.specs.contracts.parts.Parts as Parts
+use Rattle.mysql_wire_c_calls.specs.contracts.parts.Parts as Parts
 use Rattle.mysql_wire_c.specs.contracts.handle.SessionHandle as SessionHandle
 
 abbrev pub E : Bx

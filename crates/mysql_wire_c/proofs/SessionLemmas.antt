@@ -6,7 +6,7 @@ use Rattle.mysql_wire_session.specs.State.{SessionState}
 use Rattle.mysql_wire_session_packets.specs.declared.packet.Received.{Received}
 use Rattle.mysql_wire_session_phases.specs.declared.refusal.SessionError.{SessionError}
 use Rattle.mysql_wire_session_phases.specs.declared.side.Side.{Side}
-use Rattle.mysql_wire_side.specs.declared.codes.TheConstants.{NEEDS_WHOLE, NO_MEMORY, OK}
+use Rattle.mysql_wire_c_calls.specs.declared.codes.TheConstants.{NEEDS_WHOLE, NO_MEMORY, OK}
 use Rattle.mysql_wire_c.specs.Calls.{FollowsFront, Took, TookFront, WantsWhole, is_front, is_refused}
 use Rattle.mysql_wire_c.specs.Numbers.{kind_number, side_of}
 use Rattle.mysql_wire_c.specs.declared.session.Taken.{Taken}

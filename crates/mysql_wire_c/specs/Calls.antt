@@ -13,7 +13,7 @@ use Rattle.mysql_wire_session_phases.specs.Kinds.{kind_by_front}
 use Rattle.mysql_wire_session.specs.Readings.{Receives, advanced, passed}
 use Rattle.mysql_wire_session.specs.Senders.{is_idle, next_sender}
 use Rattle.mysql_wire_session.specs.State.{SessionState, expectation_of, initial_state, statement_of}
-use Rattle.mysql_wire_side.specs.declared.codes.TheConstants.{NEEDS_WHOLE, NO_MEMORY, NO_STATEMENT, NOT_A_FRONT, NOT_A_SIDE, OK, REFUSED}
+use Rattle.mysql_wire_c_calls.specs.declared.codes.TheConstants.{NEEDS_WHOLE, NO_MEMORY, NO_STATEMENT, NOT_A_FRONT, NOT_A_SIDE, OK, REFUSED}
 use Rattle.mysql_wire_c.specs.Numbers.{kind_number, phase_number, sender_number, side_of}
 
 -- this holds of two sessions, where both are there

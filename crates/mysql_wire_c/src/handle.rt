@@ -7,7 +7,7 @@ ghost use Rattle.mysql_wire_c.specs.declared.session.FollowedSession.{FollowedSe
 ghost use Rattle.mysql_wire_c.specs.Owned.{session_coded, handle_owns};
 
 use crate::session::FollowedSession;
-use mysql_wire_side::parts::Parts;
+use mysql_wire_c_calls::parts::Parts;
 use std::alloc::Global;
 use std::marker::Model;
 

@@ -3,18 +3,18 @@
 ghost use Rattle.std.specs.Prelude.{◌≡◌, ◌⊎◌, IfOk, IfSome, OnErr, OnOk, length};
 ghost use Rattle.mysql_wire_session.specs.Readings.{Receives, advanced};
 ghost use Rattle.mysql_wire_session.specs.State.{state_of};
-ghost use Rattle.mysql_wire_side.specs.declared.codes.TheConstants.{NEEDS_WHOLE, NO_MEMORY, OK};
+ghost use Rattle.mysql_wire_c_calls.specs.declared.codes.TheConstants.{NEEDS_WHOLE, NO_MEMORY, OK};
 ghost use Rattle.mysql_wire_c.specs.Calls.{Classifies, FollowsFront, FollowsPacket, Passes, TellsStatement, Took, TookFront, WantsWhole, idle_number, is_front, is_refused, new_session, next_id_of, phase_of, sender_of, status_of};
 ghost use Rattle.mysql_wire_c.specs.Numbers.{kind_number};
 
 use crate::numbers::{kind_number, phase_number, sender_number, side_of};
+use mysql_wire_c_calls::codes::{
+    NEEDS_WHOLE, NO_MEMORY, NO_STATEMENT, NOT_A_FRONT, NOT_A_SIDE, OK, REFUSED,
+};
 use mysql_wire_session::packet::{Packet, Received, Row, forget};
 use mysql_wire_session::refusal::SessionError;
 use mysql_wire_session::session::{FrontError, Session};
 use mysql_wire_session::side::Side;
-use mysql_wire_side::codes::{
-    NEEDS_WHOLE, NO_MEMORY, NO_STATEMENT, NOT_A_FRONT, NOT_A_SIDE, OK, REFUSED,
-};
 use std::alloc::Global;
 use std::marker::Model;
 use wire_const::Flags;

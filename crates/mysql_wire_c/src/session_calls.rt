@@ -5,7 +5,7 @@ ghost use Rattle.mysql_wire_c.specs.Calls.{BothSessions, Classifies, FollowsFron
 
 use crate::handle::SessionHandle;
 use crate::session::boxed;
-use mysql_wire_side::codes::{CLOSED, IS_OPEN, NO_MEMORY, OK};
+use mysql_wire_c_calls::codes::{CLOSED, IS_OPEN, NO_MEMORY, OK};
 use std::alloc::Global;
 use std::mem;
 

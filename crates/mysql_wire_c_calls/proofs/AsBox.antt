@@ -19,9 +19,9 @@ use Rattle.mysql_wire_c_calls.specs.Owned.{handle_owns}
 use Rattle.std_heap.specs.contracts.Global as Heap
 use Rattle.std_heap.specs.contracts.GlobalAllocator.TheImpl.{ghosts, dict}
 use Rattle.std_heap.proofs.Global.TheLaws as heap
-use Rattle.mysql_wire_side.specs.contracts.connection.Connection as Connection
-use Rattle.mysql_wire_side.proofs.connection.Connection.TheLaws as connection
-use Rattle.mysql_wire_side.specs.contracts.parts.Parts as Parts
+use Rattle.mysql_wire_c_calls.specs.contracts.side.Connection as Connection
+use Rattle.mysql_wire_c_calls.proofs.side.Connection.TheLaws as connection
+use Rattle.mysql_wire_c_calls.specs.contracts.parts.Parts as Parts
 use Rattle.mysql_wire_c_calls.specs.contracts.handle.Handle as Handle
 
 abbrev pub E : Bx

@@ -12,12 +12,12 @@ use Rattle.wire_codec.specs.Codec.{CodecState, codec_state, expected_id, header_
 use Rattle.wire_codec.specs.Laws.{appended, empty_state}
 use Rattle.wire_codec.specs.InPlace.{HasFront, front_payload, behind_front}
 use Rattle.wire_codec.specs.LimitedRuns.{DecodesAligned}
-use Rattle.mysql_wire_side.specs.declared.codes.TheConstants.{OK, WAITS, PACKET, NO_MEMORY}
+use Rattle.mysql_wire_c_calls.specs.declared.codes.TheConstants.{OK, WAITS, PACKET, NO_MEMORY}
 use Rattle.mysql_wire_c_calls.specs.declared.fields.Span.{Span}
-use Rattle.mysql_wire_side.specs.declared.connection.Front.TheVariants.{Unfinished}
-use Rattle.mysql_wire_side.specs.Side.{Side, side_of}
-use Rattle.mysql_wire_side.specs.Answers.{Waits}
-use Rattle.mysql_wire_side.specs.Calls.{Feeds, Peeks, Takes}
+use Rattle.mysql_wire_c_calls.specs.declared.side.Front.TheVariants.{Unfinished}
+use Rattle.mysql_wire_c_calls.specs.Side.{Side, side_of}
+use Rattle.mysql_wire_c_calls.specs.Answers.{Waits}
+use Rattle.mysql_wire_c_calls.specs.SideCalls.{Feeds, Peeks, Takes}
 use Rattle.mysql_wire_c_calls.specs.Decoding.{FedInTurn, HasPacketIn, LendsFrom, LendsInTurn, fed_with, unlent}
 
 pub fed_then : (pieces : List (List ℕ)) (before mid waits : Side) (piece : List ℕ) → FedInTurn pieces before mid → Waits mid waits

@@ -1,3 +1,6 @@
+pub mod StateLemmas
+pub mod FindLemmas
+pub mod NextLemmas
 pub mod AsBox
 pub mod SideLemmas
 pub mod FieldLemmas

@@ -6,10 +6,10 @@ use Rattle.wire_codec.specs.Delivery.{chunk_len}
 use Rattle.wire_codec.specs.declared.codec.packet.PacketCodec.{PacketCodec}
 use Rattle.wire_codec.specs.Codec.{CodecState, codec_state, expected_id, header_of}
 use Rattle.wire_codec.specs.InPlace.{HasFront, front_payload}
-use Rattle.mysql_wire_side.specs.declared.connection.Front.{Front}
-use Rattle.mysql_wire_side.specs.declared.connection.Front.TheVariants.{Unfinished, InPlace, Copied, Lost}
-use Rattle.mysql_wire_side.specs.declared.codes.TheConstants.{OK}
-use Rattle.mysql_wire_side.specs.Side.{Side, side_of, is_lost_at, lent_at, behind_lent, IsReady}
+use Rattle.mysql_wire_c_calls.specs.declared.side.Front.{Front}
+use Rattle.mysql_wire_c_calls.specs.declared.side.Front.TheVariants.{Unfinished, InPlace, Copied, Lost}
+use Rattle.mysql_wire_c_calls.specs.declared.codes.TheConstants.{OK}
+use Rattle.mysql_wire_c_calls.specs.Side.{Side, side_of, is_lost_at, lent_at, behind_lent, IsReady}
 use Rattle.mysql_wire_c_calls.specs.Calls.{EncodesHeader, EncodesTo}
 
 -- what is unread after a packet that lies in front

@@ -4,9 +4,9 @@ use Rattle.std.specs.Prelude.{◌≡◌, ℕ, ℤ, pos, ◌+◌, ◌%◌, ◌^�
 use Rattle.wire_codec.specs.declared.codec.error.PacketCodecError.TheVariants.{OutOfMemory, PacketTooLarge}
 use Rattle.wire_codec.specs.Early.{IsOutOfStep}
 use Rattle.wire_codec.specs.Framing.{max_payload, framing, next_id}
-use Rattle.mysql_wire_side.specs.declared.codes.TheConstants.{OK, TOO_LARGE, OUT_OF_SYNC, NO_MEMORY, ROOM_TOO_SMALL, PACKET_WAITS}
-use Rattle.mysql_wire_side.specs.Side.{Side, ConnectionState}
-use Rattle.mysql_wire_side.specs.Answers.{IsNextPacket, HasPacket, Waits, Stops, LosesSync}
+use Rattle.mysql_wire_c_calls.specs.declared.codes.TheConstants.{OK, TOO_LARGE, OUT_OF_SYNC, NO_MEMORY, ROOM_TOO_SMALL, PACKET_WAITS}
+use Rattle.mysql_wire_c_calls.specs.Side.{Side, ConnectionState}
+use Rattle.mysql_wire_c_calls.specs.Answers.{IsNextPacket, HasPacket, Waits, Stops, LosesSync}
 
 -- this holds of two connections, where both are open
 abbrev pub BothStates : Option ConnectionState → Option ConnectionState

@@ -5,12 +5,12 @@ use Rattle.wire_codec.specs.Delivery.{chunk_len}
 use Rattle.wire_codec.specs.InPlace.{HasFront, front_payload}
 use Rattle.wire_codec.specs.Laws.{appended, empty_state}
 use Rattle.wire_codec.specs.LimitedRuns.{DecodesAligned}
-use Rattle.mysql_wire_side.specs.declared.codes.TheConstants.{WAITS, PACKET, NO_MEMORY}
+use Rattle.mysql_wire_c_calls.specs.declared.codes.TheConstants.{WAITS, PACKET, NO_MEMORY}
 use Rattle.mysql_wire_c_calls.specs.declared.fields.Span.{Span}
-use Rattle.mysql_wire_side.specs.declared.connection.Front.TheVariants.{Unfinished}
-use Rattle.mysql_wire_side.specs.Side.{Side, side_of}
-use Rattle.mysql_wire_side.specs.Answers.{Waits, holding}
-use Rattle.mysql_wire_side.specs.Calls.{Peeks}
+use Rattle.mysql_wire_c_calls.specs.declared.side.Front.TheVariants.{Unfinished}
+use Rattle.mysql_wire_c_calls.specs.Side.{Side, side_of}
+use Rattle.mysql_wire_c_calls.specs.Answers.{Waits, holding}
+use Rattle.mysql_wire_c_calls.specs.SideCalls.{Peeks}
 
 -- a side without the packet that is lent
 abbrev pub unlent : Side → Side

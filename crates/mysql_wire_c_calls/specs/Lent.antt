@@ -1,9 +1,9 @@
 -- How a `Handle` lends its connection.
 use Rattle.std.specs.Borrow.{Lends, MutBor, Fml}
 use Rattle.std.specs.declared.option.Option.TheVariants.{Some}
-use Rattle.mysql_wire_side.specs.declared.connection.Connection.{Connection}
+use Rattle.mysql_wire_c_calls.specs.declared.side.Connection.{Connection}
 use Rattle.mysql_wire_c_calls.specs.declared.handle.Handle.{Handle}
-use Rattle.mysql_wire_side.specs.contracts.connection.Connection as connection
+use Rattle.mysql_wire_c_calls.specs.contracts.side.Connection as connection
 use Rattle.mysql_wire_c_calls.specs.contracts.handle.Handle as handle
 
 -- h after `*h.connection() = w`

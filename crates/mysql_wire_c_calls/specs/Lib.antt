@@ -1,3 +1,7 @@
+pub mod Side
+pub mod Answers
+pub mod Finding
+pub mod SideCalls
 pub mod Calls
 pub mod Fields
 pub mod Rows

@@ -1,7 +1,7 @@
 -- The texts for the codes.
 use Rattle.std.specs.Prelude.{ℕ, ℤ, List, codes, if◌then◌else◌}
 use Rattle.std.specs.Ordering.{int_eq}
-use Rattle.mysql_wire_side.specs.declared.codes.TheConstants.{OK, PACKET, TOO_LARGE, OUT_OF_SYNC, NO_MEMORY, ROOM_TOO_SMALL, CLOSED, IS_OPEN, PACKET_WAITS, NO_PACKET, MISSING_BYTES, NOT_A_NUMBER, SPAN, NULL, INVALID_STATE, NEEDS_WHOLE, REFUSED, NOT_A_SIDE, NOT_A_FRONT, NO_STATEMENT}
+use Rattle.mysql_wire_c_calls.specs.declared.codes.TheConstants.{OK, PACKET, TOO_LARGE, OUT_OF_SYNC, NO_MEMORY, ROOM_TOO_SMALL, CLOSED, IS_OPEN, PACKET_WAITS, NO_PACKET, MISSING_BYTES, NOT_A_NUMBER, SPAN, NULL, INVALID_STATE, NEEDS_WHOLE, REFUSED, NOT_A_SIDE, NOT_A_FRONT, NO_STATEMENT}
 
 abbrev pub message : ℤ → List ℕ
 message code =

@@ -8,7 +8,7 @@ use Rattle.std.specs.Global.{Global}
 use Rattle.std.specs.declared.option.Option.{Option}
 use Rattle.std.specs.declared.option.Option.TheVariants.{Some, None}
 use Rattle.std_heap.specs.contracts.GlobalAllocator.TheImpl.{ghosts}
-use Rattle.mysql_wire_side.specs.contracts.connection.Connection.{the_row}
+use Rattle.mysql_wire_c_calls.specs.contracts.side.Connection.{the_row}
 
 -- what a `Box<Connection>` of x owns, or that p is null
 abbrev pub handle_owns : Global → Ptr → Option the_row.Denot → Fml

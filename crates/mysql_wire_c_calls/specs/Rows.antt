@@ -1,7 +1,7 @@
 -- The values of a row of a text result, one after another.
 use Rattle.std.specs.Prelude.{◌≡◌, ℕ, ℤ, ◌+◌, ◌-◌, ◌^◌, ◌<◌, ◌≤◌, ◌⊎◌, List, [], ◌∷◌, length, take, drop, slice_get, Some}
 use Rattle.wire_buf.specs.Lenenc.{IsLenenc}
-use Rattle.mysql_wire_side.specs.declared.codes.TheConstants.{MISSING_BYTES, NOT_A_NUMBER}
+use Rattle.mysql_wire_c_calls.specs.declared.codes.TheConstants.{MISSING_BYTES, NOT_A_NUMBER}
 use Rattle.mysql_wire_c_calls.specs.declared.fields.Span.{Span}
 use Rattle.mysql_wire_c_calls.specs.Fields.{ReadsAt, IsCutShort}
 

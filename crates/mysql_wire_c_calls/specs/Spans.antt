@@ -6,7 +6,7 @@ use Rattle.wire_span.specs.declared.span.parts.SpanParts.{SpanParts}
 use Rattle.wire_span.specs.Parts.{parts_state, IsTidy, CanStand}
 use Rattle.wire_span.specs.Spans.{SpanState, header_came, SpansOn, StopsBefore}
 use Rattle.wire_span.specs.Renumbering.{RenumbersFront}
-use Rattle.mysql_wire_side.specs.declared.codes.TheConstants.{WAITS, SPAN, TOO_LARGE, OUT_OF_SYNC, INVALID_STATE}
+use Rattle.mysql_wire_c_calls.specs.declared.codes.TheConstants.{WAITS, SPAN, TOO_LARGE, OUT_OF_SYNC, INVALID_STATE}
 use Rattle.mysql_wire_c_calls.specs.declared.spans.Spans.{Spans}
 
 abbrev pub parts_of : Spans → SpanParts

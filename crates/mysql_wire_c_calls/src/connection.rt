@@ -5,18 +5,18 @@ ghost use Rattle.wire_codec.specs.Codec.{codec_state};
 ghost use Rattle.wire_codec.specs.Framing.{max_payload, framing};
 ghost use Rattle.wire_codec.specs.Laws.{appended, empty_state};
 ghost use Rattle.wire_codec.specs.InPlace.{HasFront, behind_front};
-ghost use Rattle.mysql_wire_side.specs.Side.{IsReady, is_lost_at, lent_at, behind_lent};
-ghost use Rattle.mysql_wire_side.specs.Answers.{new_connection};
+ghost use Rattle.mysql_wire_c_calls.specs.Side.{IsReady, is_lost_at, lent_at, behind_lent};
+ghost use Rattle.mysql_wire_c_calls.specs.Answers.{new_connection};
 ghost use Rattle.mysql_wire_c_calls.specs.Decoding.{Decodes, DecodesMany, FeedsFront, HasPacketIn, LendsFrom, LendsInTurn, codec_at};
 ghost use Rattle.mysql_wire_c_calls.specs.Calls.{SetsLimit, unread_count, Encodes, EncodesTo, EncodesHeader, Sends, Resets, SetsId, Numbers, LastNumbers, JudgesFront};
 
-use crate::fields::Span;
-use crate::view::View;
-use bytes::{Buf, BytesMut};
-use mysql_wire_side::codes::{
+use crate::codes::{
     NO_MEMORY, OK, OUT_OF_SYNC, PACKET, PACKET_WAITS, ROOM_TOO_SMALL, TOO_LARGE, WAITS,
 };
-use mysql_wire_side::connection::{Connection, Front};
+use crate::fields::Span;
+use crate::side::{Connection, Front};
+use crate::view::View;
+use bytes::{Buf, BytesMut};
 use std::alloc::{AllocError, Global};
 use wire_buf::io::ParseBuf;
 use wire_buf::lengths::MAX_PAYLOAD_LEN;

@@ -10,7 +10,7 @@ ghost use Rattle.wire_buf.specs.Spelling.{SpellsNothing};
 ghost use Rattle.wire_buf.specs.Lenenc.{IsLenenc, IsLenencOrMark, lenenc_bytes};
 ghost use Rattle.mysql_wire_c_calls.specs.Fields.{IsCutShort, IsMark, ReadsAt, WritesAt, text_at};
 
-use mysql_wire_side::codes::{MISSING_BYTES, NOT_A_NUMBER, NULL, OK, ROOM_TOO_SMALL};
+use crate::codes::{MISSING_BYTES, NOT_A_NUMBER, NULL, OK, ROOM_TOO_SMALL};
 use wire_buf::io::ParseBuf;
 
 /// Where a text stands in the bytes that were read.

@@ -3,11 +3,11 @@
 ghost use Rattle.std.specs.Prelude.{◌≡◌, IsSome, Some, None, is_none};
 ghost use Rattle.std.specs.declared.option.Option.{Option};
 ghost use types.Logic.{sem};
-ghost use Rattle.mysql_wire_side.specs.declared.connection.Connection.{Connection};
+ghost use Rattle.mysql_wire_c_calls.specs.declared.side.Connection.{Connection};
 ghost use Rattle.mysql_wire_c_calls.specs.Owned.{connection_coded, handle_owns};
 
-use mysql_wire_side::connection::Connection;
-use mysql_wire_side::parts::Parts;
+use crate::parts::Parts;
+use crate::side::Connection;
 use std::alloc::Global;
 use std::marker::Model;
 

@@ -1,11 +1,11 @@
 //! The values of a row of a text result.
 
 ghost use Rattle.std.specs.Prelude.{◌≡◌, ◌⊎◌};
-ghost use Rattle.mysql_wire_side.specs.declared.codes.TheConstants.{OK};
+ghost use Rattle.mysql_wire_c_calls.specs.declared.codes.TheConstants.{OK};
 ghost use Rattle.mysql_wire_c_calls.specs.Rows.{IsRefused, ReadsRow, ReadsValue, StopsRow};
 
+use crate::codes::{NULL, OK};
 use crate::fields::{Span, read_nullable_bytes};
-use mysql_wire_side::codes::{NULL, OK};
 
 // Where a text that is NULL is said to stand.
 const NOWHERE: usize = usize::MAX;

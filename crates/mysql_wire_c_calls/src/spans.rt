@@ -6,8 +6,8 @@ ghost use Rattle.wire_span.specs.Parts.{IsTidy, CanStand};
 ghost use Rattle.wire_span.specs.Spans.{span_state, IsBetween};
 ghost use Rattle.mysql_wire_c_calls.specs.Spans.{parts_of, state_of, IsValid, error_code, NextSpan, Renumbers};
 
+use crate::codes::{INVALID_STATE, OUT_OF_SYNC, SPAN, TOO_LARGE, WAITS};
 use crate::view::View;
-use mysql_wire_side::codes::{INVALID_STATE, OUT_OF_SYNC, SPAN, TOO_LARGE, WAITS};
 use wire_span::laws::{spans_begin, spans_stand};
 use wire_span::{Renumber, SpanDecoder, SpanError, SpanParts};
 

@@ -3,12 +3,12 @@
 ghost use Rattle.std.specs.Prelude.{◌≡◌, [], ◌∷◌, ◌++◌, length};
 ghost use Rattle.mysql_wire_c_calls.specs.Messages.{message};
 
-use crate::view::View;
-use mysql_wire_side::codes::{
+use crate::codes::{
     CLOSED, INVALID_STATE, IS_OPEN, MISSING_BYTES, NEEDS_WHOLE, NO_MEMORY, NO_PACKET, NO_STATEMENT,
     NOT_A_FRONT, NOT_A_NUMBER, NOT_A_SIDE, NULL, OK, OUT_OF_SYNC, PACKET, PACKET_WAITS, REFUSED,
     ROOM_TOO_SMALL, SPAN, TOO_LARGE,
 };
+use crate::view::View;
 
 // The text for a code, and a zero.
 fn text(code: i32) -> &'static [u8]

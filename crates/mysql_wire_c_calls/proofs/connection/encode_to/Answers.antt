@@ -1,6 +1,6 @@
 use Rattle.std.proofs.Common.{◌≡◌, ◌∙◌, sym, ap, length}
 use Rattle.wire_codec.specs.Codec.{codec_state}
-use Rattle.mysql_wire_side.specs.Side.{side_of}
+use Rattle.mysql_wire_c_calls.specs.Side.{side_of}
 use Rattle.mysql_wire_c_calls.proofs.SideLemmas.{is_short, side_kept, limit_of, number_of, renumbered, encodes_there, short_len, short_next}
 use Rattle.mysql_wire_c_calls.proofs.connection.encode_to.Goals as goal
 use Rattle.mysql_wire_c_calls.proofs.connection.encode_to.Goals.{In-Ok}

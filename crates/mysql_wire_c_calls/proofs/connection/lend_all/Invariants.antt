@@ -1,8 +1,8 @@
 use Rattle.std.proofs.Common.{◌≡◌, ℕ, List, [], ◌-◌, ◌≤◌, length, take, drop, None}
 use Rattle.wire_codec.specs.Codec.{codec_state, header_of}
 use Rattle.wire_codec.specs.Laws.{empty_state}
-use Rattle.mysql_wire_side.specs.declared.connection.Front.TheVariants.{Unfinished}
-use Rattle.mysql_wire_side.specs.Side.{side_of}
+use Rattle.mysql_wire_c_calls.specs.declared.side.Front.TheVariants.{Unfinished}
+use Rattle.mysql_wire_c_calls.specs.Side.{side_of}
 use Rattle.mysql_wire_c_calls.specs.Decoding.{LendsInTurn}
 use Rattle.mysql_wire_c_calls.proofs.connection.lend_all.Given as goal
 

@@ -1,8 +1,8 @@
 use Rattle.std.proofs.Common.{ℕ, ◌+◌, ◌==◌, ◌∙◌, length, ap, sym, subst, refl}
 use Rattle.wire_codec.specs.Codec.{codec_state}
-use Rattle.mysql_wire_side.specs.declared.connection.Front.{Front}
-use Rattle.mysql_wire_side.specs.declared.codes.TheConstants.{PACKET}
-use Rattle.mysql_wire_side.specs.Side.{ConnectionState, side_of}
+use Rattle.mysql_wire_c_calls.specs.declared.side.Front.{Front}
+use Rattle.mysql_wire_c_calls.specs.declared.codes.TheConstants.{PACKET}
+use Rattle.mysql_wire_c_calls.specs.Side.{ConnectionState, side_of}
 use Rattle.mysql_wire_c_calls.specs.Decoding.{LendsFrom}
 use Rattle.mysql_wire_c_calls.proofs.DecodingLemmas.{lends_is, nothing_there}
 use Rattle.mysql_wire_c_calls.proofs.connection.lend_from.Goals as goal

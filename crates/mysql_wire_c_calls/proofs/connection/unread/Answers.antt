@@ -1,6 +1,6 @@
 use Rattle.std.proofs.Common.{arith, ap}
 use Rattle.wire_codec.specs.Codec.{codec_state}
-use Rattle.mysql_wire_side.specs.Side.{ConnectionState}
+use Rattle.mysql_wire_c_calls.specs.Side.{ConnectionState}
 use Rattle.mysql_wire_c_calls.proofs.SideLemmas.{unread_behind}
 use Rattle.mysql_wire_c_calls.proofs.connection.unread.Goals as goal
 

@@ -40,7 +40,7 @@ use Rattle.std.proofs.BoxSteps.Form as box
 use Rattle.std.proofs.BoxSteps.Steps.{box_out, box_in}
 use Rattle.mysql_wire_c_calls.proofs.AsBox.{E, as_box, opened, to_box, of_box}
 use Rattle.mysql_wire_c_calls.specs.Lent.{with_connection}
-use Rattle.mysql_wire_side.specs.contracts.connection.Connection as Connection
+use Rattle.mysql_wire_c_calls.specs.contracts.side.Connection as Connection
 use Rattle.mysql_wire_c_calls.specs.contracts.handle.Handle as Handle
 use Rattle.mysql_wire_c_calls.specs.contracts.handle.Handle.connection as F
 use Rattle.mysql_wire_c_calls.specs.contracts.handle.Handle.connection.Key.{name as #self}

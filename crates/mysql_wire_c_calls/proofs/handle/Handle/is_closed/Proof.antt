@@ -32,7 +32,7 @@ use Rattle.std.specs.declared.option.Option.{Option}
 use Rattle.std.specs.declared.option.Option.TheVariants.{Some, None}
 use Rattle.std_heap.specs.contracts.GlobalAllocator.TheImpl.{ghosts}
 use Rattle.mysql_wire_c_calls.specs.Owned.{handle_owns}
-use Rattle.mysql_wire_side.specs.contracts.connection.Connection as Connection
+use Rattle.mysql_wire_c_calls.specs.contracts.side.Connection as Connection
 use Rattle.mysql_wire_c_calls.specs.contracts.handle.Handle as Handle
 use Rattle.mysql_wire_c_calls.proofs.handle.Handle.TheLaws.{lowers}
 use Rattle.mysql_wire_c_calls.specs.contracts.handle.Handle.is_closed as f

@@ -1,3 +1,0 @@
-pub mod SideLemmas
-pub mod FindLemmas
-pub mod NextLemmas

@@ -1,4 +1,0 @@
-pub mod Side
-pub mod Answers
-pub mod Finding
-pub mod Calls
