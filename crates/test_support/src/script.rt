@@ -72,22 +72,52 @@ pub enum Step {
     Refused(bool),
 }
 
+// The number of the first step after which the others are for targets that count; of all, where there
+// is none.
+fn counting_at(steps: &[Step]) -> usize {
+    for i in 0..steps.len() {
+        if matches!(steps[i], Step::Counting) {
+            return i;
+        }
+    }
+    steps.len()
+}
+
+// Changes the codec. Each clause is proved over all that its function has in hand: here that is the
+// codec alone.
+fn change_codec(codec: &mut PacketCodec, step: Step) {
+    match step {
+        Step::Fresh => *codec = PacketCodec::default(),
+        Step::Limit(limit) => codec.max_allowed_packet = limit,
+        Step::Reset => codec.reset_seq_id(),
+        Step::Id(id) => codec.set_sequence_id(id),
+        Step::Sync => codec.sync_seq_id(),
+        _ => {}
+    }
+}
+
+// Whether these bytes, which are left or held, are as the step says.
+fn is_so_many(bytes: &[u8], step: Step) -> bool {
+    match step {
+        Step::Left(wanted) => same(bytes, wanted),
+        Step::LeftMany(len) => bytes.len() == len,
+        Step::Held(wanted) => same(bytes, wanted),
+        Step::HeldMany(len) => is_filled(bytes, len),
+        _ => true,
+    }
+}
+
 // Each of these looks at the steps of one kind, and hands the others on.
 impl<A: Allocator + Copy, T: Target> Fixture<'_, A, T> {
     // Changes something.
     fn changes(&mut self, step: Step) {
         match step {
-            Step::Fresh => self.codec = PacketCodec::default(),
-            Step::Limit(limit) => self.codec.max_allowed_packet = limit,
-            Step::Reset => self.codec.reset_seq_id(),
-            Step::Id(id) => self.codec.set_sequence_id(id),
-            Step::Sync => self.codec.sync_seq_id(),
             Step::Remember(remembered) => self.decoder = decoder_of(remembered),
             Step::Refuse(nth) => self.refuse(nth),
             Step::RefusePut(nth) => {
                 self.dst.growth(Some(nth));
             }
-            _ => {}
+            _ => change_codec(&mut self.codec, step),
         }
     }
 
@@ -122,10 +152,8 @@ impl<A: Allocator + Copy, T: Target> Fixture<'_, A, T> {
     // Whether the bytes stand there.
     fn shows(&mut self, step: Step) -> bool {
         match step {
-            Step::Left(bytes) => same(self.src.as_slice(), bytes),
-            Step::LeftMany(len) => self.src.len() == len,
-            Step::Held(bytes) => same(self.dst.as_ref(), bytes),
-            Step::HeldMany(len) => is_filled(self.dst.as_ref(), len),
+            Step::Left(_) | Step::LeftMany(_) => is_so_many(self.src.as_slice(), step),
+            Step::Held(_) | Step::HeldMany(_) => is_so_many(self.dst.as_ref(), step),
             _ => self.is_so(step),
         }
     }
@@ -142,14 +170,25 @@ impl<A: Allocator + Copy, T: Target> Fixture<'_, A, T> {
         answer == wanted
     }
 
-    /// Goes through these steps, and gives the number of the first that goes otherwise.
+    // Whether the step of this number goes as it says.
+    fn goes_at(&mut self, steps: &[Step], i: usize) -> bool {
+        match steps.get(i) {
+            Some(step) => self.goes(*step),
+            None => true,
+        }
+    }
+
+    /// Goes through these steps, and gives the number of the first that goes otherwise. Each step is
+    /// looked at by a function of its own: this one has none in hand.
     pub fn fault(&mut self, steps: &[Step]) -> Option<usize> {
         let counts = self.dst.growth(None).is_some();
-        for (i, step) in steps.iter().enumerate() {
-            if matches!(step, Step::Counting) && !counts {
-                return None;
-            }
-            if !self.goes(*step) {
+        let end = if counts {
+            steps.len()
+        } else {
+            counting_at(steps)
+        };
+        for i in 0..end {
+            if !self.goes_at(steps, i) {
                 return Some(i);
             }
         }
