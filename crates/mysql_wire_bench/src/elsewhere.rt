@@ -70,13 +70,18 @@ fn lent(reader: &mut PacketReader<Again<'_>>, codec: &mut PacketCodec) -> Option
     Some(len)
 }
 
+// The sum of both. No destructor waits here, where two ways lead out early.
+fn both(first: Option<usize>, second: Option<usize>) -> Option<usize> {
+    Some(first?.wrapping_add(second?))
+}
+
 // The first two packets of a stream: how many bytes they have.
 fn received(alloc: Global, stream: &[u8]) -> Option<usize> {
     let mut reader = PacketReader::new(alloc, Again::new(stream)).ok()?;
     let mut codec = PacketCodec::default();
     let first = taken(&mut reader, &mut codec);
     let second = lent(&mut reader, &mut codec);
-    Some(first?.wrapping_add(second?))
+    both(first, second)
 }
 
 // The next packet, passed on: how many bytes are written.
@@ -119,15 +124,25 @@ fn read(alloc: Global, bytes: &[u8]) -> Option<usize> {
     Some(texts.wrapping_add(text).wrapping_add(number as usize))
 }
 
+// A text and its length, written to a `Vec`: how many bytes are written.
+fn put(text: &[u8], out: &mut Vec<u8>) -> Option<usize> {
+    out.put_lenenc_str(text).ok()?;
+    out.put_lenenc_int(text.len() as u64).ok()?;
+    Some(out.len())
+}
+
+// The same to a `BytesMut`.
+fn put_shared(text: &[u8], out: &mut BytesMut) -> Option<usize> {
+    out.put_lenenc_str(text).ok()?;
+    out.put_lenenc_int(text.len() as u64).ok()?;
+    Some(out.len())
+}
+
 // The first text of some bytes, written in each way: how many bytes are written.
 fn written(alloc: Global, bytes: &[u8]) -> Option<usize> {
-    let (mut out, mut shared) = (Vec::new(alloc), BytesMut::new(alloc));
     let text = ParseBuf(bytes).checked_eat_lenenc_str()?;
-    let is_written = out.put_lenenc_str(text).is_ok()
-        && out.put_lenenc_int(text.len() as u64).is_ok()
-        && shared.put_lenenc_str(text).is_ok()
-        && shared.put_lenenc_int(text.len() as u64).is_ok();
-    is_written.then_some(out.len() + shared.len())
+    let written = put(text, &mut Vec::new(alloc));
+    both(written, put_shared(text, &mut BytesMut::new(alloc)))
 }
 
 fn of_value(value: TextValue<'_>) -> usize {
@@ -146,13 +161,19 @@ fn row(alloc: Global, bytes: &[u8]) -> Option<usize> {
     Some(values.wrapping_add(row.values.len()))
 }
 
+// The rows of the first `OK_Packet`, where the bytes begin with one.
+fn affected_rows(alloc: Global, bytes: &[u8]) -> Option<usize> {
+    match ParseBuf(bytes).parse::<OkPacket<'_>>(alloc, InfoForm::LengthEncoded) {
+        Ok(rows) => Some(rows.affected_rows as usize),
+        Err(_) => None,
+    }
+}
+
 // The first packets of these kinds, where the bytes are some.
 fn packets(alloc: Global, bytes: &[u8]) -> Option<usize> {
-    let rows = ParseBuf(bytes)
-        .parse::<OkPacket<'_>>(alloc, InfoForm::LengthEncoded)
-        .ok()?;
+    let rows = affected_rows(alloc, bytes)?;
     let definition = next_definition(alloc, &mut ParseBuf(bytes))?;
-    Some((rows.affected_rows as usize).wrapping_add(definition as usize))
+    Some(rows.wrapping_add(definition as usize))
 }
 
 /// Each of the calls that are timed, once: form 0 on a packet, form 1 on a stream, the others on
