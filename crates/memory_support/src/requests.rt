@@ -47,10 +47,18 @@ pub(crate) type Row = (&'static str, Call, u64);
 // No call asks so often.
 const MOST: u64 = 20;
 
+// Whether the request of this number was refused in the call of a row, and what stands then is right.
+// The functions that go through numbers and rows have no call in hand: each way through them would
+// have all of its forms.
+fn tries<A: Allocator + Copy>(heap: &Heap, alloc: A, row: &Row, nth: u64) -> Option<bool> {
+    let (_, call, _) = *row;
+    codec::tries(heap, alloc, call, nth)
+}
+
 // How many requests a call makes, each refused in turn. None where one leaves something else.
-fn refusals<A: Allocator + Copy>(heap: &Heap, alloc: A, call: Call) -> Option<u64> {
+fn refusals<A: Allocator + Copy>(heap: &Heap, alloc: A, row: &Row) -> Option<u64> {
     for nth in 0..MOST {
-        let refused = codec::tries(heap, alloc, call, nth)?;
+        let refused = tries(heap, alloc, row, nth)?;
         if refused != heap.has_refused() {
             return None;
         }
@@ -64,9 +72,9 @@ fn refusals<A: Allocator + Copy>(heap: &Heap, alloc: A, call: Call) -> Option<u6
 // The name of a call in the table that takes memory and goes otherwise.
 fn wrong_row<A: Allocator + Copy>(heap: &Heap, alloc: A, rows: &[Row]) -> Option<&'static str> {
     let mut wrong = None;
-    for (name, call, wanted) in rows {
-        if refusals(heap, alloc, *call) != Some(*wanted) {
-            wrong = Some(*name);
+    for row in rows {
+        if refusals(heap, alloc, row) != Some(row.2) {
+            wrong = Some(row.0);
         }
     }
     wrong

@@ -337,12 +337,24 @@ where
     ((answer == Ok(true)) & is_read(from, to, way)).then_some(refused)
 }
 
+// The same with an outlet to pass it on to, which is made where no source waits to be dropped.
+fn reads_source<A>(
+    heap: &Heap,
+    alloc: A,
+    from: &mut Source<'_, A>,
+    way: Way,
+    nth: u64,
+) -> Option<bool>
+where
+    A: Allocator + Copy,
+{
+    reads_from(heap, from, &mut Outlet::new(alloc)?, way, nth)
+}
+
 // Whether the request was refused; the packet is then read so.
 fn reads<A: Allocator + Copy>(heap: &Heap, alloc: A, way: Way, nth: u64) -> Option<bool> {
     heap.refuse(NEVER);
-    let mut from = Source::new(alloc, PACKET)?;
-    let mut to = Outlet::new(alloc)?;
-    reads_from(heap, &mut from, &mut to, way, nth)
+    reads_source(heap, alloc, &mut Source::new(alloc, PACKET)?, way, nth)
 }
 
 // ---- all
