@@ -189,6 +189,8 @@ impl<'de> MyDeserialize<'de, Global> for HandshakeV10<'de> {
         ⟦<Tail<'de> as MyDeserialize<'de, Global>>⟧.reads
         (tail_at upper.0.0 upper.1.0 input) input) };
 
+    // A call: each connection has one, and what reads packets of any kind stays small.
+    #[inline(never)]
     fn deserialize(alloc: Global, _: (), buf: &mut ParseBuf<'de>) -> Result<Self, WireError> {
         let state = ((), ((), ((), ((), ((), ())))));
         match Head::deserialize(alloc, ((), ((), ((), ((), ((), ((), state)))))), buf) {

@@ -146,6 +146,8 @@ impl<'de> MyDeserialize<'de, Global> for HandshakeResponse41<'de> {
           ),
         )) };
 
+    // A call: each connection has one, and what reads packets of any kind stays small.
+    #[inline(never)]
     fn deserialize(alloc: Global, _: (), buf: &mut ParseBuf<'de>) -> Result<Self, WireError> {
         match Client::deserialize(alloc, ((), ((), ((), (((), ()), ())))), buf) {
             Ok(client) => {

@@ -64,6 +64,8 @@ impl<'de> MyDeserialize<'de, Global> for ComBinlogDumpGtid<'de> {
         (⟦<Fields<'de> as MyDeserialize<'de, Global>>⟧.reads
         ((tt, (tt, tt)), (tt, (tt, tt))) input) };
 
+    // A call: few connections have one, and what reads packets of any kind stays small.
+    #[inline(never)]
     fn deserialize(alloc: Global, _: (), buf: &mut ParseBuf<'de>) -> Result<Self, WireError> {
         match Fields::deserialize(alloc, (((), ((), ())), ((), ((), ()))), buf) {
             Ok(Both(Both(_, Both(flags, server_id)), Both(filename, transactions))) => {

@@ -123,6 +123,8 @@ impl<'de> MyDeserialize<'de, Global> for ComChangeUser<'de> {
           ),
         ) input) };
 
+    // A call: few connections have one, and what reads packets of any kind stays small.
+    #[inline(never)]
     fn deserialize(
         alloc: Global,
         capabilities: CapabilityFlags,

@@ -71,6 +71,8 @@ impl<'de> MyDeserialize<'de, Global> for ComRegisterSlave<'de> {
         (⟦<Fields<'de> as MyDeserialize<'de, Global>>⟧.reads
         ((tt, tt), ((tt, (tt, tt)), (tt, (tt, tt)))) input) };
 
+    // A call: few connections have one, and what reads packets of any kind stays small.
+    #[inline(never)]
     fn deserialize(alloc: Global, _: (), buf: &mut ParseBuf<'de>) -> Result<Self, WireError> {
         let ctx = (((), ()), (((), ((), ())), ((), ((), ()))));
         match Fields::deserialize(alloc, ctx, buf) {
