@@ -1,4 +1,5 @@
 pub mod ValueLemmas
+pub mod GivenLemmas
 pub mod PacketLemmas
 pub mod ShortLemmas
 pub mod RowEndLemmas

@@ -1,3 +1,4 @@
 pub mod ColumnLemmas
 pub mod RowLemmas
+pub mod SkipLemmas
 pub mod TextReads

@@ -138,12 +138,12 @@ failed_each (value ∷ others) (suc count) old left error gone
     (taken + after, inr (inr (value, taken, after, Err error, fits, first, others_read, refl, refl)))
 
 -- what is left after a value of this many bytes
-abbrev behind_value : TextValues → ℕ → TextValues
+abbrev pub behind_value : TextValues → ℕ → TextValues
 behind_value old taken =
     record old { rest = record old.rest { 0 = record old.rest.0 { now = drop taken old.rest.0.now } } }
 
 -- a value that is read comes next
-step_read : (old : TextValues) → old.has_refused ≡ false → (value : TextValue) (taken : ℕ)
+pub step_read : (old : TextValues) → old.has_refused ≡ false → (value : TextValue) (taken : ℕ)
     → taken ≤ length old.rest.0.now → ReadsTextValue old.rest.0.now (Ok value) taken
     → GivesValue old (Some (Ok value)) (behind_value old taken)
 step_read old begun value taken fits read =

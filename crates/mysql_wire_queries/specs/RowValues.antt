@@ -53,3 +53,21 @@ abbrev pub RefusesAs : TextValues → WireError → Type 0
 RefusesAs values error = ((values.rest.0.now ≡ []) × (error ≡ UnexpectedEof))
     ⊎ ((fault : TextFault) × (new : TextValues) × GivesValue values (Some (Err fault)) new
     × (error ≡ error_of fault))
+
+-- as many values were passed over, and these bytes are left
+pub record PassesTo (old : TextValues) (count : ℕ) (bytes : List ℕ) : Type 0 where
+  pub values : List TextValue
+  pub counted : length values ≡ count
+  pub left : TextValues
+  pub given : GivesAll old values left
+  pub left_is : left.rest.0.now ≡ bytes
+  pub goes : left.has_refused ≡ old.has_refused
+
+-- the same of what gave them
+abbrev pub Passes : TextValues → ℕ → TextValues → Type 0
+Passes old count new = PassesTo old count new.rest.0.now × (new.has_refused ≡ old.has_refused)
+
+-- no value comes next: the bytes end, one was refused, or the next one is
+abbrev pub NoneFollows : TextValues → Type 0
+NoneFollows values = IsDone values
+    ⊎ ((fault : TextFault) × ((new : TextValues) × GivesValue values (Some (Err fault)) new))

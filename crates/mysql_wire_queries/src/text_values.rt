@@ -1,11 +1,11 @@
 //! The values of a row, one by one, where they lie.
 
-ghost use Rattle.std.specs.Prelude.{ℕ, ◌≡◌, ◌<◌, ◌⊎◌, List, length, drop, false, Ok, Err};
+ghost use Rattle.std.specs.Prelude.{ℕ, ◌≡◌, ◌<◌, ◌≤◌, ◌⊎◌, List, length, drop, false, IfSome, Ok, Err};
 ghost use Rattle.std.specs.Cow.{cow_slice_items};
 ghost use Rattle.wire_buf.specs.declared.error.WireError.{WireError};
 ghost use Rattle.wire_buf.specs.declared.error.WireError.TheVariants.{OutOfMemory};
 ghost use Rattle.wire_repr.specs.Texts.{IsOwned};
-ghost use Rattle.mysql_wire_queries.specs.RowValues.{values_left, GivesAll, GivesValue, RefusesAs};
+ghost use Rattle.mysql_wire_queries.specs.RowValues.{values_left, GivesAll, GivesValue, NoneFollows, Passes, PassesTo, RefusesAs};
 ghost use Rattle.mysql_wire_queries.specs.declared.text_row.TextRow.{TextRow};
 ghost use Rattle.mysql_wire_queries.specs.declared.text_row.TextValue.{TextValue};
 ghost use Rattle.mysql_wire_queries.specs.declared.text_values.TextValues.{TextValues};
@@ -13,7 +13,34 @@ ghost use Rattle.mysql_wire_queries.specs.declared.text_values.TextValues.{TextV
 use crate::text_row::{TextFault, TextRow, TextValue, read_value};
 use std::alloc::Global;
 use wire_buf::io::ParseBuf;
+use wire_buf::lengths::MAX_PAYLOAD_LEN;
 use wire_buf::proto::MyDeserialize;
+
+// The longest text whose length is one byte.
+const LONGEST: usize = 250;
+
+// Where the values in front end, as many as are asked for, if each is NULL or a text whose length is
+// one byte.
+fn end_of_short(bytes: &[u8], count: u64) -> Option<usize>
+    ensures { IfSome result (λ end. (end ≤ length bytes.now)
+        × ((values : TextValues) → values.rest.0.now ≡ bytes.now → values.has_refused ≡ false
+        → PassesTo values count (drop end bytes.now))) }
+{
+    if bytes.len() >= MAX_PAYLOAD_LEN {
+        return None;
+    }
+    let mut at = 0;
+    'values: for _ in 0..count {
+        let first = *bytes.get(at)?;
+        at += 1;
+        if first as usize <= LONGEST {
+            at += first as usize;
+        } else if first != 0xfb {
+            return None;
+        }
+    }
+    if at <= bytes.len() { Some(at) } else { None }
+}
 
 /// The values of a row of texts, read from its payload one by one. They take no memory, and borrow
 /// from the payload. None comes after the last byte, nor after a refusal. A row has as many as it
@@ -36,6 +63,39 @@ impl<'a> TextValues<'a> {
             rest: ParseBuf(payload),
             has_refused: false,
         }
+    }
+
+    /// Passes over `count` values, or over those before the end or a refusal, which `next` gives
+    /// then. The answer is how many.
+    pub fn skip_values(&mut self, count: u64) -> u64
+        ensures most { result ≤ count }
+        ensures passed { Passes self.old result self.new }
+        ensures stops { result < count → NoneFollows self.new }
+    {
+        match end_of_short(self.rest.0, count) {
+            Some(end) if !self.has_refused => {
+                self.rest = ParseBuf(&self.rest.0[end..]);
+                count
+            }
+            _ => self.skip_each(count),
+        }
+    }
+
+    // The same, one by one.
+    #[inline(never)]
+    fn skip_each(&mut self, count: u64) -> u64
+        ensures most { result ≤ count }
+        ensures passed { Passes self.old result self.new }
+        ensures stops { result < count → NoneFollows self.new }
+    {
+        'values: for passed in 0..count {
+            let mut rest = *self;
+            match rest.next() {
+                Some(Ok(_)) => *self = rest,
+                _ => return passed,
+            }
+        }
+        count
     }
 
     /// The bytes that are not read: after the last value, none. After a refusal they begin with

@@ -150,7 +150,7 @@ pub fn write_row<A: Allocator + Copy, W: Write>(
 {
     match row {
         Row::Text { columns, values } => {
-            let refusal = write_text_row(global, fields, *columns, values, output)?;
+            let refusal = write_text_row(fields, *columns, values, output)?;
             Ok(row_kind(kind, refusal))
         }
         _ => show_row(global, fields, types, kind, row),

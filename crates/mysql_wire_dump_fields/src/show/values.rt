@@ -7,12 +7,15 @@ ghost use Rattle.wire_text.specs.Fields.{Puts, Word, Written, member_form};
 ghost use Rattle.mysql_wire_dump_fields.specs.RowEnds.{IsBehind, IsEndOf};
 ghost use Rattle.mysql_wire_dump_fields.specs.TemporalTexts.{date_text, time_text};
 ghost use Rattle.mysql_wire_dump_fields.specs.ValueFields.{IsTypeOf, row_bytes_fields, PutsColumn, PutsFloat, PutsRow, PutsShown, PutsText, PutsTexts, PutsValues, TextsSoFar};
+ghost use Rattle.mysql_wire_queries.specs.RowValues.{error_of};
+ghost use Rattle.mysql_wire_session_phases.specs.Refusals.{refusal_of_wire};
 ghost use Rattle.mysql_wire_session_phases.specs.declared.refusal.Refusal.TheVariants.{TrailingBytes};
 
 use super::Show;
 use super::row_end::RowEnd;
 use crate::temporal::{DateWord, TimeWord};
-use mysql_wire_queries::text_row::TextValue;
+use mysql_wire_queries::text_row::{TextFault, TextValue};
+use mysql_wire_queries::text_values::TextValues;
 use mysql_wire_session_phases::refusal::{Refusal, SessionError};
 use mysql_wire_statements::binary_row::BinaryRow;
 use mysql_wire_statements::binary_value::BinaryValue;
@@ -22,15 +25,21 @@ use std::alloc::{AllocError, Allocator, Global};
 use std::num::{f32_from_bits_with_nan, f64_from_bits_with_nan};
 use wire_buf::error::WireError;
 use wire_buf::io::ParseBuf;
-use wire_buf::lengths::MAX_PAYLOAD_LEN;
 use wire_const::ColumnType;
 use wire_text::fields::{Field, FieldValue, Fields, MemberForm};
 
 // The longest text whose length is one byte.
 const LONGEST: usize = 250;
 
-// What stands for NULL.
-const NULL: u8 = 0xfb;
+// Why a text of a row is none.
+pub(crate) fn refusal_of(fault: TextFault) -> Refusal
+    ensures { refusal_of_wire (error_of fault) ≡ Ok result }
+{
+    match fault {
+        TextFault::UnexpectedEof => Refusal::UnexpectedEnd,
+        TextFault::InvalidLength => Refusal::InvalidNumber,
+    }
+}
 
 // Reads the text of a column, and puts it, where none is shown, or it is short and others follow: whether
 // it has.
@@ -88,101 +97,9 @@ fn put_last<A: Allocator + Copy>(
     Ok(true)
 }
 
-// The same of any text whose length is one byte.
-#[inline(always)]
-fn put_known<A: Allocator + Copy>(
-    fields: &mut Fields<A>,
-    place: u64,
-    rest: &mut ParseBuf<'_>,
-) -> Result<bool, SessionError>
-    ensures put { result ≡ Ok true
-        → PutsText place rest.old.0.now rest.new.0.now None fields.old fields.new }
-    ensures not { result ≡ Ok false
-        → (fields.new ≡ fields.old) × (rest.new.0.now ≡ rest.old.0.now) }
-{
-    let Some((len, after)) = rest.0.split_first() else {
-        return Ok(false);
-    };
-    let len = *len as usize;
-    if len > LONGEST || len > after.len() {
-        return Ok(false);
-    }
-    fields.put_at(place, FieldValue::Text(&after[..len]))?;
-    rest.0 = &after[len..];
-    Ok(true)
-}
-
-// The same of NULL.
-#[inline(always)]
-fn put_null<A: Allocator + Copy>(
-    fields: &mut Fields<A>,
-    place: u64,
-    rest: &mut ParseBuf<'_>,
-) -> Result<bool, SessionError>
-    ensures put { result ≡ Ok true
-        → PutsText place rest.old.0.now rest.new.0.now None fields.old fields.new }
-    ensures not { result ≡ Ok false
-        → (fields.new ≡ fields.old) × (rest.new.0.now ≡ rest.old.0.now) }
-{
-    let Some((mark, behind)) = rest.0.split_first() else {
-        return Ok(false);
-    };
-    if *mark != NULL {
-        return Ok(false);
-    }
-    fields.put_at(place, FieldValue::Null)?;
-    rest.0 = behind;
-    Ok(true)
-}
-
-// The same of either.
-#[inline(always)]
-fn put_usual<A: Allocator + Copy>(
-    fields: &mut Fields<A>,
-    place: u64,
-    rest: &mut ParseBuf<'_>,
-) -> Result<bool, SessionError>
-    ensures put { result ≡ Ok true
-        → PutsText place rest.old.0.now rest.new.0.now None fields.old fields.new }
-    ensures not { result ≡ Ok false
-        → (fields.new ≡ fields.old) × (rest.new.0.now ≡ rest.old.0.now) }
-{
-    if put_known(fields, place, rest)? {
-        return Ok(true);
-    }
-    put_null(fields, place, rest)
-}
-
-// Reads the text of a column, and puts it. The answer is why it is none.
-#[cold]
-#[inline(never)]
-fn put_any<A: Allocator + Copy>(
-    global: Global,
-    fields: &mut Fields<A>,
-    place: u64,
-    rest: &mut ParseBuf<'_>,
-) -> Result<Option<Refusal>, SessionError>
-    ensures { IfOk result (λ refusal. PutsText place rest.old.0.now rest.new.0.now refusal
-        fields.old fields.new) }
-{
-    match rest.parse::<TextValue<'_>>(global, ()) {
-        Ok(TextValue::Null) => {
-            fields.put_at(place, FieldValue::Null)?;
-            Ok(None)
-        }
-        Ok(TextValue::Text(text)) => {
-            fields.put_at(place, FieldValue::Text(text))?;
-            Ok(None)
-        }
-        Err(error) => Ok(Some(Refusal::of_wire(error)?)),
-    }
-}
-
-// The same, where it is no short text. What is left is read from a copy, so that a loop need not keep it
-// in memory.
+// Reads the text of a column where it lies, and puts it. The answer is why it is none.
 #[inline(always)]
 fn put_other<A: Allocator + Copy>(
-    global: Global,
     fields: &mut Fields<A>,
     place: u64,
     rest: &mut ParseBuf<'_>,
@@ -190,19 +107,20 @@ fn put_other<A: Allocator + Copy>(
     ensures { IfOk result (λ refusal. PutsText place rest.old.0.now rest.new.0.now refusal
         fields.old fields.new) }
 {
-    if put_usual(fields, place, rest)? {
-        return Ok(None);
+    let mut values = TextValues::new(rest.0);
+    match values.next() {
+        Some(Ok(TextValue::Text(text))) => fields.put_at(place, FieldValue::Text(text))?,
+        Some(Ok(TextValue::Null)) => fields.put_at(place, FieldValue::Null)?,
+        Some(Err(fault)) => return Ok(Some(refusal_of(fault))),
+        None => return Ok(Some(Refusal::UnexpectedEnd)),
     }
-    let mut left = ParseBuf(rest.0);
-    let refusal = put_any(global, fields, place, &mut left)?;
-    rest.0 = left.0;
-    Ok(refusal)
+    rest.0 = values.rest();
+    Ok(None)
 }
 
 // The same: a short one at once.
 #[inline(always)]
 fn put_text<A: Allocator + Copy>(
-    global: Global,
     fields: &mut Fields<A>,
     form: Option<MemberForm>,
     place: u64,
@@ -215,12 +133,11 @@ fn put_text<A: Allocator + Copy>(
     if put_short(fields, form, place, rest)? {
         return Ok(None);
     }
-    put_other(global, fields, place, rest)
+    put_other(fields, place, rest)
 }
 
 // The same of one of a row's last texts.
 fn put_last_text<A: Allocator + Copy>(
-    global: Global,
     fields: &mut Fields<A>,
     form: Option<MemberForm>,
     place: u64,
@@ -235,7 +152,7 @@ fn put_last_text<A: Allocator + Copy>(
     if put_last(fields, form, place, rest, end)? {
         return Ok(None);
     }
-    put_other(global, fields, place, rest)
+    put_other(fields, place, rest)
 }
 
 // Why a row is none, of which all values were read and this is left.
@@ -253,7 +170,6 @@ fn left_over(rest: &ParseBuf<'_>) -> Option<Refusal>
 // Reads the last values of a row, those from this place on, and puts each. The answer is why it is none.
 #[inline(never)]
 fn put_end<A: Allocator + Copy>(
-    global: Global,
     fields: &mut Fields<A>,
     form: Option<MemberForm>,
     places: (u64, u64),
@@ -270,7 +186,7 @@ fn put_end<A: Allocator + Copy>(
     end.take(payload);
     let mut rest = ParseBuf(left);
     'values: for place in places.0..places.1 {
-        match put_last_text(global, fields, form, place, &mut rest, &end)? {
+        match put_last_text(fields, form, place, &mut rest, &end)? {
             None => {}
             Some(refusal) => return Ok(Some(refusal)),
         }
@@ -283,7 +199,6 @@ fn put_end<A: Allocator + Copy>(
 // asks how many bytes follow.
 #[inline(always)]
 fn put_texts_in<A: Allocator + Copy>(
-    global: Global,
     fields: &mut Fields<A>,
     form: Option<MemberForm>,
     columns: u64,
@@ -296,9 +211,9 @@ fn put_texts_in<A: Allocator + Copy>(
     let mut rest = ParseBuf(payload);
     'values: for place in 0..columns {
         if form.is_some() && rest.0.len() <= 32 {
-            return put_end(global, fields, form, (place, columns), rest.0, payload);
+            return put_end(fields, form, (place, columns), rest.0, payload);
         }
-        match put_text(global, fields, form, place, &mut rest)? {
+        match put_text(fields, form, place, &mut rest)? {
             None => {}
             Some(refusal) => return Ok(Some(refusal)),
         }
@@ -308,7 +223,6 @@ fn put_texts_in<A: Allocator + Copy>(
 
 // The same. Each form has code of its own, in which no text asks for it.
 fn put_texts<A: Allocator + Copy>(
-    global: Global,
     fields: &mut Fields<A>,
     columns: u64,
     payload: &[u8],
@@ -317,19 +231,14 @@ fn put_texts<A: Allocator + Copy>(
         fields.old fields.new) }
 {
     match fields.shown_form() {
-        None => put_texts_in(global, fields, None, columns, payload),
-        Some(MemberForm::Text) => {
-            put_texts_in(global, fields, Some(MemberForm::Text), columns, payload)
-        }
-        Some(MemberForm::Json) => {
-            put_texts_in(global, fields, Some(MemberForm::Json), columns, payload)
-        }
+        None => put_texts_in(fields, None, columns, payload),
+        Some(MemberForm::Text) => { put_texts_in(fields, Some(MemberForm::Text), columns, payload) }
+        Some(MemberForm::Json) => { put_texts_in(fields, Some(MemberForm::Json), columns, payload) }
     }
 }
 
 // The same, of any row.
 fn any_row<A: Allocator + Copy>(
-    global: Global,
     fields: &mut Fields<A>,
     columns: u64,
     payload: &[u8],
@@ -337,38 +246,23 @@ fn any_row<A: Allocator + Copy>(
     ensures { IfOk result (λ refusal. PutsTexts columns payload.now refusal
         fields.old fields.new) }
 {
-    put_texts(global, fields, columns, payload)
+    put_texts(fields, columns, payload)
 }
 
-// Whether a row of one chunk has just this many values, each NULL or a text whose length is one byte:
-// where fields are hidden, nothing is put of it.
+// Whether a row has just this many values: where fields are hidden, nothing is put of it.
 #[inline(never)]
-fn is_short_row(columns: u64, payload: &[u8]) -> bool
+fn is_row(columns: u64, payload: &[u8]) -> bool
     ensures { result ≡ true → (fields : Written) → member_form fields.form ≡ None
         → PutsTexts columns payload.now None fields fields }
 {
-    if payload.len() >= MAX_PAYLOAD_LEN {
-        return false;
-    }
-    let mut at = 0;
-    'texts: for place in 0..columns {
-        let Some(first) = payload.get(at) else {
-            return false;
-        };
-        at += 1;
-        if *first as usize <= LONGEST {
-            at += *first as usize;
-        } else if *first != 0xfb {
-            return false;
-        }
-    }
-    at == payload.len()
+    let mut values = TextValues::new(payload);
+    values.skip_values(columns) == columns && values.rest().is_empty()
 }
 
 /// Reads a row of this many columns, value by value, and puts each. The answer is why it is none.
 #[inline(always)]
 pub fn text_row<A: Allocator + Copy>(
-    global: Global,
+    _: Global,
     fields: &mut Fields<A>,
     columns: u64,
     payload: &[u8],
@@ -376,10 +270,10 @@ pub fn text_row<A: Allocator + Copy>(
     ensures { IfOk result (λ refusal. PutsTexts columns payload.now refusal
         fields.old fields.new) }
 {
-    if fields.shown_form().is_none() && is_short_row(columns, payload) {
+    if fields.shown_form().is_none() && is_row(columns, payload) {
         return Ok(None);
     }
-    any_row(global, fields, columns, payload)
+    any_row(fields, columns, payload)
 }
 
 // Puts a number of these bits.
