@@ -53,7 +53,6 @@ fn write_digits<A: Allocator, W: Write>(
 }
 
 // What stands between the count and the digits: where there are none, a dash does in their place.
-#[inline(always)]
 fn push_separator<A: Allocator>(text: &mut Vec<u8, A>, payload: &[u8]) -> Result<(), AllocError>
     ensures { OnOk result (text.new.items ++ encode_lower payload.now
         ≡ text.old.items ++ (codes " " ++ hex_or_dash payload.now)) }

@@ -127,8 +127,6 @@ impl<W: Write, A: Allocator + Copy> Sender<W, A> {
     }
 
     /// Writes what is pending, but for what is held back.
-    // No call: each packet asks for it.
-    #[inline(always)]
     pub fn send(&mut self, is_held_back: bool) -> Result<(), Stop>
         ensures sent { OnOk result (Sends (W.contents self.old.chunks.writer)
             (W.contents self.new.chunks.writer) self.old.pending.items self.new.pending.items) }
@@ -142,7 +140,6 @@ impl<W: Write, A: Allocator + Copy> Sender<W, A> {
     }
 
     // Frames a packet after what is pending, which is written where memory is refused.
-    #[inline(always)]
     fn queue(&mut self, encoder: &mut PacketCodec, packet: &[u8]) -> Result<(), Stop>
         requires fits { length packet.now ≤ encoder.old.max_allowed_packet }
         ensures queued { OnOk result (self.new.pending.items

@@ -117,7 +117,6 @@ fn push_kind<A: Allocator>(
 }
 
 // The letters of who sent a packet.
-#[inline(always)]
 fn letters_of(side: Side) -> [u8; 6]
     ensures name { result ≡ side_name side }
     ensures letters { AreLetters result }
@@ -159,7 +158,6 @@ fn push_sender<A: Allocator>(text: &mut String<A>, side: Side, id: u8) -> Result
 }
 
 // A server's row, whose length has two digits, in one append.
-#[inline(always)]
 fn push_row_of_tens<A: Allocator>(text: &mut String<A>, id: u8, len: u64) -> Result<(), AllocError>
     requires { (10 ≤ len) × (len < 100) }
     ensures { OnOk result (string_bytes text.new ≡ string_bytes text.old
@@ -189,7 +187,6 @@ fn push_row_of_tens<A: Allocator>(text: &mut String<A>, id: u8, len: u64) -> Res
 }
 
 // The same of one whose length has three.
-#[inline(always)]
 fn push_row_of_hundreds<A: Allocator>(
     text: &mut String<A>,
     id: u8,
@@ -240,7 +237,6 @@ fn push_short_number<A: Allocator>(text: &mut String<A>, number: u64) -> Result<
 }
 
 // The front of a packet's object: who sent it.
-#[inline(always)]
 fn object_front(side: Side) -> &'static str
     ensures { result.now ≡ codes "{\"from\":\"" ++ side_name side ++ codes "\",\"id\":" }
 {
@@ -251,7 +247,6 @@ fn object_front(side: Side) -> &'static str
 }
 
 // What a packet is, as a member: of a row, as of most, in one append.
-#[inline(always)]
 fn push_kind_member<A: Allocator>(text: &mut String<A>, kind: PacketKind) -> Result<(), AllocError>
     ensures { OnOk result (string_bytes text.new ≡ string_bytes text.old
         ++ (codes ",\"packet\":\"" ++ kind_name kind ++ codes "\"")) }
@@ -312,7 +307,6 @@ fn push_any_head<A: Allocator + Copy>(
 }
 
 /// Appends the line of a packet as far as its fields.
-#[inline(always)]
 pub fn push_head<A: Allocator + Copy>(
     text: &mut String<A>,
     form: LineForm,
@@ -342,7 +336,6 @@ pub fn push_head<A: Allocator + Copy>(
 }
 
 /// Appends the end of a packet's line.
-#[inline(always)]
 pub fn push_end<A: Allocator + Copy>(text: &mut String<A>, form: LineForm) -> Result<(), AllocError>
     ensures { OnOk result (string_bytes text.new ≡ string_bytes text.old ++ line_end form) }
 {

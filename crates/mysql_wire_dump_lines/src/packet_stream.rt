@@ -163,7 +163,6 @@ fn take_span<A: Allocator + Copy>(
 }
 
 // The payload of the chunk in front, which has this many bytes.
-#[inline(always)]
 fn front_payload(src: &[u8], chunk: usize) -> &[u8]
     ensures { result.now ≡ drop 4 (take chunk src.now) }
 {
@@ -307,7 +306,6 @@ impl<A: Allocator + Copy> PacketStream<A> {
     }
 
     // Lends a packet that lies whole in what was read, in one chunk.
-    #[inline(always)]
     fn lend_whole(&mut self, header: Header)
         requires { LiesWhole header self.old.src.items }
         ensures found { (known : Option (List ℕ)) → IsIdle self.old
@@ -322,7 +320,6 @@ impl<A: Allocator + Copy> PacketStream<A> {
     }
 
     // The header of a packet that lies whole in what was read, in one chunk.
-    #[inline(always)]
     fn whole_header(&self) -> Option<Header>
         ensures { IfSome result (λ header. LiesWhole header self.now.src.items) }
     {
@@ -360,7 +357,6 @@ impl<A: Allocator + Copy> PacketStream<A> {
     }
 
     // Looks for the next packet.
-    #[inline(always)]
     fn find<R: Read>(&mut self, input: &mut R) -> Result<Next, Stop>
         ensures found { IfOk result (λ next. IsIdle self.old → Found next self.old self.new
             (R.remaining input.old) (R.remaining input.new)) }
@@ -379,7 +375,6 @@ impl<A: Allocator + Copy> PacketStream<A> {
     }
 
     /// Looks for the next packet, where it has not been looked for.
-    #[inline(always)]
     pub fn peek<R: Read>(&mut self, input: &mut R) -> Result<(), Stop>
         ensures looks { OnOk result
             (LooksOn (R.remaining input.old) (R.remaining input.new) self.old self.new) }
@@ -398,7 +393,6 @@ impl<A: Allocator + Copy> PacketStream<A> {
     }
 
     // Drops the chunk that is lent, where one is.
-    #[inline(always)]
     fn drop_lent(&mut self)
         ensures unread { self.new.src.items ≡ unread_of self.old }
         ensures none { self.new.lent ≡ None }

@@ -190,7 +190,6 @@ impl<'de, T: Wire<'de, H>, U: Wire<'de, H>, H: Allocator + Copy> Wire<'de, H> fo
 fn drop_refused<A: Drop>(_first: A) {}
 
 // The same of a copy that is made here, so that the first stays in registers where nothing is refused.
-#[inline(always)]
 fn drop_first<A: Drop>(first: A) {
     let moved = first;
     drop_refused(moved);
@@ -207,7 +206,6 @@ pub struct Both<A, B>(pub A, pub B);
 impl<A: MySerialize, B: MySerialize> MySerialize for Both<A, B> {
     ghost bytes = { λ both. A.bytes both.0 ++ B.bytes both.1 };
 
-    #[inline(always)]
     fn serialize<H: Allocator>(&self, buf: &mut Vec<u8, H>) -> Result<(), WireError> {
         let at = buf.len();
         self.0.serialize(buf)?;

@@ -85,7 +85,6 @@ fn make_read_room<A: Allocator + Copy>(src: &mut BytesMut<A>) -> Result<(), Allo
 
 impl<R: Read, A: Allocator + Copy> Input<R, A> {
     // One read of at most this many bytes, for which there is room. The answer is how many came.
-    #[inline(always)]
     fn read_behind(&mut self, most: usize) -> Result<usize, PacketIoError>
         requires some { 0 < most }
         requires room { most ≤ self.old.src.spare }
@@ -213,7 +212,6 @@ impl<R: Read, A: Allocator + Copy> Input<R, A> {
 
     /// Finds a packet that lies whole in one chunk in front of what was read: how many bytes the chunk
     /// has, with its header.
-    #[inline(always)]
     pub(crate) fn find_front(&self, codec: &mut PacketCodec) -> Option<usize>
         requires stands { Stands (input_state codec.old None self.now) }
         requires found { IsFalse self.now.lost }
@@ -258,8 +256,6 @@ impl<R: Read, A: Allocator + Copy> Input<R, A> {
     }
 
     // What the end of the input means here.
-    // No call, for the reason at `read_more`.
-    #[inline(always)]
     fn at_end(&self) -> Result<Option<Found<A>>, PacketIoError>
         ensures ends { EndsAt (answer_over result self.now.src.items) (length self.now.src.items)
             (length self.now.dst.items) }
@@ -334,8 +330,6 @@ impl<R: Read, A: Allocator + Copy> Input<R, A> {
 
 impl<R: Read, A: Allocator + Copy> Input<R, A> {
     // The reader's name for a refusal of the codec. A chunk of another id loses the stream.
-    // No call, for the reason at `read_more`.
-    #[inline(always)]
     fn refuse(&mut self, error: PacketCodecError) -> PacketIoError
         ensures name { IsRefusal error result }
         ensures lost { IsFalse self.old.lost
@@ -412,7 +406,6 @@ impl<R: Read, A: Allocator + Copy> Input<R, A> {
 }
 
 /// The payload of the chunk in front, which has this many bytes. It asks that it has come whole.
-#[inline(always)]
 pub(crate) fn front_payload(src: &[u8], chunk: usize) -> &[u8]
     requires chunk { chunk ≡ 4 + chunk_len src.now }
     requires whole { chunk ≤ length src.now }
@@ -422,7 +415,6 @@ pub(crate) fn front_payload(src: &[u8], chunk: usize) -> &[u8]
 }
 
 /// What follows the chunk in front, in the same way.
-#[inline(always)]
 pub(crate) fn behind_front(src: &[u8], chunk: usize) -> &[u8]
     requires chunk { chunk ≡ 4 + chunk_len src.now }
     requires whole { chunk ≤ length src.now }

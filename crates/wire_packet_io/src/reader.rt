@@ -207,7 +207,6 @@ impl<R: Read, A: Allocator + Copy> PacketReader<R, A> {
 }
 
 // The packet that was put together, of an answer that lends none in front.
-#[inline(always)]
 fn apart<A: Allocator + Copy>(
     found: Result<Option<Found<A>>, PacketIoError>,
 ) -> Result<Option<Vec<u8, A>>, PacketIoError>

@@ -17,7 +17,6 @@ const CONTROL_LETTERS: [u8; 16] = [
 
 // What stands for each of sixteen bytes where JSON quotes it, without its backslash: a byte itself
 // where it needs none, and where it has no escape of a letter.
-#[inline(always)]
 pub(crate) fn letters_of(bytes: u8x16) -> u8x16
     ensures are { result ≡ map letter_of bytes }
     ensures escapes { (len : ℕ) → are_letters (take len result) ≡ true → escape (take len bytes)
@@ -28,7 +27,6 @@ pub(crate) fn letters_of(bytes: u8x16) -> u8x16
 }
 
 // A bit for each of sixteen bytes: whether it is a control character.
-#[inline(always)]
 pub(crate) fn control_bits(bytes: u8x16) -> u64
     ensures { result ≡ mask_l (map is_control bytes) }
 {
@@ -36,7 +34,6 @@ pub(crate) fn control_bits(bytes: u8x16) -> u64
 }
 
 // Eight letters, with a backslash before each whose bit is set; some more follow.
-#[inline(always)]
 pub(crate) fn with_backslashes(letters: u8x16, escapes: usize) -> [u8; 16]
     requires { escapes < 256 }
     ensures { (set : List Bool) → length set ≡ 8 → escapes ≡ mask_l set
@@ -50,7 +47,6 @@ pub(crate) fn with_backslashes(letters: u8x16, escapes: usize) -> [u8; 16]
 }
 
 // The last eight of sixteen letters, and some more.
-#[inline(always)]
 pub(crate) fn last_eight(letters: u8x16) -> u8x16
     ensures { take 8 result ≡ drop 8 letters }
 {

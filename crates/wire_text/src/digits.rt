@@ -14,7 +14,6 @@ pub(crate) const DIGITS: [u8; 16] = [
 ];
 
 // The digit of each byte's high four bits.
-#[inline(always)]
 fn high_digits(bytes: u8x16) -> u8x16
     ensures { result ≡ map (λ b. slice_index lower_digits (b / 16)) bytes }
 {
@@ -22,7 +21,6 @@ fn high_digits(bytes: u8x16) -> u8x16
 }
 
 // The digit of each byte's low four bits.
-#[inline(always)]
 fn low_digits(bytes: u8x16) -> u8x16
     ensures { result ≡ map (λ b. slice_index lower_digits (b % 16)) bytes }
 {
@@ -30,7 +28,6 @@ fn low_digits(bytes: u8x16) -> u8x16
 }
 
 // Both digits of each of sixteen bytes, one byte's after the other's.
-#[inline(always)]
 fn digits_of(bytes: &[u8]) -> [u8; 32]
     requires { length bytes.now ≡ 16 }
     ensures { result ≡ encode_lower bytes.now }
@@ -47,7 +44,6 @@ fn digits_of(bytes: &[u8]) -> [u8; 32]
 }
 
 // Fills a place with two parts, one after the other.
-#[inline(always)]
 pub(crate) fn fill(place: &mut [u8], front: &[u8], after: &[u8])
     requires { length front.now + length after.now ≡ length place.old }
     ensures { place.new ≡ front.now ++ after.now }
@@ -81,7 +77,6 @@ fn digits_of_64(bytes: &[u8]) -> [u8; 128]
 }
 
 // Appends the digits of the bytes in front, 64 at a time. The answer is what is left of them.
-#[inline(always)]
 fn push_front_digits<'a, A: Allocator>(
     text: &mut Vec<u8, A>,
     bytes: &'a [u8],

@@ -8,7 +8,6 @@ ghost use Rattle.wire_text.specs.Fields.{all_ascii, in_ascii, needs_escape, need
 use std::simd::prelude::*;
 
 // A bit for each of sixteen bytes: whether it needs an escape.
-#[inline(always)]
 pub(crate) fn escape_bits(block: &[u8]) -> u64
     requires { length block.now ≡ 16 }
     ensures { result ≡ mask_l (map needs_escape block.now) }
@@ -21,7 +20,6 @@ pub(crate) fn escape_bits(block: &[u8]) -> u64
 }
 
 // A bit for each of sixteen bytes: whether it is not of ASCII.
-#[inline(always)]
 fn wide_bits(block: &[u8]) -> u64
     requires { length block.now ≡ 16 }
     ensures { result ≡ mask_l (map over_ascii block.now) }
@@ -32,7 +30,6 @@ fn wide_bits(block: &[u8]) -> u64
 }
 
 // How many of sixteen bytes come before the next that needs an escape, after those that are done.
-#[inline(always)]
 pub(crate) fn run_from(escapes: u64, done: usize) -> usize
     requires { done ≤ 16 }
     ensures { (block : List ℕ) → length block ≡ 16 → escapes ≡ mask_l (map needs_escape block)
@@ -47,7 +44,6 @@ pub(crate) fn run_from(escapes: u64, done: usize) -> usize
 }
 
 // How many of sixteen bytes come before the first that is not of ASCII.
-#[inline(always)]
 fn ascii_in_block(block: &[u8]) -> usize
     requires { length block.now ≡ 16 }
     ensures within { result ≤ 16 }
@@ -62,7 +58,6 @@ fn ascii_in_block(block: &[u8]) -> usize
 }
 
 // The same of 32 bytes.
-#[inline(always)]
 pub(crate) fn ascii_in_front(block: &[u8]) -> usize
     requires { length block.now ≡ 32 }
     ensures { result ≡ prefix_len in_ascii block.now }
@@ -73,7 +68,6 @@ pub(crate) fn ascii_in_front(block: &[u8]) -> usize
 }
 
 // Whether sixteen bytes are of ASCII, and whether none of them needs an escape.
-#[inline(always)]
 fn look_at_block(block: &[u8]) -> (bool, bool)
     requires { length block.now ≡ 16 }
     ensures { (result.0 ≡ all_ascii block.now) × (result.1 ≡ none_needs_escape block.now) }
@@ -82,7 +76,6 @@ fn look_at_block(block: &[u8]) -> (bool, bool)
 }
 
 // The same of fewer bytes, with spaces after them.
-#[inline(always)]
 fn look_at_few(words: &[u8]) -> (bool, bool)
     requires { length words.now ≤ 16 }
     ensures { (result.0 ≡ all_ascii words.now) × (result.1 ≡ none_needs_escape words.now) }
@@ -93,7 +86,6 @@ fn look_at_few(words: &[u8]) -> (bool, bool)
 }
 
 // The same of any bytes; the last sixteen with some of those in front of them.
-#[inline(always)]
 fn look_at(words: &[u8]) -> (bool, bool)
     ensures { (result.0 ≡ all_ascii words.now) × (result.1 ≡ none_needs_escape words.now) }
 {
@@ -114,7 +106,6 @@ fn look_at(words: &[u8]) -> (bool, bool)
 }
 
 // Whether these bytes are of ASCII.
-#[inline(always)]
 pub(crate) fn is_ascii(words: &[u8]) -> bool
     ensures { result ≡ all_ascii words.now }
 {
@@ -123,7 +114,6 @@ pub(crate) fn is_ascii(words: &[u8]) -> bool
 }
 
 // Whether none of these bytes needs an escape.
-#[inline(always)]
 pub(crate) fn none_needs_escape(words: &[u8]) -> bool
     ensures { result ≡ none_needs_escape words.now }
 {
@@ -132,7 +122,6 @@ pub(crate) fn none_needs_escape(words: &[u8]) -> bool
 }
 
 // Whether 32 bytes are of ASCII.
-#[inline(always)]
 fn are_both_ascii(block: &[u8]) -> bool
     requires { length block.now ≡ 32 }
     ensures { result ≡ all_ascii block.now }
@@ -141,7 +130,6 @@ fn are_both_ascii(block: &[u8]) -> bool
 }
 
 // Whether these are 32 to 64 bytes, all of them of ASCII: the first 32, and the last.
-#[inline(always)]
 pub(crate) fn is_longer_ascii(words: &[u8]) -> bool
     ensures { result ≡ true → (32 ≤ length words.now) × (length words.now ≤ 64)
         × (all_ascii words.now ≡ true) }

@@ -28,7 +28,6 @@ pub enum FieldForm {
 
 impl FieldForm {
     // How members are shown, where they are.
-    #[inline(always)]
     fn members(self) -> Option<MemberForm>
         ensures { result ≡ member_form self }
     {
@@ -119,7 +118,6 @@ impl<A: Allocator + Copy> Fields<A> {
     }
 
     /// How fields are shown, where they are.
-    #[inline(always)]
     pub fn shown_form(&self) -> Option<MemberForm>
         ensures { result ≡ member_form self.now.form }
     {
@@ -175,7 +173,6 @@ impl<A: Allocator + Copy> Fields<A> {
     }
 
     // Puts the text that these bytes begin with, of this many bytes: whether as many are there.
-    #[inline(always)]
     fn put_longer_in(
         &mut self,
         form: MemberForm,

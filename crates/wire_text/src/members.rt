@@ -246,7 +246,6 @@ fn push_pair_name<A: Allocator>(text: &mut String<A>, name: &str) -> Result<(), 
 }
 
 // The digits of a place, as its name.
-#[inline(always)]
 fn name_of(digits: &[u8]) -> &str
     requires { IsUtf8 digits.now }
     ensures { result.now ≡ digits.now }
@@ -315,7 +314,6 @@ pub(crate) fn push_name_at<A: Allocator>(
 }
 
 // Fills a place with letters, and 32 bytes after them.
-#[inline(always)]
 fn fill_with(place: &mut [u8], letters: &[u8], bytes: u8x32)
     requires { length letters.now + 32 ≡ length place.old }
     ensures { place.new ≡ letters.now ++ bytes }
@@ -483,7 +481,6 @@ fn push_quote_far<A: Allocator>(text: &mut String<A>) -> Result<(), AllocError>
 }
 
 // A quote. (A call that asks for memory would need registers saved: this one is the last.)
-#[inline(always)]
 fn push_quote<A: Allocator>(text: &mut String<A>) -> Result<(), AllocError>
     ensures { OnOk result (string_bytes text.new ≡ string_bytes text.old ++ codes "\"") }
 {
@@ -771,7 +768,6 @@ fn push_text_behind<A: Allocator + Copy>(
 }
 
 // Fills a place with 32 bytes, and a quote after them.
-#[inline(always)]
 fn fill_to_quote(place: &mut [u8], bytes: u8x32)
     requires { length place.old ≡ 33 }
     ensures { place.new ≡ bytes ++ 34 ∷ [] }
@@ -793,7 +789,6 @@ fn push_end_far<A: Allocator>(text: &mut String<A>, bytes: &[u8]) -> Result<(), 
 }
 
 // The last 32 bytes of a text of plain letters, and the quote after them.
-#[inline(always)]
 fn push_end<A: Allocator>(text: &mut String<A>, bytes: &[u8]) -> Result<(), AllocError>
     requires long { length bytes.now ≡ 32 }
     requires plain { IsTrue (all_plain bytes.now) }
@@ -1113,7 +1108,6 @@ fn push_value_at<A: Allocator + Copy>(
 }
 
 // The same. Which value it is, a caller mostly knows.
-#[inline(always)]
 pub(crate) fn push_member_at<A: Allocator + Copy>(
     text: &mut String<A>,
     form: MemberForm,

@@ -139,7 +139,6 @@ const PLACES: [u8; 4096] = [
 ];
 
 // The places of a set.
-#[inline(always)]
 pub(crate) fn places_of(escapes: usize) -> u8x16
     requires { escapes < 256 }
     ensures { result ≡ row_of escapes }

@@ -9,7 +9,6 @@ use crate::digits::fill;
 use std::simd::prelude::*;
 
 // Whether a byte needs no escape.
-#[inline(always)]
 fn needs_no_escape(byte: u8) -> bool
     ensures { result ≡ needs_no_escape byte }
 {
@@ -17,7 +16,6 @@ fn needs_no_escape(byte: u8) -> bool
 }
 
 // Whether these bytes are of ASCII, and none needs an escape.
-#[inline(always)]
 fn all_plain(words: &[u8]) -> bool
     ensures { result ≡ all_plain words.now }
 {
@@ -30,7 +28,6 @@ fn all_plain(words: &[u8]) -> bool
 
 // Which of sixteen bytes are not plain, a bit for each. One comparison tells the control characters and
 // those not of ASCII: with the highest bit turned these are the lowest.
-#[inline(always)]
 fn others_in(bytes: u8x16) -> u64
     ensures { result ≡ others_mask bytes }
 {
@@ -41,7 +38,6 @@ fn others_in(bytes: u8x16) -> u64
 }
 
 // The same of a slice.
-#[inline(always)]
 fn others_of(block: &[u8]) -> u64
     requires { length block.now ≡ 16 }
     ensures { result ≡ others_mask block.now }
@@ -50,7 +46,6 @@ fn others_of(block: &[u8]) -> u64
 }
 
 // The same of sixteen bytes at once.
-#[inline(always)]
 fn is_plain_block(block: &[u8]) -> bool
     requires { length block.now ≡ 16 }
     ensures { result ≡ all_plain block.now }
@@ -59,7 +54,6 @@ fn is_plain_block(block: &[u8]) -> bool
 }
 
 // Which of 32 bytes are not plain, a bit for each.
-#[inline(always)]
 fn others_of_both(block: &[u8]) -> u64
     requires { length block.now ≡ 32 }
     ensures { result ≡ others_mask block.now }
@@ -68,7 +62,6 @@ fn others_of_both(block: &[u8]) -> u64
 }
 
 /// How many of 32 bytes stand before one that is not plain. No branch asks how many there are.
-#[inline(always)]
 pub(crate) fn plain_in_front(block: &[u8]) -> usize
     requires { length block.now ≡ 32 }
     ensures within { result ≤ 32 }
@@ -83,7 +76,6 @@ pub(crate) fn plain_in_front(block: &[u8]) -> usize
 }
 
 // The same of fewer bytes: of eight and more, and of four and more, the first and the last.
-#[inline(always)]
 fn is_short_plain(words: &[u8]) -> bool
     requires { length words.now ≤ 16 }
     ensures { result ≡ all_plain words.now }
@@ -104,7 +96,6 @@ fn is_short_plain(words: &[u8]) -> bool
 }
 
 // The same, sixteen bytes at once; the last sixteen with some of those in front of them.
-#[inline(always)]
 pub(crate) fn is_plain(words: &[u8]) -> bool
     ensures { result ≡ all_plain words.now }
 {
@@ -122,7 +113,6 @@ pub(crate) fn is_plain(words: &[u8]) -> bool
 }
 
 // Whether 32 bytes are plain.
-#[inline(always)]
 fn are_both_plain(block: &[u8]) -> bool
     requires { length block.now ≡ 32 }
     ensures { result ≡ all_plain block.now }
@@ -132,7 +122,6 @@ fn are_both_plain(block: &[u8]) -> bool
 
 // Whether these are 32 to 64 bytes, all of them plain: the first 32, and the last. No branch asks how many
 // there are.
-#[inline(always)]
 pub(crate) fn is_longer_plain(words: &[u8]) -> bool
     ensures { result ≡ true → (32 ≤ length words.now) × (length words.now ≤ 64)
         × (all_plain words.now ≡ true) }
@@ -145,7 +134,6 @@ pub(crate) fn is_longer_plain(words: &[u8]) -> bool
 }
 
 // Of 32 bytes those of ASCII as they are, and of the others the low seven bits.
-#[inline(always)]
 pub(crate) fn below_128(block: &[u8]) -> u8x32
     requires { length block.now ≡ 32 }
     ensures front { (len : ℕ) → all_plain (take len block.now) ≡ true

@@ -44,7 +44,6 @@ fn push_large_number<A: Allocator>(text: &mut String<A>, number: u64) -> Result<
 }
 
 // The letter of a digit.
-#[inline(always)]
 fn letter_of(digit: u64) -> u8
     requires { digit < 10 }
     ensures { result ≡ 48 + digit }
@@ -53,7 +52,6 @@ fn letter_of(digit: u64) -> u8
 }
 
 // A number of one digit.
-#[inline(always)]
 pub(crate) fn one_digit(number: u64) -> [u8; 1]
     requires { number < 10 }
     ensures is { result ≡ decimal number }
@@ -63,7 +61,6 @@ pub(crate) fn one_digit(number: u64) -> [u8; 1]
 }
 
 // A number of two digits.
-#[inline(always)]
 pub(crate) fn two_digits(number: u64) -> [u8; 2]
     requires { (10 ≤ number) × (number < 100) }
     ensures is { result ≡ decimal number }
@@ -73,7 +70,6 @@ pub(crate) fn two_digits(number: u64) -> [u8; 2]
 }
 
 /// Appends a few letters of ASCII at once.
-#[inline(always)]
 pub fn push_letters<A: Allocator>(text: &mut String<A>, letters: &[u8]) -> Result<(), AllocError>
     requires { AreLetters letters.now }
     ensures { OnOk result (string_bytes text.new ≡ string_bytes text.old ++ letters.now) }
@@ -100,7 +96,6 @@ pub fn push_number<A: Allocator>(text: &mut String<A>, number: u64) -> Result<()
 }
 
 // Appends a few bytes at once.
-#[inline(always)]
 pub(crate) fn push_few<A: Allocator>(text: &mut String<A>, bytes: &[u8]) -> Result<(), AllocError>
     requires { IsUtf8 bytes.now }
     ensures { OnOk result (string_bytes text.new ≡ string_bytes text.old ++ bytes.now) }

@@ -40,7 +40,6 @@ const ESCAPE_LETTERS: [u8; 256] = [
     0, 0, 0,
 ];
 
-#[inline(always)]
 fn escape_letter_of(byte: u8) -> u8
     ensures { result ≡ escape_mark byte }
 {
@@ -48,7 +47,6 @@ fn escape_letter_of(byte: u8) -> u8
 }
 
 // What stands for a byte where JSON quotes it: this many bytes of these.
-#[inline(always)]
 fn escape_of(byte: u8) -> ([u8; 8], usize)
     ensures { (length result.0 ≡ 8) × (result.1 ≤ 6)
         × (take result.1 result.0 ≡ escape_byte byte) }
@@ -66,7 +64,6 @@ fn escape_of(byte: u8) -> ([u8; 8], usize)
 }
 
 // Puts some bytes into the room.
-#[inline(always)]
 fn put_block(room: &mut [u8], at: usize, block: &[u8])
     requires { at + length block.now ≤ length room.old }
     ensures { room.new ≡ take at room.old ++ block.now ++ drop (at + length block.now) room.old }
@@ -75,7 +72,6 @@ fn put_block(room: &mut [u8], at: usize, block: &[u8])
 }
 
 // Puts what stands for a byte into the room. The answer is the place after it.
-#[inline(always)]
 fn put_escaped(room: &mut [u8], at: usize, byte: u8) -> usize
     requires { at + 8 ≤ length room.old }
     ensures { (result ≤ at + 6) × (take result room.new ≡ take at room.old ++ escape_byte byte)
@@ -92,7 +88,6 @@ fn put_escaped(room: &mut [u8], at: usize, byte: u8) -> usize
 
 // Puts eight letters into the room, with a backslash before each whose bit is set. The answer is the
 // place after them.
-#[inline(always)]
 fn put_eight(room: &mut [u8], at: usize, letters: u8x16, escapes: usize) -> usize
     requires bits { escapes < 256 }
     requires room { at + 16 ≤ length room.old }
@@ -106,7 +101,6 @@ fn put_eight(room: &mut [u8], at: usize, letters: u8x16, escapes: usize) -> usiz
 }
 
 // The same of sixteen, but the answer is the place after so many of them.
-#[inline(always)]
 fn put_sixteen(room: &mut [u8], begin: usize, letters: u8x16, escapes: u64, len: usize) -> usize
     requires bits { escapes < 65536 }
     requires within { len ≤ 16 }
@@ -223,7 +217,6 @@ fn escape_few(room: &mut [u8], begin: usize, words: &[u8]) -> usize
 }
 
 // Puts a quote after what stands in the room. The answer is the place after it.
-#[inline(always)]
 fn put_quote(room: &mut [u8], at: usize) -> usize
     requires { at + 1 ≤ length room.old }
     ensures { (result ≡ at + 1) × (take result room.new ≡ take at room.old ++ 34 ∷ []) }
@@ -258,7 +251,6 @@ pub(crate) fn push_few_escaped<A: Allocator>(
 const SHORT_ROOM: usize = 216;
 
 // A text of ASCII that 48 bytes begin with, of which some need escapes.
-#[inline(always)]
 pub(crate) fn push_front_escaped<A: Allocator>(
     text: &mut String<A>,
     source: &[u8],
@@ -278,7 +270,6 @@ pub(crate) fn push_front_escaped<A: Allocator>(
 }
 
 // Puts what stands for 64 bytes, which others follow, into the room. The answer is the place after it.
-#[inline(always)]
 fn escape_parts(room: &mut [u8], source: &[u8]) -> usize
     requires long { length source.now ≡ 80 }
     requires room { 496 ≤ length room.old }
@@ -293,7 +284,6 @@ fn escape_parts(room: &mut [u8], source: &[u8]) -> usize
 }
 
 // The same of the first 64 of some bytes.
-#[inline(always)]
 fn escape_block(room: &mut [u8], bytes: &[u8]) -> usize
     requires long { 64 ≤ length bytes.now }
     requires room { 496 ≤ length room.old }

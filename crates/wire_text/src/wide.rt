@@ -8,7 +8,6 @@ use std::simd::prelude::*;
 
 // A bit for each of sixteen bytes: whether a letter of three bytes begins there. After 0xe0 and
 // 0xed fewer bytes may follow, so they are left out.
-#[inline(always)]
 fn lead_bits(block: &[u8]) -> u64
     requires { length block.now ≡ 16 }
     ensures { result ≡ mask_l (map begins_three block.now) }
@@ -21,7 +20,6 @@ fn lead_bits(block: &[u8]) -> u64
 }
 
 // A bit for each of sixteen bytes: whether a letter goes on there.
-#[inline(always)]
 fn going_bits(block: &[u8]) -> u64
     requires { length block.now ≡ 16 }
     ensures { result ≡ mask_l (map goes_on block.now) }
@@ -32,7 +30,6 @@ fn going_bits(block: &[u8]) -> u64
 }
 
 // Whether sixteen bytes are five such letters and the beginning of another.
-#[inline(always)]
 fn is_wide_front(block: &[u8]) -> bool
     requires { length block.now ≡ 16 }
     ensures { result ≡ true → are_wide (take 15 block.now) ≡ true }
@@ -41,7 +38,6 @@ fn is_wide_front(block: &[u8]) -> bool
 }
 
 // Whether sixteen bytes are the end of such a letter and five others.
-#[inline(always)]
 fn is_wide_end(block: &[u8]) -> bool
     requires { length block.now ≡ 16 }
     ensures { result ≡ true → are_wide (drop 1 block.now) ≡ true }
@@ -55,7 +51,6 @@ const LETTERS: [u8; 16] = [
 ];
 
 // Whether a few bytes are known to be such letters alone, with others after them.
-#[inline(always)]
 fn are_few_wide(words: &[u8]) -> bool
     requires { (length words.now < 16) × (length words.now % 3 ≡ 0) }
     ensures { result ≡ true → are_wide words.now ≡ true }
@@ -67,7 +62,6 @@ fn are_few_wide(words: &[u8]) -> bool
 
 // Whether bytes are known to be such letters alone: sixteen bytes at once; the last sixteen with
 // some of those in front of them.
-#[inline(always)]
 pub(crate) fn is_wide(words: &[u8]) -> bool
     ensures { result ≡ true → are_wide words.now ≡ true }
 {
@@ -88,7 +82,6 @@ pub(crate) fn is_wide(words: &[u8]) -> bool
 }
 
 // Which bits of 32 bytes tell that letters begin there, and go on.
-#[inline(always)]
 fn bits_of_both(block: &[u8]) -> (u64, u64)
     requires { length block.now ≡ 32 }
     ensures { (result.0 ≡ mask_l (map begins_three block.now))
@@ -101,7 +94,6 @@ fn bits_of_both(block: &[u8]) -> (u64, u64)
 }
 
 // Whether so many of 32 bytes are known to be such letters alone. No branch asks how many there are.
-#[inline(always)]
 pub(crate) fn is_wide_in_front(block: &[u8], len: usize) -> bool
     requires long { length block.now ≡ 32 }
     requires within { len ≤ 32 }
@@ -124,7 +116,6 @@ const BITS: [u8; 64] = [
 ];
 
 // So many of 32 bytes as they are, and the low seven bits of those behind.
-#[inline(always)]
 pub(crate) fn ascii_behind(block: &[u8], len: usize) -> u8x32
     requires long { length block.now ≡ 32 }
     requires within { len ≤ 32 }

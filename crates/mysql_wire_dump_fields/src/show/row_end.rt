@@ -11,7 +11,6 @@ pub(crate) struct RowEnd {
 }
 
 // Puts some bytes in the place of as many others.
-#[inline(always)]
 fn put_at(bytes: &mut [u8], at: usize, part: &[u8])
     requires { at + length part.now ≤ length bytes.old }
     ensures { bytes.new ≡ take at bytes.old
@@ -22,7 +21,6 @@ fn put_at(bytes: &mut [u8], at: usize, part: &[u8])
 
 impl RowEnd {
     /// Zeros alone.
-    #[inline(always)]
     pub(crate) fn new() -> Self
         ensures { result.bytes ≡ replicate 64 0 }
     {
@@ -30,7 +28,6 @@ impl RowEnd {
     }
 
     /// Takes the last bytes of a row.
-    #[inline(always)]
     pub(crate) fn take(&mut self, payload: &[u8])
         requires { self.old.bytes ≡ replicate 64 0 }
         ensures { IsEndOf self.new payload.now }
@@ -42,7 +39,6 @@ impl RowEnd {
     }
 
     /// What is left of the row, and more behind it where it has fewer than 32 bytes.
-    #[inline(always)]
     pub(crate) fn widened<'a>(&'a self, rest: &'a [u8]) -> &'a [u8]
         requires { EndsIn self.now rest.now }
         ensures { take (length rest.now) result.now ≡ rest.now }

@@ -68,7 +68,6 @@ fn put_short<A: Allocator + Copy>(
 }
 
 // The same of one of a row's last texts, which is looked at with the zeros behind the row's end.
-#[inline(always)]
 fn put_last<A: Allocator + Copy>(
     fields: &mut Fields<A>,
     form: Option<MemberForm>,
@@ -232,8 +231,8 @@ fn put_texts<A: Allocator + Copy>(
 {
     match fields.shown_form() {
         None => put_texts_in(fields, None, columns, payload),
-        Some(MemberForm::Text) => { put_texts_in(fields, Some(MemberForm::Text), columns, payload) }
-        Some(MemberForm::Json) => { put_texts_in(fields, Some(MemberForm::Json), columns, payload) }
+        Some(MemberForm::Text) => put_texts_in(fields, Some(MemberForm::Text), columns, payload),
+        Some(MemberForm::Json) => put_texts_in(fields, Some(MemberForm::Json), columns, payload),
     }
 }
 
@@ -260,7 +259,6 @@ fn is_row(columns: u64, payload: &[u8]) -> bool
 }
 
 /// Reads a row of this many columns, value by value, and puts each. The answer is why it is none.
-#[inline(always)]
 pub fn text_row<A: Allocator + Copy>(
     _: Global,
     fields: &mut Fields<A>,
@@ -342,7 +340,6 @@ fn put_time<A: Allocator + Copy>(
 
 // Puts a value in its binary form. What has a printed form, or parts, is put by calls: so the value is
 // kept in registers.
-#[inline(always)]
 fn put_value<A: Allocator + Copy>(
     fields: &mut Fields<A>,
     place: u64,

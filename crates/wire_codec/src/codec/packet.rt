@@ -315,7 +315,6 @@ impl PacketCodec {
     }
 
     // Remembers the chunk in front, with this header, for which `dst` could not grow.
-    #[inline(always)]
     fn lack_room<T: PacketDst>(
         &mut self,
         seq_id: u8,
@@ -387,7 +386,6 @@ impl PacketCodec {
 
     // Whether the chunk in front is seen to lack bytes: its header hasn't come whole, or is
     // remembered and stands before fewer bytes than it states.
-    #[inline(always)]
     fn lacks_bytes(&self, came: usize) -> bool
         ensures { IsTrue result
             → MatchOption (header_of self.now) (came < 4) (λ header. came < 4 + header.1) }
@@ -468,7 +466,6 @@ impl PacketCodec {
 
 // Why a packet isn't framed. It is a function of its own, so that the bytes of an error are zeroed
 // only where one is answered.
-#[inline(always)]
 fn refuse(is_large: bool) -> Result<(), PacketCodecError>
     ensures large { IsTrue is_large → result ≡ Err PacketCodecError.PacketTooLarge }
     ensures memory { IsFalse is_large → result ≡ Err PacketCodecError.OutOfMemory }
@@ -482,7 +479,6 @@ fn refuse(is_large: bool) -> Result<(), PacketCodecError>
 }
 
 // Takes room for a packet, and puts it there: whether neither was refused.
-#[inline(always)]
 fn put_whole<T: PacketDst>(packet: &[u8], dst: &mut T) -> bool
     ensures put { IsTrue result → T.held dst.new ≡ T.held dst.old ++ packet.now }
     ensures refused { IsFalse result → T.held dst.new ≡ T.held dst.old }

@@ -29,12 +29,10 @@ pub(crate) trait Piece {
 impl Piece for &[u8] {
     ghost limited = { λ own piece. (own, piece) };
 
-    #[inline(always)]
     fn bytes(&self) -> &[u8] {
         self
     }
 
-    #[inline(always)]
     fn limit(&self, own: usize) -> usize {
         own
     }
@@ -43,12 +41,10 @@ impl Piece for &[u8] {
 impl Piece for (usize, &[u8]) {
     ghost limited = { λ own piece. piece };
 
-    #[inline(always)]
     fn bytes(&self) -> &[u8] {
         self.1
     }
 
-    #[inline(always)]
     fn limit(&self, _own: usize) -> usize {
         self.0
     }

@@ -45,7 +45,6 @@ fn offer_front<W: Write>(
 }
 
 // Writes a front of these bytes. The answer is how many.
-#[inline(always)]
 fn write_front<W: Write>(writer: &mut W, bytes: &[u8]) -> io::Result<usize>
     ensures bound { IfOk result (λ count. count ≤ length bytes.now) }
     ensures bytes { WriteAppends (W.contents writer.old) (W.contents writer.new) result bytes.now }
@@ -130,7 +129,6 @@ impl<R: Read, A: Allocator + Copy> Input<R, A> {
     }
 
     // Writes what is there of the packet: whether it has ended.
-    #[inline(always)]
     fn copy_unread<W: Write>(
         &mut self,
         decoder: &mut SpanDecoder,
@@ -174,7 +172,6 @@ impl<R: Read, A: Allocator + Copy> Input<R, A> {
 
     /// Two steps of it at most, the header in front and the bytes after it: whether the packet has
     /// ended.
-    #[inline(always)]
     pub(crate) fn copy_begin<W: Write>(
         &mut self,
         decoder: &mut SpanDecoder,
