@@ -1,5 +1,6 @@
 -- A packet where it lies.
 use Rattle.std.proofs.Common.{◌≡◌, ℕ, ◌+◌, ◌-◌, ◌%◌, ◌<◌, ◌≤◌, List, [], ◌∷◌, length, take, drop, refl, sym, ap, ◌∙◌, arith, inl, inr, slice_index, Option, Some, None, MatchOption, Ok, true, length-drop}
+use Rattle.std.specs.Bool.{⊤}
 use Rattle.std.proofs.lemmas.List.{length-take-le}
 use Rattle.wire_codec.proofs.Declared.{ChunkInfo, Last}
 use Rattle.wire_codec.specs.Framing.{max_payload}
@@ -22,6 +23,12 @@ pub front_len : (src : List ℕ) → 4 + chunk_len src ≤ length src → length
 front_len src whole =
     let room : chunk_len src ≤ length (drop 4 src) = rw length-drop (omega arith) in
     length-take-le (chunk_len src) (drop 4 src) room
+
+pub front_passes : (limit : ℕ) (header : Option (ℕ × ℕ)) (src : List ℕ) (len id : ℕ) → len ≡ chunk_len src → id ≡ slice_index src 3
+    → MatchOption header ⊤ (λ h. (4 ≤ length src) × (slice_index src 3 ≡ h.0) × (chunk_len src ≡ h.1) × (0 < h.1))
+    → MatchOption header (chunk_len src ≤ limit) (λ h. ⊤) → MatchOption header (len ≤ limit) (λ h. (id ≡ h.0) × (len ≡ h.1) × (0 < h.1))
+front_passes limit None src len id l s there within = rw l within
+front_passes limit (Some h) src len id l s there within = (s ∙ there.1, l ∙ there.2, there.3)
 
 front_info : (src : List ℕ) → 4 + chunk_len src ≤ length src → 0 < chunk_len src → chunk_len src < max_payload
     → info_of (slice_index src 3) (front_payload src) ≡ Last (slice_index src 3)

@@ -1,7 +1,7 @@
 -- A packet whose bytes are dropped as they come.
-use Rattle.std.proofs.Common.{◌≡◌, ◌≢◌, ℕ, ◌+◌, ◌-◌, ◌%◌, ◌<◌, ◌≤◌, ◌⊎◌, ◌↔◌, ◌^◌, Bool, true, false, IsTrue, replicate, min, List, [], ◌++◌, length, take, drop, refl, sym, ap, ap₂, ◌∙◌, arith, append_assoc, length-append, drop-drop, drop_at, take-append-drop, slice_index, inl, inr, Some, None, Option, Result, Ok, Err}
+use Rattle.std.proofs.Common.{◌≡◌, ◌≢◌, ℕ, ◌+◌, ◌-◌, ◌%◌, ◌<◌, ◌≤◌, ◌⊎◌, ◌↔◌, ◌^◌, Bool, true, false, IsTrue, replicate, min, List, [], ◌++◌, length, take, drop, refl, sym, ap, ap₂, ◌∙◌, arith, append_assoc, length-append, length-drop, IsSome, drop-drop, drop_at, take-append-drop, slice_index, inl, inr, Some, None, Option, Result, Ok, Err}
 use Rattle.std.proofs.lemmas.List.{length-replicate, length-take-le}
-use Rattle.std.proofs.lemmas.Bool.{cases_lt}
+use Rattle.std.proofs.lemmas.Bool.{cases_lt, false≢true}
 use Rattle.std.specs.Int.NonZero.{non_zero_usize_get}
 use Rattle.std.specs.declared.num.NonZeroUsize.{NonZeroUsize}
 use Rattle.wire_codec.specs.declared.codec.chunk.ChunkDecoder.TheVariants.{Idle}
@@ -18,7 +18,7 @@ use Rattle.wire_codec.specs.Limited.{SplitsUnder}
 use Rattle.wire_codec.specs.Codec.{CodecState, codec_state, expected_id, header_of, open_id, first_id, input_of, Stands, StandsAt}
 use Rattle.wire_codec.specs.Skipping.{nothing_skipped, header_at, IsGone, WouldStand, AtChunk, DropsChunk, MaySkip}
 use Rattle.wire_codec.proofs.ChunkLemmas.{le_number-le_bytes}
-use Rattle.wire_codec.proofs.CodecLemmas.{open_at_id, open_small, chunk_failed, stands_without, takes_later}
+use Rattle.wire_codec.proofs.CodecLemmas.{open_at_id, open_small, splits_here, chunk_failed, stands_without, takes_later}
 use Rattle.wire_codec.proofs.ConstantLimit.{one, splits_one, stands_on, decodes_one}
 use Rattle.wire_codec.proofs.GoingOnLemmas.{awaited_under, other_under, last_under, middle_under, alone_under}
 use Rattle.wire_codec.proofs.TakenChunk.{id_at_open, chunk_len_small, Taken, len_taken}
@@ -77,6 +77,16 @@ pub record Came (header : Header) (left held : ℕ) (codec : PacketCodec) (src r
   long : left ≤ length src
   is : rest ≡ drop left src
   small : header.len ≤ max_payload
+
+pub came_whole : (left count : ℕ) (src rest : List ℕ) → count ≡ min left (length src) → left - count ≡ 0 → rest ≡ drop count src → length rest + left ≡ length src
+came_whole left count src rest counted all is =
+    let len : length rest ≡ length src - count = ap (λ (z : List ℕ). length z) is ∙ length-drop count src in
+    omega (arith, counted, all, len)
+
+-- a header that is remembered has come whole
+stands_long : (limit : ℕ) (header : Option (ℕ × ℕ)) (src held : List ℕ) → IsSome header → StandsAt limit header src held → 4 ≤ length src
+stands_long limit None src held some s = absurd (false≢true some)
+stands_long limit (Some h) src held some s = s.1.0
 
 pub all_came : {header : Header} {left held count : ℕ} {codec : PacketCodec} {src rest : List ℕ} {full : CodecState} → codec.seq_id < 256 → AtChunk header left held codec src full
     → count ≡ min left (length src) → left - count ≡ 0 → rest ≡ drop count src → Came header left held codec src rest full
@@ -179,6 +189,24 @@ dropped_alone new {codec = codec} {rest = rest} {full = full} c same more count 
     let on = went_on new c same more count most in
     let waits = decodes_one (Ok false) full.limit _ _ full.held _ None rest (joined_held full) c.at.whole (alone_under full.unread none on.0).0 in
     (codec_state (behind codec) rest (joined_held full), waits, on.1)
+
+-- a header that has not come whole
+pub waits_header : (skipped : Skipped) (codec : PacketCodec) (src : List ℕ) (full : CodecState) → codec.seq_id < 256 → skipped.begun ≡ None → WouldStand skipped codec src full
+    → length src < 4 → DropsChunk (Ok Starved) full skipped codec src
+waits_header skipped codec src full small closed w short =
+    let none_gone : w.gone ≡ [] = rw closed at w.gone_is in
+    let same : full.unread ≡ src = w.unread_is ∙ ap (λ (z : List ℕ). z ++ src) none_gone in
+    let at : full.id ≡ id_at (first_id full) full.held = sym (id_at_open full.id full.held (rw w.id small)) in
+    let less : length full.unread < 4 = rw same short in (
+      full,
+      (
+        record { splits = splits_here (first_id full) full.limit full.held full.unread w.stands.0; ends = inl less },
+        at,
+        w.stands,
+        (λ some. stands_long full.limit full.header full.unread full.held some w.stands, λ long. absurd (omega (arith, less, long))),
+      ),
+      w,
+    )
 
 -- a header that is past the limit, and isn't dropped
 pub refused_header : (skipped : Skipped) (codec : PacketCodec) (src : List ℕ) (full : CodecState) (error : PacketCodecError)

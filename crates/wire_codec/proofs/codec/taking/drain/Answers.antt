@@ -1,9 +1,16 @@
-use Rattle.std.proofs.Common.{◌≡◌, ◌∙◌, [], refl, append-nil, ap, arith, Ok, Err, Bool, true}
+use Rattle.std.proofs.Common.{◌≡◌, ◌∙◌, [], refl, append-nil, ap, arith, Result, Ok, Err, Bool, true}
+use Rattle.wire_codec.specs.declared.codec.error.PacketCodecError.{PacketCodecError}
 use Rattle.wire_codec.specs.Codec.{codec_state, first_id}
 use Rattle.wire_codec.specs.Limited.{place_after}
 use Rattle.wire_codec.proofs.GoingOnLemmas.{splits_here_under}
 use Rattle.wire_codec.proofs.TakingLemmas.{has_taken_more, has_taken_all}
 use Rattle.wire_codec.proofs.codec.taking.drain.Goals as goal
+
+no_err : (answer : Result (Unit {0}) PacketCodecError) (error : PacketCodecError) → answer ≡ Ok tt → answer ≡ Err error → ⊥
+no_err answer error ok err = cc
+
+same_error : (answer : Result (Unit {0}) PacketCodecError) (one other : PacketCodecError) → answer ≡ Err one → answer ≡ Err other → one ≡ other
+same_error answer one other is also = cc
 
 pub packets-init : goal.packets-init
 packets-init g c = record {
@@ -40,7 +47,7 @@ returns-in-Ok-false-clause-on g c limits mark place at =
       run.0,
       rw (append-nil run.0) at (g.met.K.PacketSink.joins c.args.out.now c.packets.out c.take_next.new.out run.0 [] run.1 next.0),
       has_taken_all g.K.PacketSink.took limits mark place _ _ _ c.args.out.now c.packets.out before after (Ok tt) run next.1,
-      λ e. absurd cc,
+      λ e. absurd (no_err (Ok tt) _ refl e),
     )
 
 pub returns-in-Err-clause-on : goal.returns-in-Err-clause-on
@@ -52,5 +59,5 @@ returns-in-Err-clause-on g c limits mark place at =
       run.0,
       rw (append-nil run.0) at (g.met.K.PacketSink.joins c.args.out.now c.packets.out c.take_next.new.out run.0 [] run.1 next.0),
       has_taken_all g.K.PacketSink.took limits mark place _ _ _ c.args.out.now c.packets.out before after (Err c.in-Err.error) run next.1,
-      λ e. next.2 cc,
+      λ e. next.2 (same_error (Err c.in-Err.error) c.in-Err.error _ refl e),
     )

@@ -1,6 +1,6 @@
-use Rattle.std.proofs.Common.{◌≡◌, ◌∙◌, [], sym, refl}
+use Rattle.std.proofs.Common.{◌≡◌, ◌∙◌, ℕ, List, [], sym, refl, subst}
 use Rattle.wire_codec.specs.Codec.{codec_state}
-use Rattle.wire_codec.specs.InPlace.{front_payload}
+use Rattle.wire_codec.specs.InPlace.{front_payload, HasFront}
 use Rattle.wire_codec.proofs.TakingLemmas.{stopped_next}
 use Rattle.wire_codec.proofs.codec.each.VisitSinkPacketSink.take_next.Goals as goal
 
@@ -32,3 +32,8 @@ returns-in-Err-clause-takes g c limits mark place at =
     let after = codec_state c.decode_on.new.self c.decode_on.new.src.items c.decode_on.new.dst.items in
     let stop = stopped_next c.in-Err.error limits mark place before after c.decode_on.ensures.limit at (c.in-Err.ensures.on limits mark place at) in
     (refl, stop.0, stop.1)
+
+pub take_front-requires : goal.take_front-requires
+take_front-requires g c =
+    let there = c.in-Some.ensures.there.0 refl in
+    subst (λ (z : List ℕ). HasFront (codec_state c.args.codec.now c.args.src.now.items z)) there.1 there

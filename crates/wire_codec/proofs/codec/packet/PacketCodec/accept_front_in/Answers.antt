@@ -1,4 +1,5 @@
 use Rattle.std.proofs.Common.{ℕ, ◌+◌, ◌%◌, List, [], drop, sym, ap, subst, arith, None, Ok, true}
+use Rattle.std.proofs.lemmas.Bool.{false≢true}
 use Rattle.wire_codec.specs.Codec.{header_of, DecodesPacket, ChunkChain}
 use Rattle.wire_codec.specs.LimitedRuns.{DecodesAligned}
 use Rattle.wire_codec.specs.GoingOn.{Decodes}
@@ -45,3 +46,6 @@ returns-clause-on c =
     let rest = ap (λ (n : ℕ). drop (4 + n) src) (c.in-Some.ensures.len) in
     subst (λ (z : List ℕ). Decodes (state_of limit id header src []) (Ok true) (state_of limit ((id + 1) % 256) None z (front_payload src))) (sym rest)
     (front_on limit id header src (omega arith) c.in-Some.ensures.spelled c.requires)
+
+pub returns-in_default : goal.returns-in_default
+returns-in_default c = absurd (false≢true (c.in_default.ensures.there.1 c.requires.2))

@@ -1,6 +1,6 @@
 use Rattle.std.proofs.Common.{◌<◌, ◌∙◌, ℕ, length, sym, ap, arith, eqb-true, min}
 use Rattle.wire_codec.specs.Framing.{max_payload_is}
-use Rattle.wire_codec.proofs.SkipLemmas.{all_came, dropped_part, dropped_other, dropped_last, dropped_middle, dropped_alone}
+use Rattle.wire_codec.proofs.SkipLemmas.{all_came, dropped_part, dropped_other, dropped_last, dropped_middle, dropped_alone, came_whole}
 use Rattle.wire_codec.proofs.codec.packet.PacketCodec.drop_chunk.Goals as goal
 
 pub returns-in-Some-clause-drops : goal.returns-in-Some-clause-drops
@@ -35,3 +35,11 @@ returns-else-is_empty-clause-drops g c full at =
     let came = all_came (omega (arith, c.requires)) at counted c.in_default.ensures c.advance.ensures.items in
     rw c.requires (dropped_middle c.min.result came (c.if-header-expected.false ∙ c.requires) (omega (arith, max_payload_is, c.if-header-lt-MAX_PAYLOAD_LEN.false))
     (c.min.ensures ∙ ap (λ (n : ℕ). min n c.args.self.now.max_allowed_packet) c.saturating_add-held.ensures) (omega arith))
+
+pub returns-then-is_empty-clause-more : goal.returns-then-is_empty-clause-more
+returns-then-is_empty-clause-more g c said =
+    came_whole c.args.left c.min-count.result c.args.src.now.items c.advance.new.self.items (c.min-count.ensures ∙ ap (λ (n : ℕ). min c.args.left n) c.len.ensures.value) c.in_default.ensures c.advance.ensures.items
+
+pub returns-else-is_empty-clause-more : goal.returns-else-is_empty-clause-more
+returns-else-is_empty-clause-more g c said =
+    came_whole c.args.left c.min-count.result c.args.src.now.items c.advance.new.self.items (c.min-count.ensures ∙ ap (λ (n : ℕ). min c.args.left n) c.len.ensures.value) c.in_default.ensures c.advance.ensures.items

@@ -1,8 +1,9 @@
-use Rattle.std.proofs.Common.{◌≡◌, ℕ, ◌-◌, ◌<◌, ◌≤◌, length, slice_index, sym, ◌∙◌, refl, subst, arith, eqb-true, MatchOption}
+use Rattle.std.proofs.Common.{◌≡◌, ℕ, ◌-◌, ◌<◌, ◌≤◌, ◌==◌, List, ap, length, slice_index, sym, ◌∙◌, refl, subst, arith, eqb-true, MatchOption}
+use Rattle.std.proofs.lemmas.Bool.{false≢true}
 use Rattle.wire_codec.specs.Delivery.{chunk_len}
 use Rattle.wire_codec.specs.Framing.{max_payload, max_payload_is}
 use Rattle.wire_codec.specs.Codec.{header_of, expected_id}
-use Rattle.wire_codec.proofs.InPlaceLemmas.{front_there, front_decodes_at}
+use Rattle.wire_codec.proofs.InPlaceLemmas.{front_passes, front_there, front_decodes_at}
 use Rattle.wire_codec.proofs.codec.packet.PacketCodec.front_packet_in.Goals as goal
 
 pub returns-clause-there : goal.returns-clause-there
@@ -43,4 +44,27 @@ returns-clause-decodes c some stands =
 pub returns-then-header-eq-MAX_PAYLOAD_LEN-clause-there : goal.returns-then-header-eq-MAX_PAYLOAD_LEN-clause-there
 returns-then-header-eq-MAX_PAYLOAD_LEN-clause-there c =
     let len : c.in-Some.header.len ≡ chunk_len c.args.front.now = c.in-Some.ensures.len in
-    (λ e. absurd cc, λ there. absurd (let part = there.4 in let full = c.if-header-eq-MAX_PAYLOAD_LEN.true in omega (arith, part, full, len, max_payload_is)))
+    (λ e. absurd (false≢true e), λ there. absurd (let part = there.4 in let full = c.if-header-eq-MAX_PAYLOAD_LEN.true in omega (arith, part, full, len, max_payload_is)))
+
+pub returns-then-not-is_empty-clause-there : goal.returns-then-not-is_empty-clause-there
+returns-then-not-is_empty-clause-there c =
+    (λ e. absurd (false≢true e), λ there. absurd (false≢true (sym c.if-not-is_empty.true ∙ c.is_empty.ensures ∙ ap (λ (z : List ℕ). length z == 0) there.1)))
+
+pub returns-in_default-clause-there : goal.returns-in_default-clause-there
+returns-in_default-clause-there c =
+    (λ e. absurd (false≢true e), λ there. absurd (false≢true (c.in_default.ensures.there.1 there.2)))
+
+pub returns-then-header-self-clause-there : goal.returns-then-header-self-clause-there
+returns-then-header-self-clause-there c =
+    (λ e. absurd (false≢true e), λ there. absurd (c.if-header-self.true (c.in-Some.ensures.id ∙ there.5)))
+
+pub returns-then-not-passes-clause-there : goal.returns-then-not-passes-clause-there
+returns-then-not-passes-clause-there c = (
+  λ e. absurd (false≢true e),
+  λ there. absurd (false≢true (sym c.if-not-passes.true
+      ∙ c.passes.ensures.1 (front_passes c.args.self.now.max_allowed_packet (header_of c.args.self.now) c.args.front.now _ _ c.in-Some.ensures.len c.in-Some.ensures.id there.0.1 there.6))),
+)
+
+pub returns-then-front-header-clause-there : goal.returns-then-front-header-clause-there
+returns-then-front-header-clause-there c =
+    (λ e. absurd (false≢true e), λ there. absurd (let whole = there.3 in let less = c.if-front-header.true in let len = c.in-Some.ensures.len in omega (arith, whole, less, len)))
