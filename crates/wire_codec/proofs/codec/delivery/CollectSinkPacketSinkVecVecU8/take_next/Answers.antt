@@ -1,6 +1,7 @@
-use Rattle.std.proofs.Common.{◌∙◌, List, ℕ, [], ◌∷◌, ◌++◌, ap, sym, append-nil}
+use Rattle.std.proofs.Common.{◌∙◌, List, ℕ, [], ◌∷◌, ◌++◌, ap, sym, refl, append-nil, Ok, Err, Bool, false}
 use Rattle.wire_codec.specs.Codec.{codec_state}
 use Rattle.wire_codec.specs.Runs.{payloads}
+use Rattle.wire_codec.proofs.AnswerLemmas.{no_true, no_ok}
 use Rattle.wire_codec.proofs.TakingLemmas.{refused_next, stopped_next}
 use Rattle.wire_codec.proofs.codec.delivery.CollectSinkPacketSinkVecVecU8.take_next.Goals as goal
 
@@ -29,3 +30,12 @@ returns-in-Err-clause-takes g c limits mark place at =
     let after = codec_state c.decode_on.new.self c.decode_on.new.src.items c.decode_on.new.dst.items in
     let stop = stopped_next c.in-Err.error limits mark place before after c.decode_on.ensures.limit at (c.in-Err.ensures.on limits mark place at) in
     (ap payloads c.reserve.ensures.items ∙ sym (append-nil (payloads c.args.out.now.items)), stop.0, stop.1)
+
+pub returns-in-Ok-true-clause-shorter : goal.returns-in-Ok-true-clause-shorter
+returns-in-Ok-true-clause-shorter g c said = c.decode_on.ensures.shorter (c.in-Ok-true.is ∙ ap (λ (b : Bool). Ok b) c.in-Ok-true.field-0-test)
+
+pub returns-in-Ok-false-clause-shorter : goal.returns-in-Ok-false-clause-shorter
+returns-in-Ok-false-clause-shorter g c said = absurd (no_true (Ok false) refl said)
+
+pub returns-in-Err-clause-shorter : goal.returns-in-Err-clause-shorter
+returns-in-Err-clause-shorter g c said = absurd (no_ok (Err c.in-Err.error) c.in-Err.error _ refl said)

@@ -1,6 +1,7 @@
-use Rattle.std.proofs.Common.{◌≡◌, ◌∙◌, ℕ, List, [], sym, refl, subst}
+use Rattle.std.proofs.Common.{◌≡◌, ◌∙◌, ℕ, List, [], sym, ap, refl, subst, Ok, Err, Bool, false}
 use Rattle.wire_codec.specs.Codec.{codec_state}
 use Rattle.wire_codec.specs.InPlace.{front_payload, HasFront}
+use Rattle.wire_codec.proofs.AnswerLemmas.{no_true, no_ok}
 use Rattle.wire_codec.proofs.TakingLemmas.{stopped_next}
 use Rattle.wire_codec.proofs.codec.each.VisitSinkPacketSink.take_next.Goals as goal
 
@@ -37,3 +38,12 @@ pub take_front-requires : goal.take_front-requires
 take_front-requires g c =
     let there = c.in-Some.ensures.there.0 refl in
     subst (λ (z : List ℕ). HasFront (codec_state c.args.codec.now c.args.src.now.items z)) there.1 there
+
+pub returns-in-Ok-true-clause-shorter : goal.returns-in-Ok-true-clause-shorter
+returns-in-Ok-true-clause-shorter g c said = c.decode_on.ensures.shorter (c.in-Ok-true.is ∙ ap (λ (b : Bool). Ok b) c.in-Ok-true.field-0-test)
+
+pub returns-in-Ok-false-clause-shorter : goal.returns-in-Ok-false-clause-shorter
+returns-in-Ok-false-clause-shorter g c said = absurd (no_true (Ok false) refl said)
+
+pub returns-in-Err-clause-shorter : goal.returns-in-Err-clause-shorter
+returns-in-Err-clause-shorter g c said = absurd (no_ok (Err c.in-Err.error) c.in-Err.error _ refl said)

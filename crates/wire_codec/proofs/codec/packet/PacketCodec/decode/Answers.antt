@@ -1,7 +1,8 @@
-use Rattle.std.proofs.Common.{[]}
-use Rattle.wire_codec.specs.Codec.{expected_id, header_of}
+use Rattle.std.proofs.Common.{ℕ, [], sym, subst}
+use Rattle.wire_codec.specs.Codec.{expected_id, header_of, StandsAt}
 use Rattle.wire_codec.specs.LimitedRuns.{run_limits}
 use Rattle.wire_codec.proofs.GoingOnLemmas.{start_mark, goes_on_start}
+use Rattle.wire_codec.proofs.AnswerLemmas.{decoded_stands}
 use Rattle.wire_codec.proofs.BoundLemmas.{decoded_bounded}
 use Rattle.wire_codec.proofs.codec.packet.PacketCodec.decode.Goals as goal
 
@@ -18,3 +19,9 @@ returns-clause-aligned g c aligned =
 
 pub returns-clause-bounded : goal.returns-clause-bounded
 returns-clause-bounded g c stands waits = decoded_bounded _ _ _ _ _ _ _ _ _ waits (c.decode_on.ensures.decodes stands)
+
+pub returns-clause-stands : goal.returns-clause-stands
+returns-clause-stands g c stands part sync =
+    let after = c.decode_on.new.self in
+    subst (λ (n : ℕ). StandsAt n (header_of after) c.decode_on.new.src.items (g.T.PacketDst.held c.decode_on.new.dst)) (sym c.decode_on.ensures.limit)
+    (decoded_stands c.decode_on.result _ _ _ _ _ _ _ _ part sync (c.decode_on.ensures.decodes stands))

@@ -4,6 +4,7 @@ use Rattle.wire_codec.specs.declared.codec.packet.Progress.TheVariants.{Whole, S
 use Rattle.wire_codec.specs.Chain.{ChainFrom}
 use Rattle.wire_codec.specs.Codec.{open_id, codec_state, expected_id, LinksChain}
 use Rattle.wire_codec.proofs.CodecLemmas.{splits_here, open_at_id, open_small, stands_without}
+use Rattle.wire_codec.proofs.AnswerLemmas.{no_true, no_ok}
 use Rattle.wire_codec.proofs.ChainLemmas.{chain_had_chunk}
 use Rattle.wire_codec.proofs.GoingOnLemmas.{splits_here_under}
 use Rattle.wire_codec.proofs.LoopLemmas.{step_takes, step_takes_under}
@@ -124,3 +125,15 @@ pub returns-in-Err-clause-memory : goal.returns-in-Err-clause-memory
 returns-in-Err-clause-memory g c refused =
     let all = returns-in-Err-clause-chain g c in
     chain_had_chunk _ _ _ _ _ _ _ _ _ _ (rw refused at all.1)
+
+pub returns-in-Ok-Whole-clause-shorter : goal.returns-in-Ok-Whole-clause-shorter
+returns-in-Ok-Whole-clause-shorter g c said =
+    let less = c.take_chunk.ensures.whole (c.in-Ok-Whole.is ∙ ap (λ (p : Progress). Ok p) c.in-Ok-Whole.field-0-is) in
+    let left = c.chunks.invariant.shorter in
+    omega (arith, less, left)
+
+pub returns-in-Ok-Starved-clause-shorter : goal.returns-in-Ok-Starved-clause-shorter
+returns-in-Ok-Starved-clause-shorter g c said = absurd (no_true (Ok false) refl said)
+
+pub returns-in-Err-clause-shorter : goal.returns-in-Err-clause-shorter
+returns-in-Err-clause-shorter g c said = absurd (no_ok (Err c.in-Err.error) c.in-Err.error _ refl said)

@@ -1,0 +1,21 @@
+-- One answer isn't another.
+use Rattle.std.proofs.Common.{◌≡◌, ◌≢◌, ℕ, List, refl, Option, Result, Ok, Err, Bool, true, false}
+use Rattle.wire_codec.proofs.Declared.{PacketCodecError, PacketTooLarge, OutOfMemory, PacketsOutOfSync, Io}
+use Rattle.wire_codec.specs.Codec.{StandsAt, DecodesFrom}
+use Rattle.wire_codec.proofs.CodecLemmas.{stands_without}
+
+pub no_true : (answer : Result Bool PacketCodecError) → answer ≡ Ok false → answer ≡ Ok true → ⊥
+no_true answer is also = cc
+
+pub no_ok : (answer : Result Bool PacketCodecError) (error : PacketCodecError) (whole : Bool) → answer ≡ Err error → answer ≡ Ok whole → ⊥
+no_ok answer error whole is also = cc
+
+-- after everything but a whole packet and a lost sync the codec stands
+pub decoded_stands : (answer : Result Bool PacketCodecError) (first limit id : ℕ) (header : Option (ℕ × ℕ)) (input held src dst : List ℕ) → answer ≢ Ok true → answer ≢ Err PacketsOutOfSync
+    → DecodesFrom first input held limit answer id header src dst → StandsAt limit header src dst
+decoded_stands (Ok true) first limit id header input held src dst part sync d = absurd (part refl)
+decoded_stands (Ok false) first limit id header input held src dst part sync d = d.2
+decoded_stands (Err PacketTooLarge) first limit id header input held src dst part sync d = stands_without limit src dst header d.0.splits.unfinished_whole d.2
+decoded_stands (Err PacketsOutOfSync) first limit id header input held src dst part sync d = absurd (sync refl)
+decoded_stands (Err OutOfMemory) first limit id header input held src dst part sync d = d.2
+decoded_stands (Err (Io e)) first limit id header input held src dst part sync d = absurd d
