@@ -7,7 +7,7 @@ use Rattle.std.proofs.lemmas.List.{drop-drop, drop-take, length-append, length-d
 use Rattle.std.proofs.lemmas.List.Sums.{prefix_len-le-length}
 use Rattle.std.proofs.Math.Nat.{min-le_left}
 use Rattle.std.specs.List.{prefix_len}
-use Rattle.std.specs.Prelude.{◌&&◌, slice_index_or}
+use Rattle.std.specs.Prelude.{◌&&◌, if◌then◌else◌, slice_index_or}
 use Rattle.json.specs.Print.{escape, escape_byte, quoted}
 use Rattle.wire_text.specs.Fields.{escape_mark, needs_no_escape, none_needs_escape}
 use Rattle.wire_text.proofs.FieldLemmas.{escape-none_needs_escape, is_false}
@@ -276,3 +276,12 @@ all_escaped words rest held text left so_far left_is =
 pub held_first : (held more text : List ℕ) → text ≡ held ++ more → take (length held) text ≡ held
 held_first held more text is =
     ap (take (length held)) is ∙ take-append-le (length held) held more (omega arith) ∙ take_all (length held) held (omega arith)
+
+pub still_first : (held more mid text : List ℕ) → mid ≡ held ++ more → take (length mid) text ≡ mid → take (length held) text ≡ held
+still_first held more mid text mid_is front =
+    let rest = drop (length mid) text in
+    held_first held (more ++ rest) text (sym (take-append-drop (length mid) text) ∙ ap (λ (z : List ℕ). z ++ rest) (front ∙ mid_is) ∙ append_assoc held more rest)
+
+pub first_either : (ok : Bool) (held more mid end text : List ℕ) → mid ≡ held ++ more → text ≡ (if ok then mid ++ end else mid) → take (length held) text ≡ held
+first_either true held more mid end text mid_is is = held_first held (more ++ end) text (is ∙ ap (λ (z : List ℕ). z ++ end) mid_is ∙ append_assoc held more end)
+first_either false held more mid end text mid_is is = held_first held more text (is ∙ mid_is)

@@ -3,14 +3,15 @@ use Rattle.std.proofs.Common.{◌≡◌, ℕ, zero, suc, ap₂, drop, take-appen
 use Rattle.std.proofs.DigitsParse.{digits-IsUtf8}
 use Rattle.std.proofs.lemmas.Grind.{common_steps}
 use Rattle.std.specs.Prelude.{◌==◌, ◌&&◌, codes, nat_lt, not, slice_index_or, ◌≤◌}
-use Rattle.std.proofs.lemmas.Bool.{and_from, and_left, and_parts, eq-eqb, eqb-false, eqb-true, leb-true, ltb-true, not-true}
+use Rattle.std.proofs.lemmas.Bool.{false≢true, and_from, and_left, and_parts, eq-eqb, eqb-false, eqb-true, leb-true, ltb-true, not-true}
 use Rattle.json.specs.Print.{escape, escape_byte}
 use Rattle.json.proofs.Printed.Strings.{escape_byte_plain}
-use Rattle.std.proofs.lemmas.List.{append-nil, drop-append-le, length-drop, take-append-le, take_more}
+use Rattle.std.proofs.lemmas.List.{append-nil, drop-append-le, length-append, length-drop, take-append-le, take_more}
 use Rattle.std.proofs.lemmas.List.Folds.{list_all-append}
 use Rattle.std.specs.List.{flat_map}
 use Rattle.std.specs.Str.{IsAscii, IsUtf8, is_utf8}
 use Rattle.std.specs.Fmt.{decimal}
+use Rattle.std.specs.Result.{is_err}
 use Rattle.std.proofs.lemmas.Fmt.{decimal_digit, decimal_step}
 use Rattle.std.specs.String.Boundary.{IsSplitPoint}
 use Rattle.std.proofs.lemmas.Str.{IsCharBoundary-from_take, IsUtf8-append, IsUtf8-from_ascii, IsUtf8-from_is_utf8, is_utf8-from_IsUtf8}
@@ -312,6 +313,21 @@ put_hidden form written one is hidden = record {
 pub end_hidden : (form : FieldForm) (written : Written) → written.form ≡ form → member_form form ≡ None → written ≡ ended written
 unfolding ended
 end_hidden form written is hidden = sym (ap (λ (f : Option MemberForm). record { form = written.form; before = written.before; text = ended_after f written.text }) (ap member_form is ∙ hidden))
+
+pub same_answer : {E : Type 0} (result : Result Bool E) (one other : Bool) → result ≡ Ok one → result ≡ Ok other → one ≡ other
+same_answer result one other is also = cc
+
+-- what stands before the fields stays, where something was appended, and where it failed nothing does
+pub stays_before : {T E : Type 0} (result : Result T E) (begin : ℕ) (all new more : List ℕ) → false ≡ is_err result → OnOk result (new ≡ all ++ more)
+    → (begin ≤ length all) × IsUtf8 (take begin all) → (begin ≤ length new) × IsUtf8 (take begin new)
+stays_before (Ok _) begin all new more ok is before = (
+  subst (λ (z : List ℕ). begin ≤ length z) (sym is) (let sum = length-append all more in let within = before.0 in omega (arith, sum, within)),
+  subst IsUtf8 (sym (ap (take begin) is ∙ take-append-le begin all more before.0)) before.1,
+)
+stays_before (Err _) begin all new more ok is before = absurd (false≢true ok)
+
+pub none_before : (text : List ℕ) → (0 ≤ length text) × IsUtf8 (take 0 text)
+none_before text = (omega arith, ([], (refl, refl)))
 
 -- a call that appended one
 pub put_pushed : {T E : Type 0} (result : Result T E) (form : FieldForm) (shown : MemberForm) (begin len : ℕ) (all new : List ℕ) (old : Written) (one : Member)

@@ -17,3 +17,6 @@ returns-in-None c =
       c.escape_few.ensures.1,
       c.escape_few.ensures.2,
     )
+
+pub escape_few-requires-clause-short : goal.escape_few-requires-clause-short
+escape_few-requires-clause-short c = let long = length-take-le 64 c.args.bytes.now c.requires.long in omega (arith, long)

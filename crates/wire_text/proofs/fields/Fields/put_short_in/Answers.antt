@@ -1,7 +1,8 @@
-use Rattle.std.proofs.Common.{◌≡◌, ◌∙◌, ap, arith, inr, leb, length, refl, string_bytes, sym, take, false}
+use Rattle.std.proofs.Common.{◌≡◌, ◌∙◌, ap, arith, inr, leb, length, refl, string_bytes, sym, take, Ok, false}
+use Rattle.std.specs.Result.{is_err}
 use Rattle.std.proofs.lemmas.Bool.{leb-false}
 use Rattle.std.specs.Fmt.{decimal}
-use Rattle.wire_text.proofs.FieldLemmas.{put_hidden, put_pushed}
+use Rattle.wire_text.proofs.FieldLemmas.{put_hidden, put_pushed, same_answer, stays_before}
 use Rattle.wire_text.specs.Fields.{Words, Written, member_form}
 use Rattle.wire_text.proofs.fields.Fields.put_short_in.Goals as goal
 
@@ -11,7 +12,7 @@ returns-in_default-clause-put g c is =
 
 pub returns-in_default-clause-not : goal.returns-in_default-clause-not
 returns-in_default-clause-not g c is =
-    let above : leb c.args.len (length c.args.bytes.now) ≡ false = cc is in
+    let above : leb c.args.len (length c.args.bytes.now) ≡ false = same_answer (Ok (leb c.args.len (length c.args.bytes.now))) _ _ refl is in
     (refl, inr (leb-false c.args.len (length c.args.bytes.now) above))
 
 pub returns-in-Ok-clause-put : goal.returns-in-Ok-clause-put
@@ -21,3 +22,7 @@ returns-in-Ok-clause-put g c is =
     let put = put_pushed c.push_front_at.result fields.form c.in-Some.form fields.begin c.len.result (string_bytes fields.text) (string_bytes c.push_front_at.new.text) c.args.self.now
     (decimal c.args.place, Words (take c.args.len c.args.bytes.now)) (sym c.self.view_is) (ap (λ (w : Written). member_form w.form) c.self.view_is ∙ sym c.requires ∙ c.in-Some.is) c.self.invariant.0 long c.push_front_at.ensures in
     rw c.in-Ok.is at put
+
+pub invariant_of-self : goal.invariant_of-self
+invariant_of-self g c =
+    stays_before c.push_front_at.result c.self.inside.begin (string_bytes c.self.inside.text) (string_bytes c.push_front_at.new.text) _ (sym (ap (λ r. is_err r) c.in-Ok.is)) c.push_front_at.ensures c.self.invariant
