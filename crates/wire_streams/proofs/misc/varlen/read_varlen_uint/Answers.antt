@@ -1,4 +1,4 @@
-use Rattle.std.proofs.Common.{rules, ◌≡◌, ◌∷◌, drop, refl}
+use Rattle.std.proofs.Common.{rules, ◌≡◌, ℕ, List, ◌∷◌, ◌++◌, drop, take-append-drop, refl, sym, ap₂, ◌∙◌}
 use Rattle.wire_streams.proofs.VarlenLemmas.{nothing_in_short}
 use Rattle.wire_streams.proofs.misc.varlen.read_varlen_uint.Goals as goal
 
@@ -15,3 +15,12 @@ returns-in-None-clause-err c =
 
 pub returns-in-Some-checked_eat-clause-err : goal.returns-in-Some-checked_eat-clause-err
 returns-in-Some-checked_eat-clause-err c = search rules
+
+pub returns-in-Some-checked_eat-clause-ok : goal.returns-in-Some-checked_eat-clause-ok
+returns-in-Some-checked_eat-clause-ok c =
+    let old = c.args.buf.now.0.now in
+    let is = c.in-Some-checked_eat.ensures in (
+      c.in-Some-checked_eat.spelling.now,
+      c.value_of.ensures,
+      sym (take-append-drop c.size_behind.result old) ∙ ap₂ (λ (a b : List ℕ). a ++ b) (sym is.1) (sym is.2),
+    )
