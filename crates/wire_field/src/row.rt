@@ -206,6 +206,7 @@ pub struct Both<A, B>(pub A, pub B);
 impl<A: MySerialize, B: MySerialize> MySerialize for Both<A, B> {
     ghost bytes = { λ both. A.bytes both.0 ++ B.bytes both.1 };
 
+    #[inline(always)]
     fn serialize<H: Allocator>(&self, buf: &mut Vec<u8, H>) -> Result<(), WireError> {
         let at = buf.len();
         self.0.serialize(buf)?;
