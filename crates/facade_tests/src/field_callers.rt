@@ -1,6 +1,6 @@
 //! The callers of fields that take memory, run.
 
-use field_examples::field_callers::{put_named, put_schema, read_named, write_name};
+use mysql_wire_examples::field_callers::{put_named, put_schema, read_named, write_name};
 use std::alloc::Global;
 use std::test::Fail;
 use test_support::facts::{all_hold, same};

@@ -1,4 +1,4 @@
-//! The callers of `mysql_wire_examples` and `field_examples`, run; and of the program's commands what
+//! The callers of `mysql_wire_examples`, run; and of the program's commands what
 //! the built program can't show.
 #![tactic(auto)]
 

@@ -1,11 +1,11 @@
 //! Representations and records of one's own, run.
 
-use field_examples::own_fields::{BeU16, U16Bytes, read_name, read_port};
-use field_examples::parameters::{Parameter, put_parameters, read_parameters};
 use mysql_wire::io::ParseBuf;
 use mysql_wire::misc::raw::bytes::RawBytes;
 use mysql_wire::misc::raw::int::RawInt;
 use mysql_wire::proto::MySerialize;
+use mysql_wire_examples::own_fields::{BeU16, U16Bytes, read_name, read_port};
+use mysql_wire_examples::parameters::{Parameter, put_parameters, read_parameters};
 use std::alloc::Global;
 use std::test::Fail;
 use test_support::facts::{all_hold, ensure, same};

@@ -1,11 +1,11 @@
 //! Lists of texts, and maps of fields as they were read, run.
 
-use field_examples::keyed::{note_schema, note_statement, parameters_of, times_of};
-use field_examples::text_lists::{Texts, copy_texts, own_texts, push_text, read_and_push};
 use mysql_wire::io::{ParseBuf, WireError};
 use mysql_wire::misc::raw::bytes::{EofBytes, LenEnc, RawBytes};
 use mysql_wire::misc::raw::int::{LeU32, RawInt};
 use mysql_wire::misc::raw::seq::Seq;
+use mysql_wire_examples::keyed::{note_schema, note_statement, parameters_of, times_of};
+use mysql_wire_examples::text_lists::{Texts, copy_texts, own_texts, push_text, read_and_push};
 use std::alloc::Global;
 use std::borrow::CowSlice;
 use std::collections::{BTreeMap, HashMap};

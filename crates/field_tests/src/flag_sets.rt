@@ -1,5 +1,5 @@
 //! Sets of flags: each bit, each number, and the errors' texts. `constant_calls` of
-//! `field_examples` has what the calls answer.
+//! `mysql_wire_examples` has what the calls answer.
 
 use bitflags::Bits;
 use std::alloc::Global;

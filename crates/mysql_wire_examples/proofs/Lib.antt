@@ -8,3 +8,6 @@ mod MeasuredLemmas
 pub mod SessionLemmas
 pub mod BothEndsLemmas
 pub mod LongPacketLemmas
+mod OkPacketLemmas
+mod TextListLemmas
+mod KeyedLemmas

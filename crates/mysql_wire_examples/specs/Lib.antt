@@ -7,3 +7,9 @@ pub mod Relayed
 pub mod Session
 pub mod Measured
 pub mod Values
+pub mod OkPackets
+pub mod Commands
+pub mod OwnFields
+pub mod Parameters
+pub mod TextLists
+pub mod Keyed

@@ -1,3 +1,0 @@
-mod OkPacketLemmas
-mod TextListLemmas
-mod KeyedLemmas
