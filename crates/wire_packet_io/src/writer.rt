@@ -118,6 +118,7 @@ impl<W: Write, A: Allocator + Copy> PacketWriter<W, A> {
     }
 
     // Puts both after what is pending, where there is room for them: no memory is asked for.
+    #[inline(always)]
     pub(crate) fn put_in_room(&mut self, header: &[u8], payload: &[u8]) -> bool
         ensures put { IsTrue result
             → self.new.pending ≡ self.old.pending ++ (header.now ++ payload.now) }

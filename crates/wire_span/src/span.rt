@@ -112,6 +112,7 @@ impl HeaderFront {
     }
 
     // What came, and then the piece: the header and what is after it, or all that came of it.
+    #[inline(always)]
     fn read<'a>(self, piece: &'a [u8]) -> Result<(Header, &'a [u8]), HeaderFront>
         ensures whole { IfOk result (λ read.
             (front_bytes self ++ piece.now ≡ header read.0.len read.0.seq_id ++ read.1.now)
@@ -234,6 +235,7 @@ impl SpanDecoder {
 
     // Stands among a chunk's bytes, of which so many are to come. Where it stood there already, no
     // other part of the place is written.
+    #[inline(always)]
     fn stand_in(&mut self, still: NonZeroUsize, of_full: bool)
         ensures { self.new ≡ record self.old { place = InChunk still of_full } }
     {
@@ -252,6 +254,7 @@ impl SpanDecoder {
     }
 
     // Hands out what came of the open chunk, of which this many bytes are to come.
+    #[inline(always)]
     fn take_span<'a>(
         &mut self,
         left: usize,
