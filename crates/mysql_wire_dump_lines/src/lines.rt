@@ -307,6 +307,7 @@ fn push_any_head<A: Allocator + Copy>(
 }
 
 /// Appends the line of a packet as far as its fields.
+#[inline(always)]
 pub fn push_head<A: Allocator + Copy>(
     text: &mut String<A>,
     form: LineForm,
