@@ -130,6 +130,7 @@ fn put_text<A: Allocator>(
 }
 
 // Puts some bytes.
+#[inline(always)]
 fn put<A: Allocator>(buf: &mut Vec<u8, A>, bytes: &[u8]) -> Result<(), AllocError>
     ensures { PutsAfter result buf.old.items buf.new.items bytes.now }
 {
@@ -177,6 +178,7 @@ fn put_metadata<A: Allocator>(
     }
 }
 
+#[inline(always)]
 fn put_sizes<A: Allocator>(
     buf: &mut Vec<u8, A>,
     column: &ColumnDefinition41<'_>,
@@ -189,6 +191,7 @@ fn put_sizes<A: Allocator>(
     put(buf, &column.column_length.to_le_bytes())
 }
 
+#[inline(always)]
 fn put_kind<A: Allocator>(
     buf: &mut Vec<u8, A>,
     column: &ColumnDefinition41<'_>,

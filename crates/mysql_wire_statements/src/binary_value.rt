@@ -151,6 +151,7 @@ fn eat_plain<'a>(form: ValueForm, buf: &mut ParseBuf<'a>) -> Result<BinaryValue<
 }
 
 // The next text. Its length does not begin with `fb` or `ff`.
+#[inline(always)]
 fn eat_text<'a>(buf: &mut ParseBuf<'a>) -> Result<&'a [u8], BinaryFault>
     ensures { Reads (λ input. Through (λ text. text.now) (ReadsText input)) buf.old.0.now
         (told result) buf.new.0.now }

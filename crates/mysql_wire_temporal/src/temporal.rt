@@ -221,6 +221,7 @@ fn eat_micros(at: usize, bytes: &[u8]) -> u32
 }
 
 /// Reads a date, as its type is read; a refusal is a `BinaryFault`.
+#[inline(always)]
 pub fn read_date(buf: &mut ParseBuf<'_>) -> Result<BinaryDate, BinaryFault>
     ensures { Reads ReadsDate buf.old.0.now (told result) buf.new.0.now }
 {
@@ -269,6 +270,7 @@ impl<'de, A: Allocator + Copy> MyDeserialize<'de, A> for BinaryDate {
 }
 
 /// Reads a time, as its type is read; a refusal is a `BinaryFault`.
+#[inline(always)]
 pub fn read_time(buf: &mut ParseBuf<'_>) -> Result<BinaryTime, BinaryFault>
     ensures { Reads ReadsTime buf.old.0.now (told result) buf.new.0.now }
 {
