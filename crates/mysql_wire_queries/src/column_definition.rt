@@ -130,7 +130,6 @@ fn put_text<A: Allocator>(
 }
 
 // Puts some bytes.
-#[inline(always)]
 fn put<A: Allocator>(buf: &mut Vec<u8, A>, bytes: &[u8]) -> Result<(), AllocError>
     ensures { PutsAfter result buf.old.items buf.new.items bytes.now }
 {
@@ -178,7 +177,6 @@ fn put_metadata<A: Allocator>(
     }
 }
 
-#[inline(always)]
 fn put_sizes<A: Allocator>(
     buf: &mut Vec<u8, A>,
     column: &ColumnDefinition41<'_>,
@@ -191,7 +189,6 @@ fn put_sizes<A: Allocator>(
     put(buf, &column.column_length.to_le_bytes())
 }
 
-#[inline(always)]
 fn put_kind<A: Allocator>(
     buf: &mut Vec<u8, A>,
     column: &ColumnDefinition41<'_>,

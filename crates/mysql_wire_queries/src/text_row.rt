@@ -65,7 +65,6 @@ fn long_text<'a>(mut buf: ParseBuf<'a>) -> (Result<TextValue<'a>, TextFault>, Pa
 }
 
 // Reads a value whose first byte is no length of one byte.
-#[inline(always)]
 fn read_marked<'a>(buf: &mut ParseBuf<'a>) -> Result<TextValue<'a>, TextFault>
     ensures { Reads ReadsTextValue buf.old.0.now (told result) buf.new.0.now }
 {
@@ -99,7 +98,6 @@ pub(crate) fn read_value<'a>(buf: &mut ParseBuf<'a>) -> Result<TextValue<'a>, Te
 impl MySerialize for TextValue<'_> {
     ghost bytes = { λ value. value_bytes (value_of value) };
 
-    #[inline(always)]
     fn serialize<A: Allocator>(&self, buf: &mut Vec<u8, A>) -> Result<(), WireError> {
         match self {
             TextValue::Null => {

@@ -15,7 +15,6 @@ use bytes::BufMut;
 use wire_buf::error::WireError;
 
 // Puts a byte.
-#[inline(always)]
 fn put_byte<B: BufMut>(buf: &mut B, byte: u8) -> Result<(), WireError>
     ensures ok { OnOk result (B.written buf.new ≡ B.written buf.old ++ byte ∷ []) }
     ensures err { IfErr result (λ error. (error ≡ OutOfMemory)
@@ -27,7 +26,6 @@ fn put_byte<B: BufMut>(buf: &mut B, byte: u8) -> Result<(), WireError>
 }
 
 // Puts these bytes, in one put.
-#[inline(always)]
 fn put<B: BufMut>(buf: &mut B, bytes: &[u8]) -> Result<(), WireError>
     ensures ok { OnOk result (B.written buf.new ≡ B.written buf.old ++ bytes.now) }
     ensures err { IfErr result (λ error. (error ≡ OutOfMemory)

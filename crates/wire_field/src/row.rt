@@ -190,7 +190,6 @@ impl<'de, T: Wire<'de, H>, U: Wire<'de, H>, H: Allocator + Copy> Wire<'de, H> fo
 fn drop_refused<A: Drop>(_first: A) {}
 
 // The same of a copy that is made here, so that the first stays in registers where nothing is refused.
-#[inline(always)]
 fn drop_first<A: Drop>(first: A) {
     let moved = first;
     drop_refused(moved);
