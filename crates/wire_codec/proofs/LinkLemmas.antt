@@ -1,11 +1,11 @@
 -- What one link of a chain makes of a codec that stands, or goes on under limits.
-use Rattle.std.proofs.Common.{◌≡◌, ℕ, ◌+◌, ◌%◌, ◌<◌, List, ◌++◌, length, sym, ◌∙◌, inl, inr, Option, Some, None, Result, Ok, Err, Bool, true, false}
+use Rattle.std.proofs.Common.{◌≡◌, ℕ, refl, arith, MatchOption, ◌+◌, ◌%◌, ◌<◌, List, ◌++◌, length, sym, ◌∙◌, inl, inr, Option, Some, None, Result, Ok, Err, Bool, true, false}
 use Rattle.wire_codec.proofs.Declared.{ChunkInfo, Middle, Last, PacketCodecError, Progress, Whole, Starved, More}
 use Rattle.wire_codec.specs.Framing.{front}
 use Rattle.wire_codec.specs.Delivery.{IsSpelled}
 use Rattle.wire_codec.specs.OneChunk.{Answer, DecodesChunk}
-use Rattle.wire_codec.specs.Chain.{id_of, StopsBy, EndsBy}
-use Rattle.wire_codec.specs.Codec.{StandsAt, open_id, TakesChunk, LinksChain}
+use Rattle.wire_codec.specs.Chain.{id_of, StopsBy, EndsBy, RefusesChunk}
+use Rattle.wire_codec.specs.Codec.{StandsAt, open_id, DecodesFrom, TakesChunk, LinksChain}
 use Rattle.wire_codec.specs.Limited.{Limits}
 use Rattle.wire_codec.specs.GoingOn.{GoesOnAt, DecodesOn, TakesOn}
 use Rattle.wire_codec.proofs.ChainLemmas.{taken_shorter}
@@ -58,6 +58,41 @@ link_takes (Ok Starved) limit id h src held new header rest dst byte b s l =
     decodes_one (Ok false) limit _ _ held new header rest dst s.0 (link_on (Ok Starved) (one limit) 0 0 limit id h src held new header rest dst byte b (stands_on limit 0 h src held s) l).0
 link_takes (Err error) limit id h src held new header rest dst byte b s l =
     decodes_one (Err error) limit _ _ held new header rest dst s.0 (link_on (Err error) (one limit) 0 0 limit id h src held new header rest dst byte b (stands_on limit 0 h src held s) l).0
+
+-- fewer bytes than a header has
+pub few_of_none : (header : Option (ℕ × ℕ)) (src : List ℕ) → length src < 4 → MatchOption header (length src < 4) (λ h. length src < 4 + h.1)
+few_of_none None src few = few
+few_of_none (Some h) src few = omega (arith, few)
+
+-- of the chunk in front bytes are seen to lack
+awaits : (limit : ℕ) (header : Option (ℕ × ℕ)) (src held : List ℕ) → MatchOption header (length src < 4) (λ h. length src < 4 + h.1)
+    → DecodesChunk header src held limit (Ok None) header src held
+awaits limit None src held few = record {
+  short = λ _. (refl, refl, refl, refl);
+  empty = λ long _. absurd (omega (arith, few, long));
+  large = λ long _ _. absurd (omega (arith, few, long));
+  begins = λ long _ _. absurd (omega (arith, few, long));
+}
+awaits limit (Some h) src held few = record {
+  waits = λ _. (refl, refl, refl, refl);
+  takes = λ long. absurd (omega (arith, few, long));
+}
+
+pub awaits_link : (limit id : ℕ) (header : Option (ℕ × ℕ)) (src held : List ℕ) → MatchOption header (length src < 4) (λ h. length src < 4 + h.1)
+    → RefusesChunk limit id header src held (Ok false) id header src held
+awaits_link limit id header src held few = record { said = Ok None; chunk = awaits limit header src held few; stops = refl; id_stays = refl }
+
+pub awaits_on : (limits : Limits) (mark place limit id : ℕ) (h : Option (ℕ × ℕ)) (src held : List ℕ) → id < 256 → GoesOnAt limits mark place limit h src held
+    → MatchOption h (length src < 4) (λ header. length src < 4 + header.1)
+    → DecodesOn limits mark place (open_id id held) (front (open_id id held) held ++ src) held (Ok false) id h src held
+awaits_on limits mark place limit id h src held byte on few =
+    awaited_under (open_id id held) h src held on (sym (id_at_open id held byte)) (outcome_under (Ok None) h src held on (awaits limit h src held few))
+
+pub awaits_takes : (limit id : ℕ) (h : Option (ℕ × ℕ)) (src held : List ℕ) → id < 256 → StandsAt limit h src held
+    → MatchOption h (length src < 4) (λ header. length src < 4 + header.1)
+    → DecodesFrom (open_id id held) (front (open_id id held) held ++ src) held limit (Ok false) id h src held
+awaits_takes limit id h src held byte s few =
+    decodes_one (Ok false) limit _ _ held id h src held s.0 (awaits_on (one limit) 0 0 limit id h src held byte (stands_on limit 0 h src held s) few).0
 
 -- what is unread is shorter where a chunk was taken
 pub more_shorter : (answer : Result Progress PacketCodecError) (limit id : ℕ) (h : Option (ℕ × ℕ)) (src held : List ℕ) (new : ℕ) (header : Option (ℕ × ℕ)) (rest dst : List ℕ)

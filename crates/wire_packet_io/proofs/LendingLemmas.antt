@@ -23,6 +23,12 @@ pub stands_unlent : {A : Type 0} (lent : Option (Found A)) (is lost : Bool) (cod
 stands_unlent None is lost codec src held e f found fits = is_standing lost (codec_state codec src held) found fits
 stands_unlent (Some packet) is lost codec src held e f found fits = absurd cc
 
+-- it lends nothing
+pub is_unlent : {A : Type 0} (lent : Option (Found A)) (src : List ℕ) → IsNone (packet_of lent src) → false ≡ is_some lent
+is_unlent None src e = refl
+is_unlent (Some (InFront chunk)) src e = absurd (false≢true (sym e))
+is_unlent (Some (Copied packet)) src e = absurd (false≢true (sym e))
+
 -- what is read is read from what is unread
 pub reads_unlent : {A : Type 0} (lent : Option (Found A)) (is : Bool) (codec : PacketCodec) (src held : List ℕ) (unread left : Option (List ℕ)) (old_reads new_reads : ℕ) (answer : Answer) (after : CodecState)
     → is ≡ is_some lent → is ≡ false → NextPacket (codec_state codec src held) unread left old_reads new_reads answer after

@@ -63,6 +63,10 @@ fn move_to_front<A: Allocator + Copy>(src: &mut BytesMut<A>)
     ensures { src.new.items ≡ src.old.items }
 {
     let len = src.len();
+    if len == 0 {
+        src.clear();
+        return;
+    }
     if len > FEW {
         return;
     }
@@ -255,6 +259,29 @@ impl<R: Read, A: Allocator + Copy> Input<R, A> {
         self.decode(codec)
     }
 
+    // The same by a look at how many bytes there are, while one comes.
+    #[inline(always)]
+    fn find_next(
+        &mut self,
+        codec: &mut PacketCodec,
+        lends: bool,
+    ) -> Result<Option<Found<A>>, PacketIoError>
+        requires stands { Stands (input_state codec.old None self.old) }
+        requires found { IsFalse self.old.lost }
+        ensures takes { TakesPacket (input_state codec.old None self.old)
+            (answer_over result self.new.src.items) self.new.lost
+            (input_state codec.new (found_in result) self.new) }
+        ensures there { IsThere (found_in result) self.new.src.items }
+        ensures apart { IsFalse lends → IsCopied (found_in result) }
+        ensures kept { (self.new.reader ≡ self.old.reader) × (self.new.reads ≡ self.old.reads)
+            × (codec.new.max_allowed_packet ≡ codec.old.max_allowed_packet) }
+    {
+        if codec.waits_at(self.src.as_slice()) {
+            return Ok(None);
+        }
+        self.find(codec, lends)
+    }
+
     // What the end of the input means here.
     fn at_end(&self) -> Result<Option<Found<A>>, PacketIoError>
         ensures ends { EndsAt (answer_over result self.now.src.items) (length self.now.src.items)
@@ -291,7 +318,7 @@ impl<R: Read, A: Allocator + Copy> Input<R, A> {
         ensures loses { IsTrue self.new.lost ↔ (result ≡ Err PacketIoError.PacketsOutOfSync) }
     {
         'reads: loop {
-            match self.find(codec, lends) {
+            match self.find_next(codec, lends) {
                 Ok(Some(found)) => return Ok(Some(found)),
                 Ok(None) => {}
                 Err(error) => return Err(error),

@@ -386,6 +386,26 @@ impl<R: Read, A: Allocator + Copy> PacketReader<R, A> {
             self.lent = Some(Found::InFront(chunk));
             return Ok(true);
         }
+        self.fill_by_reads(codec)
+    }
+
+    // `fill_packet` where no packet lies whole in front. A call would have the codec and the reader
+    // in memory for each packet that does.
+    #[inline(always)]
+    fn fill_by_reads(&mut self, codec: &mut PacketCodec) -> Result<bool, PacketIoError>
+        requires fits { FitsAt self.old.is_lost (reading_state codec.old self.old) }
+        requires found { IsFalse self.old.is_lost }
+        requires none { IsNone self.old.lent }
+        ensures fills { ReadsPacket R.remaining codec.old self.old
+            (answer_lent result self.new.lent) codec.new self.new }
+        ensures lends { IfOk result (λ ready. (IsTrue ready ↔ IsSome self.new.lent)
+            × IsFalse self.new.is_lost) }
+        ensures refused { OnErr result (IsNone self.new.lent) }
+        ensures fits { FitsAt self.new.is_lost (reading_state codec.new self.new) }
+        ensures loses { IsTrue self.new.is_lost ↔ (result ≡ Err PacketIoError.PacketsOutOfSync) }
+        ensures rest { (self.new.skipped ≡ self.old.skipped) × (self.new.copied ≡ self.old.copied)
+            × (codec.new.max_allowed_packet ≡ codec.old.max_allowed_packet) }
+    {
         match self.input.next(codec, true) {
             Ok(found) => {
                 self.lent = found;

@@ -5,7 +5,7 @@ ghost use Rattle.wire_codec.specs.Codec.{state_at, Stands};
 ghost use Rattle.wire_codec.specs.Delivery.{IsBounded};
 ghost use Rattle.wire_codec.specs.Runs.{HandsOut, TakesPieces, Waits, joined, payloads};
 
-use crate::codec::error::PacketCodecError;
+use crate::codec::error::{PacketCodecError, Refusal};
 use crate::codec::packet::PacketCodec;
 use crate::codec::pieces::take_pieces;
 use crate::codec::taking::PacketSink;
@@ -26,15 +26,14 @@ impl<A: Allocator + Copy> PacketSink<A, Vec<Vec<u8, A>, A>> for CollectSink {
 
     ghost joins = { λ old mid new ps qs first more. Prim.search (rules, common_steps) };
 
-    #[inline(always)]
     fn take_next(
         codec: &mut PacketCodec,
         src: &mut BytesMut<A>,
         dst: &mut Vec<u8, A>,
         out: &mut Vec<Vec<u8, A>, A>,
-    ) -> Result<bool, PacketCodecError> {
+    ) -> Result<bool, Refusal> {
         if out.reserve(1).is_err() {
-            return Err(PacketCodecError::OutOfMemory);
+            return Err(Refusal::OutOfMemory);
         }
         match codec.decode_on(src, dst) {
             Ok(true) => {
@@ -42,7 +41,7 @@ impl<A: Allocator + Copy> PacketSink<A, Vec<Vec<u8, A>, A>> for CollectSink {
                 Ok(true)
             }
             Ok(false) => Ok(false),
-            Err(error) => Err(error),
+            Err(refusal) => Err(refusal),
         }
     }
 }

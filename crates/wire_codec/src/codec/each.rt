@@ -7,7 +7,7 @@ ghost use Rattle.wire_codec.specs.Delivery.{IsBounded};
 ghost use Rattle.wire_codec.specs.Runs.{TakesPieces, Visited, Waits, joined};
 ghost use Rattle.wire_codec.specs.Taking.{FoldsTo-append};
 
-use crate::codec::error::PacketCodecError;
+use crate::codec::error::{PacketCodecError, Refusal};
 use crate::codec::packet::PacketCodec;
 use crate::codec::pieces::take_pieces;
 use crate::codec::taking::PacketSink;
@@ -36,13 +36,12 @@ impl<A: Allocator + Copy, V: Visit> PacketSink<A, V> for VisitSink {
 
     ghost joins = { λ old mid new ps qs first more. FoldsTo-append V.sees old mid new ps qs first more };
 
-    #[inline(always)]
     fn take_next(
         codec: &mut PacketCodec,
         src: &mut BytesMut<A>,
         dst: &mut Vec<u8, A>,
         out: &mut V,
-    ) -> Result<bool, PacketCodecError> {
+    ) -> Result<bool, Refusal> {
         if let Some(packet) = codec.front_packet(src, dst.as_slice()) {
             out.visit(packet);
             codec.take_front(src);
@@ -55,7 +54,7 @@ impl<A: Allocator + Copy, V: Visit> PacketSink<A, V> for VisitSink {
                 Ok(true)
             }
             Ok(false) => Ok(false),
-            Err(error) => Err(error),
+            Err(refusal) => Err(refusal),
         }
     }
 }

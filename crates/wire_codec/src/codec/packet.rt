@@ -1,19 +1,20 @@
 //! Whole packets.
 
-ghost use Rattle.std.specs.Prelude.{◌≡◌, ◌≢◌, ℕ, ◌+◌, ◌%◌, ◌<◌, ◌≤◌, ◌↔◌, ◌⊎◌, OnOk, OnErr, IfErr, Err, List, [], length, None, true, false, IsTrue, IsFalse, MatchOption, slice_index, ◌++◌};
+ghost use Rattle.std.specs.Prelude.{◌≡◌, ◌≢◌, ℕ, ◌+◌, ◌%◌, ◌<◌, ◌≤◌, ◌↔◌, ◌⊎◌, OnOk, OnErr, IfErr, Ok, Err, List, [], length, None, true, false, IsTrue, IsFalse, MatchOption, slice_index, ◌++◌};
 ghost use Rattle.wire_codec.specs.Delivery.{chunk_len, IsBounded, IsSpelled};
+ghost use Rattle.wire_codec.specs.Refusals.{answer_of, error_of, told};
 
 mod front;
 mod skip;
 
 use crate::codec::chunk::{ChunkDecoder, ChunkInfo, PacketDst};
-use crate::codec::error::PacketCodecError;
+use crate::codec::error::{PacketCodecError, Refusal};
 use crate::codec::framing::put_packet;
 use crate::codec::header::{HEADER_LEN, Header};
 use crate::codec::room::{bytes_to_take, fits, is_full_chunks, whole_chunk};
 use bytes::{Buf, BytesMut};
 pub use skip::Skipped;
-use std::alloc::Allocator;
+use std::alloc::{AllocError, Allocator};
 use std::num::NonZeroUsize;
 use wire_buf::lengths::DEFAULT_MAX_ALLOWED_PACKET;
 
@@ -50,7 +51,8 @@ impl Default for PacketCodec {
 }
 
 impl PacketCodec {
-    ghost use Rattle.wire_codec.specs.Codec.{expected_id, header_of, codec_state, first_id, Stands, StandsAgain, DecodesStanding, IsChain, HasChunk, WaitsBounded};
+    ghost use Rattle.wire_codec.specs.Codec.{expected_id, header_of, codec_state, first_id, Stands, StandsAgain, ChunkChain, DecodesStanding, IsChain, HasChunk, WaitsBounded};
+    ghost use Rattle.wire_codec.specs.GoingOn.{Decodes};
     ghost use Rattle.wire_codec.specs.LimitedRuns.{Aligned, DecodesWhereAligned};
     ghost use Rattle.wire_codec.specs.Framing.{framing, next_id};
 
@@ -108,6 +110,35 @@ impl PacketCodec {
         }
     }
 
+    /// Whether `decode` is seen to wait at these unread bytes, whatever `dst` holds: fewer have come
+    /// than a header has, or than the chunk in front has, whose header `decode` saw before. Then
+    /// more are to be read. It looks at the header of no chunk, so that `decode` may wait after
+    /// false too.
+    ///
+    /// <https://dev.mysql.com/doc/dev/mysql-server/latest/page_protocol_basic_packets.html>
+    pub fn waits_at(&self, unread: &[u8]) -> bool
+        ensures waits { IsTrue result ↔ MatchOption (header_of self.now) (length unread.now < 4)
+            (λ header. length unread.now < 4 + header.1) }
+        // It is what `decode` answers false at, and changes nothing.
+        ensures decodes { (dst : List ℕ) → let state = codec_state self.now unread.now dst in
+            IsTrue result → DecodesStanding state (Ok false) state }
+        // The same in the middle of a stream, of which each byte has its limit.
+        ensures on { (dst : List ℕ) → let state = codec_state self.now unread.now dst in
+            IsTrue result → Decodes state (Ok false) state }
+        ensures chain { (dst : List ℕ) → let state = codec_state self.now unread.now dst in
+            IsTrue result → ChunkChain 0 state (Ok false) state }
+    {
+        self.has_byte_id();
+        let came = unread.len();
+        if came < HEADER_LEN {
+            return true;
+        }
+        match self.decoder {
+            ChunkDecoder::Idle => false,
+            ChunkDecoder::Chunk { needed, .. } => came - HEADER_LEN < needed.get(),
+        }
+    }
+
     /// Takes chunks from the front of `src` until a packet is whole, and puts their payload bytes
     /// after what `dst` holds, which is asked for room once, for all bytes that the call takes.
     /// The answer is whether `dst` now holds a whole packet. After false the call is made again
@@ -145,7 +176,7 @@ impl PacketCodec {
         ensures shorter { result ≡ Ok true → length src.new.items < length src.old.items }
         ensures limit { self.new.max_allowed_packet ≡ self.old.max_allowed_packet }
     {
-        self.decode_on(src, dst)
+        answered(self.decode_on(src, dst))
     }
 
     /// Appends the packet's chunks to `dst` and empties the packet, where it has at most
@@ -240,6 +271,42 @@ impl PacketCodec {
     }
 }
 
+// What a call comes to, in a byte: one that isn't inlined answers it in a register.
+#[derive(Clone, Copy)]
+enum Outcome {
+    Whole,
+    Waits,
+    PacketTooLarge,
+    PacketsOutOfSync,
+    OutOfMemory,
+}
+
+impl Outcome {
+    fn of(answer: Result<bool, Refusal>) -> Self
+        ensures { told result ≡ answer_of answer }
+    {
+        match answer {
+            Ok(true) => Outcome::Whole,
+            Ok(false) => Outcome::Waits,
+            Err(Refusal::PacketTooLarge) => Outcome::PacketTooLarge,
+            Err(Refusal::PacketsOutOfSync) => Outcome::PacketsOutOfSync,
+            Err(Refusal::OutOfMemory) => Outcome::OutOfMemory,
+        }
+    }
+
+    fn answer(self) -> Result<bool, Refusal>
+        ensures { answer_of result ≡ told self }
+    {
+        match self {
+            Outcome::Whole => Ok(true),
+            Outcome::Waits => Ok(false),
+            Outcome::PacketTooLarge => Err(Refusal::PacketTooLarge),
+            Outcome::PacketsOutOfSync => Err(Refusal::PacketsOutOfSync),
+            Outcome::OutOfMemory => Err(Refusal::OutOfMemory),
+        }
+    }
+}
+
 // What one chunk brought.
 enum Progress {
     // The packet is whole.
@@ -256,33 +323,39 @@ impl PacketCodec {
     ghost use Rattle.wire_codec.specs.GoingOn.{PacketSink, Decodes};
     ghost use Rattle.wire_codec.specs.OneChunk.{IsTakeable};
 
+    // A sequence id is a byte.
+    fn has_byte_id(&self)
+        ensures { expected_id self.now < 256 }
+    {
+        self.sequence_id();
+    }
+
     // Takes one chunk, the next link of a chain.
-    #[inline(always)]
     fn link_chunk<T: PacketDst>(
         &mut self,
         src: &mut BytesMut<impl Allocator + Copy>,
         dst: &mut T,
-    ) -> Result<Progress, PacketCodecError>
-        ensures links { IsLink (codec_state self.old src.old.items (T.held dst.old)) result
-            (codec_state self.new src.new.items (T.held dst.new)) }
+    ) -> Result<Progress, Refusal>
+        ensures links { IsLink (codec_state self.old src.old.items (T.held dst.old))
+            (answer_of result) (codec_state self.new src.new.items (T.held dst.new)) }
         ensures spelled { IsSpelled src.old.items }
         ensures small { expected_id self.old < 256 }
         ensures limit { self.new.max_allowed_packet ≡ self.old.max_allowed_packet }
     {
         let expected = self.seq_id;
-        match self.decoder.decode(src, dst, self.max_allowed_packet) {
-            Err(error) => Err(error),
+        match self.decoder.take(src, dst, self.max_allowed_packet) {
+            Err(refusal) => Err(refusal),
             Ok(None) => Ok(Progress::Starved),
             Ok(Some(ChunkInfo::Last(id))) => {
                 if id != expected {
-                    return Err(PacketCodecError::PacketsOutOfSync);
+                    return Err(Refusal::PacketsOutOfSync);
                 }
                 self.seq_id = id.wrapping_add(1);
                 Ok(Progress::Whole)
             }
             Ok(Some(ChunkInfo::Middle(id))) => {
                 if id != expected {
-                    return Err(PacketCodecError::PacketsOutOfSync);
+                    return Err(Refusal::PacketsOutOfSync);
                 }
                 self.seq_id = id.wrapping_add(1); // after 255 comes 0
                 if src.is_empty() {
@@ -295,18 +368,17 @@ impl PacketCodec {
     }
 
     // Takes one chunk: what it is to the packet.
-    #[inline(always)]
     fn take_chunk<T: PacketDst>(
         &mut self,
         src: &mut BytesMut<impl Allocator + Copy>,
         dst: &mut T,
-    ) -> Result<Progress, PacketCodecError>
-        ensures takes { TakesStanding (codec_state self.old src.old.items (T.held dst.old)) result
-            (codec_state self.new src.new.items (T.held dst.new)) }
-        ensures links { IsLink (codec_state self.old src.old.items (T.held dst.old)) result
-            (codec_state self.new src.new.items (T.held dst.new)) }
-        ensures on { PacketSink (codec_state self.old src.old.items (T.held dst.old)) result
-            (codec_state self.new src.new.items (T.held dst.new)) }
+    ) -> Result<Progress, Refusal>
+        ensures takes { TakesStanding (codec_state self.old src.old.items (T.held dst.old))
+            (answer_of result) (codec_state self.new src.new.items (T.held dst.new)) }
+        ensures links { IsLink (codec_state self.old src.old.items (T.held dst.old))
+            (answer_of result) (codec_state self.new src.new.items (T.held dst.new)) }
+        ensures on { PacketSink (codec_state self.old src.old.items (T.held dst.old))
+            (answer_of result) (codec_state self.new src.new.items (T.held dst.new)) }
         ensures more { result ≡ Ok Progress.More → length src.new.items < length src.old.items }
         ensures whole { result ≡ Ok Progress.Whole → length src.new.items < length src.old.items }
         ensures limit { self.new.max_allowed_packet ≡ self.old.max_allowed_packet }
@@ -321,11 +393,10 @@ impl PacketCodec {
         needed: NonZeroUsize,
         src: &BytesMut<impl Allocator + Copy>,
         dst: &T,
-    ) -> PacketCodecError
+    )
         requires takeable { IsTakeable (header_of self.old) src.now.items (length (T.held dst.now))
             self.old.max_allowed_packet seq_id (non_zero_usize_get needed) }
         requires small { expected_id self.old < 256 }
-        ensures memory { result ≡ PacketCodecError.OutOfMemory }
         ensures refused { LacksMemory
             (codec_state self.old src.now.items (T.held dst.now))
             (codec_state self.new src.now.items (T.held dst.now)) }
@@ -340,19 +411,16 @@ impl PacketCodec {
         ensures limit { self.new.max_allowed_packet ≡ self.old.max_allowed_packet }
     {
         self.decoder = ChunkDecoder::Chunk { seq_id, needed };
-        PacketCodecError::OutOfMemory
     }
 
     // Takes room in `dst` for all bytes that one call takes. Where there is none, the chunk in
     // front is remembered.
-    #[inline(always)]
     fn make_room<T: PacketDst>(
         &mut self,
         src: &BytesMut<impl Allocator + Copy>,
         dst: &mut T,
-    ) -> Result<(), PacketCodecError>
+    ) -> Result<(), AllocError>
         ensures ok { OnOk result (self.new ≡ self.old) }
-        ensures memory { IfErr result (λ error. error ≡ PacketCodecError.OutOfMemory) }
         ensures refused { OnErr result (LacksMemory
             (codec_state self.old src.now.items (T.held dst.old))
             (codec_state self.new src.now.items (T.held dst.new))) }
@@ -376,80 +444,109 @@ impl PacketCodec {
             None => Ok(()),
             Some((seq_id, needed)) => {
                 let room = bytes_to_take(seq_id, needed, front, held, limit, self.seq_id);
-                match dst.reserve(room) {
-                    Ok(()) => Ok(()),
-                    Err(_) => Err(self.lack_room(seq_id, needed, src, dst)),
+                if dst.reserve(room).is_ok() {
+                    return Ok(());
                 }
+                self.lack_room(seq_id, needed, src, dst);
+                Err(AllocError)
             }
         }
     }
 
-    // Whether the chunk in front is seen to lack bytes: its header hasn't come whole, or is
-    // remembered and stands before fewer bytes than it states.
-    fn lacks_bytes(&self, came: usize) -> bool
-        ensures { IsTrue result
-            → MatchOption (header_of self.now) (came < 4) (λ header. came < 4 + header.1) }
-    {
-        if came < HEADER_LEN {
-            return true;
-        }
-        match self.decoder {
-            ChunkDecoder::Idle => false,
-            ChunkDecoder::Chunk { needed, .. } => came - HEADER_LEN < needed.get(),
-        }
-    }
-
-    // `decode`, and what it makes of a run whose bytes came under different limits.
+    // `decode` with a small reason, and what it makes of a run whose bytes came under different
+    // limits.
     #[inline(always)]
     pub(crate) fn decode_on<T: PacketDst>(
         &mut self,
         src: &mut BytesMut<impl Allocator + Copy>,
         dst: &mut T,
-    ) -> Result<bool, PacketCodecError>
+    ) -> Result<bool, Refusal>
         ensures decodes { DecodesStanding (codec_state self.old src.old.items (T.held dst.old))
-            result (codec_state self.new src.new.items (T.held dst.new)) }
-        ensures on { Decodes (codec_state self.old src.old.items (T.held dst.old)) result
-            (codec_state self.new src.new.items (T.held dst.new)) }
-        ensures chain { IsChain (codec_state self.old src.old.items (T.held dst.old)) result
-            (codec_state self.new src.new.items (T.held dst.new)) }
+            (answer_of result) (codec_state self.new src.new.items (T.held dst.new)) }
+        ensures on { Decodes (codec_state self.old src.old.items (T.held dst.old))
+            (answer_of result) (codec_state self.new src.new.items (T.held dst.new)) }
+        ensures chain { IsChain (codec_state self.old src.old.items (T.held dst.old))
+            (answer_of result) (codec_state self.new src.new.items (T.held dst.new)) }
         ensures memory { let before = codec_state self.old src.old.items (T.held dst.old) in
-            result ≡ Err PacketCodecError.OutOfMemory → HasChunk before }
+            answer_of result ≡ Err PacketCodecError.OutOfMemory → HasChunk before }
         ensures shorter { result ≡ Ok true → length src.new.items < length src.old.items }
         ensures limit { self.new.max_allowed_packet ≡ self.old.max_allowed_packet }
     {
-        if !self.lacks_bytes(src.len()) {
-            // The common case: a packet of one chunk, of which all is known before it is put.
-            match self.front_packet_in(src.as_slice(), dst.as_ref()) {
-                Some(packet) => {
-                    if let Some(needed) = NonZeroUsize::new(packet.len()) {
-                        if !put_whole(packet, dst) {
-                            return Err(self.lack_room(self.seq_id, needed, src, dst));
-                        }
-                        self.take_front(src);
-                        return Ok(true);
-                    }
+        let front = src.as_slice();
+        if self.waits_at(front) {
+            begin_block(src);
+            return Ok(false);
+        }
+        // The common case: a packet of one chunk, of which all is known before it is put.
+        if let Some(packet) = self.front_packet_in(front, dst.as_ref()) {
+            if let Some(needed) = NonZeroUsize::new(packet.len()) {
+                if !put_whole(packet, dst) {
+                    self.lack_room(self.seq_id, needed, src, dst);
+                    return Err(Refusal::OutOfMemory);
                 }
-                None => self.make_room(src, dst)?,
+                self.take_front(src);
+                return Ok(true);
             }
         }
+        self.go_on(src, dst).answer()
+    }
+
+    // The same of a packet that isn't whole in front. No part of its caller's loop.
+    #[inline(never)]
+    fn go_on<T: PacketDst>(
+        &mut self,
+        src: &mut BytesMut<impl Allocator + Copy>,
+        dst: &mut T,
+    ) -> Outcome
+        ensures decodes { DecodesStanding (codec_state self.old src.old.items (T.held dst.old))
+            (told result) (codec_state self.new src.new.items (T.held dst.new)) }
+        ensures on { Decodes (codec_state self.old src.old.items (T.held dst.old))
+            (told result) (codec_state self.new src.new.items (T.held dst.new)) }
+        ensures chain { IsChain (codec_state self.old src.old.items (T.held dst.old))
+            (told result) (codec_state self.new src.new.items (T.held dst.new)) }
+        ensures memory { let before = codec_state self.old src.old.items (T.held dst.old) in
+            told result ≡ Err PacketCodecError.OutOfMemory → HasChunk before }
+        ensures shorter { told result ≡ Ok true → length src.new.items < length src.old.items }
+        ensures limit { self.new.max_allowed_packet ≡ self.old.max_allowed_packet }
+    {
+        Outcome::of(self.take_all(src, dst))
+    }
+
+    // The chunks of one call, with room for all of them.
+    fn take_all<T: PacketDst>(
+        &mut self,
+        src: &mut BytesMut<impl Allocator + Copy>,
+        dst: &mut T,
+    ) -> Result<bool, Refusal>
+        ensures decodes { DecodesStanding (codec_state self.old src.old.items (T.held dst.old))
+            (answer_of result) (codec_state self.new src.new.items (T.held dst.new)) }
+        ensures on { Decodes (codec_state self.old src.old.items (T.held dst.old))
+            (answer_of result) (codec_state self.new src.new.items (T.held dst.new)) }
+        ensures chain { IsChain (codec_state self.old src.old.items (T.held dst.old))
+            (answer_of result) (codec_state self.new src.new.items (T.held dst.new)) }
+        ensures memory { let before = codec_state self.old src.old.items (T.held dst.old) in
+            answer_of result ≡ Err PacketCodecError.OutOfMemory → HasChunk before }
+        ensures shorter { result ≡ Ok true → length src.new.items < length src.old.items }
+        ensures limit { self.new.max_allowed_packet ≡ self.old.max_allowed_packet }
+    {
+        self.make_room(src, dst)?;
         self.take_chunks(src, dst)
     }
 
     // The chunks of one call, one after another.
-    #[inline(always)]
     fn take_chunks<T: PacketDst>(
         &mut self,
         src: &mut BytesMut<impl Allocator + Copy>,
         dst: &mut T,
-    ) -> Result<bool, PacketCodecError>
+    ) -> Result<bool, Refusal>
         ensures decodes { DecodesStanding (codec_state self.old src.old.items (T.held dst.old))
-            result (codec_state self.new src.new.items (T.held dst.new)) }
-        ensures chain { IsChain (codec_state self.old src.old.items (T.held dst.old)) result
-            (codec_state self.new src.new.items (T.held dst.new)) }
+            (answer_of result) (codec_state self.new src.new.items (T.held dst.new)) }
+        ensures chain { IsChain (codec_state self.old src.old.items (T.held dst.old))
+            (answer_of result) (codec_state self.new src.new.items (T.held dst.new)) }
         ensures memory { let before = codec_state self.old src.old.items (T.held dst.old) in
-            result ≡ Err PacketCodecError.OutOfMemory → HasChunk before }
-        ensures on { Decodes (codec_state self.old src.old.items (T.held dst.old)) result
-            (codec_state self.new src.new.items (T.held dst.new)) }
+            answer_of result ≡ Err PacketCodecError.OutOfMemory → HasChunk before }
+        ensures on { Decodes (codec_state self.old src.old.items (T.held dst.old))
+            (answer_of result) (codec_state self.new src.new.items (T.held dst.new)) }
         ensures shorter { result ≡ Ok true → length src.new.items < length src.old.items }
         ensures limit { self.new.max_allowed_packet ≡ self.old.max_allowed_packet }
     {
@@ -458,7 +555,7 @@ impl PacketCodec {
                 Ok(Progress::Whole) => return Ok(true),
                 Ok(Progress::Starved) => return Ok(false),
                 Ok(Progress::More) => {}
-                Err(error) => return Err(error),
+                Err(refusal) => return Err(refusal),
             }
         }
     }
@@ -476,6 +573,34 @@ fn refuse(is_large: bool) -> Result<(), PacketCodecError>
         PacketCodecError::OutOfMemory
     };
     Err(error)
+}
+
+// Where nothing is unread, what comes next lies at the front of the block.
+fn begin_block(src: &mut BytesMut<impl Allocator + Copy>)
+    ensures { src.new.items ≡ src.old.items }
+{
+    if src.is_empty() {
+        src.clear();
+    }
+}
+
+// An answer with the public error.
+fn answered(answer: Result<bool, Refusal>) -> Result<bool, PacketCodecError>
+    ensures { result ≡ answer_of answer }
+{
+    match answer {
+        Ok(is_whole) => Ok(is_whole),
+        Err(refusal) => refused(refusal),
+    }
+}
+
+// Its error, by a function of its own, so that the bytes of an error are zeroed only where one is
+// answered.
+#[inline(never)]
+fn refused(refusal: Refusal) -> Result<bool, PacketCodecError>
+    ensures { result ≡ Err (error_of refusal) }
+{
+    Err(PacketCodecError::from(refusal))
 }
 
 // Takes room for a packet, and puts it there: whether neither was refused.

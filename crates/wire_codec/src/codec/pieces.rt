@@ -6,7 +6,7 @@ ghost use Rattle.wire_codec.specs.Codec.{state_at};
 ghost use Rattle.wire_codec.specs.LimitedRuns.{Aligned};
 ghost use Rattle.wire_codec.specs.Taking.{pieces_for, RunsPieces};
 
-use crate::codec::error::PacketCodecError;
+use crate::codec::error::{PacketCodecError, Refusal};
 use crate::codec::packet::PacketCodec;
 use crate::codec::taking::{PacketSink, drain};
 use bytes::BytesMut;
@@ -51,9 +51,9 @@ impl Piece for (usize, &[u8]) {
 }
 
 // Appends a piece.
-fn append<A: Allocator + Copy>(src: &mut BytesMut<A>, piece: &[u8]) -> Result<(), PacketCodecError>
+fn append<A: Allocator + Copy>(src: &mut BytesMut<A>, piece: &[u8]) -> Result<(), Refusal>
     ensures src { OnOk result (src.new.items ≡ src.old.items ++ piece.now) }
-    ensures memory { IfErr result (λ error. error ≡ PacketCodecError.OutOfMemory) }
+    ensures memory { IfErr result (λ refusal. refusal ≡ Refusal.OutOfMemory) }
     ensures kept { OnErr result (src.new.items ≡ src.old.items) }
 {
     src.extend_from_slice(piece)?;
@@ -77,18 +77,18 @@ pub(crate) fn take_pieces<A: Allocator + Copy, O, K: PacketSink<A, O>, P: Piece>
     let own = codec.max_allowed_packet;
     match drain::<A, O, K>(codec, src, dst, own, out) {
         Ok(()) => {}
-        Err(error) => return (0, Err(error)),
+        Err(refusal) => return (0, Err(PacketCodecError::from(refusal))),
     }
     let mut count = 0;
     for piece in pieces {
         match append(src, piece.bytes()) {
             Ok(()) => {}
-            Err(error) => return (count, Err(error)),
+            Err(refusal) => return (count, Err(PacketCodecError::from(refusal))),
         }
         count += 1;
         match drain::<A, O, K>(codec, src, dst, piece.limit(own), out) {
             Ok(()) => {}
-            Err(error) => return (count, Err(error)),
+            Err(refusal) => return (count, Err(PacketCodecError::from(refusal))),
         }
     }
     (count, Ok(()))

@@ -2,9 +2,10 @@
 
 ghost use Rattle.std.specs.Prelude.{◌≡◌, ℕ, ◌<◌, ◌++◌, List, [], length, Ok, true};
 ghost use Rattle.wire_codec.specs.Codec.{state_at};
+ghost use Rattle.wire_codec.specs.Refusals.{answer_of};
 ghost use Rattle.wire_codec.specs.Taking.{Drains, TakesOne};
 
-use crate::codec::error::PacketCodecError;
+use crate::codec::error::Refusal;
 use crate::codec::packet::PacketCodec;
 use bytes::BytesMut;
 use std::alloc::Allocator;
@@ -20,9 +21,9 @@ pub(crate) trait PacketSink<A: Allocator + Copy, O> {
         src: &mut BytesMut<A>,
         dst: &mut Vec<u8, A>,
         out: &mut O,
-    ) -> Result<bool, PacketCodecError>
-        ensures takes { TakesOne took (state_at codec.old src.old dst.old) result out.old out.new
-            (state_at codec.new src.new dst.new) }
+    ) -> Result<bool, Refusal>
+        ensures takes { TakesOne took (state_at codec.old src.old dst.old) (answer_of result) out.old
+            out.new (state_at codec.new src.new dst.new) }
         ensures shorter { result ≡ Ok true → length src.new.items < length src.old.items }
         ensures limit { codec.new.max_allowed_packet ≡ codec.old.max_allowed_packet };
 
@@ -34,16 +35,15 @@ pub(crate) trait PacketSink<A: Allocator + Copy, O> {
 
 // Takes packets under this limit until more bytes are needed, whatever limits the earlier bytes
 // came under. The limit is the codec's then.
-#[inline(always)]
 pub(crate) fn drain<A: Allocator + Copy, O, K: PacketSink<A, O>>(
     codec: &mut PacketCodec,
     src: &mut BytesMut<A>,
     dst: &mut Vec<u8, A>,
     limit: usize,
     out: &mut O,
-) -> Result<(), PacketCodecError>
+) -> Result<(), Refusal>
     ensures on { Drains K.took (record (state_at codec.old src.old dst.old) { limit = limit })
-        result out.old out.new (state_at codec.new src.new dst.new) }
+        (answer_of result) out.old out.new (state_at codec.new src.new dst.new) }
     ensures limit { codec.new.max_allowed_packet ≡ limit }
 {
     codec.max_allowed_packet = limit;
@@ -51,7 +51,7 @@ pub(crate) fn drain<A: Allocator + Copy, O, K: PacketSink<A, O>>(
         match K::take_next(codec, src, dst, out) {
             Ok(true) => {}
             Ok(false) => return Ok(()),
-            Err(error) => return Err(error),
+            Err(refusal) => return Err(refusal),
         }
     }
 }

@@ -57,7 +57,6 @@ impl PacketCodec {
     /// is taken by `accept_front_in`.
     ///
     /// <https://dev.mysql.com/doc/dev/mysql-server/latest/page_protocol_basic_packets.html>
-    #[inline(always)]
     #[tactic(auto, using(crate::specs::Framing::max_payload_is))]
     pub fn front_packet_in<'a>(&self, front: &'a [u8], dst: &[u8]) -> Option<&'a [u8]>
         ensures there { IsSome result ↔ HasFront (codec_state self.now front.now dst.now) }
@@ -71,6 +70,9 @@ impl PacketCodec {
         let Some(header) = Header::read(front) else {
             return None;
         };
+        if front.len() - HEADER_LEN < header.len {
+            return None;
+        }
         if !self.passes(header) {
             return None;
         }
@@ -78,9 +80,6 @@ impl PacketCodec {
             return None;
         }
         if header.len == MAX_PAYLOAD_LEN {
-            return None;
-        }
-        if front.len() - HEADER_LEN < header.len {
             return None;
         }
         Some(&front[HEADER_LEN..HEADER_LEN + header.len])
@@ -92,7 +91,6 @@ impl PacketCodec {
     /// such a packet.
     ///
     /// `encode` then bears the id after the packet, while its bytes are still read.
-    #[inline(always)]
     pub fn accept_front(&mut self, src: &BytesMut<impl Allocator + Copy>) -> usize
         requires { HasFront (codec_state self.old src.now.items []) }
         ensures chunk { result ≡ 4 + chunk_len src.now.items }
@@ -119,7 +117,6 @@ impl PacketCodec {
     }
 
     /// As `accept_front`, where the unread bytes lie anywhere: for what `front_packet_in` lends.
-    #[inline(always)]
     pub fn accept_front_in(&mut self, front: &[u8]) -> usize
         requires { HasFront (codec_state self.old front.now []) }
         ensures chunk { result ≡ 4 + chunk_len front.now }
@@ -154,7 +151,6 @@ impl PacketCodec {
     ///
     /// Both together are a `decode` that answers true, with the packet in place of what `dst` would
     /// hold.
-    #[inline(always)]
     pub fn take_front(&mut self, src: &mut BytesMut<impl Allocator + Copy>)
         requires { HasFront (codec_state self.old src.old.items []) }
         ensures decodes { DecodesStanding (codec_state self.old src.old.items []) (Ok true)

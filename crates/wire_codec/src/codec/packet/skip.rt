@@ -3,12 +3,13 @@
 ghost use Rattle.std.specs.Prelude.{◌≡◌, ◌+◌, ◌%◌, ◌<◌, ◌≤◌, ◌⊎◌, ◌↔◌, length, slice_index, None, Ok, Err, IfOk, IfErr, IfSome, IsSome, IsTrue, OnOk, OnErr};
 ghost use Rattle.wire_codec.specs.Codec.{CodecState, expected_id, header_of};
 ghost use Rattle.wire_codec.specs.Delivery.{chunk_len, IsSpelled};
+ghost use Rattle.wire_codec.specs.Refusals.{answer_of};
 ghost use Rattle.wire_codec.specs.Skipping.{AtChunk, DropsChunk, IsPast, MaySkip, SkipsPacket, WouldStand};
 ghost use Rattle.wire_codec.specs.Framing.{max_payload};
 ghost use Rattle.std.specs.Int.NonZero.{non_zero_usize_get};
 
 use crate::codec::chunk::ChunkDecoder;
-use crate::codec::error::PacketCodecError;
+use crate::codec::error::{PacketCodecError, Refusal};
 use crate::codec::header::{HEADER_LEN, Header};
 use crate::codec::packet::{PacketCodec, Progress};
 use crate::codec::room::{fits, is_full_chunks};
@@ -51,7 +52,7 @@ impl Skipped {
 
 impl PacketCodec {
     // The header in front, where it has come whole. A remembered one isn't judged again.
-    fn judge(&self, front: &[u8], held: usize) -> Result<Option<Header>, PacketCodecError>
+    fn judge(&self, front: &[u8], held: usize) -> Result<Option<Header>, Refusal>
         ensures none { result ≡ Ok None → length front.now < 4 }
         ensures there { IfOk result (λ found. IfSome found (λ read. 4 ≤ length front.now)) }
         ensures len { IfOk result (λ found. IfSome found (λ read.
@@ -61,7 +62,7 @@ impl PacketCodec {
         ensures fits { IfOk result (λ found. IfSome found (λ read. IsSome (header_of self.now)
             ⊎ ((read.len ≡ 0) ⊎ (held + read.len ≤ self.now.max_allowed_packet)))) }
         ensures spelled { IsSpelled front.now }
-        ensures err { IfErr result (λ error. (error ≡ PacketCodecError.PacketTooLarge)
+        ensures err { IfErr result (λ refusal. (refusal ≡ Refusal.PacketTooLarge)
             × (header_of self.now ≡ None)
             × IsPast self.now.max_allowed_packet held front.now) }
     {
@@ -75,7 +76,7 @@ impl PacketCodec {
         if is_judged || header.len == 0 || fits(held, header.len, self.max_allowed_packet) {
             Ok(Some(header))
         } else {
-            Err(PacketCodecError::PacketTooLarge)
+            Err(Refusal::PacketTooLarge)
         }
     }
 
@@ -88,11 +89,11 @@ impl PacketCodec {
         left: usize,
         src: &mut BytesMut<impl Allocator + Copy>,
         skipped: &mut Skipped,
-    ) -> Result<Progress, PacketCodecError>
+    ) -> Result<Progress, Refusal>
         requires { expected ≡ expected_id self.old }
         ensures drops { (full : CodecState)
             → AtChunk header left skipped.old.held self.old src.old.items full
-            → DropsChunk result full skipped.new self.new src.new.items }
+            → DropsChunk (answer_of result) full skipped.new self.new src.new.items }
         ensures more { result ≡ Ok Progress.More → length src.new.items + left ≡ length src.old.items }
         ensures limit { self.new.max_allowed_packet ≡ self.old.max_allowed_packet }
     {
@@ -108,7 +109,7 @@ impl PacketCodec {
                 held: 0,
                 begun: None,
             };
-            return Err(PacketCodecError::PacketsOutOfSync);
+            return Err(Refusal::PacketsOutOfSync);
         }
         self.seq_id = expected.wrapping_add(1); // after 255 comes 0
         if header.len < MAX_PAYLOAD_LEN {
@@ -136,10 +137,10 @@ impl PacketCodec {
         &mut self,
         src: &mut BytesMut<impl Allocator + Copy>,
         skipped: &mut Skipped,
-    ) -> Result<Progress, PacketCodecError>
+    ) -> Result<Progress, Refusal>
         ensures drops { (full : CodecState)
             → WouldStand skipped.old self.old src.old.items full
-            → DropsChunk result full skipped.new self.new src.new.items }
+            → DropsChunk (answer_of result) full skipped.new self.new src.new.items }
         ensures more { result ≡ Ok Progress.More → length src.new.items < length src.old.items }
         ensures limit { self.new.max_allowed_packet ≡ self.old.max_allowed_packet }
     {
@@ -148,7 +149,7 @@ impl PacketCodec {
             return self.drop_chunk(expected, begun.header, begun.left.get(), src, skipped);
         }
         match self.judge(src.as_slice(), skipped.held) {
-            Err(error) => Err(error),
+            Err(refusal) => Err(refusal),
             Ok(None) => Ok(Progress::Starved),
             Ok(Some(header)) => {
                 self.drop_chunk(expected, header, HEADER_LEN + header.len, src, skipped)
@@ -214,7 +215,7 @@ impl PacketCodec {
                 Ok(Progress::Whole) => return Ok(true),
                 Ok(Progress::Starved) => return Ok(false),
                 Ok(Progress::More) => {}
-                Err(error) => return Err(error),
+                Err(refusal) => return Err(PacketCodecError::from(refusal)),
             }
         }
     }

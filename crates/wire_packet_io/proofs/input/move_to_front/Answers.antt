@@ -9,9 +9,9 @@ slice_bounds-extend_reserved-end g c = front_len c.len-len.result c.copy_from_sl
 
 pub extend_reserved-requires : goal.extend_reserved-requires
 extend_reserved-requires g c =
-    front_fits c.len-len.result c.copy_from_slice.new.self _ c.args.src.now.items _ _ c.copy_from_slice.ensures.len c.if-len-gt-FEW.false c.len-len.ensures.value c.clear.ensures.spare
+    front_fits c.len-len.result c.copy_from_slice.new.self _ c.args.src.now.items _ _ c.copy_from_slice.ensures.len c.if-len-gt-FEW.false c.len-len.ensures.value c.clear-2.ensures.spare
 
 pub returns : goal.returns
 returns g c =
-    put_back c.len-len.result c.copy_from_slice.new.self _ c.args.src.now.items c.as_slice.result.now c.clear.new.self.items c.extend_reserved.new.self.items
-    c.copy_from_slice.ensures.len c.if-len-gt-FEW.false c.clear.ensures.items c.extend_reserved.ensures.items c.copy_from_slice.ensures.after c.as_slice.ensures
+    put_back c.len-len.result c.copy_from_slice.new.self _ c.args.src.now.items c.as_slice.result.now c.clear-2.new.self.items c.extend_reserved.new.self.items
+    c.copy_from_slice.ensures.len c.if-len-gt-FEW.false c.clear-2.ensures.items c.extend_reserved.ensures.items c.copy_from_slice.ensures.after c.as_slice.ensures

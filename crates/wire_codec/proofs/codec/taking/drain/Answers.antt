@@ -2,6 +2,7 @@ use Rattle.std.proofs.Common.{◌≡◌, ◌∙◌, [], refl, append-nil, ap, ar
 use Rattle.wire_codec.specs.declared.codec.error.PacketCodecError.{PacketCodecError}
 use Rattle.wire_codec.specs.Codec.{codec_state, first_id}
 use Rattle.wire_codec.specs.Limited.{place_after}
+use Rattle.wire_codec.specs.Refusals.{error_of}
 use Rattle.wire_codec.proofs.GoingOnLemmas.{splits_here_under}
 use Rattle.wire_codec.proofs.TakingLemmas.{has_taken_more, has_taken_all}
 use Rattle.wire_codec.proofs.codec.taking.drain.Goals as goal
@@ -58,6 +59,6 @@ returns-in-Err-clause-on g c limits mark place at =
     let next = c.in-Err.ensures.takes limits mark (place_after place run.0) run.3 in (
       run.0,
       rw (append-nil run.0) at (g.met.K.PacketSink.joins c.args.out.now c.packets.out c.take_next.new.out run.0 [] run.1 next.0),
-      has_taken_all g.K.PacketSink.took limits mark place _ _ _ c.args.out.now c.packets.out before after (Err c.in-Err.error) run next.1,
-      λ e. next.2 (same_error (Err c.in-Err.error) c.in-Err.error _ refl e),
+      has_taken_all g.K.PacketSink.took limits mark place _ _ _ c.args.out.now c.packets.out before after (Err (error_of c.in-Err.refusal)) run next.1,
+      λ e. next.2 (same_error (Err (error_of c.in-Err.refusal)) (error_of c.in-Err.refusal) _ refl e),
     )

@@ -17,24 +17,24 @@ reads-init g c = record {
 pub returns-in-Ok-Some-clause-next : goal.returns-in-Ok-Some-clause-next
 returns-in-Ok-Some-clause-next g c =
     let found = c.in-Ok-Some.found in
-    let src = c.find.new.self.src.items in
-    ends_by (answer_over (Ok (Some found)) src) c.find.new.self.lost (input_state c.args.codec.now None c.args.self.now) (input_state c.reads.codec None c.reads.self)
-    (input_state c.find.new.codec (Some found) c.find.new.self) _ _ _ _ _ _ c.reads.invariant.so_far (ap (λ z. g.R.Read.remaining z) c.find.ensures.kept.0) c.find.ensures.kept.1
+    let src = c.find_next.new.self.src.items in
+    ends_by (answer_over (Ok (Some found)) src) c.find_next.new.self.lost (input_state c.args.codec.now None c.args.self.now) (input_state c.reads.codec None c.reads.self)
+    (input_state c.find_next.new.codec (Some found) c.find_next.new.self) _ _ _ _ _ _ c.reads.invariant.so_far (ap (λ z. g.R.Read.remaining z) c.find_next.ensures.kept.0) c.find_next.ensures.kept.1
     (found_ends found src) (rw c.in-Ok-Some.field-0-is at c.in-Ok-Some.ensures.takes)
 
 pub returns-in-Err-clause-next : goal.returns-in-Err-clause-next
 returns-in-Err-clause-next g c =
-    ends_by (Err c.in-Err.error) c.find.new.self.lost (input_state c.args.codec.now None c.args.self.now) (input_state c.reads.codec None c.reads.self)
-    (input_state c.find.new.codec None c.find.new.self) _ _ _ _ _ _ c.reads.invariant.so_far (ap (λ z. g.R.Read.remaining z) c.find.ensures.kept.0) c.find.ensures.kept.1
+    ends_by (Err c.in-Err.error) c.find_next.new.self.lost (input_state c.args.codec.now None c.args.self.now) (input_state c.reads.codec None c.reads.self)
+    (input_state c.find_next.new.codec None c.find_next.new.self) _ _ _ _ _ _ c.reads.invariant.so_far (ap (λ z. g.R.Read.remaining z) c.find_next.ensures.kept.0) c.find_next.ensures.kept.1
     (λ e. absurd cc) c.in-Err.ensures.takes
 
 -- what was there had no packet
 waits : (g : given.Over) (c : In-Ok-None g)
-    → Waited (input_state c.args.codec.now None c.args.self.now) (input_state c.find.new.codec None c.find.new.self)
-    (g.R.Read.remaining c.args.self.now.reader) (g.R.Read.remaining c.find.new.self.reader) c.args.self.now.reads c.find.new.self.reads
+    → Waited (input_state c.args.codec.now None c.args.self.now) (input_state c.find_next.new.codec None c.find_next.new.self)
+    (g.R.Read.remaining c.args.self.now.reader) (g.R.Read.remaining c.find_next.new.self.reader) c.args.self.now.reads c.find_next.new.self.reads
 waits g c =
-    waited c.find.new.self.lost (input_state c.args.codec.now None c.args.self.now) (input_state c.reads.codec None c.reads.self) (input_state c.find.new.codec None c.find.new.self) _ _ _ _ _ _
-    c.reads.invariant.so_far (ap (λ z. g.R.Read.remaining z) c.find.ensures.kept.0) c.find.ensures.kept.1 c.find.ensures.kept.2 (rw c.in-Ok-None.field-0-is at c.in-Ok-None.ensures.takes)
+    waited c.find_next.new.self.lost (input_state c.args.codec.now None c.args.self.now) (input_state c.reads.codec None c.reads.self) (input_state c.find_next.new.codec None c.find_next.new.self) _ _ _ _ _ _
+    c.reads.invariant.so_far (ap (λ z. g.R.Read.remaining z) c.find_next.ensures.kept.0) c.find_next.ensures.kept.1 c.find_next.ensures.kept.2 (rw c.in-Ok-None.field-0-is at c.in-Ok-None.ensures.takes)
 
 pub returns-in-Ok-eq0-clause-next : goal.returns-in-Ok-eq0-clause-next
 returns-in-Ok-eq0-clause-next g c =
@@ -42,13 +42,13 @@ returns-in-Ok-eq0-clause-next g c =
     let now = c.read_more.new.self in
     let answer = answer_over c.at_end.result now.src.items in
     subst (λ (z : List ℕ). NextPacket (input_state c.args.codec.now None c.args.self.now) (g.R.Read.remaining c.args.self.now.reader) (g.R.Read.remaining now.reader) c.args.self.now.reads now.reads answer
-    (codec_state c.find.new.codec z now.dst.items)) (sym (apart_unread (found_in c.at_end.result) now.src.items c.at_end.ensures.none))
-    (ended answer _ (input_state c.find.new.codec None c.find.new.self) _ _ _ _ _ _ now.src.items now.dst.items _ (waits g (goal.at.returns-in-Ok-eq0-clause-next g c).In-Ok-None)
+    (codec_state c.find_next.new.codec z now.dst.items)) (sym (apart_unread (found_in c.at_end.result) now.src.items c.at_end.ensures.none))
+    (ended answer _ (input_state c.find_next.new.codec None c.find_next.new.self) _ _ _ _ _ _ now.src.items now.dst.items _ (waits g (goal.at.returns-in-Ok-eq0-clause-next g c).In-Ok-None)
     (ap (λ z. z.items) c.read_more.ensures.dst) read.ok c.in-Ok-eq0.field-0-test (read.end c.in-Ok-eq0.field-0-test) read.read c.at_end.ensures.ends)
 
 pub reads-smaller : goal.reads-smaller
 reads-smaller g c =
-    smaller c.find.new.self.lost (input_state c.args.codec.now None c.args.self.now) (input_state c.reads.codec None c.reads.self) (input_state c.find.new.codec None c.find.new.self) _ _ _ _
+    smaller c.find_next.new.self.lost (input_state c.args.codec.now None c.args.self.now) (input_state c.reads.codec None c.reads.self) (input_state c.find_next.new.codec None c.find_next.new.self) _ _ _ _
     c.read_more.new.self.src.items c.read_more.new.self.dst.items _ _ _ c.reads.invariant.so_far (rw c.in-Ok-None.field-0-is at c.in-Ok-None.ensures.takes)
     (ap (λ z. z.items) c.read_more.ensures.dst) c.in-Ok.ensures.ok (above_zero c.in-Ok.field-0 c.in-Ok.field-0-test.1)
 
@@ -58,43 +58,43 @@ reads-preserved g c =
     let takes = rw c.in-Ok-None.field-0-is at c.in-Ok-None.ensures.takes in
     record {
       found = c.read_more.ensures.lost ∙ takes.1;
-      so_far = goes_on _ (input_state c.find.new.codec None c.find.new.self) _ _ _ _ _ _ c.read_more.new.self.src.items c.read_more.new.self.dst.items _
+      so_far = goes_on _ (input_state c.find_next.new.codec None c.find_next.new.self) _ _ _ _ _ _ c.read_more.new.self.src.items c.read_more.new.self.dst.items _
           (waits g (goal.at.reads-preserved g c).In-Ok-None) (ap (λ z. z.items) c.read_more.ensures.dst) read.ok (above_zero c.in-Ok.field-0 c.in-Ok.field-0-test.1) read.small read.read;
     }
 
 pub returns-in-Err-read_more-clause-next : goal.returns-in-Err-read_more-clause-next
 returns-in-Err-read_more-clause-next g c =
     let read = c.in-Err-read_more.ensures in
-    failed c.in-Err-read_more.error _ (input_state c.find.new.codec None c.find.new.self) _ _ _ _ _ _ c.read_more.new.self.src.items c.read_more.new.self.dst.items
+    failed c.in-Err-read_more.error _ (input_state c.find_next.new.codec None c.find_next.new.self) _ _ _ _ _ _ c.read_more.new.self.src.items c.read_more.new.self.dst.items
     (waits g (goal.at.returns-in-Err-read_more-clause-next g c).In-Ok-None) (ap (λ z. z.items) c.read_more.ensures.dst) read.err read.kept read.failed
 
 pub returns-in-Ok-Some-clause-fits : goal.returns-in-Ok-Some-clause-fits
 returns-in-Ok-Some-clause-fits g c =
     let found = c.in-Ok-Some.found in (
-      takes_fits (answer_over (Ok (Some found)) c.find.new.self.src.items) c.find.new.self.lost (input_state c.reads.codec None c.reads.self) (input_state c.find.new.codec (Some found) c.find.new.self)
-          c.find.ensures.kept.2 (rw c.in-Ok-Some.field-0-is at c.in-Ok-Some.ensures.takes),
-      c.find.ensures.kept.2 ∙ c.reads.invariant.so_far.limit,
+      takes_fits (answer_over (Ok (Some found)) c.find_next.new.self.src.items) c.find_next.new.self.lost (input_state c.reads.codec None c.reads.self) (input_state c.find_next.new.codec (Some found) c.find_next.new.self)
+          c.find_next.ensures.kept.2 (rw c.in-Ok-Some.field-0-is at c.in-Ok-Some.ensures.takes),
+      c.find_next.ensures.kept.2 ∙ c.reads.invariant.so_far.limit,
     )
 
 pub returns-in-Err-clause-fits : goal.returns-in-Err-clause-fits
 returns-in-Err-clause-fits g c = (
-  takes_fits (Err c.in-Err.error) c.find.new.self.lost (input_state c.reads.codec None c.reads.self) (input_state c.find.new.codec None c.find.new.self) c.find.ensures.kept.2 c.in-Err.ensures.takes,
-  c.find.ensures.kept.2 ∙ c.reads.invariant.so_far.limit,
+  takes_fits (Err c.in-Err.error) c.find_next.new.self.lost (input_state c.reads.codec None c.reads.self) (input_state c.find_next.new.codec None c.find_next.new.self) c.find_next.ensures.kept.2 c.in-Err.ensures.takes,
+  c.find_next.ensures.kept.2 ∙ c.reads.invariant.so_far.limit,
 )
 
 -- the codec stands at what was there
-pub stands_there : (g : given.Over) (c : In-Ok-None g) → (c.find.new.self.lost ≡ false) × FitsAt c.find.new.self.lost (input_state c.find.new.codec None c.find.new.self)
+pub stands_there : (g : given.Over) (c : In-Ok-None g) → (c.find_next.new.self.lost ≡ false) × FitsAt c.find_next.new.self.lost (input_state c.find_next.new.codec None c.find_next.new.self)
 stands_there g c =
     let takes = rw c.in-Ok-None.field-0-is at c.in-Ok-None.ensures.takes in
-    (takes.1, takes_fits (Ok None) c.find.new.self.lost (input_state c.reads.codec None c.reads.self) (input_state c.find.new.codec None c.find.new.self) c.find.ensures.kept.2 takes)
+    (takes.1, takes_fits (Ok None) c.find_next.new.self.lost (input_state c.reads.codec None c.reads.self) (input_state c.find_next.new.codec None c.find_next.new.self) c.find_next.ensures.kept.2 takes)
 
 pub returns-in-Ok-eq0-clause-fits : goal.returns-in-Ok-eq0-clause-fits
 returns-in-Ok-eq0-clause-fits g c =
     let now = c.read_more.new.self in
     let there = stands_there g (goal.at.returns-in-Ok-eq0-clause-fits g c).In-Ok-None in (
-      subst (λ (z : List ℕ). FitsAt now.lost (codec_state c.find.new.codec z now.dst.items)) (sym (apart_unread (found_in c.at_end.result) now.src.items c.at_end.ensures.none))
-          (fits_more _ now.lost c.find.new.codec c.find.new.self.src.items now.src.items c.find.new.self.dst.items now.dst.items _ _ _ there.0 there.1 (ap (λ z. z.items) c.read_more.ensures.dst) c.in-Ok-eq0.ensures.ok),
-      c.find.ensures.kept.2 ∙ c.reads.invariant.so_far.limit,
+      subst (λ (z : List ℕ). FitsAt now.lost (codec_state c.find_next.new.codec z now.dst.items)) (sym (apart_unread (found_in c.at_end.result) now.src.items c.at_end.ensures.none))
+          (fits_more _ now.lost c.find_next.new.codec c.find_next.new.self.src.items now.src.items c.find_next.new.self.dst.items now.dst.items _ _ _ there.0 there.1 (ap (λ z. z.items) c.read_more.ensures.dst) c.in-Ok-eq0.ensures.ok),
+      c.find_next.ensures.kept.2 ∙ c.reads.invariant.so_far.limit,
     )
 
 pub returns-in-Err-read_more-clause-fits : goal.returns-in-Err-read_more-clause-fits
@@ -102,5 +102,5 @@ returns-in-Err-read_more-clause-fits g c =
     let now = c.read_more.new.self in
     let there = stands_there g (goal.at.returns-in-Err-read_more-clause-fits g c).In-Ok-None in (
       rw (c.read_more.ensures.dst, c.in-Err-read_more.ensures.err, c.read_more.ensures.lost) there.1,
-      c.find.ensures.kept.2 ∙ c.reads.invariant.so_far.limit,
+      c.find_next.ensures.kept.2 ∙ c.reads.invariant.so_far.limit,
     )

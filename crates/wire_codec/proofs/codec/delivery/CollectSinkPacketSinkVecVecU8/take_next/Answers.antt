@@ -1,6 +1,7 @@
 use Rattle.std.proofs.Common.{◌∙◌, List, ℕ, [], ◌∷◌, ◌++◌, ap, sym, refl, append-nil, Ok, Err, Bool, false}
 use Rattle.wire_codec.specs.Codec.{codec_state}
 use Rattle.wire_codec.specs.Runs.{payloads}
+use Rattle.wire_codec.specs.Refusals.{error_of}
 use Rattle.wire_codec.proofs.AnswerLemmas.{no_true, no_ok}
 use Rattle.wire_codec.proofs.TakingLemmas.{refused_next, stopped_next}
 use Rattle.wire_codec.proofs.codec.delivery.CollectSinkPacketSinkVecVecU8.take_next.Goals as goal
@@ -28,7 +29,7 @@ pub returns-in-Err-clause-takes : goal.returns-in-Err-clause-takes
 returns-in-Err-clause-takes g c limits mark place at =
     let before = codec_state c.args.codec.now c.args.src.now.items c.args.dst.now.items in
     let after = codec_state c.decode_on.new.self c.decode_on.new.src.items c.decode_on.new.dst.items in
-    let stop = stopped_next c.in-Err.error limits mark place before after c.decode_on.ensures.limit at (c.in-Err.ensures.on limits mark place at) in
+    let stop = stopped_next (error_of c.in-Err.refusal) limits mark place before after c.decode_on.ensures.limit at (c.in-Err.ensures.on limits mark place at) in
     (ap payloads c.reserve.ensures.items ∙ sym (append-nil (payloads c.args.out.now.items)), stop.0, stop.1)
 
 pub returns-in-Ok-true-clause-shorter : goal.returns-in-Ok-true-clause-shorter
@@ -38,4 +39,4 @@ pub returns-in-Ok-false-clause-shorter : goal.returns-in-Ok-false-clause-shorter
 returns-in-Ok-false-clause-shorter g c said = absurd (no_true (Ok false) refl said)
 
 pub returns-in-Err-clause-shorter : goal.returns-in-Err-clause-shorter
-returns-in-Err-clause-shorter g c said = absurd (no_ok (Err c.in-Err.error) c.in-Err.error _ refl said)
+returns-in-Err-clause-shorter g c said = absurd (no_ok (Err c.in-Err.refusal) c.in-Err.refusal _ refl said)

@@ -1,6 +1,7 @@
 use Rattle.std.proofs.Common.{◌≡◌, ◌∙◌, ℕ, List, [], sym, ap, refl, subst, Ok, Err, Bool, false}
 use Rattle.wire_codec.specs.Codec.{codec_state}
 use Rattle.wire_codec.specs.InPlace.{front_payload, HasFront}
+use Rattle.wire_codec.specs.Refusals.{error_of}
 use Rattle.wire_codec.proofs.AnswerLemmas.{no_true, no_ok}
 use Rattle.wire_codec.proofs.TakingLemmas.{stopped_next}
 use Rattle.wire_codec.proofs.codec.each.VisitSinkPacketSink.take_next.Goals as goal
@@ -31,7 +32,7 @@ pub returns-in-Err-clause-takes : goal.returns-in-Err-clause-takes
 returns-in-Err-clause-takes g c limits mark place at =
     let before = codec_state c.args.codec.now c.args.src.now.items c.args.dst.now.items in
     let after = codec_state c.decode_on.new.self c.decode_on.new.src.items c.decode_on.new.dst.items in
-    let stop = stopped_next c.in-Err.error limits mark place before after c.decode_on.ensures.limit at (c.in-Err.ensures.on limits mark place at) in
+    let stop = stopped_next (error_of c.in-Err.refusal) limits mark place before after c.decode_on.ensures.limit at (c.in-Err.ensures.on limits mark place at) in
     (refl, stop.0, stop.1)
 
 pub take_front-requires : goal.take_front-requires
@@ -46,4 +47,4 @@ pub returns-in-Ok-false-clause-shorter : goal.returns-in-Ok-false-clause-shorter
 returns-in-Ok-false-clause-shorter g c said = absurd (no_true (Ok false) refl said)
 
 pub returns-in-Err-clause-shorter : goal.returns-in-Err-clause-shorter
-returns-in-Err-clause-shorter g c said = absurd (no_ok (Err c.in-Err.error) c.in-Err.error _ refl said)
+returns-in-Err-clause-shorter g c said = absurd (no_ok (Err c.in-Err.refusal) c.in-Err.refusal _ refl said)

@@ -1,18 +1,18 @@
-use Rattle.std.proofs.Common.{◌≡◌, ℕ, ◌<◌, List, [], ◌++◌, length, sym, ap, ◌∙◌, subst, refl, arith, rules, Option, Some, None, Ok, Err, true, Result, Bool}
-use Rattle.std.specs.Result.{IsErrAnd}
+use Rattle.std.proofs.Common.{◌≡◌, ℕ, ◌<◌, List, [], ◌++◌, length, sym, ap, ◌∙◌, subst, refl, arith, rules, Option, Some, None, Ok, Err, true, false, Result, Bool}
+use Rattle.wire_codec.specs.declared.codec.error.Refusal.TheVariants as refusal
 use Rattle.wire_codec.specs.declared.codec.packet.PacketCodec.{PacketCodec}
 use Rattle.wire_codec.specs.declared.codec.error.PacketCodecError.TheVariants.{OutOfMemory}
 use Rattle.std.specs.Int.NonZero.{non_zero_usize_get}
 use Rattle.wire_codec.specs.declared.codec.error.PacketCodecError.{PacketCodecError}
-use Rattle.wire_codec.specs.Codec.{codec_state, header_of, ChunkChain, IsChain, HasChunk, DecodesStanding}
+use Rattle.wire_codec.specs.Codec.{codec_state, header_of, ChunkChain, IsChain, HasChunk, DecodesPacket, DecodesStanding}
 use Rattle.wire_codec.specs.OneChunk.{IsTakeable, DecodesChunk}
 use Rattle.wire_codec.specs.Chain.{ChainFrom}
 use Rattle.wire_codec.specs.GoingOn.{Decodes}
 use Rattle.wire_codec.specs.Delivery.{chunk_len}
 use Rattle.wire_codec.specs.InPlace.{front_payload, HasFront}
+use Rattle.wire_codec.proofs.AnswerLemmas.{no_ok}
 use Rattle.wire_codec.proofs.InPlaceLemmas.{state_of, front_len}
 use Rattle.wire_codec.proofs.codec.packet.PacketCodec.decode_on.Goals as goal
-use Rattle.wire_codec.proofs.codec.packet.PacketCodec.decode_on.Goals.{then-not-lacks_bytes+in-Some+in_default, then-not-lacks_bytes+in-None+in_ok-make_room-in-None, else-not-lacks_bytes}
 
 -- the packet in front is a chunk that may be taken
 takeable : (limit id : ℕ) (header : Option (ℕ × ℕ)) (src held : List ℕ) (needed : ℕ) → HasFront (state_of limit id header src held) → needed ≡ chunk_len src → 0 < needed
@@ -27,7 +27,7 @@ pub lack_room-requires-clause-takeable : goal.lack_room-requires-clause-takeable
 lack_room-requires-clause-takeable g c =
     let held = g.T.PacketDst.held in
     let there = c.in-Some.ensures.there.0 refl in
-    let src = c.as_slice.result.now in
+    let src = c.as_slice-front.result.now in
     let limit = c.args.self.now.max_allowed_packet in
     let header = header_of c.args.self.now in
     let id = c.args.self.now.seq_id in
@@ -35,7 +35,7 @@ lack_room-requires-clause-takeable g c =
     let len : needed ≡ chunk_len src = c.in-Some-new.ensures ∙ ap length c.in-Some.ensures.packet ∙ front_len src there.3 in
     let some : 0 < needed = search rules in
     let stays : c.as_ref.result.now ≡ held c.put_whole.new.dst = c.as_ref.ensures ∙ sym (c.if-not-put_whole.ensures.refused refl) in
-    subst (λ (z : List ℕ). IsTakeable header z (length (held c.put_whole.new.dst)) limit id needed) c.as_slice.ensures
+    subst (λ (z : List ℕ). IsTakeable header z (length (held c.put_whole.new.dst)) limit id needed) c.as_slice-front.ensures
     (subst (λ (z : List ℕ). IsTakeable header src (length z) limit id needed) stays
     (takeable limit id header src c.as_ref.result.now needed there len some))
 
@@ -46,75 +46,16 @@ returns-in-Some-new-clause-chain g c =
     let src = c.args.src.now.items in
     let payload = front_payload src in
     let empty = sym c.as_ref.ensures ∙ (c.in-Some.ensures.there.0 refl).1 in
-    let filled = sym (c.if-not-put_whole.ensures.put refl ∙ ap (λ (z : List ℕ). z ++ c.in-Some.packet.now) empty ∙ c.in-Some.ensures.packet ∙ ap front_payload c.as_slice.ensures) in (
+    let filled = sym (c.if-not-put_whole.ensures.put refl ∙ ap (λ (z : List ℕ). z ++ c.in-Some.packet.now) empty ∙ c.in-Some.ensures.packet ∙ ap front_payload c.as_slice-front.ensures) in (
       1,
       subst (λ (z : List ℕ). ChunkChain 1 (codec_state c.args.self.now src (held c.args.dst.now)) (Ok true) (codec_state c.take_front.new.self c.take_front.new.src.items z)) filled
           (subst (λ (z : List ℕ). ChunkChain 1 (codec_state c.args.self.now src z) (Ok true) (codec_state c.take_front.new.self c.take_front.new.src.items payload)) (sym empty) c.take_front.ensures.chain),
     )
 
-no_ok : (error : PacketCodecError) (whole : Bool) → Err error ≡ Ok whole → ⊥
-no_ok error whole is = cc
-
--- an answer by `?` is its error
-is_err : (answer : Result Bool PacketCodecError) (error : PacketCodecError) → IsErrAnd answer (λ e. e ≡ error) → answer ≡ Err error
-is_err (Ok whole) error is = absurd is
-is_err (Err other) error is = ap (λ (e : PacketCodecError). Err e) is
-
 -- a chunk for which there is no memory is a chain of none
 lacks_chain : (answer : Result Bool PacketCodecError) (limit id : ℕ) (header : Option (ℕ × ℕ)) (src held : List ℕ) (new_id : ℕ) (new_header : Option (ℕ × ℕ)) (rest filled : List ℕ) → answer ≡ Err OutOfMemory → new_id ≡ id
     → DecodesChunk header src held limit (Err OutOfMemory) new_header rest filled → (n : ℕ) × ChainFrom n limit id header src held answer new_id new_header rest filled
 lacks_chain answer limit id header src held new_id new_header rest filled is stays lacks = (0, record { said = Err OutOfMemory; chunk = lacks; stops = is; id_stays = stays })
-
--- where the branches join, nothing was changed
-same : (g : _) (c : goal.After-take_chunks g) → (c.if-not-lacks_bytes.self ≡ c.args.self.now) × (g.T.PacketDst.held c.if-not-lacks_bytes.dst ≡ g.T.PacketDst.held c.args.dst.now)
-same g c =
-    let held = g.T.PacketDst.held in
-    elim c.if-not-lacks_bytes.branch [
-      | then-not-lacks_bytes+in-Some+in_default w ↦ (w.self-is, ap held w.dst-is)
-      | then-not-lacks_bytes+in-None+in_ok-make_room-in-None w ↦ (w.self-is ∙ w.in_ok-make_room-in-None.ensures.ok, ap held w.dst-is ∙ w.in_ok-make_room-in-None.ensures.held)
-      | else-not-lacks_bytes w ↦ (w.self-is, ap held w.dst-is)
-    ]
-
-pub returns-clause-on : goal.returns-clause-on
-returns-clause-on g c =
-    let held = g.T.PacketDst.held in
-    let src = c.args.src.now.items in
-    let joined = same g c in
-    let answer = c.take_chunks.result in
-    let after = codec_state c.take_chunks.new.self c.take_chunks.new.src.items (held c.take_chunks.new.dst) in
-    subst (λ (s : PacketCodec). Decodes (codec_state s src (held c.args.dst.now)) answer after) joined.0
-    (subst (λ (z : List ℕ). Decodes (codec_state c.if-not-lacks_bytes.self src z) answer after) joined.1 c.take_chunks.ensures.on)
-
-pub returns-clause-decodes : goal.returns-clause-decodes
-returns-clause-decodes g c =
-    let held = g.T.PacketDst.held in
-    let src = c.args.src.now.items in
-    let joined = same g c in
-    let answer = c.take_chunks.result in
-    let after = codec_state c.take_chunks.new.self c.take_chunks.new.src.items (held c.take_chunks.new.dst) in
-    subst (λ (s : PacketCodec). DecodesStanding (codec_state s src (held c.args.dst.now)) answer after) joined.0
-    (subst (λ (z : List ℕ). DecodesStanding (codec_state c.if-not-lacks_bytes.self src z) answer after) joined.1 c.take_chunks.ensures.decodes)
-
-pub returns-clause-chain : goal.returns-clause-chain
-returns-clause-chain g c =
-    let held = g.T.PacketDst.held in
-    let src = c.args.src.now.items in
-    let joined = same g c in
-    let answer = c.take_chunks.result in
-    let after = codec_state c.take_chunks.new.self c.take_chunks.new.src.items (held c.take_chunks.new.dst) in
-    subst (λ (s : PacketCodec). IsChain (codec_state s src (held c.args.dst.now)) answer after) joined.0
-    (subst (λ (z : List ℕ). IsChain (codec_state c.if-not-lacks_bytes.self src z) answer after) joined.1 c.take_chunks.ensures.chain)
-
-pub returns-clause-limit : goal.returns-clause-limit
-returns-clause-limit g c = c.take_chunks.ensures.limit ∙ ap (λ (s : PacketCodec). s.max_allowed_packet) (same g c).0
-
-pub returns-clause-memory : goal.returns-clause-memory
-returns-clause-memory g c said =
-    let held = g.T.PacketDst.held in
-    let src = c.args.src.now.items in
-    let joined = same g c in
-    subst (λ (s : PacketCodec). HasChunk (codec_state s src (held c.args.dst.now))) joined.0
-    (subst (λ (z : List ℕ). HasChunk (codec_state c.if-not-lacks_bytes.self src z)) joined.1 (c.take_chunks.ensures.memory said))
 
 pub returns-then-not-put_whole-clause-on : goal.returns-then-not-put_whole-clause-on
 returns-then-not-put_whole-clause-on g c =
@@ -122,8 +63,7 @@ returns-then-not-put_whole-clause-on g c =
     let src = c.args.src.now.items in
     let stays = c.if-not-put_whole.ensures.refused refl in
     let after = codec_state c.lack_room.new.self src (held c.put_whole.new.dst) in
-    subst (λ (e : PacketCodecError). Decodes (codec_state c.args.self.now src (held c.args.dst.now)) (Err e) after) (sym c.lack_room.ensures.memory)
-    (subst (λ (z : List ℕ). Decodes (codec_state c.args.self.now src z) (Err OutOfMemory) after) stays c.lack_room.ensures.on)
+    subst (λ (z : List ℕ). Decodes (codec_state c.args.self.now src z) (Err OutOfMemory) after) stays c.lack_room.ensures.on
 
 pub returns-then-not-put_whole-clause-decodes : goal.returns-then-not-put_whole-clause-decodes
 returns-then-not-put_whole-clause-decodes g c =
@@ -131,8 +71,7 @@ returns-then-not-put_whole-clause-decodes g c =
     let src = c.args.src.now.items in
     let stays = c.if-not-put_whole.ensures.refused refl in
     let after = codec_state c.lack_room.new.self src (held c.put_whole.new.dst) in
-    subst (λ (e : PacketCodecError). DecodesStanding (codec_state c.args.self.now src (held c.args.dst.now)) (Err e) after) (sym c.lack_room.ensures.memory)
-    (subst (λ (z : List ℕ). DecodesStanding (codec_state c.args.self.now src z) (Err OutOfMemory) after) stays c.lack_room.ensures.decodes)
+    subst (λ (z : List ℕ). DecodesStanding (codec_state c.args.self.now src z) (Err OutOfMemory) after) stays c.lack_room.ensures.decodes
 
 pub returns-then-not-put_whole-clause-chain : goal.returns-then-not-put_whole-clause-chain
 returns-then-not-put_whole-clause-chain g c =
@@ -141,7 +80,7 @@ returns-then-not-put_whole-clause-chain g c =
     let stays = c.if-not-put_whole.ensures.refused refl in
     let limit = c.args.self.now.max_allowed_packet in
     let header = header_of c.args.self.now in
-    lacks_chain _ limit c.args.self.now.seq_id header src (held c.args.dst.now) _ _ src (held c.put_whole.new.dst) (ap (λ (e : PacketCodecError). Err e) c.lack_room.ensures.memory) c.lack_room.ensures.id
+    lacks_chain (Err OutOfMemory) limit c.args.self.now.seq_id header src (held c.args.dst.now) _ _ src (held c.put_whole.new.dst) refl c.lack_room.ensures.id
     (subst (λ (z : List ℕ). DecodesChunk header src z limit (Err OutOfMemory) (header_of c.lack_room.new.self) src (held c.put_whole.new.dst)) stays c.lack_room.ensures.refused)
 
 pub returns-then-not-put_whole-clause-memory : goal.returns-then-not-put_whole-clause-memory
@@ -150,10 +89,10 @@ returns-then-not-put_whole-clause-memory g c said =
     subst (λ (z : List ℕ). HasChunk (codec_state c.args.self.now c.args.src.now.items z)) (c.if-not-put_whole.ensures.refused refl) c.lack_room.ensures.there
 
 pub returns-then-not-put_whole-clause-shorter : goal.returns-then-not-put_whole-clause-shorter
-returns-then-not-put_whole-clause-shorter g c said = absurd (no_ok _ _ said)
+returns-then-not-put_whole-clause-shorter g c said = absurd (no_ok (Err refusal.OutOfMemory) refusal.OutOfMemory _ refl said)
 
 pub returns-in-Some-new-clause-memory : goal.returns-in-Some-new-clause-memory
-returns-in-Some-new-clause-memory g c said = absurd (no_ok _ _ (sym said))
+returns-in-Some-new-clause-memory g c said = absurd (no_ok (Err OutOfMemory) OutOfMemory _ refl (sym said))
 
 pub returns-in-Some-new-clause-on : goal.returns-in-Some-new-clause-on
 returns-in-Some-new-clause-on g c =
@@ -161,7 +100,7 @@ returns-in-Some-new-clause-on g c =
     let src = c.args.src.now.items in
     let payload = front_payload src in
     let empty = sym c.as_ref.ensures ∙ (c.in-Some.ensures.there.0 refl).1 in
-    let filled = sym (c.if-not-put_whole.ensures.put refl ∙ ap (λ (z : List ℕ). z ++ c.in-Some.packet.now) empty ∙ c.in-Some.ensures.packet ∙ ap front_payload c.as_slice.ensures) in
+    let filled = sym (c.if-not-put_whole.ensures.put refl ∙ ap (λ (z : List ℕ). z ++ c.in-Some.packet.now) empty ∙ c.in-Some.ensures.packet ∙ ap front_payload c.as_slice-front.ensures) in
     subst (λ (z : List ℕ). Decodes (codec_state c.args.self.now src (held c.args.dst.now)) (Ok true) (codec_state c.take_front.new.self c.take_front.new.src.items z)) filled
     (subst (λ (z : List ℕ). Decodes (codec_state c.args.self.now src z) (Ok true) (codec_state c.take_front.new.self c.take_front.new.src.items payload)) (sym empty) c.take_front.ensures.on)
 
@@ -171,18 +110,34 @@ returns-in-Some-new-clause-decodes g c =
     let src = c.args.src.now.items in
     let payload = front_payload src in
     let empty = sym c.as_ref.ensures ∙ (c.in-Some.ensures.there.0 refl).1 in
-    let filled = sym (c.if-not-put_whole.ensures.put refl ∙ ap (λ (z : List ℕ). z ++ c.in-Some.packet.now) empty ∙ c.in-Some.ensures.packet ∙ ap front_payload c.as_slice.ensures) in
+    let filled = sym (c.if-not-put_whole.ensures.put refl ∙ ap (λ (z : List ℕ). z ++ c.in-Some.packet.now) empty ∙ c.in-Some.ensures.packet ∙ ap front_payload c.as_slice-front.ensures) in
     subst (λ (z : List ℕ). DecodesStanding (codec_state c.args.self.now src (held c.args.dst.now)) (Ok true) (codec_state c.take_front.new.self c.take_front.new.src.items z)) filled
     (subst (λ (z : List ℕ). DecodesStanding (codec_state c.args.self.now src z) (Ok true) (codec_state c.take_front.new.self c.take_front.new.src.items payload)) (sym empty) c.take_front.ensures.decodes)
-
-pub returns-in_err-make_room-in-None-clause-chain : goal.returns-in_err-make_room-in-None-clause-chain
-returns-in_err-make_room-in-None-clause-chain g c =
-    let k = c.in_err-make_room-in-None.ensures in
-    let is = is_err c.from_residual.result c.in_err-make_room-in-None.field-0.0 c.from_residual.ensures.1 in
-    lacks_chain _ _ _ _ _ _ _ _ _ _ (is ∙ ap (λ (e : PacketCodecError). Err e) k.memory) k.id k.refused
 
 pub take_front-requires : goal.take_front-requires
 take_front-requires g c =
     let there = c.in-Some.ensures.there.0 refl in
-    subst (λ (z : List ℕ). HasFront (codec_state c.args.self.now z [])) c.as_slice.ensures
-    (subst (λ (z : List ℕ). HasFront (codec_state c.args.self.now c.as_slice.result.now z)) there.1 there)
+    subst (λ (z : List ℕ). HasFront (codec_state c.args.self.now z [])) c.as_slice-front.ensures
+    (subst (λ (z : List ℕ). HasFront (codec_state c.args.self.now c.as_slice-front.result.now z)) there.1 there)
+
+-- where it waits, nothing was changed
+pub returns-then-waits_at-clause-decodes : goal.returns-then-waits_at-clause-decodes
+returns-then-waits_at-clause-decodes g c stands =
+    let dst = g.T.PacketDst.held c.args.dst.now in
+    let before = codec_state c.args.self.now c.args.src.now.items dst in
+    let waits = rw c.as_slice-front.ensures at (c.if-waits_at.ensures.decodes dst refl) in
+    subst (λ (z : List ℕ). DecodesPacket before (Ok false) (codec_state c.args.self.now z dst)) (sym c.begin_block.ensures) (waits stands)
+
+pub returns-then-waits_at-clause-on : goal.returns-then-waits_at-clause-on
+returns-then-waits_at-clause-on g c =
+    let dst = g.T.PacketDst.held c.args.dst.now in
+    let before = codec_state c.args.self.now c.args.src.now.items dst in
+    let waits = rw c.as_slice-front.ensures at (c.if-waits_at.ensures.on dst refl) in
+    subst (λ (z : List ℕ). Decodes before (Ok false) (codec_state c.args.self.now z dst)) (sym c.begin_block.ensures) waits
+
+pub returns-then-waits_at-clause-chain : goal.returns-then-waits_at-clause-chain
+returns-then-waits_at-clause-chain g c =
+    let dst = g.T.PacketDst.held c.args.dst.now in
+    let before = codec_state c.args.self.now c.args.src.now.items dst in
+    let waits = rw c.as_slice-front.ensures at (c.if-waits_at.ensures.chain dst refl) in
+    (0, subst (λ (z : List ℕ). ChunkChain 0 before (Ok false) (codec_state c.args.self.now z dst)) (sym c.begin_block.ensures) waits)

@@ -3,6 +3,7 @@ use Rattle.std.proofs.lemmas.Bool.{eqb-false}
 use Rattle.wire_codec.specs.declared.codec.chunk.ChunkInfo.TheVariants.{Middle, Last}
 use Rattle.wire_codec.specs.Codec.{header_of}
 use Rattle.wire_codec.specs.OneChunk.{remembered, DecodesChunk}
+use Rattle.wire_codec.specs.Refusals.{error_of}
 use Rattle.wire_codec.proofs.codec.packet.PacketCodec.link_chunk.Goals as goal
 
 pub returns-then-id-expected-clause-links : goal.returns-then-id-expected-clause-links
@@ -17,7 +18,7 @@ returns-then-id-expected-2-clause-links g c =
 
 pub returns-in-Err-clause-links : goal.returns-in-Err-clause-links
 returns-in-Err-clause-links g c =
-    record { said = Err c.in-Err.error; chunk = c.in-Err.ensures.chunk; stops = refl; id_stays = refl }
+    record { said = Err (error_of c.in-Err.refusal); chunk = c.in-Err.ensures.chunk; stops = refl; id_stays = refl }
 
 pub returns-in-Ok-None-clause-links : goal.returns-in-Ok-None-clause-links
 returns-in-Ok-None-clause-links g c =
@@ -34,13 +35,13 @@ pub returns-then-is_empty-clause-links : goal.returns-then-is_empty-clause-links
 returns-then-is_empty-clause-links g c =
     let known = rw (c.in-Ok-Some-Middle.field-0-is, c.in-Ok-Some-Middle.field-0-0-is) at c.in-Ok-Some-Middle.ensures.chunk in
     let rises = ap (λ (n : ℕ). (n + 1) % 256) c.if-id-expected-2.false in
-    let none = eqb-true (length c.decode.new.src.items) 0 (sym c.is_empty.ensures ∙ c.if-is_empty.true) in
+    let none = eqb-true (length c.take.new.src.items) 0 (sym c.is_empty.ensures ∙ c.if-is_empty.true) in
     inl record { info = Middle c.in-Ok-Some-Middle.id; chunk = known; expected = c.if-id-expected-2.false; ends = (none, refl); id_rises = rises }
 
 pub returns-else-is_empty-clause-links : goal.returns-else-is_empty-clause-links
 returns-else-is_empty-clause-links g c =
     let known = rw (c.in-Ok-Some-Middle.field-0-is, c.in-Ok-Some-Middle.field-0-0-is) at c.in-Ok-Some-Middle.ensures.chunk in
     let rises = ap (λ (n : ℕ). (n + 1) % 256) c.if-id-expected-2.false in
-    let some = eqb-false (length c.decode.new.src.items) 0 (sym c.is_empty.ensures ∙ c.if-is_empty.false) in
-    let known' = subst (λ (n : ℕ). DecodesChunk (header_of c.args.self.now) c.args.src.now.items (g.T.PacketDst.held c.args.dst.now) c.args.self.now.max_allowed_packet (Ok (Some (Middle n))) (remembered c.decode.new.self) c.decode.new.src.items (g.T.PacketDst.held c.decode.new.dst)) c.if-id-expected-2.false known in
+    let some = eqb-false (length c.take.new.src.items) 0 (sym c.is_empty.ensures ∙ c.if-is_empty.false) in
+    let known' = subst (λ (n : ℕ). DecodesChunk (header_of c.args.self.now) c.args.src.now.items (g.T.PacketDst.held c.args.dst.now) c.args.self.now.max_allowed_packet (Ok (Some (Middle n))) (remembered c.take.new.self) c.take.new.src.items (g.T.PacketDst.held c.take.new.dst)) c.if-id-expected-2.false known in
     (known', omega (arith, some), rises)

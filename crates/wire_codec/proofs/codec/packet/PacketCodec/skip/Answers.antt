@@ -1,4 +1,5 @@
 use Rattle.std.proofs.Common.{◌∙◌, ap, refl, Ok, Err}
+use Rattle.wire_codec.specs.Refusals.{error_of}
 use Rattle.wire_codec.proofs.Declared.{Progress, Whole, Starved, More}
 use Rattle.wire_codec.specs.Codec.{first_id}
 use Rattle.wire_codec.proofs.CodecLemmas.{splits_here}
@@ -35,6 +36,6 @@ chunks-preserved g c = record {
 
 pub returns-in-Err : goal.returns-in-Err
 returns-in-Err g c = record {
-  skips = λ full w. skips_later (Err c.in-Err.error) c.skip_chunk.new.skipped c.skip_chunk.new.self c.skip_chunk.new.src.items w (c.chunks.invariant.runs full w) c.chunks.invariant.same c.in-Err.ensures.drops;
+  skips = λ full w. rw c.from.ensures (skips_later (Err (error_of c.in-Err.refusal)) c.skip_chunk.new.skipped c.skip_chunk.new.self c.skip_chunk.new.src.items w (c.chunks.invariant.runs full w) c.chunks.invariant.same c.in-Err.ensures.drops);
   limit = c.skip_chunk.ensures.limit ∙ c.chunks.invariant.same;
 }

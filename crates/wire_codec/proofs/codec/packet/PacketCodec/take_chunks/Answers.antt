@@ -3,6 +3,7 @@ use Rattle.wire_codec.specs.declared.codec.packet.Progress.{Progress}
 use Rattle.wire_codec.specs.declared.codec.packet.Progress.TheVariants.{Whole, Starved, More}
 use Rattle.wire_codec.specs.Chain.{ChainFrom}
 use Rattle.wire_codec.specs.Codec.{open_id, codec_state, expected_id, LinksChain}
+use Rattle.wire_codec.specs.Refusals.{error_of}
 use Rattle.wire_codec.proofs.CodecLemmas.{splits_here, open_at_id, open_small, stands_without}
 use Rattle.wire_codec.proofs.AnswerLemmas.{no_true, no_ok}
 use Rattle.wire_codec.proofs.ChainLemmas.{chain_had_chunk}
@@ -16,7 +17,7 @@ returns-in-Err-clause-decodes g c stands =
     let start = codec_state c.args.self.now c.args.src.now.items (held c.args.dst.now) in
     let before = codec_state c.chunks.self c.chunks.src.items (held c.chunks.dst) in
     let after = codec_state c.take_chunk.new.self c.take_chunk.new.src.items (held c.take_chunk.new.dst) in
-    step_takes (Err c.in-Err.error) start before after c.chunks.invariant.same (c.chunks.invariant.runs stands) (c.in-Err.ensures.takes)
+    step_takes (Err (error_of c.in-Err.refusal)) start before after c.chunks.invariant.same (c.chunks.invariant.runs stands) (c.in-Err.ensures.takes)
 
 pub returns-in-Err-clause-on : goal.returns-in-Err-clause-on
 returns-in-Err-clause-on g c limits mark place at =
@@ -24,7 +25,7 @@ returns-in-Err-clause-on g c limits mark place at =
     let start = codec_state c.args.self.now c.args.src.now.items (held c.args.dst.now) in
     let before = codec_state c.chunks.self c.chunks.src.items (held c.chunks.dst) in
     let after = codec_state c.take_chunk.new.self c.take_chunk.new.src.items (held c.take_chunk.new.dst) in
-    step_takes_under (Err c.in-Err.error) limits mark place start before after c.chunks.invariant.same (c.chunks.invariant.on limits mark place at) (c.in-Err.ensures.on)
+    step_takes_under (Err (error_of c.in-Err.refusal)) limits mark place start before after c.chunks.invariant.same (c.chunks.invariant.on limits mark place at) (c.in-Err.ensures.on)
 
 pub returns-in-Ok-Whole-clause-decodes : goal.returns-in-Ok-Whole-clause-decodes
 returns-in-Ok-Whole-clause-decodes g c stands =
@@ -118,8 +119,8 @@ returns-in-Err-clause-chain g c =
     let held = g.T.PacketDst.held in
     let before = codec_state c.chunks.self c.chunks.src.items (held c.chunks.dst) in
     let after = codec_state c.take_chunk.new.self c.take_chunk.new.src.items (held c.take_chunk.new.dst) in
-    let links = subst (λ (z : ℕ). LinksChain z before.id before.header before.unread before.held (Err c.in-Err.error) after.id after.header after.unread after.held) c.chunks.invariant.same (c.in-Err.ensures.links) in
-    c.chunks.invariant.chain zero (Err c.in-Err.error) after.id after.header after.unread after.held links
+    let links = subst (λ (z : ℕ). LinksChain z before.id before.header before.unread before.held (Err (error_of c.in-Err.refusal)) after.id after.header after.unread after.held) c.chunks.invariant.same (c.in-Err.ensures.links) in
+    c.chunks.invariant.chain zero (Err (error_of c.in-Err.refusal)) after.id after.header after.unread after.held links
 
 pub returns-in-Err-clause-memory : goal.returns-in-Err-clause-memory
 returns-in-Err-clause-memory g c refused =
@@ -136,4 +137,4 @@ pub returns-in-Ok-Starved-clause-shorter : goal.returns-in-Ok-Starved-clause-sho
 returns-in-Ok-Starved-clause-shorter g c said = absurd (no_true (Ok false) refl said)
 
 pub returns-in-Err-clause-shorter : goal.returns-in-Err-clause-shorter
-returns-in-Err-clause-shorter g c said = absurd (no_ok (Err c.in-Err.error) c.in-Err.error _ refl said)
+returns-in-Err-clause-shorter g c said = absurd (no_ok (Err c.in-Err.refusal) c.in-Err.refusal _ refl said)

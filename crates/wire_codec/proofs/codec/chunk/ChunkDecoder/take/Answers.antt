@@ -1,6 +1,6 @@
 -- Written out, so that a body that breaks one of these is refused at once.
 use Rattle.std.proofs.Common.{rules}
-use Rattle.wire_codec.proofs.codec.chunk.ChunkDecoder.decode.Goals as goal
+use Rattle.wire_codec.proofs.codec.chunk.ChunkDecoder.take.Goals as goal
 
 pub returns-in_default-new-clause-chunk : goal.returns-in_default-new-clause-chunk
 returns-in_default-new-clause-chunk g c = search rules
