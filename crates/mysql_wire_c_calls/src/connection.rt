@@ -223,7 +223,6 @@ pub fn encode_header(connection: &mut Connection, len: usize, header: &mut [u8; 
 }
 
 // Writes a payload of one chunk at the front of the room.
-#[inline(always)]
 #[tactic(auto, using(crate::proofs::SideLemmas::framed_short))]
 fn put_chunk(seq_id: u8, payload: &[u8], room: &mut [u8])
     requires small { length payload.now < max_payload }
@@ -367,7 +366,6 @@ fn fill(connection: &mut Connection, bytes: &[u8], used: &mut usize) -> i32
 // Lends the packets in front of these bytes, as a codec of this limit between two packets has them,
 // which expects this number: how many they are, how many of the bytes, and the number after them.
 // The codec is a local, so that nothing of it is stored for each packet.
-#[inline(always)]
 fn lend_all(limit: usize, id: u8, bytes: &[u8], spans: &mut [Span]) -> (usize, usize, u8)
     ensures lends { (pending : List ℕ)
         → LendsInTurn bytes.now 0 (take result.0 spans.new) result.1 (codec_at id limit pending)
@@ -446,7 +444,6 @@ pub fn judge_front(connection: &Connection) -> i32
 }
 
 // Puts a packet that is lent where it lies apart, so that the codec goes on after it.
-#[inline(always)]
 fn set_aside(
     codec: &mut PacketCodec,
     src: &mut BytesMut<Global>,

@@ -137,7 +137,6 @@ impl Connection {
 }
 
 // The payload of the chunk in front, where it has come whole.
-#[inline(always)]
 fn front_payload(src: &[u8]) -> &[u8]
     ensures { 4 + chunk_len src.now ≤ length src.now → result.now ≡ front_payload src.now }
 {
@@ -180,7 +179,6 @@ fn find_apart(
 }
 
 // Looks for a packet that stands whole.
-#[inline(always)]
 fn find(
     codec: &mut PacketCodec,
     src: &mut BytesMut<Global>,

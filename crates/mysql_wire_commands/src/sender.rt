@@ -187,7 +187,6 @@ impl<W: Write, A: Allocator + Copy> Sender<W, A> {
 
     /// Frames a packet after what is pending, which is written where memory is refused. A large one
     /// is written at once, from where it lies.
-    #[inline(always)]
     pub fn pass_on(&mut self, encoder: &mut PacketCodec, packet: &[u8]) -> Result<(), Stop>
         requires fits { length packet.now ≤ encoder.old.max_allowed_packet }
         ensures sent { OnOk result (Sends (W.contents self.old.chunks.writer)

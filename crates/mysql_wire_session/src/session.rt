@@ -173,7 +173,6 @@ impl<A: Allocator + Copy> Session<A> {
 
     /// What a packet is, whose payload has this length and front, and whose first chunk bears this
     /// id. The front is the first three bytes or more, or the whole payload.
-    #[inline(always)]
     pub fn classify(&self, side: Side, id: u8, len: usize, front: &[u8]) -> PacketKind
         ensures { result ≡ kind_by_front (expectation_of (state_of self.now)) side id len front.now }
     {

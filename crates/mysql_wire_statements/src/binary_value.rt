@@ -115,7 +115,6 @@ impl MySerialize for BinaryValue<'_> {
 }
 
 // A number, or the refusal of a form that has no bytes. Where bytes are missing, none is eaten.
-#[inline(always)]
 fn eat_plain<'a>(form: ValueForm, buf: &mut ParseBuf<'a>) -> Result<BinaryValue<'a>, BinaryFault>
     requires { IsPlain form }
     ensures { Reads (ReadsForm form) buf.old.0.now (told result) buf.new.0.now }
@@ -151,7 +150,6 @@ fn eat_plain<'a>(form: ValueForm, buf: &mut ParseBuf<'a>) -> Result<BinaryValue<
 }
 
 // The next text. Its length does not begin with `fb` or `ff`.
-#[inline(always)]
 fn eat_text<'a>(buf: &mut ParseBuf<'a>) -> Result<&'a [u8], BinaryFault>
     ensures { Reads (λ input. Through (λ text. text.now) (ReadsText input)) buf.old.0.now
         (told result) buf.new.0.now }
@@ -202,8 +200,6 @@ impl<'de> MyDeserialize<'de, Global> for BinaryValue<'de> {
 
     ghost reads = { λ column_type. ReadsForm (form_of column_type) };
 
-    // No call: an answer has room for an `io::Error`, and would be handed on through memory.
-    #[inline(always)]
     fn deserialize(
         _: Global,
         column_type: ColumnType,

@@ -27,7 +27,6 @@ pub type ParamNulls<'a> = NullBitmap<'a, 0>;
 pub type RowNulls<'a> = NullBitmap<'a, 2>;
 
 // Where a value's bit stands after the first ones: in which byte, and at which place there.
-#[inline(always)]
 fn place_of_bit(first: u8, place: usize) -> (usize, usize)
     ensures { result ≡ ((first + place) / 8, (first + place) % 8) }
 {

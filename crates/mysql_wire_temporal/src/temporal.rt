@@ -221,7 +221,6 @@ fn eat_micros(at: usize, bytes: &[u8]) -> u32
 }
 
 /// Reads a date, as its type is read; a refusal is a `BinaryFault`.
-#[inline(always)]
 pub fn read_date(buf: &mut ParseBuf<'_>) -> Result<BinaryDate, BinaryFault>
     ensures { Reads ReadsDate buf.old.0.now (told result) buf.new.0.now }
 {
@@ -260,7 +259,6 @@ impl<'de, A: Allocator + Copy> MyDeserialize<'de, A> for BinaryDate {
 
     ghost reads = { λ _. ReadsDate };
 
-    #[inline(always)]
     fn deserialize(_: A, _: (), buf: &mut ParseBuf<'de>) -> Result<Self, WireError> {
         match read_date(buf) {
             Ok(value) => Ok(value),
@@ -270,7 +268,6 @@ impl<'de, A: Allocator + Copy> MyDeserialize<'de, A> for BinaryDate {
 }
 
 /// Reads a time, as its type is read; a refusal is a `BinaryFault`.
-#[inline(always)]
 pub fn read_time(buf: &mut ParseBuf<'_>) -> Result<BinaryTime, BinaryFault>
     ensures { Reads ReadsTime buf.old.0.now (told result) buf.new.0.now }
 {
@@ -301,7 +298,6 @@ impl<'de, A: Allocator + Copy> MyDeserialize<'de, A> for BinaryTime {
 
     ghost reads = { λ _. ReadsTime };
 
-    #[inline(always)]
     fn deserialize(_: A, _: (), buf: &mut ParseBuf<'de>) -> Result<Self, WireError> {
         match read_time(buf) {
             Ok(value) => Ok(value),

@@ -17,7 +17,6 @@ use wire_repr::append::{append, append_byte, append_le};
 use wire_repr::wire::Wire;
 
 // Eats this many bytes, and answers with the value where they are these.
-#[inline(always)]
 fn eat_const<X: Copy>(
     count: usize,
     bytes: &[u8],

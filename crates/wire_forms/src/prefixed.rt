@@ -52,7 +52,6 @@ impl BytesRepr for LenEnc {
         all_or_nothing(put, at, buf)
     }
 
-    #[inline(always)]
     fn deserialize<'de, A: Allocator>(
         _: (),
         buf: &mut ParseBuf<'de>,

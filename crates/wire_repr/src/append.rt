@@ -8,7 +8,6 @@ use std::alloc::Allocator;
 use wire_buf::error::WireError;
 
 /// Appends the bytes. Where memory for them is refused, the buffer is as it was.
-#[inline(always)]
 pub fn append<A: Allocator>(bytes: &[u8], buf: &mut Vec<u8, A>) -> Result<(), WireError>
     ensures ok { OnOk result (buf.new.items ≡ buf.old.items ++ bytes.now) }
     ensures err { IfErr result (λ error. (error ≡ OutOfMemory) × (buf.new.items ≡ buf.old.items)) }
@@ -18,7 +17,6 @@ pub fn append<A: Allocator>(bytes: &[u8], buf: &mut Vec<u8, A>) -> Result<(), Wi
 }
 
 /// Appends a byte, in the same way.
-#[inline(always)]
 pub fn append_byte<A: Allocator>(byte: u8, buf: &mut Vec<u8, A>) -> Result<(), WireError>
     ensures ok { OnOk result (buf.new.items ≡ buf.old.items ++ byte ∷ []) }
     ensures err { IfErr result (λ error. (error ≡ OutOfMemory) × (buf.new.items ≡ buf.old.items)) }
@@ -28,7 +26,6 @@ pub fn append_byte<A: Allocator>(byte: u8, buf: &mut Vec<u8, A>) -> Result<(), W
 }
 
 /// Appends the low bytes of a number, the least significant first, in the same way.
-#[inline(always)]
 pub fn append_le<A: Allocator>(
     count: usize,
     number: u64,
@@ -42,7 +39,6 @@ pub fn append_le<A: Allocator>(
 }
 
 /// Where a part of what was to be appended was refused, takes away what was: all after this length.
-#[inline(always)]
 pub fn all_or_nothing<A: Allocator>(
     all: bool,
     at: usize,

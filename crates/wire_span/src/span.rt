@@ -112,7 +112,6 @@ impl HeaderFront {
     }
 
     // What came, and then the piece: the header and what is after it, or all that came of it.
-    #[inline(always)]
     fn read<'a>(self, piece: &'a [u8]) -> Result<(Header, &'a [u8]), HeaderFront>
         ensures whole { IfOk result (λ read.
             (front_bytes self ++ piece.now ≡ header read.0.len read.0.seq_id ++ read.1.now)
@@ -235,7 +234,6 @@ impl SpanDecoder {
 
     // Stands among a chunk's bytes, of which so many are to come. Where it stood there already, no
     // other part of the place is written.
-    #[inline(always)]
     fn stand_in(&mut self, still: NonZeroUsize, of_full: bool)
         ensures { self.new ≡ record self.old { place = InChunk still of_full } }
     {
@@ -254,7 +252,6 @@ impl SpanDecoder {
     }
 
     // Hands out what came of the open chunk, of which this many bytes are to come.
-    #[inline(always)]
     fn take_span<'a>(
         &mut self,
         left: usize,
@@ -313,7 +310,6 @@ impl SpanDecoder {
     /// byte after it is handed out before. Where it is refused nothing changes, neither the
     /// decoder nor the piece, so that after `PacketTooLarge` a larger limit goes on, and after
     /// `PacketsOutOfSync` the answer stays.
-    #[inline(always)]
     pub fn next_span<'a>(&mut self, piece: &mut &'a [u8]) -> Result<Option<Span<'a>>, SpanError>
         ensures ok { IfOk result (λ span. EatsSpans (span_state self.old) piece.old.now
             (spans_of span) piece.new.now (span_state self.new)) }

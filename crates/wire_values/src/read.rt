@@ -14,7 +14,6 @@ use wire_buf::proto::{MyDeserialize, ReadSize};
 const FIRST_ROOM: usize = 64;
 
 // Values one after another, room being taken before each where it is missing.
-#[inline(always)]
 fn read_each<'de, T: MyDeserialize<'de, A, Ctx = ()>, A: Allocator + Copy>(
     alloc: A,
     start: Vec<T, A>,
@@ -38,7 +37,6 @@ fn read_each<'de, T: MyDeserialize<'de, A, Ctx = ()>, A: Allocator + Copy>(
 // Values one after another. Room for the first of them is asked for before, for no more than bytes
 // are left; a refusal is passed over, since room for one is taken then. A buffer of its own stays in
 // registers.
-#[inline(always)]
 fn read_some<'de, T: MyDeserialize<'de, A, Ctx = ()>, A: Allocator + Copy>(
     alloc: A,
     count: usize,

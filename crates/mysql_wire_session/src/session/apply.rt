@@ -118,7 +118,6 @@ impl<A: Allocator + Copy> Session<A> {
     }
 
     // Goes on after a packet, whether or not its type reads it. A server's row says no more.
-    #[inline(always)]
     pub(super) fn go_on(&mut self, side: Side, kind: PacketKind, len: usize)
         ensures { state_of self.new ≡ state_after side kind len (state_of self.old) }
     {
