@@ -1,7 +1,6 @@
 -- A text after its length, in two puts.
-use Rattle.std.proofs.Common.{◌≡◌, ℕ, ◌+◌, ◌<◌, ◌≤◌, List, ◌++◌, length, Result, Ok, Err, refl, sym, ap, ◌∙◌, subst, arith, inl, inr, append_assoc}
+use Rattle.std.proofs.Common.{◌≡◌, ℕ, ◌+◌, ◌<◌, ◌≤◌, List, ◌++◌, length, Result, Err, refl, sym, ap, ◌∙◌, subst, arith, inl, inr, append_assoc}
 use Rattle.std.proofs.lemmas.List.{length-append}
-use Rattle.std.specs.Result.{IsErrAnd}
 use Rattle.wire_buf.specs.declared.error.WireError.{WireError}
 use Rattle.wire_buf.specs.declared.error.WireError.TheVariants.{OutOfMemory}
 use Rattle.wire_ext.specs.Texts.{PutsText}
@@ -24,8 +23,3 @@ text_put old mid new spelling text first second = second ∙ ap (λ (z : List �
 
 pub spare_put : (old mid new : ℕ) (spelling text : List ℕ) → old ≤ mid + length spelling → mid ≤ new + length text → old ≤ new + length (spelling ++ text)
 spare_put old mid new spelling text first second = let long = length-append spelling text in omega (arith, long, first, second)
-
--- an answer by `?` is its error
-pub is_error : {X : Type 0} (result : Result X WireError) (error other : WireError) → IsErrAnd result (λ e. e ≡ error) → error ≡ other → result ≡ Err other
-is_error (Ok x) error other is same = absurd is
-is_error (Err e) error other is same = ap (λ (x : WireError). Err x) (is ∙ same)

@@ -1,6 +1,6 @@
 //! Numbers and texts put into a buffer.
 
-ghost use Rattle.std.specs.Prelude.{◌≡◌, ◌+◌, ◌≤◌, ◌++◌, ◌∷◌, [], length, take, OnOk, IfErr};
+ghost use Rattle.std.specs.Prelude.{◌≡◌, ◌+◌, ◌≤◌, ◌++◌, ◌∷◌, [], length, take, OnErr, OnOk, IfErr};
 ghost use Rattle.std.specs.Int.{cast_unsigned, w32, w64};
 ghost use Rattle.bytes.specs.Filled.{UsesSpare};
 ghost use Rattle.wire_buf.specs.declared.error.WireError.TheVariants.{OutOfMemory};
@@ -12,48 +12,24 @@ ghost use Rattle.wire_ext.specs.Texts.{PutsText, u8_max, u32_max};
 use crate::spelling::{four_bytes, nine_bytes, three_bytes};
 use crate::text::{first_bytes, longest_u8_str, longest_u32_str};
 use bytes::BufMut;
+use std::alloc::AllocError;
 use wire_buf::error::WireError;
 
-// Puts a byte.
-fn put_byte<B: BufMut>(buf: &mut B, byte: u8) -> Result<(), WireError>
-    ensures ok { OnOk result (B.written buf.new ≡ B.written buf.old ++ byte ∷ []) }
-    ensures err { IfErr result (λ error. (error ≡ OutOfMemory)
-        × (B.written buf.new ≡ B.written buf.old)) }
-    ensures spare { UsesSpare result (B.spare buf.old) (B.spare buf.new) 1 }
-{
-    buf.put_u8(byte)?;
-    Ok(())
-}
-
-// Puts these bytes, in one put.
-fn put<B: BufMut>(buf: &mut B, bytes: &[u8]) -> Result<(), WireError>
-    ensures ok { OnOk result (B.written buf.new ≡ B.written buf.old ++ bytes.now) }
-    ensures err { IfErr result (λ error. (error ≡ OutOfMemory)
-        × (B.written buf.new ≡ B.written buf.old)) }
-    ensures spare { UsesSpare result (B.spare buf.old) (B.spare buf.new) (length bytes.now) }
-{
-    buf.put_slice(bytes)?;
-    Ok(())
-}
-
-// Puts the spelling (the encoding) of a length-encoded integer, in one put. As a call it would hand
-// its `Result`, which has room for an `io::Error`, back through memory: that takes longer than the
-// put.
+// Puts the spelling (the encoding) of a length-encoded integer, in one put.
 #[inline(always)]
-fn put_spelling<B: BufMut>(buf: &mut B, n: u64) -> Result<(), WireError>
+fn put_spelling<B: BufMut>(buf: &mut B, n: u64) -> Result<(), AllocError>
     ensures ok { OnOk result (B.written buf.new ≡ B.written buf.old ++ lenenc_bytes n) }
-    ensures err { IfErr result (λ error. (error ≡ OutOfMemory)
-        × (B.written buf.new ≡ B.written buf.old)) }
+    ensures err { OnErr result (B.written buf.new ≡ B.written buf.old) }
     ensures spare { UsesSpare result (B.spare buf.old) (B.spare buf.new) (length (lenenc_bytes n)) }
 {
     if n < 251 {
-        put_byte(buf, n as u8)
+        buf.put_u8(n as u8)
     } else if n < 65_536 {
-        put(buf, &three_bytes(n))
+        buf.put_slice(&three_bytes(n))
     } else if n < 16_777_216 {
-        put(buf, &four_bytes(n))
+        buf.put_slice(&four_bytes(n))
     } else {
-        put(buf, &nine_bytes(n))
+        buf.put_slice(&nine_bytes(n))
     }
 }
 
@@ -64,7 +40,8 @@ pub trait BufMutExt: BufMut {
     /// Puts an `int<lenenc>`: 1, 3, 4 or 9 bytes, as few as hold the number.
     ///
     /// <https://dev.mysql.com/doc/dev/mysql-server/latest/page_protocol_basic_dt_integers.html>
-    // No call, for the reason at `put_spelling`.
+    // As a call it would hand its `Result`, which has room for an `io::Error`, back through memory:
+    // that takes longer than the put.
     #[inline(always)]
     final fn put_lenenc_int(&mut self, n: u64) -> Result<(), WireError>
     where
@@ -78,7 +55,8 @@ pub trait BufMutExt: BufMut {
         ensures shortest { IsShortest IsLenenc n (lenenc_bytes n) }
         ensures shortest_in_a_buffer { IsShortest IsLenencOrMark n (lenenc_bytes n) }
     {
-        put_spelling(self, n)
+        put_spelling(self, n)?;
+        Ok(())
     }
 
     /// Puts a `string<lenenc>`: the text after its length as an `int<lenenc>`.
@@ -93,7 +71,7 @@ pub trait BufMutExt: BufMut {
         ensures spare { OnOk result (Self.spare self.old
             ≤ Self.spare self.new + length (lenenc_bytes (length text.now) ++ text.now)) }
     {
-        self.put_lenenc_int(text.len() as u64)?;
+        put_spelling(self, text.len() as u64)?;
         self.put_slice(text)?;
         Ok(())
     }

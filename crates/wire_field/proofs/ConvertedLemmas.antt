@@ -1,5 +1,5 @@
 -- A value that a number converts to, from the bytes before to those that are left.
-use Rattle.std.proofs.Common.{ℕ, ◌≡◌, List, Result, Ok, Err, inl, inr, refl, sym, subst}
+use Rattle.std.proofs.Common.{ℕ, ◌≡◌, List, Result, Ok, Err, inr, refl, sym, subst}
 use Rattle.wire_buf.specs.declared.error.WireError.{WireError}
 use Rattle.wire_buf.specs.declared.error.WireError.TheVariants.{InvalidData}
 use Rattle.wire_buf.specs.declared.error.InvalidReason.TheVariants.{UnknownValue}

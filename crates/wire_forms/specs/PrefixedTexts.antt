@@ -1,22 +1,22 @@
 -- Texts after their length are read back.
-use Rattle.std.proofs.Common.{ℕ, ◌≡◌, ◌≤◌, ◌<◌, ◌+◌, ◌-◌, ◌^◌, List, ◌++◌, length, take, drop, Result, Ok, Err, IfOk, IfErr, inl, inr, refl, sym, ap, subst, ◌∙◌, arith}
+use Rattle.std.proofs.Common.{ℕ, ◌≡◌, ◌≤◌, ◌<◌, ◌+◌, ◌-◌, ◌^◌, List, ◌++◌, length, take, drop, Result, Ok, Err, None, inl, inr, refl, sym, ap, subst, ◌∙◌, arith}
 use Rattle.std.specs.declared.borrow.CowSlice.{CowSlice}
 use Rattle.std.specs.declared.borrow.CowSlice.TheVariants as slice
-use Rattle.std.proofs.lemmas.List.{length-drop, drop-drop, length-take, length-take-le, take-append-drop}
+use Rattle.std.proofs.lemmas.List.{length-drop, drop-drop, length-take, length-take-le, take-append-drop, append_assoc}
 use Rattle.wire_buf.specs.declared.error.WireError.{WireError}
 use Rattle.wire_buf.specs.declared.error.WireError.TheVariants.{UnexpectedEof}
 use Rattle.wire_buf.specs.Lenenc.{IsLenencOrMark, lenenc_bytes}
 use Rattle.wire_buf.specs.NumberLemmas.{length-le_bytes, le_number-le_bytes_fits}
 use Rattle.wire_buf.specs.Numbers.{le_bytes}
 use Rattle.wire_buf.specs.Reading.{Reads, Answers}
-use Rattle.wire_buf.specs.Spelling.{IsFixed, EatsSpelling, EatsText}
+use Rattle.wire_buf.specs.Spelling.{IsFixed, EatsSpelling, EatsText, ReadsText}
 use Rattle.wire_buf.specs.SpellingLemmas.{IsFixed-free}
 use Rattle.wire_ext.specs.Texts.{u8_max, u32_max}
 use Rattle.wire_forms.specs.Groups.{ReadsGroups, groups_bytes}
 use Rattle.wire_forms.specs.GroupsLemmas.{groups_bytes-told}
 use Rattle.wire_forms.specs.Lenenc.{lenenc_bytes-told}
-use Rattle.wire_forms.specs.Spelled.{Leaves, NumberOrEof, TextBehind, Leaves-back, NumberOrEof-back, TextBehind-back}
-use Rattle.wire_repr.specs.Texts.{IsText, IsBorrowedText, Borrows, BorrowsIn}
+use Rattle.wire_forms.specs.Spelled.{Leaves, NumberOrEof, TextBehind, Leaves-back, NumberOrEof-back, NumberOrEof-left, Reads-left, TextBehind-back}
+use Rattle.wire_repr.specs.Texts.{IsText, IsBorrowedText, BorrowsIn}
 
 pub lenenc_text-back : (text rest : List ℕ) → IsText text
     → (answer : Result (List ℕ) WireError) (eaten : ℕ)
@@ -98,7 +98,7 @@ pub TextBehind-refused : (tells : List ℕ → Result ℕ WireError → List ℕ
 TextBehind-refused tells old error new (eaten, there, left, (still, told)) =
     (eaten, there, left, (still, inl told))
 
-read_text : (tells : List ℕ → Result ℕ WireError → List ℕ → Type 0) (old mid new text : List ℕ)
+pub read_text : (tells : List ℕ → Result ℕ WireError → List ℕ → Type 0) (old mid new text : List ℕ)
     (len : ℕ) → Reads (Leaves tells) old (Ok len) mid
     → len ≤ length mid → text ≡ take len mid → new ≡ drop len mid
     → Reads (Leaves (TextBehind tells)) old (Ok text) new
@@ -119,7 +119,7 @@ read_text tells old mid new text len (eaten, there, left, (still, told)) enough 
       (all, subst (TextBehind tells old (Ok text)) (rest ∙ over) answer),
     )
 
-short_text : (tells : List ℕ → Result ℕ WireError → List ℕ → Type 0) (old mid new : List ℕ)
+pub short_text : (tells : List ℕ → Result ℕ WireError → List ℕ → Type 0) (old mid new : List ℕ)
     (len : ℕ) (error : WireError) → Reads (Leaves tells) old (Ok len) mid
     → error ≡ UnexpectedEof → length mid < len → new ≡ mid
     → Reads (Leaves (TextBehind tells)) old (Err error) new
@@ -127,19 +127,23 @@ short_text tells old mid new len error (eaten, there, left, (still, told)) is sh
     let few : length (drop eaten old) < len = omega (arith, short, ap length left) in
     (eaten, there, same ∙ left, (still, inr (len, told, few, is)))
 
-pub TextBehind-read : {Z : Type 0} (tells : List ℕ → Result ℕ WireError → List ℕ → Type 0)
-    (old mid new : List ℕ) (len : ℕ) (answer : Result (CowSlice ℕ Z) WireError)
-    → Reads (Leaves tells) old (Ok len) mid
-    → IfOk answer (λ text. (len ≤ length mid) × IsBorrowedText text (take len mid)
-    × (new ≡ drop len mid))
-    → IfErr answer (λ error. (error ≡ UnexpectedEof) × (length mid < len) × (new ≡ mid))
-    → Reads (λ input. Borrows (λ (text : CowSlice ℕ Z). text) (Leaves (TextBehind tells) input)) old
-    answer new
-TextBehind-read tells old mid new len (Ok (slice.Borrowed r)) read (enough, is, rest) err =
-    read_text tells old mid new r.now len read enough is rest
-TextBehind-read tells old mid new len (Ok (slice.Owned v)) read (enough, is, rest) err = absurd is
-TextBehind-read tells old mid new len (Err error) read ok (is, short, same) =
-    short_text tells old mid new len error read is short same
+-- by a reader that answers a text behind such a length, or none
+pub text_told : (spells : ℕ → List ℕ → Type 0) (lost : ℕ) (old text new : List ℕ)
+    → EatsText spells old text new
+    → Reads (Leaves (TextBehind (NumberOrEof spells lost))) old (Ok text) new
+text_told spells lost old text new told =
+    Reads-left (TextBehind (NumberOrEof spells lost)) old (Ok text) new (told.0 ++ text)
+    (told.2 ∙ sym (append_assoc told.0 text new)) (text ++ new, told, refl)
+
+pub text_missing : (spells : ℕ → List ℕ → Type 0) (lost : ℕ) (old new : List ℕ)
+    → ReadsText spells lost old None new
+    → Reads (Leaves (TextBehind (NumberOrEof spells lost))) old (Err UnexpectedEof) new
+text_missing spells lost old new (inl nothing) =
+    TextBehind-refused (NumberOrEof spells lost) old UnexpectedEof new
+    (NumberOrEof-left spells lost old (Err UnexpectedEof) new (refl, nothing))
+text_missing spells lost old new (inr (len, told, short)) =
+    short_text (NumberOrEof spells lost) old new new len UnexpectedEof
+    (NumberOrEof-left spells lost old (Ok len) new told) refl short refl
 
 -- ---- for who reads one field after another
 

@@ -1,6 +1,6 @@
 //! Bytes that are always the same, or that say nothing.
 
-ghost use Rattle.std.specs.Prelude.{ℕ, List, ◌<◌, ◌≤◌, ◌^◌, ◌≡◌, ◌∷◌, [], ◌++◌, length, replicate, refl};
+ghost use Rattle.std.specs.Prelude.{ℕ, List, ◌<◌, ◌≤◌, ◌^◌, ◌≡◌, ◌∷◌, [], ◌++◌, ◌↔◌, length, take, drop, replicate, refl, IsTrue};
 ghost use Rattle.wire_buf.specs.Numbers.{le_bytes};
 ghost use Rattle.wire_buf.specs.NumberLemmas.{length-le_bytes};
 ghost use Rattle.wire_buf.specs.Reading.{Reads};
@@ -16,21 +16,13 @@ use wire_buf::proto::{Fixed, HasSize, MyDeserialize, MySerialize};
 use wire_repr::append::{append, append_byte, append_le};
 use wire_repr::wire::Wire;
 
-// Eats this many bytes, and answers with the value where they are these.
-fn eat_const<X: Copy>(
-    count: usize,
-    bytes: &[u8],
-    value: X,
-    buf: &mut ParseBuf<'_>,
-) -> Result<X, WireError>
+// Eats this many bytes: whether they are these.
+fn eat_same(count: usize, bytes: &[u8], buf: &mut ParseBuf<'_>) -> bool
     requires { count ≤ length buf.old.0.now }
-    ensures { Reads (ReadsConst count bytes.now) buf.old.0.now result buf.new.0.now }
+    ensures same { IsTrue result ↔ take count buf.old.0.now ≡ bytes.now }
+    ensures eaten { buf.new.0.now ≡ drop count buf.old.0.now }
 {
-    if buf.eat(count) == bytes {
-        Ok(value)
-    } else {
-        Err(WireError::InvalidData(InvalidReason::ConstMismatch))
-    }
+    buf.eat(count) == bytes
 }
 
 /// The byte `N`. Another is refused as `ConstMismatch`, and has been eaten. `T` names what it
@@ -71,7 +63,11 @@ impl<'de, A: Allocator + Copy, T, const N: u8> MyDeserialize<'de, A> for ConstU8
     ghost reads = { λ _. ReadsConst 1 (N ∷ []) };
 
     fn deserialize(_: A, _: (), buf: &mut ParseBuf<'de>) -> Result<Self, WireError> {
-        eat_const(1, &[N], ConstU8(PhantomData), buf)
+        if eat_same(1, &[N], buf) {
+            Ok(ConstU8(PhantomData))
+        } else {
+            Err(WireError::InvalidData(InvalidReason::ConstMismatch))
+        }
     }
 }
 
@@ -123,7 +119,11 @@ impl<'de, A: Allocator + Copy, T, const N: u32> MyDeserialize<'de, A> for ConstU
     ghost reads = { λ _. ReadsConst 4 (le_bytes 4 N) };
 
     fn deserialize(_: A, _: (), buf: &mut ParseBuf<'de>) -> Result<Self, WireError> {
-        eat_const(4, &N.to_le_bytes(), ConstU32(PhantomData), buf)
+        if eat_same(4, &N.to_le_bytes(), buf) {
+            Ok(ConstU32(PhantomData))
+        } else {
+            Err(WireError::InvalidData(InvalidReason::ConstMismatch))
+        }
     }
 }
 
@@ -184,7 +184,11 @@ impl<'de, A: Allocator + Copy, T: ConstBytesValue<LEN>, const LEN: usize> MyDese
     ghost reads = { λ _. ReadsConst LEN T.ConstBytesValue.VALUE };
 
     fn deserialize(_: A, _: (), buf: &mut ParseBuf<'de>) -> Result<Self, WireError> {
-        eat_const(LEN, &T::VALUE, ConstBytes(PhantomData), buf)
+        if eat_same(LEN, &T::VALUE, buf) {
+            Ok(ConstBytes(PhantomData))
+        } else {
+            Err(WireError::InvalidData(InvalidReason::ConstMismatch))
+        }
     }
 }
 

@@ -21,16 +21,6 @@ use wire_repr::int::IntRepr;
 #[derive(Clone, Copy, Debug, PartialEq, Eq, PartialOrd, Ord, Hash, Default)]
 pub struct LenEnc;
 
-/// Eats the number.
-pub(crate) fn eat_lenenc(buf: &mut ParseBuf<'_>) -> Result<u64, WireError>
-    ensures { NumberOrEof IsLenencOrMark 1 buf.old.0.now result buf.new.0.now }
-{
-    match buf.checked_eat_lenenc_int() {
-        Some(number) => Ok(number),
-        None => Err(WireError::UnexpectedEof),
-    }
-}
-
 impl IntRepr for LenEnc {
     const SIZE: Option<usize> = None;
 
@@ -56,7 +46,10 @@ impl IntRepr for LenEnc {
     }
 
     fn deserialize(buf: &mut ParseBuf<'_>) -> Result<u64, WireError> {
-        eat_lenenc(buf)
+        match buf.checked_eat_lenenc_int() {
+            Some(number) => Ok(number),
+            None => Err(WireError::UnexpectedEof),
+        }
     }
 
     fn known(_: u64) {}

@@ -12,9 +12,8 @@ ghost use Rattle.wire_forms.specs.Groups.{ReadsGroups, groups_bytes};
 ghost use Rattle.wire_forms.specs.PrefixedTexts.{lenenc_text-back, fixed_text-back_1, fixed_text-back_4, groups_text-back};
 ghost use Rattle.wire_forms.specs.Spelled.{Leaves, NumberOrEof, TextBehind};
 
-use crate::lenenc::{LenEnc, eat_lenenc};
-use crate::undelimited::eat_text;
-use crate::varlen::{VarLen, eat_groups, put_groups};
+use crate::lenenc::LenEnc;
+use crate::varlen::{VarLen, put_groups};
 use std::alloc::Allocator;
 use std::borrow::CowSlice;
 use wire_buf::error::WireError;
@@ -56,8 +55,10 @@ impl BytesRepr for LenEnc {
         _: (),
         buf: &mut ParseBuf<'de>,
     ) -> Result<CowSlice<'de, u8, A>, WireError> {
-        let len = <LenEnc as IntRepr>::deserialize(buf)?;
-        eat_text(len as usize, buf)
+        match buf.checked_eat_lenenc_str() {
+            Some(text) => Ok(CowSlice::Borrowed(text)),
+            None => Err(WireError::UnexpectedEof),
+        }
     }
 
     ghost comes_back = { λ _ text rest value _. lenenc_text-back text rest value };
@@ -72,16 +73,6 @@ impl BytesRepr for LenEnc {
 /// <https://dev.mysql.com/doc/dev/mysql-server/latest/page_protocol_connection_phase_packets_protocol_handshake_response.html>
 #[derive(Clone, Copy, Debug, PartialEq, Eq, Hash, Default)]
 pub struct U8Bytes;
-
-// Eats a length of one byte.
-fn eat_u8_len(buf: &mut ParseBuf<'_>) -> Result<usize, WireError>
-    ensures { Reads (Leaves (NumberOrEof (IsFixed 1) 0)) buf.old.0.now result buf.new.0.now }
-{
-    match buf.checked_eat_u8() {
-        Some(len) => Ok(len as usize),
-        None => Err(WireError::UnexpectedEof),
-    }
-}
 
 impl BytesRepr for U8Bytes {
     const MAX_LEN: usize = 255;
@@ -112,8 +103,10 @@ impl BytesRepr for U8Bytes {
         _: (),
         buf: &mut ParseBuf<'de>,
     ) -> Result<CowSlice<'de, u8, A>, WireError> {
-        let len = eat_u8_len(buf)?;
-        eat_text(len, buf)
+        match buf.checked_eat_u8_str() {
+            Some(text) => Ok(CowSlice::Borrowed(text)),
+            None => Err(WireError::UnexpectedEof),
+        }
     }
 
     ghost comes_back = { λ _ text rest _ _. fixed_text-back_1 text rest };
@@ -128,16 +121,6 @@ impl BytesRepr for U8Bytes {
 /// <https://dev.mysql.com/doc/dev/mysql-server/latest/page_protocol_com_binlog_dump_gtid.html>
 #[derive(Clone, Copy, Debug, PartialEq, Eq, Hash, Default)]
 pub struct U32Bytes;
-
-// Eats a length of four bytes.
-fn eat_u32_len(buf: &mut ParseBuf<'_>) -> Result<usize, WireError>
-    ensures { Reads (Leaves (NumberOrEof (IsFixed 4) 0)) buf.old.0.now result buf.new.0.now }
-{
-    match buf.checked_eat_u32_le() {
-        Some(len) => Ok(len as usize),
-        None => Err(WireError::UnexpectedEof),
-    }
-}
 
 impl BytesRepr for U32Bytes {
     const MAX_LEN: usize = 4294967295;
@@ -168,8 +151,10 @@ impl BytesRepr for U32Bytes {
         _: (),
         buf: &mut ParseBuf<'de>,
     ) -> Result<CowSlice<'de, u8, A>, WireError> {
-        let len = eat_u32_len(buf)?;
-        eat_text(len, buf)
+        match buf.checked_eat_u32_str() {
+            Some(text) => Ok(CowSlice::Borrowed(text)),
+            None => Err(WireError::UnexpectedEof),
+        }
     }
 
     ghost comes_back = { λ _ text rest _ _. fixed_text-back_4 text rest };
@@ -211,7 +196,10 @@ impl BytesRepr for VarLen {
         buf: &mut ParseBuf<'de>,
     ) -> Result<CowSlice<'de, u8, A>, WireError> {
         let len = <VarLen as IntRepr>::deserialize(buf)?;
-        eat_text(len as usize, buf)
+        match buf.checked_eat(len as usize) {
+            Some(text) => Ok(CowSlice::Borrowed(text)),
+            None => Err(WireError::UnexpectedEof),
+        }
     }
 
     ghost comes_back = { λ _ text rest _ _. groups_text-back text rest };

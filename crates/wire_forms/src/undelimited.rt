@@ -18,23 +18,6 @@ use wire_ext::text::first_bytes;
 use wire_repr::append::{all_or_nothing, append};
 use wire_repr::text::BytesRepr;
 
-/// Eats this many bytes, borrowed.
-pub(super) fn eat_text<'de, A: Allocator>(
-    count: usize,
-    buf: &mut ParseBuf<'de>,
-) -> Result<CowSlice<'de, u8, A>, WireError>
-    ensures ok { IfOk result (λ text. (count ≤ length buf.old.0.now)
-        × IsBorrowedText text (take count buf.old.0.now)
-        × (buf.new.0.now ≡ drop count buf.old.0.now)) }
-    ensures err { IfErr result (λ error. (error ≡ UnexpectedEof) × (length buf.old.0.now < count)
-        × (buf.new.0.now ≡ buf.old.0.now)) }
-{
-    match buf.checked_eat(count) {
-        Some(text) => Ok(CowSlice::Borrowed(text)),
-        None => Err(WireError::UnexpectedEof),
-    }
-}
-
 /// A `string<EOF>`: all the rest. It comes back where nothing follows it.
 ///
 /// <https://dev.mysql.com/doc/dev/mysql-server/latest/page_protocol_basic_dt_strings.html>
@@ -120,7 +103,10 @@ impl<const N: usize> BytesRepr for BareBytes<N> {
         count: usize,
         buf: &mut ParseBuf<'de>,
     ) -> Result<CowSlice<'de, u8, A>, WireError> {
-        eat_text(count, buf)
+        match buf.checked_eat(count) {
+            Some(text) => Ok(CowSlice::Borrowed(text)),
+            None => Err(WireError::UnexpectedEof),
+        }
     }
 
     ghost comes_back = { λ count text rest _ good. front-back N count text rest good };

@@ -71,22 +71,10 @@ impl<'a, T: IntRepr, U, A: Allocator> RawSeq<'a, T, U, A> {
         ensures err { IfErr result (λ error. (error ≡ OutOfMemory) × IsNotOwned self.entry.0) }
     {
         match self.0 {
-            CowSlice::Borrowed(items) => copied(alloc, items),
+            CowSlice::Borrowed(items) => Ok(of_owned(Vec::from_slice(alloc, items)?)),
             CowSlice::Owned(items) => Ok(of_owned(items)),
         }
     }
-}
-
-// A copy of numbers.
-fn copied<'b, T: IntRepr, U, A: Allocator>(
-    alloc: A,
-    items: &[T::Primitive],
-) -> Result<RawSeq<'b, T, U, A>, WireError>
-    ensures ok { IfOk result (λ owned. IsOwned owned.0 × (cow_slice_items owned.0 ≡ items.now)) }
-    ensures err { IfErr result (λ error. error ≡ OutOfMemory) }
-{
-    let owned = Vec::from_slice(alloc, items)?;
-    Ok(of_owned(owned))
 }
 
 // Numbers of its own.

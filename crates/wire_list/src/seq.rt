@@ -127,7 +127,7 @@ impl<'a, T: Clone, U, A: Allocator> Seq<'a, T, U, A> {
         ensures err { IfErr result (λ error. (error ≡ OutOfMemory) × IsNotOwned self.entry.0) }
     {
         match self.0 {
-            CowSlice::Borrowed(items) => copied(alloc, items),
+            CowSlice::Borrowed(items) => Ok(of_owned(Vec::from_clones(alloc, items)?)),
             CowSlice::Owned(items) => Ok(of_owned(items)),
         }
     }
@@ -140,22 +140,6 @@ impl<'a, T: Clone, U, A: Allocator> Default for Seq<'a, T, U, A> {
     {
         Seq::empty()
     }
-}
-
-// A list of copies.
-fn copied<'b, T: Clone + Drop, U, A: Allocator>(
-    alloc: A,
-    items: &[T],
-) -> Result<Seq<'b, T, U, A>, WireError>
-    ensures ok { IfOk result (λ owned. IsOwned owned.0
-        × AllZip T.is_clone items.now (cow_slice_items owned.0)) }
-    ensures same { IfOk result (λ owned.
-        ((value clone : T) → T.is_clone value clone → clone ≡ value)
-        → cow_slice_items owned.0 ≡ items.now) }
-    ensures err { IfErr result (λ error. error ≡ OutOfMemory) }
-{
-    let owned: Vec<T, A> = Vec::from_clones(alloc, items)?;
-    Ok(of_owned(owned))
 }
 
 // A list of its own values.

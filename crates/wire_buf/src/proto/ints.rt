@@ -10,15 +10,6 @@ use crate::error::WireError;
 use crate::io::ParseBuf;
 use std::alloc::Allocator;
 
-// Appends the bytes of a number. Where memory for them is refused, the buffer is as it was.
-fn append<A: Allocator>(bytes: &[u8], buf: &mut Vec<u8, A>) -> Result<(), WireError>
-    ensures ok { OnOk result (buf.new.items ≡ buf.old.items ++ bytes.now) }
-    ensures err { IfErr result (λ error. (error ≡ OutOfMemory) × (buf.new.items ≡ buf.old.items)) }
-{
-    buf.extend_from_slice(bytes)?;
-    Ok(())
-}
-
 /// An `int<1>`.
 ///
 /// <https://dev.mysql.com/doc/dev/mysql-server/latest/page_protocol_basic_dt_integers.html>
@@ -26,7 +17,8 @@ impl MySerialize for u8 {
     ghost bytes = { λ n. n ∷ [] };
 
     fn serialize<A: Allocator>(&self, buf: &mut Vec<u8, A>) -> Result<(), WireError> {
-        append(&[*self], buf)
+        buf.extend_from_slice(&[*self])?;
+        Ok(())
     }
 }
 
@@ -51,7 +43,8 @@ impl MySerialize for u16 {
     ghost bytes = { λ n. le_bytes 2 n };
 
     fn serialize<A: Allocator>(&self, buf: &mut Vec<u8, A>) -> Result<(), WireError> {
-        append(&self.to_le_bytes(), buf)
+        buf.extend_from_slice(&self.to_le_bytes())?;
+        Ok(())
     }
 }
 
@@ -76,7 +69,8 @@ impl MySerialize for u32 {
     ghost bytes = { λ n. le_bytes 4 n };
 
     fn serialize<A: Allocator>(&self, buf: &mut Vec<u8, A>) -> Result<(), WireError> {
-        append(&self.to_le_bytes(), buf)
+        buf.extend_from_slice(&self.to_le_bytes())?;
+        Ok(())
     }
 }
 
@@ -101,7 +95,8 @@ impl MySerialize for u64 {
     ghost bytes = { λ n. le_bytes 8 n };
 
     fn serialize<A: Allocator>(&self, buf: &mut Vec<u8, A>) -> Result<(), WireError> {
-        append(&self.to_le_bytes(), buf)
+        buf.extend_from_slice(&self.to_le_bytes())?;
+        Ok(())
     }
 }
 

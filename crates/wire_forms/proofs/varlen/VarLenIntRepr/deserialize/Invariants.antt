@@ -1,6 +1,6 @@
 use Rattle.std.proofs.Common.{◌≡◌, ◌<◌, ◌^◌}
 use Rattle.wire_forms.specs.GroupsLemmas.{SoFar}
-use Rattle.wire_forms.proofs.varlen.eat_groups.Given as goal
+use Rattle.wire_forms.proofs.varlen.VarLenIntRepr.deserialize.Given as goal
 
 abbrev pub invariant-loop-place : goal.invariant-loop-place
 invariant-loop-place l = record {
