@@ -173,7 +173,6 @@ pub extern "C" fn mw_coldef_by_hand(alloc: Global, bytes: &[u8], reps: u64) -> u
 }
 
 // Writes what was read.
-#[inline(always)]
 fn put<T: MySerialize + Drop>(value: Result<T, WireError>, out: &mut Vec<u8>) -> Option<()> {
     value.ok()?.serialize(out).ok()
 }

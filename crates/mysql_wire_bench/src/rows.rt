@@ -155,7 +155,6 @@ fn columns_by_value(alloc: Global, row: &BinaryRow<'_>) -> Option<u64> {
 }
 
 // A date and its time.
-#[inline(always)]
 fn date_by_hand(rest: &mut ParseBuf<'_>) -> Option<u64> {
     match rest.checked_eat(8)? {
         [7, low, high, month, day, hour, minute, second] => {
@@ -167,7 +166,6 @@ fn date_by_hand(rest: &mut ParseBuf<'_>) -> Option<u64> {
     }
 }
 
-#[inline(always)]
 fn column_by_hand(column_type: ColumnType, rest: &mut ParseBuf<'_>) -> Option<u64> {
     match column_type {
         ColumnType::MYSQL_TYPE_LONGLONG | ColumnType::MYSQL_TYPE_DOUBLE => {

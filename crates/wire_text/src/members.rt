@@ -152,34 +152,8 @@ fn push_value<A: Allocator + Copy>(
     }
 }
 
-// A name and the quote after it, on a line of its own. A name of one or two bytes goes in one
-// append with what stands around it.
-#[inline(always)]
-fn push_line_front<A: Allocator>(text: &mut String<A>, name: &str) -> Result<(), AllocError>
-    ensures { OnOk result (string_bytes text.new
-        ≡ string_bytes text.old ++ (codes "\n  " ++ name.now ++ codes " \"")) }
-{
-    match name.as_bytes() {
-        [one] => push_few(text, &[b'\n', b' ', b' ', *one, b' ', b'"']),
-        [one, two] => push_few(text, &[b'\n', b' ', b' ', *one, *two, b' ', b'"']),
-        _ => push_between(text, "\n  ", name, " \""),
-    }
-}
-
-// The same after another member of an object.
-#[inline(always)]
-fn push_pair_front<A: Allocator>(text: &mut String<A>, name: &str) -> Result<(), AllocError>
-    ensures { OnOk result (string_bytes text.new
-        ≡ string_bytes text.old ++ (codes ",\"" ++ name.now ++ codes "\":\"")) }
-{
-    match name.as_bytes() {
-        [one] => push_few(text, &[b',', b'"', *one, b'"', b':', b'"']),
-        [one, two] => push_few(text, &[b',', b'"', *one, *two, b'"', b':', b'"']),
-        _ => push_between(text, ",\"", name, "\":\""),
-    }
-}
-
-// The name of a field, and the quote after it.
+// The name of a field, and the quote after it. A name of one or two bytes goes in one append with what
+// stands around it, but the first of an object.
 #[inline(always)]
 fn push_plain_front<A: Allocator>(
     text: &mut String<A>,
@@ -191,14 +165,17 @@ fn push_plain_front<A: Allocator>(
         ≡ string_bytes text.old ++ (name_part form is_first name.now ++ codes "\"")) }
 {
     match form {
-        MemberForm::Text => push_line_front(text, name),
-        MemberForm::Json => {
-            if is_first {
-                push_between(text, ",\"fields\":{\"", name, "\":\"")
-            } else {
-                push_pair_front(text, name)
-            }
-        }
+        MemberForm::Text => match name.as_bytes() {
+            [one] => push_few(text, &[b'\n', b' ', b' ', *one, b' ', b'"']),
+            [one, two] => push_few(text, &[b'\n', b' ', b' ', *one, *two, b' ', b'"']),
+            _ => push_between(text, "\n  ", name, " \""),
+        },
+        MemberForm::Json if is_first => push_between(text, ",\"fields\":{\"", name, "\":\""),
+        MemberForm::Json => match name.as_bytes() {
+            [one] => push_few(text, &[b',', b'"', *one, b'"', b':', b'"']),
+            [one, two] => push_few(text, &[b',', b'"', *one, *two, b'"', b':', b'"']),
+            _ => push_between(text, ",\"", name, "\":\""),
+        },
     }
 }
 
@@ -219,32 +196,6 @@ fn push_plain<A: Allocator>(
     text.push('"')
 }
 
-// A name on a line of its own. One of one or two bytes goes in one append with what stands around it.
-#[inline(always)]
-fn push_line_name<A: Allocator>(text: &mut String<A>, name: &str) -> Result<(), AllocError>
-    ensures { OnOk result (string_bytes text.new
-        ≡ string_bytes text.old ++ (codes "\n  " ++ name.now ++ codes " ")) }
-{
-    match name.as_bytes() {
-        [one] => push_few(text, &[b'\n', b' ', b' ', *one, b' ']),
-        [one, two] => push_few(text, &[b'\n', b' ', b' ', *one, *two, b' ']),
-        _ => push_between(text, "\n  ", name, " "),
-    }
-}
-
-// The same after another member of an object.
-#[inline(always)]
-fn push_pair_name<A: Allocator>(text: &mut String<A>, name: &str) -> Result<(), AllocError>
-    ensures { OnOk result (string_bytes text.new
-        ≡ string_bytes text.old ++ (codes ",\"" ++ name.now ++ codes "\":")) }
-{
-    match name.as_bytes() {
-        [one] => push_few(text, &[b',', b'"', *one, b'"', b':']),
-        [one, two] => push_few(text, &[b',', b'"', *one, *two, b'"', b':']),
-        _ => push_between(text, ",\"", name, "\":"),
-    }
-}
-
 // The digits of a place, as its name.
 fn name_of(digits: &[u8]) -> &str
     requires { IsUtf8 digits.now }
@@ -253,7 +204,7 @@ fn name_of(digits: &[u8]) -> &str
     unsafe { std::str::from_utf8_unchecked(digits) }
 }
 
-// The name of a field, with what stands around it.
+// The name of a field, with what stands around it. As `push_plain_front`, without the quote.
 #[inline(always)]
 fn push_name<A: Allocator>(
     text: &mut String<A>,
@@ -265,14 +216,17 @@ fn push_name<A: Allocator>(
         ≡ string_bytes text.old ++ name_part form is_first name.now) }
 {
     match form {
-        MemberForm::Text => push_line_name(text, name),
-        MemberForm::Json => {
-            if is_first {
-                push_between(text, ",\"fields\":{\"", name, "\":")
-            } else {
-                push_pair_name(text, name)
-            }
-        }
+        MemberForm::Text => match name.as_bytes() {
+            [one] => push_few(text, &[b'\n', b' ', b' ', *one, b' ']),
+            [one, two] => push_few(text, &[b'\n', b' ', b' ', *one, *two, b' ']),
+            _ => push_between(text, "\n  ", name, " "),
+        },
+        MemberForm::Json if is_first => push_between(text, ",\"fields\":{\"", name, "\":"),
+        MemberForm::Json => match name.as_bytes() {
+            [one] => push_few(text, &[b',', b'"', *one, b'"', b':']),
+            [one, two] => push_few(text, &[b',', b'"', *one, *two, b'"', b':']),
+            _ => push_between(text, ",\"", name, "\":"),
+        },
     }
 }
 
@@ -947,45 +901,7 @@ fn push_null_far<A: Allocator>(
     text.push_str("null")
 }
 
-// A name on a line of its own, and NULL.
-#[inline(always)]
-fn push_line_null<A: Allocator>(text: &mut String<A>, name: &str) -> Result<(), AllocError>
-    ensures { OnOk result (string_bytes text.new
-        ≡ string_bytes text.old ++ (codes "\n  " ++ name.now ++ codes " null")) }
-{
-    match name.as_bytes() {
-        [one] => push_few(
-            text,
-            &[b'\n', b' ', b' ', *one, b' ', b'n', b'u', b'l', b'l'],
-        ),
-        [one, two] => push_few(
-            text,
-            &[b'\n', b' ', b' ', *one, *two, b' ', b'n', b'u', b'l', b'l'],
-        ),
-        _ => push_between(text, "\n  ", name, " null"),
-    }
-}
-
-// The same after another member of an object.
-#[inline(always)]
-fn push_pair_null<A: Allocator>(text: &mut String<A>, name: &str) -> Result<(), AllocError>
-    ensures { OnOk result (string_bytes text.new
-        ≡ string_bytes text.old ++ (codes ",\"" ++ name.now ++ codes "\":null")) }
-{
-    match name.as_bytes() {
-        [one] => push_few(
-            text,
-            &[b',', b'"', *one, b'"', b':', b'n', b'u', b'l', b'l'],
-        ),
-        [one, two] => push_few(
-            text,
-            &[b',', b'"', *one, *two, b'"', b':', b'n', b'u', b'l', b'l'],
-        ),
-        _ => push_between(text, ",\"", name, "\":null"),
-    }
-}
-
-// The same in either form.
+// A name and NULL, after another member.
 #[inline(always)]
 fn push_null<A: Allocator>(
     text: &mut String<A>,
@@ -995,9 +911,25 @@ fn push_null<A: Allocator>(
     ensures { OnOk result (string_bytes text.new
         ≡ string_bytes text.old ++ member_part form false (name.now, Null)) }
 {
-    match form {
-        MemberForm::Text => push_line_null(text, name),
-        MemberForm::Json => push_pair_null(text, name),
+    match (form, name.as_bytes()) {
+        (MemberForm::Text, [one]) => push_few(
+            text,
+            &[b'\n', b' ', b' ', *one, b' ', b'n', b'u', b'l', b'l'],
+        ),
+        (MemberForm::Text, [one, two]) => push_few(
+            text,
+            &[b'\n', b' ', b' ', *one, *two, b' ', b'n', b'u', b'l', b'l'],
+        ),
+        (MemberForm::Text, _) => push_between(text, "\n  ", name, " null"),
+        (MemberForm::Json, [one]) => push_few(
+            text,
+            &[b',', b'"', *one, b'"', b':', b'n', b'u', b'l', b'l'],
+        ),
+        (MemberForm::Json, [one, two]) => push_few(
+            text,
+            &[b',', b'"', *one, *two, b'"', b':', b'n', b'u', b'l', b'l'],
+        ),
+        (MemberForm::Json, _) => push_between(text, ",\"", name, "\":null"),
     }
 }
 

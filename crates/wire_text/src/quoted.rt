@@ -16,7 +16,6 @@ use std::mem;
 use std::simd::prelude::*;
 
 // A text between quotes, as it is.
-#[inline(always)]
 pub(crate) fn push_in_quotes<A: Allocator>(
     text: &mut String<A>,
     words: &str,

@@ -13,7 +13,6 @@ use wire_codec::codec::header::{HEADER_LEN, Header};
 use wire_span::SpanDecoder;
 
 /// A decoder in front of a packet, as the codec is.
-#[inline(always)]
 pub(crate) fn in_front_of(codec: &PacketCodec) -> SpanDecoder
     ensures { span_state result ≡ in_front codec.now }
 {
@@ -26,7 +25,6 @@ pub(crate) fn in_front_of(codec: &PacketCodec) -> SpanDecoder
 impl<R: Read, A: Allocator + Copy> Input<R, A> {
     /// How many bytes the packet in front has, and the id after it, where it lies whole in one
     /// chunk, has a byte, and is not refused.
-    #[inline(always)]
     pub(crate) fn whole_front(&self, codec: &PacketCodec) -> Option<(usize, u8)>
         ensures { IfSome result (λ front.
             LiesWhole codec.now self.now.src.items front.0 front.1) }

@@ -18,7 +18,6 @@ impl<R: Read, A: Allocator + Copy> PacketReader<R, A> {
     // Passes on the packet in front, where it lies whole in one chunk and there is room for it
     // after what is pending: whether it has. No memory is asked for. Nothing changes where it
     // hasn't.
-    #[inline(always)]
     pub(super) fn relay_whole<W: Write, B: Allocator + Copy>(
         &mut self,
         codec: &mut PacketCodec,

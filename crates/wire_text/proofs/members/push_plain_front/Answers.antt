@@ -1,8 +1,24 @@
-use Rattle.std.proofs.Common.{◌≡◌, ◌++◌, List, OnOk, ℕ, string_bytes, subst}
-use Rattle.wire_text.proofs.FieldLemmas.{first_front}
+use Rattle.std.proofs.Common.{[], ◌∷◌, ◌≡◌, ◌++◌, List, OnOk, ℕ, refl, string_bytes, subst}
+use Rattle.wire_text.proofs.FieldLemmas.{first_front, one_between, two_between}
 use Rattle.wire_text.proofs.members.push_plain_front.Goals as goal
 
-pub returns-then-is_first : goal.returns-then-is_first
-returns-then-is_first g c =
-    subst (λ (z : List ℕ). OnOk c.push_between.result (string_bytes c.push_between.new.text ≡ string_bytes c.args.text.now ++ z))
-    (first_front c.args.form c.args.is_first c.args.name.now c.in-Json.is c.if-is_first.true) c.push_between.ensures
+pub push_few-requires : goal.push_few-requires
+push_few-requires g c =
+    one_between (10 ∷ 32 ∷ 32 ∷ []) (32 ∷ 34 ∷ []) c.as_bytes.result.now refl refl c.as_bytes.ensures.utf8 c.in-len1.len_at_least c.in-len1.len_below
+
+pub push_few-requires-in-len2 : goal.push_few-requires-in-len2
+push_few-requires-in-len2 g c =
+    two_between (10 ∷ 32 ∷ 32 ∷ []) (32 ∷ 34 ∷ []) c.as_bytes.result.now refl refl c.as_bytes.ensures.utf8 c.in-len2.len_at_least c.in-len2.len_below
+
+pub push_few-requires-in-len1-as_bytes : goal.push_few-requires-in-len1-as_bytes
+push_few-requires-in-len1-as_bytes g c =
+    one_between (44 ∷ 34 ∷ []) (34 ∷ 58 ∷ 34 ∷ []) c.as_bytes-in-Json-2.result.now refl refl c.as_bytes-in-Json-2.ensures.utf8 c.in-len1-as_bytes.len_at_least c.in-len1-as_bytes.len_below
+
+pub push_few-requires-in-len2-as_bytes : goal.push_few-requires-in-len2-as_bytes
+push_few-requires-in-len2-as_bytes g c =
+    two_between (44 ∷ 34 ∷ []) (34 ∷ 58 ∷ 34 ∷ []) c.as_bytes-in-Json-2.result.now refl refl c.as_bytes-in-Json-2.ensures.utf8 c.in-len2-as_bytes.len_at_least c.in-len2-as_bytes.len_below
+
+pub returns-in-Json : goal.returns-in-Json
+returns-in-Json g c =
+    subst (λ (z : List ℕ). OnOk c.push_between-in-Json.result (string_bytes c.push_between-in-Json.new.text ≡ string_bytes c.args.text.now ++ z))
+    (first_front c.args.form c.args.is_first c.args.name.now c.in-Json.is c.if-is_first.true) c.push_between-in-Json.ensures
