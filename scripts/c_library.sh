@@ -69,12 +69,10 @@ if [ "${#compilers[@]}" -eq 0 ]; then
     finish
 fi
 
-if [ ! -f "$archive" ] || [ -n "$(find "$folder/src" -newer "$archive")" ]; then
-    if ! (build_archive) > "$work/log" 2>&1; then
-        tail "$work/log"
-        fail 'the library is built'
-        finish
-    fi
+if ! (build_archive mysql_wire_c) > "$work/log" 2>&1; then
+    tail "$work/log"
+    fail 'the library is built'
+    finish
 fi
 
 for compiler in "${compilers[@]}"; do
