@@ -1,9 +1,9 @@
 -- What one link of a chain makes of a codec that stands, or goes on under limits.
-use Rattle.std.proofs.Common.{◌≡◌, ℕ, refl, arith, MatchOption, ◌+◌, ◌%◌, ◌<◌, List, ◌++◌, length, sym, ◌∙◌, inl, inr, Option, Some, None, Result, Ok, Err, Bool, true, false}
+use Rattle.std.proofs.Common.{◌≡◌, ℕ, refl, arith, MatchOption, ◌+◌, ◌%◌, ◌<◌, List, ◌++◌, length, ap₂, sym, ◌∙◌, inl, inr, Option, Some, None, Result, Ok, Err, Bool, true, false}
 use Rattle.wire_codec.proofs.Declared.{ChunkInfo, Middle, Last, PacketCodecError, Progress, Whole, Starved, More}
 use Rattle.wire_codec.specs.Framing.{front}
 use Rattle.wire_codec.specs.Delivery.{IsSpelled}
-use Rattle.wire_codec.specs.OneChunk.{Answer, DecodesChunk}
+use Rattle.wire_codec.specs.OneChunk.{Answer, DecodesChunk, IsCut}
 use Rattle.wire_codec.specs.Chain.{id_of, StopsBy, EndsBy, RefusesChunk}
 use Rattle.wire_codec.specs.Codec.{StandsAt, open_id, DecodesFrom, TakesChunk, LinksChain}
 use Rattle.wire_codec.specs.Limited.{Limits}
@@ -93,6 +93,36 @@ pub awaits_takes : (limit id : ℕ) (h : Option (ℕ × ℕ)) (src held : List �
     → DecodesFrom (open_id id held) (front (open_id id held) held ++ src) held limit (Ok false) id h src held
 awaits_takes limit id h src held byte s few =
     decodes_one (Ok false) limit _ _ held id h src held s.0 (awaits_on (one limit) 0 0 limit id h src held byte (stands_on limit 0 h src held s) few).0
+
+-- of the chunk in front, whose header is seen for the first time, bytes lack
+begins : (limit id len : ℕ) (src held : List ℕ) → IsCut src (length held) limit id len → DecodesChunk None src held limit (Ok None) (Some (id, len)) src held
+begins limit id len src held cut =
+    let size = cut.1 in
+    record {
+      short = λ few. absurd (omega (arith, few, cut.4));
+      empty = λ _ none. absurd (omega (arith, none, size, cut.2));
+      large = λ _ _ past. absurd (omega (arith, past, size, cut.3));
+      begins = λ _ _ _. record {
+        waits = λ _. (refl, ap₂ (λ (a b : ℕ). Some (a, b)) cut.0 size, refl, refl);
+        takes = λ whole. absurd (omega (arith, whole, size, cut.5));
+      };
+    }
+
+pub begins_link : (limit id seq len : ℕ) (src held : List ℕ) → IsCut src (length held) limit seq len
+    → RefusesChunk limit id None src held (Ok false) id (Some (seq, len)) src held
+begins_link limit id seq len src held cut = record { said = Ok None; chunk = begins limit seq len src held cut; stops = refl; id_stays = refl }
+
+pub begins_on : (limits : Limits) (mark place limit id seq len : ℕ) (src held : List ℕ) → id < 256 → GoesOnAt limits mark place limit None src held
+    → IsCut src (length held) limit seq len
+    → DecodesOn limits mark place (open_id id held) (front (open_id id held) held ++ src) held (Ok false) id (Some (seq, len)) src held
+begins_on limits mark place limit id seq len src held byte on cut =
+    awaited_under (open_id id held) (Some (seq, len)) src held on (sym (id_at_open id held byte)) (outcome_under (Ok None) (Some (seq, len)) src held on (begins limit seq len src held cut))
+
+pub begins_takes : (limit id seq len : ℕ) (src held : List ℕ) → id < 256 → StandsAt limit None src held
+    → IsCut src (length held) limit seq len
+    → DecodesFrom (open_id id held) (front (open_id id held) held ++ src) held limit (Ok false) id (Some (seq, len)) src held
+begins_takes limit id seq len src held byte s cut =
+    decodes_one (Ok false) limit _ _ held id (Some (seq, len)) src held s.0 (begins_on (one limit) 0 0 limit id seq len src held byte (stands_on limit 0 None src held s) cut).0
 
 -- what is unread is shorter where a chunk was taken
 pub more_shorter : (answer : Result Progress PacketCodecError) (limit id : ℕ) (h : Option (ℕ × ℕ)) (src held : List ℕ) (new : ℕ) (header : Option (ℕ × ℕ)) (rest dst : List ℕ)

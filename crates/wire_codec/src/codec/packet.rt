@@ -1,13 +1,13 @@
 //! Whole packets.
 
-ghost use Rattle.std.specs.Prelude.{◌≡◌, ◌≢◌, ℕ, ◌+◌, ◌%◌, ◌<◌, ◌≤◌, ◌↔◌, ◌⊎◌, OnOk, OnErr, IfErr, Ok, Err, List, [], length, None, true, false, IsTrue, IsFalse, MatchOption, slice_index, ◌++◌};
+ghost use Rattle.std.specs.Prelude.{◌≡◌, ◌≢◌, ℕ, ◌+◌, ◌%◌, ◌<◌, ◌≤◌, ◌↔◌, ◌⊎◌, OnOk, OnErr, IfErr, Ok, Err, List, [], length, None, true, false, IsTrue, IsFalse, IfSome, IsSome, MatchOption, slice_index, ◌++◌};
 ghost use Rattle.wire_codec.specs.Delivery.{chunk_len, IsBounded, IsSpelled};
 ghost use Rattle.wire_codec.specs.Refusals.{answer_of, error_of, told};
 
 mod front;
 mod skip;
 
-use crate::codec::chunk::{ChunkDecoder, ChunkInfo, PacketDst};
+use crate::codec::chunk::{ChunkDecoder, ChunkInfo, PacketDst, make_place};
 use crate::codec::error::{PacketCodecError, Refusal};
 use crate::codec::framing::put_packet;
 use crate::codec::header::{HEADER_LEN, Header};
@@ -184,7 +184,7 @@ impl PacketCodec {
     ///
     /// `PacketTooLarge`: the packet has more. `OutOfMemory`: `dst` could not grow. Neither changes
     /// anything.
-    #[inline(always)]
+    #[inline]
     pub fn encode<T: Buf>(
         &mut self,
         packet: &mut T,
@@ -318,10 +318,10 @@ enum Progress {
 }
 
 impl PacketCodec {
-    ghost use Rattle.wire_codec.specs.Codec.{expected_id, header_of, codec_state, DecodesStanding, HasChunk, IsChain, IsLink, LacksMemory, TakesStanding};
+    ghost use Rattle.wire_codec.specs.Codec.{expected_id, header_of, codec_state, ChunkChain, DecodesStanding, HasChunk, IsChain, IsLink, LacksMemory, TakesStanding};
     ghost use Rattle.std.specs.Int.NonZero.{non_zero_usize_get};
     ghost use Rattle.wire_codec.specs.GoingOn.{PacketSink, Decodes};
-    ghost use Rattle.wire_codec.specs.OneChunk.{IsTakeable};
+    ghost use Rattle.wire_codec.specs.OneChunk.{IsCut, IsTakeable};
 
     // A sequence id is a byte.
     fn has_byte_id(&self)
@@ -509,10 +509,66 @@ impl PacketCodec {
         ensures shorter { told result ≡ Ok true → length src.new.items < length src.old.items }
         ensures limit { self.new.max_allowed_packet ≡ self.old.max_allowed_packet }
     {
-        Outcome::of(self.take_all(src, dst))
+        self.has_byte_id();
+        match self.cut_chunk(src.as_slice(), dst.as_ref().len()) {
+            Some((seq_id, needed)) => {
+                self.begin_chunk(seq_id, needed, src, dst);
+                Outcome::Waits
+            }
+            None => Outcome::of(self.take_all(src, dst)),
+        }
+    }
+
+    // The header of the chunk in front, where none is remembered, it is within the limit, and bytes of
+    // it are to come.
+    fn cut_chunk(&self, front: &[u8], held: usize) -> Option<(u8, NonZeroUsize)>
+        ensures none { IsSome result → header_of self.now ≡ None }
+        ensures cut { IfSome result (λ chunk. IsCut front.now held self.now.max_allowed_packet
+            chunk.0 (non_zero_usize_get chunk.1)) }
+    {
+        let Some(header) = Header::read(front) else {
+            return None;
+        };
+        let Some(needed) = NonZeroUsize::new(header.len) else {
+            return None;
+        };
+        if front.len() - HEADER_LEN >= header.len {
+            return None;
+        }
+        match self.decoder {
+            ChunkDecoder::Idle if fits(held, header.len, self.max_allowed_packet) => {
+                Some((header.seq_id, needed))
+            }
+            _ => None,
+        }
+    }
+
+    // Remembers the chunk in front, with this header, of which bytes are to come.
+    fn begin_chunk<T: PacketDst>(
+        &mut self,
+        seq_id: u8,
+        needed: NonZeroUsize,
+        src: &mut BytesMut<impl Allocator + Copy>,
+        dst: &T,
+    )
+        requires none { header_of self.old ≡ None }
+        requires cut { IsCut src.old.items (length (T.held dst.now)) self.old.max_allowed_packet
+            seq_id (non_zero_usize_get needed) }
+        requires small { expected_id self.old < 256 }
+        ensures decodes { DecodesStanding (codec_state self.old src.old.items (T.held dst.now))
+            (Ok false) (codec_state self.new src.new.items (T.held dst.now)) }
+        ensures on { Decodes (codec_state self.old src.old.items (T.held dst.now)) (Ok false)
+            (codec_state self.new src.new.items (T.held dst.now)) }
+        ensures chain { ChunkChain 0 (codec_state self.old src.old.items (T.held dst.now)) (Ok false)
+            (codec_state self.new src.new.items (T.held dst.now)) }
+        ensures limit { self.new.max_allowed_packet ≡ self.old.max_allowed_packet }
+    {
+        self.decoder = ChunkDecoder::Chunk { needed, seq_id };
+        make_place(needed, src);
     }
 
     // The chunks of one call, with room for all of them.
+    #[inline(never)]
     fn take_all<T: PacketDst>(
         &mut self,
         src: &mut BytesMut<impl Allocator + Copy>,
@@ -596,7 +652,6 @@ fn answered(answer: Result<bool, Refusal>) -> Result<bool, PacketCodecError>
 
 // Its error, by a function of its own, so that the bytes of an error are zeroed only where one is
 // answered.
-#[inline(never)]
 fn refused(refusal: Refusal) -> Result<bool, PacketCodecError>
     ensures { result ≡ Err (error_of refusal) }
 {

@@ -1,10 +1,9 @@
 use Rattle.std.proofs.Common.{◌≡◌, ℕ, ◌<◌, List, [], ◌++◌, length, sym, ap, ◌∙◌, subst, refl, arith, rules, Option, Some, None, Ok, Err, true, false, Result, Bool}
 use Rattle.wire_codec.specs.declared.codec.error.Refusal.TheVariants as refusal
-use Rattle.wire_codec.specs.declared.codec.packet.PacketCodec.{PacketCodec}
 use Rattle.wire_codec.specs.declared.codec.error.PacketCodecError.TheVariants.{OutOfMemory}
 use Rattle.std.specs.Int.NonZero.{non_zero_usize_get}
 use Rattle.wire_codec.specs.declared.codec.error.PacketCodecError.{PacketCodecError}
-use Rattle.wire_codec.specs.Codec.{codec_state, header_of, ChunkChain, IsChain, HasChunk, DecodesPacket, DecodesStanding}
+use Rattle.wire_codec.specs.Codec.{codec_state, header_of, ChunkChain, HasChunk, DecodesPacket, DecodesStanding}
 use Rattle.wire_codec.specs.OneChunk.{IsTakeable, DecodesChunk}
 use Rattle.wire_codec.specs.Chain.{ChainFrom}
 use Rattle.wire_codec.specs.GoingOn.{Decodes}

@@ -1,4 +1,4 @@
-use Rattle.std.proofs.Common.{List, ℕ, ◌↔◌, subst, Ok, true}
+use Rattle.std.proofs.Common.{List, ℕ, ◌↔◌, subst}
 use Rattle.std.specs.Option.{IsSome}
 use Rattle.wire_codec.specs.Codec.{codec_state}
 use Rattle.wire_codec.specs.InPlace.{HasFront}
