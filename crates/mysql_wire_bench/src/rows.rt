@@ -117,7 +117,7 @@ fn of_date(date: BinaryDate) -> u64 {
     }
 }
 
-#[inline(always)]
+#[inline]
 fn of_binary(value: BinaryValue<'_>) -> u64 {
     match value {
         BinaryValue::Null => NULL,

@@ -92,7 +92,7 @@ impl Connection {
     }
 
     /// Lends the next packet, where it stands whole; one that is lent already is lent again.
-    #[inline(always)]
+    #[inline]
     pub fn peek(&mut self) -> i32
         ensures peeks { Peeks result self.old.side self.new.side }
         ensures in_place { LendsInPlace result self.old self.new }

@@ -284,7 +284,6 @@ fn push_front<A: Allocator + Copy>(
 
 // The line of any packet as far as its fields: who sent it, and the id of its first chunk, its length,
 // and what it is.
-#[inline(never)]
 fn push_any_head<A: Allocator + Copy>(
     text: &mut String<A>,
     form: LineForm,

@@ -131,7 +131,6 @@ fn put_row_of<A: Allocator + Copy>(
 }
 
 // The same of any kind of row: one of texts, of which there are many, is not asked again what it is.
-#[inline(always)]
 fn put_row<A: Allocator + Copy>(
     global: Global,
     session: &Session<A>,
@@ -149,7 +148,6 @@ fn put_row<A: Allocator + Copy>(
 }
 
 // Reads a row of this kind and puts its fields, and goes on after it.
-#[inline(always)]
 fn show_row_of<A: Allocator + Copy>(
     global: Global,
     session: &mut Session<A>,

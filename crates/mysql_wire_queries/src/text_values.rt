@@ -82,7 +82,6 @@ impl<'a> TextValues<'a> {
     }
 
     // The same, one by one.
-    #[inline(never)]
     fn skip_each(&mut self, count: u64) -> u64
         ensures most { result ≤ count }
         ensures passed { Passes self.old result self.new }

@@ -59,7 +59,7 @@ impl<'a, 't> Iterator for BinaryValues<'a, 't> {
 
     ghost remaining = { columns_left };
 
-    #[inline(always)]
+    #[inline]
     fn next(&mut self) -> Option<Result<BinaryValue<'a>, BinaryFault>> {
         if self.has_refused {
             return None;

@@ -12,7 +12,6 @@ use std::simd::prelude::*;
 const BLOCK: usize = 16;
 
 // How many of sixteen bytes stand before the first zero: all, where there is none.
-#[inline(always)]
 fn before_zero(block: &[u8]) -> usize
     requires { length block.now ≡ 16 }
     ensures { result ≡ position_or_len is_zero block.now }

@@ -126,7 +126,6 @@ impl<'de, T: MyDeserialize<'de, H>, U: MyDeserialize<'de, H>, H: Allocator + Cop
     ghost reads = { ReadsEither (λ ctx. Parses T.Size.SIZE (T.reads ctx))
         (λ ctx. Parses U.Size.SIZE (U.reads ctx)) };
 
-    #[inline(always)]
     fn deserialize(
         alloc: H,
         ctx: Either<T::Ctx, U::Ctx>,

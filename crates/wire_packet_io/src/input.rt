@@ -122,7 +122,7 @@ impl<R: Read, A: Allocator + Copy> Input<R, A> {
 
     // The same of at most 8192 bytes.
     // No call, so that room for an `io::Error` is zeroed only where there is a read.
-    #[inline(always)]
+    #[inline]
     fn read_more(&mut self) -> Result<usize, PacketIoError>
         ensures ok { IfOk result (λ n. (came : List ℕ) × (length came ≡ n)
             × (self.new.src.items ≡ self.old.src.items ++ came)

@@ -181,7 +181,7 @@ impl<R: Read, A: Allocator + Copy> PacketReader<R, A> {
 
     // Hands out the packet that is lent.
     // No call: room for its answer would be zeroed for each packet.
-    #[inline(always)]
+    #[inline]
     fn hand_out(&mut self) -> Result<Option<Vec<u8, A>>, PacketIoError>
         requires { IsSome self.old.lent }
         ensures { HandsOutLent (answer_of result) self.old self.new }

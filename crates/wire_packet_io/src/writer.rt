@@ -72,7 +72,7 @@ impl<W: Write, A: Allocator + Copy> PacketWriter<W, A> {
 
     /// Frames the packet after what is pending, and empties it, as the codec's `encode` does.
     /// `PacketTooLarge` and `OutOfMemory` change nothing.
-    #[inline(always)]
+    #[inline]
     pub fn queue<T: Buf>(
         &mut self,
         codec: &mut PacketCodec,

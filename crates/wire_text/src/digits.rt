@@ -53,7 +53,7 @@ pub(crate) fn fill(place: &mut [u8], front: &[u8], after: &[u8])
 }
 
 // The digits of 32 bytes.
-#[inline(always)]
+#[inline]
 fn digits_of_32(bytes: &[u8]) -> [u8; 64]
     requires { length bytes.now ≡ 32 }
     ensures { result ≡ encode_lower bytes.now }

@@ -239,7 +239,7 @@ impl<A: Allocator + Copy> Fields<A> {
     }
 
     /// Puts a value that has no name but its place, counted from 0.
-    #[inline(always)]
+    #[inline]
     pub fn put_at(&mut self, place: u64, value: FieldValue<'_>) -> Result<(), AllocError>
         ensures { OnOk result (Puts ((decimal place, value_of value.entry) ∷ [])
             self.old self.new) }

@@ -65,7 +65,7 @@ fn push_octets<A: Allocator + Copy>(
 }
 
 // The text of these bytes, where it is known to stand in quotes as it is.
-#[inline(always)]
+#[inline]
 fn as_it_stands(bytes: &[u8]) -> Option<&str>
     ensures stands { IfSome result (λ words. (words.now ≡ bytes.now) × IsUtf8 bytes.now
         × IsTrue (none_needs_escape bytes.now)) }

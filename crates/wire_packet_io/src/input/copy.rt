@@ -68,7 +68,7 @@ pub(super) fn refusal(error: SpanError) -> PacketIoError
 impl<R: Read, A: Allocator + Copy> Input<R, A> {
     // Writes what came of the open chunk, and drops what the writer took: whether that ended the
     // packet. `None` where nothing of it is there.
-    #[inline(always)]
+    #[inline]
     fn copy_bytes<W: Write>(
         &mut self,
         decoder: &mut SpanDecoder,
