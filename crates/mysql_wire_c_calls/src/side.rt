@@ -113,8 +113,10 @@ impl Connection {
     pub fn packet(&self) -> &[u8]
         ensures { IfSome self.now.side.lent (λ packet. result.now ≡ packet) }
     {
+        if let Front::InPlace = self.front {
+            return front_payload(self.src.as_slice());
+        }
         match self.front {
-            Front::InPlace => front_payload(self.src.as_slice()),
             Front::Copied => self.dst.as_slice(),
             _ => &[],
         }
@@ -124,10 +126,12 @@ impl Connection {
     pub fn take(&mut self) -> i32
         ensures { Takes result self.old.side self.new.side }
     {
+        if let Front::InPlace = self.front {
+            self.codec.take_front(&mut self.src);
+            self.front = Front::Unfinished;
+            return OK;
+        }
         match self.front {
-            Front::InPlace => {
-                self.codec.take_front(&mut self.src);
-            }
             Front::Copied => self.dst.clear(),
             _ => return NO_PACKET,
         }
@@ -195,7 +199,7 @@ fn find(
         Stands before → HasFront before → (result ≡ PACKET) × (front.new ≡ Front.InPlace) }
     ensures limit { codec.new.max_allowed_packet ≡ codec.old.max_allowed_packet }
 {
-    if codec.stands_at(src, dst) && codec.front_packet(src, dst).is_some() {
+    if codec.front_packet(src, dst).is_some() && codec.stands_at(src, dst) {
         *front = Front::InPlace;
         return PACKET;
     }
