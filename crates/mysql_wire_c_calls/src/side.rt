@@ -1,9 +1,10 @@
 //! One side of a connection: a codec with its buffers, and the packets that come.
 
-ghost use Rattle.std.specs.Prelude.{◌≡◌, ◌≤◌, ◌+◌, None, IfSome, IsSome, length};
+ghost use Rattle.std.specs.Prelude.{◌≡◌, ◌≤◌, ◌+◌, ◌++◌, [], None, Ok, true, IfSome, IsSome, drop, length};
 ghost use Rattle.wire_codec.specs.Codec.{codec_state, Stands};
 ghost use Rattle.wire_codec.specs.Delivery.{chunk_len};
 ghost use Rattle.wire_codec.specs.InPlace.{HasFront, front_payload};
+ghost use Rattle.wire_codec.specs.LimitedRuns.{DecodesAligned};
 ghost use Rattle.mysql_wire_c_calls.specs.Side.{IsReady};
 ghost use Rattle.mysql_wire_c_calls.specs.Answers.{new_connection};
 ghost use Rattle.mysql_wire_c_calls.specs.Finding.{Finds};
@@ -12,7 +13,7 @@ ghost use Rattle.mysql_wire_c_calls.specs.SideCalls.{Feeds, Peeks, LendsInPlace,
 use crate::codes::{
     NO_MEMORY, NO_PACKET, OK, OUT_OF_SYNC, PACKET, ROOM_TOO_SMALL, TOO_LARGE, WAITS,
 };
-use bytes::BytesMut;
+use bytes::{Buf, BytesMut};
 use std::alloc::Global;
 use std::marker::Model;
 use wire_codec::codec::PacketCodec;
@@ -182,6 +183,37 @@ fn find_apart(
     }
 }
 
+// Moves the packet that lies in front to `room`, where the room holds it: how many bytes it has. (The
+// codec goes on before the copy: behind it the header would be read again.)
+fn move_front(
+    codec: &mut PacketCodec,
+    src: &mut BytesMut<Global>,
+    dst: &[u8],
+    room: &mut [u8],
+) -> Option<usize>
+    ensures taken { IfSome result (λ count.
+        let before = codec_state codec.old src.old.items dst.now in
+        let packet = front_payload src.old.items in
+        (dst.now ≡ []) × (count ≡ length packet) × (count ≤ length room.old)
+        × (room.new ≡ packet ++ drop count room.old)
+        × DecodesAligned before (Ok true) (codec_state codec.new src.new.items packet)
+        × (codec.new.max_allowed_packet ≡ codec.old.max_allowed_packet)) }
+    ensures stays { result ≡ None
+        → (codec.new ≡ codec.old) × (src.new ≡ src.old) × (room.new ≡ room.old) }
+{
+    let Some(packet) = codec.front_packet(src, dst) else {
+        return None;
+    };
+    let count = packet.len();
+    if room.len() < count {
+        return None;
+    }
+    let chunk = codec.accept_front(src);
+    room[..count].copy_from_slice(packet);
+    src.advance(chunk);
+    Some(count)
+}
+
 // Looks for a packet that stands whole.
 fn find(
     codec: &mut PacketCodec,
@@ -210,6 +242,20 @@ impl Connection {
     /// Copies the next packet to `room`, and takes it. `len` is how many bytes it has, and 0 where
     /// there is none. `ROOM_TOO_SMALL`: it is lent, and stays.
     pub fn next(&mut self, room: &mut [u8], len: &mut usize) -> i32
+        ensures { CopiesNext room.old room.new len.new result self.old.side self.new.side }
+    {
+        if let Front::Unfinished = self.front {
+            if let Some(count) = move_front(&mut self.codec, &mut self.src, &self.dst, room) {
+                *len = count;
+                return PACKET;
+            }
+        }
+        self.next_lent(room, len)
+    }
+
+    // The same, where the packet is lent first.
+    #[inline(never)]
+    fn next_lent(&mut self, room: &mut [u8], len: &mut usize) -> i32
         ensures { CopiesNext room.old room.new len.new result self.old.side self.new.side }
     {
         *len = 0;

@@ -1,19 +1,17 @@
-use Rattle.std.proofs.Common.{rules, ◌≡◌}
-use Rattle.mysql_wire_c_calls.specs.declared.codes.TheConstants.{PACKET}
-use Rattle.mysql_wire_c_calls.proofs.NextLemmas.{next_copies, next_small}
+use Rattle.std.proofs.Common.{◌≡◌, ◌∙◌, List, ℕ, ap, ap₂, refl, rules, subst}
+use Rattle.wire_codec.specs.Codec.{CodecState, codec_state}
+use Rattle.mysql_wire_c_calls.specs.Side.{ConnectionState, connection_of}
 use Rattle.mysql_wire_c_calls.proofs.side.Connection.next.Goals as goal
-
-pub returns-then-code-ne-PACKET : goal.returns-then-code-ne-PACKET
-returns-then-code-ne-PACKET c = search rules
-
-pub returns-then-room-count : goal.returns-then-room-count
-returns-then-room-count c =
-    let is : c.peek-code.result ≡ PACKET = search rules in
-    next_small c.args.room.now c.packet-packet.result.now c.peek-code.result c.args.self.now.side c.peek-code.new.self.side
-    c.peek-code.ensures.peeks is c.packet-packet.ensures c.if-room-count.true
+use Rattle.mysql_wire_c_calls.proofs.side.Connection.next.Goals.{in-Unfinished+in_default-move_front, in_default}
 
 pub returns : goal.returns
-returns c =
-    let is : c.peek-code.result ≡ PACKET = search rules in
-    next_copies c.args.room.now c.copy_from_slice.new.self c.packet-packet.result.now c.peek-code.result c.args.self.now.side
-    c.peek-code.new.self.side c.take_lent.new.self.side c.peek-code.ensures.peeks is c.packet-packet.ensures c.copy_from_slice.ensures.after c.take_lent.ensures
+returns c = elim c.match-self.branch [
+  | in-Unfinished+in_default-move_front w ↦
+      let (codec, src, room) = w.in_default-move_front.ensures.stays refl in
+      let fields = c.self.inside in
+      let state = ap₂ (λ k s. codec_state k s.items fields.dst.items) codec src in
+      let same : c.match-self.self ≡ c.args.self.now = w.self-is ∙ ap (λ (s : CodecState). connection_of fields.front s fields.output.items) state ∙ c.self.view_is in
+      let old_room = w.room-is ∙ room in
+      search rules
+  | in_default w ↦ search rules
+]
