@@ -183,8 +183,8 @@ fn find_apart(
     }
 }
 
-// Moves the packet that lies in front to `room`, where the room holds it: how many bytes it has. (The
-// codec goes on before the copy: behind it the header would be read again.)
+// Moves the packet that lies in front to `room`, where the codec stands and the room holds it: how many
+// bytes it has. (The codec goes on before the copy: behind it the header would be read again.)
 fn move_front(
     codec: &mut PacketCodec,
     src: &mut BytesMut<Global>,
@@ -205,7 +205,7 @@ fn move_front(
         return None;
     };
     let count = packet.len();
-    if room.len() < count {
+    if room.len() < count || !codec.stands_at(src, dst) {
         return None;
     }
     let chunk = codec.accept_front(src);
