@@ -28,10 +28,8 @@ def program_of(top, crate):
     return os.path.join(top, "crates", crate, "out", crate)
 
 
-def run(top, crate, words):
-    """The seconds that a job takes, and what it prints."""
-    folder = os.path.join(top, "bench")
-    program = program_of(top, crate)
+def run(program, folder, words):
+    """The seconds that a program takes in a folder, and what it prints."""
     source = subprocess.DEVNULL
     if words and words[-1].startswith("<"):
         source = open(os.path.join(folder, words[-1][1:]), "rb")
@@ -60,7 +58,8 @@ def main():
             # The one that begins has the caches as the other left them.
             pairs = list(zip(tops, times))
             for top, taken in pairs if turn % 2 == 0 else reversed(pairs):
-                seconds, output = run(top, crate, words)
+                folder = os.path.join(top, "bench")
+                seconds, output = run(program_of(top, crate), folder, words)
                 taken.append(seconds)
                 outputs.add(output)
                 if len(outputs) > 1:
