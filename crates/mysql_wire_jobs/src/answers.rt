@@ -32,8 +32,8 @@ impl Answer {
     }
 }
 
-/// The script of a column.
-pub fn script_of(column: usize) -> Script {
+// The script of a column.
+fn script_of(column: usize) -> Script {
     match column % 8 {
         5 => Script::Quoted,
         6 => Script::Wide,
@@ -41,8 +41,8 @@ pub fn script_of(column: usize) -> Script {
     }
 }
 
-/// How long a text of a column is: mostly below 40 bytes, and in the first column up to 4,096.
-pub fn text_len(draws: &mut Draws, column: usize) -> usize {
+// How long a text of a column is: mostly below 40 bytes, and in the first column up to 4,096.
+fn text_len(draws: &mut Draws, column: usize) -> usize {
     let len = draws.below(40);
     if column > 0 {
         return len;
@@ -78,8 +78,8 @@ fn name<'a>(draws: &mut Draws, letters: &'a Letters) -> RawBytes<'a, LenEnc> {
     RawBytes::from(letters.text(draws, Script::Plain, len))
 }
 
-/// A definition of a column.
-pub fn definition<'a>(draws: &mut Draws, letters: &'a Letters) -> ColumnDefinition41<'a> {
+// A definition of a column.
+pub(crate) fn definition<'a>(draws: &mut Draws, letters: &'a Letters) -> ColumnDefinition41<'a> {
     let table = name(draws, letters);
     let column = name(draws, letters);
     ColumnDefinition41 {

@@ -30,8 +30,8 @@ impl Draws {
         }
     }
 
-    /// A number of 64 bits.
-    pub fn word(&mut self) -> u64 {
+    // A number of 64 bits.
+    pub(crate) fn word(&mut self) -> u64 {
         self.rng.next_u64()
     }
 
@@ -43,8 +43,8 @@ impl Draws {
         ((high.wrapping_mul(n as u64) >> 32) as usize).min(n)
     }
 
-    /// A byte.
-    pub fn byte(&mut self) -> u8 {
+    // A byte.
+    pub(crate) fn byte(&mut self) -> u8 {
         (self.word() & 0xff) as u8
     }
 }
@@ -58,14 +58,11 @@ pub struct Letters {
     wide: Vec<u8>,
 }
 
-/// What a text is made of.
+// What a text is made of.
 #[derive(Clone, Copy)]
-pub enum Script {
-    /// Letters of ASCII that are shown as they are.
+pub(crate) enum Script {
     Plain,
-    /// Letters of ASCII, of which some are quoted where a text is shown.
     Quoted,
-    /// Chinese letters.
     Wide,
 }
 
@@ -90,8 +87,8 @@ impl Letters {
         })
     }
 
-    /// A text of about this many bytes, at most 4,096.
-    pub fn text(&self, draws: &mut Draws, script: Script, len: usize) -> &[u8] {
+    // A text of about this many bytes, at most 4,096.
+    pub(crate) fn text(&self, draws: &mut Draws, script: Script, len: usize) -> &[u8] {
         let len = len.min(4096);
         let start = draws.below(LETTERS - 4096);
         match script {

@@ -63,8 +63,7 @@ fn tell(digest: &mut Digest, value: &TextValue<'_>) {
     }
 }
 
-/// Tells a definition by what a client looks at.
-pub fn tell_definition(digest: &mut Digest, definition: &ColumnDefinition41<'_>) {
+fn tell_definition(digest: &mut Digest, definition: &ColumnDefinition41<'_>) {
     digest.add_bytes(definition.schema.as_bytes());
     digest.add_bytes(definition.table.as_bytes());
     digest.add_bytes(definition.org_table.as_bytes());
@@ -276,8 +275,8 @@ pub(crate) fn step_of(turn: usize) -> usize {
     }
 }
 
-/// How many rows the answers of a round have.
-pub const ROWS: [usize; 8] = [1, 3, 10, 30, 100, 300, 1000, 8000];
+// How many rows the answers of a round have.
+const ROWS: [usize; 8] = [1, 3, 10, 30, 100, 300, 1000, 8000];
 
 // Answers of this many rows, of which each way reads one.
 fn read_each(

@@ -64,8 +64,8 @@ fn text<'a>(draws: &mut Draws, letters: &'a Letters) -> TextValue<'a> {
     }
 }
 
-/// A row as a packet of its type.
-pub fn typed_row<'a>(
+// A row as a packet of its type.
+fn typed_row<'a>(
     alloc: Global,
     draws: &mut Draws,
     letters: &'a Letters,
@@ -80,8 +80,7 @@ pub fn typed_row<'a>(
     })
 }
 
-/// The end of an answer.
-pub fn done<'a>(draws: &mut Draws, letters: &'a Letters) -> OkPacket<'a> {
+fn done<'a>(draws: &mut Draws, letters: &'a Letters) -> OkPacket<'a> {
     let info = RawBytes::<LenEnc>::from(letters.text(draws, Script::Plain, 20));
     OkForm {
         affected_rows: draws.byte() as u64,

@@ -20,8 +20,8 @@ use mysql_wire_statements::params::{ParamTypes, StmtParams};
 use mysql_wire_statements::temporal::{BinaryDate, BinaryTime, Clock, Day, Span};
 use std::alloc::Global;
 
-/// The types of a statement's parameters, and of a row's columns.
-pub const TYPES: [ColumnType; 10] = [
+// The types of a statement's parameters, and of a row's columns.
+const TYPES: [ColumnType; 10] = [
     ColumnType::MYSQL_TYPE_LONGLONG,
     ColumnType::MYSQL_TYPE_VAR_STRING,
     ColumnType::MYSQL_TYPE_LONG,
@@ -42,12 +42,8 @@ const BOUND: [u8; 20] = [
     8, 0, 253, 0, 3, 0, 12, 0, 5, 0, 253, 0, 1, 128, 11, 0, 2, 0, 246, 0,
 ];
 
-/// A value of a type.
-pub fn value<'a>(
-    draws: &mut Draws,
-    letters: &'a Letters,
-    column_type: ColumnType,
-) -> BinaryValue<'a> {
+// A value of a type.
+fn value<'a>(draws: &mut Draws, letters: &'a Letters, column_type: ColumnType) -> BinaryValue<'a> {
     match column_type {
         ColumnType::MYSQL_TYPE_LONGLONG => BinaryValue::LongLong(draws.word()),
         ColumnType::MYSQL_TYPE_LONG => BinaryValue::Long((draws.word() & 0xffff_ffff) as u32),
@@ -191,8 +187,7 @@ fn tell_span(digest: &mut Digest, span: &Span) {
     digest.add(tell_clock(&span.clock));
 }
 
-/// Tells a value.
-pub fn tell(digest: &mut Digest, value: &BinaryValue<'_>) {
+fn tell(digest: &mut Digest, value: &BinaryValue<'_>) {
     match value {
         BinaryValue::Null => digest.add(1),
         BinaryValue::Tiny(number) => digest.add(*number as u64),
