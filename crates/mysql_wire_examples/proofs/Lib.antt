@@ -11,3 +11,4 @@ pub mod LongPacketLemmas
 mod OkPacketLemmas
 mod TextListLemmas
 mod KeyedLemmas
+pub mod PutLemmas

@@ -1,5 +1,5 @@
 -- The counts of an `OK_Packet` are those that are read.
-use Rattle.std.proofs.Common.{◌≡◌, ℕ, drop, List, subst}
+use Rattle.std.proofs.Common.{ℕ, drop, List, subst}
 use Rattle.mysql_wire.specs.Lenenc.{IsLenencOrMark}
 use Rattle.mysql_wire.specs.LenencLemmas.{IsLenencOrMark-free}
 use Rattle.mysql_wire.specs.Spelling.{EatsSpelling, SpellsNothing}

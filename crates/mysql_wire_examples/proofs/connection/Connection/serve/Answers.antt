@@ -1,4 +1,4 @@
-use Rattle.std.proofs.Common.{ℕ, ◌≡◌, List, [], ◌∷◌, ◌++◌, Bool, true, Result, Ok, ap, ◌∙◌, sym, rules}
+use Rattle.std.proofs.Common.{ℕ, ◌≡◌, List, [], ◌∷◌, ◌++◌, Bool, true, Result, Ok, ap, ◌∙◌, sym, refl, subst, append-nil, length, ◌<◌, rules}
 use Rattle.mysql_wire.specs.Framing.{framing, next_id}
 use Rattle.mysql_wire.specs.PacketCodecError.{PacketCodecError}
 use Rattle.mysql_wire_examples.specs.Connection.{answer_to}
@@ -22,3 +22,20 @@ commands-preserved g c =
             (put.answered ∙ ap (λ id. c.commands.output.items ++ framing id (answer_to command)) (told.next is)),
       );
     }
+
+pub commands-init : goal.commands-init
+commands-init g c = record {
+  awaits = (rw c.as_slice.ensures.value at (c.if-not-stands_at.ensures.0 refl), c.requires);
+  so_far = ([], refl, sym (append-nil c.args.output.now.items));
+}
+
+pub commands-smaller : goal.commands-smaller
+commands-smaller g c =
+    let is : ◌≡◌ {A = Result Bool PacketCodecError} (Ok c.in_ok-next_command.field-0) (Ok true) = ap Ok c.if-not-branch.false in
+    subst (λ (z : List ℕ). length z < length c.commands.self.input.items) (sym c.answer.ensures.unread) (c.in_ok-next_command.ensures.shorter is)
+
+pub next_command-requires : goal.next_command-requires
+next_command-requires g c = c.commands.invariant.awaits
+
+pub answer-requires : goal.answer-requires
+answer-requires g c = c.in_ok-next_command.ensures.idle (ap Ok c.if-not-branch.false)
