@@ -7,3 +7,4 @@ mod WholeLemmas
 mod LendingLemmas
 mod PlaceLemmas
 mod RoomLemmas
+mod ReadingLemmas

@@ -91,3 +91,48 @@ reads-smaller g c =
     read_nearer (span_state c.reads.decoder) (span_state c.copy_unread.new.decoder) c.reads.self.src.items c.copy_unread.new.self.src.items c.read_to_copy.new.self.src.items _ _ _
     ((rw c.in-Ok-false.field-0-test at c.in-Ok-false.ensures.fewer) refl) c.copy_unread.ensures.kept.0 (rw c.in-Ok-false.field-0-test at c.in-Ok-false.ensures.ends)
     c.in-Ok.ensures.ok (above_zero c.in-Ok.field-0 c.in-Ok.field-0-test.1)
+
+pub copy_unread-requires : goal.copy_unread-requires
+copy_unread-requires g c = record {
+  uncut = c.reads.invariant.uncut;
+}
+
+pub returns-in-Ok-true-clause-kept : goal.returns-in-Ok-true-clause-kept
+returns-in-Ok-true-clause-kept g c =
+    let inv = c.reads.invariant in
+    let kept = c.copy_unread.ensures.kept in (
+      kept.0,
+      ap (λ z. z.dst) kept.2 ∙ inv.held,
+      ap (λ z. z.lost) kept.2 ∙ inv.lost,
+      kept.1 ∙ inv.limit,
+    )
+
+pub returns-in-Err-clause-kept : goal.returns-in-Err-clause-kept
+returns-in-Err-clause-kept g c =
+    let inv = c.reads.invariant in
+    let kept = c.copy_unread.ensures.kept in (
+      kept.0,
+      ap (λ z. z.dst) kept.2 ∙ inv.held,
+      ap (λ z. z.lost) kept.2 ∙ inv.lost,
+      kept.1 ∙ inv.limit,
+    )
+
+pub returns-in-Ok-eq0-clause-kept : goal.returns-in-Ok-eq0-clause-kept
+returns-in-Ok-eq0-clause-kept g c =
+    let inv = c.reads.invariant in
+    let kept = c.copy_unread.ensures.kept in (
+      kept.0,
+      c.read_to_copy.ensures.dst ∙ ap (λ z. z.dst) kept.2 ∙ inv.held,
+      c.read_to_copy.ensures.lost ∙ ap (λ z. z.lost) kept.2 ∙ inv.lost,
+      kept.1 ∙ inv.limit,
+    )
+
+pub returns-in-Err-read_to_copy-clause-kept : goal.returns-in-Err-read_to_copy-clause-kept
+returns-in-Err-read_to_copy-clause-kept g c =
+    let inv = c.reads.invariant in
+    let kept = c.copy_unread.ensures.kept in (
+      kept.0,
+      c.read_to_copy.ensures.dst ∙ ap (λ z. z.dst) kept.2 ∙ inv.held,
+      c.read_to_copy.ensures.lost ∙ ap (λ z. z.lost) kept.2 ∙ inv.lost,
+      kept.1 ∙ inv.limit,
+    )

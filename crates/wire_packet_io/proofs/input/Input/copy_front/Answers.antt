@@ -21,3 +21,9 @@ returns-in-Err-clause-steps g c =
     let same = ap (λ z. span_state z) c.in-Err.ensures.err in
     let stops = header_stop c.in-Err.error (span_state c.args.decoder.now) c.args.self.now.src.items read.len read.seq_id (said.there.0 refl) said.len said.id said.spelled c.in-Err.ensures.refused in
     (same, refl, Keeps-refl _, subst (λ (s : SpanState). StopsHere c.refusal.result s c.args.self.now.src.items) (sym same) (stops_named c.in-Err.error c.refusal.result _ _ c.refusal.ensures stops))
+
+pub returns-then-chunk_left-gt0-clause-kept : goal.returns-then-chunk_left-gt0-clause-kept
+returns-then-chunk_left-gt0-clause-kept g c = c.copy_bytes.ensures.kept
+
+pub returns-in_default-clause-kept : goal.returns-in_default-clause-kept
+returns-in_default-clause-kept g c = (c.requires.uncut, refl, refl)

@@ -1,4 +1,5 @@
-use Rattle.std.proofs.Common.{◌∙◌, [], refl, true, false}
+use Rattle.std.proofs.lemmas.Bool.{false≢true}
+use Rattle.std.proofs.Common.{◌∙◌, [], refl, true, false, sym}
 use Rattle.std.proofs.KnownBytes.{Appends-nil}
 use Rattle.wire_span.specs.Spans.{span_state}
 use Rattle.wire_packet_io.proofs.CopyLemmas.{copied_none, copies_more, copies_kept, fewer_none, fewer_more}
@@ -39,3 +40,29 @@ pub returns-in-Err-clause-goes : goal.returns-in-Err-clause-goes
 returns-in-Err-clause-goes g c =
     let step = c.in-Err.ensures.steps in
     copies_kept _ _ _ _ _ _ _ _ _ c.steps.invariant.goes step.0 step.1 step.2
+
+pub copy_front-requires : goal.copy_front-requires
+copy_front-requires g c = record {
+  uncut = c.steps.invariant.uncut;
+}
+
+pub returns-in-Ok-Some-true-clause-fewer : goal.returns-in-Ok-Some-true-clause-fewer
+returns-in-Ok-Some-true-clause-fewer g c f = absurd (false≢true (sym f))
+
+pub returns-in-Ok-Some-true-clause-kept : goal.returns-in-Ok-Some-true-clause-kept
+returns-in-Ok-Some-true-clause-kept g c =
+    let inv = c.steps.invariant in
+    let kept = c.copy_front.ensures.kept in
+    (kept.0, kept.1 ∙ inv.limit, rw inv.rest at kept.2)
+
+pub returns-in-Ok-None-clause-kept : goal.returns-in-Ok-None-clause-kept
+returns-in-Ok-None-clause-kept g c =
+    let inv = c.steps.invariant in
+    let kept = c.copy_front.ensures.kept in
+    (kept.0, kept.1 ∙ inv.limit, rw inv.rest at kept.2)
+
+pub returns-in-Err-clause-kept : goal.returns-in-Err-clause-kept
+returns-in-Err-clause-kept g c =
+    let inv = c.steps.invariant in
+    let kept = c.copy_front.ensures.kept in
+    (kept.0, kept.1 ∙ inv.limit, rw inv.rest at kept.2)

@@ -11,3 +11,9 @@ returns-in-Ok-false-clause-takes g c =
           (ap (λ z. z.src.items) rest) c.make_room.ensures.held (rw c.in-Ok-false.field-0-test at c.in-Ok-false.ensures.decodes) c.requires.stands,
       ap (λ z. z.lost) rest ∙ c.requires.found,
     )
+
+pub returns-in-Ok-false-clause-apart : goal.returns-in-Ok-false-clause-apart
+returns-in-Ok-false-clause-apart g c = tt
+
+pub returns-in-Err-clause-apart : goal.returns-in-Err-clause-apart
+returns-in-Err-clause-apart g c = tt

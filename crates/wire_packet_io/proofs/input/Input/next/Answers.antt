@@ -104,3 +104,12 @@ returns-in-Err-read_more-clause-fits g c =
       rw (c.read_more.ensures.dst, c.in-Err-read_more.ensures.err, c.read_more.ensures.lost) there.1,
       c.find_next.ensures.kept.2 ∙ c.reads.invariant.so_far.limit,
     )
+
+pub find_next-requires-clause-found : goal.find_next-requires-clause-found
+find_next-requires-clause-found g c = c.reads.invariant.found
+
+pub returns-in-Err-clause-there : goal.returns-in-Err-clause-there
+returns-in-Err-clause-there g c = (tt, λ apart. tt)
+
+pub returns-in-Err-read_more-clause-there : goal.returns-in-Err-read_more-clause-there
+returns-in-Err-read_more-clause-there g c = (tt, λ apart. tt)

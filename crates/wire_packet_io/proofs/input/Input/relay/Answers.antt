@@ -109,3 +109,58 @@ reads-smaller g c =
     read_nearer (span_state c.reads.decoder) (span_state c.relay_unread.new.decoder) c.reads.self.src.items c.relay_unread.new.self.src.items c.read_more.new.self.src.items _ _ _
     ((rw c.in-Ok-false.field-0-test at c.in-Ok-false.ensures.fewer) refl) c.relay_unread.ensures.kept.0 (rw c.in-Ok-false.field-0-test at c.in-Ok-false.ensures.ends)
     c.in-Ok-read_more.ensures.ok (above_zero c.in-Ok-read_more.field-0 c.in-Ok-read_more.field-0-test.1)
+
+pub relay_unread-requires : goal.relay_unread-requires
+relay_unread-requires g c = record {
+  uncut = c.reads.invariant.uncut;
+}
+
+pub returns-in-Ok-true-clause-kept : goal.returns-in-Ok-true-clause-kept
+returns-in-Ok-true-clause-kept g c =
+    let inv = c.reads.invariant in
+    let kept = c.relay_unread.ensures.kept in (
+      kept.0,
+      ap (λ z. z.dst) kept.2 ∙ inv.held,
+      ap (λ z. z.lost) kept.2 ∙ inv.lost,
+      kept.1 ∙ inv.limit,
+    )
+
+pub returns-in-Err-clause-kept : goal.returns-in-Err-clause-kept
+returns-in-Err-clause-kept g c =
+    let inv = c.reads.invariant in
+    let kept = c.relay_unread.ensures.kept in (
+      kept.0,
+      ap (λ z. z.dst) kept.2 ∙ inv.held,
+      ap (λ z. z.lost) kept.2 ∙ inv.lost,
+      kept.1 ∙ inv.limit,
+    )
+
+pub returns-in-Err-write_pending-clause-kept : goal.returns-in-Err-write_pending-clause-kept
+returns-in-Err-write_pending-clause-kept g c =
+    let inv = c.reads.invariant in
+    let kept = c.relay_unread.ensures.kept in (
+      kept.0,
+      ap (λ z. z.dst) kept.2 ∙ inv.held,
+      ap (λ z. z.lost) kept.2 ∙ inv.lost,
+      kept.1 ∙ inv.limit,
+    )
+
+pub returns-in-Ok-eq0-clause-kept : goal.returns-in-Ok-eq0-clause-kept
+returns-in-Ok-eq0-clause-kept g c =
+    let inv = c.reads.invariant in
+    let kept = c.relay_unread.ensures.kept in (
+      kept.0,
+      c.read_more.ensures.dst ∙ ap (λ z. z.dst) kept.2 ∙ inv.held,
+      c.read_more.ensures.lost ∙ ap (λ z. z.lost) kept.2 ∙ inv.lost,
+      kept.1 ∙ inv.limit,
+    )
+
+pub returns-in-Err-read_more-clause-kept : goal.returns-in-Err-read_more-clause-kept
+returns-in-Err-read_more-clause-kept g c =
+    let inv = c.reads.invariant in
+    let kept = c.relay_unread.ensures.kept in (
+      kept.0,
+      c.read_more.ensures.dst ∙ ap (λ z. z.dst) kept.2 ∙ inv.held,
+      c.read_more.ensures.lost ∙ ap (λ z. z.lost) kept.2 ∙ inv.lost,
+      kept.1 ∙ inv.limit,
+    )

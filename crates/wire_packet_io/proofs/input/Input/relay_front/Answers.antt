@@ -20,3 +20,15 @@ returns-in-Err-clause-steps g c =
     let said = rw c.as_slice.ensures at c.in-Some.ensures in
     let stops = header_stop c.in-Err.error (span_state c.args.decoder.now) c.args.self.now.src.items read.len read.seq_id (said.there.0 refl) said.len said.id said.spelled c.in-Err.ensures.refused in
     (refl, refl, refl, refl, relay_stop c.in-Err.error c.refusal.result _ _ c.refusal.ensures stops)
+
+pub returns-then-chunk_left-gt0-clause-kept : goal.returns-then-chunk_left-gt0-clause-kept
+returns-then-chunk_left-gt0-clause-kept g c = c.relay_bytes.ensures.kept
+
+pub returns-in_default-clause-kept : goal.returns-in_default-clause-kept
+returns-in_default-clause-kept g c = (c.requires.uncut, refl, refl, refl)
+
+pub returns-in-Err-clause-kept : goal.returns-in-Err-clause-kept
+returns-in-Err-clause-kept g c = (c.requires.uncut, refl, refl, refl)
+
+pub returns-in-Err-put-clause-kept : goal.returns-in-Err-put-clause-kept
+returns-in-Err-put-clause-kept g c = (c.requires.uncut, refl, refl, c.put.ensures.writer)

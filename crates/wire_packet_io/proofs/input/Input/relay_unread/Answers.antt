@@ -1,4 +1,5 @@
-use Rattle.std.proofs.Common.{◌∙◌, refl, true, false}
+use Rattle.std.proofs.lemmas.Bool.{false≢true}
+use Rattle.std.proofs.Common.{◌∙◌, refl, true, false, sym}
 use Rattle.wire_span.specs.Spans.{span_state}
 use Rattle.wire_packet_io.proofs.CopyLemmas.{fewer_none, fewer_more}
 use Rattle.wire_packet_io.proofs.RelayLemmas.{relays_none, relays_more, relays_kept}
@@ -48,3 +49,29 @@ returns-in-Err-clause-goes g c =
     let step = c.in-Err.ensures.steps in
     relays_kept (span_state c.args.decoder.now) (span_state c.steps.decoder) (span_state c.relay_front.new.decoder) c.args.next_id.now c.steps.next_id c.relay_front.new.next_id _ _ _ _ _ _
     inv.goes step.0 step.1 step.2 step.3
+
+pub relay_front-requires : goal.relay_front-requires
+relay_front-requires g c = record {
+  uncut = c.steps.invariant.uncut;
+}
+
+pub returns-in-Ok-Some-true-clause-fewer : goal.returns-in-Ok-Some-true-clause-fewer
+returns-in-Ok-Some-true-clause-fewer g c f = absurd (false≢true (sym f))
+
+pub returns-in-Ok-Some-true-clause-kept : goal.returns-in-Ok-Some-true-clause-kept
+returns-in-Ok-Some-true-clause-kept g c =
+    let inv = c.steps.invariant in
+    let kept = c.relay_front.ensures.kept in
+    (kept.0, kept.1 ∙ inv.limit, rw inv.rest at kept.2, kept.3 ∙ inv.writer)
+
+pub returns-in-Ok-None-clause-kept : goal.returns-in-Ok-None-clause-kept
+returns-in-Ok-None-clause-kept g c =
+    let inv = c.steps.invariant in
+    let kept = c.relay_front.ensures.kept in
+    (kept.0, kept.1 ∙ inv.limit, rw inv.rest at kept.2, kept.3 ∙ inv.writer)
+
+pub returns-in-Err-clause-kept : goal.returns-in-Err-clause-kept
+returns-in-Err-clause-kept g c =
+    let inv = c.steps.invariant in
+    let kept = c.relay_front.ensures.kept in
+    (kept.0, kept.1 ∙ inv.limit, rw inv.rest at kept.2, kept.3 ∙ inv.writer)

@@ -1,3 +1,5 @@
+use Rattle.wire_packet_io.proofs.ReadingLemmas.{answered}
+use Rattle.std.proofs.lemmas.Bool.{false≢true}
 use Rattle.std.proofs.Common.{◌<◌, ◌∙◌, ℕ, sym, ap, refl, false, subst, ◌++◌}
 use Rattle.wire_codec.specs.Codec.{CodecState}
 use Rattle.wire_codec.specs.Skipping.{WouldStand}
@@ -83,3 +85,24 @@ returns-in-Ok-true-clause-ended g c =
     let inv = c.skips.invariant.so_far c.requires.may.0 c.requires.may.1 in
     let k = (rw c.in-Ok-true.field-0-test at c.in-Ok-true.ensures.skips) inv.0 inv.1 in
     (ap (λ (z : Skipped). z.held) k.2.0, ap (λ (z : Skipped). z.begun) k.2.0)
+
+pub returns-in-Ok-true-clause-loses : goal.returns-in-Ok-true-clause-loses
+returns-in-Ok-true-clause-loses g c = (λ lost. absurd (false≢true (sym c.skips.invariant.found ∙ lost)), λ is. absurd (answered _ _ is))
+
+pub returns-in-Ok-true-clause-kept : goal.returns-in-Ok-true-clause-kept
+returns-in-Ok-true-clause-kept g c = (c.skips.invariant.held, c.skip.ensures.limit ∙ c.skips.invariant.same)
+
+pub returns-in-Err-clause-ended : goal.returns-in-Err-clause-ended
+returns-in-Err-clause-ended g c = tt
+
+pub returns-in-Err-clause-kept : goal.returns-in-Err-clause-kept
+returns-in-Err-clause-kept g c = (ap (λ z. z.dst) c.refuse.ensures.rest ∙ c.skips.invariant.held, c.skip.ensures.limit ∙ c.skips.invariant.same)
+
+pub returns-in-Ok-eq0-clause-kept : goal.returns-in-Ok-eq0-clause-kept
+returns-in-Ok-eq0-clause-kept g c = (c.read_more.ensures.dst ∙ c.skips.invariant.held, c.skip.ensures.limit ∙ c.skips.invariant.same)
+
+pub returns-in-Err-read_more-clause-ended : goal.returns-in-Err-read_more-clause-ended
+returns-in-Err-read_more-clause-ended g c = tt
+
+pub returns-in-Err-read_more-clause-kept : goal.returns-in-Err-read_more-clause-kept
+returns-in-Err-read_more-clause-kept g c = (c.read_more.ensures.dst ∙ c.skips.invariant.held, c.skip.ensures.limit ∙ c.skips.invariant.same)

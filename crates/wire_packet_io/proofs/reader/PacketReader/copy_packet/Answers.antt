@@ -5,6 +5,7 @@ use Rattle.std.proofs.KnownBytes.{Appends-nil}
 use Rattle.wire_span.specs.Spans.{span_state}
 use Rattle.wire_packet_io.specs.Copying.{copied_to, HasPlace}
 use Rattle.wire_packet_io.proofs.CopyLemmas.{can_after, copies_before, copies_go, reads_start, stops_unended}
+use Rattle.wire_packet_io.proofs.ReadingLemmas.{error_loses, none_between}
 use Rattle.wire_packet_io.proofs.WholeLemmas.{limit_is}
 use Rattle.wire_packet_io.proofs.reader.PacketReader.copy_packet.Given as given
 use Rattle.wire_packet_io.proofs.reader.PacketReader.copy_packet.Goals as goal
@@ -77,3 +78,68 @@ pub keep_place-requires : goal.keep_place-requires
 keep_place-requires g c = record {
   limit = c.go_on_copying-result.ensures.limit ∙ ap (λ s. s.limit) c.copied_so_far-decoder.ensures ∙ limit_is c.copy_begin.new.self.copied c.copy_begin.new.codec;
 }
+
+pub returns-then-is_none-clause-lost : goal.returns-then-is_none-clause-lost
+returns-then-is_none-clause-lost g c none lost = (refl, refl, refl, refl)
+
+pub returns-then-is_none-clause-ended : goal.returns-then-is_none-clause-ended
+returns-then-is_none-clause-ended g c = tt
+
+pub returns-then-is_none-clause-header : goal.returns-then-is_none-clause-header
+returns-then-is_none-clause-header g c place = absurd (unplaced g (goal.at.returns-then-is_none-clause-header g c).Then-is_none place)
+
+pub returns-then-is_none-clause-under_way : goal.returns-then-is_none-clause-under_way
+returns-then-is_none-clause-under_way g c some = refl
+
+pub returns-then-is_none-clause-rest : goal.returns-then-is_none-clause-rest
+returns-then-is_none-clause-rest g c = (refl, refl, refl, refl)
+
+pub returns-then-is_none-clause-can : goal.returns-then-is_none-clause-can
+returns-then-is_none-clause-can g c = c.requires
+
+pub copy_begin-requires-clause-can : goal.copy_begin-requires-clause-can
+copy_begin-requires-clause-can g c = c.requires
+
+pub returns-in-Ok-true-clause-stops : goal.returns-in-Ok-true-clause-stops
+returns-in-Ok-true-clause-stops g c place =
+    none_between c.copy_begin.new.self.copied c.copy_begin.new.codec (c.in-Ok-true.ensures.ended c.in-Ok-true.field-0-test).0
+
+pub returns-in-Ok-true-clause-ended : goal.returns-in-Ok-true-clause-ended
+returns-in-Ok-true-clause-ended g c = c.in-Ok-true.ensures.ended c.in-Ok-true.field-0-test
+
+pub returns-in-Ok-true-clause-header : goal.returns-in-Ok-true-clause-header
+returns-in-Ok-true-clause-header g c place = c.copy_begin.ensures.header
+
+pub returns-in-Ok-true-clause-under_way : goal.returns-in-Ok-true-clause-under_way
+returns-in-Ok-true-clause-under_way g c = c.copy_begin.ensures.under_way
+
+pub returns-in-Ok-true-clause-rest : goal.returns-in-Ok-true-clause-rest
+returns-in-Ok-true-clause-rest g c =
+    let rest = c.copy_begin.ensures.rest in
+    (ap (λ z. z.held) rest.0, ap (λ z. z.lent) rest.0, ap (λ z. z.skipped) rest.0, rest.1)
+
+pub returns-in-Ok-true-clause-can : goal.returns-in-Ok-true-clause-can
+returns-in-Ok-true-clause-can g c = c.copy_begin.ensures.can
+
+pub returns-in-Err-clause-ended : goal.returns-in-Err-clause-ended
+returns-in-Err-clause-ended g c = tt
+
+pub returns-in-Err-clause-header : goal.returns-in-Err-clause-header
+returns-in-Err-clause-header g c place = c.copy_begin.ensures.header
+
+pub returns-in-Err-clause-under_way : goal.returns-in-Err-clause-under_way
+returns-in-Err-clause-under_way g c = c.copy_begin.ensures.under_way
+
+pub returns-in-Err-clause-loses : goal.returns-in-Err-clause-loses
+returns-in-Err-clause-loses g c = error_loses c.in-Err.error PacketsOutOfSync c.copy_begin.new.self.is_lost c.copy_begin.new.self.copied c.in-Err.ensures.loses
+
+pub returns-in-Err-clause-rest : goal.returns-in-Err-clause-rest
+returns-in-Err-clause-rest g c =
+    let rest = c.copy_begin.ensures.rest in
+    (ap (λ z. z.held) rest.0, ap (λ z. z.lent) rest.0, ap (λ z. z.skipped) rest.0, rest.1)
+
+pub returns-in-Err-clause-can : goal.returns-in-Err-clause-can
+returns-in-Err-clause-can g c = c.copy_begin.ensures.can
+
+pub returns-clause-header : goal.returns-clause-header
+returns-clause-header g c place = c.keep_place.ensures.header

@@ -106,3 +106,40 @@ returns-clause-ended g c =
     ended_by went.result now.is_lost c.match-matches.matches now.copied PacketsOutOfSync
     (relay_between went.result (span_state went.new.decoder) _ _ _ (IsNone now.copied) went.ensures.stops kept.between.1)
     kept.lost.0 (says g (goal.at.returns-clause-ended g c).Joined-matches).0
+
+pub returns-then-is_none-clause-lost : goal.returns-then-is_none-clause-lost
+returns-then-is_none-clause-lost g c none lost = (refl, refl, refl, refl)
+
+pub returns-then-is_none-clause-lost_other : goal.returns-then-is_none-clause-lost_other
+returns-then-is_none-clause-lost_other g c none lost = refl
+
+pub returns-then-is_none-clause-ended : goal.returns-then-is_none-clause-ended
+returns-then-is_none-clause-ended g c = tt
+
+pub returns-then-is_none-clause-header : goal.returns-then-is_none-clause-header
+returns-then-is_none-clause-header g c place = absurd (unplaced g (goal.at.returns-then-is_none-clause-header g c).Then-is_none place)
+
+pub returns-then-is_none-clause-under_way : goal.returns-then-is_none-clause-under_way
+returns-then-is_none-clause-under_way g c some = refl
+
+pub returns-then-is_none-clause-rest : goal.returns-then-is_none-clause-rest
+returns-then-is_none-clause-rest g c = (refl, refl, refl, refl)
+
+pub returns-then-is_none-clause-can : goal.returns-then-is_none-clause-can
+returns-then-is_none-clause-can g c = c.requires
+
+pub returns-then-is_none-clause-other : goal.returns-then-is_none-clause-other
+returns-then-is_none-clause-other g c = (refl, refl)
+
+pub returns-clause-lost_other : goal.returns-clause-lost_other
+returns-clause-lost_other g c none lost =
+    absurd (has_no_place c.args.self.now.copied c.args.self.now.is_lost none lost (placed g (goal.at.returns-clause-lost_other g c).After-copied_so_far-decoder))
+
+pub returns-clause-header : goal.returns-clause-header
+returns-clause-header g c place = c.keep_place.ensures.header
+
+pub returns-clause-under_way : goal.returns-clause-under_way
+returns-clause-under_way g c = c.keep_place.ensures.under_way
+
+pub returns-clause-other : goal.returns-clause-other
+returns-clause-other g c = (c.set_sequence_id.ensures.header, c.set_sequence_id.ensures.limit)
