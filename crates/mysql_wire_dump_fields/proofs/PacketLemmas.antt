@@ -1,15 +1,19 @@
 -- The fields of packets.
-use Rattle.std.proofs.Common.{◌≡◌, ◌++◌, ℕ, List, refl, subst, inl, inr, Option, Result, Ok, Err}
+use Rattle.std.proofs.Common.{◌≡◌, ◌++◌, ℕ, List, [], refl, subst, inl, inr, Option, Result, Ok, Err}
+use Rattle.std.proofs.KnownBytes.{Appends-nil}
 use Rattle.std.specs.Prelude.{IfOk, OnOk}
-use Rattle.mysql_wire_dump_fields.specs.Packets.{HasOwnFields, PutsOwn, PutsRowFields, packet_fields, shown_kind}
-use Rattle.mysql_wire_dump_fields.specs.ValueFields.{AreRowFields, PutsRow, rest_if, row_bytes_fields}
+use Rattle.mysql_wire_dump_fields.specs.Packets.{HasOwnFields, PutsOwn, PutsRowFields, WritesRowFields, packet_fields, row_kind, shown_kind}
+use Rattle.mysql_wire_dump_fields.specs.ValueFields.{AreRowFields, PutsRow, PutsTexts, WritesTexts, rest_if, row_bytes_fields}
 use Rattle.mysql_wire_session_packets.specs.declared.packet.Packet.{Packet}
 use Rattle.mysql_wire_session_packets.specs.declared.packet.Packet.TheVariants as packet
 use Rattle.mysql_wire_session_packets.specs.declared.packet.Row.{Row}
+use Rattle.mysql_wire_session_packets.specs.declared.packet.Row.TheVariants as row
 use Rattle.mysql_wire_session_phases.specs.declared.packet_kind.PacketKind.{PacketKind}
 use Rattle.mysql_wire_session_phases.specs.declared.refusal.Refusal.{Refusal}
 use Rattle.mysql_wire_statements.specs.declared.binary_row.BinaryRow.{BinaryRow}
 use Rattle.wire_text.specs.Fields.{Member, Puts, Written}
+use Rattle.wire_text.proofs.PartLemmas.{end_itself}
+use denote.Bor.{Bor}
 
 -- what was put is these fields
 pub puts_are : {X E : Type 0} (result : Result X E) (members : List Member) (wanted : List Member)
@@ -76,3 +80,30 @@ pub row_put : {E : Type 0} (result : Result PacketKind E) (types : List ℕ) (wa
     → IfOk result (PutsRowFields types wanted row old new) → IfOk result (PutsOwn types wanted (packet.Row row) old new)
 row_put (Ok named) types wanted row old new put = record { members = put.members; has = put.has; puts = put.puts }
 row_put (Err error) types wanted row old new put = tt
+
+-- a row of texts that were put
+pub texts_put : (columns : ℕ) (types : List ℕ) (wanted named : PacketKind) (values : Bor (List ℕ)) (refusal : Option Refusal) (old new : Written)
+    → named ≡ row_kind wanted refusal → PutsTexts columns values.now refusal old new → PutsRowFields types wanted (row.Text columns values) old new named
+texts_put columns types wanted named values refusal old new is put = record {
+  members = put.members;
+  has = (refusal, is, (put.rest, put.are, put.ends));
+  puts = put.puts;
+}
+
+-- one of which all but an end may have been written
+pub texts_written : (columns : ℕ) (types : List ℕ) (wanted named : PacketKind) (values : Bor (List ℕ)) (refusal : Option Refusal) (old new : Written) (before now : Option (List ℕ))
+    → named ≡ row_kind wanted refusal → WritesTexts columns values.now refusal old new before now → WritesRowFields types wanted (row.Text columns values) old new before now named
+texts_written columns types wanted named values refusal old new before now is put = record {
+  whole = put.whole;
+  written = put.written;
+  puts = texts_put columns types wanted named values refusal old put.whole is put.puts;
+  appended = put.appended;
+  ends = put.ends;
+}
+
+-- a row of which nothing was written
+pub none_written : {E : Type 0} (result : Result PacketKind E) (types : List ℕ) (wanted : PacketKind) (read : Row) (old new : Written) (before : Option (List ℕ))
+    → IfOk result (PutsRowFields types wanted read old new) → IfOk result (WritesRowFields types wanted read old new before before)
+none_written (Ok named) types wanted read old new before put =
+    record { whole = new; written = []; puts = put; appended = Appends-nil before; ends = end_itself new }
+none_written (Err error) types wanted read old new before put = tt

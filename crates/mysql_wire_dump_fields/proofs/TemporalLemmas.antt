@@ -1,9 +1,12 @@
 -- Numbers in so many digits, zeros in front.
-use Rattle.std.proofs.Common.{◌≡◌, ◌∙◌, ℕ, zero, suc, ◌+◌, ◌-◌, ◌/◌, ◌%◌, ◌^◌, ◌<◌, ◌≤◌, List, [], ◌∷◌, ◌++◌, length, replicate, refl, sym, ap, ap₂, append_assoc, append-nil, arith, inl, inr}
-use Rattle.std.proofs.lemmas.Bool.{cases_lt}
+use Rattle.std.proofs.Common.{◌≡◌, ◌∙◌, ℕ, zero, suc, ◌+◌, ◌-◌, ◌/◌, ◌%◌, ◌^◌, ◌<◌, ◌≤◌, List, [], ◌∷◌, ◌++◌, length, replicate, refl, sym, ap, ap₂, append_assoc, append-nil, arith, inl, inr, Result, Ok, Err, if◌then◌else◌}
+use Rattle.std.proofs.lemmas.Bool.{cases_lt, eqb-true}
+use Rattle.wire_text.proofs.FieldLemmas.{is_false}
 use Rattle.std.proofs.lemmas.Fmt.{decimal_digit, decimal_step}
 use Rattle.std.proofs.lemmas.List.{length-append}
 use Rattle.std.specs.Fmt.{char_count, decimal, padded_integral}
+use Rattle.std.specs.Prelude.{◌==◌, OnOk, codes}
+use Rattle.std.specs.Result.{is_ok}
 use Rattle.mysql_wire_dump_fields.specs.TemporalTexts.{zeros}
 
 abbrev noughts : ℕ → List ℕ
@@ -88,3 +91,34 @@ zeros_six number small =
     zeros_are 6 number ∙ one_more 4 number (omega (arith, small)) ∙ ap (λ (z : List ℕ). z ++ (48 + number % 10) ∷ []) (five (number / 10) (omega (arith, small)))
     ∙ ap₂ (λ (a b : ℕ). (48 + a) ∷ (48 + b % 10) ∷ (48 + number / 10 / 100 % 10) ∷ (48 + number / 10 / 10 % 10) ∷ (48 + number / 10 % 10) ∷ (48 + number % 10) ∷ []) others thousands
     ∙ ap₂ (λ (a b : ℕ). (48 + number / 100000) ∷ (48 + number / 10000 % 10) ∷ (48 + a % 10) ∷ (48 + b % 10) ∷ (48 + number / 10 % 10) ∷ (48 + number % 10) ∷ []) hundreds tens
+
+-- a word that was appended
+pub pushed : {T E : Type 0} (result : Result T E) (old new word : List ℕ) → new ≡ (if is_ok result then old ++ word else old) → OnOk result (new ≡ old ++ word)
+pushed (Ok done) old new word is = is
+pushed (Err error) old new word is = tt
+
+-- a part, and then a mark and one more
+pub pushed_behind : {T E : Type 0} (result : Result T E) (old between new part mark more : List ℕ) → between ≡ old ++ part
+    → OnOk result (new ≡ between ++ (mark ++ more)) → OnOk result (new ≡ old ++ (part ++ mark ++ more))
+pushed_behind (Ok done) old between new part mark more first is =
+    is ∙ ap (λ (z : List ℕ). z ++ (mark ++ more)) first ∙ append_assoc old part (mark ++ more) ∙ ap (λ (z : List ℕ). old ++ z) (sym (append_assoc part mark more))
+pushed_behind (Err error) old between new part mark more first is = tt
+
+-- the same, the mark by a call of its own
+pub pushed_three : {T E : Type 0} (result : Result T E) (old one two new part mark more : List ℕ) → one ≡ old ++ part → two ≡ one ++ mark
+    → OnOk result (new ≡ two ++ more) → OnOk result (new ≡ old ++ (part ++ mark ++ more))
+pushed_three (Ok done) old one two new part mark more first second is =
+    is ∙ ap (λ (z : List ℕ). z ++ more) (second ∙ ap (λ (z : List ℕ). z ++ mark) first ∙ append_assoc old part mark) ∙ append_assoc old (part ++ mark) more
+pushed_three (Err error) old one two new part mark more first second is = tt
+
+-- hours, with a sign in front where the span has one
+pub pushed_signed : {T E : Type 0} (result : Result T E) (sign : ℕ) (old mark between new hours : List ℕ) → sign ≡ 1 → mark ≡ old ++ codes "-" → between ≡ mark
+    → OnOk result (new ≡ between ++ hours) → OnOk result (new ≡ old ++ ((if sign == 1 then codes "-" else []) ++ hours))
+pushed_signed (Ok done) sign old mark between new hours negative first same is =
+    rw negative (is ∙ ap (λ (z : List ℕ). z ++ hours) (same ∙ first) ∙ append_assoc old (codes "-") hours)
+pushed_signed (Err error) sign old mark between new hours negative first same is = tt
+
+pub pushed_unsigned : {T E : Type 0} (result : Result T E) (sign : ℕ) (old new hours : List ℕ) → (sign ≡ 1 → ⊥)
+    → OnOk result (new ≡ old ++ hours) → OnOk result (new ≡ old ++ ((if sign == 1 then codes "-" else []) ++ hours))
+pushed_unsigned (Ok done) sign old new hours positive is = rw (is_false (sign == 1) (λ same. positive (eqb-true sign 1 same))) is
+pushed_unsigned (Err error) sign old new hours positive is = tt

@@ -1,15 +1,17 @@
 -- The values of rows, one more at a time.
-use Rattle.std.proofs.Common.{◌≡◌, ◌≢◌, ◌<◌, ℕ, ◌+◌, true, false, List, [], ◌∷◌, ◌++◌, length, get_or, take, refl, sym, subst, ap, ◌∙◌, inl, inr, append-nil, append_assoc, length-append, arith, Option, Some, None}
+use Rattle.std.proofs.Common.{◌≡◌, ◌≢◌, ◌<◌, ℕ, ◌+◌, true, false, List, [], ◌∷◌, ◌++◌, length, get_or, take, refl, sym, subst, ap, ◌∙◌, inl, inr, append-nil, append_assoc, length-append, arith, Option, Some, None, Result, Ok, Err}
 use Rattle.std.proofs.KnownBytes.{Appends-nil, Appends-trans}
 use Rattle.std.specs.Io.KnownBytes.{Appends}
-use Rattle.wire_text.specs.Fields.{Member, Octets, Puts, Written, member_form, put, puts}
-use Rattle.mysql_wire_dump_fields.specs.ValueFields.{IsTextAt, TextsSoFar, AreTexts, AreValues, IsNoText, IsNoValueAt, PutsColumn, PutsText, PutsTexts, PutsValues, WritesText, WritesTexts, rest_if}
+use Rattle.std.specs.Fmt.{decimal}
+use Rattle.wire_text.specs.Fields.{Member, Octets, Puts, Value, Written, member_form, put, puts}
+use Rattle.mysql_wire_dump_fields.specs.ValueFields.{IsTextAt, TextsSoFar, AreTexts, AreValues, IsNoText, IsNoValueAt, IsShownAs, PutsColumn, PutsShown, PutsText, PutsTexts, PutsValues, WritesText, WritesTexts, rest_if}
 use Rattle.mysql_wire_session_phases.specs.declared.refusal.Refusal.{Refusal}
 use Rattle.mysql_wire_session_phases.specs.declared.refusal.Refusal.TheVariants.{TrailingBytes}
 use Rattle.mysql_wire_statements.specs.declared.binary_row.BinaryRow.{BinaryRow}
+use Rattle.mysql_wire_statements.specs.declared.binary_value.BinaryValue.{BinaryValue}
 use Rattle.std.proofs.lemmas.List.{take_all}
 use Rattle.std.proofs.lemmas.Grind.{common_steps}
-use Rattle.std.specs.Prelude.{◌==◌, codes}
+use Rattle.std.specs.Prelude.{◌==◌, OnOk, codes}
 use Rattle.wire_text.proofs.FieldLemmas.{put_hidden, puts_append}
 use Rattle.wire_text.proofs.PartLemmas.{end_itself, nothing_written}
 use Rattle.wire_text.specs.Parts.{IsEnd}
@@ -247,3 +249,9 @@ writes-trailing columns payload bytes start end before now so some = record {
 pub short_text : (place : ℕ) (bytes rest : List ℕ) (old new : Written) (before : Option (List ℕ)) → PutsText place bytes rest None old new
     → WritesText place bytes rest None old new before before
 short_text place bytes rest old new before one = (one.0, (one.1.0, nothing_written one.0 old new before one.1.1))
+
+-- a value that was put as it is shown
+pub shown_put : {T E : Type 0} (result : Result T E) (place : ℕ) (value : BinaryValue) (shown : Value) (old new : Written) → IsShownAs value shown
+    → OnOk result (Puts ((decimal place, shown) ∷ []) old new) → OnOk result (PutsShown place value old new)
+shown_put (Ok done) place value shown old new is put = (shown, (is, put))
+shown_put (Err error) place value shown old new is put = tt

@@ -8,4 +8,4 @@ use Rattle.mysql_wire_dump_fields.proofs.show.commands.ComChangeUserShow.show.Go
 pub returns : goal.returns
 returns g c =
     puts_are c.put_all.result _ (plain_fields (ChangeUser c.args.self.now)) c.args.fields.now c.put_all.new.self c.put_all.ensures
-    (rw (c.as_slice.ensures.value, c.as_slice-2.ensures.value, c.as_slice-3.ensures.value, c.character_set.ensures, c.words_if.ensures, c.bytes_if.ensures, append-nil) refl)
+    (simp (c.as_slice.ensures.value, c.as_slice-2.ensures.value, c.as_slice-3.ensures.value, c.character_set.ensures, c.words_if.ensures, c.bytes_if.ensures, append-nil) refl)

@@ -6,4 +6,4 @@ use Rattle.mysql_wire_dump_fields.proofs.show.connection.HandshakeResponse41Show
 
 pub returns : goal.returns
 returns g c =
-    puts_are c.put_all.result _ (login_fields c.args.self.now) c.args.fields.now c.put_all.new.self c.put_all.ensures (rw (c.as_slice.ensures.value, c.of_side.ensures, c.words_if.ensures, c.words_if-2.ensures, c.bytes_if.ensures, c.number_if.ensures, append-nil) refl)
+    puts_are c.put_all.result _ (login_fields c.args.self.now) c.args.fields.now c.put_all.new.self c.put_all.ensures (simp (c.as_slice.ensures.value, c.of_side.ensures, c.words_if.ensures, c.words_if-2.ensures, c.bytes_if.ensures, c.number_if.ensures, append-nil) refl)

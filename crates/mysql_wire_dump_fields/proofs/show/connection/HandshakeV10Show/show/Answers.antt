@@ -6,4 +6,4 @@ use Rattle.mysql_wire_dump_fields.proofs.show.connection.HandshakeV10Show.show.G
 
 pub returns : goal.returns
 returns g c =
-    puts_are c.put_all.result _ (greeting_fields c.args.self.now) c.args.fields.now c.put_all.new.self c.put_all.ensures (rw (c.as_slice.ensures.value, c.as_slice-2.ensures.value, c.side_if.ensures, append-nil) refl)
+    puts_are c.put_all.result _ (greeting_fields c.args.self.now) c.args.fields.now c.put_all.new.self c.put_all.ensures (simp (c.as_slice.ensures.value, c.as_slice-2.ensures.value, c.side_if.ensures, append-nil) refl)
