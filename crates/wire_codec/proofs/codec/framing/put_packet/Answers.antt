@@ -1,7 +1,11 @@
-use Rattle.std.proofs.Common.{◌≡◌, ℕ, ◌%◌, ◌<◌, List, ◌++◌, length, ap, ◌∙◌, arith}
+use Rattle.std.proofs.Common.{◌≡◌, ℕ, ◌%◌, ◌<◌, List, [], ◌++◌, length, drop, refl, ap, ◌∙◌, arith}
+use Rattle.std.proofs.lemmas.List.{drop_all}
 use Rattle.wire_codec.specs.Framing.{max_payload, max_payload_is}
 use Rattle.wire_codec.proofs.ChunkLemmas.{piece_framed, no_blocks}
 use Rattle.wire_codec.proofs.codec.framing.put_packet.Goals as goal
+
+all_dropped : (len : ℕ) (bytes : List ℕ) → len ≡ length bytes → drop len bytes ≡ []
+all_dropped len bytes is = drop_all len bytes (omega (arith, is))
 
 pub bytes-requires : goal.bytes-requires
 bytes-requires g c = omega (arith, max_payload_is)
@@ -23,3 +27,43 @@ returns-clause-next g c =
     let short : length payload < max_payload = omega (arith, max_payload_is, c.remaining-len.ensures) in
     let none = no_blocks (length payload) short in
     ap (λ (n : ℕ). n % 256) (omega (arith, none))
+
+pub returns-then-is_err-clause-appended : goal.returns-then-is_err-clause-appended
+returns-then-is_err-clause-appended g c = tt
+
+pub returns-then-is_err-clause-emptied : goal.returns-then-is_err-clause-emptied
+returns-then-is_err-clause-emptied g c = tt
+
+pub returns-then-is_err-clause-next : goal.returns-then-is_err-clause-next
+returns-then-is_err-clause-next g c = tt
+
+pub returns-then-is_err-clause-kept : goal.returns-then-is_err-clause-kept
+returns-then-is_err-clause-kept g c = refl
+
+pub returns-then-is_err-clause-err : goal.returns-then-is_err-clause-err
+returns-then-is_err-clause-err g c = (refl, c.reserve.ensures.items)
+
+-- several chunks, or several pieces
+pub returns-then-len-ge-MAX_PAYLOAD_LEN-clause-appended : goal.returns-then-len-ge-MAX_PAYLOAD_LEN-clause-appended
+returns-then-len-ge-MAX_PAYLOAD_LEN-clause-appended g c = c.put_chunks.ensures.appended
+
+pub returns-then-len-ge-MAX_PAYLOAD_LEN-clause-emptied : goal.returns-then-len-ge-MAX_PAYLOAD_LEN-clause-emptied
+returns-then-len-ge-MAX_PAYLOAD_LEN-clause-emptied g c = c.put_chunks.ensures.emptied
+
+pub returns-then-len-ge-MAX_PAYLOAD_LEN-clause-next : goal.returns-then-len-ge-MAX_PAYLOAD_LEN-clause-next
+returns-then-len-ge-MAX_PAYLOAD_LEN-clause-next g c = c.put_chunks.ensures.next
+
+pub returns-then-len-ge-MAX_PAYLOAD_LEN-clause-kept : goal.returns-then-len-ge-MAX_PAYLOAD_LEN-clause-kept
+returns-then-len-ge-MAX_PAYLOAD_LEN-clause-kept g c = c.put_chunks.ensures.kept
+
+pub returns-then-len-ge-MAX_PAYLOAD_LEN-clause-err : goal.returns-then-len-ge-MAX_PAYLOAD_LEN-clause-err
+returns-then-len-ge-MAX_PAYLOAD_LEN-clause-err g c = c.put_chunks.ensures.err
+
+pub returns-clause-err : goal.returns-clause-err
+returns-clause-err g c = tt
+
+pub returns-clause-kept : goal.returns-clause-kept
+returns-clause-kept g c = c.advance.ensures.kept
+
+pub returns-clause-emptied : goal.returns-clause-emptied
+returns-clause-emptied g c = c.advance.ensures.value ∙ all_dropped c.remaining-len.result (g.T.Buf.unread c.args.packet.now) c.remaining-len.ensures

@@ -1,4 +1,5 @@
 use Rattle.std.proofs.Common.{◌∙◌, List, ℕ, [], ◌∷◌, ◌++◌, ap, sym, refl, append-nil, Ok, Err, Bool, false}
+use Rattle.wire_codec.specs.declared.codec.error.Refusal.TheVariants.{OutOfMemory}
 use Rattle.wire_codec.specs.Codec.{codec_state}
 use Rattle.wire_codec.specs.Runs.{payloads}
 use Rattle.wire_codec.specs.Refusals.{error_of}
@@ -40,3 +41,18 @@ returns-in-Ok-false-clause-shorter g c said = absurd (no_true (Ok false) refl sa
 
 pub returns-in-Err-clause-shorter : goal.returns-in-Err-clause-shorter
 returns-in-Err-clause-shorter g c said = absurd (no_ok (Err c.in-Err.refusal) c.in-Err.refusal _ refl said)
+
+pub returns-then-is_err-clause-shorter : goal.returns-then-is_err-clause-shorter
+returns-then-is_err-clause-shorter g c said = absurd (no_ok (Err OutOfMemory) OutOfMemory _ refl said)
+
+pub returns-then-is_err-clause-limit : goal.returns-then-is_err-clause-limit
+returns-then-is_err-clause-limit g c = refl
+
+pub returns-in-Ok-true-clause-limit : goal.returns-in-Ok-true-clause-limit
+returns-in-Ok-true-clause-limit g c = c.decode_on.ensures.limit
+
+pub returns-in-Ok-false-clause-limit : goal.returns-in-Ok-false-clause-limit
+returns-in-Ok-false-clause-limit g c = c.decode_on.ensures.limit
+
+pub returns-in-Err-clause-limit : goal.returns-in-Err-clause-limit
+returns-in-Err-clause-limit g c = c.decode_on.ensures.limit

@@ -3,13 +3,13 @@ use Rattle.wire_codec.specs.declared.codec.error.Refusal.TheVariants as refusal
 use Rattle.wire_codec.specs.declared.codec.error.PacketCodecError.TheVariants.{OutOfMemory}
 use Rattle.std.specs.Int.NonZero.{non_zero_usize_get}
 use Rattle.wire_codec.specs.declared.codec.error.PacketCodecError.{PacketCodecError}
-use Rattle.wire_codec.specs.Codec.{codec_state, header_of, ChunkChain, HasChunk, DecodesPacket, DecodesStanding}
+use Rattle.wire_codec.specs.Codec.{codec_state, header_of, ChunkChain, HasChunk, DecodesPacket, DecodesStanding, IsChain}
 use Rattle.wire_codec.specs.OneChunk.{IsTakeable, DecodesChunk}
-use Rattle.wire_codec.specs.Chain.{ChainFrom}
 use Rattle.wire_codec.specs.GoingOn.{Decodes}
 use Rattle.wire_codec.specs.Delivery.{chunk_len}
+use Rattle.wire_codec.specs.Refusals.{answer_of}
 use Rattle.wire_codec.specs.InPlace.{front_payload, HasFront}
-use Rattle.wire_codec.proofs.AnswerLemmas.{no_ok}
+use Rattle.wire_codec.proofs.AnswerLemmas.{no_ok, no_true, lacks_chain}
 use Rattle.wire_codec.proofs.InPlaceLemmas.{state_of, front_len}
 use Rattle.wire_codec.proofs.codec.packet.PacketCodec.decode_on.Goals as goal
 
@@ -50,11 +50,6 @@ returns-in-Some-new-clause-chain g c =
       subst (λ (z : List ℕ). ChunkChain 1 (codec_state c.args.self.now src (held c.args.dst.now)) (Ok true) (codec_state c.take_front.new.self c.take_front.new.src.items z)) filled
           (subst (λ (z : List ℕ). ChunkChain 1 (codec_state c.args.self.now src z) (Ok true) (codec_state c.take_front.new.self c.take_front.new.src.items payload)) (sym empty) c.take_front.ensures.chain),
     )
-
--- a chunk for which there is no memory is a chain of none
-lacks_chain : (answer : Result Bool PacketCodecError) (limit id : ℕ) (header : Option (ℕ × ℕ)) (src held : List ℕ) (new_id : ℕ) (new_header : Option (ℕ × ℕ)) (rest filled : List ℕ) → answer ≡ Err OutOfMemory → new_id ≡ id
-    → DecodesChunk header src held limit (Err OutOfMemory) new_header rest filled → (n : ℕ) × ChainFrom n limit id header src held answer new_id new_header rest filled
-lacks_chain answer limit id header src held new_id new_header rest filled is stays lacks = (0, record { said = Err OutOfMemory; chunk = lacks; stops = is; id_stays = stays })
 
 pub returns-then-not-put_whole-clause-on : goal.returns-then-not-put_whole-clause-on
 returns-then-not-put_whole-clause-on g c =
@@ -140,3 +135,52 @@ returns-then-waits_at-clause-chain g c =
     let before = codec_state c.args.self.now c.args.src.now.items dst in
     let waits = rw c.as_slice-front.ensures at (c.if-waits_at.ensures.chain dst refl) in
     (0, subst (λ (z : List ℕ). ChunkChain 0 before (Ok false) (codec_state c.args.self.now z dst)) (sym c.begin_block.ensures) waits)
+
+pub returns-then-waits_at-clause-memory : goal.returns-then-waits_at-clause-memory
+returns-then-waits_at-clause-memory g c said = absurd (no_ok (Err OutOfMemory) OutOfMemory _ refl (sym said))
+
+pub returns-then-waits_at-clause-shorter : goal.returns-then-waits_at-clause-shorter
+returns-then-waits_at-clause-shorter g c said = absurd (no_true (Ok false) refl said)
+
+pub returns-then-waits_at-clause-limit : goal.returns-then-waits_at-clause-limit
+returns-then-waits_at-clause-limit g c = refl
+
+pub returns-then-not-put_whole-clause-limit : goal.returns-then-not-put_whole-clause-limit
+returns-then-not-put_whole-clause-limit g c = c.lack_room.ensures.limit
+
+pub returns-in-Some-new-clause-limit : goal.returns-in-Some-new-clause-limit
+returns-in-Some-new-clause-limit g c = c.take_front.ensures.limit
+
+pub returns-in-Some-new-clause-shorter : goal.returns-in-Some-new-clause-shorter
+returns-in-Some-new-clause-shorter g c said = c.take_front.ensures.shorter
+
+-- what is in front isn't a whole packet
+pub returns-clause-limit : goal.returns-clause-limit
+returns-clause-limit g c = c.go_on.ensures.limit
+
+pub returns-clause-decodes : goal.returns-clause-decodes
+returns-clause-decodes g c =
+    let held = g.T.PacketDst.held in
+    let before = codec_state c.args.self.now c.args.src.now.items (held c.args.dst.now) in
+    let after = codec_state c.go_on.new.self c.go_on.new.src.items (held c.go_on.new.dst) in
+    subst (λ (z : Result Bool PacketCodecError). DecodesStanding before z after) (sym c.answer.ensures) c.go_on.ensures.decodes
+
+pub returns-clause-on : goal.returns-clause-on
+returns-clause-on g c =
+    let held = g.T.PacketDst.held in
+    let before = codec_state c.args.self.now c.args.src.now.items (held c.args.dst.now) in
+    let after = codec_state c.go_on.new.self c.go_on.new.src.items (held c.go_on.new.dst) in
+    subst (λ (z : Result Bool PacketCodecError). Decodes before z after) (sym c.answer.ensures) c.go_on.ensures.on
+
+pub returns-clause-chain : goal.returns-clause-chain
+returns-clause-chain g c =
+    let held = g.T.PacketDst.held in
+    let before = codec_state c.args.self.now c.args.src.now.items (held c.args.dst.now) in
+    let after = codec_state c.go_on.new.self c.go_on.new.src.items (held c.go_on.new.dst) in
+    subst (λ (z : Result Bool PacketCodecError). IsChain before z after) (sym c.answer.ensures) c.go_on.ensures.chain
+
+pub returns-clause-memory : goal.returns-clause-memory
+returns-clause-memory g c said = c.go_on.ensures.memory (sym c.answer.ensures ∙ said)
+
+pub returns-clause-shorter : goal.returns-clause-shorter
+returns-clause-shorter g c said = c.go_on.ensures.shorter (sym c.answer.ensures ∙ ap answer_of said)

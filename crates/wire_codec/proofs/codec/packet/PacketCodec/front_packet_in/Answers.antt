@@ -1,10 +1,13 @@
-use Rattle.std.proofs.Common.{◌≡◌, ℕ, ◌-◌, ◌<◌, ◌≤◌, ◌==◌, List, ap, length, slice_index, sym, ◌∙◌, refl, subst, arith, eqb-true, MatchOption}
+use Rattle.std.proofs.Common.{◌≡◌, ℕ, ◌+◌, ◌-◌, ◌<◌, ◌≤◌, ◌==◌, List, take, drop, ap, length, slice_index, sym, ◌∙◌, refl, subst, arith, eqb-true, MatchOption}
 use Rattle.std.proofs.lemmas.Bool.{false≢true}
 use Rattle.wire_codec.specs.Delivery.{chunk_len}
 use Rattle.wire_codec.specs.Framing.{max_payload, max_payload_is}
 use Rattle.wire_codec.specs.Codec.{header_of, expected_id}
 use Rattle.wire_codec.proofs.InPlaceLemmas.{front_passes, front_there, front_decodes_at}
 use Rattle.wire_codec.proofs.codec.packet.PacketCodec.front_packet_in.Goals as goal
+
+less_four : (n : ℕ) → 4 + n - 4 ≡ n
+less_four n = omega arith
 
 pub returns-clause-there : goal.returns-clause-there
 returns-clause-there c =
@@ -68,3 +71,42 @@ returns-then-not-passes-clause-there c = (
 pub returns-then-front-header-clause-there : goal.returns-then-front-header-clause-there
 returns-then-front-header-clause-there c =
     (λ e. absurd (false≢true e), λ there. absurd (let whole = there.3 in let less = c.if-front-header.true in let len = c.in-Some.ensures.len in omega (arith, whole, less, len)))
+
+pub returns-in_default-clause-packet : goal.returns-in_default-clause-packet
+returns-in_default-clause-packet c = tt
+
+pub returns-in_default-clause-decodes : goal.returns-in_default-clause-decodes
+returns-in_default-clause-decodes c some = absurd (false≢true some)
+
+pub returns-then-not-passes-clause-packet : goal.returns-then-not-passes-clause-packet
+returns-then-not-passes-clause-packet c = tt
+
+pub returns-then-not-passes-clause-decodes : goal.returns-then-not-passes-clause-decodes
+returns-then-not-passes-clause-decodes c some = absurd (false≢true some)
+
+pub returns-then-header-self-clause-packet : goal.returns-then-header-self-clause-packet
+returns-then-header-self-clause-packet c = tt
+
+pub returns-then-header-self-clause-decodes : goal.returns-then-header-self-clause-decodes
+returns-then-header-self-clause-decodes c some = absurd (false≢true some)
+
+pub returns-then-not-is_empty-clause-packet : goal.returns-then-not-is_empty-clause-packet
+returns-then-not-is_empty-clause-packet c = tt
+
+pub returns-then-not-is_empty-clause-decodes : goal.returns-then-not-is_empty-clause-decodes
+returns-then-not-is_empty-clause-decodes c some = absurd (false≢true some)
+
+pub returns-then-front-header-clause-packet : goal.returns-then-front-header-clause-packet
+returns-then-front-header-clause-packet c = tt
+
+pub returns-then-front-header-clause-decodes : goal.returns-then-front-header-clause-decodes
+returns-then-front-header-clause-decodes c some = absurd (false≢true some)
+
+pub returns-then-header-eq-MAX_PAYLOAD_LEN-clause-packet : goal.returns-then-header-eq-MAX_PAYLOAD_LEN-clause-packet
+returns-then-header-eq-MAX_PAYLOAD_LEN-clause-packet c = tt
+
+pub returns-then-header-eq-MAX_PAYLOAD_LEN-clause-decodes : goal.returns-then-header-eq-MAX_PAYLOAD_LEN-clause-decodes
+returns-then-header-eq-MAX_PAYLOAD_LEN-clause-decodes c some = absurd (false≢true some)
+
+pub returns-clause-packet : goal.returns-clause-packet
+returns-clause-packet c = ap (λ (n : ℕ). take n (drop 4 c.args.front.now)) (less_four c.in-Some.header.len ∙ c.in-Some.ensures.len)

@@ -45,3 +45,45 @@ returns-else-is_empty-clause-links g c =
     let some = eqb-false (length c.take.new.src.items) 0 (sym c.is_empty.ensures ∙ c.if-is_empty.false) in
     let known' = subst (λ (n : ℕ). DecodesChunk (header_of c.args.self.now) c.args.src.now.items (g.T.PacketDst.held c.args.dst.now) c.args.self.now.max_allowed_packet (Ok (Some (Middle n))) (remembered c.take.new.self) c.take.new.src.items (g.T.PacketDst.held c.take.new.dst)) c.if-id-expected-2.false known in
     (known', omega (arith, some), rises)
+
+pub returns-in-Err-clause-spelled : goal.returns-in-Err-clause-spelled
+returns-in-Err-clause-spelled g c = c.take.ensures.spelled
+
+pub returns-in-Err-clause-limit : goal.returns-in-Err-clause-limit
+returns-in-Err-clause-limit g c = refl
+
+pub returns-in-Ok-None-clause-spelled : goal.returns-in-Ok-None-clause-spelled
+returns-in-Ok-None-clause-spelled g c = c.take.ensures.spelled
+
+pub returns-in-Ok-None-clause-limit : goal.returns-in-Ok-None-clause-limit
+returns-in-Ok-None-clause-limit g c = refl
+
+pub returns-then-is_empty-clause-spelled : goal.returns-then-is_empty-clause-spelled
+returns-then-is_empty-clause-spelled g c = c.take.ensures.spelled
+
+pub returns-then-is_empty-clause-limit : goal.returns-then-is_empty-clause-limit
+returns-then-is_empty-clause-limit g c = refl
+
+pub returns-else-is_empty-clause-spelled : goal.returns-else-is_empty-clause-spelled
+returns-else-is_empty-clause-spelled g c = c.take.ensures.spelled
+
+pub returns-else-is_empty-clause-limit : goal.returns-else-is_empty-clause-limit
+returns-else-is_empty-clause-limit g c = refl
+
+pub returns-then-id-expected-clause-spelled : goal.returns-then-id-expected-clause-spelled
+returns-then-id-expected-clause-spelled g c = c.take.ensures.spelled
+
+pub returns-then-id-expected-clause-limit : goal.returns-then-id-expected-clause-limit
+returns-then-id-expected-clause-limit g c = refl
+
+pub returns-else-id-expected-clause-spelled : goal.returns-else-id-expected-clause-spelled
+returns-else-id-expected-clause-spelled g c = c.take.ensures.spelled
+
+pub returns-else-id-expected-clause-limit : goal.returns-else-id-expected-clause-limit
+returns-else-id-expected-clause-limit g c = refl
+
+pub returns-then-id-expected-2-clause-spelled : goal.returns-then-id-expected-2-clause-spelled
+returns-then-id-expected-2-clause-spelled g c = c.take.ensures.spelled
+
+pub returns-then-id-expected-2-clause-limit : goal.returns-then-id-expected-2-clause-limit
+returns-then-id-expected-2-clause-limit g c = refl

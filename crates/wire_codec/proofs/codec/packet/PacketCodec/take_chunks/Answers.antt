@@ -1,4 +1,5 @@
-use Rattle.std.proofs.Common.{subst, refl, inl, inr, ap, arith, ◌∙◌, ℕ, true, false, zero, suc, Ok, Err}
+use Rattle.std.proofs.Common.{subst, refl, sym, inl, inr, ap, arith, ◌∙◌, ℕ, true, false, zero, suc, Ok, Err}
+use Rattle.wire_codec.specs.declared.codec.error.PacketCodecError.TheVariants.{OutOfMemory}
 use Rattle.wire_codec.specs.declared.codec.packet.Progress.{Progress}
 use Rattle.wire_codec.specs.declared.codec.packet.Progress.TheVariants.{Whole, Starved, More}
 use Rattle.wire_codec.specs.Chain.{ChainFrom}
@@ -138,3 +139,18 @@ returns-in-Ok-Starved-clause-shorter g c said = absurd (no_true (Ok false) refl 
 
 pub returns-in-Err-clause-shorter : goal.returns-in-Err-clause-shorter
 returns-in-Err-clause-shorter g c said = absurd (no_ok (Err c.in-Err.refusal) c.in-Err.refusal _ refl said)
+
+pub returns-in-Err-clause-limit : goal.returns-in-Err-clause-limit
+returns-in-Err-clause-limit g c = c.take_chunk.ensures.limit ∙ c.chunks.invariant.same
+
+pub returns-in-Ok-Whole-clause-limit : goal.returns-in-Ok-Whole-clause-limit
+returns-in-Ok-Whole-clause-limit g c = c.take_chunk.ensures.limit ∙ c.chunks.invariant.same
+
+pub returns-in-Ok-Starved-clause-limit : goal.returns-in-Ok-Starved-clause-limit
+returns-in-Ok-Starved-clause-limit g c = c.take_chunk.ensures.limit ∙ c.chunks.invariant.same
+
+pub returns-in-Ok-Whole-clause-memory : goal.returns-in-Ok-Whole-clause-memory
+returns-in-Ok-Whole-clause-memory g c said = absurd (no_ok (Err OutOfMemory) OutOfMemory _ refl (sym said))
+
+pub returns-in-Ok-Starved-clause-memory : goal.returns-in-Ok-Starved-clause-memory
+returns-in-Ok-Starved-clause-memory g c said = absurd (no_ok (Err OutOfMemory) OutOfMemory _ refl (sym said))
