@@ -5,6 +5,7 @@ use crate::shown::{Fields, Shown};
 use mysql_wire_packets::places::read_exact;
 use refusing_allocator::Refusing;
 use std::alloc::Global;
+use std::mem::ManuallyDrop;
 use test_support::fields::is_written;
 use wire_buf::proto::{MyDeserialize, MySerialize};
 
@@ -69,6 +70,18 @@ impl Found {
         payload: Payload<'_>,
     ) -> Found {
         Found::of(alloc, kind, &packet, payload)
+    }
+
+    /// The same, where the packet is given up. It borrows from the payload, and owns no memory.
+    pub fn given_up<T: MySerialize + Shown>(
+        alloc: Global,
+        kind: Kind,
+        packet: T,
+        payload: Payload<'_>,
+    ) -> Found {
+        // (this names no destructor, for which one would be proved)
+        let packet = unsafe { ManuallyDrop::new_unchecked(packet) };
+        Found::of(alloc, kind, &*packet, payload)
     }
 
     /// Of a payload that is one packet of this type.

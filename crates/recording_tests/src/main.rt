@@ -21,9 +21,8 @@ use std::io::{self, Read, Write};
 use std::process::ExitCode;
 use tally::Tally;
 
-// Goes through the records, and writes what was found.
-fn go_through<W: Write>(alloc: Global, records: &[u8], output: &mut W) -> io::Result<()> {
-    let mut tally = Tally::new();
+// Goes through the records, and counts what is found. The answer is how many bytes are left.
+fn go_through(alloc: Global, records: &[u8], tally: &mut Tally) -> usize {
     let mut session = Session::new(alloc);
     let mut listed = None;
     let mut rest = records;
@@ -46,8 +45,13 @@ fn go_through<W: Write>(alloc: Global, records: &[u8], output: &mut W) -> io::Re
             }
         }
     }
+    rest.len()
+}
+
+// Writes what was found.
+fn write<W: Write>(tally: &Tally, left: usize, output: &mut W) -> io::Result<()> {
     tally.write(output)?;
-    writeln!(output, "left {}", rest.len())
+    writeln!(output, "left {left}")
 }
 
 fn main(rt: HostRuntime) -> ExitCode {
@@ -55,7 +59,9 @@ fn main(rt: HostRuntime) -> ExitCode {
     if rt.stdin().read_to_end(&mut records).is_err() {
         return ExitCode::from(2);
     }
-    match go_through(rt.alloc(), records.as_slice(), &mut rt.stdout()) {
+    let mut tally = Tally::new();
+    let left = go_through(rt.alloc(), records.as_slice(), &mut tally);
+    match write(&tally, left, &mut rt.stdout()) {
         Ok(()) => ExitCode::from(0),
         Err(_) => ExitCode::from(2),
     }

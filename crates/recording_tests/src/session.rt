@@ -115,9 +115,9 @@ impl Session {
         self.place = Place::Login;
         match ServerFirst::read(alloc, payload.bytes) {
             Ok(ServerFirst::Greeting(greeting)) => {
-                Found::taken(alloc, Kind::Greeting, greeting, payload)
+                Found::given_up(alloc, Kind::Greeting, greeting, payload)
             }
-            Ok(ServerFirst::Failed(error)) => Found::taken(alloc, Kind::Error, error, payload),
+            Ok(ServerFirst::Failed(error)) => Found::given_up(alloc, Kind::Error, error, payload),
             Err(_) => Found::refused(Kind::Greeting, payload),
         }
     }
@@ -133,7 +133,7 @@ impl Session {
                 {
                     self.mariadb = login.mariadb_capabilities.get();
                 }
-                Found::taken(alloc, Kind::Login, login, payload)
+                Found::given_up(alloc, Kind::Login, login, payload)
             }
             Ok(ClientFirst::Tls(request)) => {
                 // (the login follows)
@@ -148,13 +148,13 @@ impl Session {
         match AuthAnswer::read(alloc, self.capabilities, payload.bytes) {
             Ok(AuthAnswer::Done(ok)) => {
                 self.end(ok.status_flags);
-                Found::taken(alloc, Kind::Ok, ok, payload)
+                Found::given_up(alloc, Kind::Ok, ok, payload)
             }
-            Ok(AuthAnswer::Failed(error)) => Found::taken(alloc, Kind::Error, error, payload),
+            Ok(AuthAnswer::Failed(error)) => Found::given_up(alloc, Kind::Error, error, payload),
             Ok(AuthAnswer::Switch(request)) => {
-                Found::taken(alloc, Kind::AuthSwitch, request, payload)
+                Found::given_up(alloc, Kind::AuthSwitch, request, payload)
             }
-            Ok(AuthAnswer::MoreData(more)) => Found::taken(alloc, Kind::MoreData, more, payload),
+            Ok(AuthAnswer::MoreData(more)) => Found::given_up(alloc, Kind::MoreData, more, payload),
             Err(_) => Found::refused(Kind::AuthSwitch, payload),
         }
     }
@@ -165,19 +165,19 @@ impl Session {
         match ClientCommand::read(alloc, self.capabilities, payload.bytes) {
             Ok(ClientCommand::Quit(quit)) => {
                 self.place = Place::End;
-                Found::taken(alloc, Kind::Quit, quit, payload)
+                Found::given_up(alloc, Kind::Quit, quit, payload)
             }
             Ok(ClientCommand::InitDb(init)) => {
-                Found::taken(alloc, Kind::InitDatabase, init, payload)
+                Found::given_up(alloc, Kind::InitDatabase, init, payload)
             }
-            Ok(ClientCommand::Query(query)) => Found::taken(alloc, Kind::Query, query, payload),
+            Ok(ClientCommand::Query(query)) => Found::given_up(alloc, Kind::Query, query, payload),
             Ok(ClientCommand::AttributedQuery(query)) => {
-                Found::taken(alloc, Kind::Query, query, payload)
+                Found::given_up(alloc, Kind::Query, query, payload)
             }
-            Ok(ClientCommand::Ping(ping)) => Found::taken(alloc, Kind::Ping, ping, payload),
+            Ok(ClientCommand::Ping(ping)) => Found::given_up(alloc, Kind::Ping, ping, payload),
             Ok(ClientCommand::ChangeUser(change)) => {
                 self.place = Place::Authentication;
-                Found::taken(alloc, Kind::ChangeUser, change, payload)
+                Found::given_up(alloc, Kind::ChangeUser, change, payload)
             }
             Err(PayloadError::OtherHeader(header)) => self.other_command(alloc, header, payload),
             Err(_) => Found::refused(Kind::Query, payload),
@@ -264,12 +264,12 @@ impl Session {
         match QueryAnswer::read(alloc, self.capabilities, self.mariadb, payload.bytes) {
             Ok(QueryAnswer::Done(ok)) => {
                 self.end(ok.status_flags);
-                Found::taken(alloc, Kind::Ok, ok, payload)
+                Found::given_up(alloc, Kind::Ok, ok, payload)
             }
-            Ok(QueryAnswer::Failed(error)) => Found::taken(alloc, Kind::Error, error, payload),
+            Ok(QueryAnswer::Failed(error)) => Found::given_up(alloc, Kind::Error, error, payload),
             Ok(QueryAnswer::File(request)) => {
                 self.place = Place::File;
-                Found::taken(alloc, Kind::LocalInfile, request, payload)
+                Found::given_up(alloc, Kind::LocalInfile, request, payload)
             }
             Ok(QueryAnswer::Columns(count)) => {
                 self.columns = count.column_count;
@@ -280,7 +280,7 @@ impl Session {
                     self.types.clear();
                     self.definitions(Defined::Rows, count.column_count)
                 };
-                Found::taken(alloc, Kind::ColumnCount, count, payload)
+                Found::given_up(alloc, Kind::ColumnCount, count, payload)
             }
             Err(_) => Found::refused(Kind::ColumnCount, payload),
         }
@@ -297,7 +297,7 @@ impl Session {
                     self.statements.add(alloc, prepared),
                 )
             }
-            Ok(PrepareAnswer::Failed(error)) => Found::taken(alloc, Kind::Error, error, payload),
+            Ok(PrepareAnswer::Failed(error)) => Found::given_up(alloc, Kind::Error, error, payload),
             Err(_) => Found::refused(Kind::Prepared, payload),
         }
     }
@@ -331,7 +331,7 @@ impl Session {
         match read_whole::<ColumnDefinition41<'_>>(alloc, self.mariadb, payload.bytes) {
             Ok(column) => {
                 let is_known = self.knows(of, column.column_type);
-                Found::taken(alloc, Kind::Column, column, payload).and(is_known)
+                Found::given_up(alloc, Kind::Column, column, payload).and(is_known)
             }
             Err(_) => Found::refused(Kind::Column, payload),
         }
@@ -356,15 +356,15 @@ impl Session {
             }
             Ok(RowAnswer::Eof(eof)) => {
                 self.end(eof.status_flags);
-                Found::taken(alloc, Kind::Eof, eof, payload)
+                Found::given_up(alloc, Kind::Eof, eof, payload)
             }
             Ok(RowAnswer::End(end)) => {
                 self.end(end.status_flags);
-                Found::taken(alloc, Kind::Eof, end, payload)
+                Found::given_up(alloc, Kind::Eof, end, payload)
             }
             Ok(RowAnswer::Failed(error)) => {
                 self.place = Place::Command;
-                Found::taken(alloc, Kind::Error, error, payload)
+                Found::given_up(alloc, Kind::Error, error, payload)
             }
             Err(_) => Found::refused(Kind::Row, payload),
         }

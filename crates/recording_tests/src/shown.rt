@@ -209,6 +209,8 @@ impl Shown for HandshakeV10<'_> {
             Field::Number(self.filler as u64),
             Field::Number(self.capability_flags_1.0 as u64),
             Field::Number(self.character_set as u64),
+        ]);
+        fields.put_all(&[
             Field::Number(self.status_flags.0 as u64),
             Field::Number(self.capability_flags_2.0 as u64),
             Field::Number(self.auth_plugin_data_len as u64),
