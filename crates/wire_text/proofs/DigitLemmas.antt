@@ -1,6 +1,6 @@
 -- Digits that are made sixteen bytes at a time.
 use Rattle.std.proofs.Common.{◌≡◌, ℕ, zero, suc, ◌+◌, ◌-◌, ◌*◌, ◌/◌, ◌%◌, ◌<◌, ◌≤◌, List, [], ◌∷◌, ◌++◌, map, length, take, drop, get_or, Result, Ok, Err, OnErr, refl, sym, ap, ap₂, ◌∙◌, append-nil, append_assoc, take-append-drop, arith, w8, Fits}
-use Rattle.std.proofs.lemmas.List.{length-map, length-take, get_or-map, get_or_append_left, get_or-append_right, drop_more, drop_all, ext_get_or, take-append-le, take_all}
+use Rattle.std.proofs.lemmas.List.{length-append, length-drop, length-map, length-take, get_or-map, get_or_append_left, get_or-append_right, drop_more, drop_all, ext_get_or, take-append-le, take_all}
 use Rattle.std.proofs.lemmas.Simd.{Each1-from_get_or, Each1-get_or, swz_l, SwzOk, SwzOk-from_below, length-swz_l, get_or-swz_l_below}
 use Rattle.std.proofs.lemmas.Bool.{and_parts, ltb-true}
 use Rattle.std.specs.Prelude.{◌&&◌, Bool, nat_lt, slice_index, true}
@@ -121,6 +121,18 @@ pub last_pushed : (bytes copied more digits held left : List ℕ) → copied ≡
 last_pushed bytes copied more digits held left copied_is digits_is left_is =
     left_is ∙ ap (λ (z : List ℕ). held ++ z)
     (ap (take (2 * length bytes)) (digits_is ∙ ap (λ (z : List ℕ). encode_lower (z ++ more)) copied_is) ∙ front_digits bytes more)
+
+-- a block that bytes begin, and its digits
+pub part_of_block : (n : ℕ) (block : List ℕ) → length block ≡ 16 → n ≤ 16 → length (take n block) ≡ n
+part_of_block n block long few = omega (arith, length-take n block)
+
+pub whole_block : (bytes copied block : List ℕ) → copied ≡ bytes → length block ≡ 16 → length bytes ≤ 16 → length (copied ++ drop (length bytes) block) ≡ 16
+whole_block bytes copied block is long few =
+    let one = length-append copied (drop (length bytes) block) in
+    let other = length-drop (length bytes) block in omega (arith, one, other, ap length is)
+
+pub block_digits : (n : ℕ) (block digits : List ℕ) → digits ≡ encode_lower block → length block ≡ 16 → n ≤ 16 → 2 * n ≤ length digits
+block_digits n block digits is long few = omega (arith, ap length is, length_digits lower_digits block)
 
 -- how many digits a block has
 pub digits_of_block : (n : ℕ) (rest block behind digits : List ℕ) → block ≡ take n rest → length behind + n ≡ length rest → digits ≡ encode_lower block

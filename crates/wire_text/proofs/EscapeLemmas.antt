@@ -1,5 +1,5 @@
 -- What stands for a byte where JSON quotes it.
-use Rattle.std.proofs.Common.{◌≡◌, ℕ, zero, suc, ◌+◌, ◌*◌, ◌-◌, ◌/◌, ◌%◌, ◌<◌, ◌≤◌, ◌⊎◌, inl, inr, leb, eqb, cond, drop, take, List, [], ◌∷◌, ◌++◌, Bool, true, false, refl, ap, ap₂, sym, subst, ◌∙◌, append_assoc, append-nil, take-append-drop, arith, length, get_or}
+use Rattle.std.proofs.Common.{◌≡◌, ℕ, zero, suc, ◌+◌, ◌*◌, ◌-◌, ◌/◌, ◌%◌, ◌<◌, ◌≤◌, ◌⊎◌, inl, inr, leb, eqb, cond, drop, take, List, [], ◌∷◌, ◌++◌, Bool, true, false, refl, ap, ap₂, sym, subst, ◌∙◌, append_assoc, append-nil, take-append-drop, arith, length, get_or, Result, Ok, Err, OnOk, OnErr}
 use Rattle.std.proofs.lemmas.Bool.{and_parts, eqb-true}
 use Rattle.std.proofs.lemmas.Bool.Decides.{leb_tells}
 use Rattle.std.proofs.lemmas.Grind.{flat_map-append}
@@ -8,6 +8,7 @@ use Rattle.std.proofs.lemmas.List.Sums.{prefix_len-le-length}
 use Rattle.std.proofs.Math.Nat.{min-le_left}
 use Rattle.std.specs.List.{prefix_len}
 use Rattle.std.specs.Prelude.{◌&&◌, if◌then◌else◌, slice_index_or}
+use Rattle.std.specs.Result.{is_ok}
 use Rattle.json.specs.Print.{escape, escape_byte, quoted}
 use Rattle.wire_text.specs.Fields.{escape_mark, needs_no_escape, none_needs_escape}
 use Rattle.wire_text.proofs.FieldLemmas.{escape-none_needs_escape, is_false}
@@ -245,6 +246,33 @@ filled_front words put behind is =
 pub quoted_put : (words text filled : List ℕ) → filled ≡ 34 ∷ escape words → text ≡ filled ++ 34 ∷ [] → text ≡ quoted words
 quoted_put words text filled filled_is is = is ∙ ap (λ (z : List ℕ). z ++ 34 ∷ []) filled_is
 
+-- the room that is needed
+pub first_long : (source : List ℕ) → length source ≡ 32 → length (take 16 source) ≡ 16
+first_long source long = omega (arith, length-take 16 source)
+
+pub part_few : (len : ℕ) → len ≤ 16 → len < 64
+part_few len few = omega arith
+
+pub part_fits : (begin : ℕ) (source room : List ℕ) → length source ≡ 32 → begin + 112 ≤ length room → begin + length (take 16 source) ≤ length room
+part_fits begin source room long fits = omega (arith, first_long source long)
+
+pub part_room : (begin size : ℕ) → begin + 112 ≤ size → begin + 32 ≤ size
+part_room begin size fits = omega arith
+
+pub runs_room : (begin len size : ℕ) → len ≤ 16 → begin + 112 ≤ size → begin + 6 * len + 16 ≤ size
+runs_room begin len size few fits = omega arith
+
+pub run_fits : (begin at done len size : ℕ) (source room : List ℕ) → length room ≡ size → at ≤ begin + 6 * done → done ≤ len → begin + 6 * len + 16 ≤ size
+    → at + length (take (done + 16 - done) (drop done source)) ≤ length room
+run_fits begin at done len size source room same begun within fits = omega (arith, length-take (done + 16 - done) (drop done source))
+
+pub byte_fits : (begin at done run len size : ℕ) (old room : List ℕ) → length room ≡ length old → length old ≡ size → at ≤ begin + 6 * done → done + run < len → begin + 6 * len + 16 ≤ size
+    → at + run + 8 ≤ length room
+byte_fits begin at done run len size old room kept same begun within fits = omega arith
+
+pub less_left : (len done run : ℕ) → done + run < len → len - (done + (run + 1)) < len - done
+less_left len done run within = omega arith
+
 -- ---- block by block
 
 -- the escapes of what is done of some bytes stand after what was held, and this is left of them
@@ -276,6 +304,34 @@ all_escaped words rest held text left so_far left_is =
 pub held_first : (held more text : List ℕ) → text ≡ held ++ more → take (length held) text ≡ held
 held_first held more text is =
     ap (take (length held)) is ∙ take-append-le (length held) held more (omega arith) ∙ take_all (length held) held (omega arith)
+
+-- a text between quotes, where an answer says that all of it was put
+pub all_quoted : {T E : Type 0} (result : Result T E) (words held mid text : List ℕ) → mid ≡ held ++ (34 ∷ escape words)
+    → text ≡ (if is_ok result then mid ++ (34 ∷ []) else mid) → OnOk result (text ≡ held ++ quoted words)
+all_quoted (Ok _) words held mid text mid_is is =
+    is ∙ ap (λ (z : List ℕ). z ++ (34 ∷ [])) mid_is ∙ append_assoc held (34 ∷ escape words) (34 ∷ [])
+all_quoted (Err _) words held mid text mid_is is = tt
+
+-- what is appended is put, or nothing is
+pub put_ok : {T E : Type 0} (result : Result T E) (held more said text : List ℕ) → more ≡ said → text ≡ (if is_ok result then held ++ more else held)
+    → OnOk result (text ≡ held ++ said)
+put_ok (Ok _) held more said text same is = is ∙ ap (λ (z : List ℕ). held ++ z) same
+put_ok (Err _) held more said text same is = tt
+
+pub kept_err : {T E : Type 0} (result : Result T E) (held more text : List ℕ) → text ≡ (if is_ok result then held ++ more else held) → OnErr result (text ≡ held)
+kept_err (Ok _) held more text is = tt
+kept_err (Err _) held more text is = is
+
+-- what an answer says of the last block
+pub all_done : {T E : Type 0} (result : Result T E) (words rest held text left : List ℕ) → Escaped words rest held text → OnOk result (left ≡ text ++ escape rest)
+    → OnOk result (left ≡ held ++ escape words)
+all_done (Ok _) words rest held text left so_far is = all_escaped words rest held text left so_far is
+all_done (Err _) words rest held text left so_far is = tt
+
+pub done_first : {T E : Type 0} (result : Result T E) (words rest held text left : List ℕ) → Escaped words rest held text → OnOk result (left ≡ text ++ escape rest)
+    → OnErr result (left ≡ text) → take (length held) left ≡ held
+done_first (Ok _) words rest held text left so_far is other = held_first held (escape words) left (all_escaped words rest held text left so_far is)
+done_first (Err _) words rest held text left so_far is other = held_first held (escape so_far.0) left (other ∙ so_far.2)
 
 pub still_first : (held more mid text : List ℕ) → mid ≡ held ++ more → take (length mid) text ≡ mid → take (length held) text ≡ held
 still_first held more mid text mid_is front =

@@ -11,7 +11,7 @@ use Rattle.std.proofs.lemmas.List.Folds.{list_all-append}
 use Rattle.std.specs.List.{flat_map}
 use Rattle.std.specs.Str.{IsAscii, IsUtf8, is_utf8}
 use Rattle.std.specs.Fmt.{decimal}
-use Rattle.std.specs.Result.{is_err}
+use Rattle.std.specs.Result.{is_err, IsErr}
 use Rattle.std.proofs.lemmas.Fmt.{decimal_digit, decimal_step}
 use Rattle.std.specs.String.Boundary.{IsSplitPoint}
 use Rattle.std.proofs.lemmas.Str.{IsCharBoundary-from_take, IsUtf8-append, IsUtf8-from_ascii, IsUtf8-from_is_utf8, is_utf8-from_IsUtf8}
@@ -212,6 +212,29 @@ two_between front back (one ∷ []) front_is back_is name_is some few = absurd (
 two_between front back (one ∷ two ∷ []) front_is back_is name_is some few = utf8_between front back (one ∷ two ∷ []) front_is back_is name_is
 two_between front back (one ∷ two ∷ three ∷ more) front_is back_is name_is some few = absurd (omega (arith, few))
 
+-- a name of two
+two_of : (name : List ℕ) → 2 ≤ length name → length name < 3 → slice_index_or name 0 0 ∷ slice_index_or name 1 0 ∷ [] ≡ name
+two_of [] some few = absurd (omega (arith, some))
+two_of (one ∷ []) some few = absurd (omega (arith, some))
+two_of (one ∷ two ∷ []) some few = refl
+two_of (one ∷ two ∷ three ∷ more) some few = absurd (omega (arith, few))
+
+-- what was put, between words, of the bytes of a name
+pub one_put : {T E : Type 0} (result : Result T E) (front back bytes name tail old new : List ℕ) → bytes ≡ name → 1 ≤ length bytes → length bytes < 2
+    → OnOk result (new ≡ old ++ ((front ++ (slice_index_or bytes 0 0 ∷ back)) ++ tail)) → OnOk result (new ≡ old ++ ((front ++ (name ++ back)) ++ tail))
+one_put result front back bytes name tail old new is some few put =
+    subst (λ (z : List ℕ). OnOk result (new ≡ old ++ ((front ++ (z ++ back)) ++ tail))) (one_of bytes some few ∙ is) put
+
+pub two_put : {T E : Type 0} (result : Result T E) (front back bytes name tail old new : List ℕ) → bytes ≡ name → 2 ≤ length bytes → length bytes < 3
+    → OnOk result (new ≡ old ++ ((front ++ (slice_index_or bytes 0 0 ∷ slice_index_or bytes 1 0 ∷ back)) ++ tail)) → OnOk result (new ≡ old ++ ((front ++ (name ++ back)) ++ tail))
+two_put result front back bytes name tail old new is some few put =
+    subst (λ (z : List ℕ). OnOk result (new ≡ old ++ ((front ++ (z ++ back)) ++ tail))) (two_of bytes some few ∙ is) put
+
+-- a refusal says nothing of what was put
+pub none_put : {T E : Type 0} (result : Result T E) (P : Type 0) → IsErr result → OnOk result P
+none_put (Ok _) P is = absurd (false≢true is)
+none_put (Err _) P is = tt
+
 -- a text that needs no escape
 pub standing_words : (form : MemberForm) (words : List ℕ) → IsUtf8 words → none_needs_escape words ≡ true → value_text form (Words words) ≡ value_text form (Word words)
 standing_words form words utf8 stands = rw (is_utf8-from_IsUtf8 words utf8, escape-none_needs_escape words stands) refl
@@ -238,6 +261,69 @@ pub member_named : (form : MemberForm) (first : Bool) (name : List ℕ) (value :
 member_named member.Text first name value = simp append_assoc
 member_named member.Json true name value = simp append_assoc
 member_named member.Json false name value = simp append_assoc
+
+-- a name on a line of its own, or after another member, and what was put after it
+pub line_put : {T E : Type 0} (result : Result T E) (form : MemberForm) (first : Bool) (name back whole old new : List ℕ) → form ≡ member.Text
+    → name_part form first name ++ back ≡ whole → OnOk result (new ≡ old ++ (codes "\n  " ++ (name ++ (32 ∷ back)))) → OnOk result (new ≡ old ++ whole)
+line_put result form first name back whole old new is all put =
+    subst (λ (z : List ℕ). OnOk result (new ≡ old ++ z))
+    (ap (λ (z : List ℕ). codes "\n  " ++ z) (sym (append_assoc name (32 ∷ []) back)) ∙ ap (λ (f : MemberForm). name_part f first name ++ back) (sym is) ∙ all) put
+
+pub pair_put : {T E : Type 0} (result : Result T E) (form : MemberForm) (first : Bool) (name back whole old new : List ℕ) → form ≡ member.Json → first ≡ false
+    → name_part form first name ++ back ≡ whole → OnOk result (new ≡ old ++ (codes ",\"" ++ (name ++ (34 ∷ 58 ∷ back)))) → OnOk result (new ≡ old ++ whole)
+pair_put result form first name back whole old new is later all put =
+    subst (λ (z : List ℕ). OnOk result (new ≡ old ++ z))
+    (ap (λ (z : List ℕ). codes ",\"" ++ z) (sym (append_assoc name (34 ∷ 58 ∷ []) back)) ∙ ap₂ (λ (f : MemberForm) (b : Bool). name_part f b name ++ back) (sym is) (sym later) ∙ all) put
+
+-- the same of a name of one byte, or two, that was put by its bytes
+pub line_of_one : {T E : Type 0} (result : Result T E) (form : MemberForm) (first : Bool) (bytes name back whole old new : List ℕ) → form ≡ member.Text → bytes ≡ name
+    → 1 ≤ length bytes → length bytes < 2 → name_part form first name ++ back ≡ whole
+    → OnOk result (new ≡ old ++ (10 ∷ 32 ∷ 32 ∷ slice_index_or bytes 0 0 ∷ 32 ∷ back)) → OnOk result (new ≡ old ++ whole)
+line_of_one result form first bytes name back whole old new is bytes_are some few all put =
+    line_put result form first name back whole old new is all
+    (subst (λ (z : List ℕ). OnOk result (new ≡ old ++ (10 ∷ 32 ∷ 32 ∷ (z ++ (32 ∷ back))))) (one_of bytes some few ∙ bytes_are) put)
+
+pub line_of_two : {T E : Type 0} (result : Result T E) (form : MemberForm) (first : Bool) (bytes name back whole old new : List ℕ) → form ≡ member.Text → bytes ≡ name
+    → 2 ≤ length bytes → length bytes < 3 → name_part form first name ++ back ≡ whole
+    → OnOk result (new ≡ old ++ (10 ∷ 32 ∷ 32 ∷ slice_index_or bytes 0 0 ∷ slice_index_or bytes 1 0 ∷ 32 ∷ back)) → OnOk result (new ≡ old ++ whole)
+line_of_two result form first bytes name back whole old new is bytes_are some few all put =
+    line_put result form first name back whole old new is all
+    (subst (λ (z : List ℕ). OnOk result (new ≡ old ++ (10 ∷ 32 ∷ 32 ∷ (z ++ (32 ∷ back))))) (two_of bytes some few ∙ bytes_are) put)
+
+pub pair_of_one : {T E : Type 0} (result : Result T E) (form : MemberForm) (first : Bool) (bytes name back whole old new : List ℕ) → form ≡ member.Json → first ≡ false → bytes ≡ name
+    → 1 ≤ length bytes → length bytes < 2 → name_part form first name ++ back ≡ whole
+    → OnOk result (new ≡ old ++ (44 ∷ 34 ∷ slice_index_or bytes 0 0 ∷ 34 ∷ 58 ∷ back)) → OnOk result (new ≡ old ++ whole)
+pair_of_one result form first bytes name back whole old new is later bytes_are some few all put =
+    pair_put result form first name back whole old new is later all
+    (subst (λ (z : List ℕ). OnOk result (new ≡ old ++ (44 ∷ 34 ∷ (z ++ (34 ∷ 58 ∷ back))))) (one_of bytes some few ∙ bytes_are) put)
+
+pub pair_of_two : {T E : Type 0} (result : Result T E) (form : MemberForm) (first : Bool) (bytes name back whole old new : List ℕ) → form ≡ member.Json → first ≡ false → bytes ≡ name
+    → 2 ≤ length bytes → length bytes < 3 → name_part form first name ++ back ≡ whole
+    → OnOk result (new ≡ old ++ (44 ∷ 34 ∷ slice_index_or bytes 0 0 ∷ slice_index_or bytes 1 0 ∷ 34 ∷ 58 ∷ back)) → OnOk result (new ≡ old ++ whole)
+pair_of_two result form first bytes name back whole old new is later bytes_are some few all put =
+    pair_put result form first name back whole old new is later all
+    (subst (λ (z : List ℕ). OnOk result (new ≡ old ++ (44 ∷ 34 ∷ (z ++ (34 ∷ 58 ∷ back))))) (two_of bytes some few ∙ bytes_are) put)
+
+-- the quote after a name, and words
+pub line_words : {T E : Type 0} (result : Result T E) (form : MemberForm) (first : Bool) (name tail old new : List ℕ) → form ≡ member.Text
+    → OnOk result (new ≡ old ++ ((codes "\n  " ++ (name ++ (32 ∷ 34 ∷ []))) ++ tail)) → OnOk result (new ≡ old ++ ((name_part form first name ++ (34 ∷ [])) ++ tail))
+line_words result form first name tail old new is put =
+    subst (λ (z : List ℕ). OnOk result (new ≡ old ++ (z ++ tail)))
+    (ap (λ (z : List ℕ). codes "\n  " ++ z) (sym (append_assoc name (32 ∷ []) (34 ∷ []))) ∙ ap (λ (f : MemberForm). name_part f first name ++ (34 ∷ [])) (sym is)) put
+
+pub first_words : {T E : Type 0} (result : Result T E) (form : MemberForm) (first : Bool) (name tail old new : List ℕ) → form ≡ member.Json → first ≡ true
+    → OnOk result (new ≡ old ++ ((codes ",\"fields\":{\"" ++ (name ++ (34 ∷ 58 ∷ 34 ∷ []))) ++ tail)) → OnOk result (new ≡ old ++ ((name_part form first name ++ (34 ∷ [])) ++ tail))
+first_words result form first name tail old new is begins put =
+    subst (λ (z : List ℕ). OnOk result (new ≡ old ++ (z ++ tail)))
+    (ap (λ (z : List ℕ). codes ",\"fields\":{\"" ++ z) (sym (append_assoc name (34 ∷ 58 ∷ []) (34 ∷ [])))
+    ∙ ap₂ (λ (f : MemberForm) (b : Bool). name_part f b name ++ (34 ∷ [])) (sym is) (sym begins)) put
+
+pub pair_words : {T E : Type 0} (result : Result T E) (form : MemberForm) (first : Bool) (name tail old new : List ℕ) → form ≡ member.Json → first ≡ false
+    → OnOk result (new ≡ old ++ ((codes ",\"" ++ (name ++ (34 ∷ 58 ∷ 34 ∷ []))) ++ tail)) → OnOk result (new ≡ old ++ ((name_part form first name ++ (34 ∷ [])) ++ tail))
+pair_words result form first name tail old new is later put =
+    subst (λ (z : List ℕ). OnOk result (new ≡ old ++ (z ++ tail)))
+    (ap (λ (z : List ℕ). codes ",\"" ++ z) (sym (append_assoc name (34 ∷ 58 ∷ []) (34 ∷ [])))
+    ∙ ap₂ (λ (f : MemberForm) (b : Bool). name_part f b name ++ (34 ∷ [])) (sym is) (sym later)) put
 
 -- the first name of an object, and the quote after it
 pub first_front : (form : MemberForm) (first : Bool) (name : List ℕ) → form ≡ member.Json → first ≡ true
@@ -344,3 +430,21 @@ pub end_pushed : {T E : Type 0} (result : Result T E) (form : FieldForm) (shown 
 end_pushed (Ok _) form shown begin len all new old old_is form_is within long new_is =
     end_after form shown begin all new (len == begin) form_is within (ap (λ (n : ℕ). n == begin) long) new_is ∙ ap ended (sym old_is)
 end_pushed (Err _) form shown begin len all new old old_is form_is within long new_is = tt
+
+-- where fields are shown, they aren't hidden
+pub shown_hidden : (form : FieldForm) (given : Option MemberForm) (shown : MemberForm) → given ≡ member_form form → given ≡ Some shown → form ≡ Hidden → ⊥
+shown_hidden form given shown is some hidden =
+    let none : ◌≡◌ {A = Option MemberForm} None (Some shown) = sym (ap member_form hidden) ∙ sym is ∙ some in cc
+
+-- answers that differ
+pub true_is_false : {E : Type 0} → ◌≡◌ {A = Result Bool E} (Ok true) (Ok false) → ⊥
+true_is_false is = cc
+
+pub false_is_true : {E : Type 0} → ◌≡◌ {A = Result Bool E} (Ok false) (Ok true) → ⊥
+false_is_true is = cc
+
+pub refused_is : {A E : Type 0} (error : E) (answer : A) → Err error ≡ Ok answer → ⊥
+refused_is error answer is = cc
+
+pub less_in : (len most there : ℕ) → len ≤ most → most ≤ there → len ≤ there
+less_in len most there few long = omega arith

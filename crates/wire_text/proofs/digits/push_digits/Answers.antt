@@ -1,3 +1,4 @@
+use Rattle.wire_text.proofs.FieldLemmas.{none_put}
 use Rattle.std.proofs.Common.{◌≡◌, ◌+◌, ◌*◌, List, ℕ, OnOk, length, vec_len, vec_capacity, subst, arith}
 use Rattle.wire_text.specs.Digits.{Pushed}
 use Rattle.wire_text.proofs.DigitLemmas.{block_more, all_pushed, digits_of_block, never_full}
@@ -34,3 +35,13 @@ returns-clause-ok g c =
 pub returns-clause-err : goal.returns-clause-err
 returns-clause-err g c =
     never_full c.push_last_digits.result _ (vec_len c.loop-block.text) (2 * length c.loop-block.rest.now) (vec_capacity c.loop-block.text) c.push_last_digits.ensures.full c.loop-block.invariant.1
+
+pub returns-in_err-reserve-clause-ok : goal.returns-in_err-reserve-clause-ok
+returns-in_err-reserve-clause-ok g c = none_put c.from_residual.result _ c.from_residual.ensures.0
+
+pub returns-in_err-rest-clause-ok : goal.returns-in_err-rest-clause-ok
+returns-in_err-rest-clause-ok g c = none_put c.from_residual-in_err-rest.result _ c.from_residual-in_err-rest.ensures.0
+
+pub returns-in_err-extend_from_slice-clause-ok : goal.returns-in_err-extend_from_slice-clause-ok
+returns-in_err-extend_from_slice-clause-ok g c =
+    none_put c.from_residual-in_err-extend_from_slice.result _ c.from_residual-in_err-extend_from_slice.ensures.0

@@ -12,3 +12,12 @@ push_short_at-requires-clause-plain g c =
 
 pub returns : goal.returns
 returns g c = rw (← take-take c.args.len 32 c.args.bytes.now c.requires.within) c.push_short_at.ensures
+
+pub returns-then-plain_in_front-len : goal.returns-then-plain_in_front-len
+returns-then-plain_in_front-len g c = c.push_other_at.ensures
+
+pub push_other_at-requires-clause-long : goal.push_other_at-requires-clause-long
+push_other_at-requires-clause-long g c = c.requires.long
+
+pub push_other_at-requires-clause-within : goal.push_other_at-requires-clause-within
+push_other_at-requires-clause-within g c = c.requires.within

@@ -1,5 +1,5 @@
 use Rattle.std.proofs.Common.{[], ◌∷◌, ◌≡◌, ◌++◌, ◌∙◌, List, OnOk, codes, refl, string_bytes, subst, take, ℕ}
-use Rattle.wire_text.proofs.FieldLemmas.{joined, one_between, one_of}
+use Rattle.wire_text.proofs.FieldLemmas.{joined, one_between, one_of, none_put}
 use Rattle.wire_text.proofs.members.push_short_first.Goals as goal
 
 pub push_with_front-requires-clause-letters : goal.push_with_front-requires-clause-letters
@@ -19,3 +19,24 @@ returns-in_ok-push_between-in_default g c =
     let front = codes ",\"fields\":{\"" ++ c.args.name.now ++ codes "\":\"" in
     joined c.push_with_front-in_default.result (string_bytes c.args.text.now) (string_bytes c.push_between.new.text) (string_bytes c.push_with_front-in_default.new.text)
     front words (front ++ words) c.in_ok-push_between-in_default.ensures c.push_with_front-in_default.ensures refl
+
+pub returns-in_err-push_between-in_default : goal.returns-in_err-push_between-in_default
+returns-in_err-push_between-in_default g c = none_put c.from_residual.result _ c.from_residual.ensures.0
+
+pub push_with_front-requires-clause-within : goal.push_with_front-requires-clause-within
+push_with_front-requires-clause-within g c = c.requires.within
+
+pub push_with_front-requires-clause-words : goal.push_with_front-requires-clause-words
+push_with_front-requires-clause-words g c = c.requires.words
+
+pub push_with_front-requires-clause-behind : goal.push_with_front-requires-clause-behind
+push_with_front-requires-clause-behind g c = c.requires.behind
+
+pub push_with_front-requires-in_default-clause-within : goal.push_with_front-requires-in_default-clause-within
+push_with_front-requires-in_default-clause-within g c = c.requires.within
+
+pub push_with_front-requires-in_default-clause-words : goal.push_with_front-requires-in_default-clause-words
+push_with_front-requires-in_default-clause-words g c = c.requires.words
+
+pub push_with_front-requires-in_default-clause-behind : goal.push_with_front-requires-in_default-clause-behind
+push_with_front-requires-in_default-clause-behind g c = c.requires.behind

@@ -31,3 +31,9 @@ returns g c =
       ← c.two_digits-digits.ensures.is,
       ← c.name_of-2.ensures,
     ) c.push_short-2.ensures
+
+pub name_of-requires : goal.name_of-requires
+name_of-requires g c = c.one_digit-digit.ensures.utf8
+
+pub name_of-requires-2 : goal.name_of-requires-2
+name_of-requires-2 g c = c.two_digits-digits.ensures.utf8

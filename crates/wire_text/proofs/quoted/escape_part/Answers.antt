@@ -5,7 +5,7 @@ use Rattle.std.specs.Simd.Lanes.{mask_l}
 use Rattle.json.specs.Print.{escape}
 use Rattle.wire_text.specs.Backslashes.{backslashed}
 use Rattle.wire_text.specs.Fields.{needs_escape, none_needs_escape}
-use Rattle.wire_text.proofs.EscapeLemmas.{FilledTo, filled_begins, filled_by}
+use Rattle.wire_text.proofs.EscapeLemmas.{FilledTo, filled_begins, filled_by, first_long, part_few, part_fits, part_room, runs_room}
 use Rattle.wire_text.proofs.BackslashLemmas.{first_letters, first_need_none}
 use Rattle.wire_text.proofs.quoted.escape_part.Goals as goal
 
@@ -43,3 +43,29 @@ returns c =
       put.1 ∙ ap (λ (z : List ℕ). take c.args.begin c.args.room.now ++ z) (sym escapes ∙ ap escape (take-take c.args.len 16 source c.requires.within)),
       c.put_sixteen.ensures.long,
     )
+
+pub returns-then-control_bits-within-ne0 : goal.returns-then-control_bits-within-ne0
+returns-then-control_bits-within-ne0 c = c.escape_runs.ensures
+
+pub put_block-requires : goal.put_block-requires
+put_block-requires c = part_fits c.args.begin c.args.source.now c.args.room.now c.requires.long c.requires.room
+
+pub overflow_shl-within : goal.overflow_shl-within
+overflow_shl-within c = part_few c.args.len c.requires.within
+
+pub slice_bounds-block-end : goal.slice_bounds-block-end
+slice_bounds-block-end c = sym (first_long c.args.source.now c.requires.long)
+
+pub put_sixteen-requires-clause-room : goal.put_sixteen-requires-clause-room
+put_sixteen-requires-clause-room c = part_room c.args.begin (length c.args.room.now) c.requires.room
+
+pub put_sixteen-requires-clause-within : goal.put_sixteen-requires-clause-within
+put_sixteen-requires-clause-within c = c.requires.within
+
+pub escape_runs-requires : goal.escape_runs-requires
+escape_runs-requires c =
+    record {
+      long = c.requires.long;
+      within = c.requires.within;
+      room = runs_room c.args.begin c.args.len (length c.args.room.now) c.requires.within c.requires.room;
+    }
