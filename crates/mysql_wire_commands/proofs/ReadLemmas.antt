@@ -1,11 +1,21 @@
 -- One read after another.
-use Rattle.std.proofs.Common.{◌≡◌, ◌⊎◌, ◌+◌, ◌-◌, ◌<◌, ◌≤◌, ℕ, List, [], ◌∷◌, ◌++◌, ◌∙◌, All, Option, Some, None, IfSome, length, take, refl, sym, ap, subst, arith, inl, inr, append_assoc, append-nil}
-use Rattle.std.proofs.lemmas.Bool.{cases_lt}
+use Rattle.std.proofs.Common.{◌≡◌, ◌⊎◌, ◌+◌, ◌-◌, ◌<◌, ◌≤◌, ℕ, List, [], ◌∷◌, ◌++◌, ◌∙◌, All, Option, Some, None, IfSome, IfOk, OnOk, Result, Ok, Err, length, take, refl, sym, ap, subst, arith, inl, inr, append_assoc, append-nil}
+use Rattle.std.proofs.lemmas.Bool.{cases_lt, false≢true}
 use Rattle.std.proofs.lemmas.List.{take-append-le, take_at, length-append}
 use Rattle.std.proofs.lemmas.List.Elements.{All-nil, All-cons}
 use Rattle.std.specs.Io.KnownBytes.{Consumes}
+use Rattle.std.specs.Result.{IsErr}
 use Rattle.mysql_wire_commands.specs.declared.traced_read.OneRead.{OneRead}
 use Rattle.mysql_wire_commands.specs.Reads.{Makes, AskedFor, EachAskedFor, AsksUpTo, AsksStep, came, ReadsWhile}
+
+-- a refusal is no answer
+pub none_if : {T E : Type 0} (result : Result T E) (P : T → Type 0) → IsErr result → IfOk result P
+none_if (Ok _) P is = absurd (false≢true is)
+none_if (Err _) P is = tt
+
+pub none_on : {T E : Type 0} (result : Result T E) (P : Type 0) → IsErr result → OnOk result P
+none_on (Ok _) P is = absurd (false≢true is)
+none_on (Err _) P is = tt
 
 -- so far this many bytes came
 pub record Asking (step at place : ℕ) (old new : Option (List OneRead)) : Type 0 where

@@ -2,9 +2,9 @@
 use Rattle.std.proofs.Common.{◌≡◌, ◌≢◌, ℕ, ◌≤◌, ◌⊎◌, List, [], ◌∷◌, ◌++◌, length, refl, sym, ap, ◌∙◌, subst, arith, append_assoc, append-nil, Option, None, Some, IsSome, Ok, Err, Bool, true, ne_eqb, if◌then◌else◌, Result, inl, inr, zero-le, ◌<◌, ◌+◌, zero, suc, length-append, take, drop}
 use Rattle.std.proofs.lemmas.List.{drop-drop, length-drop, take-append-drop}
 use Rattle.std.proofs.lemmas.List.Elements.{All-nil}
-use Rattle.wire_codec.specs.Framing.{max_payload, framing, front, next_id, id_after, stream}
+use Rattle.wire_codec.specs.Framing.{max_payload, max_payload_is, framing, front, next_id, id_after, stream}
 use Rattle.wire_codec.specs.Delivery.{chunk_len, Continues, Ending, Waiting, TooLarge, OutOfSync, Delivers, Splits}
-use Rattle.wire_codec.specs.Codec.{CodecState, codec_state, first_id, expected_id, header_of, input_of, DecodesFrom, DecodesPacket}
+use Rattle.wire_codec.specs.Codec.{CodecState, codec_state, first_id, expected_id, header_of, input_of, DecodesFrom, DecodesPacket, StandsAt}
 use Rattle.wire_codec.specs.declared.codec.packet.PacketCodec.{PacketCodec}
 use Rattle.wire_span.proofs.RenumberLemmas.{take_front}
 use Rattle.wire_codec.specs.Runs.{RunsTo}
@@ -409,3 +409,11 @@ passed_more joined stream-append id_after-append between first codec next unread
 -- these bytes more are pending
 pub more_sends : (text pending more : List ℕ) (before now : Option (List ℕ)) → SoWritten text pending before now → SoWritten (text ++ more) (pending ++ more) before now
 more_sends text pending more before now so_far = (so_far.0, ap (λ (z : List ℕ). z ++ more) so_far.1 ∙ append_assoc so_far.0 pending more, so_far.2)
+
+-- a packet under the limit, as it is passed on
+pub fits_under : (packet bytes : List ℕ) (limit most : ℕ) → packet ≡ bytes → length bytes ≤ limit → most ≡ limit → length packet ≤ most
+fits_under packet bytes limit most is fits same = omega (arith, ap length is)
+
+-- a codec that remembers no header stands where nothing is held
+pub begins_stands : (limit : ℕ) (header : Option (ℕ × ℕ)) (unread held : List ℕ) → header ≡ None → held ≡ [] → StandsAt limit header unread held
+begins_stands limit header unread held none empty = rw (none, empty) (rw max_payload_is refl, tt)

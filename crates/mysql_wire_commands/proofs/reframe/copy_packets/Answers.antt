@@ -1,3 +1,4 @@
+use Rattle.mysql_wire_commands.proofs.ReadLemmas.{none_if}
 use Rattle.std.proofs.Common.{◌≡◌, inl, inr, sym, ℕ, List, [], ◌++◌, ◌∙◌, refl, ap, arith, subst, append_assoc}
 use Rattle.std.proofs.KnownBytes.{Consumes-nil, Consumes-trans}
 use Rattle.std.proofs.lemmas.Bool.{false≢true}
@@ -5,7 +6,7 @@ use Rattle.wire_codec.specs.Codec.{codec_state, expected_id}
 use Rattle.wire_codec.specs.Framing.{framing}
 use Rattle.wire_packet_io.specs.PacketIo.{joined_reads}
 use Rattle.mysql_wire_commands.specs.LongPackets.{EndsLong}
-use Rattle.mysql_wire_commands.proofs.ReframeLemmas.{reframing_start, reframing_more, reframing_long, reframed_whole, reframed_short, reframed_too_large, reframed_out_of_sync, ended_long, dropped, none_written, sent_on, passed_on, none_left_pending, some_lent, none_lent, at_four, at_five}
+use Rattle.mysql_wire_commands.proofs.ReframeLemmas.{reframing_start, reframing_more, reframing_long, reframed_whole, reframed_short, reframed_too_large, reframed_out_of_sync, ended_long, dropped, none_written, sent_on, passed_on, none_left_pending, some_lent, none_lent, at_four, at_five, fits_under, begins_stands}
 use Rattle.mysql_wire_commands.proofs.reframe.copy_packets.Goals as goal
 
 pub packets-init : goal.packets-init
@@ -236,3 +237,46 @@ returns-in-Err-PacketsOutOfSync g c =
       );
       all_read = at_five _;
     }
+
+pub pass_whole-requires : goal.pass_whole-requires
+pass_whole-requires g c = record {
+  front = c.packets.invariant.front;
+  codec = c.packets.invariant.codec;
+}
+
+pub take-requires : goal.take-requires
+take-requires g c = c.pass_whole.ensures.front
+
+pub returns-in_err-send : goal.returns-in_err-send
+returns-in_err-send g c = none_if c.from_residual.result _ c.from_residual.ensures.0
+
+pub returns-in_err-next : goal.returns-in_err-next
+returns-in_err-next g c = none_if c.from_residual-in_err-next.result _ c.from_residual-in_err-next.ensures.0
+
+pub returns-in_err-pass_on-in-Whole : goal.returns-in_err-pass_on-in-Whole
+returns-in_err-pass_on-in-Whole g c = none_if c.from_residual-in_err-pass_on-in-Whole.result _ c.from_residual-in_err-pass_on-in-Whole.ensures.0
+
+pub returns-in_err-pass_on-in-Ok-true : goal.returns-in_err-pass_on-in-Ok-true
+returns-in_err-pass_on-in-Ok-true g c = none_if c.from_residual-in_err-pass_on-in-Ok-true.result _ c.from_residual-in_err-pass_on-in-Ok-true.ensures.0
+
+pub returns-in-Err-OutOfMemory : goal.returns-in-Err-OutOfMemory
+returns-in-Err-OutOfMemory g c = tt
+
+pub returns-in-Err : goal.returns-in-Err
+returns-in-Err g c = tt
+
+pub returns : goal.returns
+returns g c = tt
+
+pub pass_on-requires : goal.pass_on-requires
+pass_on-requires g c =
+    let took = rw c.in-Whole.is at c.in_ok-next.ensures.takes in record {
+      fits = fits_under c.as_slice.result.now c.take.new.self.bytes.items c.args.limit _ c.as_slice.ensures.value took.2.1 (c.pass_whole.ensures.limits.1 ∙ c.packets.invariant.encoder);
+    }
+
+pub fill_packet-requires : goal.fill_packet-requires
+fill_packet-requires g c =
+    let front = c.pass_whole.ensures.front in inr (begins_stands _ _ _ _ c.pass_whole.ensures.codec.0 front.not_held)
+
+pub returns-then-reads-eq18446744073709551615 : goal.returns-then-reads-eq18446744073709551615
+returns-then-reads-eq18446744073709551615 g c = tt

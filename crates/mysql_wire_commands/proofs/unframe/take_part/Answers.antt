@@ -1,3 +1,4 @@
+use Rattle.mysql_wire_commands.proofs.ReadLemmas.{none_if}
 use Rattle.std.proofs.Common.{ℕ, List, ◌++◌, ap, subst, ◌∙◌}
 use Rattle.std.specs.Io.KnownBytes.{Appends}
 use Rattle.wire_codec.specs.Runs.{payloads}
@@ -35,3 +36,36 @@ returns-in_err-extend_from_slice-clause-limits g c = c.take.ensures.limits
 
 pub returns-in_err-write_whole-clause-limits : goal.returns-in_err-write_whole-clause-limits
 returns-in_err-write_whole-clause-limits g c = c.take.ensures.limits
+
+pub take-requires : goal.take-requires
+take-requires g c = c.requires
+
+pub returns-in_err-verdict-clause-takes : goal.returns-in_err-verdict-clause-takes
+returns-in_err-verdict-clause-takes g c = none_if c.from_residual.result _ c.from_residual.ensures.0
+
+pub returns-in_err-verdict-clause-aligned : goal.returns-in_err-verdict-clause-aligned
+returns-in_err-verdict-clause-aligned g c = none_if c.from_residual.result _ c.from_residual.ensures.0
+
+pub returns-in_err-write_packets-clause-takes : goal.returns-in_err-write_packets-clause-takes
+returns-in_err-write_packets-clause-takes g c =
+    none_if c.from_residual-in_err-write_packets.result _ c.from_residual-in_err-write_packets.ensures.0
+
+pub returns-in_err-write_packets-clause-aligned : goal.returns-in_err-write_packets-clause-aligned
+returns-in_err-write_packets-clause-aligned g c =
+    none_if c.from_residual-in_err-write_packets.result _ c.from_residual-in_err-write_packets.ensures.0
+
+pub returns-in_err-extend_from_slice-clause-takes : goal.returns-in_err-extend_from_slice-clause-takes
+returns-in_err-extend_from_slice-clause-takes g c =
+    none_if c.from_residual-in_err-extend_from_slice.result _ c.from_residual-in_err-extend_from_slice.ensures.0
+
+pub returns-in_err-extend_from_slice-clause-aligned : goal.returns-in_err-extend_from_slice-clause-aligned
+returns-in_err-extend_from_slice-clause-aligned g c =
+    none_if c.from_residual-in_err-extend_from_slice.result _ c.from_residual-in_err-extend_from_slice.ensures.0
+
+pub returns-in_err-write_whole-clause-takes : goal.returns-in_err-write_whole-clause-takes
+returns-in_err-write_whole-clause-takes g c =
+    none_if c.from_residual-in_err-write_whole.result _ c.from_residual-in_err-write_whole.ensures.0
+
+pub returns-in_err-write_whole-clause-aligned : goal.returns-in_err-write_whole-clause-aligned
+returns-in_err-write_whole-clause-aligned g c =
+    none_if c.from_residual-in_err-write_whole.result _ c.from_residual-in_err-write_whole.ensures.0

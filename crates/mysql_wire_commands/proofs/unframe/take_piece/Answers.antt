@@ -1,3 +1,4 @@
+use Rattle.mysql_wire_commands.proofs.ReadLemmas.{none_if}
 use Rattle.std.proofs.Common.{rules, ◌≡◌, ℕ, Option, List, [], ◌++◌, refl, sym, ap, ap₂, ◌∙◌, subst, append-nil, append_assoc, take, drop, take-append-drop}
 use Rattle.std.proofs.KnownBytes.{Appends-nil, Appends-trans}
 use Rattle.std.specs.Io.KnownBytes.{Appends}
@@ -100,3 +101,54 @@ parts-preserved g c =
             (old.2 ends (part.0 ++ more) after whole),
       );
     }
+
+pub take_part-requires : goal.take_part-requires
+take_part-requires g c = c.parts.invariant.aligned
+
+pub split_at-requires : goal.split_at-requires
+split_at-requires g c = c.part_len.ensures.within
+
+pub returns-in_err-take_part-clause-takes : goal.returns-in_err-take_part-clause-takes
+returns-in_err-take_part-clause-takes g c = none_if c.from_residual.result _ c.from_residual.ensures.0
+
+pub returns-in_err-take_part-clause-aligned : goal.returns-in_err-take_part-clause-aligned
+returns-in_err-take_part-clause-aligned g c = none_if c.from_residual.result _ c.from_residual.ensures.0
+
+pub returns-in_err-take_part-clause-limits : goal.returns-in_err-take_part-clause-limits
+returns-in_err-take_part-clause-limits g c =
+    let same = c.take_part.ensures.limits in
+    let was = c.parts.invariant.limits in
+    (same.0 ∙ was.0, same.1 ∙ was.1, same.2 ∙ was.2)
+
+pub returns-in-TooLarge-clause-limits : goal.returns-in-TooLarge-clause-limits
+returns-in-TooLarge-clause-limits g c =
+    let same = c.take_part.ensures.limits in
+    let was = c.parts.invariant.limits in
+    (same.0 ∙ was.0, same.1 ∙ was.1, same.2 ∙ was.2)
+
+pub returns-in-OutOfSync-clause-limits : goal.returns-in-OutOfSync-clause-limits
+returns-in-OutOfSync-clause-limits g c =
+    let same = c.take_part.ensures.limits in
+    let was = c.parts.invariant.limits in
+    (same.0 ∙ was.0, same.1 ∙ was.1, same.2 ∙ was.2)
+
+pub returns-then-is_empty-clause-limits : goal.returns-then-is_empty-clause-limits
+returns-then-is_empty-clause-limits g c =
+    let same = c.take_part.ensures.limits in
+    let was = c.parts.invariant.limits in
+    (same.0 ∙ was.0, same.1 ∙ was.1, same.2 ∙ was.2)
+
+too_large_waits : verdict.TooLarge ≡ verdict.Waits → ⊥
+too_large_waits is = cc
+
+out_of_sync_waits : verdict.OutOfSync ≡ verdict.Waits → ⊥
+out_of_sync_waits is = cc
+
+pub returns-in-TooLarge-clause-aligned : goal.returns-in-TooLarge-clause-aligned
+returns-in-TooLarge-clause-aligned g c is = absurd (too_large_waits is)
+
+pub returns-in-OutOfSync-clause-aligned : goal.returns-in-OutOfSync-clause-aligned
+returns-in-OutOfSync-clause-aligned g c is = absurd (out_of_sync_waits is)
+
+pub returns-then-is_empty-clause-aligned : goal.returns-then-is_empty-clause-aligned
+returns-then-is_empty-clause-aligned g c = λ _. c.in_ok-take_part.ensures.aligned c.in-Waits.is

@@ -9,7 +9,7 @@ use Rattle.wire_text.specs.declared.stop.Stop.{Stop}
 use Rattle.mysql_wire_commands.specs.declared.traced_read.OneRead.{OneRead}
 use Rattle.mysql_wire_commands.specs.Reads.{AsksUpTo}
 use Rattle.mysql_wire_commands.specs.Unframe.{ending_status, StopsOver, UnframeEndsOver, place_limits, run_state, next_limit, bytes_left, ending_line, UnframedUnder}
-use Rattle.mysql_wire_commands.proofs.ReadLemmas.{Asking, asking_start, asking_more, asked_more, Waited, waited_start, waited_more, waited}
+use Rattle.mysql_wire_commands.proofs.ReadLemmas.{Asking, asking_start, asking_more, asked_more, Waited, waited_start, waited_more, waited, none_if}
 use Rattle.mysql_wire_commands.proofs.UnframeLemmas.{unframing_start, limits_here, unframing_more, unframing_ended, unframing_too_large, unframing_out_of_sync, rest_cases, nothing_behind, take_apart}
 use Rattle.mysql_wire_commands.proofs.ReframeLemmas.{at_four, at_five}
 use Rattle.mysql_wire_commands.proofs.unframe.take_pieces.Given as given
@@ -213,3 +213,18 @@ returns-clause-reads g c =
     let old = c.reads.invariant.so_far in
     let asked = old.6 in
     (record { made = asked.made; makes = asked.makes; each = asked.each }, λ limits known. waited _ _ _ _ _ (old.7 limits known))
+
+pub next_read-requires : goal.next_read-requires
+next_read-requires g c = c.requires.some
+
+pub take_piece-requires : goal.take_piece-requires
+take_piece-requires g c = c.reads.invariant.aligned
+
+pub returns-in_err-count-clause-ended : goal.returns-in_err-count-clause-ended
+returns-in_err-count-clause-ended g c = none_if c.from_residual.result _ c.from_residual.ensures.0
+
+pub returns-in_err-take_piece-clause-ended : goal.returns-in_err-take_piece-clause-ended
+returns-in_err-take_piece-clause-ended g c = none_if c.from_residual-in_err-take_piece.result _ c.from_residual-in_err-take_piece.ensures.0
+
+pub returns-clause-ended : goal.returns-clause-ended
+returns-clause-ended g c = tt

@@ -1,3 +1,4 @@
+use Rattle.mysql_wire_commands.proofs.ReadLemmas.{none_if}
 use Rattle.std.proofs.Common.{refl}
 use Rattle.mysql_wire_commands.proofs.unframe.unframe.Goals as goal
 
@@ -19,3 +20,6 @@ returns-clause-ended g c = let new = c.new-run.ensures in rw (new.limit_is, new.
 
 pub returns-clause-reads : goal.returns-clause-reads
 returns-clause-reads g c = let new = c.new-run.ensures in rw (new.limit_is, new.later_is, new.ahead_is) at c.take_pieces.ensures.reads
+
+pub returns-in_err-piece-clause-ended : goal.returns-in_err-piece-clause-ended
+returns-in_err-piece-clause-ended g c = none_if c.from_residual.result _ c.from_residual.ensures.0

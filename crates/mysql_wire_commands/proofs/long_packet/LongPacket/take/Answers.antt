@@ -100,3 +100,33 @@ returns-in-Err-PacketsOutOfSync-clause-takes g c =
     let lost = loses_sync c.spans_begin.ensures id limit c.ranges.seq_id.fits input called.0 new.unread after called.2.eats same
     (uncut c.copy_packet.new.codec new c.copy_packet.ensures.can) stops c.bytes_to_come.result (rw c.unread.ensures at c.bytes_to_come.ensures) in
     (joined_reads called.2.reads, called.2.consumed, lost)
+
+pub returns-in-Ok-false-clause-front : goal.returns-in-Ok-false-clause-front
+returns-in-Ok-false-clause-front g c whole = absurd whole
+
+pub returns-in-Err-UnexpectedEnd-clause-front : goal.returns-in-Err-UnexpectedEnd-clause-front
+returns-in-Err-UnexpectedEnd-clause-front g c whole = absurd whole
+
+pub returns-in-Err-PacketTooLarge-clause-front : goal.returns-in-Err-PacketTooLarge-clause-front
+returns-in-Err-PacketTooLarge-clause-front g c whole = absurd whole
+
+pub returns-in-Err-PacketsOutOfSync-clause-front : goal.returns-in-Err-PacketsOutOfSync-clause-front
+returns-in-Err-PacketsOutOfSync-clause-front g c whole = absurd whole
+
+pub returns-in-Err-OutOfMemory-clause-takes : goal.returns-in-Err-OutOfMemory-clause-takes
+returns-in-Err-OutOfMemory-clause-takes g c = tt
+
+pub returns-in-Err-OutOfMemory-clause-front : goal.returns-in-Err-OutOfMemory-clause-front
+returns-in-Err-OutOfMemory-clause-front g c = tt
+
+pub returns-in-Err-2-clause-takes : goal.returns-in-Err-2-clause-takes
+returns-in-Err-2-clause-takes g c = tt
+
+pub returns-in-Err-2-clause-front : goal.returns-in-Err-2-clause-front
+returns-in-Err-2-clause-front g c = tt
+
+pub returns-in-Err-clause-takes : goal.returns-in-Err-clause-takes
+returns-in-Err-clause-takes g c = tt
+
+pub returns-in-Err-clause-front : goal.returns-in-Err-clause-front
+returns-in-Err-clause-front g c = tt

@@ -1,3 +1,4 @@
+use Rattle.mysql_wire_commands.proofs.ReadLemmas.{none_on}
 use Rattle.std.proofs.Common.{◌≡◌, length, refl, ap, ◌∙◌, sym, subst}
 use Rattle.wire_codec.specs.Codec.{expected_id}
 use Rattle.wire_span.specs.Framed.{FrameState, frame_state, begun, IsBetweenPackets}
@@ -27,3 +28,51 @@ returns-clause-next g c =
     let parts = c.in_ok-write_parts.ensures in
     let went = one_went c.framed_packet.ensures id (frame_state c.begin.new.self) (frame_state c.write_parts.new.frames) packet parts.sent.0 is parts.sent.2 parts.whole in
     c.set_sequence_id-2.ensures.id ∙ c.sequence_id-2.ensures ∙ went.1
+
+pub returns-in_err-send-clause-sent : goal.returns-in_err-send-clause-sent
+returns-in_err-send-clause-sent g c = none_on c.from_residual.result _ c.from_residual.ensures.0
+
+pub returns-in_err-send-clause-idle : goal.returns-in_err-send-clause-idle
+returns-in_err-send-clause-idle g c = none_on c.from_residual.result _ c.from_residual.ensures.0
+
+pub returns-in_err-send-clause-next : goal.returns-in_err-send-clause-next
+returns-in_err-send-clause-next g c = none_on c.from_residual.result _ c.from_residual.ensures.0
+
+pub returns-in_err-write_parts-clause-sent : goal.returns-in_err-write_parts-clause-sent
+returns-in_err-write_parts-clause-sent g c =
+    none_on c.from_residual-in_err-write_parts.result _ c.from_residual-in_err-write_parts.ensures.0
+
+pub returns-in_err-write_parts-clause-idle : goal.returns-in_err-write_parts-clause-idle
+returns-in_err-write_parts-clause-idle g c =
+    none_on c.from_residual-in_err-write_parts.result _ c.from_residual-in_err-write_parts.ensures.0
+
+pub returns-in_err-write_parts-clause-next : goal.returns-in_err-write_parts-clause-next
+returns-in_err-write_parts-clause-next g c =
+    none_on c.from_residual-in_err-write_parts.result _ c.from_residual-in_err-write_parts.ensures.0
+
+pub returns-in_err-flush-clause-sent : goal.returns-in_err-flush-clause-sent
+returns-in_err-flush-clause-sent g c = none_on c.from_residual-in_err-flush.result _ c.from_residual-in_err-flush.ensures.0
+
+pub returns-in_err-flush-clause-idle : goal.returns-in_err-flush-clause-idle
+returns-in_err-flush-clause-idle g c = none_on c.from_residual-in_err-flush.result _ c.from_residual-in_err-flush.ensures.0
+
+pub returns-in_err-flush-clause-next : goal.returns-in_err-flush-clause-next
+returns-in_err-flush-clause-next g c = none_on c.from_residual-in_err-flush.result _ c.from_residual-in_err-flush.ensures.0
+
+pub returns-in_err-send-clause-limit : goal.returns-in_err-send-clause-limit
+returns-in_err-send-clause-limit g c = refl
+
+pub returns-in_err-write_parts-clause-limit : goal.returns-in_err-write_parts-clause-limit
+returns-in_err-write_parts-clause-limit g c = refl
+
+pub returns-in_err-flush-clause-limit : goal.returns-in_err-flush-clause-limit
+returns-in_err-flush-clause-limit g c = c.set_sequence_id-2.ensures.limit
+
+pub returns-clause-limit : goal.returns-clause-limit
+returns-clause-limit g c = c.set_sequence_id-2.ensures.limit
+
+pub returns-clause-errors : goal.returns-clause-errors
+returns-clause-errors g c = tt
+
+pub returns-clause-idle : goal.returns-clause-idle
+returns-clause-idle g c = ap (λ z. z.items) c.flush.ensures.pending ∙ c.in_ok-send.ensures.idle refl
