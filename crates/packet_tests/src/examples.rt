@@ -74,6 +74,10 @@ const EXAMPLES: &[Script] = &[
     },
 ];
 
+fn all_go(alloc: Global) -> Result<(), Fail> {
+    play(alloc, EXAMPLES)
+}
+
 // The same under a limit that is met.
 const LIMITS: &[Script] = &[
     Script {
@@ -122,10 +126,14 @@ const LIMITS: &[Script] = &[
     },
 ];
 
+fn all_stop(alloc: Global) -> Result<(), Fail> {
+    play(alloc, LIMITS)
+}
+
 #[test]
 fn each_example_succeeds_with_memory(rt: HostRuntime) -> Result<(), Fail> {
-    play(rt.alloc(), EXAMPLES)?;
-    play(rt.alloc(), LIMITS)
+    all_go(rt.alloc())?;
+    all_stop(rt.alloc())
 }
 
 // The numbers here are the protocol's own: three bytes of 255 are the most that a header states.
