@@ -2,6 +2,7 @@
 //! one.
 #![tactic(auto)]
 
-pub mod client;
-pub mod proxy;
-pub mod rows;
+mod client;
+pub mod counted;
+mod proxy;
+mod rows;
