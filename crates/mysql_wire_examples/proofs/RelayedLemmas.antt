@@ -1,5 +1,5 @@
 -- One packet more.
-use Rattle.std.proofs.Common.{◌≡◌, ◌↔◌, ℕ, List, [], ◌∷◌, ◌++◌, Option, Some, None, Result, Ok, Err, Bool, true, false, IsTrue, IsFalse, IsSome, IsNone, MatchOption, OnOk, refl, sym, ap, ◌∙◌, subst, append-nil}
+use Rattle.std.proofs.Common.{◌≡◌, ◌↔◌, ℕ, List, [], ◌∷◌, ◌++◌, Option, Some, None, Result, Ok, Err, Bool, true, false, IsTrue, IsFalse, IsSome, IsNone, MatchOption, OnOk, IfOk, refl, sym, ap, ◌∙◌, subst, append-nil}
 use Rattle.std.specs.Io.KnownBytes.{Appends}
 use Rattle.std.specs.Result.{IsErr}
 use Rattle.mysql_wire.specs.PacketIo.{NextPacket, FitsAt}
@@ -61,6 +61,10 @@ err_no_ok (Err error) whole is e = cc
 pub err_on_ok : {X E : Type 0} (answer : Result X E) (P : Type 0) → IsErr answer → OnOk answer P
 err_on_ok (Ok done) P is = absurd (let f = is in cc)
 err_on_ok (Err error) P is = tt
+
+pub err_if_ok : {X E : Type 0} (answer : Result X E) (P : X → Type 0) → IsErr answer → IfOk answer P
+err_if_ok (Ok done) P is = absurd (let f = is in cc)
+err_if_ok (Err error) P is = tt
 
 -- another id changes nothing of whether a codec fits
 pub fits_with : (lost : Bool) (limit new_limit id new_id : ℕ) (header new_header : Option (ℕ × ℕ)) (unread held : List ℕ) → new_limit ≡ limit → new_header ≡ header

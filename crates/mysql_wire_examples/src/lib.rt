@@ -4,9 +4,9 @@
 pub mod again;
 pub mod both_ends;
 pub mod callers;
-pub mod commands;
+mod commands;
 pub mod connection;
-pub mod constant_calls;
+mod constant_calls;
 pub mod field_callers;
 pub mod in_place;
 pub mod inbox;

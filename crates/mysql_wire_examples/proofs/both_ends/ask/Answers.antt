@@ -5,6 +5,7 @@ use Rattle.mysql_wire.specs.Runs.{payloads}
 use Rattle.mysql_wire_examples.specs.BothEnds.{points}
 use Rattle.mysql_wire_examples.specs.declared.both_ends.Sent.{Sent}
 use Rattle.mysql_wire_examples.proofs.BothEndsLemmas.{in_step_back, count_after, count_after-more, noted_more, handed_more}
+use Rattle.mysql_wire_examples.proofs.RelayedLemmas.{err_on_ok}
 use Rattle.mysql_wire_examples.proofs.both_ends.ask.Goals as goal
 
 pub pass_noted-requires : goal.pass_noted-requires
@@ -67,3 +68,18 @@ returns g c =
       ids = old.ids ∙ ap (λ (z : List (List ℕ)). c.args.heard.now.ids.items ++ points 0 (command ∷ z)) packets;
       in_step = in_step_back c.answers.server c.answers.client old.step;
     }
+
+pub pass_noted-requires-in-answers : goal.pass_noted-requires-in-answers
+pass_noted-requires-in-answers g c = c.answers.invariant.step
+
+pub returns-in_err-pass_noted : goal.returns-in_err-pass_noted
+returns-in_err-pass_noted g c =
+    let answer = c.from_residual.result in
+    let is = c.from_residual.ensures.0 in
+    record { commands = err_on_ok answer _ is; answers = err_on_ok answer _ is; ids = err_on_ok answer _ is; in_step = err_on_ok answer _ is }
+
+pub returns-in_err-pass_noted-2 : goal.returns-in_err-pass_noted-2
+returns-in_err-pass_noted-2 g c =
+    let answer = c.from_residual-in_err-pass_noted-2.result in
+    let is = c.from_residual-in_err-pass_noted-2.ensures.0 in
+    record { commands = err_on_ok answer _ is; answers = err_on_ok answer _ is; ids = err_on_ok answer _ is; in_step = err_on_ok answer _ is }

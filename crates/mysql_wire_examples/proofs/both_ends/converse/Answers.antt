@@ -6,6 +6,7 @@ use Rattle.mysql_wire_examples.specs.BothEnds.{answer_of, answers_of, commands_o
 use Rattle.mysql_wire_examples.specs.declared.both_ends.Exchange.{Exchange}
 use Rattle.mysql_wire_examples.proofs.BothEndsLemmas.{handed_more}
 use Rattle.mysql_wire_examples.proofs.ConnectionLemmas.{flat_map-one_more}
+use Rattle.mysql_wire_examples.proofs.RelayedLemmas.{err_on_ok}
 use Rattle.mysql_wire_examples.proofs.both_ends.converse.Goals as goal
 
 -- what one item more adds
@@ -43,3 +44,9 @@ returns g c =
       ids = old.ids ∙ ap (λ (z : List Exchange). heard.ids.items ++ ids_of z) all;
       in_step = old.step;
     }
+
+pub returns-in_err-ask : goal.returns-in_err-ask
+returns-in_err-ask g c =
+    let answer = c.from_residual.result in
+    let is = c.from_residual.ensures.0 in
+    record { commands = err_on_ok answer _ is; answers = err_on_ok answer _ is; ids = err_on_ok answer _ is; in_step = err_on_ok answer _ is }

@@ -4,6 +4,7 @@ use Rattle.mysql_wire.specs.Framing.{framing, next_id}
 use Rattle.mysql_wire.specs.Runs.{joined, payloads}
 use Rattle.mysql_wire_examples.proofs.BothEndsLemmas.{idle_stands, encoded_fits, takes_pieces, counts_on}
 use Rattle.mysql_wire_examples.proofs.CallerLemmas.{on_ok}
+use Rattle.mysql_wire_examples.proofs.RelayedLemmas.{err_on_ok}
 use Rattle.mysql_wire_examples.proofs.both_ends.pass.Goals as goal
 
 pub deliver-result-requires : goal.deliver-result-requires
@@ -52,3 +53,15 @@ returns g c =
           });
       counted = on_ok call.result.1 _ (λ ok count here. counts_on c.chunks_counted.ensures packet count (expected_id c.args.from.now.codec) (expected_id c.encode.new.self) here c.in_ok-encode.ensures.next);
     }
+
+pub returns-in_err-encode : goal.returns-in_err-encode
+returns-in_err-encode g c =
+    let answer = c.from_residual.result in
+    let is = c.from_residual.ensures.0 in
+    record { handed = err_on_ok answer _ is; in_step = err_on_ok answer _ is; counted = err_on_ok answer _ is }
+
+pub returns-in_err-pieces : goal.returns-in_err-pieces
+returns-in_err-pieces g c =
+    let answer = c.from_residual-in_err-pieces.result in
+    let is = c.from_residual-in_err-pieces.ensures.0 in
+    record { handed = err_on_ok answer _ is; in_step = err_on_ok answer _ is; counted = err_on_ok answer _ is }

@@ -3,6 +3,7 @@ use Rattle.mysql_wire.specs.Codec.{CodecState, codec_state, header_of}
 use Rattle.mysql_wire.specs.Laws.{empty_state}
 use Rattle.mysql_wire.specs.Runs.{payloads}
 use Rattle.mysql_wire_examples.proofs.CallerLemmas.{two_pieces}
+use Rattle.mysql_wire_examples.proofs.RelayedLemmas.{err_if_ok}
 use Rattle.mysql_wire_examples.proofs.login.receive_session.Goals as goal
 
 pub returns : goal.returns
@@ -19,3 +20,6 @@ returns g c =
           (λ i. record { limit = 1024; id = codec.0 i; header = codec.1 i; unread = c.new-src.ensures.items i; held = c.new-dst.ensures.items i })
           (search rules) (search rules) (ap payloads c.new-packets.ensures.items) told.runs.1 told.runs.2,
     )
+
+pub returns-in_err-result : goal.returns-in_err-result
+returns-in_err-result g c = err_if_ok c.from_residual.result _ c.from_residual.ensures.0

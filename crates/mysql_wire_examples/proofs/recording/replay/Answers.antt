@@ -3,6 +3,7 @@ use Rattle.mysql_wire.specs.Codec.{CodecState, codec_state, header_of}
 use Rattle.mysql_wire.specs.Delivery.{Delivers, Waiting}
 use Rattle.mysql_wire.specs.Runs.{joined, payloads}
 use Rattle.mysql_wire_examples.proofs.CallerLemmas.{fresh_delivers}
+use Rattle.mysql_wire_examples.proofs.RelayedLemmas.{err_if_ok}
 use Rattle.mysql_wire_examples.proofs.recording.replay.Goals as goal
 
 pub returns : goal.returns
@@ -21,3 +22,6 @@ returns g c =
     (search rules) runs.3 in
     let same = c.one_delivery.ensures [] input 0 limit runs.0 (payloads c.args.received.now) Waiting Waiting after.held c.requires.0 (after.unread ++ left) c.requires.1 mine c.requires.2 in
     runs.1 ∙ ap (λ (z : List _). payloads z ++ runs.0) c.new-packets.ensures.items ∙ same.0
+
+pub returns-in_err-result : goal.returns-in_err-result
+returns-in_err-result g c = err_if_ok c.from_residual.result _ c.from_residual.ensures.0

@@ -4,6 +4,7 @@ use Rattle.mysql_wire.specs.Laws.{empty_state}
 use Rattle.mysql_wire.specs.Runs.{joined, payloads}
 use Rattle.mysql_wire_examples.proofs.CallerLemmas.{fresh_run, run_so_far, waiting_state}
 use Rattle.mysql_wire_examples.proofs.TallyLemmas.{counted_list}
+use Rattle.mysql_wire_examples.proofs.RelayedLemmas.{err_if_ok}
 use Rattle.mysql_wire_examples.proofs.recording.take_counted.Goals as goal
 
 pub returns : goal.returns
@@ -25,3 +26,12 @@ returns g c =
     let all : payloads call.new.out.items ≡ seen.0 =
     runs.1 ∙ ap (λ (z : List _). payloads z ++ runs.0) (c.in_ok-reserve.ensures.items ∙ c.new-packets.ensures.items) ∙ sym same.0 in
     counted_list (λ packet. packet.items) call.new.out.items seen.0 (vec_len call.new.out) c.in_ok-tally.tally.packets all call.new.out.ok.0 seen.1
+
+pub returns-in_err-tally : goal.returns-in_err-tally
+returns-in_err-tally g c = err_if_ok c.from_residual.result _ c.from_residual.ensures.0
+
+pub returns-in_err-reserve : goal.returns-in_err-reserve
+returns-in_err-reserve g c = err_if_ok c.from_residual-in_err-reserve.result _ c.from_residual-in_err-reserve.ensures.0
+
+pub returns-in_err-result : goal.returns-in_err-result
+returns-in_err-result g c = err_if_ok c.from_residual-in_err-result.result _ c.from_residual-in_err-result.ensures.0

@@ -5,6 +5,7 @@ use Rattle.mysql_wire.specs.Laws.{empty_state}
 use Rattle.mysql_wire.specs.Runs.{payloads}
 use Rattle.mysql_wire_examples.specs.Session.{session_limits}
 use Rattle.mysql_wire_examples.proofs.SessionLemmas.{goes_on_from_start, both_pieces, delivers_session}
+use Rattle.mysql_wire_examples.proofs.RelayedLemmas.{err_if_ok}
 use Rattle.mysql_wire_examples.proofs.session.replay_session.Goals as goal
 
 pub returns : goal.returns
@@ -23,3 +24,6 @@ returns g c =
     let mine = delivers_session limit later login session before after call.result.0 call.result.1 runs.0 is (search rules) call.ensures.all runs.2 in
     let same = c.one_limited_delivery.ensures limits 0 [] (login.now ++ session.now) 0 runs.0 (payloads c.args.received.now) Waiting Waiting after.held c.requires.0 after.unread c.requires.1 mine c.requires.2 in
     runs.1 ∙ ap (λ (z : List _). payloads z ++ runs.0) c.new-packets.ensures.items ∙ same.0
+
+pub returns-in_err-result : goal.returns-in_err-result
+returns-in_err-result g c = err_if_ok c.from_residual.result _ c.from_residual.ensures.0

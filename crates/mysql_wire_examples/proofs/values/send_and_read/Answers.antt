@@ -3,6 +3,7 @@ use Rattle.mysql_wire.specs.Delivery.{Delivers, Waiting}
 use Rattle.mysql_wire.specs.Framing.{stream, id_after}
 use Rattle.mysql_wire.specs.Runs.{payloads}
 use Rattle.mysql_wire_examples.proofs.ValueLemmas.{delivers_nothing}
+use Rattle.mysql_wire_examples.proofs.RelayedLemmas.{err_if_ok}
 use Rattle.mysql_wire_examples.proofs.values.send_and_read.Goals as goal
 
 pub returns : goal.returns
@@ -21,3 +22,12 @@ returns g c = λ good.
     let none = delivers_nothing (id_after 0 sent) c.args.limit split.0 Waiting came.0 came.1 c.framed_length.ensures split.2 in
     let all : packets ≡ sent = split.1 ∙ ap (λ others. sent ++ others) none ∙ append-nil sent in
     c.in_ok-back.ensures.back values (ap payloads c.as_slice-2.ensures.value ∙ all) put.values good
+
+pub returns-in_err-send_values : goal.returns-in_err-send_values
+returns-in_err-send_values g c _ = err_if_ok c.from_residual.result _ c.from_residual.ensures.0
+
+pub returns-in_err-packets : goal.returns-in_err-packets
+returns-in_err-packets g c _ = err_if_ok c.from_residual-in_err-packets.result _ c.from_residual-in_err-packets.ensures.0
+
+pub returns-in_err-back : goal.returns-in_err-back
+returns-in_err-back g c _ = err_if_ok c.from_residual-in_err-back.result _ c.from_residual-in_err-back.ensures.0

@@ -3,6 +3,7 @@ use Rattle.std.proofs.lemmas.List.{map_more}
 use Rattle.std.proofs.lemmas.List.Elements.{All-more}
 use Rattle.mysql_wire.specs.Codec.{expected_id}
 use Rattle.mysql_wire.specs.Framing.{framing, next_id, stream, id_after}
+use Rattle.mysql_wire_examples.proofs.RelayedLemmas.{err_on_ok}
 use Rattle.mysql_wire_examples.proofs.values.send_values.Goals as goal
 
 pub loop-value-preserved : goal.loop-value-preserved
@@ -50,3 +51,9 @@ returns g c =
       values = subst (λ z. All g.T.Wire.is_value z) all inv.known;
       limit = inv.limit;
     }
+
+pub returns-in_err-encode_value : goal.returns-in_err-encode_value
+returns-in_err-encode_value g c =
+    let answer = c.from_residual.result in
+    let is = c.from_residual.ensures.0 in
+    record { sent = err_on_ok answer _ is; next = err_on_ok answer _ is; fit = err_on_ok answer _ is; values = err_on_ok answer _ is; limit = c.encode_value.ensures.limit ∙ c.loop-value.invariant.limit }

@@ -3,6 +3,7 @@ use Rattle.mysql_wire.specs.Framing.{framing, next_id}
 use Rattle.mysql_wire.specs.PacketCodecError.{PacketCodecError}
 use Rattle.mysql_wire_examples.specs.Connection.{answer_to}
 use Rattle.mysql_wire_examples.proofs.ConnectionLemmas.{flat_map-on, flat_map-out}
+use Rattle.mysql_wire_examples.proofs.RelayedLemmas.{err_on_ok}
 use Rattle.mysql_wire_examples.proofs.connection.Connection.serve.Goals as goal
 
 pub commands-preserved : goal.commands-preserved
@@ -39,3 +40,15 @@ next_command-requires g c = c.commands.invariant.awaits
 
 pub answer-requires : goal.answer-requires
 answer-requires g c = c.in_ok-next_command.ensures.idle (ap Ok c.if-not-branch.false)
+
+pub returns-in_err-extend_from_slice : goal.returns-in_err-extend_from_slice
+returns-in_err-extend_from_slice g c = err_on_ok c.from_residual.result _ c.from_residual.ensures.0
+
+pub returns-in_err-next_command : goal.returns-in_err-next_command
+returns-in_err-next_command g c = err_on_ok c.from_residual-in_err-next_command.result _ c.from_residual-in_err-next_command.ensures.0
+
+pub returns-in_err-answer : goal.returns-in_err-answer
+returns-in_err-answer g c = err_on_ok c.from_residual-in_err-answer.result _ c.from_residual-in_err-answer.ensures.0
+
+pub returns-then-not-stands_at : goal.returns-then-not-stands_at
+returns-then-not-stands_at g c = tt
