@@ -49,7 +49,8 @@ impl From<TextFault> for WireError {
 }
 
 // Reads a text of 251 bytes and more, or what is none. The buffer is handed over and back, so that a
-// caller keeps its own in registers.
+// caller keeps its own in registers. A call: it is rare, and would lie within the caller's loop.
+#[inline(never)]
 fn long_text<'a>(mut buf: ParseBuf<'a>) -> (Result<TextValue<'a>, TextFault>, ParseBuf<'a>)
     requires { take 1 buf.0.now ≢ 0xfb ∷ [] }
     ensures { Reads ReadsTextValue buf.entry.0.now (told result.0) result.1.0.now }

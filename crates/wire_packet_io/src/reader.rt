@@ -432,13 +432,13 @@ impl<R: Read, A: Allocator + Copy> PacketReader<R, A> {
     pub fn take_packet(&mut self)
         ensures { self.new ≡ record self.old { lent = None } }
     {
-        let front = match &self.lent {
-            Some(Found::InFront(chunk)) => Some(*chunk),
-            Some(Found::Copied(_)) | None => None,
-        };
-        self.lent = None;
-        if let Some(chunk) = front {
-            self.input.skip_front(chunk);
+        match &self.lent {
+            Some(Found::InFront(chunk)) => {
+                let chunk = *chunk;
+                self.lent = None;
+                self.input.skip_front(chunk);
+            }
+            Some(Found::Copied(_)) | None => self.lent = None,
         }
     }
 }

@@ -652,6 +652,7 @@ fn answered(answer: Result<bool, Refusal>) -> Result<bool, PacketCodecError>
 
 // Its error, by a function of its own, so that the bytes of an error are zeroed only where one is
 // answered.
+#[inline(never)]
 fn refused(refusal: Refusal) -> Result<bool, PacketCodecError>
     ensures { result ≡ Err (error_of refusal) }
 {
