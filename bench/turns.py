@@ -28,16 +28,23 @@ def program_of(top, crate):
     return os.path.join(top, "crates", crate, "out", crate)
 
 
-def run(program, folder, words):
-    """The seconds that a program takes in a folder, and what it prints."""
+def start(program, folder, words, output):
+    """Starts a program in a folder, which prints to this file or pipe."""
     source = subprocess.DEVNULL
     if words and words[-1].startswith("<"):
         source = open(os.path.join(folder, words[-1][1:]), "rb")
         words = words[:-1]
+    return subprocess.Popen([program, *words], cwd=folder, stdin=source, stdout=output)
+
+
+def run(program, folder, words):
+    """The seconds that a program takes in a folder, and what it prints."""
     begun = time.perf_counter()
-    done = subprocess.run([program, *words], cwd=folder, stdin=source, stdout=subprocess.PIPE,
-                          check=True)
-    return time.perf_counter() - begun, done.stdout
+    process = start(program, folder, words, subprocess.PIPE)
+    output, _ = process.communicate()
+    if process.returncode != 0:
+        sys.exit(f"{program} fails")
+    return time.perf_counter() - begun, output
 
 
 def main():

@@ -56,6 +56,7 @@ mod place;
 mod plot;
 mod rows;
 mod sessions;
+mod shared;
 mod spans;
 mod streams;
 mod summary;
