@@ -1,9 +1,13 @@
 #!/usr/bin/env python3
-"""Records a session with MariaDB, as scripts/recordings.py reads it, under capabilities that few
-clients use: CLIENT_SESSION_TRACK, CLIENT_DEPRECATE_EOF, MariaDB's extended metadata, columns that
-are told once, and reports of progress.
+"""Records a session with MariaDB, as scripts/recordings.py reads it.
 
-    scripts/record_session.py SOCKET USER > FOLDER/tracked.jsonl
+    scripts/record_session.py SOCKET USER tracked > FOLDER/tracked.jsonl
+    scripts/record_session.py SOCKET USER procedure > FOLDER/procedure.jsonl
+
+`tracked` is of capabilities that few clients use: CLIENT_SESSION_TRACK, CLIENT_DEPRECATE_EOF,
+MariaDB's extended metadata, columns that are told once, and reports of progress. `procedure`, under
+capabilities that most clients use, calls a stored procedure that selects inside an open cursor of its
+own, as a query and as a prepared statement, with a cursor for the client and without.
 
 SOCKET is the server's, USER a user without a password who may make databases.
 """
@@ -15,10 +19,10 @@ import sys
 LONG_FLAG, WITH_DB, LOCAL_FILES, PROTOCOL_41 = 1 << 2, 1 << 3, 1 << 7, 1 << 9
 TRANSACTIONS, SECURE, STATEMENTS, RESULTS = 1 << 13, 1 << 15, 1 << 16, 1 << 17
 STATEMENT_RESULTS, PLUGINS, TRACK, NO_EOF = 1 << 18, 1 << 19, 1 << 23, 1 << 24
-CAPABILITIES = (LONG_FLAG | LOCAL_FILES | PROTOCOL_41 | TRANSACTIONS | SECURE | STATEMENTS | RESULTS
-                | STATEMENT_RESULTS | PLUGINS | TRACK | NO_EOF)
+USUAL = (LONG_FLAG | LOCAL_FILES | PROTOCOL_41 | TRANSACTIONS | SECURE | STATEMENTS | RESULTS
+         | STATEMENT_RESULTS | PLUGINS)
 PROGRESS, METADATA, TOLD_ONCE = 1 << 0, 1 << 3, 1 << 4
-MORE_RESULTS = 0x08
+MORE_RESULTS, CURSOR_EXISTS = 0x08, 0x40
 
 
 def lenenc(data, at):
@@ -32,13 +36,14 @@ def lenenc(data, at):
 class Session:
     """A connection whose payloads are printed."""
 
-    def __init__(self, path, user):
+    def __init__(self, path, user, capabilities, mariadb):
+        self.has_eof = not capabilities & NO_EOF
         self.stream = socket.socket(socket.AF_UNIX)
         self.stream.connect(path)
         self.number = 0
         self.receive()
-        login = CAPABILITIES.to_bytes(4, "little") + (1 << 24).to_bytes(4, "little") + bytes([45])
-        login += bytes(19) + (PROGRESS | METADATA | TOLD_ONCE).to_bytes(4, "little")
+        login = capabilities.to_bytes(4, "little") + (1 << 24).to_bytes(4, "little") + bytes([45])
+        login += bytes(19) + mariadb.to_bytes(4, "little")
         self.send(login + user.encode() + b"\0\0mysql_native_password\0")
         if self.receive()[0] == 0xFE:
             self.send(b"")
@@ -68,7 +73,9 @@ class Session:
         self.send(command)
 
     def status(self, payload):
-        """The status of an OK packet."""
+        """The status of an OK packet, or of an EOF."""
+        if payload[0] == 0xFE and self.has_eof:
+            return int.from_bytes(payload[3:5], "little")
         at = lenenc(payload, lenenc(payload, 1)[1])[1]
         return int.from_bytes(payload[at : at + 2], "little")
 
@@ -76,12 +83,12 @@ class Session:
         """Takes rows, and what ends them: its status."""
         while True:
             payload = self.receive()
-            if payload[0] == 0xFE and len(payload) < 0xFFFFFF:
+            if payload[0] == 0xFE and len(payload) < (9 if self.has_eof else 0xFFFFFF):
                 return self.status(payload)
             if payload[0] == 0xFF and payload[1:3] != b"\xff\xff":
                 return 0
 
-    def answer(self):
+    def answer(self, wants_cursor=False):
         """Takes an answer, with each that follows it."""
         status = MORE_RESULTS
         while status & MORE_RESULTS:
@@ -96,6 +103,10 @@ class Session:
             count, at = lenenc(first, 0)
             for _ in range(0 if first[at:] == b"\0" else count):
                 self.receive()
+            if self.has_eof:
+                status = self.status(self.receive())
+                if wants_cursor and status & (CURSOR_EXISTS | MORE_RESULTS) == CURSOR_EXISTS:
+                    return
             status = self.rows()
 
     def query(self, text):
@@ -107,13 +118,13 @@ class Session:
         self.begin(b"\x16" + text.encode())
         first = self.receive()
         columns, params = (int.from_bytes(first[at : at + 2], "little") for at in (5, 7))
-        for _ in range(columns + params):
+        for _ in range(columns + params + (self.has_eof and (columns > 0) + (params > 0))):
             self.receive()
         return first[1:5]
 
     def execute(self, statement, flags=0, params=b""):
         self.begin(b"\x17" + statement + bytes([flags]) + (1).to_bytes(4, "little") + params)
-        self.answer()
+        self.answer(wants_cursor=flags & 1)
 
     def fetch(self, statement, count):
         self.begin(b"\x1c" + statement + count.to_bytes(4, "little"))
@@ -162,10 +173,23 @@ LONG = (
 )
 
 
-def main():
-    if len(sys.argv) != 3:
-        sys.exit(__doc__.strip())
-    session = Session(sys.argv[1], sys.argv[2])
+# (the EOF after a result's columns has SERVER_STATUS_CURSOR_EXISTS there, and its rows follow)
+PROCEDURE = (
+    "CREATE OR REPLACE DATABASE called",
+    "USE called",
+    "CREATE TABLE things (id INT PRIMARY KEY, name VARCHAR(20))",
+    "INSERT INTO things VALUES (1, 'one'), (2, 'two')",
+    "CREATE PROCEDURE each_thing() BEGIN DECLARE found INT; DECLARE is_last INT DEFAULT 0;"
+    " DECLARE ids CURSOR FOR SELECT id FROM things ORDER BY id;"
+    " DECLARE CONTINUE HANDLER FOR NOT FOUND SET is_last = 1; OPEN ids; FETCH ids INTO found;"
+    " WHILE is_last = 0 DO SELECT id, name FROM things WHERE id = found; FETCH ids INTO found;"
+    " END WHILE;"
+    " CLOSE ids; END",
+)
+
+
+def record_tracked(path, user):
+    session = Session(path, user, USUAL | TRACK | NO_EOF, PROGRESS | METADATA | TOLD_ONCE)
     for statement in SET_UP + CHANGES:
         session.query(statement)
     listed = session.prepare("SELECT id, doc, at, seen, ratio, part, year FROM things WHERE id > ?")
@@ -180,6 +204,33 @@ def main():
     for statement in LONG:
         session.query(statement)
     session.begin(b"\x01")
+
+
+def record_procedure(path, user):
+    session = Session(path, user, USUAL, 0)
+    for statement in PROCEDURE + ("CALL each_thing()", "CALL each_thing()", "SELECT 1"):
+        session.query(statement)
+    called = session.prepare("CALL each_thing()")
+    session.execute(called)
+    session.execute(called, flags=1)
+    listed = session.prepare("SELECT id, name FROM things ORDER BY id")
+    session.execute(listed, flags=1)
+    session.fetch(listed, 1)
+    session.fetch(listed, 5)
+    session.execute(listed)
+    for statement in called, listed:
+        session.close(statement)
+    session.query("DROP DATABASE called")
+    session.begin(b"\x01")
+
+
+RECORDED = {"tracked": record_tracked, "procedure": record_procedure}
+
+
+def main():
+    if len(sys.argv) != 4 or sys.argv[3] not in RECORDED:
+        sys.exit(__doc__.strip())
+    RECORDED[sys.argv[3]](sys.argv[1], sys.argv[2])
 
 
 if __name__ == "__main__":

@@ -44,7 +44,7 @@ import re
 import sys
 
 CRATE = pathlib.Path(__file__).resolve().parent.parent / "crates/recording_tests"
-SESSIONS = ("py_basic", "py_rows", "go_basic", "php", "node", "tracked")
+SESSIONS = ("py_basic", "py_rows", "go_basic", "php", "node", "tracked", "procedure")
 # with what the names of the rows' sessions begin
 ROWS = b"rows/"
 SESSION, CLIENT, SERVER, RESET, LISTED = range(5)

@@ -8,6 +8,8 @@
 - `long N`: OK with a text of so many bytes; `fail N`: an error with one
 - `row N`: one row, of a text of so many zeros
 - `nulls`: a row of NULL and one of an empty text
+- `call N`: so many results with a row each, as of a stored procedure that selects inside an open
+  cursor of its own; then an OK
 - `half N`: a row of so many zeros, cut in the middle; `leave`: nothing; then the connection is
   closed
 - `another`: an OK of another number
@@ -34,6 +36,8 @@ FULL = 0xFFFFFF
 PIECE = bytes(1 << 16)
 OK = bytes([0, 0, 0, 2, 0, 0, 0])
 EOF = bytes([0xFE, 0, 0, 2, 0])
+# with SERVER_STATUS_CURSOR_EXISTS and SERVER_MORE_RESULTS_EXISTS
+EOF_IN_CURSOR = bytes([0xFE, 0, 0, 0x4A, 0])
 TOO_LONG, MUCH_TOO_LONG = 1 << 20, 12 << 20
 REFUSED = b"\xff\x81\x04#08S01Refused"
 FAILED = b"\xff\x28\x04#42000"
@@ -194,6 +198,11 @@ class Server:
             peer.send(EOF)
         elif word == b"nulls":
             peer.send(b"\x01", column(), EOF, b"\xfb", b"\0", EOF)
+        elif word.lower() == b"call":
+            for result in range(int(value)):
+                row = text(str(result).encode())
+                peer.send(b"\x01", column(), EOF_IN_CURSOR, row, EOF_IN_CURSOR)
+            peer.send(OK)
         elif word == b"half":
             peer.send(b"\x01", column(), EOF)
             peer.stream.sendall(int(value).to_bytes(3, "little") + b"\x04" + bytes(int(value) // 2))

@@ -23,7 +23,7 @@ import unittest
 
 from server import CACHE_METADATA, COMPRESS, OPTIONAL_METADATA, PLAIN, SSL, ZSTD
 import debian_clients
-from server import ACKNOWLEDGED, DUMP, EOF, FAILED, OK, PING, QUIT, REFUSED
+from server import ACKNOWLEDGED, DUMP, EOF, EOF_IN_CURSOR, FAILED, OK, PING, QUIT, REFUSED
 from server import Greeter, Peer, Server, column, login, long_ok, text
 
 PROXY = os.environ.get("PROXY", "target/release/proxy")
@@ -200,6 +200,17 @@ class Packets(ProxyTests):
             self.assertEqual(client.receive(), FAILED + b"x" * count)
         client.command(b"\x03select")
         self.assert_row(client, b"select")
+
+    def test_a_procedure_selects_inside_its_cursor(self):
+        client = self.logged_in(self.proxy())
+        for _ in range(2):
+            client.command(b"\x03call 2")
+            for row in b"0", b"1":
+                result = [b"\x01", column(), EOF_IN_CURSOR, text(row), EOF_IN_CURSOR]
+                self.assertEqual([client.receive() for _ in result], result)
+            self.assertEqual(client.receive(), OK)
+        client.command(b"\x03SELECT 1")
+        self.assert_row(client, b"SELECT 1")
 
     def test_bytes_pass_one_by_one(self):
         client = self.logged_in(self.proxy())

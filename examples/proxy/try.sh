@@ -331,6 +331,17 @@ END//
 CALL two()//
 SELECT 4; SELECT 5; DO 1; SELECT 6//
 END
+check 'results inside an open cursor of a procedure' same --delimiter=// << 'END'
+CREATE OR REPLACE PROCEDURE each_one() BEGIN DECLARE found INT; DECLARE is_last INT DEFAULT 0;
+DECLARE ids CURSOR FOR SELECT 7 UNION SELECT 8;
+DECLARE CONTINUE HANDLER FOR NOT FOUND SET is_last = 1;
+OPEN ids; FETCH ids INTO found;
+WHILE is_last = 0 DO SELECT found, 'a'; FETCH ids INTO found; END WHILE;
+CLOSE ids; END//
+CALL each_one()//
+CALL each_one()//
+SELECT 1//
+END
 seq 1 20000 > "$work/numbers"
 check 'a file of the client' same << END
 CREATE OR REPLACE TABLE numbers (n INT);

@@ -432,8 +432,9 @@ int32_t mysql_wire_session_packet(mysql_wire_session *session, uint32_t side, ui
  * OK. NEEDS_WHOLE: what is known after a packet of this kind hangs on all of it: gather it, and call
  * again with a `front_len` of `len`, or `mysql_wire_session_packet`. So it is with logins, requests for
  * TLS, OKs, EOFs, errors, counts and definitions of columns, answers to COM_STMT_PREPARE, requests for
- * a file, and COM_STMT_FETCH. NOT_A_SIDE; NOT_A_FRONT: `front_len` is above `len`, or below it and below
- * 3; NO_MEMORY, which only a whole payload gets. All but OK change nothing, and all but OK and
+ * a file, and COM_STMT_FETCH; and with COM_STMT_EXECUTE of which fewer than 6 bytes have come, since its
+ * flags say whether rows follow. NOT_A_SIDE; NOT_A_FRONT: `front_len` is above `len`, or below it and
+ * below 3; NO_MEMORY, which only a whole payload gets. All but OK change nothing, and all but OK and
  * NEEDS_WHOLE leave a `kind` of 0.
  */
 int32_t mysql_wire_session_front(mysql_wire_session *session, uint32_t side, uint8_t id, size_t len,

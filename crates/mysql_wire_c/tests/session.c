@@ -92,6 +92,18 @@ static const packet several[] = {
     ROW(SERVER, 2, DONE, OK, COMMAND, 2),
 };
 
+/* A procedure selects inside an open cursor of its own: rows follow the EOF that tells of it. */
+#define EOF_IN_CURSOR "\xfe\0\0\x4a\0"
+static const packet called[] = {
+    ROW(CLIENT, 0, "\x03" "CALL p()", QUERY, ANSWER, 2),
+    ROW(SERVER, 1, "\x01", COLUMN_COUNT, COLUMNS, 2),
+    ROW(SERVER, 2, DEFINITION, COLUMN, COLUMNS_END, 2),
+    ROW(SERVER, 3, EOF_IN_CURSOR, EOF, ROWS, 0x4a),
+    ROW(SERVER, 4, "\x01" "1", ROW, ROWS, 0x4a),
+    ROW(SERVER, 5, EOF_IN_CURSOR, EOF, ANSWER, 0x4a),
+    ROW(SERVER, 6, DONE, OK, COMMAND, 2),
+};
+
 static const packet pinged[] = {
     ROW(CLIENT, 0, "\x0e", PING, ANSWER, 2),
     ROW(SERVER, 1, DONE, OK, COMMAND, 2),
@@ -113,7 +125,7 @@ typedef struct exchange {
 static const exchange exchanges[] = {
     EXCHANGE(connection), EXCHANGE(query),  EXCHANGE(prepared), EXCHANGE(executed),
     EXCHANGE(fetched),    EXCHANGE(asked),  {piece, 1, PIECES}, EXCHANGE(loaded),
-    EXCHANGE(several),    EXCHANGE(pinged), EXCHANGE(quit),
+    EXCHANGE(several),    EXCHANGE(called), EXCHANGE(pinged), EXCHANGE(quit),
 };
 
 static const uint8_t *bytes_of(const packet *one) { return (const uint8_t *)one->payload; }
@@ -245,7 +257,7 @@ static bool a_session_is_followed(void) { return follows_all(by_payload); }
 static bool fronts_are_enough(void) {
     whole = 0;
     CHECK(follows_all(by_front));
-    CHECK(whole == 18);
+    CHECK(whole == 24);
     return follows_all(by_whole_front);
 }
 

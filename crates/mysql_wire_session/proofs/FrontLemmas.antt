@@ -4,12 +4,12 @@ use Rattle.std.proofs.Common.{◌≡◌, ◌⊎◌, ◌∙◌, ◌≤◌, ℕ, z
 use Rattle.mysql_wire_parts.specs.Optional.{has_query_attributes}
 use Rattle.mysql_wire_parts.specs.declared.places.PayloadError.{PayloadError}
 use Rattle.std.specs.Prelude.{IfErr, IfOk, OnOk}
-use Rattle.mysql_wire_session.specs.Advance.{IsRefusedMemory, applied, id_after, opened, remembered, state_after}
+use Rattle.mysql_wire_session.specs.Advance.{IsRefusedMemory, applied, asked, id_after, opened, remembered, state_after}
 use Rattle.mysql_wire_session.specs.Fronts.{FailsWhole, IsFront, KnownAfter, TakesFront, are_columns, says_more}
-use Rattle.mysql_wire_session_phases.specs.Kinds.{first_byte, is_report, kind_at, kind_by_front}
+use Rattle.mysql_wire_session_phases.specs.Kinds.{asks_for_cursor, first_byte, is_report, kind_at, kind_by_front}
 use Rattle.mysql_wire_session.specs.Opening.{opened_state}
 use Rattle.mysql_wire_session.specs.declared.session.read.Opened.{Opened}
-use Rattle.mysql_wire_session.specs.SilentLemmas.{kind_silent, silent}
+use Rattle.mysql_wire_session.specs.SilentLemmas.{execute_silent, kind_silent, silent, silent_but_for_a_cursor}
 use Rattle.mysql_wire_session.specs.Readings.{IsColumn, IsExecution, IsExecutionOf, IsQuery, IsRead, LogRequestGives, OtherCommandGives, ReadsAs, Receives, advanced, after_kind, after_packet, is_numbered, kind_of, opened_at, statement_named}
 use Rattle.mysql_wire_session.specs.State.{SessionState, expectation_of, statement_of}
 use Rattle.mysql_wire_connection.specs.contracts.payload.HandshakeV10Payload.TheImpl as greeting_type
@@ -114,7 +114,40 @@ front_told side id len front state next called called_is none next_is payload le
       inr (λ read reads.
           next_is ∙ ap (λ (n : ℕ). after_kind side id called n state) (sym len_is)
           ∙ ap (λ (k : PacketKind). after_kind side id k (length payload) state) so
-          ∙ silent side id (kind_of side id payload state) payload read state (kind_silent (kind_of side id payload state) (opened_at side id payload state) payload read quiet reads)),
+          ∙ silent side id (kind_of side id payload state) payload read state (opened_at side id payload state).phase quiet (kind_silent (kind_of side id payload state) (opened_at side id payload state) payload read quiet reads)),
+    )
+
+-- six bytes of an execution tell whether it asks for a cursor
+cursor_of : (n : ℕ) (payload : List ℕ) → 6 ≤ n → asks_for_cursor (take n payload) ≡ asks_for_cursor payload
+cursor_of zero payload six = absurd (omega (arith, six))
+cursor_of (suc zero) payload six = absurd (omega (arith, six))
+cursor_of (suc (suc zero)) payload six = absurd (omega (arith, six))
+cursor_of (suc (suc (suc zero))) payload six = absurd (omega (arith, six))
+cursor_of (suc (suc (suc (suc zero)))) payload six = absurd (omega (arith, six))
+cursor_of (suc (suc (suc (suc (suc zero))))) payload six = absurd (omega (arith, six))
+cursor_of (suc (suc (suc (suc (suc (suc n)))))) [] six = refl
+cursor_of (suc (suc (suc (suc (suc (suc n)))))) (a ∷ []) six = refl
+cursor_of (suc (suc (suc (suc (suc (suc n)))))) (a ∷ b ∷ []) six = refl
+cursor_of (suc (suc (suc (suc (suc (suc n)))))) (a ∷ b ∷ c ∷ []) six = refl
+cursor_of (suc (suc (suc (suc (suc (suc n)))))) (a ∷ b ∷ c ∷ d ∷ []) six = refl
+cursor_of (suc (suc (suc (suc (suc (suc n)))))) (a ∷ b ∷ c ∷ d ∷ e ∷ []) six = refl
+cursor_of (suc (suc (suc (suc (suc (suc n)))))) (a ∷ b ∷ c ∷ d ∷ e ∷ flags ∷ rest) six = refl
+
+-- a front of an execution that has its flags
+pub execution_told : (side : Side) (id len : ℕ) (front : List ℕ) (state next : SessionState)
+    → kind.Execute ≡ kind_by_front (expectation_of state) side id len front → 6 ≤ length front
+    → next ≡ asked kind.Execute front (after_kind side id kind.Execute len state) → TakesFront side id len front state next kind.Execute
+execution_told side id len front state next called_is six next_is payload len_is is =
+    let so : kind.Execute ≡ kind_of side id payload state =
+    (called_is ∙ ap (λ (n : ℕ). kind_by_front (expectation_of state) side id n front) (sym len_is) ∙ same_kind (expectation_of state) side id front payload is) in
+    let cursor : asks_for_cursor front ≡ asks_for_cursor payload = ap asks_for_cursor is.are ∙ cursor_of (length front) payload six in
+    let known : next ≡ asked kind.Execute payload (after_kind side id kind.Execute (length payload) state) =
+    (next_is ∙ ap (λ (n : ℕ). asked kind.Execute front (after_kind side id kind.Execute n state)) (sym len_is)
+    ∙ ap (λ (b : Bool). record (after_kind side id kind.Execute (length payload) state) { wants_cursor = b }) cursor) in (
+      so,
+      inr (λ read.
+          subst (λ (k : PacketKind). ReadsAs (opened k (length payload) state) k payload read → next ≡ after_packet side id k payload read state) so
+          (λ reads. known ∙ silent_but_for_a_cursor side id kind.Execute payload read state (execute_silent (statement_named payload) state.statements payload read reads))),
     )
 
 -- a packet that came whole

@@ -15,7 +15,7 @@ use Rattle.mysql_wire_session_phases.specs.declared.refusal.SessionError.{Sessio
 use Rattle.mysql_wire_session_phases.specs.declared.refusal.SessionError.TheVariants.{OutOfMemory}
 use Rattle.mysql_wire_session_phases.specs.declared.side.Side.{Side}
 use Rattle.mysql_wire_session_phases.specs.declared.side.Side.TheVariants.{Client, Server}
-use Rattle.mysql_wire_session_phases.specs.Kinds.{is_command}
+use Rattle.mysql_wire_session_phases.specs.Kinds.{asks_for_cursor, is_command}
 use Rattle.mysql_wire_session_phases.specs.Phases.{after_columns, after_definitions, command_phase, command_rows, done_phase, ended_phase, failed_phase, past_column, server_phase, after_answer, statement_columns}
 use Rattle.mysql_wire_session_packets.specs.declared.packet.Packet.{Packet}
 use Rattle.mysql_wire_session_packets.specs.declared.packet.Packet.TheVariants as packet
@@ -47,7 +47,16 @@ client_state_after kind.AuthAnswer len state = state
 client_state_after kind.File len state =
     if len == 0 then record state { phase = phase.Answer } else state
 client_state_after named len state =
-    record state { phase = command_phase named; row_form = command_rows named }
+    record state {
+      phase = command_phase named;
+      row_form = command_rows named;
+      wants_cursor = false;
+    }
+
+-- an execution says whether it asks for a cursor
+abbrev pub asked : PacketKind → List ℕ → SessionState → SessionState
+asked kind.Execute payload state = record state { wants_cursor = asks_for_cursor payload }
+asked named payload state = state
 
 -- after a packet of this kind, whether or not its type reads it
 abbrev pub state_after : Side → PacketKind → ℕ → SessionState → SessionState
@@ -59,7 +68,7 @@ state_after Server named len state =
 abbrev pub state_passed : Side → ℕ → SessionState → SessionState
 state_passed Client id state =
     if is_command state.phase state.next_id id
-    then record state { phase = phase.Answer; row_form = form.Unknown } else state
+    then record state { phase = phase.Answer; row_form = form.Unknown; wants_cursor = false } else state
 state_passed Server id state =
     record state { phase = past_column state.is_eof_deprecated state.phase }
 
@@ -140,7 +149,7 @@ applied (packet.Ok ok) state = answered ok.status_flags.0 state
 applied (packet.RowsEnd ok) state = answered ok.status_flags.0 state
 applied (packet.Eof eof) state =
     record state {
-      phase = ended_phase state.phase eof.status_flags.0;
+      phase = ended_phase state.wants_cursor state.phase eof.status_flags.0;
       status = status_of eof.status_flags.0;
     }
 applied (packet.Error error) state = record state { phase = failed_phase state.phase }

@@ -1,5 +1,5 @@
 -- What the front of a payload tells.
-use Rattle.std.specs.Prelude.{◌≡◌, ◌≢◌, ◌⊎◌, ◌≤◌, ℕ, Bool, true, false, List, length, take}
+use Rattle.std.specs.Prelude.{◌≡◌, ◌≢◌, ◌⊎◌, ◌<◌, ◌≤◌, ℕ, Bool, true, false, List, length, take}
 use Rattle.mysql_wire_session.specs.Readings.{Fails, ReadsAs, Receives, after_packet, kind_of, opened_at}
 use Rattle.mysql_wire_session.specs.Advance.{IsRefusedMemory, opened}
 use Rattle.mysql_wire_session_phases.specs.Kinds.{kind_by_front}
@@ -26,7 +26,7 @@ are_columns at = false
 
 -- what is known after a packet of this kind hangs on more than its kind and its length, where it is
 -- read in this phase: what both sides can do, a status, an error that a server begins with, a count,
--- a column's type, a statement
+-- a column's type, a statement, whether a cursor is asked for
 abbrev pub says_more : PacketKind → Phase → Bool
 says_more kind.TlsRequest at = true
 says_more kind.Login at = true
@@ -37,6 +37,7 @@ says_more kind.ColumnCount at = true
 says_more kind.Column at = are_columns at
 says_more kind.LocalInfile at = true
 says_more kind.Prepared at = true
+says_more kind.Execute at = true
 says_more kind.Fetch at = true
 says_more other at = false
 
@@ -63,11 +64,12 @@ FailsWhole side id payload state why = Fails side id payload state why
     ⊎ ((received : Received) × Receives side id payload state received
     × IsRefusedMemory received.packet state why)
 
--- why nothing is known after it: more than this front is wanted; or it has come whole, and was not
--- read or gone on after
+-- why nothing is known after it: more than this front is wanted, of an execution its first six bytes;
+-- or it has come whole, and was not read or gone on after
 abbrev pub FailsFront : Side → ℕ → ℕ → List ℕ → SessionState → FrontError → Type 0
 FailsFront side id len front state (failed.NeedsWhole called) =
     (called ≡ kind_by_front (expectation_of state) side id len front) × (length front ≢ len)
     × (says_more called (opened called len state).phase ≡ true)
+    × (called ≡ kind.Execute → length front < 6)
 FailsFront side id len front state (failed.Session why) =
     (length front ≡ len) × FailsWhole side id front state why

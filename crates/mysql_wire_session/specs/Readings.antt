@@ -64,7 +64,7 @@ use Rattle.mysql_wire_session_packets.specs.declared.packet.Received.{Received}
 use Rattle.mysql_wire_session_packets.specs.declared.packet.Row.{Row}
 use Rattle.mysql_wire_session_packets.specs.declared.packet.Row.TheVariants as row
 use Rattle.mysql_wire_session_phases.specs.Kinds.{first_byte, kind_at}
-use Rattle.mysql_wire_session.specs.Advance.{applied, id_after, opened, remembered, state_after, state_passed}
+use Rattle.mysql_wire_session.specs.Advance.{applied, asked, id_after, opened, remembered, state_after, state_passed}
 use Rattle.mysql_wire_session.specs.State.{SessionState, expectation_of, statement_of}
 
 -- the payload as it is, as this variant
@@ -312,8 +312,8 @@ pub record Receives (side : Side) (id : ℕ) (payload : List ℕ) (state : Sessi
 -- what is known after a packet of this kind that was read as this
 abbrev pub after_packet : Side → ℕ → PacketKind → List ℕ → Packet → SessionState → SessionState
 after_packet side id called payload read state =
-    record (applied read (state_after side called (length payload)
-    (opened called (length payload) (remembered read state)))) { next_id = id_after id (length payload) }
+    record (applied read (asked called payload (state_after side called (length payload)
+    (opened called (length payload) (remembered read state))))) { next_id = id_after id (length payload) }
 
 -- what is known after a packet of this kind and length that says no more of the session
 abbrev pub after_kind : Side → ℕ → PacketKind → ℕ → SessionState → SessionState

@@ -4,7 +4,7 @@ use Rattle.std.proofs.Common.{◌≡◌, ◌⊎◌, ◌∙◌, ◌≤◌, ℕ, z
 use Rattle.mysql_wire_parts.specs.Optional.{has_query_attributes}
 use Rattle.mysql_wire_parts.specs.declared.places.PayloadError.{PayloadError}
 use Rattle.std.specs.Prelude.{IfErr, IfOk, OnOk}
-use Rattle.mysql_wire_session.specs.Advance.{IsRefusedMemory, applied, id_after, opened, remembered, state_after}
+use Rattle.mysql_wire_session.specs.Advance.{IsRefusedMemory, applied, asked, id_after, opened, remembered, state_after}
 use Rattle.mysql_wire_session.specs.Fronts.{FailsWhole, IsFront, KnownAfter, TakesFront, are_columns, says_more}
 use Rattle.mysql_wire_session_phases.specs.Kinds.{first_byte, is_report, kind_at, kind_by_front}
 use Rattle.mysql_wire_session.specs.Opening.{opened_state}
@@ -53,12 +53,103 @@ use Rattle.mysql_wire_statements.specs.declared.com_stmt_prepare_ok.ComStmtPrepa
 abbrev pub Silent : Packet → Type 0
 Silent shown = (state : SessionState) → (remembered shown state ≡ state) × (applied shown state ≡ state)
 
-pub silent : (side : Side) (id : ℕ) (called : PacketKind) (payload : List ℕ) (shown : Packet) (state : SessionState) → Silent shown
-    → after_kind side id called (length payload) state ≡ after_packet side id called payload shown state
-silent side id called payload shown state quiet =
+-- whether a cursor is asked for, and the id that follows
+pub asked_before_id : (called : PacketKind) (payload : List ℕ) (id : ℕ) (state : SessionState)
+    → asked called payload (record state { next_id = id }) ≡ record (asked called payload state) { next_id = id }
+asked_before_id kind.Greeting payload id state = refl
+asked_before_id kind.TlsRequest payload id state = refl
+asked_before_id kind.Login payload id state = refl
+asked_before_id kind.AuthSwitch payload id state = refl
+asked_before_id kind.AuthMoreData payload id state = refl
+asked_before_id kind.AuthAnswer payload id state = refl
+asked_before_id kind.Ok payload id state = refl
+asked_before_id kind.Error payload id state = refl
+asked_before_id kind.Progress payload id state = refl
+asked_before_id kind.Eof payload id state = refl
+asked_before_id kind.ColumnCount payload id state = refl
+asked_before_id kind.Column payload id state = refl
+asked_before_id kind.Row payload id state = refl
+asked_before_id kind.BinaryRow payload id state = refl
+asked_before_id kind.LocalInfile payload id state = refl
+asked_before_id kind.File payload id state = refl
+asked_before_id kind.Prepared payload id state = refl
+asked_before_id kind.Statistics payload id state = refl
+asked_before_id kind.BinaryLogEvent payload id state = refl
+asked_before_id kind.Query payload id state = refl
+asked_before_id kind.InitDatabase payload id state = refl
+asked_before_id kind.Ping payload id state = refl
+asked_before_id kind.Quit payload id state = refl
+asked_before_id kind.ChangeUser payload id state = refl
+asked_before_id kind.Prepare payload id state = refl
+asked_before_id kind.Execute payload id state = refl
+asked_before_id kind.LongData payload id state = refl
+asked_before_id kind.CloseStatement payload id state = refl
+asked_before_id kind.ResetStatement payload id state = refl
+asked_before_id kind.Fetch payload id state = refl
+asked_before_id kind.FieldList payload id state = refl
+asked_before_id kind.SetOption payload id state = refl
+asked_before_id kind.StatisticsRequest payload id state = refl
+asked_before_id kind.ResetConnection payload id state = refl
+asked_before_id kind.BinaryLogRequest payload id state = refl
+asked_before_id kind.OtherCommand payload id state = refl
+asked_before_id kind.TooLarge payload id state = refl
+asked_before_id (kind.Refused refusal) payload id state = refl
+
+-- a kind that says no more asks for no cursor
+asked_nothing : (called : PacketKind) (payload : List ℕ) (state : SessionState) (at : Phase) → says_more called at ≡ false → asked called payload state ≡ state
+asked_nothing kind.Greeting payload state at none = refl
+asked_nothing kind.TlsRequest payload state at none = refl
+asked_nothing kind.Login payload state at none = refl
+asked_nothing kind.AuthSwitch payload state at none = refl
+asked_nothing kind.AuthMoreData payload state at none = refl
+asked_nothing kind.AuthAnswer payload state at none = refl
+asked_nothing kind.Ok payload state at none = refl
+asked_nothing kind.Error payload state at none = refl
+asked_nothing kind.Progress payload state at none = refl
+asked_nothing kind.Eof payload state at none = refl
+asked_nothing kind.ColumnCount payload state at none = refl
+asked_nothing kind.Column payload state at none = refl
+asked_nothing kind.Row payload state at none = refl
+asked_nothing kind.BinaryRow payload state at none = refl
+asked_nothing kind.LocalInfile payload state at none = refl
+asked_nothing kind.File payload state at none = refl
+asked_nothing kind.Prepared payload state at none = refl
+asked_nothing kind.Statistics payload state at none = refl
+asked_nothing kind.BinaryLogEvent payload state at none = refl
+asked_nothing kind.Query payload state at none = refl
+asked_nothing kind.InitDatabase payload state at none = refl
+asked_nothing kind.Ping payload state at none = refl
+asked_nothing kind.Quit payload state at none = refl
+asked_nothing kind.ChangeUser payload state at none = refl
+asked_nothing kind.Prepare payload state at none = refl
+asked_nothing kind.Execute payload state at none = absurd cc
+asked_nothing kind.LongData payload state at none = refl
+asked_nothing kind.CloseStatement payload state at none = refl
+asked_nothing kind.ResetStatement payload state at none = refl
+asked_nothing kind.Fetch payload state at none = refl
+asked_nothing kind.FieldList payload state at none = refl
+asked_nothing kind.SetOption payload state at none = refl
+asked_nothing kind.StatisticsRequest payload state at none = refl
+asked_nothing kind.ResetConnection payload state at none = refl
+asked_nothing kind.BinaryLogRequest payload state at none = refl
+asked_nothing kind.OtherCommand payload state at none = refl
+asked_nothing kind.TooLarge payload state at none = refl
+asked_nothing (kind.Refused refusal) payload state at none = refl
+
+-- what is known after it, but for whether a cursor is asked for
+pub silent_but_for_a_cursor : (side : Side) (id : ℕ) (called : PacketKind) (payload : List ℕ) (shown : Packet) (state : SessionState) → Silent shown
+    → asked called payload (after_kind side id called (length payload) state) ≡ after_packet side id called payload shown state
+silent_but_for_a_cursor side id called payload shown state quiet =
     let len = length payload in
-    ap (λ (k : SessionState). record (state_after side called len (opened called len k)) { next_id = id_after id len }) (sym (quiet state).0)
-    ∙ ap (λ (k : SessionState). record k { next_id = id_after id len }) (sym (quiet (state_after side called len (opened called len (remembered shown state)))).1)
+    asked_before_id called payload (id_after id len) (state_after side called len (opened called len state))
+    ∙ ap (λ (k : SessionState). record (asked called payload (state_after side called len (opened called len k))) { next_id = id_after id len }) (sym (quiet state).0)
+    ∙ ap (λ (k : SessionState). record k { next_id = id_after id len }) (sym (quiet (asked called payload (state_after side called len (opened called len (remembered shown state))))).1)
+
+pub silent : (side : Side) (id : ℕ) (called : PacketKind) (payload : List ℕ) (shown : Packet) (state : SessionState) (at : Phase) → says_more called at ≡ false → Silent shown
+    → after_kind side id called (length payload) state ≡ after_packet side id called payload shown state
+silent side id called payload shown state at none quiet =
+    sym (asked_nothing called payload (after_kind side id called (length payload) state) at none)
+    ∙ silent_but_for_a_cursor side id called payload shown state quiet
 
 of_type : {X : Type 0} (variant : X → Packet) (reads : List ℕ → Result X PayloadError → Type 0) (payload : List ℕ) (shown : Packet)
     → ((read : X) → Silent (variant read)) → IsRead variant reads payload shown → Silent shown
@@ -75,7 +166,7 @@ execution_silent : (statement : Option ComStmtPrepareOk) (number : ℕ) (payload
 execution_silent (Some statement) number payload shown is = of_type packet.Execute (execute_type.ghosts.reads_whole statement.num_params) payload shown (λ read state. (refl, refl)) is
 execution_silent None number payload shown is = subst (λ (p : Packet). Silent p) (sym is) (λ state. (refl, refl))
 
-execute_silent : (number : Option ℕ) (statements : List ComStmtPrepareOk) (payload : List ℕ) (shown : Packet) → IsExecution number statements payload shown → Silent shown
+pub execute_silent : (number : Option ℕ) (statements : List ComStmtPrepareOk) (payload : List ℕ) (shown : Packet) → IsExecution number statements payload shown → Silent shown
 execute_silent (Some number) statements payload shown is = execution_silent (statement_of number statements) number payload shown is
 execute_silent None statements payload shown is = subst (λ (p : Packet). Silent p) (sym is) (λ state. (refl, refl))
 
@@ -151,7 +242,7 @@ kind_silent kind.ChangeUser state payload shown none is =
     of_type _ (change_type.ghosts.reads_whole state.capabilities) payload shown (λ read state. (refl, refl)) is
 kind_silent kind.Prepare state payload shown none is =
     of_type _ (prepare_type.ghosts.reads_whole tt) payload shown (λ read state. (refl, refl)) is
-kind_silent kind.Execute state payload shown none is = execute_silent (statement_named payload) state.statements payload shown is
+kind_silent kind.Execute state payload shown none is = absurd cc
 kind_silent kind.LongData state payload shown none is =
     of_type _ (long_data_type.ghosts.reads_whole tt) payload shown (λ read state. (refl, refl)) is
 kind_silent kind.CloseStatement state payload shown none is =

@@ -13,7 +13,8 @@ use Rattle.mysql_wire_session_phases.specs.declared.phase.RowForm.TheVariants.{U
 use Rattle.mysql_wire_session.specs.declared.session.Session.{Session}
 
 -- what is waited for; the id that follows the last packet's; whether rows begin with no EOF after
--- the definitions of columns, and how their values are written; the capabilities, and MariaDB's; the
+-- the definitions of columns, and how their values are written; whether the last command is an
+-- execution that asks for a cursor; the capabilities, and MariaDB's; the
 -- status that the last OK or EOF told; how many columns the last answer has, and the types of those
 -- that were defined since; and the statements that were prepared, the newest first
 pub record SessionState : Type 0 where
@@ -21,6 +22,7 @@ pub record SessionState : Type 0 where
   pub next_id : ℕ
   pub is_eof_deprecated : Bool
   pub row_form : RowForm
+  pub wants_cursor : Bool
   pub capabilities : CapabilityFlags
   pub mariadb : MariadbCapabilities
   pub status : StatusFlags
@@ -35,6 +37,7 @@ state_of session =
       next_id = session.next_id;
       is_eof_deprecated = session.is_eof_deprecated;
       row_form = session.row_form;
+      wants_cursor = session.wants_cursor;
       capabilities = session.capabilities;
       mariadb = session.mariadb;
       status = session.status;
@@ -61,6 +64,7 @@ initial_state =
       next_id = 0;
       is_eof_deprecated = false;
       row_form = Unknown;
+      wants_cursor = false;
       capabilities = record { 0 = 0x200 };
       mariadb = record { 0 = 0 };
       status = record { 0 = 0 };

@@ -53,6 +53,8 @@ pub struct Session<A: Allocator + Copy = Global> {
     next_id: u8,
     is_eof_deprecated: bool,
     row_form: RowForm,
+    // The last command is an execution that asks for a cursor.
+    wants_cursor: bool,
     capabilities: CapabilityFlags,
     mariadb: MariadbCapabilities,
     status: StatusFlags,
@@ -73,6 +75,7 @@ impl<A: Allocator + Copy> Session<A> {
             next_id: 0,
             is_eof_deprecated: false,
             row_form: RowForm::Unknown,
+            wants_cursor: false,
             capabilities: CapabilityFlags::CLIENT_PROTOCOL_41,
             mariadb: MariadbCapabilities::empty(),
             status: StatusFlags::empty(),
@@ -224,6 +227,7 @@ impl<A: Allocator + Copy> Session<A> {
         let len = received.payload.len();
         self.open(received.kind, len);
         self.go_on(received.side, received.kind, len);
+        self.note_cursor(received.kind, received.payload);
         self.apply(&received.packet);
         self.next_id = id_after(received.id, len);
         Ok(())
@@ -246,6 +250,7 @@ impl<A: Allocator + Copy> Session<A> {
         match side {
             Side::Client if is_command(self.phase, self.next_id, id) => {
                 self.row_form = RowForm::Unknown;
+                self.wants_cursor = false;
                 self.phase = Phase::Answer;
             }
             Side::Client => {}

@@ -1,5 +1,5 @@
 -- That a session follows what the grammar has.
-use Rattle.std.proofs.Common.{◌≡◌, ◌≢◌, ◌⊎◌, ◌∙◌, ◌<◌, ◌≤◌, ◌==◌, ℕ, inl, inr, Bool, true, false, List, [], ◌∷◌, ◌++◌, length, refl, ap, sym, subst, Option, Some, None, cond, Result, Ok, Err, arith, ◌-◌, append-nil, take}
+use Rattle.std.proofs.Common.{◌≡◌, ◌≢◌, ◌⊎◌, ◌∙◌, ◌<◌, ◌≤◌, ◌==◌, ◌&&◌, ℕ, inl, inr, Bool, true, false, List, [], ◌∷◌, ◌++◌, length, refl, ap, sym, subst, Option, Some, None, cond, Result, Ok, Err, arith, ◌-◌, append-nil, take}
 use Rattle.std.specs.List.{AllByRecursion, flat_map}
 use Rattle.std.proofs.lemmas.Bool.{cases_eq, le-ltb, lt-ltb, ne_eqb}
 use Rattle.std.proofs.lemmas.List.{append_assoc}
@@ -20,9 +20,9 @@ use Rattle.mysql_wire_session_phases.specs.declared.phase.RowForm.TheVariants as
 use Rattle.mysql_wire_session_phases.specs.declared.refusal.Refusal.{Refusal}
 use Rattle.mysql_wire_session_phases.specs.declared.side.Side.{Side}
 use Rattle.mysql_wire_session_phases.specs.declared.side.Side.TheVariants.{Client, Server}
-use Rattle.mysql_wire_session_laws.specs.Grammar.{Advances, Agreed, Agrees, AreColumns, AreDescribed, AreExchanges, ConnectionIsFollowed, FollowsEach, IsLogin, SessionIsFollowed, AreDefined, AreEnded, AreResults, Counts, EachIsFollowed, EndsRows, EndsWell, Follows, FollowsCommandUntil, FollowsExchange, FollowsUntil, IdleAtItsEnd, IsAnyLogin, IsClosed, IsAnswered, IsDenied, IsEncrypted, IsIdle, IsLastExchange, IsNoGreeting, LastIsFollowed, IsTlsRequest, RefusalIsFollowed, TlsIsFollowed, IsColumnCount, IsCommand, IsAuthentication, IsDefinition, IsEntry, IsEof, IsError, IsExchange, IsFetch, IsLetIn, IsOptionCommand, IsOptionOutcome, IsFileEnd, IsFileRequest, IsOk, IsOutcome, IsPiece, IsPlainCommand, IsPrepareAnswer, IsPrepared, IsReadAs, IsResult, IsRow, IsServers, IsStatistics, IsTableColumn, IsUnanswered, MayBeColumns, MaySend, Numbered, Reaches, Said, agreed_of, called_at, form_of}
+use Rattle.mysql_wire_session_laws.specs.Grammar.{Advances, Agreed, Agrees, AreColumns, AreDescribed, AreExchanges, ConnectionIsFollowed, FollowsEach, IsLogin, SessionIsFollowed, AreDefined, AreEnded, AreResults, Counts, EachIsFollowed, EndsRows, EndsWell, Follows, FollowsCommandUntil, FollowsExchange, FollowsUntil, IdleAtItsEnd, IsAnyLogin, IsClosed, IsAnswered, IsDenied, IsEncrypted, IsIdle, IsLastExchange, IsNoGreeting, LastIsFollowed, IsTlsRequest, RefusalIsFollowed, TlsIsFollowed, IsColumnCount, IsCommand, IsAuthentication, IsDefinition, IsEntry, IsEof, IsError, IsExchange, IsFetch, IsLetIn, IsOptionCommand, IsOptionOutcome, IsFileEnd, IsFileRequest, IsOk, IsOutcome, IsPiece, IsPlainCommand, IsPrepareAnswer, IsPrepared, IsReadAs, IsResult, IsRow, IsServers, IsStatistics, IsTableColumn, IsUnanswered, MayBeColumns, MaySend, Numbered, Reaches, Said, agreed_of, called_at, executed, form_of}
 use Rattle.mysql_wire_session.specs.Advance.{applied, client_state_after, counted_phase, id_after, noted, opened, prepared_phase, remembered, state_after, status_of, without_eof}
-use Rattle.mysql_wire_session_phases.specs.Phases.{after_column, after_columns, after_definitions, ended_phase, statement_columns}
+use Rattle.mysql_wire_session_phases.specs.Phases.{after_column, after_columns, after_definitions, ended_phase, opens_cursor, statement_columns}
 use Rattle.mysql_wire_session.specs.State.{SessionState, expectation_of, initial_state, statement_of}
 use Rattle.mysql_wire_session.specs.Readings.{IsEnd, IsExecution, IsExecutionOf, IsQuery as ReadsQuery, IsRead, ReadsAs, after_kind, after_packet, is_ended_by_ok, statement_named}
 use Rattle.mysql_wire_session.specs.Senders.{is_idle, next_sender}
@@ -70,11 +70,11 @@ use denote.Param.{number}
 -- this is waited for, and this was agreed on
 abbrev knows : Phase → Agreed → SessionState → SessionState
 knows at agreed state =
-    record state { phase = at; is_eof_deprecated = agreed.is_eof_deprecated; capabilities = agreed.capabilities; mariadb = agreed.mariadb; row_form = form_of agreed.is_binary }
+    record state { phase = at; is_eof_deprecated = agreed.is_eof_deprecated; capabilities = agreed.capabilities; mariadb = agreed.mariadb; row_form = form_of agreed.is_binary; wants_cursor = agreed.wants_cursor }
 
 -- the same for what is no row
 abbrev settled : Agreed → Agreed
-settled agreed = record agreed { is_binary = false }
+settled agreed = record agreed { is_binary = false; wants_cursor = false }
 
 -- from there on these packets are followed, whatever else is known
 abbrev Leads : Phase → Agreed → List Said → Type 0
@@ -290,7 +290,7 @@ from_opened A said shown state rest kept opens then =
 
 -- an EOF after definitions, which tells these flags
 eof_goes : (flags : ℕ → Type 0) (agreed : Agreed) (following : AfterColumns) (at : Phase) (one : Said) (rest : List Said) → IsEof flags one
-    → ((status : ℕ) → flags status → ended_phase (phase.ColumnsEnd following) status ≡ at)
+    → ((status : ℕ) → flags status → ended_phase agreed.wants_cursor (phase.ColumnsEnd following) status ≡ at)
     → Leads at (with_eof false agreed) rest → Leads (phase.ColumnsEnd following) (with_eof false agreed) (one ∷ rest)
 eof_goes flags agreed following at one rest end ends then state =
     goes (settled (with_eof false agreed)) (knows (phase.ColumnsEnd following) (with_eof false agreed) state) one rest 0xfe kind.Eof refl refl end.is
@@ -306,18 +306,18 @@ eof_goes flags agreed following at one rest end ends then state =
     (subst (λ (p : Phase). Follows (settled (with_eof false agreed)) (knows p (with_eof false agreed) (told state one read.0.status_flags.0)) rest) (sym (ends read.0.status_flags.0 read.1))
     (then (told state one read.0.status_flags.0)))))
 
-defined_goes : (d : Bool) (agreed : Agreed) (said rest : List Said) → AreDefined d said
+defined_goes : (d : Bool) (agreed : Agreed) (said rest : List Said) → AreDefined agreed.wants_cursor d said
     → Leads phase.Rows (with_eof d agreed) rest → Leads (after_columns d after.Rows) (with_eof d agreed) (said ++ rest)
 defined_goes true agreed said rest none then state = subst (λ (said : List Said). Follows (settled (with_eof true agreed)) (knows phase.Rows (with_eof true agreed) state) (said ++ rest)) (sym none) (then state)
 defined_goes false agreed said rest (one, end, only) then state =
     subst (λ (said : List Said). Follows (settled (with_eof false agreed)) (knows (phase.ColumnsEnd after.Rows) (with_eof false agreed) state) (said ++ rest)) (sym only)
-    (eof_goes (λ flags. has flags 0x40 ≡ false) agreed after.Rows phase.Rows one rest end (λ status none. rw none refl) then state)
+    (eof_goes (λ flags. (agreed.wants_cursor && opens_cursor flags) ≡ false) agreed after.Rows phase.Rows one rest end (λ status none. rw none refl) then state)
 
-cursor_goes : (d : Bool) (agreed : Agreed) (one : Said) (rest : List Said) → d ≡ false → IsEof (λ flags. has flags 0x40 ≡ true) one
+cursor_goes : (d : Bool) (agreed : Agreed) (one : Said) (rest : List Said) → agreed.wants_cursor ≡ true → d ≡ false → IsEof (λ flags. opens_cursor flags ≡ true) one
     → Leads phase.Command (with_eof d agreed) rest → Leads (after_columns d after.Rows) (with_eof d agreed) (one ∷ rest)
-cursor_goes true agreed one rest kept end then state = absurd cc
-cursor_goes false agreed one rest kept end then state =
-    eof_goes (λ flags. has flags 0x40 ≡ true) agreed after.Rows phase.Command one rest end (λ status some. rw some refl) then state
+cursor_goes true agreed one rest wanted kept end then state = absurd cc
+cursor_goes false agreed one rest wanted kept end then state =
+    eof_goes (λ flags. opens_cursor flags ≡ true) agreed after.Rows phase.Command one rest end (λ status some. rw (wanted, some) refl) then state
 
 -- ---- rows
 
@@ -458,7 +458,7 @@ result_goes agreed more said rest (inr (inr (inl (set, none)))) then state =
     (ap (λ (packets : List Said). set.count ∷ packets) (sym (append_assoc set.definitions (set.end ∷ []) rest)) ∙ ap (λ (packets : List Said). packets ++ rest) (sym set.whole))
     (count_goes set.are_told agreed set.columns set.count (set.definitions ++ set.end ∷ rest) set.has_columns set.counts
     (described_go set.are_told agreed set.columns set.definitions (set.end ∷ rest) set.described set.has_columns
-    (cursor_goes agreed.is_eof_deprecated agreed set.end rest set.has_eof set.ends
+    (cursor_goes agreed.is_eof_deprecated agreed set.end rest set.is_wanted set.has_eof set.ends
     (λ next. subst (λ (b : Bool). Follows (settled agreed) (knows (after_result b) agreed next) rest) none (then next)))) state)
 result_goes agreed more said rest (inr (inr (inr load))) then state =
     subst (λ (said : List Said). Follows (settled agreed) (knows phase.Answer agreed state) said)
@@ -518,7 +518,7 @@ quiet_goes : (state : SessionState) (number : ℕ) (called : PacketKind) (said :
     → Follows (agreed_of state) (after_kind Client said.id called (length said.payload) state) answer → FollowsExchange state (said ∷ answer)
 quiet_goes state number called said answer at is called_so quiet then = command_goes state number called said answer at is called_so
     (λ shown reads. subst (λ (next : SessionState). Follows (agreed_of state) next answer)
-    (silent Client said.id called said.payload shown state (kind_silent called (opened called (length said.payload) state) said.payload shown quiet reads)) then)
+    (silent Client said.id called said.payload shown state (opened called (length said.payload) state).phase quiet (kind_silent called (opened called (length said.payload) state) said.payload shown quiet reads)) then)
 
 -- ---- a query, and an execution
 
@@ -529,20 +529,20 @@ query_goes true state said answer then shown reads =
 query_goes false state said answer then shown reads =
     typed_goes _ (query_type.ghosts.reads_whole tt) state kind.Query said answer (λ read. then (numbered state said)) (λ refusal. then (numbered state said)) shown reads
 
-execution_of_goes : (statement : Option ComStmtPrepareOk) (number : ℕ) (state : SessionState) (said : Said) (answer : List Said) → Leads phase.Answer (with_rows true (agreed_of state)) answer
+execution_of_goes : (statement : Option ComStmtPrepareOk) (number : ℕ) (state : SessionState) (said : Said) (answer : List Said) → Leads phase.Answer (executed (agreed_of state) said.payload) answer
     → (shown : Packet) → IsExecutionOf statement number said.payload shown → Follows (agreed_of state) (after_packet Client said.id kind.Execute said.payload shown state) answer
 execution_of_goes (Some statement) number state said answer then shown reads =
     typed_goes packet.Execute (execute_type.ghosts.reads_whole statement.num_params) state kind.Execute said answer (λ read. then (numbered state said)) (λ refusal. then (numbered state said)) shown reads
 execution_of_goes None number state said answer then shown reads = rw reads (then (numbered state said))
 
-execute_goes : (number : Option ℕ) (statements : List ComStmtPrepareOk) (state : SessionState) (said : Said) (answer : List Said) → Leads phase.Answer (with_rows true (agreed_of state)) answer
+execute_goes : (number : Option ℕ) (statements : List ComStmtPrepareOk) (state : SessionState) (said : Said) (answer : List Said) → Leads phase.Answer (executed (agreed_of state) said.payload) answer
     → (shown : Packet) → IsExecution number statements said.payload shown → Follows (agreed_of state) (after_packet Client said.id kind.Execute said.payload shown state) answer
 execute_goes (Some number) statements state said answer then shown reads = execution_of_goes (statement_of number statements) number state said answer then shown reads
 execute_goes None statements state said answer then shown reads = rw reads (then (numbered state said))
 
 -- ---- a statement's answer
 
-ended_goes : (d : Bool) (agreed : Agreed) (following : AfterColumns) (said rest : List Said) → ((status : ℕ) → ended_phase (phase.ColumnsEnd following) status ≡ after_definitions following)
+ended_goes : (d : Bool) (agreed : Agreed) (following : AfterColumns) (said rest : List Said) → ((status : ℕ) → ended_phase agreed.wants_cursor (phase.ColumnsEnd following) status ≡ after_definitions following)
     → AreEnded d said → Leads (after_definitions following) (with_eof d agreed) rest
     → Leads (after_columns d following) (with_eof d agreed) (said ++ rest)
 ended_goes true agreed following said rest phase_is none then state =
@@ -551,7 +551,7 @@ ended_goes false agreed following said rest phase_is (one, end, only) then state
     subst (λ (said : List Said). Follows (settled (with_eof false agreed)) (knows (phase.ColumnsEnd following) (with_eof false agreed) state) (said ++ rest)) (sym only)
     (eof_goes (λ flags. Unit {0}) agreed following (after_definitions following) one rest end (λ status any. phase_is status) then state)
 
-columns_go : (agreed : Agreed) (following : AfterColumns) (columns : ℕ) (said rest : List Said) → ((status : ℕ) → ended_phase (phase.ColumnsEnd following) status ≡ after_definitions following)
+columns_go : (agreed : Agreed) (following : AfterColumns) (columns : ℕ) (said rest : List Said) → ((status : ℕ) → ended_phase agreed.wants_cursor (phase.ColumnsEnd following) status ≡ after_definitions following)
     → 0 < columns → AreColumns agreed.is_eof_deprecated columns said → Leads (after_definitions following) agreed rest
     → Leads (phase.Columns columns following) agreed (said ++ rest)
 columns_go agreed following columns said rest phase_is some are then state =
@@ -860,7 +860,7 @@ answered state query answer at (inl (is, (results, are, whole))) =
 answered state query answer at (inr (inl (is, (results, are, whole)))) =
     command_goes state 0x17 kind.Execute query answer at is refl
     (execute_goes (statement_named query.payload) state.statements state query answer
-    (subst (λ (answer : List Said). Leads phase.Answer (with_rows true (agreed_of state)) answer) (sym whole) (results_go (with_rows true (agreed_of state)) results are)))
+    (subst (λ (answer : List Said). Leads phase.Answer (executed (agreed_of state) query.payload) answer) (sym whole) (results_go (executed (agreed_of state) query.payload) results are)))
 answered state query answer at (inr (inr (inl (is, prepared)))) =
     command_goes state 0x16 kind.Prepare query answer at is refl
     (λ shown reads. typed_goes packet.Prepare (prepare_type.ghosts.reads_whole tt) state kind.Prepare query answer
@@ -897,7 +897,7 @@ answered state query answer at (inr (inr (inr (inr (inr (inr (inr (inr (inr (inl
 answered state query answer at (inr (inr (inr (inr (inr (inr (inr (inr (inr (inr (is, entry))))))))))) =
     command_goes state 0x11 kind.ChangeUser query answer at is refl
     (λ shown reads. typed_goes _ (change_type.ghosts.reads_whole state.capabilities) state kind.ChangeUser query answer
-    (λ read. let_in_goes (agreed_of state) answer entry (record (numbered state query) { row_form = form.Text })) (λ refusal. let_in_goes (agreed_of state) answer entry (record (numbered state query) { row_form = form.Text })) shown reads)
+    (λ read. let_in_goes (agreed_of state) answer entry (record (numbered state query) { row_form = form.Text; wants_cursor = false })) (λ refusal. let_in_goes (agreed_of state) answer entry (record (numbered state query) { row_form = form.Text; wants_cursor = false })) shown reads)
 
 -- the same with reports
 followed : (state : SessionState) (said : List Said) → state.phase ≡ phase.Command → IsExchange (agreed_of state) state.statements said → FollowsExchange state said
@@ -962,7 +962,8 @@ greeting_goes ends greeting rest is begins then =
 
 pub connection_is_followed : ConnectionIsFollowed
 connection_is_followed agreed said is =
-    let same : settled agreed ≡ agreed = ap (λ (b : Bool). record agreed { is_binary = b }) (sym is.no_rows) in
+    let same : settled agreed ≡ agreed = (ap (λ (b : Bool). record agreed { is_binary = b; wants_cursor = false }) (sym is.no_rows)
+    ∙ ap (λ (b : Bool). record agreed { wants_cursor = b }) (sym is.no_cursor)) in
     subst (λ (A : Agreed). Follows A initial_state said) same
     (subst (λ (said : List Said). Follows (settled agreed) initial_state said) (sym is.whole)
     (greeting_goes (IsIdle (settled agreed)) is.greeting (is.login ∷ is.rest) is.greets is.begins
@@ -1024,8 +1025,8 @@ last_goes state (change ∷ answer) at (inr (is, denied)) =
     command_goes_until IsClosed state 0x11 kind.ChangeUser change answer at is refl
     (λ shown reads. of_read _ (change_type.ghosts.reads_whole state.capabilities) change.payload shown
     (λ (p : Packet). FollowsUntil IsClosed (after_packet Client change.id kind.ChangeUser change.payload p state) answer)
-    (λ read. denied_goes (agreed_of state) answer denied (record (numbered state change) { row_form = form.Text }))
-    (λ refusal. denied_goes (agreed_of state) answer denied (record (numbered state change) { row_form = form.Text })) reads)
+    (λ read. denied_goes (agreed_of state) answer denied (record (numbered state change) { row_form = form.Text; wants_cursor = false }))
+    (λ refusal. denied_goes (agreed_of state) answer denied (record (numbered state change) { row_form = form.Text; wants_cursor = false })) reads)
 
 pub last_is_followed : LastIsFollowed
 last_is_followed state said idle last = last_goes state said (is_command_phase state.phase idle) last

@@ -2,12 +2,13 @@
 use Rattle.std.proofs.Common.{◌≡◌, ℕ, inl, inr, Bool, true, false, List, [], ◌∷◌, ◌++◌, ◌∙◌, ◌==◌, cond, length, refl, ap, sym, subst, Option, Some, None}
 use Rattle.std.specs.List.{AllByRecursion}
 use Rattle.std.proofs.lemmas.List.Elements.{recursion_from_All}
-use Rattle.mysql_wire_session.specs.Advance.{applied, fetched, id_after, opened, remembered, without_eof}
+use Rattle.mysql_wire_session.specs.Advance.{applied, asked, fetched, id_after, opened, remembered, without_eof}
 use Rattle.mysql_wire_session_phases.specs.Phases.{server_phase}
 use Rattle.mysql_wire_session_laws.specs.Grammar.{Advances, Agreed, FollowsUntil, IsReport, MayReport, MaySend, Said, WithReports, called_at}
 use Rattle.mysql_wire_session_phases.specs.Kinds.{any_server_kind, first_byte, is_report}
 use Rattle.mysql_wire_session.specs.Readings.{ReadsAs, after_packet, kind_of}
 use Rattle.mysql_wire_session.specs.Senders.{next_sender}
+use Rattle.mysql_wire_session.specs.SilentLemmas.{asked_before_id}
 use Rattle.mysql_wire_session.specs.State.{SessionState, expectation_of, statement_of}
 use Rattle.mysql_wire_session_phases.specs.declared.classify.Expectation.{Expectation}
 use Rattle.mysql_wire_session_packets.specs.declared.packet.Packet.{Packet}
@@ -226,9 +227,11 @@ after_before called shown payload own id state =
     let kept = remembered_before shown id state in
     let opens = opened_before called len id (remembered shown state) in
     let after : SessionState → SessionState = λ k. record k { phase = server_phase called k.is_eof_deprecated k.phase } in
-    ap (λ (k : SessionState). record (applied shown (after (opened called len k))) { next_id = id_after own len }) kept
-    ∙ ap (λ (k : SessionState). record (applied shown (after k)) { next_id = id_after own len }) opens
-    ∙ ap (λ (k : SessionState). record k { next_id = id_after own len }) (applied_before shown id (after (opened called len (remembered shown state))))
+    let there = after (opened called len (remembered shown state)) in
+    ap (λ (k : SessionState). record (applied shown (asked called payload (after (opened called len k)))) { next_id = id_after own len }) kept
+    ∙ ap (λ (k : SessionState). record (applied shown (asked called payload (after k))) { next_id = id_after own len }) opens
+    ∙ ap (λ (k : SessionState). record (applied shown k) { next_id = id_after own len }) (asked_before_id called payload id there)
+    ∙ ap (λ (k : SessionState). record k { next_id = id_after own len }) (applied_before shown id (asked called payload there))
 
 any_named_before : (expected : Expectation) (number id : ℕ) (first : Option ℕ) (len : ℕ) → any_server_kind (record expected { next_id = number }) id first len ≡ any_server_kind expected id first len
 any_named_before expected number id None len = refl

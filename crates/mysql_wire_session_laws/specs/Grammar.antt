@@ -1,9 +1,10 @@
 -- The exchanges of a session as MySQL's pages have them, and what it is to follow them.
 -- https://dev.mysql.com/doc/dev/mysql-server/latest/page_protocol_command_phase.html
 use Rattle.std.specs.List.{All, flat_map}
-use Rattle.std.specs.Prelude.{◌≡◌, ◌≢◌, ◌⊎◌, ◌<◌, ◌≤◌, ⊤, ℕ, Bool, true, false, List, [], ◌∷◌, ◌++◌, length, Some, Result, Ok, Err}
+use Rattle.std.specs.Prelude.{◌≡◌, ◌≢◌, ◌⊎◌, ◌<◌, ◌≤◌, ◌&&◌, ⊤, ℕ, Bool, true, false, List, [], ◌∷◌, ◌++◌, length, Some, Result, Ok, Err}
 use Rattle.mysql_wire_session_packets.specs.declared.packet.Packet.{Packet}
-use Rattle.mysql_wire_session_phases.specs.Kinds.{first_byte, is_report}
+use Rattle.mysql_wire_session_phases.specs.Kinds.{asks_for_cursor, first_byte, is_report}
+use Rattle.mysql_wire_session_phases.specs.Phases.{opens_cursor}
 use Rattle.mysql_wire_session_phases.specs.declared.packet_kind.PacketKind.{PacketKind}
 use Rattle.mysql_wire_session_phases.specs.declared.packet_kind.PacketKind.TheVariants as kind
 use Rattle.mysql_wire_session_phases.specs.declared.phase.Phase.TheVariants as phase
@@ -71,9 +72,10 @@ pub record IsServers (first : ℕ) (called : PacketKind) (said : Said) : Type 0 
   pub kind_is : said.kind ≡ called
 
 -- what both sides can do: whether EOFs are left out, the capabilities, and MariaDB's; and whether
--- rows are binary, as an execution's are
+-- rows are binary, as an execution's are, and a cursor is wanted, as an execution may
 pub record Agreed : Type 0 where
   pub is_binary : Bool
+  pub wants_cursor : Bool
   pub is_eof_deprecated : Bool
   pub capabilities : CapabilityFlags
   pub mariadb : MariadbCapabilities
@@ -122,10 +124,13 @@ pub record IsEof (flags : ℕ → Type 0) (said : Said) : Type 0 where
   pub is_short : length said.payload ≡ 5
   pub reads : IsReadAs (eof_type.ghosts.reads_whole tt said.payload) (λ read. flags read.status_flags.0)
 
--- the EOF after the definitions; rows follow
-abbrev pub AreDefined : Bool → List Said → Type 0
-AreDefined true said = said ≡ []
-AreDefined false said = (one : Said) × IsEof (λ flags. has flags 0x40 ≡ false) one × (said ≡ one ∷ [])
+-- the EOF after the definitions; rows follow, but where a cursor that is wanted was opened. Inside a
+-- stored procedure's own cursor they follow too: then another result does, so that none is opened
+abbrev pub AreDefined : Bool → Bool → List Said → Type 0
+AreDefined wants_cursor true said = said ≡ []
+AreDefined wants_cursor false said =
+    (one : Said) × IsEof (λ flags. (wants_cursor && opens_cursor flags) ≡ false) one
+    × (said ≡ one ∷ [])
 
 -- the EOF after a statement's definitions
 abbrev pub AreEnded : Bool → List Said → Type 0
@@ -178,12 +183,12 @@ pub record IsResultset (agreed : Agreed) (is_more : Bool) (said : List Said) : T
   pub has_columns : 0 < columns
   pub counts : IsColumnCount agreed are_told columns count
   pub described : AreDescribed are_told columns definitions
-  pub are_defined : AreDefined agreed.is_eof_deprecated defined
+  pub are_defined : AreDefined agreed.wants_cursor agreed.is_eof_deprecated defined
   pub are_rows : All (IsRow agreed.is_binary) rows
   pub ends : EndsRows agreed is_more end
   pub whole : said ≡ count ∷ (definitions ++ (defined ++ (rows ++ end ∷ [])))
 
--- a result whose rows are to be fetched
+-- a result whose rows are to be fetched, since a cursor is wanted, and was opened
 pub record IsCursor (agreed : Agreed) (said : List Said) : Type 0 where
   pub are_told : Bool
   pub columns : ℕ
@@ -193,8 +198,9 @@ pub record IsCursor (agreed : Agreed) (said : List Said) : Type 0 where
   pub has_columns : 0 < columns
   pub counts : IsColumnCount agreed are_told columns count
   pub described : AreDescribed are_told columns definitions
+  pub is_wanted : agreed.wants_cursor ≡ true
   pub has_eof : agreed.is_eof_deprecated ≡ false
-  pub ends : IsEof (λ flags. has flags 0x40 ≡ true) end
+  pub ends : IsEof (λ flags. opens_cursor flags ≡ true) end
   pub whole : said ≡ count ∷ (definitions ++ end ∷ [])
 
 -- the server asks for a file
@@ -391,11 +397,17 @@ pub record IsLetIn (agreed : Agreed) (said : List Said) : Type 0 where
 abbrev pub IsAlone : (Said → Type 0) → List Said → Type 0
 IsAlone is said = (one : Said) × is one × (said ≡ one ∷ [])
 
+-- what holds of the answer to an execution
+abbrev pub executed : Agreed → List ℕ → Agreed
+executed agreed payload =
+    record agreed { is_binary = true; wants_cursor = asks_for_cursor payload }
+
 -- the answer to a command, where these statements were prepared
 abbrev pub IsAnswered : Agreed → List ComStmtPrepareOk → Said → List Said → Type 0
 IsAnswered agreed statements command answer =
-    (IsCommand 0x03 kind.Query command × IsAnswer (record agreed { is_binary = false }) answer)
-    ⊎ (IsCommand 0x17 kind.Execute command × IsAnswer (record agreed { is_binary = true }) answer)
+    (IsCommand 0x03 kind.Query command
+    × IsAnswer (record agreed { is_binary = false; wants_cursor = false }) answer)
+    ⊎ (IsCommand 0x17 kind.Execute command × IsAnswer (executed agreed command.payload) answer)
     ⊎ (IsCommand 0x16 kind.Prepare command × IsPrepareAnswer agreed.is_eof_deprecated answer)
     ⊎ (IsPlainCommand command × IsAlone (IsOutcome agreed false) answer)
     ⊎ (IsUnanswered command × (answer ≡ []))
@@ -457,6 +469,7 @@ pub record IsLogin (agreed : Agreed) (said : Said) : Type 0 where
 -- the server greets, the client logs in, and is in
 pub record IsConnection (agreed : Agreed) (said : List Said) : Type 0 where
   pub no_rows : agreed.is_binary ≡ false
+  pub no_cursor : agreed.wants_cursor ≡ false
   pub greeting : Said
   pub login : Said
   pub rest : List Said
@@ -547,6 +560,7 @@ abbrev pub agreed_of : SessionState → Agreed
 agreed_of state =
     record {
       is_binary = false;
+      wants_cursor = false;
       is_eof_deprecated = state.is_eof_deprecated;
       capabilities = state.capabilities;
       mariadb = state.mariadb;

@@ -1,6 +1,7 @@
 -- What a packet is, by its phase, its first byte and its length.
 use Rattle.std.specs.List.{starts_with}
 use Rattle.std.specs.Prelude.{ℕ, ◌==◌, eqb, ◌&&◌, not, nat_lt, Bool, true, false, if◌then◌else◌, List, [], ◌∷◌, length, Option, Some, None}
+use Rattle.mysql_wire_parts.specs.Optional.{has}
 use Rattle.mysql_wire_parts.specs.Places.{is_short}
 use Rattle.mysql_wire_session_phases.specs.declared.packet_kind.PacketKind.{PacketKind}
 use Rattle.mysql_wire_session_phases.specs.declared.packet_kind.PacketKind.TheVariants as kind
@@ -18,6 +19,12 @@ use Rattle.mysql_wire_session_phases.specs.declared.side.Side.TheVariants.{Clien
 abbrev pub first_byte : List ℕ → Option ℕ
 first_byte [] = None
 first_byte (byte ∷ bytes) = Some byte
+
+-- COM_STMT_EXECUTE asks for a cursor: CURSOR_TYPE_READ_ONLY, the one type that servers have, is among
+-- its flags, which follow the command's number and the statement's
+abbrev pub asks_for_cursor : List ℕ → Bool
+asks_for_cursor (a ∷ b ∷ c ∷ d ∷ e ∷ flags ∷ bytes) = has flags 0x1
+asks_for_cursor bytes = false
 
 -- the error 65535: how far a command has come
 abbrev pub is_report : List ℕ → Bool

@@ -1,5 +1,5 @@
 -- What is waited for after a packet.
-use Rattle.std.specs.Prelude.{ℕ, ◌-◌, nat_lt, Bool, true, false, if◌then◌else◌}
+use Rattle.std.specs.Prelude.{ℕ, ◌-◌, ◌&&◌, not, nat_lt, Bool, true, false, if◌then◌else◌}
 use Rattle.mysql_wire_parts.specs.Optional.{has}
 use Rattle.mysql_wire_session_phases.specs.declared.packet_kind.PacketKind.{PacketKind}
 use Rattle.mysql_wire_session_phases.specs.declared.packet_kind.PacketKind.TheVariants as kind
@@ -100,12 +100,18 @@ abbrev pub done_phase : Phase → ℕ → Phase
 done_phase phase.Authentication status = phase.Command
 done_phase at status = after_answer status
 
--- no rows follow the end of definitions where SERVER_STATUS_CURSOR_EXISTS says so
-abbrev pub ended_phase : Phase → ℕ → Phase
-ended_phase (phase.ColumnsEnd after.Rows) status =
-    if has status 0x40 then phase.Command else phase.Rows
-ended_phase (phase.ColumnsEnd following) status = after_definitions following
-ended_phase at status = after_answer status
+-- SERVER_STATUS_CURSOR_EXISTS says that a cursor has the rows; with SERVER_MORE_RESULTS_EXISTS it is
+-- one that a stored procedure has open, and the rows of this result follow
+abbrev pub opens_cursor : ℕ → Bool
+opens_cursor status = has status 0x40 && not (has status 0x8)
+
+-- no rows follow the end of definitions where the command wants a cursor, and the status says that
+-- one was opened
+abbrev pub ended_phase : Bool → Phase → ℕ → Phase
+ended_phase wants_cursor (phase.ColumnsEnd after.Rows) status =
+    if wants_cursor && opens_cursor status then phase.Command else phase.Rows
+ended_phase wants_cursor (phase.ColumnsEnd following) status = after_definitions following
+ended_phase wants_cursor at status = after_answer status
 
 -- a server that begins with an error says no more
 abbrev pub failed_phase : Phase → Phase

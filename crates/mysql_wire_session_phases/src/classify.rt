@@ -2,12 +2,13 @@
 
 ghost use Rattle.std.specs.Prelude.{◌≡◌};
 ghost use Rattle.mysql_wire_parts.specs.Places.{is_short};
-ghost use Rattle.mysql_wire_session_phases.specs.Kinds.{answer_kind, client_kind, column_kind, columns_end_kind, command_kind, empty_kind, event_kind, field_kind, first_byte, greeting_kind, is_command, is_report, kind_by_front, option_kind, outcome_kind, prepare_kind, row_kind, server_kind, statistics_kind, values_kind};
+ghost use Rattle.mysql_wire_session_phases.specs.Kinds.{answer_kind, asks_for_cursor, client_kind, column_kind, columns_end_kind, command_kind, empty_kind, event_kind, field_kind, first_byte, greeting_kind, is_command, is_report, kind_by_front, option_kind, outcome_kind, prepare_kind, row_kind, server_kind, statistics_kind, values_kind};
 
 use crate::packet_kind::PacketKind;
 use crate::phase::{AfterColumns, Phase, RowForm};
 use crate::refusal::Refusal;
 use crate::side::Side;
+use wire_const::{CursorType, Flags};
 
 /// What a session knows of the next packet: its phase, the id that follows the last packet's, whether
 /// rows end without an EOF after the definitions of columns, and how their values are written.
@@ -26,6 +27,19 @@ pub fn first_byte(payload: &[u8]) -> Option<u8>
     match payload {
         [] => None,
         [byte, ..] => Some(*byte),
+    }
+}
+
+/// Whether a `COM_STMT_EXECUTE` asks for a cursor: `CURSOR_TYPE_READ_ONLY`, the one type that servers
+/// have, is among its flags. Of the payload its first six bytes are looked at.
+pub fn asks_for_cursor(payload: &[u8]) -> bool
+    ensures { result ≡ asks_for_cursor payload.now }
+{
+    match payload {
+        [_, _, _, _, _, flags, ..] => {
+            CursorType::from_bits_retain(*flags).contains(CursorType::CURSOR_TYPE_READ_ONLY)
+        }
+        _ => false,
     }
 }
 

@@ -1,7 +1,7 @@
 //! What is waited for after a packet.
 
 ghost use Rattle.std.specs.Prelude.{◌≡◌};
-ghost use Rattle.mysql_wire_session_phases.specs.Phases.{after_answer, after_columns, after_definitions, command_phase, command_rows, done_phase, ended_phase, eof_phase, error_phase, failed_phase, ok_phase, past_column, server_phase, statement_columns};
+ghost use Rattle.mysql_wire_session_phases.specs.Phases.{after_answer, after_columns, after_definitions, command_phase, command_rows, done_phase, ended_phase, eof_phase, error_phase, failed_phase, ok_phase, opens_cursor, past_column, server_phase, statement_columns};
 
 use crate::packet_kind::PacketKind;
 use crate::phase::{AfterColumns, Phase, RowForm};
@@ -158,13 +158,24 @@ pub fn done_phase(phase: Phase, status: StatusFlags) -> Phase
     }
 }
 
-/// After an EOF that was read. After the end of definitions are no rows where a cursor has them.
-pub fn ended_phase(phase: Phase, status: StatusFlags) -> Phase
-    ensures { result ≡ ended_phase phase status.0 }
+// Whether a cursor that was asked for has the rows. With `SERVER_MORE_RESULTS_EXISTS` the cursor is
+// one that a stored procedure has open, and the rows of this result follow.
+fn opens_cursor(status: StatusFlags) -> bool
+    ensures { result ≡ opens_cursor status.0 }
+{
+    status.contains(StatusFlags::SERVER_STATUS_CURSOR_EXISTS)
+        && !status.contains(StatusFlags::SERVER_MORE_RESULTS_EXISTS)
+}
+
+/// After an EOF that was read. After the end of definitions are no rows where the command wants a
+/// cursor, and the server has opened one.
+pub fn ended_phase(wants_cursor: bool, phase: Phase, status: StatusFlags) -> Phase
+    ensures { result ≡ ended_phase wants_cursor phase status.0 }
 {
     match phase {
-        Phase::ColumnsEnd(AfterColumns::Rows)
-            if status.contains(StatusFlags::SERVER_STATUS_CURSOR_EXISTS) => Phase::Command,
+        Phase::ColumnsEnd(AfterColumns::Rows) if wants_cursor && opens_cursor(status) => {
+            Phase::Command
+        }
         Phase::ColumnsEnd(after) => after_definitions(after),
         _ => after_answer(status),
     }

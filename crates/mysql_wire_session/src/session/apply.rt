@@ -1,7 +1,7 @@
 //! How a session goes on after a packet.
 
 ghost use Rattle.std.specs.Prelude.{◌≡◌, ◌<◌, IfErr, OnErr, OnOk, length};
-ghost use Rattle.mysql_wire_session.specs.Advance.{IsRefusedMemory, after_login, answered, applied, client_state_after, fetched, mariadb_of, noted, opened, remembered, state_after, without_eof};
+ghost use Rattle.mysql_wire_session.specs.Advance.{IsRefusedMemory, after_login, answered, applied, asked, client_state_after, fetched, mariadb_of, noted, opened, remembered, state_after, without_eof};
 ghost use Rattle.mysql_wire_session.specs.State.{state_of, statement_of};
 ghost use Rattle.mysql_wire_session_phases.specs.declared.refusal.SessionError.TheVariants.{OutOfMemory};
 
@@ -9,6 +9,7 @@ use super::Session;
 use super::phases::{counted_phase, prepared_phase};
 use mysql_wire_connection::handshake_response::HandshakeResponse41;
 use mysql_wire_session_packets::packet::Packet;
+use mysql_wire_session_phases::classify::asks_for_cursor;
 use mysql_wire_session_phases::next_phase::{
     after_definitions, command_phase, command_rows, done_phase, ended_phase, failed_phase,
     server_phase,
@@ -113,7 +114,17 @@ impl<A: Allocator + Copy> Session<A> {
             _ => {
                 self.phase = command_phase(kind);
                 self.row_form = command_rows(kind);
+                self.wants_cursor = false;
             }
+        }
+    }
+
+    // An execution says whether it asks for a cursor, in its first six bytes.
+    pub(super) fn note_cursor(&mut self, kind: PacketKind, payload: &[u8])
+        ensures { state_of self.new ≡ asked kind payload.now (state_of self.old) }
+    {
+        if let PacketKind::Execute = kind {
+            self.wants_cursor = asks_for_cursor(payload);
         }
     }
 
@@ -184,7 +195,7 @@ impl<A: Allocator + Copy> Session<A> {
             Packet::RowsEnd(ok) => self.end_answer(ok.status_flags.0),
             Packet::Eof(eof) => {
                 let status = StatusFlags::from_bits_retain(eof.status_flags.0);
-                self.phase = ended_phase(self.phase, status);
+                self.phase = ended_phase(self.wants_cursor, self.phase, status);
                 self.status = status;
             }
             Packet::Error(_) => self.phase = failed_phase(self.phase),

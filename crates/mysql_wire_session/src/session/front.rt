@@ -1,10 +1,11 @@
 //! A packet of which only the front has come.
 
 ghost use Rattle.std.specs.Prelude.{◌≡◌, IfErr, IfOk, OnErr, OnOk, length};
-ghost use Rattle.mysql_wire_session.specs.Advance.{IsRefusedMemory};
+ghost use Rattle.mysql_wire_session.specs.Advance.{IsRefusedMemory, asked};
 ghost use Rattle.mysql_wire_session.specs.Fronts.{FailsFront, FailsWhole, TakesFront, says_more};
-ghost use Rattle.mysql_wire_session.specs.Readings.{advanced};
+ghost use Rattle.mysql_wire_session.specs.Readings.{advanced, after_kind};
 ghost use Rattle.mysql_wire_session.specs.State.{state_of};
+ghost use Rattle.mysql_wire_session_phases.specs.declared.packet_kind.PacketKind.TheVariants.{Execute};
 
 use super::{Session, forget};
 use mysql_wire_session_packets::packet::Received;
@@ -37,6 +38,7 @@ fn says_more(kind: PacketKind, phase: Phase) -> bool
         | PacketKind::ColumnCount
         | PacketKind::LocalInfile
         | PacketKind::Prepared
+        | PacketKind::Execute
         | PacketKind::Fetch => true,
         PacketKind::Column => matches!(phase, Phase::Columns { .. }),
         _ => false,
@@ -73,10 +75,20 @@ impl<A: Allocator + Copy> Session<A> {
         }
     }
 
+    // Goes on after an execution, of which these first bytes have come.
+    fn advance_execution(&mut self, side: Side, id: u8, len: usize, front: &[u8])
+        ensures { state_of self.new
+            ≡ asked Execute front.now (after_kind side id Execute len (state_of self.old)) }
+    {
+        self.advance_by_kind(side, id, PacketKind::Execute, len);
+        self.note_cursor(PacketKind::Execute, front);
+    }
+
     /// Goes on after a packet of this length, of which this front has come: its first three bytes or
     /// more, or all. Where what is known after it hangs on more, and it has not come whole, that is
     /// `NeedsWhole`: of logins, of what ends an answer, counts and definitions of columns, answers to
-    /// `COM_STMT_PREPARE`, requests for a file, and `COM_STMT_FETCH`.
+    /// `COM_STMT_PREPARE`, requests for a file, and `COM_STMT_FETCH`; and of a `COM_STMT_EXECUTE` of
+    /// which fewer than six bytes have come, since its flags say whether rows follow.
     pub fn advance_front(
         &mut self,
         side: Side,
@@ -90,6 +102,10 @@ impl<A: Allocator + Copy> Session<A> {
         ensures stays { OnErr result (state_of self.new ≡ state_of self.old) }
     {
         let kind = self.classify(side, id, len, front);
+        if let PacketKind::Execute = kind && front.len() >= 6 {
+            self.advance_execution(side, id, len, front);
+            return Ok(kind);
+        }
         if !says_more(kind, self.opened(kind, len).phase) {
             self.advance_by_kind(side, id, kind, len);
             return Ok(kind);
