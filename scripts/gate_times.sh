@@ -6,13 +6,40 @@
 # end of its last one, and in processor seconds; and all seconds at one speed of the host, which is
 # measured every ten seconds by a loop of awk, with the minutes that docs/GATE.md counts. The gate's
 # own output goes to the file that is named (gate.log at the top, if none is).
+#
+#   scripts/gate_times.sh [--large-pages] [LOG]
+#
+# With --large-pages the kernel gives every program of the machine large pages while the gate runs, in
+# which the prover takes a twentieth less. Only root may set that; what was set before is set again at
+# the end, also where this script is interrupted or terminated.
 set -u
 top=$(cd "$(dirname "$0")/.." && pwd)
 source "$top/scripts/start.sh"
 cd "$top" || exit 1
-log=${1:-gate.log}
+pages=/sys/kernel/mm/transparent_hugepage/enabled
+pages_before=
 samples=$(mktemp)
-trap 'rm -f "$samples"' EXIT
+at_end() {
+    rm -f "$samples"
+    if [ -n "$pages_before" ]; then
+        echo "$pages_before" > "$pages" && echo "large pages are as before: $pages_before"
+    fi
+}
+trap at_end EXIT
+trap 'exit 130' INT
+trap 'exit 143' TERM HUP
+if [ "${1:-}" = --large-pages ]; then
+    shift
+    before=$(sed 's/.*\[\(.*\)\].*/\1/' "$pages" 2> /dev/null)
+    if [ -z "$before" ] || ! [ -w "$pages" ]; then
+        echo "--large-pages: $pages cannot be set here" >&2
+        exit 2
+    fi
+    pages_before=$before
+    echo always > "$pages" || exit
+    echo "large pages: always, for the whole machine, until this ends; $pages_before before"
+fi
+log=${1:-gate.log}
 
 # The seconds of a processor that a loop takes.
 loop_seconds() {
