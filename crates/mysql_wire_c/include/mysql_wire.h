@@ -41,10 +41,10 @@
  *
  * What a connection holds: `mysql_wire_feed` keeps all it is given, without a bound of its own. So
  * feed what one read gave, and take packets until the answer is WAITS. Then `mysql_wire_unread` is
- * at most the limit and 3 bytes: where a delivery waits, what is unfinished and the rest together
- * have at most max(limit, what was held) + 3 bytes. (For a packet that had begun when the limit was
- * lowered, the older limit counts.) The bytes to send stay until they are taken. Buffers grow by
- * doubling and are used again; their memory is given back by `mysql_wire_close`.
+ * at most 3 bytes more than the limit in force when the last header of the unfinished packet was
+ * fed: an older one, where the limit was set since. Where no header has come, it is at most 3 bytes.
+ * The bytes to send stay until they are taken. Buffers grow by doubling and are used again; their
+ * memory is given back by `mysql_wire_close`.
  *
  * Link with -lmysql_wire, which bindings/c makes and installs.
  *

@@ -9,7 +9,8 @@ use std::mem::MaybeUninit;
 /// together, the number of the next packet, and the bytes that wait to be sent.
 ///
 /// What is fed is kept: feed what one read gave, and take packets until there is none. Then at most
-/// the limit and 3 bytes are unread.
+/// 3 bytes more are unread than the limit in force when the last header of the unfinished packet was
+/// fed, and at most 3 bytes where no header has come.
 pub struct Connection(Handle);
 
 impl Connection {
