@@ -206,8 +206,7 @@ memory_is_set() {
 
 check 'the constants are those of wire_const' "$top/scripts/c_constants.py" --check
 check 'all packages have one version' "$top/scripts/versions.py" --check
-version=$(sed -n 's/^.define MYSQL_WIRE_VERSION "\(.*\)"/\1/p' \
-    "$top/crates/mysql_wire_c/include/mysql_wire.h")
+version=$(cat "$top/VERSION")
 check 'the libraries are made' quiet make -C "$package" || finish
 check 'their symbols are the calls of the header' quiet make -C "$package" check
 check 'it is installed' quiet make -C "$package" install PREFIX="$work/root"

@@ -66,7 +66,7 @@ tag_holds() {
 wheel_is_whole() {
     local info
     info=$(echo "$work"/site/mysql_wire-*.dist-info)
-    [ -f "$info/LICENSE" ] && grep -q '^Classifier: License :: OSI' "$info/METADATA" &&
+    [ -f "$info/LICENSE" ] && [ -f "$info/CHANGELOG.md" ] && grep -q '^Classifier: License :: OSI' "$info/METADATA" &&
         grep -q '^# mysql-wire for Python' "$info/METADATA" && [ -f "$work/site/mysql_wire/py.typed" ]
 }
 

@@ -33,7 +33,7 @@ packages() {
     shift
     listed=$(in_release cargo package --list --allow-dirty "$@" --manifest-path "$manifest" \
         2> "$work/log") || return
-    for word in Cargo.toml LICENSE README.md src/lib.rs; do
+    for word in CHANGELOG.md Cargo.toml LICENSE README.md src/lib.rs; do
         grep -qx "$word" <<< "$listed" || return
     done
     listed=$(in_release cargo read-manifest --manifest-path "$manifest" 2> "$work/log") || return

@@ -1,12 +1,15 @@
 #!/usr/bin/env python3
-"""Writes the version of the C header, MYSQL_WIRE_VERSION in crates/mysql_wire_c/include/mysql_wire.h,
-wherever else the packages have it. With --check it writes nothing, and fails where one is another.
+"""Writes the version that the file VERSION at the top has wherever else the repository and its packages
+have it. With --check it writes nothing, and fails where one is another, or where CHANGELOG.md has no
+dated title of it.
 """
 import os
 import re
 import sys
 
 TOP = os.path.dirname(os.path.dirname(os.path.abspath(__file__)))
+HOME = "VERSION"
+CHANGES = "CHANGELOG.md"
 HEADER = "crates/mysql_wire_c/include/mysql_wire.h"
 NUMBER = r"\d+\.\d+\.\d+"
 
@@ -20,6 +23,7 @@ def places(version):
     """Of each file: what stands in front of a version, the version there, and what follows."""
     major, minor, patch = map(int, version.split("."))
     series, number = f"{major}.{minor}", str(10000 * major + 100 * minor + patch)
+    yield HEADER, r'^#define MYSQL_WIRE_VERSION "', version, NUMBER, '"$'
     yield HEADER, r"^#define MYSQL_WIRE_VERSION_MAJOR ", str(major), r"\d+", "$"
     yield HEADER, r"^#define MYSQL_WIRE_VERSION_MINOR ", str(minor), r"\d+", "$"
     yield HEADER, r"^#define MYSQL_WIRE_VERSION_PATCH ", str(patch), r"\d+", "$"
@@ -46,10 +50,12 @@ def places(version):
 
 def main():
     checks = sys.argv[1:] == ["--check"]
-    version = re.search(rf'^#define MYSQL_WIRE_VERSION "({NUMBER})"$', read(HEADER), re.M)[1]
+    version = read(HOME).strip()
+    if not re.fullmatch(NUMBER, version):
+        sys.exit(f"{HOME} has {version!r}, which is no version")
     wrong = []
-    if not re.search(rf"^## {re.escape(version)}$", read("bindings/c/CHANGELOG.md"), re.M):
-        wrong.append(f"bindings/c/CHANGELOG.md says nothing of {version}")
+    if not re.search(rf"^## {re.escape(version)} \(\d{{4}}-\d\d-\d\d\)$", read(CHANGES), re.M):
+        wrong.append(f"{CHANGES} has no dated title of {version}")
     for path, front, wanted, form, back in places(version):
         text = read(path)
         found = re.findall(f"{front}({form})(?={back})", text, re.M)

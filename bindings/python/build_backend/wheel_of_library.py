@@ -71,6 +71,12 @@ def library():
     return found[0]
 
 
+def changes():
+    """What changed, from beside the module, or from the top of the release or of the repository."""
+    found = [path for path in (HERE, HERE.parent.parent) if (path / "CHANGELOG.md").is_file()]
+    return (found[0] / "CHANGELOG.md").read_bytes()
+
+
 def sources():
     """The files of the module: their names, and their bytes."""
     for path in sorted((HERE / NAME).glob("*")):
@@ -83,6 +89,7 @@ def contents():
     yield from sources()
     yield f"{NAME}/libmysql_wire.so.0", library().read_bytes()
     yield f"{INFO}/LICENSE", (HERE / "LICENSE").read_bytes()
+    yield f"{INFO}/CHANGELOG.md", changes()
     yield f"{INFO}/METADATA", metadata().encode()
     yield f"{INFO}/WHEEL", WHEEL.encode()
 
@@ -101,7 +108,7 @@ def build_wheel(wheel_directory, config_settings=None, metadata_directory=None):
 
 def build_sdist(sdist_directory, config_settings=None):
     top = f"{NAME}-{VERSION}"
-    files = {"PKG-INFO": metadata().encode(), **dict(sources())}
+    files = {"PKG-INFO": metadata().encode(), "CHANGELOG.md": changes(), **dict(sources())}
     others = "pyproject.toml", "README.md", "LICENSE", "build_backend/*.py", "tests/*.py"
     for path in (path for each in others for path in sorted(HERE.glob(each))):
         files[path.relative_to(HERE).as_posix()] = path.read_bytes()
