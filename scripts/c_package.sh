@@ -1,8 +1,9 @@
 #!/usr/bin/env bash
 # Makes the package of the C library, installs it into a folder of its own and out of the unpacked
 # release without the kit, and builds and runs programs against both: with pkg-config, with CMake
-# where it is there, against the archive and the shared library; and looks at what the release has and
-# says. It prints a line for each check. The last line is 'N passed, M failed'.
+# where it is there, against the archive and the shared library; runs the installed mysql_wire_dump and
+# mysql_wire_tool in an empty folder, without the kit; and looks at what the release has and says. It
+# prints a line for each check. The last line is 'N passed, M failed'.
 set -u
 top=$(cd "$(dirname "$0")/.." && pwd)
 source "$top/scripts/start.sh"
@@ -72,6 +73,7 @@ other_folders() {
     local lib=/usr/lib/x86_64-linux-gnu root=$work/destination
     quiet without_kit make install DESTDIR="$root" PREFIX=/usr LIBDIR="$lib" &&
         [ -f "$root$lib/libmysql_wire.a" ] && [ -f "$root/usr/share/man/man3/mysql_wire.3" ] &&
+        [ -f "$root/usr/share/man/man1/mysql_wire_dump.1" ] && [ -x "$root/usr/bin/mysql_wire_tool" ] &&
         grep -qx "libdir=$lib" "$root$lib/pkgconfig/mysql_wire.pc" &&
         { ! command -v cmake > "$work/which" || cmake_finds "$root/usr"; } &&
         quiet without_kit make uninstall DESTDIR="$root" PREFIX=/usr LIBDIR="$lib" &&
@@ -116,12 +118,75 @@ examples_run() {
         quiet without_kit make -C examples/c clean
 }
 
+# reads_well PAGE: `man` finds nothing wrong with a page, where it is there; its text is $work/page.
+reads_well() {
+    ! command -v man > "$work/which" ||
+        [ -z "$(man -l --warnings=mac,syntax "$1" 2>&1 > "$work/page")" ]
+}
+
 # The man page names each call.
 man_page_is_whole() {
     grep -oE 'mysql_wire_[a-z_]+' "$package/mysql_wire.3" | sort -u |
-        comm -13 - "$package/out/calls" | diff - <(:) &&
-        { ! command -v man > "$work/which" ||
-            [ -z "$(man -l --warnings=mac,syntax "$package/mysql_wire.3" 2>&1 > "$work/page")" ]; }
+        comm -13 - "$package/out/calls" | diff - <(:) && reads_well "$package/mysql_wire.3"
+}
+
+# in_empty_folder COMMAND..: runs a command in a folder with nothing but what is asked for there, on the
+# system's programs and those that are installed.
+in_empty_folder() {
+    mkdir -p "$work/captured" && env -i -C "$work/captured" LC_ALL=C.UTF-8 \
+        PATH="$work/other/bin:/usr/bin:/bin" "$@"
+}
+
+# program_page_is_whole NAME USAGE: the installed man page of a program has each word of its usage line.
+program_page_is_whole() {
+    local page=$work/other/share/man/man1/$1.1 word
+    reads_well "$page" || return
+    for word in $(grep -oE '[a-z_-]+' <<< "${2#usage: }" | sort -u); do
+        grep -qE -e "(^|[^a-z])${word#--}([^a-z]|\$)" "$page" || { echo "no word of $word"; return 1; }
+    done
+}
+
+# Both programs ask for no library but the C library, no newer than the release's page says.
+programs_need_little() {
+    local name most
+    for name in mysql_wire_dump mysql_wire_tool; do
+        objdump -p "$release/bin/$name" | sed -n 's/^ *NEEDED *//p' | diff <(echo libc.so.6) - &&
+            objdump -T "$release/bin/$name" | grep -oE 'GLIBC_[0-9.]+' | sed 's/GLIBC_//' | sort -V |
+            tail -n 1 | { read -r most && printf '%s\n' "$most" 2.34 | sort -V -C; } || return
+    done
+}
+
+# The installed dump shows the first of the recorded sessions, out of two files, and says where they end.
+dump_shows_session() {
+    mkdir -p "$work/captured" && (cd "$top/scripts" && python3 -B - "$work/captured") << 'END' || return
+import pathlib
+import sys
+from dump_recordings import framed, sessions
+from recordings import CRATE
+_, packets = next(sessions((CRATE / "stdin").read_bytes()))
+for side in ("client", "server"):
+    (pathlib.Path(sys.argv[1]) / side).write_bytes(framed(packets, side))
+END
+    in_empty_folder mysql_wire_dump client client server server > "$work/printed" &&
+        head -n 3 "$work/printed" |
+        diff <(printf '%s\n' 'server 0 100 greeting' 'client 1 141 login' 'server 2 7 ok') - &&
+        grep -E '^(client|server) end at' "$work/printed" | sort |
+        diff <(cd "$work/captured" && wc -c client server | sed -n 's/^ *\([0-9]*\) \([cs].*\)/\2 end at \1/p') -
+}
+
+# The installed tool frames three bytes, and shows the chunk.
+tool_shows_chunk() {
+    printf 123 | in_empty_folder mysql_wire_tool frame 0 | in_empty_folder mysql_wire_tool chunk |
+        diff <(printf '%s\n' 'last 0 3 313233' 'rest 0') -
+}
+
+# Both programs say how they are called where nothing is asked of them.
+pages_have_options() {
+    local name usage
+    for name in mysql_wire_dump mysql_wire_tool; do
+        usage=$(in_empty_folder "$name" 2>&1 > "$work/printed")
+        [ $? -eq 1 ] && program_page_is_whole "$name" "$usage" || return
+    done
 }
 
 # The shared library asks for no newer C library than 2.14, and for nothing else.
@@ -234,6 +299,14 @@ check 'the release has the sums that it tells' sums_agree
 check 'its page begins with what one wants to know' page_begins_well
 check 'its pages name what is in it' names_are_there
 check 'it is installed without the kit, and its libraries stay' installed
+check 'the installed tool frames and shows a chunk' tool_shows_chunk
+if command -v python3 > "$work/which"; then
+    check 'the installed dump shows a recorded session' dump_shows_session
+fi
+check 'the man pages of the programs have their command lines' pages_have_options
+if command -v objdump > "$work/which"; then
+    check 'the programs need glibc 2.34 and nothing else' programs_need_little
+fi
 check 'the tests pass with what was packed' tested "$work/other"
 check 'it is installed into other folders' other_folders
 check 'its examples are built and run' examples_run

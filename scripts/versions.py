@@ -40,7 +40,8 @@ def places(version):
         yield lock, r'^name = "mysql-wire(?:-sys)?"\nversion = "', version, NUMBER, '"$'
     yield "bindings/python/pyproject.toml", r'^version = "', version, NUMBER, '"$'
     yield "bindings/python/mysql_wire/__init__.py", r'^__version__ = "', version, NUMBER, '"$'
-    yield "bindings/c/mysql_wire.3", r'"mysql_wire ', version, NUMBER, '"'
+    for page in ("mysql_wire.3", "mysql_wire_dump.1", "mysql_wire_tool.1"):
+        yield f"bindings/c/{page}", r'"mysql_wire ', version, NUMBER, '"'
     yield "bindings/c/release.md", r"^# mysql_wire ", version, NUMBER, " "
     yield "bindings/c/INSTALL.md", r"MYSQL_WIRE_", series, r"\d+\.\d+", "`"
     for page in ("bindings/c/README.md", "bindings/rust/README.md"):
