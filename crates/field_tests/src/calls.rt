@@ -1,4 +1,6 @@
-// The calls of a text in hand. `packet_tests` has its copies.
+// What the calls of `RawBytes` answer of a text in hand: how many bytes of it are written, which they
+// are, whether all of it is some bytes, and its string. Its copies are tested by `memory_tests`, with
+// each request for memory refused.
 
 use mysql_wire::misc::raw::RawBytes;
 use mysql_wire::misc::raw::bytes::{BareBytes, BytesRepr, EofBytes};
