@@ -1,11 +1,19 @@
 #!/usr/bin/env python3
-"""Derives the recorded sessions of crates/recording_tests by the grammar that
-crates/mysql_wire_session_laws/specs/Grammar.antt has, record by record, and compares the kind that it
-gives each packet with the one that the built dump names. Then changes one packet of a session, a
-hundred times: it is left out, doubled, sent by the other side, or a byte of its header, or its
-payload's first, is another.
+"""The grammar of MySQL's sessions, written once more and apart from the one that is proved.
+
+crates/mysql_wire_session_laws/specs/Grammar.antt has the grammar that the theorems are about. This is
+a second reading of MySQL's pages, in Python: it says by its own code what each packet of a session is.
+Nothing ties its meaning to the other's but the names of the productions and what both say of sessions.
+So a mistake in one of them shows where the other doesn't have it, and a mistake that both have doesn't.
+
+The script first compares the names of the productions of both, and fails where one of them has a
+production that the other lacks. Then it derives the recorded sessions of crates/recording_tests, and
+some that are made up, and compares the kind that it gives each packet with the one that the built dump
+names. Then it changes one packet of a recorded session, a hundred times: it is left out, doubled, sent
+by the other side, or a byte of its header, or its payload's first, is another.
 
     scripts/session_grammar.py [COUNT [SEED]]
+    scripts/session_grammar.py --productions    prints the productions of both by their names
 
 Of a changed session the dump has to show the packets that its bytes have, each named as the grammar
 names it as far as it goes; where it doesn't go to the end, the dump has to show that something is
@@ -18,6 +26,7 @@ it takes these. The last line is 'N passed, M failed'.
 import json
 import pathlib
 import random
+import re
 import subprocess
 import sys
 import tempfile
@@ -25,6 +34,7 @@ import tempfile
 from dump_recordings import PROGRAM, TOP, framed, sessions
 from recordings import split
 
+GRAMMAR = TOP / "crates/mysql_wire_session_laws/specs/Grammar.antt"
 FULL = 0xFFFFFF
 # flags of a status, of both sides' capabilities, and of MariaDB's
 MORE_RESULTS, CURSOR, STATE_CHANGED = 0x8, 0x40, 0x4000
@@ -33,12 +43,39 @@ SESSION_TRACK, DEPRECATE_EOF = 0x800000, 0x1000000
 OPTIONAL_METADATA, ZSTD = 0x2000000, 0x4000000
 PROGRESS, CACHED_METADATA = 0x1, 0x10
 LONG_PASSWORD = 0x1
+# the flag of an execution that asks for a cursor
+READ_ONLY_CURSOR = 0x1
 # the commands that an OK or an error answers, that nothing answers, and that an OK, an EOF or an
 # error answers
 PLAIN = {0x02: "init db", 0x0E: "ping", 0x1A: "reset statement", 0x1F: "reset connection"}
 UNANSWERED = {0x18: "send long data", 0x19: "close statement"}
 OPTIONS = {0x1B: "set option", 0x0C: "other command", 0x0D: "other command",
            0x15: "other command"}
+
+
+# the productions that this script derives by, each with the name of the function that derives it
+DERIVED_BY = {}
+
+
+def derives(*names):
+    """A function that derives these productions, by the names that the other grammar has for them."""
+
+    def named(function):
+        DERIVED_BY.update(dict.fromkeys(names, function.__name__))
+        return function
+
+    return named
+
+
+def productions(text):
+    """The names of the productions of Grammar.antt, in their order: of what it defines before the title
+    "a session that follows", that which holds of a packet, or of packets in a row, or doesn't."""
+    grammar = text.split("-- ---- a session that follows")[0]
+    for line in re.sub(r"\n +", " ", grammar).splitlines():
+        found = re.match(r"pub record (\w+) .*\(\w+ : [\w ]*Said\) : Type 0 where", line)
+        found = found or re.fullmatch(r"abbrev pub (\w+) : .*Said\)* → Type 0", line)
+        if found:
+            yield found[1]
 
 
 class NotDerived(Exception):
@@ -136,7 +173,7 @@ class Derivation:
     def __init__(self, packets):
         self.packets, self.kinds, self.fault = packets, [], None
         self.capabilities = self.mariadb = 0
-        self.is_eof_deprecated = self.is_answer = False
+        self.is_eof_deprecated = self.is_answer = self.wants_cursor = False
         self.statements = []
         # the packet that is waited for is the server's
         self.is_servers = False
@@ -147,6 +184,7 @@ class Derivation:
 
     # ---- one packet
 
+    @derives("MayReport", "WithReports")
     def next(self):
         """The next packet; in an answer reports may come before one of the server."""
         has_report = False
@@ -181,29 +219,35 @@ class Derivation:
         self.kinds.append(kind)
         return read
 
+    @derives("IsServers")
     def first(self):
         """The first byte of the next packet, where it is the server's and has one."""
         side, _, payload = self.next()
         self.is_servers = True
         return payload[0] if side == "server" and payload else None
 
+    @derives("IsOk", "IsOkAtEnd", "IsEntry")
     def ok(self, header=0x00, kind="ok"):
         """An OK, and its status."""
         self.expect(self.first() == header, kind)
         tracks = self.capabilities & SESSION_TRACK
         return self.read(kind, status_of_ok, self.next()[2], tracks)
 
+    @derives("IsError")
     def error(self):
         self.take(self.first() == 0xFF and not is_report(self.next()), "error")
 
+    @derives("IsEof")
     def eof(self):
         """An EOF, and its status."""
         self.expect(self.first() == 0xFE and len(self.next()[2]) == 5, "eof")
         return self.read("eof", status_of_eof, self.next()[2])
 
+    @derives("IsDefinition")
     def definition(self):
         self.take(self.first() not in (None, 0xFF), "column")
 
+    @derives("IsRow")
     def row(self, kind):
         """Whether a row comes."""
         first, length = self.first(), len(self.next()[2])
@@ -214,6 +258,7 @@ class Derivation:
 
     # ---- answers
 
+    @derives("IsOutcome")
     def outcome(self):
         """An OK or an error, and whether another result follows."""
         if self.first() == 0xFF:
@@ -221,6 +266,7 @@ class Derivation:
             return False
         return bool(self.ok() & MORE_RESULTS)
 
+    @derives("EndsWell")
     def ends_well(self):
         """An OK in the place of an EOF, or an EOF."""
         if not self.is_eof_deprecated:
@@ -229,23 +275,27 @@ class Derivation:
             raise NotDerived("no eof")
         return bool(self.ok(0xFE, "eof") & MORE_RESULTS)
 
+    @derives("EndsRows")
     def ends_rows(self):
         if self.first() == 0xFF:
             self.error()
             return False
         return self.ends_well()
 
+    @derives("IsAlone")
     def last(self, is_more):
         """No result follows, where none may."""
         if is_more:
             self.kinds.pop()
             raise NotDerived("another result")
 
+    @derives("AreRows")
     def rows(self, kind):
         while self.row(kind):
             pass
         return self.ends_rows()
 
+    @derives("IsColumnCount")
     def count_of(self, payload):
         """How many columns there are, and how many definitions of them follow."""
         fields = Fields(payload, 0)
@@ -258,15 +308,28 @@ class Derivation:
             raise ValueError("no columns")
         return 0 if are_told else columns
 
+    @derives("AreDescribed")
+    def definitions(self, count):
+        for _ in range(count):
+            self.definition()
+
+    @derives("AreDefined", "IsCursor")
+    def rows_follow(self):
+        """Whether rows follow the definitions. They are left out where the command asks for a cursor,
+        and the EOF says that one was opened. A status that says so too, and that another result
+        follows, is of a stored procedure with an open cursor of its own, whose rows follow."""
+        if self.is_eof_deprecated:
+            return True
+        status = self.eof()
+        return not self.wants_cursor or not status & CURSOR or bool(status & MORE_RESULTS)
+
+    @derives("IsResultset")
     def resultset(self, kind):
         self.expect(self.first() not in (None, 0x00, 0xFB, 0xFF), "column count")
-        definitions = self.read("column count", self.count_of, self.next()[2])
-        for _ in range(definitions):
-            self.definition()
-        if not self.is_eof_deprecated and self.eof() & CURSOR:
-            return False
-        return self.rows(kind)
+        self.definitions(self.read("column count", self.count_of, self.next()[2]))
+        return self.rows_follow() and self.rows(kind)
 
+    @derives("IsLoad", "IsFileRequest", "IsPiece", "IsFileEnd", "Numbered")
     def load(self):
         _, number, payload = self.next()
         self.take(self.first() == 0xFB, "local infile")
@@ -278,19 +341,22 @@ class Derivation:
             if not payload:
                 return self.outcome()
 
+    @derives("IsResult")
     def result(self, kind):
         first = self.first()
         if first in (0x00, 0xFF):
             return self.outcome()
         return self.load() if first == 0xFB else self.resultset(kind)
 
-    def answer(self, kind):
+    @derives("AreResults", "IsAnswer")
+    def answer(self, kind, wants_cursor=False):
+        self.wants_cursor = wants_cursor
         while self.result(kind):
             pass
 
+    @derives("AreColumns", "MayBeColumns", "AreEnded")
     def columns(self, count):
-        for _ in range(count):
-            self.definition()
+        self.definitions(count)
         if count and not self.is_eof_deprecated:
             self.eof()
 
@@ -301,6 +367,7 @@ class Derivation:
         fields.end()
         return number, columns, parameters
 
+    @derives("IsPrepareAnswer", "IsStatement", "IsPrepared")
     def prepare(self):
         if self.first() == 0xFF:
             return self.error()
@@ -310,19 +377,23 @@ class Derivation:
         self.columns(parameters)
         return self.columns(columns)
 
+    @derives("IsStatistics")
     def statistics(self):
         if self.first() == 0xFF:
             return self.error()
         return self.take(self.first() is not None, "statistics text")
 
+    @derives("AreTableColumns", "IsTableColumn")
     def table(self):
         while self.first() not in (None, 0xFE, 0xFF):
             self.kinds.append("column")
         self.last(self.ends_rows())
 
+    @derives("IsOptionOutcome")
     def option(self):
         self.last(self.ends_well() if self.first() == 0xFE else self.outcome())
 
+    @derives("AreEvents")
     def events(self):
         while self.first() == 0x00:
             self.kinds.append("binlog event")
@@ -338,6 +409,7 @@ class Derivation:
         if number not in self.statements:
             raise ValueError("another statement")
 
+    @derives("IsFetch")
     def fetch(self, payload):
         self.read("fetch", self.fetched_of, payload)
         self.answered(lambda: self.last(self.rows("binary row")))
@@ -347,6 +419,8 @@ class Derivation:
         answer()
         self.is_answer = False
 
+    @derives("IsExchange", "IsLastExchange", "IsAnswered", "IsCommand", "IsPlainCommand", "IsUnanswered",
+             "IsOptionCommand")
     def exchange(self):
         """A command, and its answer. Whether another may follow."""
         self.is_servers = False
@@ -356,7 +430,7 @@ class Derivation:
         command = payload[0]
         answers = {
             0x03: ("query", lambda: self.answer("row")),
-            0x17: ("execute", lambda: self.answer("binary row")),
+            0x17: ("execute", lambda: self.answer("binary row", asks_for_cursor(payload))),
             0x16: ("prepare", self.prepare),
             0x09: ("statistics", self.statistics),
             0x04: ("field list", self.table),
@@ -381,6 +455,7 @@ class Derivation:
 
     # ---- the connection phase
 
+    @derives("IsAuthentication", "IsLetIn", "IsDenied")
     def authentication(self):
         """The client is in, or denied."""
         while True:
@@ -396,6 +471,8 @@ class Derivation:
             else:
                 return self.ok()
 
+    @derives("IsConnection", "IsAnyLogin", "IsLogin", "IsTlsConnection", "IsTlsRequest", "IsNoGreeting",
+             "IsDeniedConnection", "IsRefusedConnection")
     def is_let_in(self):
         """The server greets, and the client logs in. Whether it is in."""
         side, number, payload = self.peek()
@@ -422,8 +499,86 @@ class Derivation:
             raise NotDerived("after the end")
 
 
+@derives("IsReport")
 def is_report(said):
     return said[0] == "server" and said[2][:3] == b"\xff\xff\xff"
+
+
+def asks_for_cursor(payload):
+    """Whether an execution does: its flags follow the command's number and the statement's."""
+    return len(payload) > 5 and bool(payload[5] & READ_ONLY_CURSOR)
+
+
+# ---- sessions that are made up
+
+# a column of whole numbers, one row of text with it and one binary row, and a statement of this column
+COLUMN = b"\3def\0\0\0\0011\0\x0c\x3f\0\1\0\0\0\x08\x81\0\0\0\0"
+ROW, BINARY_ROW = b"\0017", b"\0\0\7" + bytes(7)
+PREPARED = b"\0\1\0\0\0\1\0" + bytes(5)
+IS_IN = [
+    ("server", b"\x0a8\0" + bytes(13) + b"\0\x82\x2d\x02" + bytes(27), "greeting"),
+    ("client", b"\0\x82" + bytes(30) + b"root\0\0", "login"),
+]
+
+
+def ends(status, header=0xFE):
+    """An EOF with this status, or an OK."""
+    if header == 0xFE:
+        return "server", b"\xfe\0\0" + status.to_bytes(2, "little"), "eof"
+    return "server", b"\0\0\0" + status.to_bytes(2, "little") + b"\0\0", "ok"
+
+
+def result(kind, status, last=None):
+    """The count of columns, one column, the EOF after it with this status; and, where rows follow, one
+    of this kind, and the EOF after it with the other status."""
+    row = {"row": ROW, "binary row": BINARY_ROW}[kind]
+    front = [("server", b"\1", "column count"), ("server", COLUMN, "column"), ends(status)]
+    return front if last is None else [*front, ("server", row, kind), ends(last)]
+
+
+def prepared():
+    return [("client", b"\x16CALL", "prepare"), ("server", PREPARED, "prepared"),
+            ("server", COLUMN, "column"), ends(0)]
+
+
+def executed(flags):
+    return [("client", b"\x17\1\0\0\0" + bytes([flags]) + b"\1\0\0\0", "execute")]
+
+
+# the result of a procedure that has a cursor of its own open, and then its end
+CALLED = [CURSOR | MORE_RESULTS, MORE_RESULTS]
+DONE = [ends(0, header=0)]
+MADE_UP = {
+    "a procedure with an open cursor, as a query": [
+        ("client", b"\3CALL", "query"), *result("row", *CALLED), *result("row", *CALLED), *DONE],
+    "a procedure with an open cursor, executed": [
+        *prepared(), *executed(0), *result("binary row", *CALLED), *DONE],
+    "a procedure with an open cursor, executed for a cursor": [
+        *prepared(), *executed(1), *result("binary row", *CALLED), *DONE],
+    "a result for a cursor after that of a procedure": [
+        *prepared(), *executed(1), *result("binary row", *CALLED), *result("binary row", CURSOR)],
+    "a cursor that was asked for, and fetched from": [
+        *prepared(), *executed(1), *result("binary row", CURSOR),
+        ("client", b"\x1c\1\0\0\0\1\0\0\0", "fetch"), ("server", BINARY_ROW, "binary row"),
+        ends(CURSOR)],
+    "a cursor that was asked for, and not opened": [
+        *prepared(), *executed(1), *result("binary row", 0, 0)],
+    "rows of an execution that asked for no cursor": [
+        *prepared(), *executed(0), *result("binary row", CURSOR, 0)],
+    "rows of a query, under the status of a cursor": [
+        ("client", b"\3SELECT", "query"), *result("row", CURSOR, 0)],
+}
+
+
+def numbered(said):
+    """The packets (who, id, payload) and their kinds, each numbered on, a command from 0."""
+    packets, kinds, number = [], [], 0
+    for index, (side, payload, kind) in enumerate([*IS_IN, *DONE, *said]):
+        number = 0 if index > 2 and side == "client" else number
+        packets.append((side, number, payload))
+        kinds.append(kind)
+        number = id_after(number, len(payload))
+    return packets, kinds
 
 
 # ---- the dump
@@ -595,6 +750,15 @@ def is_derived(name, packets, folder):
     return is_right, Recorded(name, packets, derived.kinds)
 
 
+def is_made_up_well(name, said, folder):
+    """Whether they agree on a session that is made up, and the kinds are those that were meant."""
+    packets, kinds = numbered(said)
+    is_right, derived = is_derived(name, packets, folder)
+    if is_right and derived.kinds != kinds:
+        print("%s: %s" % (name, derived.kinds))
+    return is_right and derived.kinds == kinds
+
+
 def is_agreed(recorded, chance, folder, found):
     """Whether they agree on a changed one."""
     words, sides = changed(recorded, chance)
@@ -608,22 +772,52 @@ def is_agreed(recorded, chance, folder, found):
     return not fault
 
 
+def both_lists():
+    """The names of the productions of both grammars, each beside the name that the other has for it."""
+    theirs = list(productions(GRAMMAR.read_text(encoding="utf-8")))
+    ours = [name for name in DERIVED_BY if name not in theirs]
+    return [(name, name if name in DERIVED_BY else None) for name in theirs] + [
+        (None, name) for name in ours]
+
+
+def have_same_productions():
+    """Whether each production of one grammar is one of the other. Names those that are not."""
+    alone = [pair for pair in both_lists() if None in pair]
+    for theirs, ours in alone:
+        print("the production %s is only in %s" % (theirs or ours, "Grammar.antt" if theirs else
+                                                   "this script, as %s" % DERIVED_BY[ours]))
+    print("%d productions, in both by their names: %s" % (len(both_lists()), "no" if alone else "yes"))
+    return not alone
+
+
+def show_productions():
+    """Prints both lists, and by which function of this script each is derived."""
+    print("%-22s %-22s %s" % ("of Grammar.antt", "of this script", "derived by"))
+    for theirs, ours in both_lists():
+        print("%-22s %-22s %s" % (theirs or "-", ours or "-", DERIVED_BY.get(ours, "-")))
+
+
 def main():
     if "--help" in sys.argv:
         print(__doc__.strip())
         return
+    if sys.argv[1:] == ["--productions"]:
+        show_productions()
+        sys.exit(not have_same_productions())
     count, seed = map(int, [*sys.argv[1:], *("100", "1")[len(sys.argv) - 1 :]])
     chance, found = random.Random(seed), {}
     data = split((TOP / "crates/recording_tests/stdin").read_bytes())[0]
     with tempfile.TemporaryDirectory() as name:
         folder = pathlib.Path(name)
+        shown = [have_same_productions()]
+        shown += [is_made_up_well(*session, folder) for session in MADE_UP.items()]
         known = [is_derived(*session, folder) for session in sessions(data)]
         agreed = [is_agreed(chance.choice(known)[1], chance, folder, found) for _ in range(count)]
     print("shown of %d changes: %s" % (count, ", ".join(
         "%s %d" % (told, it) for told, it in sorted(found.items(), key=str))))
-    passed = sum(it for it, _ in known) + sum(agreed)
-    print("%d passed, %d failed" % (passed, len(known) + count - passed))
-    sys.exit(passed < len(known) + count)
+    checks = [*shown, *(is_right for is_right, _ in known), *agreed]
+    print("%d passed, %d failed" % (sum(checks), len(checks) - sum(checks)))
+    sys.exit(not all(checks))
 
 
 if __name__ == "__main__":
