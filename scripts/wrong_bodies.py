@@ -1,23 +1,27 @@
 #!/usr/bin/env python3
 """Tries wrong bodies in a copy of the repository, those of several functions by one check.
 
-usage: scripts/wrong_bodies.py COPY JOBS CRATE/NAME..
+usage: scripts/wrong_bodies.py COPY KEPT JOBS CRATE/NAME..
 
 A body stands against its own function's contract alone, so that one check judges a wrong body of
 each function that has one: such a body is refused where an error stands in its function, or in the
 function's own proof file. One that stands in no function, or of which such a check shows no error,
 is tried by a check of its own. The copy's libraries are built first, where they aren't. Each crate
-is tried in a folder of its own, JOBS of them at once. It names each body that is not refused, and
-each that is refused only since a proof file names what it took away; the last line is
-'N refused, M not'.
+is tried in a folder of its own, JOBS of them at once. It says of each body what refuses it. What it
+said of a body it keeps in the folder KEPT, by a checksum of all that it read, and says it again as
+long as nothing of that changed. The line before the last has the sums by what refused the bodies;
+the last line is 'N refused, M not'.
 """
 
 import dataclasses
+import hashlib
+import os
 import pathlib
 import re
 import shutil
 import subprocess
 import sys
+import threading
 from concurrent.futures import ThreadPoolExecutor
 
 FUNCTION = re.compile(r"( *)(?:pub(?:\(\w+\))? )?(?:const )?(?:unsafe )?fn (\w+)")
@@ -36,11 +40,13 @@ class Body:
 
     name: str
     changes: list
+    edit: str
 
     @classmethod
     def read(cls, name, file):
         changes, path, old = [], None, None
-        for line in file.read_text().splitlines():
+        edit = file.read_text()
+        for line in edit.splitlines():
             word, _, text = line.partition(":")
             text = text.removeprefix(" ")
             if word == "file":
@@ -49,7 +55,7 @@ class Body:
                 old = text
             elif word == "new":
                 changes.append((path, old, text))
-        return cls(name, changes)
+        return cls(name, changes, edit)
 
     def function(self, texts):
         """The one function that it changes: its file, name, first and last line; or nothing."""
@@ -82,11 +88,52 @@ def changed(texts, bodies):
     return made
 
 
+class Kept:
+    """What was said of a crate's bodies, in a file for each, as long as nothing changes below."""
+
+    def __init__(self, folder, copy, version, crates):
+        self.folder = folder
+        sums = hashlib.sha256(version.encode())
+        for crate in crates:
+            top = copy / "crates" / crate
+            for part in ("src", "specs", "proofs"):
+                for file in sorted(it for it in (top / part).rglob("*") if it.is_file()):
+                    text = file.read_bytes()
+                    sums.update(f"{crate}/{file.relative_to(top)} {len(text)}\n".encode() + text)
+        self.below = sums.hexdigest()
+
+    def place(self, body):
+        return self.folder / hashlib.sha256((self.below + body.edit).encode()).hexdigest()
+
+    def said(self, body):
+        """What was said of a body, or nothing."""
+        try:
+            return self.place(body).read_text()
+        except FileNotFoundError:
+            return None
+
+    def keep(self, body, why):
+        whole = self.place(body)
+        begun = whole.with_suffix(f".{os.getpid()}")
+        begun.write_text(why)
+        begun.rename(whole)
+
+
 class Crate:
     """A crate in a folder of its own, with its wrong bodies."""
 
-    def __init__(self, copy, name, below, bodies):
-        self.name, self.bodies, self.said = name, bodies, []
+    def __init__(self, name, bodies, kept):
+        self.name, self.bodies, self.kept, self.said = name, [], kept, []
+        for body in bodies:
+            why = kept.said(body)
+            if why is None:
+                self.bodies.append(body)
+            else:
+                self.tell(body, why)
+
+    def make_room(self, copy, below):
+        """Makes the folder that the crate is tried in."""
+        name = self.name
         room = copy / "trials" / name
         self.folder = room / "crates" / name
         self.folder.parent.mkdir(parents=True)
@@ -100,7 +147,7 @@ class Crate:
             subprocess.run(linked, check=True)
         shutil.copytree(copy / "crates" / name, self.folder, ignore=shutil.ignore_patterns("out"))
         shutil.rmtree(self.folder / "must-fail", ignore_errors=True)
-        paths = {path for body in bodies for path, _, _ in body.changes}
+        paths = {path for body in self.bodies for path, _, _ in body.changes}
         self.texts = {path: (self.folder / path).read_text() for path in paths}
 
     def check(self, bodies):
@@ -118,9 +165,15 @@ class Crate:
         judged = any(it.startswith(("logic=not-proved", "logic=proved")) for it in lines)
         return lines if judged else None
 
-    def say(self, body, why):
-        self.said.append((body, why))
+    def tell(self, body, why):
+        self.said.append(why)
         print(f"{self.name}/{body.name}: {why}", flush=True)
+
+    def say(self, body, why):
+        """Says what came of a body, and keeps it (a check that was cut short says 'NOT TRIED')."""
+        if not why.startswith("NOT TRIED"):
+            self.kept.keep(body, why)
+        self.tell(body, why)
 
     def judge(self, body, function, lines):
         """Whether the lines have an error of the body's function."""
@@ -143,9 +196,9 @@ class Crate:
         """Whether there are errors of the body; says so, with the first that is of a clause."""
         strong = [it for it in errors if not ("proofs/" in it and OF_NAMES.search(it))]
         if strong:
-            self.say(body, f"refused: {strong[0][:150]}")
+            self.say(body, f"refused: {strong[0][:200]}")
         elif errors:
-            self.say(body, f"refused, only by names: {errors[0][:150]}")
+            self.say(body, f"refused, only by names: {errors[0][:200]}")
         return bool(errors)
 
     def try_alone(self, body):
@@ -184,7 +237,6 @@ class Crate:
             left = [it for it in left if it not in batch]
         for body in alone:
             self.try_alone(body)
-        return self.said
 
 
 def libraries_below(copy):
@@ -199,21 +251,52 @@ def libraries_below(copy):
     return below
 
 
-def main(copy, jobs, *words):
-    copy = pathlib.Path(copy).resolve()
-    below, bodies = libraries_below(copy), {}
+class Libraries:
+    """The copy's libraries, each built when the first crate above it is tried."""
+
+    def __init__(self, copy):
+        self.copy, self.built, self.lock = copy, set(), threading.Lock()
+
+    def build(self, names):
+        for name in names:
+            with self.lock:
+                if name not in self.built:
+                    folder = self.copy / "crates" / name
+                    subprocess.run(["rt", "lib"], cwd=folder, stdout=subprocess.DEVNULL, check=True)
+                    self.built.add(name)
+
+
+def main(copy, folder, jobs, *words):
+    copy, folder = pathlib.Path(copy).resolve(), pathlib.Path(folder)
+    folder.mkdir(parents=True, exist_ok=True)
+    ran = subprocess.run(["rt", "version"], stdout=subprocess.PIPE, text=True, check=True)
+    below, bodies, libraries = libraries_below(copy), {}, Libraries(copy)
     for word in words:
         crate, _, name = word.partition("/")
         file = copy / "wrong-bodies" / crate / f"{name}.edit"
         bodies.setdefault(crate, []).append(Body.read(name, file))
-    for library in dict.fromkeys(it for crate in bodies for it in below[crate]):
-        subprocess.run(
-            ["rt", "lib"], cwd=copy / "crates" / library, stdout=subprocess.DEVNULL, check=True
-        )
+
+    def try_crate(name):
+        kept = Kept(folder, copy, ran.stdout, (*below[name], name))
+        crate = Crate(name, bodies[name], kept)
+        if crate.bodies:
+            libraries.build(below[name])
+            with libraries.lock:
+                crate.make_room(copy, below[name])
+            crate.try_all()
+        return crate.said
+
     with ThreadPoolExecutor(int(jobs)) as pool:
-        crates = [Crate(copy, name, below[name], its) for name, its in bodies.items()]
-        said = [it for told in pool.map(Crate.try_all, crates) for it in told]
-    refused = sum(why.startswith("refused") for _, why in said)
+        # (lowest first, so that a crate's libraries are there when its turn comes)
+        names = [it for it in below if it in bodies]
+        said = [it for told in pool.map(try_crate, names) for it in told]
+    refused = sum(why.startswith("refused") for why in said)
+    by_names = sum(why.startswith("refused, only by names") for why in said)
+    unseen = sum(why.startswith("refused, by no error") for why in said)
+    print(
+        f"{refused - by_names - unseen} refused by a clause, {by_names} only since a proof file "
+        f"names what went away, {unseen} by no error that is shown, {len(words) - refused} not"
+    )
     print(f"{refused} refused, {len(words) - refused} not")
     return refused != len(words)
 

@@ -2,8 +2,10 @@
 # Tries the wrong bodies of wrong-bodies/, which stand beside the gate's own edits: the prover must
 # refuse each. Words are crates, or single edits as CRATE/NAME; with none, all are tried; with
 # `--changed SINCE` those of the crates that differ from the commit SINCE. It works on a copy of the
-# repository, on as many processors as there are, four at most. It says of each what refuses it; the
-# last line is 'N refused, M not'.
+# repository, on as many processors as there are, four at most, or on JOBS. It says of each what
+# refuses it; the line before the last has the sums by what refused them, the last line is
+# 'N refused, M not'. What it tried it keeps in ~/.cache/mysql_wire/wrong_bodies by the checksums of
+# what it read, so that a run that was stopped goes on where it was.
 set -eu
 top=$(cd "$(dirname "$0")/.." && pwd)
 source "$top/scripts/start.sh"
@@ -35,4 +37,6 @@ for word in "$@"; do
     done
 done
 processors=$(nproc)
-python3 "$top/scripts/wrong_bodies.py" "$work" $((processors < 4 ? processors : 4)) "${tried[@]}"
+kept=${XDG_CACHE_HOME:-$HOME/.cache}/mysql_wire/wrong_bodies
+python3 "$top/scripts/wrong_bodies.py" "$work" "$kept" \
+    "${JOBS:-$((processors < 4 ? processors : 4))}" "${tried[@]}"
