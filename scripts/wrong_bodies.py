@@ -1,15 +1,17 @@
 #!/usr/bin/env python3
 """Tries wrong bodies in a copy of the repository, those of several functions by one check.
 
-usage: scripts/wrong_bodies.py COPY KEPT JOBS CRATE/NAME..
+usage: scripts/wrong_bodies.py TOP COPY KEPT JOBS CRATE/NAME..
 
 A body stands against its own function's contract alone, so that one check judges a wrong body of
 each function that has one: such a body is refused where an error stands in its function, or in the
 function's own proof file. One that stands in no function, or of which such a check shows no error,
-is tried by a check of its own. The copy's libraries are built first, where they aren't. Each crate
-is tried in a folder of its own, JOBS of them at once. It says of each body what refuses it. What it
-said of a body it keeps in the folder KEPT, by a checksum of all that it read, and says it again as
-long as nothing of that changed. The line before the last has the sums by what refused the bodies;
+is tried by a check of its own. The copy is made in the folder COPY of the repository TOP, of the
+crates that are tried and of those below, whose libraries are built where they aren't; a check begins
+with what one kept in TOP. Each crate is tried in a folder of its own, JOBS of them at once. It says
+of each body what refuses it. What it said of a body it keeps in the folder KEPT, by a checksum of all
+that it read, and says it again as long as nothing of that changed. The line before the last has the
+sums by what refused the bodies;
 the last line is 'N refused, M not'.
 """
 
@@ -91,15 +93,15 @@ def changed(texts, bodies):
 class Kept:
     """What was said of a crate's bodies, in a file for each, as long as nothing changes below."""
 
-    def __init__(self, folder, copy, version, crates):
+    def __init__(self, folder, top, version, crates):
         self.folder = folder
         sums = hashlib.sha256(version.encode())
         for crate in crates:
-            top = copy / "crates" / crate
+            place = top / "crates" / crate
             for part in ("src", "specs", "proofs"):
-                for file in sorted(it for it in (top / part).rglob("*") if it.is_file()):
+                for file in sorted(it for it in (place / part).rglob("*") if it.is_file()):
                     text = file.read_bytes()
-                    sums.update(f"{crate}/{file.relative_to(top)} {len(text)}\n".encode() + text)
+                    sums.update(f"{crate}/{file.relative_to(place)} {len(text)}\n".encode() + text)
         self.below = sums.hexdigest()
 
     def place(self, body):
@@ -131,7 +133,7 @@ class Crate:
             else:
                 self.tell(body, why)
 
-    def make_room(self, copy, below):
+    def make_room(self, top, copy, below):
         """Makes the folder that the crate is tried in."""
         name = self.name
         room = copy / "trials" / name
@@ -145,7 +147,7 @@ class Crate:
         for crate in below:
             linked = ["cp", "-al", f"{copy}/crates/{crate}", self.folder.parent]
             subprocess.run(linked, check=True)
-        shutil.copytree(copy / "crates" / name, self.folder, ignore=shutil.ignore_patterns("out"))
+        shutil.copytree(top / "crates" / name, self.folder, copy_function=link_proofs)
         shutil.rmtree(self.folder / "must-fail", ignore_errors=True)
         paths = {path for body in self.bodies for path, _, _ in body.changes}
         self.texts = {path: (self.folder / path).read_text() for path in paths}
@@ -251,38 +253,51 @@ def libraries_below(copy):
     return below
 
 
-class Libraries:
-    """The copy's libraries, each built when the first crate above it is tried."""
+def link_proofs(one, other):
+    """Copies a file; one of proofs, which a check replaces and never changes, by a link."""
+    if one.endswith(".oantt"):
+        try:
+            return os.link(one, other)
+        except OSError:
+            pass
+    return shutil.copy2(one, other)
 
-    def __init__(self, copy):
-        self.copy, self.built, self.lock = copy, set(), threading.Lock()
+
+class Libraries:
+    """The copy's libraries, each copied and built when the first crate above it is tried."""
+
+    def __init__(self, top, copy):
+        self.top, self.copy, self.built, self.lock = top, copy, set(), threading.Lock()
 
     def build(self, names):
         for name in names:
             with self.lock:
                 if name not in self.built:
                     folder = self.copy / "crates" / name
+                    shutil.copytree(self.top / "crates" / name, folder, copy_function=link_proofs)
                     subprocess.run(["rt", "lib"], cwd=folder, stdout=subprocess.DEVNULL, check=True)
                     self.built.add(name)
 
 
-def main(copy, folder, jobs, *words):
-    copy, folder = pathlib.Path(copy).resolve(), pathlib.Path(folder)
+def main(top, copy, folder, jobs, *words):
+    top, copy, folder = pathlib.Path(top), pathlib.Path(copy).resolve(), pathlib.Path(folder)
     folder.mkdir(parents=True, exist_ok=True)
     ran = subprocess.run(["rt", "version"], stdout=subprocess.PIPE, text=True, check=True)
-    below, bodies, libraries = libraries_below(copy), {}, Libraries(copy)
+    below, bodies, libraries = libraries_below(top), {}, Libraries(top, copy)
+    for file in ("crates.txt", "HANDLES"):
+        shutil.copy(top / file, copy)
     for word in words:
         crate, _, name = word.partition("/")
-        file = copy / "wrong-bodies" / crate / f"{name}.edit"
+        file = top / "wrong-bodies" / crate / f"{name}.edit"
         bodies.setdefault(crate, []).append(Body.read(name, file))
 
     def try_crate(name):
-        kept = Kept(folder, copy, ran.stdout, (*below[name], name))
+        kept = Kept(folder, top, ran.stdout, (*below[name], name))
         crate = Crate(name, bodies[name], kept)
         if crate.bodies:
             libraries.build(below[name])
             with libraries.lock:
-                crate.make_room(copy, below[name])
+                crate.make_room(top, copy, below[name])
             crate.try_all()
         return crate.said
 

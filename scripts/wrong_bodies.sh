@@ -11,7 +11,6 @@ top=$(cd "$(dirname "$0")/.." && pwd)
 source "$top/scripts/start.sh"
 work=$(mktemp -d)
 trap 'rm -rf "$work"' EXIT
-cp -a "$top/crates" "$top/crates.txt" "$top/HANDLES" "$top/wrong-bodies" "$work/"
 
 cd "$top/wrong-bodies"
 if [ "${1:-}" = --changed ]; then
@@ -38,5 +37,5 @@ for word in "$@"; do
 done
 processors=$(nproc)
 kept=${XDG_CACHE_HOME:-$HOME/.cache}/mysql_wire/wrong_bodies
-python3 "$top/scripts/wrong_bodies.py" "$work" "$kept" \
+python3 "$top/scripts/wrong_bodies.py" "$top" "$work" "$kept" \
     "${JOBS:-$((processors < 4 ? processors : 4))}" "${tried[@]}"
