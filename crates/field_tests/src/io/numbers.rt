@@ -63,14 +63,17 @@ pub fn are_read<R: Readers>(rows: &[Row<'_, R::Number>], eaten: usize) -> bool {
 #[test]
 fn numbers_are_read(_: HostRuntime) -> Result<(), Fail> {
     let mut short = ParseBuf(b"\x8f");
+    let mut widest = ParseBuf(b"\0\x01\x02\x03\x04\x05\x06\x07\x08\x09\x0a\x0b\x0c\x0d\x0e");
     all_hold(&[
         ParseBuf(b"\x8f\x84").eat_i16_be() == -0x707c,
         ParseBuf(b"\x01\x11\x21").eat_i24_be() == 0x1_1121,
+        ParseBuf(b"\x80\0\0").eat_i24_be() == -8388608,
         ParseBuf(b"\x8f\x84\x99\xae\xa3\xb8\xcd").eat_i56_be() == -0x70_7b66_515c_4733,
         ParseBuf(b"\xaa\x95\x80\x8b\xf6\xe1\xec\xd7\xc2\xcd\xb8\xa3\xae\x99\x84\x8f").eat_i128_le()
             == -0x707b_6651_5c47_323d_2813_1e09_747f_6a56,
         ParseBuf(b"\x8f\x84\x99\xae\xa3\xb8\xcd\xc2\xd7\xec\xe1\xf6\x8b\x80\x95\xaa").eat_u128_be()
             == 0x8f84_99ae_a3b8_cdc2_d7ec_e1f6_8b80_95aa,
         short.checked_eat_i16_be().is_none() & (short.len() == 1),
+        widest.checked_eat_u128_le().is_none() & (widest.len() == 15),
     ])
 }
