@@ -19,6 +19,8 @@ mod copies;
 #[cfg(test)]
 mod delivery;
 #[cfg(test)]
+mod ends;
+#[cfg(test)]
 mod examples;
 #[cfg(test)]
 mod fragmentation;
