@@ -4,3 +4,4 @@ pub mod MixLemmas
 pub mod FrameLemmas
 pub mod PartLemmas
 pub mod PassingLemmas
+pub mod VisitLemmas
