@@ -1,4 +1,5 @@
-//! The cases of the Rust crate's own tests.
+//! The cases of the Rust crate's own tests, under the licence in `LICENSE-mysql_common`, at the top of
+//! the repository.
 
 use mysql_wire::constants::MAX_PAYLOAD_LEN;
 use mysql_wire::io::ParseBuf;

@@ -1,4 +1,4 @@
-// Server versions.
+// Server versions, among them those of the Rust crate's own test (see `LICENSE-mysql_common`).
 
 use mysql_wire::misc::split_version;
 
