@@ -102,7 +102,10 @@ impl<A: Allocator + Copy> Session<A> {
         ensures stays { OnErr result (state_of self.new ≡ state_of self.old) }
     {
         let kind = self.classify(side, id, len, front);
-        if let PacketKind::Execute = kind && front.len() >= 6 {
+        // (the numbers of the command and of its statement, and the flags)
+        if let PacketKind::Execute = kind
+            && front.len() >= 6
+        {
             self.advance_execution(side, id, len, front);
             return Ok(kind);
         }
