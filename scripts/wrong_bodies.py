@@ -140,10 +140,8 @@ class Crate:
         self.folder = room / "crates" / name
         self.folder.parent.mkdir(parents=True)
         subprocess.run(["git", "init", "-q", "."], cwd=room, check=True)
-        shutil.copy(copy / "HANDLES", room)
-        lines = (copy / "crates.txt").read_text().splitlines()
-        kept = [it for it in lines if re.split(r"[ :]", it)[0] in (*below, name)]
-        (room / "crates.txt").write_text("\n".join(kept) + "\n")
+        shutil.copy(top / "HANDLES", room)
+        list_crates(top, room, (*below, name))
         for crate in below:
             linked = ["cp", "-al", f"{copy}/crates/{crate}", self.folder.parent]
             subprocess.run(linked, check=True)
@@ -263,6 +261,13 @@ def link_proofs(one, other):
     return shutil.copy2(one, other)
 
 
+def list_crates(top, folder, names):
+    """Writes the crates.txt of a folder that has these crates."""
+    lines = (top / "crates.txt").read_text().splitlines()
+    kept = [it for it in lines if re.split(r"[ :]", it)[0] in names]
+    (folder / "crates.txt").write_text("\n".join(kept) + "\n")
+
+
 class Libraries:
     """The copy's libraries, each copied and built when the first crate above it is tried."""
 
@@ -275,8 +280,9 @@ class Libraries:
                 if name not in self.built:
                     folder = self.copy / "crates" / name
                     shutil.copytree(self.top / "crates" / name, folder, copy_function=link_proofs)
-                    subprocess.run(["rt", "lib"], cwd=folder, stdout=subprocess.DEVNULL, check=True)
                     self.built.add(name)
+                    list_crates(self.top, self.copy, self.built)
+                    subprocess.run(["rt", "lib"], cwd=folder, stdout=subprocess.DEVNULL, check=True)
 
 
 def main(top, copy, folder, jobs, *words):
@@ -284,8 +290,7 @@ def main(top, copy, folder, jobs, *words):
     folder.mkdir(parents=True, exist_ok=True)
     ran = subprocess.run(["rt", "version"], stdout=subprocess.PIPE, text=True, check=True)
     below, bodies, libraries = libraries_below(top), {}, Libraries(top, copy)
-    for file in ("crates.txt", "HANDLES"):
-        shutil.copy(top / file, copy)
+    shutil.copy(top / "HANDLES", copy)
     for word in words:
         crate, _, name = word.partition("/")
         file = top / "wrong-bodies" / crate / f"{name}.edit"
