@@ -62,12 +62,13 @@ TakesOn limits mark place limit first input held (Ok More) id header src dst =
 TakesOn limits mark place limit first input held (Err error) id header src dst = DecodesOn limits
     mark place first input held (Err error) id header src dst
 
--- in every place of such a run
+-- what one chunk makes of a codec that goes on, under whatever limits, and wherever in a run it stands
 abbrev pub PacketSink : CodecState → Result Progress PacketCodecError → CodecState → Type 0
 PacketSink before answer after = (limits : Limits) (mark place : ℕ) → GoesOn limits mark place before
     → TakesOn limits mark place before.limit (first_id before) (input_of before) before.held answer
     after.id after.header after.unread after.held
 
+-- the same of a call of `decode`
 abbrev pub Decodes : CodecState → Result Bool PacketCodecError → CodecState → Type 0
 Decodes before answer after = (limits : Limits) (mark place : ℕ) → GoesOn limits mark place before
     → DecodesOn limits mark place (first_id before) (input_of before) before.held answer after.id
