@@ -1,54 +1,21 @@
 -- What the front of a payload tells of what is known after it.
-use denote.Param.{number}
-use Rattle.std.proofs.Common.{◌≡◌, ◌⊎◌, ◌∙◌, ◌≤◌, ℕ, zero, suc, inl, inr, Bool, true, false, List, [], ◌∷◌, length, refl, ap, sym, subst, Option, Some, None, Result, Ok, Err, arith, take}
-use Rattle.mysql_wire_parts.specs.Optional.{has_query_attributes}
-use Rattle.mysql_wire_parts.specs.declared.places.PayloadError.{PayloadError}
+use Rattle.std.proofs.Common.{◌≡◌, ◌⊎◌, ◌∙◌, ◌≤◌, ℕ, zero, suc, inl, inr, Bool, false, List, [], ◌∷◌, length, refl, ap, sym, subst, Result, Ok, Err, arith, take}
 use Rattle.std.specs.Prelude.{IfErr, IfOk, OnOk}
-use Rattle.mysql_wire_session.specs.Advance.{IsRefusedMemory, applied, asked, id_after, opened, remembered, state_after}
-use Rattle.mysql_wire_session.specs.Fronts.{FailsWhole, IsFront, KnownAfter, TakesFront, are_columns, says_more}
+use Rattle.mysql_wire_session.specs.Advance.{IsRefusedMemory, asked, opened}
+use Rattle.mysql_wire_session.specs.Fronts.{FailsWhole, IsFront, KnownAfter, TakesFront, says_more}
 use Rattle.mysql_wire_session_phases.specs.Kinds.{asks_for_cursor, first_byte, is_report, kind_at, kind_by_front}
 use Rattle.mysql_wire_session.specs.Opening.{opened_state}
 use Rattle.mysql_wire_session.specs.declared.session.read.Opened.{Opened}
 use Rattle.mysql_wire_session.specs.SilentLemmas.{execute_silent, kind_silent, silent, silent_but_for_a_cursor}
-use Rattle.mysql_wire_session.specs.Readings.{IsColumn, IsExecution, IsExecutionOf, IsQuery, IsRead, LogRequestGives, OtherCommandGives, ReadsAs, Receives, advanced, after_kind, after_packet, is_numbered, kind_of, opened_at, statement_named}
-use Rattle.mysql_wire_session.specs.State.{SessionState, expectation_of, statement_of}
-use Rattle.mysql_wire_connection.specs.contracts.payload.HandshakeV10Payload.TheImpl as greeting_type
-use Rattle.mysql_wire_connection.specs.contracts.payload.AuthSwitchRequestPayload.TheImpl as switch_type
-use Rattle.mysql_wire_connection.specs.contracts.payload.AuthMoreDataPayload.TheImpl as more_type
-use Rattle.mysql_wire_connection.specs.contracts.payload.AuthSwitchResponsePayload.TheImpl as answer_type
-use Rattle.mysql_wire_packets.specs.contracts.payload.ProgressReportPayload.TheImpl as progress_type
-use Rattle.mysql_wire_utility.specs.contracts.payload.ComInitDbPayload.TheImpl as init_type
-use Rattle.mysql_wire_utility.specs.contracts.payload.ComPingPayload.TheImpl as ping_type
-use Rattle.mysql_wire_utility.specs.contracts.payload.ComQuitPayload.TheImpl as quit_type
-use Rattle.mysql_wire_statements.specs.contracts.payload.ComStmtPreparePayload.TheImpl as prepare_type
-use Rattle.mysql_wire_statements.specs.contracts.payload.ComStmtSendLongDataPayload.TheImpl as long_data_type
-use Rattle.mysql_wire_statements.specs.contracts.payload.StatementCommandPayload.TheImpl as statement_command
-use Rattle.mysql_wire_utility.specs.contracts.payload.ComChangeUserPayload.TheImpl as change_type
-use Rattle.mysql_wire_queries.specs.contracts.payload.ComQueryPayload.TheImpl as query_type
-use Rattle.mysql_wire_queries.specs.contracts.payload.ComQueryWithAttributesPayload.TheImpl as query_type_with
-use Rattle.mysql_wire_statements.specs.contracts.payload.ComStmtExecutePayload.TheImpl as execute_type
-use Rattle.mysql_wire_utility.specs.contracts.payload.ComBinlogDumpPayload.TheImpl as dump_type
-use Rattle.mysql_wire_utility.specs.contracts.payload.ComBinlogDumpGtidPayload.TheImpl as dump_gtid_type
-use Rattle.mysql_wire_utility.specs.contracts.payload.ComDebugPayload.TheImpl as debug_type
-use Rattle.mysql_wire_utility.specs.contracts.payload.ComFieldListPayload.TheImpl as field_list_type
-use Rattle.mysql_wire_utility.specs.contracts.payload.ComProcessKillPayload.TheImpl as kill_type
-use Rattle.mysql_wire_utility.specs.contracts.payload.ComRegisterSlavePayload.TheImpl as replica_type
-use Rattle.mysql_wire_utility.specs.contracts.payload.ComResetConnectionPayload.TheImpl as reset_connection_type
-use Rattle.mysql_wire_utility.specs.contracts.payload.ComSetOptionPayload.TheImpl as set_option_type
-use Rattle.mysql_wire_utility.specs.contracts.payload.ComStatisticsPayload.TheImpl as statistics_type
-use Rattle.mysql_wire_utility.specs.contracts.payload.StatisticsTextPayload.TheImpl as text_type
+use Rattle.mysql_wire_session.specs.Readings.{ReadsAs, Receives, advanced, after_kind, after_packet, kind_of, opened_at, statement_named}
+use Rattle.mysql_wire_session.specs.State.{SessionState, expectation_of}
 use Rattle.mysql_wire_session_phases.specs.declared.classify.Expectation.{Expectation}
-use Rattle.mysql_wire_session_packets.specs.declared.packet.Packet.{Packet}
-use Rattle.mysql_wire_session_packets.specs.declared.packet.Packet.TheVariants as packet
 use Rattle.mysql_wire_session_packets.specs.declared.packet.Received.{Received}
 use Rattle.mysql_wire_session_phases.specs.declared.packet_kind.PacketKind.{PacketKind}
 use Rattle.mysql_wire_session_phases.specs.declared.packet_kind.PacketKind.TheVariants as kind
-use Rattle.mysql_wire_session_phases.specs.declared.phase.Phase.{Phase}
-use Rattle.mysql_wire_session_phases.specs.declared.phase.Phase.TheVariants as phase
 use Rattle.mysql_wire_session_phases.specs.declared.refusal.SessionError.{SessionError}
 use Rattle.mysql_wire_session_phases.specs.declared.side.Side.{Side}
 use Rattle.mysql_wire_session_phases.specs.declared.side.Side.TheVariants.{Client, Server}
-use Rattle.mysql_wire_statements.specs.declared.com_stmt_prepare_ok.ComStmtPrepareOk.{ComStmtPrepareOk}
 
 -- ---- the front is the payload's
 

@@ -1,22 +1,20 @@
 -- What a session knows after a packet.
-use Rattle.std.specs.Prelude.{ℕ, ◌≡◌, ◌<◌, ◌==◌, ◌-◌, ◌+◌, ◌/◌, ◌%◌, nat_lt, Bool, true, false, if◌then◌else◌, List, [], ◌∷◌, ◌++◌, length, take, Option, Some, None}
+use Rattle.std.specs.Prelude.{ℕ, ◌≡◌, ◌<◌, ◌==◌, ◌+◌, ◌/◌, ◌%◌, nat_lt, Bool, true, false, if◌then◌else◌, List, [], ◌∷◌, ◌++◌, length, take, Option, Some, None}
 use Rattle.wire_const.specs.declared.flag_sets.mariadb.MariadbCapabilities.{MariadbCapabilities}
 use Rattle.wire_const.specs.declared.flag_sets.status.StatusFlags.{StatusFlags}
 use Rattle.mysql_wire_connection.specs.declared.handshake_response.HandshakeResponse41.{HandshakeResponse41}
 use Rattle.mysql_wire_session_phases.specs.declared.packet_kind.PacketKind.{PacketKind}
 use Rattle.mysql_wire_session_phases.specs.declared.packet_kind.PacketKind.TheVariants as kind
-use Rattle.mysql_wire_session_phases.specs.declared.phase.AfterColumns.{AfterColumns}
 use Rattle.mysql_wire_session_phases.specs.declared.phase.AfterColumns.TheVariants as after
 use Rattle.mysql_wire_session_phases.specs.declared.phase.Phase.{Phase}
 use Rattle.mysql_wire_session_phases.specs.declared.phase.Phase.TheVariants as phase
-use Rattle.mysql_wire_session_phases.specs.declared.phase.RowForm.{RowForm}
 use Rattle.mysql_wire_session_phases.specs.declared.phase.RowForm.TheVariants as form
 use Rattle.mysql_wire_session_phases.specs.declared.refusal.SessionError.{SessionError}
 use Rattle.mysql_wire_session_phases.specs.declared.refusal.SessionError.TheVariants.{OutOfMemory}
 use Rattle.mysql_wire_session_phases.specs.declared.side.Side.{Side}
 use Rattle.mysql_wire_session_phases.specs.declared.side.Side.TheVariants.{Client, Server}
 use Rattle.mysql_wire_session_phases.specs.Kinds.{asks_for_cursor, is_command}
-use Rattle.mysql_wire_session_phases.specs.Phases.{after_columns, after_definitions, command_phase, command_rows, done_phase, ended_phase, failed_phase, past_column, server_phase, after_answer, statement_columns}
+use Rattle.mysql_wire_session_phases.specs.Phases.{after_columns, after_definitions, command_phase, command_rows, done_phase, ended_phase, failed_phase, past_column, server_phase, statement_columns}
 use Rattle.mysql_wire_session_packets.specs.declared.packet.Packet.{Packet}
 use Rattle.mysql_wire_session_packets.specs.declared.packet.Packet.TheVariants as packet
 use Rattle.mysql_wire_parts.specs.Optional.{has}

@@ -1,16 +1,12 @@
 -- A packet that says no more than its kind.
 use denote.Param.{number}
-use Rattle.std.proofs.Common.{◌≡◌, ◌⊎◌, ◌∙◌, ◌≤◌, ℕ, zero, suc, inl, inr, Bool, true, false, List, [], ◌∷◌, length, refl, ap, sym, subst, Option, Some, None, Result, Ok, Err, arith, take}
+use Rattle.std.proofs.Common.{◌≡◌, ◌∙◌, ℕ, inl, inr, Bool, true, false, List, length, refl, ap, sym, subst, Option, Some, None, Result, Ok}
 use Rattle.mysql_wire_parts.specs.Optional.{has_query_attributes}
 use Rattle.mysql_wire_parts.specs.declared.places.PayloadError.{PayloadError}
-use Rattle.std.specs.Prelude.{IfErr, IfOk, OnOk}
-use Rattle.mysql_wire_session.specs.Advance.{IsRefusedMemory, applied, asked, id_after, opened, remembered, state_after}
-use Rattle.mysql_wire_session.specs.Fronts.{FailsWhole, IsFront, KnownAfter, TakesFront, are_columns, says_more}
-use Rattle.mysql_wire_session_phases.specs.Kinds.{first_byte, is_report, kind_at, kind_by_front}
-use Rattle.mysql_wire_session.specs.Opening.{opened_state}
-use Rattle.mysql_wire_session.specs.declared.session.read.Opened.{Opened}
-use Rattle.mysql_wire_session.specs.Readings.{IsColumn, IsExecution, IsExecutionOf, IsQuery, IsRead, LogRequestGives, OtherCommandGives, ReadsAs, Receives, advanced, after_kind, after_packet, is_numbered, kind_of, opened_at, statement_named}
-use Rattle.mysql_wire_session.specs.State.{SessionState, expectation_of, statement_of}
+use Rattle.mysql_wire_session.specs.Advance.{applied, asked, id_after, opened, remembered, state_after}
+use Rattle.mysql_wire_session.specs.Fronts.{are_columns, says_more}
+use Rattle.mysql_wire_session.specs.Readings.{IsColumn, IsExecution, IsExecutionOf, IsQuery, IsRead, LogRequestGives, OtherCommandGives, ReadsAs, after_kind, after_packet, is_numbered}
+use Rattle.mysql_wire_session.specs.State.{SessionState, statement_of}
 use Rattle.mysql_wire_connection.specs.contracts.payload.HandshakeV10Payload.TheImpl as greeting_type
 use Rattle.mysql_wire_connection.specs.contracts.payload.AuthSwitchRequestPayload.TheImpl as switch_type
 use Rattle.mysql_wire_connection.specs.contracts.payload.AuthMoreDataPayload.TheImpl as more_type
@@ -36,17 +32,13 @@ use Rattle.mysql_wire_utility.specs.contracts.payload.ComResetConnectionPayload.
 use Rattle.mysql_wire_utility.specs.contracts.payload.ComSetOptionPayload.TheImpl as set_option_type
 use Rattle.mysql_wire_utility.specs.contracts.payload.ComStatisticsPayload.TheImpl as statistics_type
 use Rattle.mysql_wire_utility.specs.contracts.payload.StatisticsTextPayload.TheImpl as text_type
-use Rattle.mysql_wire_session_phases.specs.declared.classify.Expectation.{Expectation}
 use Rattle.mysql_wire_session_packets.specs.declared.packet.Packet.{Packet}
 use Rattle.mysql_wire_session_packets.specs.declared.packet.Packet.TheVariants as packet
-use Rattle.mysql_wire_session_packets.specs.declared.packet.Received.{Received}
 use Rattle.mysql_wire_session_phases.specs.declared.packet_kind.PacketKind.{PacketKind}
 use Rattle.mysql_wire_session_phases.specs.declared.packet_kind.PacketKind.TheVariants as kind
 use Rattle.mysql_wire_session_phases.specs.declared.phase.Phase.{Phase}
 use Rattle.mysql_wire_session_phases.specs.declared.phase.Phase.TheVariants as phase
-use Rattle.mysql_wire_session_phases.specs.declared.refusal.SessionError.{SessionError}
 use Rattle.mysql_wire_session_phases.specs.declared.side.Side.{Side}
-use Rattle.mysql_wire_session_phases.specs.declared.side.Side.TheVariants.{Client, Server}
 use Rattle.mysql_wire_statements.specs.declared.com_stmt_prepare_ok.ComStmtPrepareOk.{ComStmtPrepareOk}
 
 -- what is read says nothing of what is known
