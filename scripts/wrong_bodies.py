@@ -150,6 +150,14 @@ class Crate:
         paths = {path for body in self.bodies for path, _, _ in body.changes}
         self.texts = {path: (self.folder / path).read_text() for path in paths}
 
+    def run_check(self):
+        """Checks the crate as it stands in its folder, and gives what that says."""
+        ran = subprocess.run(
+            ["rt", "check", "--jobs", "1"], cwd=self.folder, stdin=subprocess.DEVNULL,
+            stdout=subprocess.PIPE, stderr=subprocess.STDOUT, text=True, errors="replace",
+        )
+        return ran.stdout.splitlines()
+
     def check(self, bodies):
         """What a check says with these bodies: its lines, or nothing where it does not compile."""
         texts = changed(self.texts, bodies)
@@ -157,11 +165,7 @@ class Crate:
             return None
         for path, text in texts.items():
             (self.folder / path).write_text(text)
-        ran = subprocess.run(
-            ["rt", "check", "--jobs", "1"], cwd=self.folder, stdin=subprocess.DEVNULL,
-            stdout=subprocess.PIPE, stderr=subprocess.STDOUT, text=True, errors="replace",
-        )
-        lines = ran.stdout.splitlines()
+        lines = self.run_check()
         judged = any(it.startswith(("logic=not-proved", "logic=proved")) for it in lines)
         return lines if judged else None
 
@@ -221,6 +225,8 @@ class Crate:
         return [it for it in bodies if not lines or not self.judge(it, functions[it.name], lines)]
 
     def try_all(self):
+        # The crate as it is goes first: of that, a check in another copy may have kept all.
+        self.run_check()
         functions = {it.name: it.function(self.texts) for it in self.bodies}
         alone = [it for it in self.bodies if not functions[it.name]]
         left = [it for it in self.bodies if functions[it.name]]
