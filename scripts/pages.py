@@ -3,7 +3,9 @@
 
 - each block of Rattle code (```rust) stands in one source file of a crate: its items in order, each
   whole, but for their indentation, and all that the block imports is imported there;
-- each definition (```antt) stands whole in a file of specs/, but for its line breaks.
+- each definition (```antt) stands whole in a file of specs/, but for its line breaks;
+- each block of C, Python or cargo's Rust (```c, ```python, ```rs) stands in one file of bindings/ or
+  examples/, but for its indentation and the marks of a comment.
 
 It prints a line for each page, and for each quotation that stands nowhere. The last line is
 'N passed, M failed'.
@@ -74,13 +76,20 @@ def stands(block, sources):
     return False
 
 
+def bare(text):
+    """Lines without their indentation, and without the marks of a comment that is documentation, or of
+    a line that it hides."""
+    return "\n".join(re.sub(r"^(//!|///) ?(# )?", "", line.strip()).strip()
+                     for line in text.replace("\\\\", "\\").strip("\n").split("\n"))
+
+
 def definitions(text):
     """What begins in the first column, each on one line."""
     found = re.split(r"\n(?=\S)", text.strip("\n"))
     return [" ".join(each.split()) for each in found if each.strip() and not each.startswith("--")]
 
 
-def faults(page, sources, known):
+def faults(page, sources, known, programs):
     """The quotations of a page that stand nowhere, and how many there are in all."""
     code = blocks(page, "rust")
     wrong = [f"line {line}: in no crate" for line, block in code if not stands(block, sources)]
@@ -89,6 +98,11 @@ def faults(page, sources, known):
         quoted = definitions(block)
         wrong += [f"line {line}: in no specs/: {each}" for each in quoted if each not in known]
         count += len(quoted)
+    for language, texts in programs.items():
+        code = blocks(page, language)
+        wrong += [f"line {line}: in no file of bindings/ or examples/" for line, block in code
+                  if not any(f"\n{bare(block)}\n" in text for text in texts)]
+        count += len(code)
     return wrong, count
 
 
@@ -98,9 +112,13 @@ def main():
     sources = [(f"\n{unindented(text)}\n", imports(text)) for text in texts]
     specs = [read(path) for path in glob("crates/*/specs/**/*.antt", recursive=True)]
     known = {each for text in specs for each in definitions(text)}
+    programs = {language: [f"\n{bare(read(path))}\n" for top in ("bindings", "examples")
+                           for path in sorted(glob(f"{top}/**/*.{end}", recursive=True))]
+                for language, end in (("c", "c"), ("python", "py"), ("rs", "rs"))}
     passed = failed = 0
-    for name in ["README.md", "CALLING.md"] + sorted(glob("docs/*.md")):
-        wrong, count = faults(read(name), sources, known)
+    pages = ["README.md", "CALLING.md"] + sorted(glob("docs/*.md"))
+    for name in pages:
+        wrong, count = faults(read(name), sources, known, programs)
         for fault in wrong:
             print(f"FAILED {name}: {fault}")
         if count and not wrong:
