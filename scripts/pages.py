@@ -1,5 +1,5 @@
 #!/usr/bin/env python3
-"""Compares the pages with what they quote. Of README.md, CALLING.md and docs/:
+"""Compares the pages with what they quote. Of README.md, CALLING.md, docs/ and the crates' pages:
 
 - each block of Rattle code (```rust) stands in one source file of a crate: its items in order, each
   whole, but for their indentation, and all that the block imports is imported there;
@@ -116,7 +116,7 @@ def main():
                            for path in sorted(glob(f"{top}/**/*.{end}", recursive=True))]
                 for language, end in (("c", "c"), ("python", "py"), ("rs", "rs"))}
     passed = failed = 0
-    pages = ["README.md", "CALLING.md"] + sorted(glob("docs/*.md"))
+    pages = ["README.md", "CALLING.md"] + sorted(glob("docs/*.md") + glob("crates/*/README.md"))
     for name in pages:
         wrong, count = faults(read(name), sources, known, programs)
         for fault in wrong:
