@@ -1,4 +1,4 @@
-//! An answer counted where memory is refused, which `memory_tests` runs.
+//! An answer counted where memory is refused, which `facade_tests` runs.
 
 use crate::client::count_rows;
 use crate::proxy::may_change_hands;
