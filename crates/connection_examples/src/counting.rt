@@ -3,7 +3,7 @@
 ghost use Rattle.std.specs.Prelude.{◌≡◌, true, false, IfOk, OnErr};
 ghost use Rattle.mysql_wire_session.specs.Senders.{is_idle};
 ghost use Rattle.mysql_wire_session.specs.State.{state_of};
-ghost use Rattle.session_examples.specs.Answers.{CountsRows, TakesPacket, is_row};
+ghost use Rattle.connection_examples.specs.Answers.{CountsRows, TakesPacket, is_row};
 
 use mysql_wire_session::packet_kind::PacketKind;
 use mysql_wire_session::session::{FrontError, Session};
@@ -25,7 +25,7 @@ pub enum AnswerError {
 }
 
 impl From<PacketIoError> for AnswerError {
-    ghost use Rattle.session_examples.specs.declared.client.AnswerError.TheVariants.{Io};
+    ghost use Rattle.connection_examples.specs.declared.counting.AnswerError.TheVariants.{Io};
 
     ghost from_gives = { λ error converted. converted ≡ Io error };
 
@@ -35,7 +35,7 @@ impl From<PacketIoError> for AnswerError {
 }
 
 impl From<FrontError> for AnswerError {
-    ghost use Rattle.session_examples.specs.declared.client.AnswerError.TheVariants.{Session};
+    ghost use Rattle.connection_examples.specs.declared.counting.AnswerError.TheVariants.{Session};
 
     ghost from_gives = { λ error converted. converted ≡ Session error };
 

@@ -2,7 +2,7 @@
 
 ghost use Rattle.std.specs.Prelude.{◌≡◌, IfSome, IsNone, Some, Ok};
 ghost use Rattle.mysql_wire_queries.specs.RowValues.{GivesValue};
-ghost use Rattle.session_examples.specs.Rows.{GivesNone, HasNoTextAt, IsTextAt};
+ghost use Rattle.connection_examples.specs.Rows.{GivesNone, HasNoTextAt, IsTextAt};
 
 use mysql_wire_queries::text_row::TextValue;
 use mysql_wire_queries::text_values::TextValues;

@@ -1,5 +1,5 @@
 use Rattle.std.proofs.Common.{inl, inr}
-use Rattle.session_examples.proofs.rows.next_value.Goals as goal
+use Rattle.connection_examples.proofs.rows.next_value.Goals as goal
 
 pub returns-in-Some-Err-clause-none : goal.returns-in-Some-Err-clause-none
 returns-in-Some-Err-clause-none c none =

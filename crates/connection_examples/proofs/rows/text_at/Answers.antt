@@ -1,8 +1,8 @@
 use Rattle.std.proofs.Common.{arith, refl, [], ◌∷◌, ◌++◌}
 use Rattle.std.proofs.lemmas.List.{length-append}
 use Rattle.mysql_wire_queries.specs.declared.text_row.TextValue.{TextValue}
-use Rattle.session_examples.proofs.RowLemmas.{given_more}
-use Rattle.session_examples.proofs.rows.text_at.Goals as goal
+use Rattle.connection_examples.proofs.RowLemmas.{given_more}
+use Rattle.connection_examples.proofs.rows.text_at.Goals as goal
 
 pub values-init : goal.values-init
 values-init c =

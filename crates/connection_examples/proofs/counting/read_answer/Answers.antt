@@ -1,6 +1,6 @@
 use Rattle.std.proofs.Common.{◌∷◌, ◌+◌, ◌∙◌, ℕ, ap₂}
 use Rattle.mysql_wire_session.specs.State.{state_of}
-use Rattle.session_examples.proofs.client.read_answer.Goals as goal
+use Rattle.connection_examples.proofs.counting.read_answer.Goals as goal
 
 pub packets-preserved : goal.packets-preserved
 packets-preserved g c =
