@@ -1,6 +1,6 @@
 //! What the crates above the layers do: the callers of `mysql_wire_examples`, run, and the program's
 //! commands over bytes in memory. And memory: every call of the layers under refused memory, what it
-//! leaves then and how it goes on (`memory_support` has the calls), how much calls ask for, and an
+//! leaves then and how it goes on (`test_support` has the calls), how much calls ask for, and an
 //! answer counted by a session, with each request refused.
 #![tactic(auto)]
 

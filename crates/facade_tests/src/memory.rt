@@ -1,8 +1,8 @@
 //! What a call leaves when its first, second, third request for memory is refused, and so on, and
-//! how it goes on. `memory_support::requests` has a row for each call.
+//! how it goes on. `test_support::requests` has a row for each call.
 
 use bytes::BytesMut;
-use memory_support::requests::wrong_of_all;
+use test_support::requests::wrong_of_all;
 use mysql_wire::constants::MAX_PAYLOAD_LEN;
 use mysql_wire::io::WireError;
 use mysql_wire::proto::codec::{PacketCodec, PacketDst, packet_to_chunks};

@@ -2,10 +2,10 @@
 
 use crate::writing::{Writing, write};
 use std::alloc::Allocator;
-use test_support::answers::Answer;
-use test_support::facts::are_parts;
-use test_support::fields::full;
-use test_support::fixture::Heap;
+use crate::answers::Answer;
+use crate::facts::are_parts;
+use crate::fields::full;
+use crate::fixture::Heap;
 
 // A function by its name, and what stands after the byte `aa` after its first request is refused,
 // after its second, and so on, and in the end. The same call made after a refusal puts the last of

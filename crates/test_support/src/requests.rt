@@ -15,7 +15,7 @@ use crate::reading::Reading;
 use crate::requests::codec::{Runner, Way};
 use crate::requests::copies::{ROWS_HELD, ROWS_OTHER, ROWS_READ};
 use std::alloc::Allocator;
-use test_support::fixture::Heap;
+use crate::fixture::Heap;
 
 // A call that takes memory.
 #[derive(Clone, Copy)]

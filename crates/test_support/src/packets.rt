@@ -3,8 +3,8 @@
 use std::alloc::Allocator;
 use std::fmt::{self, Debug, Write};
 use std::io::{self, Sink};
-use test_support::answers::Answer;
-use test_support::facts::same;
+use crate::answers::Answer;
+use crate::facts::same;
 use wire_codec::codec::PacketCodec;
 use wire_packet_io::{PacketIoError, PacketReader, PacketWriter};
 

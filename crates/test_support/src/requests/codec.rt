@@ -6,10 +6,10 @@ use crate::requests::{Call, Row, copies};
 use bytes::{Buf, BytesMut};
 use refusing_allocator::NEVER;
 use std::alloc::Allocator;
-use test_support::answers::Answer;
-use test_support::facts::{are_parts, same};
-use test_support::fixture::{Fixture, Heap};
-use test_support::receiver::{Receiver, Run, Tally, pieces_from};
+use crate::answers::Answer;
+use crate::facts::{are_parts, same};
+use crate::fixture::{Fixture, Heap};
+use crate::receiver::{Receiver, Run, Tally, pieces_from};
 use wire_codec::codec::PacketDst;
 
 /// What runs over pieces.

@@ -9,11 +9,11 @@ use crate::reading::Reading;
 use bytes::BytesMut;
 use refusing_allocator::NEVER;
 use std::alloc::Allocator;
-use test_support::answers::Answer;
-use test_support::facts::same;
-use test_support::fixture::{Fixture, Heap};
-use test_support::receiver::Receiver;
-use test_support::targets::Target;
+use crate::answers::Answer;
+use crate::facts::same;
+use crate::fixture::{Fixture, Heap};
+use crate::receiver::Receiver;
+use crate::targets::Target;
 use wire_codec::codec::Skipped;
 
 // What is called, by the names that it covers.

@@ -3,7 +3,7 @@
 ghost use Rattle.wire_buf.specs.Reading.{HasBytes};
 
 use std::alloc::Allocator;
-use test_support::answers::{Answer, answered};
+use crate::answers::{Answer, answered};
 use wire_buf::error::WireError;
 use wire_buf::io::ParseBuf;
 use wire_field::row::{Both, Either};

@@ -8,7 +8,7 @@ use crate::copies::{
 use crate::reading::Reading;
 use crate::requests::{Call, Row};
 use std::alloc::Allocator;
-use test_support::fixture::Heap;
+use crate::fixture::Heap;
 
 /// Those that read a list.
 pub const ROWS_READ: &[Row] = &[
