@@ -2,9 +2,9 @@
 use Rattle.std.specs.Prelude.{◌≡◌, ◌+◌, ℕ, List, [], ◌∷◌, length}
 use Rattle.mysql_wire_session.specs.Fronts.{TakesFront}
 use Rattle.mysql_wire_session.specs.State.{SessionState}
-use Rattle.mysql_wire_session_phases.specs.declared.packet_kind.PacketKind.{PacketKind}
-use Rattle.mysql_wire_session_phases.specs.declared.packet_kind.PacketKind.TheVariants as kind
-use Rattle.mysql_wire_session_phases.specs.declared.side.Side.TheVariants.{Server}
+use Rattle.mysql_wire_session.specs.declared.packet_kind.PacketKind.{PacketKind}
+use Rattle.mysql_wire_session.specs.declared.packet_kind.PacketKind.TheVariants as kind
+use Rattle.mysql_wire_session.specs.declared.side.Side.TheVariants.{Server}
 
 -- a packet of the server came, that was taken for this, and this is known after it
 abbrev pub TakesPacket : SessionState → SessionState → PacketKind → Type 0

@@ -2,7 +2,6 @@
 //! how it goes on. `test_support::requests` has a row for each call.
 
 use bytes::BytesMut;
-use test_support::requests::wrong_of_all;
 use mysql_wire::constants::MAX_PAYLOAD_LEN;
 use mysql_wire::io::WireError;
 use mysql_wire::proto::codec::{PacketCodec, PacketDst, packet_to_chunks};
@@ -14,6 +13,7 @@ use test_support::case::{Case, Wanted};
 use test_support::facts::{ensure, no_row, same, wrong_row};
 use test_support::fixture::{Fixture, Heap};
 use test_support::refused::deliver_refused;
+use test_support::requests::wrong_of_all;
 use test_support::script::{Script, Step};
 use test_support::targets::Zeros;
 

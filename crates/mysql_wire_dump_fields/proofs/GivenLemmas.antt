@@ -7,8 +7,8 @@ use Rattle.mysql_wire_queries.specs.TextValues.{ReadsValue, value_of}
 use Rattle.mysql_wire_queries.specs.declared.text_row.TextFault.{TextFault}
 use Rattle.mysql_wire_queries.specs.declared.text_row.TextValue.{TextValue}
 use Rattle.mysql_wire_queries.specs.declared.text_values.TextValues.{TextValues}
-use Rattle.mysql_wire_session_phases.specs.Refusals.{refusal_of_wire}
-use Rattle.mysql_wire_session_phases.specs.declared.refusal.Refusal.{Refusal}
+use Rattle.mysql_wire_session.specs.Refusals.{refusal_of_wire}
+use Rattle.mysql_wire_session.specs.declared.refusal.Refusal.{Refusal}
 use Rattle.mysql_wire_dump_fields.specs.ValueFields.{IsNoText, IsTextAt, PutsTexts, TextsSoFar, text_shown}
 use Rattle.mysql_wire_dump_fields.proofs.ValueLemmas.{texts-ended, texts-none, texts-passed}
 

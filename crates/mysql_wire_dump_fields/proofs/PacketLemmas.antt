@@ -4,12 +4,12 @@ use Rattle.std.proofs.KnownBytes.{Appends-nil}
 use Rattle.std.specs.Prelude.{IfOk, OnOk}
 use Rattle.mysql_wire_dump_fields.specs.Packets.{HasOwnFields, PutsOwn, PutsRowFields, WritesRowFields, packet_fields, row_kind, shown_kind}
 use Rattle.mysql_wire_dump_fields.specs.ValueFields.{AreRowFields, PutsRow, PutsTexts, WritesTexts, rest_if, row_bytes_fields}
-use Rattle.mysql_wire_session_packets.specs.declared.packet.Packet.{Packet}
-use Rattle.mysql_wire_session_packets.specs.declared.packet.Packet.TheVariants as packet
-use Rattle.mysql_wire_session_packets.specs.declared.packet.Row.{Row}
-use Rattle.mysql_wire_session_packets.specs.declared.packet.Row.TheVariants as row
-use Rattle.mysql_wire_session_phases.specs.declared.packet_kind.PacketKind.{PacketKind}
-use Rattle.mysql_wire_session_phases.specs.declared.refusal.Refusal.{Refusal}
+use Rattle.mysql_wire_session.specs.declared.packet.Packet.{Packet}
+use Rattle.mysql_wire_session.specs.declared.packet.Packet.TheVariants as packet
+use Rattle.mysql_wire_session.specs.declared.packet.Row.{Row}
+use Rattle.mysql_wire_session.specs.declared.packet.Row.TheVariants as row
+use Rattle.mysql_wire_session.specs.declared.packet_kind.PacketKind.{PacketKind}
+use Rattle.mysql_wire_session.specs.declared.refusal.Refusal.{Refusal}
 use Rattle.mysql_wire_statements.specs.declared.binary_row.BinaryRow.{BinaryRow}
 use Rattle.wire_text.specs.Fields.{Member, Puts, Written}
 use Rattle.wire_text.proofs.PartLemmas.{end_itself}

@@ -5,8 +5,8 @@ use Rattle.std.specs.Io.KnownBytes.{Appends}
 use Rattle.std.specs.Fmt.{decimal}
 use Rattle.wire_text.specs.Fields.{Member, Octets, Puts, Value, Written, member_form, put, puts}
 use Rattle.mysql_wire_dump_fields.specs.ValueFields.{IsTextAt, TextsSoFar, AreTexts, AreValues, IsNoText, IsNoValueAt, IsShownAs, PutsColumn, PutsShown, PutsText, PutsTexts, PutsValues, WritesText, WritesTexts, rest_if}
-use Rattle.mysql_wire_session_phases.specs.declared.refusal.Refusal.{Refusal}
-use Rattle.mysql_wire_session_phases.specs.declared.refusal.Refusal.TheVariants.{TrailingBytes}
+use Rattle.mysql_wire_session.specs.declared.refusal.Refusal.{Refusal}
+use Rattle.mysql_wire_session.specs.declared.refusal.Refusal.TheVariants.{TrailingBytes}
 use Rattle.mysql_wire_statements.specs.declared.binary_row.BinaryRow.{BinaryRow}
 use Rattle.mysql_wire_statements.specs.declared.binary_value.BinaryValue.{BinaryValue}
 use Rattle.std.proofs.lemmas.List.{take_all}

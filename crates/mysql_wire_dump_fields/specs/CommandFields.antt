@@ -1,8 +1,8 @@
 -- The fields of commands, by MySQL's names.
 use Rattle.std.specs.Cow.{cow_slice_items}
 use Rattle.std.specs.Prelude.{ℕ, List, [], ◌∷◌, ◌++◌, codes, ◌==◌, if◌then◌else◌, Option, Some, None}
-use Rattle.mysql_wire_session_packets.specs.declared.client_command.ClientCommand.{ClientCommand}
-use Rattle.mysql_wire_session_packets.specs.declared.client_command.ClientCommand.TheVariants as command
+use Rattle.mysql_wire_session.specs.declared.client_command.ClientCommand.{ClientCommand}
+use Rattle.mysql_wire_session.specs.declared.client_command.ClientCommand.TheVariants as command
 use Rattle.mysql_wire_utility.specs.declared.com_change_user.ComChangeUser.{ComChangeUser}
 use Rattle.mysql_wire_queries.specs.declared.com_query_attributes.ComQueryWithAttributes.{ComQueryWithAttributes}
 use Rattle.mysql_wire_statements.specs.declared.com_stmt_execute.ComStmtExecute.{ComStmtExecute}

@@ -5,13 +5,13 @@ use Rattle.mysql_wire_dump_fields.specs.AnswerFields.{column_count_fields, colum
 use Rattle.mysql_wire_dump_fields.specs.CommandFields.{execute_fields, fetch_fields, long_data_fields, number_fields, plain_fields, prepare_fields}
 use Rattle.mysql_wire_dump_fields.specs.ConnectionFields.{auth_answer_fields, auth_more_data_fields, auth_switch_fields, greeting_fields, login_fields, tls_request_fields}
 use Rattle.mysql_wire_dump_fields.specs.ValueFields.{AreTexts, AreRowFields, EndsRow}
-use Rattle.mysql_wire_session_packets.specs.declared.packet.Packet.{Packet}
-use Rattle.mysql_wire_session_packets.specs.declared.packet.Packet.TheVariants as packet
-use Rattle.mysql_wire_session_packets.specs.declared.packet.Row.{Row}
-use Rattle.mysql_wire_session_packets.specs.declared.packet.Row.TheVariants as row
-use Rattle.mysql_wire_session_phases.specs.declared.packet_kind.PacketKind.{PacketKind}
-use Rattle.mysql_wire_session_phases.specs.declared.packet_kind.PacketKind.TheVariants as kind
-use Rattle.mysql_wire_session_phases.specs.declared.refusal.Refusal.{Refusal}
+use Rattle.mysql_wire_session.specs.declared.packet.Packet.{Packet}
+use Rattle.mysql_wire_session.specs.declared.packet.Packet.TheVariants as packet
+use Rattle.mysql_wire_session.specs.declared.packet.Row.{Row}
+use Rattle.mysql_wire_session.specs.declared.packet.Row.TheVariants as row
+use Rattle.mysql_wire_session.specs.declared.packet_kind.PacketKind.{PacketKind}
+use Rattle.mysql_wire_session.specs.declared.packet_kind.PacketKind.TheVariants as kind
+use Rattle.mysql_wire_session.specs.declared.refusal.Refusal.{Refusal}
 use Rattle.std.specs.Io.KnownBytes.{Appends}
 use Rattle.wire_text.specs.Parts.{IsEnd}
 use Rattle.wire_text.specs.Fields.{Member, Octets, Puts, Words, Written}

@@ -18,9 +18,9 @@ use Rattle.mysql_wire_statements.specs.declared.binary_value.BinaryValue.TheVari
 use Rattle.std.specs.Io.KnownBytes.{Appends}
 use Rattle.wire_text.specs.Parts.{IsEnd, WritesMember}
 use Rattle.wire_text.specs.Fields.{Member, Null, Number, Octets, Printed, Value, Puts, Word, Words, Written}
-use Rattle.mysql_wire_session_phases.specs.Refusals.{refusal_of_wire}
-use Rattle.mysql_wire_session_phases.specs.declared.refusal.Refusal.{Refusal}
-use Rattle.mysql_wire_session_phases.specs.declared.refusal.Refusal.TheVariants.{TrailingBytes}
+use Rattle.mysql_wire_session.specs.Refusals.{refusal_of_wire}
+use Rattle.mysql_wire_session.specs.declared.refusal.Refusal.{Refusal}
+use Rattle.mysql_wire_session.specs.declared.refusal.Refusal.TheVariants.{TrailingBytes}
 use Rattle.mysql_wire_dump_fields.specs.TemporalTexts.{date_text, time_text}
 
 abbrev pub text_shown : Option (List ℕ) → Value

@@ -8,14 +8,14 @@ use Rattle.std.proofs.lemmas.List.Elements.{All-append, All-cons, All-nil}
 use Rattle.mysql_wire_dump_session.specs.declared.dump.Dump.{Dump}
 use Rattle.mysql_wire_dump_lines.specs.declared.options.Options.{Options}
 use Rattle.mysql_wire_dump_lines.specs.declared.options.Sides.{Sides}
-use Rattle.mysql_wire_session_phases.specs.declared.packet_kind.PacketKind.{PacketKind}
-use Rattle.mysql_wire_session_phases.specs.declared.packet_kind.PacketKind.TheVariants.{TooLarge}
+use Rattle.mysql_wire_session.specs.declared.packet_kind.PacketKind.{PacketKind}
+use Rattle.mysql_wire_session.specs.declared.packet_kind.PacketKind.TheVariants.{TooLarge}
 use Rattle.mysql_wire_dump_lines.specs.declared.lines.LineForm.{LineForm}
 use Rattle.mysql_wire_dump_lines.specs.declared.lines.Seen.{Seen}
-use Rattle.mysql_wire_session_phases.specs.declared.phase.Phase.{Phase}
-use Rattle.mysql_wire_session_phases.specs.declared.phase.Phase.TheVariants as phase
-use Rattle.mysql_wire_session_phases.specs.declared.side.Side.{Side}
-use Rattle.mysql_wire_session_phases.specs.declared.side.Side.TheVariants.{Client, Server}
+use Rattle.mysql_wire_session.specs.declared.phase.Phase.{Phase}
+use Rattle.mysql_wire_session.specs.declared.phase.Phase.TheVariants as phase
+use Rattle.mysql_wire_session.specs.declared.side.Side.{Side}
+use Rattle.mysql_wire_session.specs.declared.side.Side.TheVariants.{Client, Server}
 use Rattle.mysql_wire_dump_lines.specs.declared.packet_stream.End.{End}
 use Rattle.mysql_wire_dump_lines.specs.declared.packet_stream.End.TheVariants.{Encrypted}
 use Rattle.mysql_wire_dump_lines.specs.declared.packet_stream.Next.{Next}
@@ -26,8 +26,8 @@ use Rattle.mysql_wire_dump_session.specs.Dumping.{Dumping, Goes, Going, IsLooked
 use Rattle.mysql_wire_session.specs.State.{SessionState, state_of, initial_state}
 use Rattle.mysql_wire_session.specs.Advance.{id_after}
 use Rattle.mysql_wire_session.specs.Readings.{passed}
-use Rattle.mysql_wire_session_packets.specs.declared.packet.Packet.{Packet as AnyPacket}
-use Rattle.mysql_wire_session_packets.specs.declared.packet.Packet.TheVariants as packet
+use Rattle.mysql_wire_session.specs.declared.packet.Packet.{Packet as AnyPacket}
+use Rattle.mysql_wire_session.specs.declared.packet.Packet.TheVariants as packet
 use Rattle.mysql_wire_dump_lines.specs.Lines.{bytes_part, line_end, packet_front, packet_line}
 use Rattle.mysql_wire_dump_lines.specs.PacketStreams.{AtEnd, HasPacket, Stands, StandsNext, collected, id_of, payload_of, unread_of}
 use Rattle.mysql_wire_dump_lines.proofs.PacketStreamLemmas.{consumes_none}

@@ -6,17 +6,17 @@ use Rattle.mysql_wire_dump_session.specs.Dumping.{NamesOne, PassesOver, ShowsFie
 use Rattle.mysql_wire_dump_fields.specs.Packets.{PutsPacket, PutsRowFields, WritesRowFields}
 use Rattle.mysql_wire_session.specs.Readings.{ReadsAs, Receives, RowReads, advanced, after_kind, kind_of, passed}
 use Rattle.mysql_wire_session.specs.Advance.{opened, without_eof}
-use Rattle.mysql_wire_session_packets.specs.declared.packet.Row.{Row}
-use Rattle.mysql_wire_session_phases.specs.declared.phase.Phase.{Phase}
-use Rattle.mysql_wire_session_phases.specs.declared.phase.Phase.TheVariants as phase
+use Rattle.mysql_wire_session.specs.declared.packet.Row.{Row}
+use Rattle.mysql_wire_session.specs.declared.phase.Phase.{Phase}
+use Rattle.mysql_wire_session.specs.declared.phase.Phase.TheVariants as phase
 use Rattle.wire_text.specs.declared.stop.Stop.{Stop}
 use Rattle.mysql_wire_session.specs.State.{SessionState}
-use Rattle.mysql_wire_session_packets.specs.declared.packet.Packet.TheVariants as packet
-use Rattle.mysql_wire_session_packets.specs.declared.packet.Received.{Received}
-use Rattle.mysql_wire_session_phases.specs.declared.packet_kind.PacketKind.{PacketKind}
-use Rattle.mysql_wire_session_phases.specs.declared.packet_kind.PacketKind.TheVariants.{TooLarge}
-use Rattle.mysql_wire_session_phases.specs.declared.packet_kind.PacketKind.TheVariants as kind
-use Rattle.mysql_wire_session_phases.specs.declared.side.Side.{Side}
+use Rattle.mysql_wire_session.specs.declared.packet.Packet.TheVariants as packet
+use Rattle.mysql_wire_session.specs.declared.packet.Received.{Received}
+use Rattle.mysql_wire_session.specs.declared.packet_kind.PacketKind.{PacketKind}
+use Rattle.mysql_wire_session.specs.declared.packet_kind.PacketKind.TheVariants.{TooLarge}
+use Rattle.mysql_wire_session.specs.declared.packet_kind.PacketKind.TheVariants as kind
+use Rattle.mysql_wire_session.specs.declared.side.Side.{Side}
 use Rattle.mysql_wire_session.proofs.FrontLemmas.{came_so}
 use Rattle.wire_text.proofs.FieldLemmas.{fields_text-is}
 use Rattle.wire_text.proofs.PartLemmas.{end_ended}

@@ -5,25 +5,25 @@ use Rattle.std.specs.Prelude.{◌≡◌, ℕ, ◌<◌, ◌≤◌, ◌⊎◌, Lis
 use Rattle.mysql_wire_dump_lines.specs.declared.options.Options.{Options}
 use Rattle.mysql_wire_dump_lines.specs.declared.options.Sides.{Sides}
 use Rattle.mysql_wire_dump_lines.specs.declared.options.Sides.TheVariants as sides
-use Rattle.mysql_wire_session_phases.specs.declared.packet_kind.PacketKind.{PacketKind}
-use Rattle.mysql_wire_session_phases.specs.declared.packet_kind.PacketKind.TheVariants.{TooLarge}
+use Rattle.mysql_wire_session.specs.declared.packet_kind.PacketKind.{PacketKind}
+use Rattle.mysql_wire_session.specs.declared.packet_kind.PacketKind.TheVariants.{TooLarge}
 use Rattle.wire_text.specs.declared.fields.FieldForm.{FieldForm}
 use Rattle.wire_text.specs.declared.fields.FieldForm.TheVariants.{Hidden, Text, Json}
 use Rattle.mysql_wire_dump_lines.specs.declared.lines.LineForm.{LineForm}
 use Rattle.mysql_wire_dump_lines.specs.declared.lines.LineForm.TheVariants as line
 use Rattle.mysql_wire_dump_lines.specs.declared.lines.Seen.{Seen}
-use Rattle.mysql_wire_session_phases.specs.declared.phase.Phase.{Phase}
-use Rattle.mysql_wire_session_phases.specs.declared.phase.Phase.TheVariants as phase
-use Rattle.mysql_wire_session_phases.specs.declared.side.Side.{Side}
-use Rattle.mysql_wire_session_phases.specs.declared.side.Side.TheVariants.{Client, Server}
+use Rattle.mysql_wire_session.specs.declared.phase.Phase.{Phase}
+use Rattle.mysql_wire_session.specs.declared.phase.Phase.TheVariants as phase
+use Rattle.mysql_wire_session.specs.declared.side.Side.{Side}
+use Rattle.mysql_wire_session.specs.declared.side.Side.TheVariants.{Client, Server}
 use Rattle.mysql_wire_dump_lines.specs.declared.packet_stream.End.{End}
 use Rattle.mysql_wire_dump_lines.specs.declared.packet_stream.End.TheVariants.{Encrypted}
 use Rattle.mysql_wire_dump_fields.specs.Packets.{HasFields}
 use Rattle.mysql_wire_session.specs.State.{SessionState, initial_state}
 use Rattle.mysql_wire_session.specs.Advance.{id_after}
 use Rattle.mysql_wire_session.specs.Readings.{ReadsAs, after_packet, kind_of, opened_at, passed}
-use Rattle.mysql_wire_session_packets.specs.declared.packet.Packet.{Packet}
-use Rattle.mysql_wire_session_packets.specs.declared.packet.Packet.TheVariants as packet
+use Rattle.mysql_wire_session.specs.declared.packet.Packet.{Packet}
+use Rattle.mysql_wire_session.specs.declared.packet.Packet.TheVariants as packet
 use Rattle.wire_text.specs.Fields.{Member, fields_text}
 use Rattle.mysql_wire_dump_lines.specs.Lines.{packet_line, ending_line}
 use Rattle.mysql_wire_dump_lines.specs.PacketStreams.{EndsAs, ReadWhole, framed}

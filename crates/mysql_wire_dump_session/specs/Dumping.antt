@@ -6,13 +6,13 @@ use Rattle.mysql_wire_dump_session.specs.declared.dump.SessionLines.{SessionLine
 use Rattle.mysql_wire_dump_lines.specs.Lines.{packet_line}
 use Rattle.mysql_wire_dump_lines.specs.declared.packet_stream.PacketStream.{PacketStream}
 use Rattle.wire_text.specs.declared.fields.FieldForm.{FieldForm}
-use Rattle.mysql_wire_session_phases.specs.declared.packet_kind.PacketKind.{PacketKind}
-use Rattle.mysql_wire_session_phases.specs.declared.packet_kind.PacketKind.TheVariants.{TooLarge}
-use Rattle.mysql_wire_session_phases.specs.declared.packet_kind.PacketKind.TheVariants as kind
+use Rattle.mysql_wire_session.specs.declared.packet_kind.PacketKind.{PacketKind}
+use Rattle.mysql_wire_session.specs.declared.packet_kind.PacketKind.TheVariants.{TooLarge}
+use Rattle.mysql_wire_session.specs.declared.packet_kind.PacketKind.TheVariants as kind
 use Rattle.mysql_wire_dump_lines.specs.declared.options.Options.{Options}
-use Rattle.mysql_wire_session_phases.specs.declared.phase.Phase.TheVariants as phase
-use Rattle.mysql_wire_session_phases.specs.declared.side.Side.{Side}
-use Rattle.mysql_wire_session_phases.specs.declared.side.Side.TheVariants.{Client, Server}
+use Rattle.mysql_wire_session.specs.declared.phase.Phase.TheVariants as phase
+use Rattle.mysql_wire_session.specs.declared.side.Side.{Side}
+use Rattle.mysql_wire_session.specs.declared.side.Side.TheVariants.{Client, Server}
 use Rattle.mysql_wire_dump_lines.specs.declared.packet_stream.End.TheVariants.{Encrypted}
 use Rattle.mysql_wire_dump_lines.specs.declared.packet_stream.Next.{Next}
 use Rattle.mysql_wire_dump_lines.specs.declared.packet_stream.Next.TheVariants.{Unread, Ended}
@@ -21,12 +21,12 @@ use Rattle.mysql_wire_dump_session.specs.Dumped.{AreFields, AreShown, AreVisible
 use Rattle.mysql_wire_session.specs.Advance.{id_after}
 use Rattle.mysql_wire_session.specs.State.{SessionState, state_of, initial_state}
 use Rattle.mysql_wire_session.specs.Readings.{ReadsAs, RowReads, after_kind, after_packet, kind_of, opened_at, passed}
-use Rattle.mysql_wire_session_packets.specs.declared.packet.Row.{Row}
+use Rattle.mysql_wire_session.specs.declared.packet.Row.{Row}
 use Rattle.mysql_wire_dump_fields.specs.Packets.{PutsPacket, PutsRowFields}
 use Rattle.wire_text.specs.Fields.{Written, nothing_after}
 use Rattle.wire_text.specs.Parts.{IsEnd}
-use Rattle.mysql_wire_session_packets.specs.declared.packet.Packet.{Packet}
-use Rattle.mysql_wire_session_packets.specs.declared.packet.Packet.TheVariants as packet
+use Rattle.mysql_wire_session.specs.declared.packet.Packet.{Packet}
+use Rattle.mysql_wire_session.specs.declared.packet.Packet.TheVariants as packet
 use Rattle.mysql_wire_dump_lines.specs.PacketStreams.{AtEnd, Stands, id_of, payload_of}
 use Rattle.mysql_wire_dump_lines.specs.NextSenders.{next_sender}
 

@@ -10,7 +10,7 @@ ghost use Rattle.mysql_wire_session.specs.Readings.{advanced};
 ghost use Rattle.mysql_wire_session.specs.State.{state_of};
 ghost use Rattle.mysql_wire_dump_lines.specs.Lines.{packet_line};
 ghost use Rattle.mysql_wire_dump_lines.specs.Status.{end_status};
-ghost use Rattle.mysql_wire_session_phases.specs.declared.packet_kind.PacketKind.TheVariants.{Row};
+ghost use Rattle.mysql_wire_session.specs.declared.packet_kind.PacketKind.TheVariants.{Row};
 
 use mysql_wire_dump_fields::show::{show_packet, show_row, write_row};
 use mysql_wire_dump_lines::lines::{LineForm, Seen, push_end, push_ending, push_head, push_packet};
@@ -281,7 +281,7 @@ fn push_again<A: Allocator + Copy>(
 impl<A: Allocator + Copy> SessionLines<A> {
     ghost use Rattle.mysql_wire_dump_session.specs.Dumping.{PushesFields, PushesRead, ShowsNext, WritesRead, WritesTheFields};
     ghost use Rattle.mysql_wire_session.specs.Readings.{kind_of, passed};
-    ghost use Rattle.mysql_wire_session_phases.specs.declared.packet_kind.PacketKind.TheVariants.{Row, TooLarge};
+    ghost use Rattle.mysql_wire_session.specs.declared.packet_kind.PacketKind.TheVariants.{Row, TooLarge};
 
     // Appends the line of a packet that is passed over.
     #[cold]
@@ -469,7 +469,7 @@ impl<A: Allocator + Copy> SessionLines<A> {
 impl<A: Allocator + Copy> Dump<A> {
     ghost use Rattle.mysql_wire_dump_session.specs.Dumping.{ShowsPacket, WritesMuch};
     ghost use Rattle.mysql_wire_dump_lines.specs.NextSenders.{next_sender};
-    ghost use Rattle.mysql_wire_session_phases.specs.declared.side.Side.TheVariants.{Client, Server};
+    ghost use Rattle.mysql_wire_session.specs.declared.side.Side.TheVariants.{Client, Server};
     ghost use Rattle.mysql_wire_dump_lines.specs.PacketStreams.{id_of};
     ghost use Rattle.mysql_wire_dump_lines.specs.declared.packet_stream.Next.TheVariants.{Ended};
 

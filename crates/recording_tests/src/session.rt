@@ -14,7 +14,7 @@ use mysql_wire_packets::eof_packet::EofPacket;
 use mysql_wire_packets::places::{PayloadError, read_whole};
 use mysql_wire_packets::progress_report::ProgressReport;
 use mysql_wire_queries::column_definition::ColumnDefinition41;
-use mysql_wire_session_packets::client_command::ClientCommand;
+use mysql_wire_session::client_command::ClientCommand;
 use mysql_wire_statements::binary_row::BinaryRow;
 use mysql_wire_statements::com_stmt_fetch::ComStmtFetch;
 use mysql_wire_statements::com_stmt_prepare::ComStmtPrepare;

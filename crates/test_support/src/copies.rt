@@ -1,14 +1,14 @@
 //! Texts, numbers and lists: how they are read and copied, lent or owned, where a request for
 //! memory may be refused (whether it was, if what stands then is right), and their other calls.
 
-use crate::reading::{Reading, knows, read};
-use refusing_allocator::NEVER;
-use std::alloc::Allocator;
-use std::borrow::CowSlice;
 use crate::answers::Answer;
 use crate::facts::same;
 use crate::fields::is_written;
 use crate::fixture::Heap;
+use crate::reading::{Reading, knows, read};
+use refusing_allocator::NEVER;
+use std::alloc::Allocator;
+use std::borrow::CowSlice;
 use wire_buf::error::WireError;
 use wire_buf::io::ParseBuf;
 use wire_field::converted::Const;

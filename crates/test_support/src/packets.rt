@@ -1,10 +1,10 @@
 //! A reader and a writer of packets, each with its codec, whose answers can be compared.
 
+use crate::answers::Answer;
+use crate::facts::same;
 use std::alloc::Allocator;
 use std::fmt::{self, Debug, Write};
 use std::io::{self, Sink};
-use crate::answers::Answer;
-use crate::facts::same;
 use wire_codec::codec::PacketCodec;
 use wire_packet_io::{PacketIoError, PacketReader, PacketWriter};
 

@@ -2,8 +2,8 @@
 
 ghost use Rattle.wire_buf.specs.Reading.{HasBytes};
 
-use std::alloc::Allocator;
 use crate::answers::{Answer, answered};
+use std::alloc::Allocator;
 use wire_buf::error::WireError;
 use wire_buf::io::ParseBuf;
 use wire_field::row::{Both, Either};

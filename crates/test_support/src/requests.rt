@@ -11,11 +11,11 @@ mod silent;
 mod writers;
 
 use crate::copies::{Copying, Holding, Onto, Owner};
+use crate::fixture::Heap;
 use crate::reading::Reading;
 use crate::requests::codec::{Runner, Way};
 use crate::requests::copies::{ROWS_HELD, ROWS_OTHER, ROWS_READ};
 use std::alloc::Allocator;
-use crate::fixture::Heap;
 
 // A call that takes memory.
 #[derive(Clone, Copy)]

@@ -1,7 +1,7 @@
 //! What is put after what a vector holds, by each function that puts something there.
 
-use std::alloc::Allocator;
 use crate::answers::{Answer, answered};
+use std::alloc::Allocator;
 use wire_buf::error::WireError;
 use wire_buf::proto::MySerialize;
 use wire_ext::BufMutExt;

@@ -1,7 +1,7 @@
 //! Commands.
 
 ghost use Rattle.std.specs.Prelude.{◌≡◌, ◌∷◌, [], OnOk};
-ghost use Rattle.mysql_wire_session_packets.specs.declared.client_command.ClientCommand.TheVariants.{AttributedQuery, ChangeUser, InitDb, Ping, Query, Quit};
+ghost use Rattle.mysql_wire_session.specs.declared.client_command.ClientCommand.TheVariants.{AttributedQuery, ChangeUser, InitDb, Ping, Query, Quit};
 ghost use Rattle.mysql_wire_dump_fields.specs.CommandFields.{attributes_and_query, execute_fields, fetch_fields, long_data_fields, number_fields, params_fields, plain_fields, prepare_fields};
 ghost use Rattle.wire_text.specs.FieldTables.{members_in, row_if};
 ghost use Rattle.wire_text.specs.Fields.{Number, Octets, Puts};

@@ -9,7 +9,7 @@ ghost use Rattle.mysql_wire_dump_fields.specs.ValueFields.{WritesText, WritesTex
 use crate::show::values::refusal_of;
 use mysql_wire_queries::text_row::TextValue;
 use mysql_wire_queries::text_values::TextValues;
-use mysql_wire_session_phases::refusal::{Refusal, SessionError};
+use mysql_wire_session::refusal::{Refusal, SessionError};
 use std::alloc::Allocator;
 use std::io::Write;
 use wire_buf::io::ParseBuf;

@@ -9,10 +9,10 @@ use super::{
     Show, binary_row, column_bytes, event, number_of_statement, other_command, row_bytes,
     statistics, text_row, write_text_row,
 };
-use mysql_wire_session_packets::client_command::ClientCommand;
-use mysql_wire_session_packets::packet::{Packet, Received, Row};
-use mysql_wire_session_phases::packet_kind::PacketKind;
-use mysql_wire_session_phases::refusal::{Refusal, SessionError};
+use mysql_wire_session::client_command::ClientCommand;
+use mysql_wire_session::packet::{Packet, Received, Row};
+use mysql_wire_session::packet_kind::PacketKind;
+use mysql_wire_session::refusal::{Refusal, SessionError};
 use std::alloc::{AllocError, Allocator, Global};
 use std::io::Write;
 use wire_text::fields::Fields;

@@ -8,15 +8,15 @@ ghost use Rattle.mysql_wire_dump_fields.specs.RowEnds.{IsBehind, IsEndOf};
 ghost use Rattle.mysql_wire_dump_fields.specs.TemporalTexts.{date_text, time_text};
 ghost use Rattle.mysql_wire_dump_fields.specs.ValueFields.{IsTypeOf, row_bytes_fields, PutsColumn, PutsFloat, PutsRow, PutsShown, PutsText, PutsTexts, PutsValues, TextsSoFar};
 ghost use Rattle.mysql_wire_queries.specs.RowValues.{error_of};
-ghost use Rattle.mysql_wire_session_phases.specs.Refusals.{refusal_of_wire};
-ghost use Rattle.mysql_wire_session_phases.specs.declared.refusal.Refusal.TheVariants.{TrailingBytes};
+ghost use Rattle.mysql_wire_session.specs.Refusals.{refusal_of_wire};
+ghost use Rattle.mysql_wire_session.specs.declared.refusal.Refusal.TheVariants.{TrailingBytes};
 
 use super::Show;
 use super::row_end::RowEnd;
 use crate::temporal::{DateWord, TimeWord};
 use mysql_wire_queries::text_row::{TextFault, TextValue};
 use mysql_wire_queries::text_values::TextValues;
-use mysql_wire_session_phases::refusal::{Refusal, SessionError};
+use mysql_wire_session::refusal::{Refusal, SessionError};
 use mysql_wire_statements::binary_row::BinaryRow;
 use mysql_wire_statements::binary_value::BinaryValue;
 use mysql_wire_statements::temporal::{BinaryDate, BinaryTime};

@@ -1,15 +1,15 @@
 //! The functions of the packet codec that take memory. Each is called again after a refusal, and
 //! then does what it does where none comes.
 
+use crate::answers::Answer;
+use crate::facts::{are_parts, same};
+use crate::fixture::{Fixture, Heap};
 use crate::packets::{Outlet, Source};
+use crate::receiver::{Receiver, Run, Tally, pieces_from};
 use crate::requests::{Call, Row, copies};
 use bytes::{Buf, BytesMut};
 use refusing_allocator::NEVER;
 use std::alloc::Allocator;
-use crate::answers::Answer;
-use crate::facts::{are_parts, same};
-use crate::fixture::{Fixture, Heap};
-use crate::receiver::{Receiver, Run, Tally, pieces_from};
 use wire_codec::codec::PacketDst;
 
 /// What runs over pieces.

@@ -5,10 +5,10 @@ use crate::copies::{
     Copying, Holding, Onto, Owner, clones_owner, copies_held, pushes_text, reads_elements,
     reads_list, reads_stream, shows_text,
 };
+use crate::fixture::Heap;
 use crate::reading::Reading;
 use crate::requests::{Call, Row};
 use std::alloc::Allocator;
-use crate::fixture::Heap;
 
 /// Those that read a list.
 pub const ROWS_READ: &[Row] = &[

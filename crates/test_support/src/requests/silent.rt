@@ -1,19 +1,19 @@
 //! The functions that have an allocator within reach and ask for no memory: the next request would
 //! be refused, and none is made. Those that take memory of what they are called with, `copies` has.
 
+use crate::answers::Answer;
 use crate::copies::{
     know_text, lists_work, numbers_work, reads_by_representation, reads_text, texts_work,
 };
+use crate::facts::same;
+use crate::fixture::{Fixture, Heap};
 use crate::packets::{Outlet, Source, answer_by, shown_len};
 use crate::reading::Reading;
+use crate::receiver::Receiver;
+use crate::targets::Target;
 use bytes::BytesMut;
 use refusing_allocator::NEVER;
 use std::alloc::Allocator;
-use crate::answers::Answer;
-use crate::facts::same;
-use crate::fixture::{Fixture, Heap};
-use crate::receiver::Receiver;
-use crate::targets::Target;
 use wire_codec::codec::Skipped;
 
 // What is called, by the names that it covers.

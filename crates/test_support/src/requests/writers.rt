@@ -1,11 +1,11 @@
 //! The functions that write after what a vector holds.
 
-use crate::writing::{Writing, write};
-use std::alloc::Allocator;
 use crate::answers::Answer;
 use crate::facts::are_parts;
 use crate::fields::full;
 use crate::fixture::Heap;
+use crate::writing::{Writing, write};
+use std::alloc::Allocator;
 
 // A function by its name, and what stands after the byte `aa` after its first request is refused,
 // after its second, and so on, and in the end. The same call made after a refusal puts the last of

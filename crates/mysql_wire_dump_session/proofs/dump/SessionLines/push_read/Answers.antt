@@ -5,7 +5,7 @@ use Rattle.mysql_wire_dump_session.specs.Dumped.{field_form}
 use Rattle.mysql_wire_dump_lines.specs.Lines.{packet_head}
 use Rattle.mysql_wire_dump_lines.specs.declared.lines.Seen.{Seen}
 use Rattle.mysql_wire_session.specs.State.{state_of}
-use Rattle.mysql_wire_session_phases.specs.declared.packet_kind.PacketKind.{PacketKind}
+use Rattle.mysql_wire_session.specs.declared.packet_kind.PacketKind.{PacketKind}
 use Rattle.mysql_wire_dump_session.proofs.LineLemmas.{first_part, line_again, line_of_parts, named_so, part_within}
 use Rattle.mysql_wire_dump_session.proofs.dump.SessionLines.push_read.Goals as goal
 

@@ -3,8 +3,8 @@ use Rattle.mysql_wire_dump_session.specs.Dumped.{field_form}
 use Rattle.mysql_wire_dump_lines.specs.Lines.{packet_head}
 use Rattle.mysql_wire_dump_lines.specs.declared.lines.Seen.{Seen}
 use Rattle.mysql_wire_session.specs.State.{state_of}
-use Rattle.mysql_wire_session_phases.specs.declared.packet_kind.PacketKind.{PacketKind}
-use Rattle.mysql_wire_session_phases.specs.declared.packet_kind.PacketKind.TheVariants.{Row}
+use Rattle.mysql_wire_session.specs.declared.packet_kind.PacketKind.{PacketKind}
+use Rattle.mysql_wire_session.specs.declared.packet_kind.PacketKind.TheVariants.{Row}
 use Rattle.mysql_wire_dump_session.proofs.LineLemmas.{line_written, named_so}
 use Rattle.mysql_wire_dump_session.proofs.dump.SessionLines.write_row.Goals as goal
 

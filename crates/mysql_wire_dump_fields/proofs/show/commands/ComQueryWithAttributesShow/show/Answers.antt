@@ -1,5 +1,5 @@
 use Rattle.std.proofs.Common.{refl}
-use Rattle.mysql_wire_session_packets.specs.declared.client_command.ClientCommand.TheVariants.{AttributedQuery}
+use Rattle.mysql_wire_session.specs.declared.client_command.ClientCommand.TheVariants.{AttributedQuery}
 use Rattle.mysql_wire_dump_fields.specs.CommandFields.{plain_fields}
 use Rattle.mysql_wire_dump_fields.proofs.PacketLemmas.{puts_are}
 use Rattle.mysql_wire_dump_fields.proofs.show.commands.ComQueryWithAttributesShow.show.Goals as goal
