@@ -1,9 +1,9 @@
 //! An operator dumps a session's answers.
 
 use mysql_wire::constants::{Flags, MariadbCapabilities};
-use mysql_wire_dump_fields::show::{Show, binary_row, statistics, text_row};
 use mysql_wire_dump_lines::lines::{LineForm, Seen, push_packet};
 use mysql_wire_dump_lines::packet_stream::{Next, PacketStream};
+use mysql_wire_dump_lines::show::{Show, binary_row, statistics, text_row};
 use mysql_wire_jobs::answers::{Answer, LIMIT, make_answer};
 use mysql_wire_jobs::digest::{Digest, Sink};
 use mysql_wire_jobs::draws::{Draws, Letters};
