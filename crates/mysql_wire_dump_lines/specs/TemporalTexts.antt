@@ -1,13 +1,13 @@
 -- Dates and times as they are shown.
 use Rattle.std.specs.Fmt.{decimal, format_spec, padded_integral}
 use Rattle.std.specs.Prelude.{ℕ, ◌+◌, ◌*◌, ◌-◌, ◌^◌, ◌==◌, false, List, [], ◌++◌, codes, if◌then◌else◌}
-use Rattle.mysql_wire_temporal.specs.declared.temporal.Clock.{Clock}
-use Rattle.mysql_wire_temporal.specs.declared.temporal.Day.{Day}
-use Rattle.mysql_wire_temporal.specs.declared.temporal.Span.{Span}
-use Rattle.mysql_wire_temporal.specs.declared.temporal.BinaryDate.{BinaryDate}
-use Rattle.mysql_wire_temporal.specs.declared.temporal.BinaryDate.TheVariants as date
-use Rattle.mysql_wire_temporal.specs.declared.temporal.BinaryTime.{BinaryTime}
-use Rattle.mysql_wire_temporal.specs.declared.temporal.BinaryTime.TheVariants as time
+use Rattle.mysql_wire_statements.specs.declared.temporal.Clock.{Clock}
+use Rattle.mysql_wire_statements.specs.declared.temporal.Day.{Day}
+use Rattle.mysql_wire_statements.specs.declared.temporal.Span.{Span}
+use Rattle.mysql_wire_statements.specs.declared.temporal.BinaryDate.{BinaryDate}
+use Rattle.mysql_wire_statements.specs.declared.temporal.BinaryDate.TheVariants as date
+use Rattle.mysql_wire_statements.specs.declared.temporal.BinaryTime.{BinaryTime}
+use Rattle.mysql_wire_statements.specs.declared.temporal.BinaryTime.TheVariants as time
 
 -- a number in at least this many digits, zeros in front
 abbrev pub zeros : ℕ → ℕ → List ℕ

@@ -1,7 +1,7 @@
 //! Why the bytes of a value are refused.
 
 ghost use Rattle.std.specs.Prelude.{◌≡◌};
-ghost use Rattle.mysql_wire_temporal.specs.Faults.{error_of};
+ghost use Rattle.mysql_wire_statements.specs.Faults.{error_of};
 
 use wire_buf::error::{InvalidLengthEncodedInteger, InvalidReason, WireError};
 

@@ -1,8 +1,8 @@
 use Rattle.std.proofs.Common.{◌∷◌, [], take, ap, sym, ◌∙◌, inl, inr, refl, arith}
-use Rattle.mysql_wire_temporal.specs.TemporalValues.{clock_at, date_micros_at, day_at, micros_at, seconds_at}
-use Rattle.mysql_wire_temporal.specs.TemporalValuesBack.{behind_none, behind_ok, empty_head, heads, one_there}
-use Rattle.mysql_wire_temporal.specs.declared.temporal.BinaryDate.TheVariants as date
-use Rattle.mysql_wire_temporal.proofs.temporal.read_date.Goals as goal
+use Rattle.mysql_wire_statements.specs.TemporalValues.{clock_at, date_micros_at, day_at, micros_at, seconds_at}
+use Rattle.mysql_wire_statements.specs.TemporalValuesBack.{behind_none, behind_ok, empty_head, heads, one_there}
+use Rattle.mysql_wire_statements.specs.declared.temporal.BinaryDate.TheVariants as date
+use Rattle.mysql_wire_statements.proofs.temporal.read_date.Goals as goal
 
 pub returns-in-Some-checked_eat : goal.returns-in-Some-checked_eat
 returns-in-Some-checked_eat c =

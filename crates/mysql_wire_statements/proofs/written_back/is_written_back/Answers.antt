@@ -1,6 +1,6 @@
 use Rattle.wire_buf.specs.Reading.{Parses}
-use Rattle.mysql_wire_temporal.proofs.WrittenBackLemmas.{again_of}
-use Rattle.mysql_wire_temporal.proofs.written_back.is_written_back.Goals as goal
+use Rattle.mysql_wire_statements.proofs.WrittenBackLemmas.{again_of}
+use Rattle.mysql_wire_statements.proofs.written_back.is_written_back.Goals as goal
 
 pub returns-clause-again : goal.returns-clause-again
 returns-clause-again g c =

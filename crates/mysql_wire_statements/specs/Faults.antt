@@ -3,8 +3,8 @@ use Rattle.std.specs.Prelude.{Result, Ok, Err}
 use Rattle.wire_buf.specs.declared.error.WireError.{WireError}
 use Rattle.wire_buf.specs.declared.error.WireError.TheVariants.{UnexpectedEof, InvalidData, Other}
 use Rattle.wire_buf.specs.declared.error.InvalidReason.TheVariants.{UnknownValue}
-use Rattle.mysql_wire_temporal.specs.declared.binary_fault.BinaryFault.{BinaryFault}
-use Rattle.mysql_wire_temporal.specs.declared.binary_fault.BinaryFault.TheVariants as fault
+use Rattle.mysql_wire_statements.specs.declared.binary_fault.BinaryFault.{BinaryFault}
+use Rattle.mysql_wire_statements.specs.declared.binary_fault.BinaryFault.TheVariants as fault
 
 -- the error that a refusal is
 abbrev pub error_of : BinaryFault → WireError

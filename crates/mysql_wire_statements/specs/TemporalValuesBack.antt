@@ -10,14 +10,14 @@ use Rattle.wire_repr.specs.Law.{ComesBack}
 use Rattle.wire_buf.specs.Numbers.{le_bytes, IsBytes}
 use Rattle.wire_buf.specs.NumberLemmas.{le_bytes-le_number, le_number-le_bytes_fits, IsBytes-cons, IsBytes-nil}
 use Rattle.wire_buf.specs.Reading.{Answers}
-use Rattle.mysql_wire_temporal.specs.Fronts.{take_are}
-use Rattle.mysql_wire_temporal.specs.TemporalValues.{behind, clock_bytes, date_bytes, date_micros_at, day_at, micros_at, day_bytes, seconds_at, span_at, span_bytes, time_bytes, time_micros_at, ReadsDate, ReadsTime}
-use Rattle.mysql_wire_temporal.specs.declared.temporal.Day.{Day}
-use Rattle.mysql_wire_temporal.specs.declared.temporal.Span.{Span}
-use Rattle.mysql_wire_temporal.specs.declared.temporal.BinaryDate.{BinaryDate}
-use Rattle.mysql_wire_temporal.specs.declared.temporal.BinaryDate.TheVariants as date
-use Rattle.mysql_wire_temporal.specs.declared.temporal.BinaryTime.{BinaryTime}
-use Rattle.mysql_wire_temporal.specs.declared.temporal.BinaryTime.TheVariants as time
+use Rattle.mysql_wire_statements.specs.Fronts.{take_are}
+use Rattle.mysql_wire_statements.specs.TemporalValues.{behind, clock_bytes, date_bytes, date_micros_at, day_at, micros_at, day_bytes, seconds_at, span_at, span_bytes, time_bytes, time_micros_at, ReadsDate, ReadsTime}
+use Rattle.mysql_wire_statements.specs.declared.temporal.Day.{Day}
+use Rattle.mysql_wire_statements.specs.declared.temporal.Span.{Span}
+use Rattle.mysql_wire_statements.specs.declared.temporal.BinaryDate.{BinaryDate}
+use Rattle.mysql_wire_statements.specs.declared.temporal.BinaryDate.TheVariants as date
+use Rattle.mysql_wire_statements.specs.declared.temporal.BinaryTime.{BinaryTime}
+use Rattle.mysql_wire_statements.specs.declared.temporal.BinaryTime.TheVariants as time
 
 -- the numbers are those of their types
 abbrev pub IsDate : BinaryDate → Type 0

@@ -2,9 +2,9 @@
 
 ghost use Rattle.std.specs.Prelude.{◌≡◌, ◌<◌, ◌≤◌, ◌+◌, ◌^◌, [], ◌∷◌, length, take, MatchOption};
 ghost use Rattle.wire_buf.specs.Reading.{Reads};
-ghost use Rattle.mysql_wire_temporal.specs.Faults.{told};
-ghost use Rattle.mysql_wire_temporal.specs.TemporalValues.{clock_at, clock_bytes, date_bytes, day_at, day_bytes, micros_at, span_at, span_bytes, time_bytes, ReadsDate, ReadsTime};
-ghost use Rattle.mysql_wire_temporal.specs.TemporalValuesBack.{date-back, date_law, time-back, time_law, IsDate, IsTime};
+ghost use Rattle.mysql_wire_statements.specs.Faults.{told};
+ghost use Rattle.mysql_wire_statements.specs.TemporalValues.{clock_at, clock_bytes, date_bytes, day_at, day_bytes, micros_at, span_at, span_bytes, time_bytes, ReadsDate, ReadsTime};
+ghost use Rattle.mysql_wire_statements.specs.TemporalValuesBack.{date-back, date_law, time-back, time_law, IsDate, IsTime};
 
 use crate::binary_fault::BinaryFault;
 use crate::written_back::WrittenBack;

@@ -6,13 +6,13 @@ use Rattle.wire_buf.specs.declared.error.WireError.TheVariants.{UnexpectedEof, I
 use Rattle.wire_buf.specs.declared.error.InvalidReason.TheVariants.{UnknownValue}
 use Rattle.wire_buf.specs.Numbers.{le_number, le_bytes}
 use Rattle.wire_buf.specs.Reading.{Answers}
-use Rattle.mysql_wire_temporal.specs.declared.temporal.Clock.{Clock}
-use Rattle.mysql_wire_temporal.specs.declared.temporal.Day.{Day}
-use Rattle.mysql_wire_temporal.specs.declared.temporal.Span.{Span}
-use Rattle.mysql_wire_temporal.specs.declared.temporal.BinaryDate.{BinaryDate}
-use Rattle.mysql_wire_temporal.specs.declared.temporal.BinaryDate.TheVariants as date
-use Rattle.mysql_wire_temporal.specs.declared.temporal.BinaryTime.{BinaryTime}
-use Rattle.mysql_wire_temporal.specs.declared.temporal.BinaryTime.TheVariants as time
+use Rattle.mysql_wire_statements.specs.declared.temporal.Clock.{Clock}
+use Rattle.mysql_wire_statements.specs.declared.temporal.Day.{Day}
+use Rattle.mysql_wire_statements.specs.declared.temporal.Span.{Span}
+use Rattle.mysql_wire_statements.specs.declared.temporal.BinaryDate.{BinaryDate}
+use Rattle.mysql_wire_statements.specs.declared.temporal.BinaryDate.TheVariants as date
+use Rattle.mysql_wire_statements.specs.declared.temporal.BinaryTime.{BinaryTime}
+use Rattle.mysql_wire_statements.specs.declared.temporal.BinaryTime.TheVariants as time
 
 -- ---- what is written
 
