@@ -13,3 +13,4 @@ pub mod Faults
 pub mod Fronts
 pub mod TemporalValues
 pub mod TemporalValuesBack
+pub mod PrepareAnswers

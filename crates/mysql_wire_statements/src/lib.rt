@@ -17,6 +17,7 @@ pub mod laws;
 pub mod null_bitmap;
 pub mod params;
 pub mod payload;
+pub mod prepare_answer;
 mod rest;
 pub mod statement_command;
 pub mod temporal;

@@ -5,9 +5,9 @@ use Rattle.mysql_wire_parts.specs.FirstBytes.{When, one_first, none_first, heade
 use Rattle.mysql_wire_parts.specs.Places.{BeginsWith, IsOther, ReadsAs, is_among}
 use Rattle.mysql_wire_parts.specs.declared.places.PayloadError.{PayloadError}
 use Rattle.mysql_wire_packets.specs.contracts.ok_packet.OkFormMyDeserializeGlobal.TheImpl as ok
-use Rattle.mysql_wire_answers.specs.declared.auth_answer.AuthAnswer.{AuthAnswer}
-use Rattle.mysql_wire_answers.specs.declared.auth_answer.AuthAnswer.TheVariants as variants
-use Rattle.mysql_wire_answers.proofs.auth_answer.AuthAnswer.read.Goals as goal
+use Rattle.mysql_wire_connection.specs.declared.auth_answer.AuthAnswer.{AuthAnswer}
+use Rattle.mysql_wire_connection.specs.declared.auth_answer.AuthAnswer.TheVariants as variants
+use Rattle.mysql_wire_connection.proofs.auth_answer.AuthAnswer.read.Goals as goal
 
 abbrev headers : List ℕ
 headers = 0x00 ∷ 0xff ∷ 0xfe ∷ 0x01 ∷ []

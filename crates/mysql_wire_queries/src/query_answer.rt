@@ -3,13 +3,13 @@
 ghost use Rattle.std.specs.Prelude.{◌∷◌, []};
 ghost use Rattle.mysql_wire_packets.specs.Oks.{ok_form};
 ghost use Rattle.mysql_wire_parts.specs.Places.{BeginsWith, BeginsWithNone, ReadsAs};
-ghost use Rattle.mysql_wire_answers.specs.declared.query_answer.QueryAnswer.TheVariants.{Done, Failed, File, Columns};
+ghost use Rattle.mysql_wire_queries.specs.declared.query_answer.QueryAnswer.TheVariants.{Done, Failed, File, Columns};
 
+use crate::column_count::ColumnCount;
+use crate::local_infile::LocalInfileRequest;
 use mysql_wire_packets::err_packet::ErrPacket;
 use mysql_wire_packets::ok_packet::{InfoForm, OkPacket};
 use mysql_wire_parts::places::{PayloadError, read_as, read_whole};
-use mysql_wire_queries::column_count::ColumnCount;
-use mysql_wire_queries::local_infile::LocalInfileRequest;
 use std::alloc::Global;
 use wire_buf::proto::MyDeserialize;
 use wire_const::{CapabilityFlags, MariadbCapabilities};

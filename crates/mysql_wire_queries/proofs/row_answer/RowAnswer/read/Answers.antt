@@ -4,11 +4,11 @@ use denote.Param.{number}
 use Rattle.mysql_wire_parts.specs.Optional.{deprecates_eof}
 use Rattle.mysql_wire_parts.specs.Places.{BeginsWith, ReadsAs, is_short}
 use Rattle.mysql_wire_packets.specs.contracts.ok_packet.OkFormMyDeserializeGlobal.TheImpl as ok
-use Rattle.mysql_wire_answers.specs.RowPlaces.{EndsRows, IsRow}
-use Rattle.mysql_wire_answers.specs.declared.row_answer.RowAnswer.TheVariants as variants
+use Rattle.mysql_wire_queries.specs.RowPlaces.{EndsRows, IsRow}
+use Rattle.mysql_wire_queries.specs.declared.row_answer.RowAnswer.TheVariants as variants
 use Rattle.mysql_wire_parts.specs.FirstBytes.{When, first_begins, other_first}
-use Rattle.mysql_wire_answers.proofs.row_answer.RowAnswer.read.Goals.{in_default-via-in-Some-eq254+else-is_end, in_default-via-in-Some+in_default, in_default-via-in_default}
-use Rattle.mysql_wire_answers.proofs.row_answer.RowAnswer.read.Goals as goal
+use Rattle.mysql_wire_queries.proofs.row_answer.RowAnswer.read.Goals.{in_default-via-in-Some-eq254+else-is_end, in_default-via-in-Some+in_default, in_default-via-in_default}
+use Rattle.mysql_wire_queries.proofs.row_answer.RowAnswer.read.Goals as goal
 
 -- of an error all clauses hold
 failed : {Failed Eof End Row : Type 0} (payload : List ℕ) {byte : ℕ} (deprecated : Bool)

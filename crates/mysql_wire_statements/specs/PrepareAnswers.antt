@@ -6,8 +6,8 @@ use Rattle.wire_buf.specs.declared.error.InvalidReason.TheVariants.{UnknownValue
 use Rattle.wire_buf.specs.Reading.{Answers}
 use Rattle.mysql_wire_statements.specs.declared.com_stmt_prepare_ok.ComStmtPrepareOk.{ComStmtPrepareOk}
 use Rattle.mysql_wire_packets.specs.declared.err_packet.ErrPacket.{ErrPacket}
-use Rattle.mysql_wire_answers.specs.declared.prepare_answer.PrepareAnswer.{PrepareAnswer}
-use Rattle.mysql_wire_answers.specs.declared.prepare_answer.PrepareAnswer.TheVariants.{Prepared, Failed}
+use Rattle.mysql_wire_statements.specs.declared.prepare_answer.PrepareAnswer.{PrepareAnswer}
+use Rattle.mysql_wire_statements.specs.declared.prepare_answer.PrepareAnswer.TheVariants.{Prepared, Failed}
 
 -- what one makes of the answer, by its packet
 abbrev pub by_answer : {X : Type 0} → (ComStmtPrepareOk → X) → (ErrPacket → X) → PrepareAnswer → X

@@ -4,14 +4,14 @@ ghost use Rattle.std.specs.Prelude.{◌≡◌, true, false};
 ghost use Rattle.mysql_wire_packets.specs.Oks.{ok_form};
 ghost use Rattle.mysql_wire_parts.specs.Optional.{deprecates_eof};
 ghost use Rattle.mysql_wire_parts.specs.Places.{BeginsWith, ReadsAs, is_short};
-ghost use Rattle.mysql_wire_answers.specs.RowPlaces.{EndsRows, IsRow};
-ghost use Rattle.mysql_wire_answers.specs.declared.row_answer.RowAnswer.TheVariants.{Row, Eof, End, Failed};
+ghost use Rattle.mysql_wire_queries.specs.RowPlaces.{EndsRows, IsRow};
+ghost use Rattle.mysql_wire_queries.specs.declared.row_answer.RowAnswer.TheVariants.{Row, Eof, End, Failed};
 
+use crate::text_row::TextRow;
 use mysql_wire_packets::eof_packet::EofPacket;
 use mysql_wire_packets::err_packet::ErrPacket;
 use mysql_wire_packets::ok_packet::{InfoForm, RowsEnd};
 use mysql_wire_parts::places::{PayloadError, read_as, read_whole};
-use mysql_wire_queries::text_row::TextRow;
 use std::alloc::Global;
 use wire_buf::proto::MyDeserialize;
 use wire_const::{CapabilityFlags, Flags};

@@ -3,10 +3,10 @@ use Rattle.std.specs.List.{slice_get}
 use denote.Param.{number}
 use Rattle.mysql_wire_parts.specs.Places.{BeginsWith, BeginsWithNone, ReadsAs}
 use Rattle.mysql_wire_packets.specs.contracts.ok_packet.OkFormMyDeserializeGlobal.TheImpl as ok
-use Rattle.mysql_wire_answers.specs.declared.query_answer.QueryAnswer.TheVariants as variants
+use Rattle.mysql_wire_queries.specs.declared.query_answer.QueryAnswer.TheVariants as variants
 use Rattle.mysql_wire_parts.specs.FirstBytes.{When, first_begins, one_first}
-use Rattle.mysql_wire_answers.proofs.query_answer.QueryAnswer.read.Goals.{in_default-via-in-Some+in_default, in_default-via-in_default}
-use Rattle.mysql_wire_answers.proofs.query_answer.QueryAnswer.read.Goals as goal
+use Rattle.mysql_wire_queries.proofs.query_answer.QueryAnswer.read.Goals.{in_default-via-in-Some+in_default, in_default-via-in_default}
+use Rattle.mysql_wire_queries.proofs.query_answer.QueryAnswer.read.Goals as goal
 
 abbrev headers : List ℕ
 headers = 0x00 ∷ 0xff ∷ 0xfb ∷ []

@@ -3,10 +3,10 @@
 ghost use Rattle.std.specs.Prelude.{◌∷◌, []};
 ghost use Rattle.mysql_wire_packets.specs.Oks.{ok_form};
 ghost use Rattle.mysql_wire_parts.specs.Places.{BeginsWith, IsOther, ReadsAs};
-ghost use Rattle.mysql_wire_answers.specs.declared.auth_answer.AuthAnswer.TheVariants.{Done, Failed, Switch, MoreData};
+ghost use Rattle.mysql_wire_connection.specs.declared.auth_answer.AuthAnswer.TheVariants.{Done, Failed, Switch, MoreData};
 
-use mysql_wire_connection::auth_more_data::AuthMoreData;
-use mysql_wire_connection::auth_switch::AuthSwitchRequest;
+use crate::auth_more_data::AuthMoreData;
+use crate::auth_switch::AuthSwitchRequest;
 use mysql_wire_packets::err_packet::ErrPacket;
 use mysql_wire_packets::ok_packet::{InfoForm, OkPacket};
 use mysql_wire_parts::places::{PayloadError, read_as};

@@ -1,9 +1,9 @@
 //! What answers a `COM_STMT_PREPARE`.
 
-ghost use Rattle.mysql_wire_answers.specs.PrepareAnswers.{by_answer, ReadsAnswer};
+ghost use Rattle.mysql_wire_statements.specs.PrepareAnswers.{by_answer, ReadsAnswer};
 
+use crate::com_stmt_prepare_ok::ComStmtPrepareOk;
 use mysql_wire_packets::err_packet::ErrPacket;
-use mysql_wire_statements::com_stmt_prepare_ok::ComStmtPrepareOk;
 use std::alloc::{Allocator, Global};
 use wire_buf::error::{InvalidReason, WireError};
 use wire_buf::io::ParseBuf;

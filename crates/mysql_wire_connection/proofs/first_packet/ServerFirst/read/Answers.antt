@@ -1,6 +1,6 @@
 use Rattle.std.proofs.Common.{ℕ, List, [], ◌∷◌, refl}
 use Rattle.mysql_wire_parts.specs.FirstBytes.{one_first, other_first, none_first, header_first, no_header_first, no_byte_first}
-use Rattle.mysql_wire_answers.proofs.first_packet.ServerFirst.read.Goals as goal
+use Rattle.mysql_wire_connection.proofs.first_packet.ServerFirst.read.Goals as goal
 
 abbrev headers : List ℕ
 headers = 0x0a ∷ 0xff ∷ []

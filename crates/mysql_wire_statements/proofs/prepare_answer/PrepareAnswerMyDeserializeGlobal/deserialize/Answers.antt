@@ -1,7 +1,7 @@
 use Rattle.std.proofs.Common.{refl, sym, ◌∙◌, inl, inr, arith}
 use Rattle.mysql_wire_parts.specs.FirstBytes.{first_begins, no_first, one_first}
 use Rattle.mysql_wire_statements.specs.TemporalValuesBack.{empty_head}
-use Rattle.mysql_wire_answers.proofs.prepare_answer.PrepareAnswerMyDeserializeGlobal.deserialize.Goals as goal
+use Rattle.mysql_wire_statements.proofs.prepare_answer.PrepareAnswerMyDeserializeGlobal.deserialize.Goals as goal
 
 pub returns-in-Ok : goal.returns-in-Ok
 returns-in-Ok c =

@@ -2,12 +2,12 @@
 
 ghost use Rattle.std.specs.Prelude.{◌≡◌, ◌≢◌, ◌∷◌, [], length};
 ghost use Rattle.mysql_wire_parts.specs.Places.{BeginsWith, IsOther, ReadsAs, ReadsUnderNone};
-ghost use Rattle.mysql_wire_answers.specs.declared.first_packet.ServerFirst.TheVariants.{Greeting, Failed};
-ghost use Rattle.mysql_wire_answers.specs.declared.first_packet.ClientFirst.TheVariants.{Tls, Login};
+ghost use Rattle.mysql_wire_connection.specs.declared.first_packet.ServerFirst.TheVariants.{Greeting, Failed};
+ghost use Rattle.mysql_wire_connection.specs.declared.first_packet.ClientFirst.TheVariants.{Tls, Login};
 
-use mysql_wire_connection::handshake::HandshakeV10;
-use mysql_wire_connection::handshake_response::HandshakeResponse41;
-use mysql_wire_connection::ssl_request::SslRequest;
+use crate::handshake::HandshakeV10;
+use crate::handshake_response::HandshakeResponse41;
+use crate::ssl_request::SslRequest;
 use mysql_wire_packets::err_packet::ErrPacket;
 use mysql_wire_parts::places::{PayloadError, read_as, read_whole};
 use std::alloc::Global;
