@@ -1,6 +1,16 @@
 # For bench/run and bench/rows, which begin with scripts/start.sh and scripts/c_archive.sh, in the
 # repository's folder: the driver, by rustc out of bench/src.
-libraries=(mysql_wire_bench mysql_wire_session_bench mysql_wire_c)
+libraries=(mysql_wire_bench mysql_wire_c)
+
+# libraries_of CHECKOUT: sets those that the driver is linked with there. Up to 2026-12-01 the sessions'
+# workloads had a library of their own.
+libraries_of() {
+    libraries=(mysql_wire_bench mysql_wire_c)
+    if [ -d "$1/crates/mysql_wire_session_bench" ]; then
+        libraries+=(mysql_wire_session_bench)
+    fi
+}
+
 mkdir -p bench/out
 bytes=${BYTES:-$(ls -d /usr/share/cargo/registry/bytes-1.* 2> bench/out/bytes.log | tail -n 1)}
 flags=(-C opt-level=3 -C target-cpu=x86-64-v2 -C codegen-units=1 -C llvm-args=-align-all-functions=6

@@ -1,5 +1,5 @@
 #!/usr/bin/env bash
-# Compares the public functions of the layers with the tables and the lists of memory_support, in
+# Compares the public functions of the layers with the tables and the lists of test_support, in
 # both directions. Each function stands in the lists of its kind, and in no list of another:
 #
 # - An allocator is within its reach: in a table that is run. That is one of the functions that take
@@ -23,8 +23,8 @@ export LC_ALL=C
 cd "$(dirname "$0")/.." || exit 1
 source scripts/checks.sh
 layers=(wire_const wire_buf wire_ext wire_streams wire_repr wire_forms wire_field wire_values wire_list wire_laws wire_codec wire_span wire_packet_io mysql_wire)
-tests=crates/memory_support/src/requests
-lists=crates/memory_support
+tests=crates/test_support/src/requests
+lists=crates/test_support
 
 # Prints the names in the tables of these modules.
 in_tables() {

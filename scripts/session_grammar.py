@@ -1,7 +1,7 @@
 #!/usr/bin/env python3
 """The grammar of MySQL's sessions, written once more and apart from the one that is proved.
 
-crates/mysql_wire_session_laws/specs/Grammar.antt has the grammar that the theorems are about. This is
+crates/mysql_wire_session/specs/Grammar.antt has the grammar that the theorems are about. This is
 a second reading of MySQL's pages, in Python: it says by its own code what each packet of a session is.
 Nothing ties its meaning to the other's but the names of the productions and what both say of sessions.
 So a mistake in one of them shows where the other doesn't have it, and a mistake that both have doesn't.
@@ -34,7 +34,7 @@ import tempfile
 from dump_recordings import PROGRAM, TOP, framed, sessions
 from recordings import split
 
-GRAMMAR = TOP / "crates/mysql_wire_session_laws/specs/Grammar.antt"
+GRAMMAR = TOP / "crates/mysql_wire_session/specs/Grammar.antt"
 FULL = 0xFFFFFF
 # flags of a status, of both sides' capabilities, and of MariaDB's
 MORE_RESULTS, CURSOR, STATE_CHANGED = 0x8, 0x40, 0x4000

@@ -8,10 +8,10 @@ use Rattle.mysql_wire.specs.Rows.{by_side}
 use Rattle.mysql_wire.specs.WireError.{WireError}
 use Rattle.mysql_wire_parts.specs.Optional.{bytes_if}
 use Rattle.mysql_wire_parts.specs.Places.{ReadsAs, ReadsUnderNone}
-use Rattle.mysql_wire_answers.specs.declared.auth_answer.AuthAnswer.{AuthAnswer}
-use Rattle.mysql_wire_answers.specs.declared.auth_answer.AuthAnswer.TheVariants as answer
-use Rattle.mysql_wire_answers.specs.declared.first_packet.ServerFirst.{ServerFirst}
-use Rattle.mysql_wire_answers.specs.declared.first_packet.ServerFirst.TheVariants as first
+use Rattle.mysql_wire_connection.specs.declared.auth_answer.AuthAnswer.{AuthAnswer}
+use Rattle.mysql_wire_connection.specs.declared.auth_answer.AuthAnswer.TheVariants as answer
+use Rattle.mysql_wire_connection.specs.declared.first_packet.ServerFirst.{ServerFirst}
+use Rattle.mysql_wire_connection.specs.declared.first_packet.ServerFirst.TheVariants as first
 use Rattle.mysql_wire_connection.specs.declared.auth_more_data.AuthMoreData.{AuthMoreData}
 use Rattle.mysql_wire_connection.specs.declared.auth_switch.AuthSwitchRequest.{AuthSwitchRequest}
 use Rattle.mysql_wire_packets.specs.declared.err_packet.ErrPacket.{ErrPacket}

@@ -1,2 +1,4 @@
 pub mod ClientSteps
 pub mod ServerSteps
+pub mod Answers
+pub mod Rows

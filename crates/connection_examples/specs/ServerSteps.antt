@@ -4,8 +4,8 @@ use Rattle.mysql_wire.specs.Codec.{expected_id}
 use Rattle.mysql_wire.specs.FlagSets.{capability_flags_bits}
 use Rattle.mysql_wire.specs.WireError.{WireError}
 use Rattle.mysql_wire_parts.specs.Places.{ReadsAs, ReadsWhole}
-use Rattle.mysql_wire_answers.specs.declared.first_packet.ClientFirst.{ClientFirst}
-use Rattle.mysql_wire_answers.specs.declared.first_packet.ClientFirst.TheVariants as first
+use Rattle.mysql_wire_connection.specs.declared.first_packet.ClientFirst.{ClientFirst}
+use Rattle.mysql_wire_connection.specs.declared.first_packet.ClientFirst.TheVariants as first
 use Rattle.mysql_wire_connection.specs.declared.auth_switch_response.AuthSwitchResponse.{AuthSwitchResponse}
 use Rattle.mysql_wire_connection.specs.declared.handshake_response.HandshakeResponse41.{HandshakeResponse41}
 use Rattle.mysql_wire_parts.specs.declared.places.PayloadError.{PayloadError}

@@ -1,13 +1,19 @@
-//! The callers of `mysql_wire_examples`, run; and of the program's commands what
-//! the built program can't show.
+//! What the crates above the layers do: the callers of `mysql_wire_examples`, run, and the program's
+//! commands over bytes in memory. And memory: every call of the layers under refused memory, what it
+//! leaves then and how it goes on (`test_support` has the calls), how much calls ask for, and an
+//! answer counted by a session, with each request refused.
 #![tactic(auto)]
 
 #[cfg(test)]
 mod both_ends;
 #[cfg(test)]
+mod budget;
+#[cfg(test)]
 mod callers;
 #[cfg(test)]
 mod commands;
+#[cfg(test)]
+mod counted;
 #[cfg(test)]
 mod field_callers;
 #[cfg(test)]
@@ -16,6 +22,8 @@ mod in_place;
 mod long_packet;
 #[cfg(test)]
 mod measured;
+#[cfg(test)]
+mod memory;
 #[cfg(test)]
 mod own_fields;
 #[cfg(test)]

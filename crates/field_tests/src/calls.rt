@@ -1,5 +1,5 @@
 // What the calls of `RawBytes` answer of a text in hand: how many bytes of it are written, which they
-// are, whether all of it is some bytes, and its string. Its copies are tested by `memory_tests`, with
+// are, whether all of it is some bytes, and its string. Its copies are tested by `facade_tests`, with
 // each request for memory refused.
 
 use mysql_wire::misc::raw::RawBytes;

@@ -66,7 +66,7 @@ const EIGHT: &[Refused<()>] = &[
 
 const BARE: &[Refused<usize>] = &[(usize::MAX, 0, b"\x01\x02", EOF, 2)];
 
-// Elements of no fixed size: what was read of them is eaten. (Of their memory `memory_tests` has the
+// Elements of no fixed size: what was read of them is eaten. (Of their memory `facade_tests` has the
 // rows.)
 const VARYING: &[Refused<()>] = &[((), NEVER, b"\x02\0\0\0\x80\0\x80", EOF, 0)];
 

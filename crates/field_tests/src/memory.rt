@@ -1,6 +1,6 @@
 // Fields that are written where memory is refused: whichever request is refused, the buffer is as it
 // was before the field. Here are those that ask more than once: an owned text, a list, fields in a row.
-// The forms of texts are tested so in `texts`, copies and pushes of lists by `memory_tests`.
+// The forms of texts are tested so in `texts`, copies and pushes of lists by `facade_tests`.
 
 use mysql_wire::misc::raw::bytes::{EofBytes, LenEnc};
 use mysql_wire::misc::raw::int::{LeU16, LeU32};

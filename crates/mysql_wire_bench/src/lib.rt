@@ -10,6 +10,7 @@ mod fields;
 mod in_place;
 mod packets;
 mod rows;
+mod sessions;
 mod spans;
 mod streams;
 mod typed;

@@ -3,9 +3,9 @@ use Rattle.std.proofs.Common.{◌≡◌, ◌⊎◌, ℕ, ℤ, true, List, length
 use Rattle.std.specs.Prelude.{IfOk, IfSome, OnOk}
 use Rattle.mysql_wire_session.specs.Readings.{Receives, advanced}
 use Rattle.mysql_wire_session.specs.State.{SessionState}
-use Rattle.mysql_wire_session_packets.specs.declared.packet.Received.{Received}
-use Rattle.mysql_wire_session_phases.specs.declared.refusal.SessionError.{SessionError}
-use Rattle.mysql_wire_session_phases.specs.declared.side.Side.{Side}
+use Rattle.mysql_wire_session.specs.declared.packet.Received.{Received}
+use Rattle.mysql_wire_session.specs.declared.refusal.SessionError.{SessionError}
+use Rattle.mysql_wire_session.specs.declared.side.Side.{Side}
 use Rattle.mysql_wire_c_calls.specs.declared.codes.TheConstants.{NEEDS_WHOLE, NO_MEMORY, OK}
 use Rattle.mysql_wire_c.specs.Calls.{FollowsFront, Took, TookFront, WantsWhole, is_front, is_refused}
 use Rattle.mysql_wire_c.specs.Numbers.{kind_number, side_of}

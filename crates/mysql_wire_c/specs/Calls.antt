@@ -1,15 +1,15 @@
 -- What each call of a session does, by its answer. Each answer but these is none that it gives.
 use Rattle.std.specs.Prelude.{◌≡◌, ◌⊎◌, ◌↔◌, ◌==◌, ◌&&◌, ◌||◌, nat_lt, ℕ, ℤ, pos, Bool, true, false, List, length, Option, None, IfSome, MatchOption, if◌then◌else◌}
-use Rattle.mysql_wire_session_packets.specs.declared.packet.Packet.{Packet}
-use Rattle.mysql_wire_session_packets.specs.declared.packet.Packet.TheVariants as packet
-use Rattle.mysql_wire_session_packets.specs.declared.packet.Received.{Received}
-use Rattle.mysql_wire_session_packets.specs.declared.packet.Row.{Row}
-use Rattle.mysql_wire_session_packets.specs.declared.packet.Row.TheVariants as row
-use Rattle.mysql_wire_session_phases.specs.declared.packet_kind.PacketKind.{PacketKind}
+use Rattle.mysql_wire_session.specs.declared.packet.Packet.{Packet}
+use Rattle.mysql_wire_session.specs.declared.packet.Packet.TheVariants as packet
+use Rattle.mysql_wire_session.specs.declared.packet.Received.{Received}
+use Rattle.mysql_wire_session.specs.declared.packet.Row.{Row}
+use Rattle.mysql_wire_session.specs.declared.packet.Row.TheVariants as row
+use Rattle.mysql_wire_session.specs.declared.packet_kind.PacketKind.{PacketKind}
 use Rattle.mysql_wire_session.specs.declared.session.front.FrontError.TheVariants.{NeedsWhole}
-use Rattle.mysql_wire_session_phases.specs.declared.side.Side.{Side}
+use Rattle.mysql_wire_session.specs.declared.side.Side.{Side}
 use Rattle.mysql_wire_session.specs.Fronts.{FailsFront, TakesFront}
-use Rattle.mysql_wire_session_phases.specs.Kinds.{kind_by_front}
+use Rattle.mysql_wire_session.specs.Kinds.{kind_by_front}
 use Rattle.mysql_wire_session.specs.Readings.{Receives, advanced, passed}
 use Rattle.mysql_wire_session.specs.Senders.{is_idle, next_sender}
 use Rattle.mysql_wire_session.specs.State.{SessionState, expectation_of, initial_state, statement_of}

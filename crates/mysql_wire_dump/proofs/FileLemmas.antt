@@ -11,7 +11,7 @@ use Rattle.wire_text.specs.declared.stop.Stop.{Stop}
 use Rattle.wire_text.specs.declared.stop.Stop.TheVariants.{Io, Memory}
 use Rattle.mysql_wire_dump_lines.specs.Status.{end_status, usage}
 use Rattle.wire_text.specs.Stops.{exit_status_of}
-use Rattle.mysql_wire_dump_session.specs.Dumped.{status_of}
+use Rattle.mysql_wire_dump_lines.specs.Dumped.{status_of}
 use Rattle.mysql_wire_dump.specs.Files.{CommandEnds, FilesEnd}
 
 -- no dump ends with the status of words that ask for nothing

@@ -4,7 +4,7 @@ use Rattle.std.specs.Prelude.{◌≡◌, ◌⊎◌, ℕ, List, [], ◌++◌, cod
 use Rattle.mysql_wire_dump_lines.specs.declared.options.Sides.{Sides}
 use Rattle.mysql_wire_dump_lines.specs.Arguments.{Command, Dump, Help, Session, sides_of}
 use Rattle.mysql_wire_dump_lines.specs.Status.{usage}
-use Rattle.mysql_wire_dump_session.specs.Dumped.{DumpEnds}
+use Rattle.mysql_wire_dump_lines.specs.Dumped.{DumpEnds}
 
 -- what is known of the bytes of a file, or that there are none
 abbrev pub left_in : {T : Type 0} → (T → Option (List ℕ)) → Option T → Option (List ℕ)

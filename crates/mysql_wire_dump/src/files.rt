@@ -9,8 +9,8 @@ ghost use Rattle.wire_text.specs.Stops.{exit_status_of};
 ghost use Rattle.mysql_wire_dump.specs.Files.{CommandEnds, FilesEnd, left_in};
 
 use mysql_wire_dump_lines::arguments::{Asked, Request, what_is_asked};
+use mysql_wire_dump_lines::dump::run_dump;
 use mysql_wire_dump_lines::status::{Stop, USAGE, exit_status};
-use mysql_wire_dump_session::dump::run_dump;
 use std::alloc::{Allocator, Global};
 use std::fs::File;
 use std::io;

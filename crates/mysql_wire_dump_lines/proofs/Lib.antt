@@ -2,3 +2,12 @@ pub mod PacketStreamLemmas
 pub mod DigitLemmas
 pub mod NumberLemmas
 pub mod ArgumentLemmas
+pub mod ValueLemmas
+pub mod GivenLemmas
+pub mod PacketLemmas
+pub mod ShortLemmas
+pub mod RowEndLemmas
+pub mod TemporalLemmas
+pub mod DumpLemmas
+pub mod ReadLemmas
+pub mod LineLemmas

@@ -4,3 +4,12 @@ pub mod PacketStreams
 pub mod NextSenders
 pub mod Lines
 pub mod Arguments
+pub mod TemporalTexts
+pub mod ConnectionFields
+pub mod AnswerFields
+pub mod CommandFields
+pub mod ValueFields
+pub mod RowEnds
+pub mod Packets
+pub mod Dumped
+pub mod Dumping

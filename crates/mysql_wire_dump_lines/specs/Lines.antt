@@ -2,15 +2,15 @@
 use Rattle.std.specs.Fmt.{decimal}
 use Rattle.std.specs.Prelude.{ℕ, nat_lt, List, [], ◌++◌, length, take, if◌then◌else◌, codes}
 use Rattle.hex.specs.Hex.{encode_lower}
-use Rattle.mysql_wire_session_phases.specs.declared.packet_kind.PacketKind.{PacketKind}
-use Rattle.mysql_wire_session_phases.specs.declared.packet_kind.PacketKind.TheVariants.{Refused}
+use Rattle.mysql_wire_session.specs.declared.packet_kind.PacketKind.{PacketKind}
+use Rattle.mysql_wire_session.specs.declared.packet_kind.PacketKind.TheVariants.{Refused}
 use Rattle.mysql_wire_dump_lines.specs.declared.lines.LineForm.{LineForm}
 use Rattle.mysql_wire_dump_lines.specs.declared.lines.LineForm.TheVariants.{Text, Json}
 use Rattle.mysql_wire_dump_lines.specs.declared.lines.Seen.{Seen}
-use Rattle.mysql_wire_session_phases.specs.declared.side.Side.{Side}
+use Rattle.mysql_wire_session.specs.declared.side.Side.{Side}
 use Rattle.mysql_wire_dump_lines.specs.declared.packet_stream.End.{End}
 use Rattle.mysql_wire_dump_lines.specs.Names.{end_name}
-use Rattle.mysql_wire_session_phases.specs.Names.{side_name, kind_name, refusal_name}
+use Rattle.mysql_wire_session.specs.Names.{side_name, kind_name, refusal_name}
 
 -- at most 32 bytes in digits, and two dots for those after them
 unfoldable pub shown_bytes : List ℕ → List ℕ

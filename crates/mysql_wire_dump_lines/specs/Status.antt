@@ -4,8 +4,8 @@ use Rattle.mysql_wire_dump_lines.specs.declared.packet_stream.End.{End}
 use Rattle.mysql_wire_dump_lines.specs.declared.packet_stream.End.TheVariants as ending
 use Rattle.wire_text.specs.declared.stop.Stop.{Stop}
 use Rattle.wire_text.specs.declared.stop.Stop.TheVariants.{Io, Memory}
-use Rattle.mysql_wire_session_phases.specs.declared.refusal.SessionError.{SessionError}
-use Rattle.mysql_wire_session_phases.specs.declared.refusal.SessionError.TheVariants as session
+use Rattle.mysql_wire_session.specs.declared.refusal.SessionError.{SessionError}
+use Rattle.mysql_wire_session.specs.declared.refusal.SessionError.TheVariants as session
 use Rattle.wire_text.specs.Stops
 
 -- why a dump gives up where its session fails so

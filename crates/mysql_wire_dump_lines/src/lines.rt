@@ -4,13 +4,13 @@ ghost use Rattle.std.specs.Prelude.{◌≡◌, ◌<◌, ◌≤◌, ◌++◌, OnO
 ghost use Rattle.std.specs.Fmt.{decimal};
 ghost use Rattle.mysql_wire_dump_lines.specs.Lines.{bytes_part, ending_line, line_end, packet_front, packet_head, packet_line, refused_words, shown_bytes};
 ghost use Rattle.mysql_wire_dump_lines.specs.Names.{end_name};
-ghost use Rattle.mysql_wire_session_phases.specs.Names.{kind_name, refusal_name, side_name};
+ghost use Rattle.mysql_wire_session.specs.Names.{kind_name, refusal_name, side_name};
 ghost use Rattle.wire_text.specs.Fields.{AreLetters};
 
 use crate::packet_stream::End;
-use mysql_wire_session_phases::packet_kind::PacketKind;
-use mysql_wire_session_phases::refusal::Refusal;
-use mysql_wire_session_phases::side::Side;
+use mysql_wire_session::packet_kind::PacketKind;
+use mysql_wire_session::refusal::Refusal;
+use mysql_wire_session::side::Side;
 use std::alloc::{AllocError, Allocator};
 use wire_text::digits::push_digits_to;
 use wire_text::put::{push_between, push_letters, push_number};

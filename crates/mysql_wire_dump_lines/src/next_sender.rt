@@ -3,8 +3,8 @@
 ghost use Rattle.std.specs.Prelude.{◌≡◌};
 ghost use Rattle.mysql_wire_dump_lines.specs.NextSenders.{next_sender, sender_by_id, sender_of_both};
 
-use mysql_wire_session_phases::phase::Phase;
-use mysql_wire_session_phases::side::Side;
+use mysql_wire_session::phase::Phase;
+use mysql_wire_session::side::Side;
 
 // The side whose id follows the last packet's.
 fn sender_by_id(next_id: u8, client_id: u8, server_id: u8) -> Side

@@ -3,7 +3,7 @@
 ghost use Rattle.std.specs.Prelude.{◌≡◌};
 ghost use Rattle.mysql_wire_dump_lines.specs.Status.{fault_line, stop_of};
 
-use mysql_wire_session_phases::refusal::SessionError;
+use mysql_wire_session::refusal::SessionError;
 pub use wire_text::stop::{Stop, exit_status};
 
 /// Why the dump gives up where its session fails.

@@ -2,9 +2,9 @@
 //! all that `run_dump` wrote, and how many bytes were read and written.
 #![tactic(auto)]
 
+use mysql_wire_dump_lines::dump::run_dump;
 use mysql_wire_dump_lines::lines::LineForm;
 use mysql_wire_dump_lines::options::{Options, Sides};
-use mysql_wire_dump_session::dump::run_dump;
 use mysql_wire_jobs::draws::{Draws, Letters};
 use mysql_wire_jobs::making::{Session, make_session};
 use std::alloc::Global;

@@ -3,3 +3,4 @@ pub mod Payloads
 pub mod RowValues
 pub mod ShortestRows
 pub mod TextValues
+pub mod RowPlaces

@@ -9,6 +9,8 @@ pub mod good;
 pub mod laws;
 pub mod local_infile;
 pub mod payload;
+pub mod query_answer;
+pub mod row_answer;
 pub mod text_row;
 pub mod text_values;
 pub mod type_detail;

@@ -3,19 +3,19 @@ use Rattle.std.proofs.Common.{◌≡◌, ◌⊎◌, ◌∙◌, ◌≤◌, ℕ, z
 use Rattle.std.specs.Prelude.{IfErr, IfOk, OnOk}
 use Rattle.mysql_wire_session.specs.Advance.{IsRefusedMemory, asked, opened}
 use Rattle.mysql_wire_session.specs.Fronts.{FailsWhole, IsFront, KnownAfter, TakesFront, says_more}
-use Rattle.mysql_wire_session_phases.specs.Kinds.{asks_for_cursor, first_byte, is_report, kind_at, kind_by_front}
+use Rattle.mysql_wire_session.specs.Kinds.{asks_for_cursor, first_byte, is_report, kind_at, kind_by_front}
 use Rattle.mysql_wire_session.specs.Opening.{opened_state}
 use Rattle.mysql_wire_session.specs.declared.session.read.Opened.{Opened}
 use Rattle.mysql_wire_session.specs.SilentLemmas.{execute_silent, kind_silent, silent, silent_but_for_a_cursor}
 use Rattle.mysql_wire_session.specs.Readings.{ReadsAs, Receives, advanced, after_kind, after_packet, kind_of, opened_at, statement_named}
 use Rattle.mysql_wire_session.specs.State.{SessionState, expectation_of}
-use Rattle.mysql_wire_session_phases.specs.declared.classify.Expectation.{Expectation}
-use Rattle.mysql_wire_session_packets.specs.declared.packet.Received.{Received}
-use Rattle.mysql_wire_session_phases.specs.declared.packet_kind.PacketKind.{PacketKind}
-use Rattle.mysql_wire_session_phases.specs.declared.packet_kind.PacketKind.TheVariants as kind
-use Rattle.mysql_wire_session_phases.specs.declared.refusal.SessionError.{SessionError}
-use Rattle.mysql_wire_session_phases.specs.declared.side.Side.{Side}
-use Rattle.mysql_wire_session_phases.specs.declared.side.Side.TheVariants.{Client, Server}
+use Rattle.mysql_wire_session.specs.declared.classify.Expectation.{Expectation}
+use Rattle.mysql_wire_session.specs.declared.packet.Received.{Received}
+use Rattle.mysql_wire_session.specs.declared.packet_kind.PacketKind.{PacketKind}
+use Rattle.mysql_wire_session.specs.declared.packet_kind.PacketKind.TheVariants as kind
+use Rattle.mysql_wire_session.specs.declared.refusal.SessionError.{SessionError}
+use Rattle.mysql_wire_session.specs.declared.side.Side.{Side}
+use Rattle.mysql_wire_session.specs.declared.side.Side.TheVariants.{Client, Server}
 
 -- ---- the front is the payload's
 

@@ -1,2 +1,5 @@
 pub mod FrontLemmas
 pub mod OpeningLemmas
+pub mod AnswerLemmas
+pub mod ReportLemmas
+pub mod PacketLemmas

@@ -4,10 +4,10 @@ use Rattle.mysql_wire_session.specs.Opening.{opened_state}
 use Rattle.mysql_wire_session.specs.Readings.{Gives}
 use Rattle.mysql_wire_session.specs.State.{SessionState}
 use Rattle.mysql_wire_session.specs.declared.session.read.Opened.{Opened}
-use Rattle.mysql_wire_session_packets.specs.declared.packet.Packet.{Packet}
-use Rattle.mysql_wire_session_phases.specs.declared.packet_kind.PacketKind.{PacketKind}
-use Rattle.mysql_wire_session_phases.specs.declared.packet_kind.PacketKind.TheVariants as kind
-use Rattle.mysql_wire_session_phases.specs.declared.refusal.SessionError.{SessionError}
+use Rattle.mysql_wire_session.specs.declared.packet.Packet.{Packet}
+use Rattle.mysql_wire_session.specs.declared.packet_kind.PacketKind.{PacketKind}
+use Rattle.mysql_wire_session.specs.declared.packet_kind.PacketKind.TheVariants as kind
+use Rattle.mysql_wire_session.specs.declared.refusal.SessionError.{SessionError}
 
 -- all but errors, ends and columns
 pub gives_opened : (called : PacketKind) (there : Opened) (state : SessionState) (payload : List ℕ) (result : Result Packet SessionError)

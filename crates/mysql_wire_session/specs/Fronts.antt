@@ -2,18 +2,18 @@
 use Rattle.std.specs.Prelude.{◌≡◌, ◌≢◌, ◌⊎◌, ◌<◌, ◌≤◌, ℕ, Bool, true, false, List, length, take}
 use Rattle.mysql_wire_session.specs.Readings.{Fails, ReadsAs, Receives, after_packet, kind_of, opened_at}
 use Rattle.mysql_wire_session.specs.Advance.{IsRefusedMemory, opened}
-use Rattle.mysql_wire_session_phases.specs.Kinds.{kind_by_front}
+use Rattle.mysql_wire_session.specs.Kinds.{kind_by_front}
 use Rattle.mysql_wire_session.specs.State.{SessionState, expectation_of}
 use Rattle.mysql_wire_session.specs.declared.session.front.FrontError.{FrontError}
 use Rattle.mysql_wire_session.specs.declared.session.front.FrontError.TheVariants as failed
-use Rattle.mysql_wire_session_packets.specs.declared.packet.Packet.{Packet}
-use Rattle.mysql_wire_session_packets.specs.declared.packet.Received.{Received}
-use Rattle.mysql_wire_session_phases.specs.declared.packet_kind.PacketKind.{PacketKind}
-use Rattle.mysql_wire_session_phases.specs.declared.packet_kind.PacketKind.TheVariants as kind
-use Rattle.mysql_wire_session_phases.specs.declared.phase.Phase.{Phase}
-use Rattle.mysql_wire_session_phases.specs.declared.phase.Phase.TheVariants as phase
-use Rattle.mysql_wire_session_phases.specs.declared.refusal.SessionError.{SessionError}
-use Rattle.mysql_wire_session_phases.specs.declared.side.Side.{Side}
+use Rattle.mysql_wire_session.specs.declared.packet.Packet.{Packet}
+use Rattle.mysql_wire_session.specs.declared.packet.Received.{Received}
+use Rattle.mysql_wire_session.specs.declared.packet_kind.PacketKind.{PacketKind}
+use Rattle.mysql_wire_session.specs.declared.packet_kind.PacketKind.TheVariants as kind
+use Rattle.mysql_wire_session.specs.declared.phase.Phase.{Phase}
+use Rattle.mysql_wire_session.specs.declared.phase.Phase.TheVariants as phase
+use Rattle.mysql_wire_session.specs.declared.refusal.SessionError.{SessionError}
+use Rattle.mysql_wire_session.specs.declared.side.Side.{Side}
 
 -- these are the first bytes of a payload, three of them or more, or all
 pub record IsFront (front payload : List ℕ) : Type 0 where

@@ -5,3 +5,8 @@ pub mod Readings
 pub mod Senders
 pub mod Fronts
 pub mod SilentLemmas
+pub mod Names
+pub mod Refusals
+pub mod Kinds
+pub mod Phases
+pub mod Grammar

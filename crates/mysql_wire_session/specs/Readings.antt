@@ -3,17 +3,17 @@
 use Rattle.std.specs.Prelude.{◌≡◌, ◌⊎◌, ◌&&◌, ◌==◌, not, if◌then◌else◌, nat_lt, ℕ, ⊤, Bool, true, false, List, take, drop, length, Option, Some, None, Result, Ok, Err}
 use denote.Param.{number}
 use Rattle.wire_buf.specs.Numbers.{le_number}
-use Rattle.mysql_wire_session_packets.specs.declared.client_command.ClientCommand.TheVariants as command
-use Rattle.mysql_wire_session_phases.specs.declared.packet_kind.PacketKind.{PacketKind}
-use Rattle.mysql_wire_session_phases.specs.declared.packet_kind.PacketKind.TheVariants as kind
-use Rattle.mysql_wire_session_phases.specs.declared.phase.Phase.{Phase}
-use Rattle.mysql_wire_session_phases.specs.declared.phase.Phase.TheVariants as phase
-use Rattle.mysql_wire_session_phases.specs.declared.phase.RowForm.{RowForm}
-use Rattle.mysql_wire_session_phases.specs.declared.phase.RowForm.TheVariants as form
-use Rattle.mysql_wire_session_phases.specs.declared.refusal.Refusal.{Refusal}
-use Rattle.mysql_wire_session_phases.specs.declared.refusal.Refusal.TheVariants.{OtherHeader}
-use Rattle.mysql_wire_session_phases.specs.declared.refusal.SessionError.{SessionError}
-use Rattle.mysql_wire_session_phases.specs.declared.side.Side.{Side}
+use Rattle.mysql_wire_session.specs.declared.client_command.ClientCommand.TheVariants as command
+use Rattle.mysql_wire_session.specs.declared.packet_kind.PacketKind.{PacketKind}
+use Rattle.mysql_wire_session.specs.declared.packet_kind.PacketKind.TheVariants as kind
+use Rattle.mysql_wire_session.specs.declared.phase.Phase.{Phase}
+use Rattle.mysql_wire_session.specs.declared.phase.Phase.TheVariants as phase
+use Rattle.mysql_wire_session.specs.declared.phase.RowForm.{RowForm}
+use Rattle.mysql_wire_session.specs.declared.phase.RowForm.TheVariants as form
+use Rattle.mysql_wire_session.specs.declared.refusal.Refusal.{Refusal}
+use Rattle.mysql_wire_session.specs.declared.refusal.Refusal.TheVariants.{OtherHeader}
+use Rattle.mysql_wire_session.specs.declared.refusal.SessionError.{SessionError}
+use Rattle.mysql_wire_session.specs.declared.side.Side.{Side}
 use Rattle.mysql_wire_packets.specs.Oks.{ok_form}
 use Rattle.mysql_wire_parts.specs.Optional.{has_query_attributes}
 use Rattle.mysql_wire_parts.specs.declared.places.PayloadError.{PayloadError}
@@ -57,13 +57,13 @@ use Rattle.mysql_wire_packets.specs.contracts.payload.OkFormPayload.TheImpl as o
 use Rattle.mysql_wire_packets.specs.contracts.payload.ProgressReportPayload.TheImpl as progress
 use Rattle.mysql_wire_connection.specs.contracts.payload.SslRequestPayload.TheImpl as tls_request
 use Rattle.mysql_wire_utility.specs.contracts.payload.StatisticsTextPayload.TheImpl as statistics
-use Rattle.mysql_wire_session_phases.specs.Refusals.{refusal_of}
-use Rattle.mysql_wire_session_packets.specs.declared.packet.Packet.{Packet}
-use Rattle.mysql_wire_session_packets.specs.declared.packet.Packet.TheVariants as packet
-use Rattle.mysql_wire_session_packets.specs.declared.packet.Received.{Received}
-use Rattle.mysql_wire_session_packets.specs.declared.packet.Row.{Row}
-use Rattle.mysql_wire_session_packets.specs.declared.packet.Row.TheVariants as row
-use Rattle.mysql_wire_session_phases.specs.Kinds.{first_byte, kind_at}
+use Rattle.mysql_wire_session.specs.Refusals.{refusal_of}
+use Rattle.mysql_wire_session.specs.declared.packet.Packet.{Packet}
+use Rattle.mysql_wire_session.specs.declared.packet.Packet.TheVariants as packet
+use Rattle.mysql_wire_session.specs.declared.packet.Received.{Received}
+use Rattle.mysql_wire_session.specs.declared.packet.Row.{Row}
+use Rattle.mysql_wire_session.specs.declared.packet.Row.TheVariants as row
+use Rattle.mysql_wire_session.specs.Kinds.{first_byte, kind_at}
 use Rattle.mysql_wire_session.specs.Advance.{applied, asked, id_after, opened, remembered, state_after, state_passed}
 use Rattle.mysql_wire_session.specs.State.{SessionState, expectation_of, statement_of}
 

@@ -1,9 +1,9 @@
 -- Whose packet is next.
 use Rattle.std.specs.Prelude.{Bool, true, false}
-use Rattle.mysql_wire_session_phases.specs.declared.phase.Phase.{Phase}
-use Rattle.mysql_wire_session_phases.specs.declared.phase.Phase.TheVariants as phase
-use Rattle.mysql_wire_session_phases.specs.declared.side.Sender.{Sender}
-use Rattle.mysql_wire_session_phases.specs.declared.side.Sender.TheVariants as sender
+use Rattle.mysql_wire_session.specs.declared.phase.Phase.{Phase}
+use Rattle.mysql_wire_session.specs.declared.phase.Phase.TheVariants as phase
+use Rattle.mysql_wire_session.specs.declared.side.Sender.{Sender}
+use Rattle.mysql_wire_session.specs.declared.side.Sender.TheVariants as sender
 
 -- the client's where its login, a command or a file is waited for; while it authenticates itself
 -- either's, and where no packet is waited for; else the server's

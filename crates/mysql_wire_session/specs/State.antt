@@ -5,11 +5,11 @@ use Rattle.wire_const.specs.declared.flag_sets.capability.CapabilityFlags.{Capab
 use Rattle.wire_const.specs.declared.flag_sets.mariadb.MariadbCapabilities.{MariadbCapabilities}
 use Rattle.wire_const.specs.declared.flag_sets.status.StatusFlags.{StatusFlags}
 use Rattle.mysql_wire_statements.specs.declared.com_stmt_prepare_ok.ComStmtPrepareOk.{ComStmtPrepareOk}
-use Rattle.mysql_wire_session_phases.specs.declared.classify.Expectation.{Expectation}
-use Rattle.mysql_wire_session_phases.specs.declared.phase.Phase.{Phase}
-use Rattle.mysql_wire_session_phases.specs.declared.phase.Phase.TheVariants.{Greeting}
-use Rattle.mysql_wire_session_phases.specs.declared.phase.RowForm.{RowForm}
-use Rattle.mysql_wire_session_phases.specs.declared.phase.RowForm.TheVariants.{Unknown}
+use Rattle.mysql_wire_session.specs.declared.classify.Expectation.{Expectation}
+use Rattle.mysql_wire_session.specs.declared.phase.Phase.{Phase}
+use Rattle.mysql_wire_session.specs.declared.phase.Phase.TheVariants.{Greeting}
+use Rattle.mysql_wire_session.specs.declared.phase.RowForm.{RowForm}
+use Rattle.mysql_wire_session.specs.declared.phase.RowForm.TheVariants.{Unknown}
 use Rattle.mysql_wire_session.specs.declared.session.Session.{Session}
 
 -- what is waited for; the id that follows the last packet's; whether rows begin with no EOF after

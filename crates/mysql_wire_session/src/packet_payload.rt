@@ -1,10 +1,12 @@
 //! Which packet of a session a payload's type makes.
 
 ghost use Rattle.std.specs.Prelude.{◌≡◌};
-ghost use Rattle.mysql_wire_session_packets.specs.declared.client_command.ClientCommand.TheVariants as commands;
-ghost use Rattle.mysql_wire_session_packets.specs.declared.packet.Packet.{Packet};
-ghost use Rattle.mysql_wire_session_packets.specs.declared.packet.Packet.TheVariants as packets;
+ghost use Rattle.mysql_wire_session.specs.declared.client_command.ClientCommand.TheVariants as commands;
+ghost use Rattle.mysql_wire_session.specs.declared.packet.Packet.{Packet};
+ghost use Rattle.mysql_wire_session.specs.declared.packet.Packet.TheVariants as packets;
 
+use crate::client_command::ClientCommand;
+use crate::packet::Packet;
 use mysql_wire_connection::auth_more_data::AuthMoreData;
 use mysql_wire_connection::auth_switch::AuthSwitchRequest;
 use mysql_wire_connection::auth_switch_response::AuthSwitchResponse;
@@ -21,8 +23,6 @@ use mysql_wire_queries::column_definition::ColumnDefinition41;
 use mysql_wire_queries::com_query::ComQuery;
 use mysql_wire_queries::com_query_attributes::ComQueryWithAttributes;
 use mysql_wire_queries::local_infile::LocalInfileRequest;
-use mysql_wire_session_packets::client_command::ClientCommand;
-use mysql_wire_session_packets::packet::Packet;
 use mysql_wire_statements::com_stmt_close::ComStmtClose;
 use mysql_wire_statements::com_stmt_execute::ComStmtExecute;
 use mysql_wire_statements::com_stmt_fetch::ComStmtFetch;

@@ -7,20 +7,20 @@ mod read;
 
 ghost use Rattle.std.specs.Prelude.{◌≡◌, IfErr, IfOk, OnErr, OnOk, length, option_copied};
 ghost use Rattle.mysql_wire_session.specs.Advance.{IsRefusedMemory, id_after};
-ghost use Rattle.mysql_wire_session_phases.specs.Kinds.{kind_by_front};
+ghost use Rattle.mysql_wire_session.specs.Kinds.{kind_by_front};
 ghost use Rattle.mysql_wire_session.specs.Readings.{Fails, Receives, advanced, after_kind, passed};
 ghost use Rattle.mysql_wire_session.specs.Senders.{is_idle, next_sender};
 ghost use Rattle.mysql_wire_session.specs.State.{expectation_of, initial_state, state_of, statement_of};
 
+use crate::classify::{Expectation, is_command, kind_by_front};
+use crate::next_phase::past_column;
+use crate::packet::Received;
+use crate::packet_kind::PacketKind;
+use crate::phase::{Phase, RowForm};
+use crate::refusal::SessionError;
+use crate::side::{Sender, Side};
 use crate::statements::Statements;
 pub use front::FrontError;
-use mysql_wire_session_packets::packet::Received;
-use mysql_wire_session_phases::classify::{Expectation, is_command, kind_by_front};
-use mysql_wire_session_phases::next_phase::past_column;
-use mysql_wire_session_phases::packet_kind::PacketKind;
-use mysql_wire_session_phases::phase::{Phase, RowForm};
-use mysql_wire_session_phases::refusal::SessionError;
-use mysql_wire_session_phases::side::{Sender, Side};
 use mysql_wire_statements::com_stmt_prepare_ok::ComStmtPrepareOk;
 use std::alloc::{Allocator, Global};
 use std::mem::ManuallyDrop;

@@ -1,2 +1,3 @@
 pub mod ColumnLemmas
 pub mod TextReads
+mod WrittenBackLemmas

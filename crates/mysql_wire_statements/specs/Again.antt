@@ -17,7 +17,7 @@ use Rattle.wire_field.specs.declared.row.Either.{Either}
 use Rattle.wire_field.specs.declared.row.Either.TheVariants.{Left, Right}
 use Rattle.wire_field.specs.Rows.{ReadsBoth, ReadsEither, by_side}
 use Rattle.mysql_wire_parts.specs.Optional.{bytes_if, field, side}
-use Rattle.mysql_wire_temporal.specs.Fronts.{take_are}
+use Rattle.mysql_wire_statements.specs.Fronts.{take_are}
 
 -- what is read of bytes is written as those of them that were eaten
 pub record Again {X : Type 0} (reads : List ℕ → Result X WireError → ℕ → Type 0)

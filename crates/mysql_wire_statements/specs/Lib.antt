@@ -9,3 +9,8 @@ pub mod Params
 pub mod TypesBack
 pub mod Values
 pub mod ValuesBack
+pub mod Faults
+pub mod Fronts
+pub mod TemporalValues
+pub mod TemporalValuesBack
+pub mod PrepareAnswers

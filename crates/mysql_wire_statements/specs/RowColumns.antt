@@ -4,8 +4,8 @@ use Rattle.std.proofs.Common.{suc}
 use Rattle.std.specs.Iterator.{Count, Yields, at_most}
 use Rattle.wire_const.specs.declared.column_type.ColumnType.{ColumnType}
 use Rattle.mysql_wire_statements.specs.BinaryRows.{ReadsColumn}
-use Rattle.mysql_wire_temporal.specs.Faults.{error_of}
-use Rattle.mysql_wire_temporal.specs.declared.binary_fault.BinaryFault.{BinaryFault}
+use Rattle.mysql_wire_statements.specs.Faults.{error_of}
+use Rattle.mysql_wire_statements.specs.declared.binary_fault.BinaryFault.{BinaryFault}
 use Rattle.mysql_wire_statements.specs.declared.binary_value.BinaryValue.{BinaryValue}
 use Rattle.mysql_wire_statements.specs.declared.binary_values.BinaryValues.{BinaryValues}
 

@@ -11,10 +11,10 @@ use Rattle.wire_buf.specs.Spelling.{EatsSpelling}
 use Rattle.wire_forms.specs.Spelled.{Leaves, NumberOrEof, TextBehind}
 use Rattle.wire_const.specs.declared.column_type.ColumnType.{ColumnType}
 use Rattle.wire_const.specs.declared.column_type.ColumnType.TheVariants as kind
-use Rattle.mysql_wire_temporal.specs.TemporalValues.{date_bytes, time_bytes, ReadsDate, ReadsTime}
-use Rattle.mysql_wire_temporal.specs.TemporalValuesBack.{IsDate, IsTime}
-use Rattle.mysql_wire_temporal.specs.declared.temporal.BinaryDate.{BinaryDate}
-use Rattle.mysql_wire_temporal.specs.declared.temporal.BinaryTime.{BinaryTime}
+use Rattle.mysql_wire_statements.specs.TemporalValues.{date_bytes, time_bytes, ReadsDate, ReadsTime}
+use Rattle.mysql_wire_statements.specs.TemporalValuesBack.{IsDate, IsTime}
+use Rattle.mysql_wire_statements.specs.declared.temporal.BinaryDate.{BinaryDate}
+use Rattle.mysql_wire_statements.specs.declared.temporal.BinaryTime.{BinaryTime}
 use Rattle.mysql_wire_statements.specs.declared.binary_value.BinaryValue.{BinaryValue}
 use Rattle.mysql_wire_statements.specs.declared.binary_value.BinaryValue.TheVariants as value
 use Rattle.mysql_wire_statements.specs.declared.binary_value.ValueForm.{ValueForm}

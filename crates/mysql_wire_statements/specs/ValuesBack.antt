@@ -15,16 +15,16 @@ use Rattle.wire_forms.specs.PrefixedTexts.{lenenc_text-back}
 use Rattle.wire_repr.specs.Texts.{IsText}
 use Rattle.wire_buf.specs.Reading.{Answers}
 use Rattle.wire_forms.specs.Spelled.{Leaves, NumberOrEof, TextBehind}
-use Rattle.mysql_wire_temporal.specs.Fronts.{take_are}
-use Rattle.mysql_wire_temporal.specs.TemporalValues.{date_bytes, time_bytes, ReadsDate, ReadsTime}
-use Rattle.mysql_wire_temporal.specs.TemporalValuesBack.{date-back, date_law, time-back, time_law}
+use Rattle.mysql_wire_statements.specs.Fronts.{take_are}
+use Rattle.mysql_wire_statements.specs.TemporalValues.{date_bytes, time_bytes, ReadsDate, ReadsTime}
+use Rattle.mysql_wire_statements.specs.TemporalValuesBack.{date-back, date_law, time-back, time_law}
 use Rattle.mysql_wire_statements.specs.Values.{date_of, HasShortLength, IsShortest, number_at, text_of, time_of, value_bytes, written_form, IsValue, OnPart, ReadsForm, ReadsText, SameValue}
 use Rattle.mysql_wire_statements.specs.declared.binary_value.BinaryValue.{BinaryValue}
 use Rattle.mysql_wire_statements.specs.declared.binary_value.BinaryValue.TheVariants as value
 use Rattle.mysql_wire_statements.specs.declared.binary_value.ValueForm.{ValueForm}
 use Rattle.mysql_wire_statements.specs.declared.binary_value.ValueForm.TheVariants as form
-use Rattle.mysql_wire_temporal.specs.declared.temporal.BinaryDate.{BinaryDate}
-use Rattle.mysql_wire_temporal.specs.declared.temporal.BinaryTime.{BinaryTime}
+use Rattle.mysql_wire_statements.specs.declared.temporal.BinaryDate.{BinaryDate}
+use Rattle.mysql_wire_statements.specs.declared.temporal.BinaryTime.{BinaryTime}
 
 -- ---- lemmas
 

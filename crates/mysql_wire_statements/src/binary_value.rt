@@ -3,13 +3,13 @@
 ghost use Rattle.std.specs.Prelude.{◌≡◌, ◌++◌};
 ghost use Rattle.std.proofs.Common.{subst};
 ghost use Rattle.wire_buf.specs.Reading.{Reads, Through};
-ghost use Rattle.mysql_wire_temporal.specs.Faults.{told};
+ghost use Rattle.mysql_wire_statements.specs.Faults.{told};
 ghost use Rattle.mysql_wire_statements.specs.Values.{form_of, value_bytes, written_form, IsPlain, IsShortest, IsValue, ReadsForm, ReadsText, SameValue};
 ghost use Rattle.mysql_wire_statements.specs.ValuesBack.{value-back, value_law};
 
-use mysql_wire_temporal::binary_fault::BinaryFault;
-use mysql_wire_temporal::temporal::{BinaryDate, BinaryTime, read_date, read_time};
-use mysql_wire_temporal::written_back::WrittenBack;
+use crate::binary_fault::BinaryFault;
+use crate::temporal::{BinaryDate, BinaryTime, read_date, read_time};
+use crate::written_back::WrittenBack;
 use std::alloc::{Allocator, Global};
 use wire_buf::error::WireError;
 use wire_buf::io::ParseBuf;

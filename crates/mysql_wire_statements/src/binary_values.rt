@@ -5,10 +5,10 @@ ghost use Rattle.mysql_wire_statements.specs.RowColumns.{columns_left, GivesAll,
 ghost use Rattle.mysql_wire_statements.specs.declared.binary_value.BinaryValue.{BinaryValue};
 ghost use Rattle.mysql_wire_statements.specs.declared.binary_values.BinaryValues.{BinaryValues};
 
+use crate::binary_fault::BinaryFault;
 use crate::binary_row::{BinaryRow, read_column};
 use crate::binary_value::BinaryValue;
 use crate::null_bitmap::RowNulls;
-use mysql_wire_temporal::binary_fault::BinaryFault;
 use wire_buf::io::ParseBuf;
 use wire_const::ColumnType;
 

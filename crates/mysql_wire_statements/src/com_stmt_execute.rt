@@ -14,7 +14,7 @@ ghost use Rattle.mysql_wire_statements.specs.TypesBack.{types_again, types_field
 ghost use Rattle.mysql_wire_statements.specs.Params.{types_of};
 
 use crate::params::{Fields as ParamsFields, StmtParams};
-use mysql_wire_temporal::written_back::WrittenBack;
+use crate::written_back::WrittenBack;
 use std::alloc::Allocator;
 use wire_buf::error::WireError;
 use wire_buf::io::ParseBuf;

@@ -8,7 +8,7 @@ ghost use Rattle.mysql_wire_statements.specs.InOrder.{rest_of};
 ghost use Rattle.mysql_wire_statements.specs.Again.{packet_again, both_again, const_again, number_again, rest_again};
 
 use crate::rest::Rest;
-use mysql_wire_temporal::written_back::WrittenBack;
+use crate::written_back::WrittenBack;
 use std::alloc::Allocator;
 use wire_buf::error::WireError;
 use wire_buf::io::ParseBuf;

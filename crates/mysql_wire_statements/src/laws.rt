@@ -20,7 +20,7 @@ use crate::com_stmt_fetch::ComStmtFetch;
 use crate::com_stmt_prepare::ComStmtPrepare;
 use crate::com_stmt_reset::ComStmtReset;
 use crate::com_stmt_send_long_data::ComStmtSendLongData;
-pub use mysql_wire_temporal::written_back::is_written_back;
+pub use crate::written_back::is_written_back;
 use std::alloc::Global;
 use wire_buf::error::WireError;
 use wire_buf::io::ParseBuf;

@@ -1,6 +1,8 @@
-//! Packets of prepared statements, made of the wire types of `mysql_wire`.
+//! Packets of prepared statements, made of the wire types of `mysql_wire`; dates and times in their
+//! binary form, why such values are refused, and what it is that values are written as they were read.
 #![tactic(auto)]
 
+pub mod binary_fault;
 pub mod binary_row;
 pub mod binary_value;
 pub mod binary_values;
@@ -15,20 +17,8 @@ pub mod laws;
 pub mod null_bitmap;
 pub mod params;
 pub mod payload;
+pub mod prepare_answer;
 mod rest;
 pub mod statement_command;
-
-/// Why the bytes of a value are refused.
-pub mod binary_fault {
-    pub use mysql_wire_temporal::binary_fault::BinaryFault;
-}
-
-/// Dates and times in their binary form.
-pub mod temporal {
-    pub use mysql_wire_temporal::temporal::{BinaryDate, BinaryTime, Clock, Day, Span};
-}
-
-/// What is read is written as it stood.
-pub mod written_back {
-    pub use mysql_wire_temporal::written_back::{WrittenBack, is_written_back};
-}
+pub mod temporal;
+pub mod written_back;

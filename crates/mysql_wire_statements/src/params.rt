@@ -12,7 +12,7 @@ ghost use Rattle.mysql_wire_statements.specs.TypesBack.{types_again, types_field
 
 use crate::null_bitmap::ParamNulls;
 use crate::rest::Rest;
-use mysql_wire_temporal::written_back::WrittenBack;
+use crate::written_back::WrittenBack;
 use std::alloc::Allocator;
 use wire_buf::error::{InvalidReason, WireError};
 use wire_buf::io::ParseBuf;

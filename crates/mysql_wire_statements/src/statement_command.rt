@@ -6,7 +6,7 @@ ghost use Rattle.wire_buf.specs.Reading.{Through};
 ghost use Rattle.mysql_wire_parts.specs.InOrder.{packet, both, const_u8, number};
 ghost use Rattle.mysql_wire_statements.specs.Again.{packet_again, both_again, const_again, number_again};
 
-use mysql_wire_temporal::written_back::WrittenBack;
+use crate::written_back::WrittenBack;
 use std::alloc::Allocator;
 use wire_buf::error::WireError;
 use wire_buf::io::ParseBuf;

@@ -1,8 +1,8 @@
 //! Shows MySQL's packets on real bytes: frames a payload, and shows a chunk again.
 #![tactic(auto)]
 
-use mysql_wire_commands::arguments::run_words;
-use mysql_wire_commands::status::fault_text;
+use mysql_wire_tool_commands::arguments::run_words;
+use mysql_wire_tool_commands::status::fault_text;
 use std::io::ErrorKind;
 use std::process::ExitCode;
 use std::{env, io};

@@ -1,17 +1,17 @@
 //! An operator dumps a session's answers.
 
 use mysql_wire::constants::{Flags, MariadbCapabilities};
-use mysql_wire_dump_fields::show::{Show, binary_row, statistics, text_row};
 use mysql_wire_dump_lines::lines::{LineForm, Seen, push_packet};
 use mysql_wire_dump_lines::packet_stream::{Next, PacketStream};
+use mysql_wire_dump_lines::show::{Show, binary_row, statistics, text_row};
 use mysql_wire_jobs::answers::{Answer, LIMIT, make_answer};
 use mysql_wire_jobs::digest::{Digest, Sink};
 use mysql_wire_jobs::draws::{Draws, Letters};
 use mysql_wire_jobs::statements::{TYPE_NUMBERS, binary_rows};
 use mysql_wire_packets::places::read_whole;
 use mysql_wire_queries::column_definition::ColumnDefinition41;
-use mysql_wire_session_phases::packet_kind::PacketKind as Kind;
-use mysql_wire_session_phases::side::Side;
+use mysql_wire_session::packet_kind::PacketKind as Kind;
+use mysql_wire_session::side::Side;
 use mysql_wire_statements::binary_row::BinaryRow;
 use std::alloc::Global;
 use std::io::Write;

@@ -1,11 +1,11 @@
 //! Streams are shown as lines, and numbered anew.
 
-use mysql_wire_commands::reframe::run_reframe;
-use mysql_wire_commands::unframe::run_unframe;
 use mysql_wire_jobs::answers::LIMIT;
 use mysql_wire_jobs::digest::{Digest, Sink};
 use mysql_wire_jobs::draws::{Draws, Letters};
 use mysql_wire_jobs::streams::{Stream, make_stream};
+use mysql_wire_tool_commands::reframe::run_reframe;
+use mysql_wire_tool_commands::unframe::run_unframe;
 use std::alloc::Global;
 
 // How many bytes a read of the program asks for.

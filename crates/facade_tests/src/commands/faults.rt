@@ -1,10 +1,10 @@
 // The commands over a reader that fails, and `reframe` to a writer that refuses large writes.
 
-use mysql_wire_commands::chunk::run_chunk;
-use mysql_wire_commands::frame::run_frame;
-use mysql_wire_commands::reframe::run_reframe;
-use mysql_wire_commands::traced_read::Unnoted;
-use mysql_wire_commands::unframe::{run_unframe, run_unframe_limited};
+use mysql_wire_tool_commands::chunk::run_chunk;
+use mysql_wire_tool_commands::frame::run_frame;
+use mysql_wire_tool_commands::reframe::run_reframe;
+use mysql_wire_tool_commands::traced_read::Unnoted;
+use mysql_wire_tool_commands::unframe::{run_unframe, run_unframe_limited};
 use std::alloc::Global;
 use std::io::ErrorKind;
 use std::test::Fail;

@@ -1,9 +1,9 @@
 // The commands with a writer whose flush fails, as that of standard output doesn't.
 
-use mysql_wire_commands::chunk::run_chunk;
-use mysql_wire_commands::frame::run_frame;
-use mysql_wire_commands::reframe::run_reframe;
-use mysql_wire_commands::unframe::{run_unframe, run_unframe_limited};
+use mysql_wire_tool_commands::chunk::run_chunk;
+use mysql_wire_tool_commands::frame::run_frame;
+use mysql_wire_tool_commands::reframe::run_reframe;
+use mysql_wire_tool_commands::unframe::{run_unframe, run_unframe_limited};
 use std::io;
 use std::io::{ErrorKind, Write};
 use std::test::Fail;

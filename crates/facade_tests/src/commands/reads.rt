@@ -1,11 +1,11 @@
 // Readers of std, and one of a test's own, which keeps each of its reads.
 
 ghost use Rattle.std.specs.Prelude.{◌≡◌, ◌<◌, List, [], Option, Some, None, IfSome, IsFalse, if◌then◌else◌};
-ghost use Rattle.mysql_wire_commands.specs.declared.traced_read.OneRead.{OneRead};
-ghost use Rattle.mysql_wire_commands.specs.Reads.{EachAskedFor};
+ghost use Rattle.mysql_wire_tool_commands.specs.declared.traced_read.OneRead.{OneRead};
+ghost use Rattle.mysql_wire_tool_commands.specs.Reads.{EachAskedFor};
 
-use mysql_wire_commands::traced_read::{OneRead, TracedRead};
-use mysql_wire_commands::unframe::run_unframe_limited;
+use mysql_wire_tool_commands::traced_read::{OneRead, TracedRead};
+use mysql_wire_tool_commands::unframe::run_unframe_limited;
 use std::alloc::Global;
 use std::io;
 use std::io::{BufReader, Cursor, Read};

@@ -1,10 +1,10 @@
 // Commands over bytes in memory: what each writes, and its exit status.
 
-use mysql_wire_commands::arguments::run_words;
-use mysql_wire_commands::chunk::run_chunk;
-use mysql_wire_commands::frame::run_frame;
-use mysql_wire_commands::reframe::run_reframe;
-use mysql_wire_commands::unframe::{run_unframe, run_unframe_limited};
+use mysql_wire_tool_commands::arguments::run_words;
+use mysql_wire_tool_commands::chunk::run_chunk;
+use mysql_wire_tool_commands::frame::run_frame;
+use mysql_wire_tool_commands::reframe::run_reframe;
+use mysql_wire_tool_commands::unframe::{run_unframe, run_unframe_limited};
 use std::alloc::Global;
 use std::test::Fail;
 use test_support::facts::{ensure, no_row, same, wrong_row};

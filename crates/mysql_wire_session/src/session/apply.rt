@@ -3,21 +3,21 @@
 ghost use Rattle.std.specs.Prelude.{◌≡◌, ◌<◌, IfErr, OnErr, OnOk, length};
 ghost use Rattle.mysql_wire_session.specs.Advance.{IsRefusedMemory, after_login, answered, applied, asked, client_state_after, fetched, mariadb_of, noted, opened, remembered, state_after, without_eof};
 ghost use Rattle.mysql_wire_session.specs.State.{state_of, statement_of};
-ghost use Rattle.mysql_wire_session_phases.specs.declared.refusal.SessionError.TheVariants.{OutOfMemory};
+ghost use Rattle.mysql_wire_session.specs.declared.refusal.SessionError.TheVariants.{OutOfMemory};
 
 use super::Session;
 use super::phases::{counted_phase, prepared_phase};
-use mysql_wire_connection::handshake_response::HandshakeResponse41;
-use mysql_wire_session_packets::packet::Packet;
-use mysql_wire_session_phases::classify::asks_for_cursor;
-use mysql_wire_session_phases::next_phase::{
+use crate::classify::asks_for_cursor;
+use crate::next_phase::{
     after_definitions, command_phase, command_rows, done_phase, ended_phase, failed_phase,
     server_phase,
 };
-use mysql_wire_session_phases::packet_kind::PacketKind;
-use mysql_wire_session_phases::phase::{Phase, RowForm};
-use mysql_wire_session_phases::refusal::SessionError;
-use mysql_wire_session_phases::side::Side;
+use crate::packet::Packet;
+use crate::packet_kind::PacketKind;
+use crate::phase::{Phase, RowForm};
+use crate::refusal::SessionError;
+use crate::side::Side;
+use mysql_wire_connection::handshake_response::HandshakeResponse41;
 use mysql_wire_statements::com_stmt_fetch::ComStmtFetch;
 use std::alloc::Allocator;
 use wire_const::{CapabilityFlags, Flags, MariadbCapabilities, StatusFlags};

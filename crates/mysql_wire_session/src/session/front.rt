@@ -5,14 +5,14 @@ ghost use Rattle.mysql_wire_session.specs.Advance.{IsRefusedMemory, asked};
 ghost use Rattle.mysql_wire_session.specs.Fronts.{FailsFront, FailsWhole, TakesFront, says_more};
 ghost use Rattle.mysql_wire_session.specs.Readings.{advanced, after_kind};
 ghost use Rattle.mysql_wire_session.specs.State.{state_of};
-ghost use Rattle.mysql_wire_session_phases.specs.declared.packet_kind.PacketKind.TheVariants.{Execute};
+ghost use Rattle.mysql_wire_session.specs.declared.packet_kind.PacketKind.TheVariants.{Execute};
 
 use super::{Session, forget};
-use mysql_wire_session_packets::packet::Received;
-use mysql_wire_session_phases::packet_kind::PacketKind;
-use mysql_wire_session_phases::phase::Phase;
-use mysql_wire_session_phases::refusal::SessionError;
-use mysql_wire_session_phases::side::Side;
+use crate::packet::Received;
+use crate::packet_kind::PacketKind;
+use crate::phase::Phase;
+use crate::refusal::SessionError;
+use crate::side::Side;
 use std::alloc::Allocator;
 
 /// Why a session did not go on after the front of a packet. It is as it was.

@@ -3,9 +3,9 @@
 ghost use Rattle.std.specs.Prelude.{◌≡◌};
 ghost use Rattle.mysql_wire_session.specs.Advance.{counted_phase, is_zero, prepared_phase};
 
+use crate::next_phase::{after_columns, statement_columns};
+use crate::phase::{AfterColumns, Phase};
 use mysql_wire_queries::column_count::ColumnCount;
-use mysql_wire_session_phases::next_phase::{after_columns, statement_columns};
-use mysql_wire_session_phases::phase::{AfterColumns, Phase};
 use mysql_wire_statements::com_stmt_prepare_ok::ComStmtPrepareOk;
 
 // Whether the byte is there, and says that no definitions follow.

@@ -1,7 +1,7 @@
 use Rattle.std.proofs.Common.{◌≡◌, ℕ, List, ◌∷◌, ◌++◌, arith, get_or, refl}
-use Rattle.mysql_wire_session_phases.specs.declared.side.Side.{Side}
-use Rattle.mysql_wire_session_phases.specs.declared.side.Side.TheVariants.{Client, Server}
-use Rattle.mysql_wire_session_phases.specs.Names.{side_name}
+use Rattle.mysql_wire_session.specs.declared.side.Side.{Side}
+use Rattle.mysql_wire_session.specs.declared.side.Side.TheVariants.{Client, Server}
+use Rattle.mysql_wire_session.specs.Names.{side_name}
 use Rattle.wire_text.proofs.FieldLemmas.{three_digits}
 use Rattle.mysql_wire_dump_lines.proofs.DigitLemmas.{one_digit, tens_of}
 use Rattle.mysql_wire_dump_lines.proofs.lines.push_sender_of.Goals as goal

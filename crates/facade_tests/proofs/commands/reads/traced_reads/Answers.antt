@@ -1,6 +1,6 @@
 use Rattle.std.proofs.Common.{◌≡◌, ◌∙◌, ℕ, List, [], ◌++◌, Some, None, Bool, true, false, if◌then◌else◌, IsFalse, sym, ap, subst}
-use Rattle.mysql_wire_commands.specs.declared.traced_read.OneRead.{OneRead}
-use Rattle.mysql_wire_commands.specs.Reads.{EachAskedFor, AsksUpTo}
+use Rattle.mysql_wire_tool_commands.specs.declared.traced_read.OneRead.{OneRead}
+use Rattle.mysql_wire_tool_commands.specs.Reads.{EachAskedFor, AsksUpTo}
 use Rattle.facade_tests.proofs.commands.reads.traced_reads.Goals as goal
 
 -- of a reader that had no reads, those that it has are those made since

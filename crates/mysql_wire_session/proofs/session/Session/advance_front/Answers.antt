@@ -2,7 +2,7 @@ use Rattle.std.proofs.Common.{◌≡◌, ◌∙◌, ◌≤◌, ℕ, false, lengt
 use Rattle.mysql_wire_session.proofs.FrontLemmas.{execution_told, front_told, quiet_there}
 use Rattle.mysql_wire_session.specs.Fronts.{TakesFront}
 use Rattle.mysql_wire_session.specs.State.{state_of}
-use Rattle.mysql_wire_session_phases.specs.declared.packet_kind.PacketKind.{PacketKind}
+use Rattle.mysql_wire_session.specs.declared.packet_kind.PacketKind.{PacketKind}
 use Rattle.mysql_wire_session.proofs.session.Session.advance_front.Goals as goal
 
 pub returns-then-not-says_more-clause-takes : goal.returns-then-not-says_more-clause-takes

@@ -1,6 +1,6 @@
 use Rattle.std.proofs.Common.{refl, sym, ◌∙◌, inl, inr, arith}
 use Rattle.mysql_wire_parts.specs.FirstBytes.{first_begins, no_first, one_first}
-use Rattle.mysql_wire_temporal.specs.TemporalValuesBack.{empty_head, one_there}
+use Rattle.mysql_wire_statements.specs.TemporalValuesBack.{empty_head, one_there}
 use Rattle.mysql_wire_statements.proofs.params.BoundTypesMyDeserialize.deserialize.Goals as goal
 
 pub returns-in-None : goal.returns-in-None

@@ -1,2 +1,0 @@
-pub mod PrepareAnswers
-pub mod RowPlaces

@@ -1,9 +1,0 @@
-use Rattle.std.proofs.lemmas.List.{append-nil}
-use Rattle.std.proofs.Common.{refl}
-use Rattle.mysql_wire_dump_fields.specs.AnswerFields.{ok_fields}
-use Rattle.mysql_wire_dump_fields.proofs.PacketLemmas.{puts_are}
-use Rattle.mysql_wire_dump_fields.proofs.show.answers.OkFormShow.show.Goals as goal
-
-pub returns : goal.returns
-returns g c =
-    puts_are c.put_all.result _ (ok_fields c.args.self.now) c.args.fields.now c.put_all.new.self c.put_all.ensures (rw (c.side_if.ensures, c.bytes_if.ensures, append-nil) refl)

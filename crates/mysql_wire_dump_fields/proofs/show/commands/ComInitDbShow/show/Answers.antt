@@ -1,9 +1,0 @@
-use Rattle.std.proofs.Common.{refl}
-use Rattle.mysql_wire_session_packets.specs.declared.client_command.ClientCommand.TheVariants.{InitDb}
-use Rattle.mysql_wire_dump_fields.specs.CommandFields.{plain_fields}
-use Rattle.mysql_wire_dump_fields.proofs.PacketLemmas.{puts_are}
-use Rattle.mysql_wire_dump_fields.proofs.show.commands.ComInitDbShow.show.Goals as goal
-
-pub returns : goal.returns
-returns g c =
-    puts_are c.put.result _ (plain_fields (InitDb c.args.self.now)) c.args.fields.now c.put.new.self c.put.ensures (rw c.as_slice.ensures.value refl)

@@ -1,5 +1,0 @@
-use Rattle.mysql_wire_dump_fields.proofs.TemporalLemmas.{zeros_past_two}
-use Rattle.mysql_wire_dump_fields.proofs.temporal.push_hours.Goals as goal
-
-pub returns : goal.returns
-returns g c = rw (zeros_past_two c.args.hours c.requires c.ranges.hours.fits) c.push_number.ensures

@@ -1,6 +1,0 @@
-use Rattle.std.proofs.Common.{arith}
-use Rattle.mysql_wire_dump_fields.proofs.TemporalLemmas.{zeros_six}
-use Rattle.mysql_wire_dump_fields.proofs.temporal.push_micros.Goals as goal
-
-pub returns : goal.returns
-returns g c = rw (zeros_six c.args.micros (omega (arith, c.if-micros-ge1000000.false))) c.push_letters.ensures

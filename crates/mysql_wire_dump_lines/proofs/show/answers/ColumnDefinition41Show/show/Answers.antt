@@ -1,0 +1,8 @@
+use Rattle.std.proofs.Common.{refl}
+use Rattle.mysql_wire_dump_lines.specs.AnswerFields.{column_fields}
+use Rattle.mysql_wire_dump_lines.proofs.PacketLemmas.{puts_are}
+use Rattle.mysql_wire_dump_lines.proofs.show.answers.ColumnDefinition41Show.show.Goals as goal
+
+pub returns : goal.returns
+returns g c =
+    puts_are c.put_all.result _ (column_fields c.args.self.now) c.args.fields.now c.put_all.new.self c.put_all.ensures (rw (c.as_slice.ensures.value, c.as_slice-2.ensures.value, c.as_slice-3.ensures.value, c.as_slice-4.ensures.value, c.as_slice-5.ensures.value, c.as_slice-6.ensures.value, c.bytes_if.ensures) refl)

@@ -1,0 +1,11 @@
+use Rattle.std.proofs.lemmas.List.{append-nil}
+use Rattle.std.proofs.Common.{refl}
+use Rattle.mysql_wire_session.specs.declared.client_command.ClientCommand.TheVariants.{ChangeUser}
+use Rattle.mysql_wire_dump_lines.specs.CommandFields.{plain_fields}
+use Rattle.mysql_wire_dump_lines.proofs.PacketLemmas.{puts_are}
+use Rattle.mysql_wire_dump_lines.proofs.show.commands.ComChangeUserShow.show.Goals as goal
+
+pub returns : goal.returns
+returns g c =
+    puts_are c.put_all.result _ (plain_fields (ChangeUser c.args.self.now)) c.args.fields.now c.put_all.new.self c.put_all.ensures
+    (simp (c.as_slice.ensures.value, c.as_slice-2.ensures.value, c.as_slice-3.ensures.value, c.character_set.ensures, c.words_if.ensures, c.bytes_if.ensures, append-nil) refl)

@@ -1,3 +1,0 @@
-pub mod DumpLemmas
-pub mod ReadLemmas
-pub mod LineLemmas

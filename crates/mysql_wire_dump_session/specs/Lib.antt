@@ -1,2 +1,0 @@
-pub mod Dumped
-pub mod Dumping

@@ -1,3 +1,0 @@
-pub mod AnswerLemmas
-pub mod ReportLemmas
-pub mod PacketLemmas

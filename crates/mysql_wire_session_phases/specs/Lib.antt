@@ -1,4 +1,0 @@
-pub mod Names
-pub mod Refusals
-pub mod Kinds
-pub mod Phases

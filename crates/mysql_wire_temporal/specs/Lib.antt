@@ -1,4 +1,0 @@
-pub mod Faults
-pub mod Fronts
-pub mod TemporalValues
-pub mod TemporalValuesBack
