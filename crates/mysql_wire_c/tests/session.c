@@ -257,7 +257,7 @@ static bool a_session_is_followed(void) { return follows_all(by_payload); }
 static bool fronts_are_enough(void) {
     whole = 0;
     CHECK(follows_all(by_front));
-    CHECK(whole == 24);
+    CHECK(whole == 23);
     return follows_all(by_whole_front);
 }
 

@@ -4,7 +4,7 @@ use Rattle.std.specs.Prelude.{IfOk, OnOk}
 use Rattle.mysql_wire_dump_lines.specs.Dumped.{AreFields}
 use Rattle.mysql_wire_dump_lines.specs.Dumping.{NamesOne, PassesOver, ShowsFields, Tells, TellsRow, WritesFields, WritesRow}
 use Rattle.mysql_wire_dump_lines.specs.Packets.{PutsPacket, PutsRowFields, WritesRowFields}
-use Rattle.mysql_wire_session.specs.Readings.{ReadsAs, Receives, RowReads, advanced, after_kind, kind_of, passed}
+use Rattle.mysql_wire_session.specs.Readings.{ReadsAs, Receives, RowReads, advanced, after_kind, after_packet, kind_of, passed}
 use Rattle.mysql_wire_session.specs.Advance.{opened, without_eof}
 use Rattle.mysql_wire_session.specs.declared.packet.Row.{Row}
 use Rattle.mysql_wire_session.specs.declared.phase.Phase.{Phase}
@@ -110,6 +110,14 @@ row_puts types called payload read old new named (inr is) put =
     subst (λ (k : PacketKind). PutsPacket types k payload (packet.Row read) old new named) (sym is)
     (let puts = subst (λ (k : PacketKind). PutsRowFields types k read old new named) is put in record { members = puts.members; has = puts.has; puts = puts.puts })
 
+-- after a row nothing is known but by its kind
+row_goes_on : (side : Side) (id : ℕ) (called : PacketKind) (payload : List ℕ) (read : Row) (known : SessionState) → IsRow called
+    → after_kind side id called (length payload) known ≡ after_packet side id called payload (packet.Row read) known
+row_goes_on side id called payload read known (inl is) =
+    subst (λ (k : PacketKind). after_kind side id k (length payload) known ≡ after_packet side id k payload (packet.Row read) known) (sym is) refl
+row_goes_on side id called payload read known (inr is) =
+    subst (λ (k : PacketKind). after_kind side id k (length payload) known ≡ after_packet side id k payload (packet.Row read) known) (sym is) refl
+
 -- a row that came was read and shown
 row_told : (side : Side) (id : ℕ) (payload : List ℕ) (called : PacketKind) (known next : SessionState) (old new : Written) (named : PacketKind)
     → called ≡ kind_of side id payload known → IsRow called → TellsRow side id called payload known next old new named
@@ -120,7 +128,8 @@ row_told side id payload called known next old new named called_so is told = rec
       (row_reads called payload known told.put.row is told.put.reads);
   puts = subst (λ (k : PacketKind). PutsPacket known.types k payload (packet.Row told.put.row) old new named) called_so
       (row_puts known.types called payload told.put.row old new named is told.put.puts);
-  goes_on = told.goes_on ∙ ap (λ (k : PacketKind). after_kind side id k (length payload) known) called_so;
+  goes_on = told.goes_on ∙ row_goes_on side id called payload told.put.row known is
+      ∙ ap (λ (k : PacketKind). after_packet side id k payload (packet.Row told.put.row) known) called_so;
 }
 
 pub row_shown : (side : Side) (id : ℕ) (payload : List ℕ) (called : PacketKind) (known next : SessionState) (old new : Written) (result : Result PacketKind Stop)
